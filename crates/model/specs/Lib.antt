@@ -1,0 +1,9 @@
+pub mod Lists
+pub mod Limits
+pub mod Bytes
+pub mod Utf8
+pub mod Offset
+pub mod Intern
+pub mod Types
+pub mod Refusal
+pub mod Store
