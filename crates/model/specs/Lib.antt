@@ -7,3 +7,14 @@ pub mod Intern
 pub mod Types
 pub mod Refusal
 pub mod Store
+pub mod Tape
+pub mod WellFormed
+pub mod Tree
+pub mod Graft
+pub mod Region
+pub mod Merge
+pub mod Lookup
+pub mod Runs
+pub mod Demand3
+pub mod Computed
+pub mod Examples

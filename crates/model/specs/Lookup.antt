@@ -1,0 +1,52 @@
+-- Sections 3 and 7: lookups in a book that passes 1 to 7, the separate yes or no, and a book read and written again. A lookup
+-- without an answer says none.
+use Prim.Native.Nat.{ℕ, zero, suc}
+use mathlib.Core.Bool.{Bool, cond, not}
+use mathlib.Core.Option.{Option, none, some}
+use mathlib.Core.List.{List, map}
+use lib.ListN.{length, getElem?}
+use lib.Dec.{leb, ltb}
+use Rattle.model.specs.Lists.{all, keep}
+use Rattle.model.specs.Types.{Content, Segment, SourceNode, Diagnostic, LexOutput}
+use Rattle.model.specs.Refusal.{Checked, Checked.accepted, _>>=_, refuse_if_}
+use Rattle.model.specs.Store.{storeOf, contentCounts, segmentCounts, rangeOk, resolveContentRange, resolveSegRange}
+use Rattle.model.specs.WellFormed.{checkBook}
+use Rattle.model.specs.Merge.{Stored, Room, storedBook, fitsRoom}
+
+-- `diagnostics_allow_incremental`: only UnresolvedGaiji and NonCanonicalDirective.
+unfoldable pub diagnosticsAllowIncremental : List Diagnostic → Bool
+diagnosticsAllowIncremental ds = all (λ (d : Diagnostic). ltb (d .kind) 2) ds
+
+unfoldable pub endsBehind : ℕ → ℕ → Option SourceNode → Option ℕ
+endsBehind o i none = none
+endsBehind o i (some n) = cond (ltb o (n .sourceSpan .end)) (some i) none
+
+unfoldable pub lastOf : List SourceNode → ℕ → ℕ → Option ℕ
+lastOf ns o zero = none
+lastOf ns o (suc i) = endsBehind o i (getElem? ns i)
+
+-- `node_at_source`, as the node's place in the list: the last node that starts at or before an offset, if the offset lies
+-- before that node's end.
+unfoldable pub nodeAtSource : List SourceNode → ℕ → Option ℕ
+nodeAtSource ns o = lastOf ns o (length (keep (λ (n : SourceNode). leb (n .sourceSpan .start) o) ns))
+
+-- the string of an id
+unfoldable pub lookupStr : LexOutput → ℕ → Option (List ℕ)
+lookupStr b id = getElem? (storeOf (b .layers) .strings) id
+
+-- the contents of a range under section 3
+unfoldable pub lookupContents : LexOutput → ℕ → ℕ → Option (List Content)
+lookupContents b start len =
+    cond (rangeOk (contentCounts (b .layers)) start len) (some (resolveContentRange (storeOf (b .layers)) start len)) none
+
+-- the segments of a range under section 3
+unfoldable pub lookupSegments : LexOutput → ℕ → ℕ → Option (List Segment)
+lookupSegments b start len =
+    cond (rangeOk (segmentCounts (b .layers)) start len) (some (resolveSegRange (storeOf (b .layers)) start len)) none
+
+-- `copy_book`: a book read and written again; 18 for a short buffer.
+unfoldable pub copyBook : Stored → Room → Checked Stored
+copyBook stored room = do
+  b ← checkBook (stored .tape) (stored .bytes)
+  _ ← refuse 18 if not (fitsRoom room (storedBook b))
+  accepted (storedBook b)
