@@ -1,0 +1,91 @@
+-- Laws of Bool tests and of the list functions of `model`, that several files cite.
+use mathlib.Core.Path.{_≡_, refl, sym, ap, _∙_}
+use mathlib.Core.Logic.{_⊎_, inl, inr}
+use Prim.Native.Nat.{ℕ, zero, suc}
+use mathlib.Core.Bool.{Bool, true, false, cond, _&&_, _||_, false≢true}
+use mathlib.Core.List.{List, [], _∷_, _++_, append-assoc, append-nil, map, flatten}
+use lib.ListN.{take, drop}
+use lib.Dec.{T}
+use Rattle.model.specs.Lists.{all, any, keep}
+
+-- ---- tests
+
+pub both : (x y : Bool) → x && y ≡ true → (x ≡ true) × (y ≡ true)
+both true y e = (refl, e)
+both false y e = absurd (false≢true e)
+
+pub join : (x y : Bool) → x ≡ true → y ≡ true → x && y ≡ true
+join true y p q = q
+join false y p q = absurd (false≢true p)
+
+pub either : (x y : Bool) → x || y ≡ true → (x ≡ true) ⊎ (y ≡ true)
+either true y e = inl refl
+either false y e = inr e
+
+pub neither : (x y : Bool) → x || y ≡ false → (x ≡ false) × (y ≡ false)
+neither true y e = absurd (false≢true (sym e))
+neither false y e = (refl, e)
+
+pub T-true : (x : Bool) → T x → x ≡ true
+T-true true h = refl
+T-true false h = absurd h
+
+-- ---- a test of every element
+
+module _ {A : Type 0} (p : A → Bool) where
+  pub all-take : (n : ℕ) (l : List A) → all p l ≡ true → all p (take n l) ≡ true
+  all-take zero l e = refl
+  all-take (suc n) [] e = refl
+  all-take (suc n) (x ∷ xs) e = let s = both (p x) (all p xs) e in join (p x) (all p (take n xs)) (s .0) (all-take n xs (s .1))
+
+  pub all-drop : (n : ℕ) (l : List A) → all p l ≡ true → all p (drop n l) ≡ true
+  all-drop zero l e = e
+  all-drop (suc n) [] e = refl
+  all-drop (suc n) (x ∷ xs) e = all-drop n xs (both (p x) (all p xs) e .1)
+
+  pub all-append : (a b : List A) → all p a ≡ true → all p b ≡ true → all p (a ++ b) ≡ true
+  all-append [] b e f = f
+  all-append (x ∷ xs) b e f = let s = both (p x) (all p xs) e in join (p x) (all p (xs ++ b)) (s .0) (all-append xs b (s .1) f)
+
+  pub all-left : (a b : List A) → all p (a ++ b) ≡ true → all p a ≡ true
+  all-left [] b e = refl
+  all-left (x ∷ xs) b e = let s = both (p x) (all p (xs ++ b)) e in join (p x) (all p xs) (s .0) (all-left xs b (s .1))
+
+  pub all-right : (a b : List A) → all p (a ++ b) ≡ true → all p b ≡ true
+  all-right [] b e = e
+  all-right (x ∷ xs) b e = all-right xs b (both (p x) (all p (xs ++ b)) e .1)
+
+  pub all-map : (q : A → Bool) → ((x : A) → p x ≡ true → q x ≡ true) → (l : List A) → all p l ≡ true → all q l ≡ true
+  all-map q f [] e = refl
+  all-map q f (x ∷ xs) e = let s = both (p x) (all p xs) e in join (q x) (all q xs) (f x (s .0)) (all-map q f xs (s .1))
+
+  pub all-and : (q : A → Bool) (l : List A) → all p l ≡ true → all q l ≡ true → all (λ x. p x && q x) l ≡ true
+  all-and q [] e f = refl
+  all-and q (x ∷ xs) e f =
+      let s = both (p x) (all p xs) e in
+      let t = both (q x) (all q xs) f in
+      join (p x && q x) (all (λ y. p y && q y) xs) (join (p x) (q x) (s .0) (t .0)) (all-and q xs (s .1) (t .1))
+
+  pub all-keep : (q : A → Bool) (l : List A) → all p l ≡ true → all p (keep q l) ≡ true
+  all-keep q [] e = refl
+  all-keep q (x ∷ xs) e = go (all-keep q xs (both (p x) (all p xs) e .1)) (q x)
+    where
+      go : all p (keep q xs) ≡ true → (y : Bool) → all p (cond y (x ∷ keep q xs) (keep q xs)) ≡ true
+      go rest true = join (p x) (all p (keep q xs)) (both (p x) (all p xs) e .0) rest
+      go rest false = rest
+
+-- ---- lists one behind the other
+
+pub flatten-append : {A : Type 0} (xss yss : List (List A)) → flatten (xss ++ yss) ≡ flatten xss ++ flatten yss
+unfolding flatten
+flatten-append [] yss = refl
+flatten-append (xs ∷ xss) yss = ap (λ l. xs ++ l) (flatten-append xss yss) ∙ sym (append-assoc xs (flatten xss) (flatten yss))
+
+pub flatten-snoc : {A : Type 0} (xss : List (List A)) (xs : List A) → flatten (xss ++ (xs ∷ [])) ≡ flatten xss ++ xs
+unfolding flatten
+flatten-snoc [] xs = append-nil xs
+flatten-snoc (ys ∷ xss) xs = ap (λ l. ys ++ l) (flatten-snoc xss xs) ∙ sym (append-assoc ys (flatten xss) xs)
+
+pub map-append : {A B : Type 0} (f : A → B) (xs ys : List A) → map f (xs ++ ys) ≡ map f xs ++ map f ys
+map-append f [] ys = refl
+map-append f (x ∷ xs) ys = ap (λ l. f x ∷ l) (map-append f xs ys)
