@@ -6,8 +6,8 @@ use lib.Dec.{leb}
 use borrow.Author.Tests.{leb-true, leb-false, le-leb, lt-leb}
 use mathlib.Core.Bool.{Bool, true, false, cond, not, _&&_, _||_, false≢true}
 use mathlib.Core.List.{List, [], _∷_, _++_, append-assoc, append-nil, map}
-use Rattle.model.specs.Lists.{all, any, keep}
-use Rattle.laws.specs.Lists.{both, join, neither}
+use Rattle.model.specs.Lists.{all, any, keep, isEmpty}
+use Rattle.laws.specs.Lists.{both, join, neither, all-and, all-keep}
 
 module _ {A : Type 0} where
   keep-step : (p : A → Bool) (x : A) (a b r : List A) → r ≡ keep p a ++ b → cond (p x) (x ∷ r) r ≡ cond (p x) (x ∷ keep p a) (keep p a) ++ b
@@ -87,7 +87,19 @@ module _ {A : Type 0} (ok : A → Bool) where
       go false f true g r = absurd (false≢true (sym f ∙ e x (both (ok x) (all ok l) h .0) g))
       go false f false g r = r
 
+-- what a test keeps passes it, and any other that all passed
+pub all-kept : {A : Type 0} (ok p : A → Bool) (l : List A) → all ok l ≡ true → all (λ x. ok x && p x) (keep p l) ≡ true
+all-kept ok p l a = all-and ok p (keep p l) (all-keep ok p l a) (all-keep-self p l)
+
 module _ {A : Type 0} where
+  pub any-is : (p : A → Bool) (l : List A) → any p l ≡ not (isEmpty (keep p l))
+  any-is p [] = refl
+  any-is p (x ∷ l) = go (p x) (any-is p l)
+    where
+      go : (t : Bool) → any p l ≡ not (isEmpty (keep p l)) → t || any p l ≡ not (isEmpty (cond t (x ∷ keep p l) (keep p l)))
+      go true r = refl
+      go false r = r
+
   pub keep-comm : (p q : A → Bool) (l : List A) → keep p (keep q l) ≡ keep q (keep p l)
   keep-comm p q [] = refl
   keep-comm p q (x ∷ l) = go (q x) refl (p x) refl (keep-comm p q l)

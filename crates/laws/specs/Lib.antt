@@ -6,3 +6,8 @@ pub mod Intern
 pub mod Graft
 pub mod Layers
 pub mod Levels
+pub mod Shift
+pub mod Splice
+pub mod Sort
+pub mod Utf8
+pub mod Located
