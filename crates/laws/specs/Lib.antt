@@ -11,3 +11,4 @@ pub mod Splice
 pub mod Sort
 pub mod Utf8
 pub mod Located
+pub mod Nodes
