@@ -15,8 +15,8 @@ use Rattle.model.specs.Limits.{maxText}
 use Rattle.model.specs.Offset.{Span}
 use Rattle.model.specs.Types.{SourceNode, PairLink, ContainerPair, Diagnostic, LexOutput}
 use Rattle.model.specs.WellFormed.{spanOk, ordered, offsetsOk, imageLength, spanLength, pairOk, containerOk, images, spans}
-use Rattle.model.specs.Region.{across, depth, isBlockOpen, isBlockClose, isWarichuOpen, isWarichuClose, nodesBefore, nodesAllowCut, pairsAllowCut, blankLineBefore, safeCut}
-use Rattle.model.specs.Merge.{normalizedOffset}
+use Rattle.model.specs.Region.{across, depthBehind, depth, isBlockOpen, isBlockClose, isWarichuOpen, isWarichuClose, nodesBefore, nodesAllowCut, pairsAllowCut, blankLineBefore, safeCut}
+use Rattle.model.specs.Merge.{balancedFrom, normalizedOffset}
 use Rattle.laws.specs.Lists.{both, join, either, all-and, all-keep, all-map, all-append, map-append}
 use Rattle.laws.specs.Keep.{keep-append, keep-all, keep-none, keep-same, map-map, map-same, all-kept, all-keep-self, any-none, any-all, and-false}
 use Rattle.laws.specs.Checks.{WellFormed, LimitFacts, limit-facts, PlaceFacts, place-facts, size-fact}
@@ -96,6 +96,24 @@ module _ (ok : SourceNode → Bool) (f : SourceNode → SourceNode) where
   pub spans-map : ((n : SourceNode) → ok n ≡ true → spanLength (f n) ≡ spanLength n) → (ns : List SourceNode) → all ok ns ≡ true → spans (map f ns) ≡ spans ns
   unfolding spans
   spans-map h ns a = ap sum (map-map spanLength f ns ∙ map-same ok (λ n. spanLength (f n)) spanLength h ns a)
+
+-- ---- depths
+
+module _ (opens closes : SourceNode → Bool) where
+  pub depth-append : (d : ℕ) (a b : List SourceNode) → depth opens closes d (a ++ b) ≡ depth opens closes (depth opens closes d a) b
+  unfolding depth
+  depth-append d [] b = refl
+  depth-append d (n ∷ a) b = depth-append (depthBehind opens closes d n) a b
+
+  pub balanced-depth : (d : ℕ) (ns : List SourceNode) → balancedFrom opens closes d ns ≡ true → depth opens closes d ns ≡ 0
+  unfolding depth balancedFrom
+  balanced-depth d [] e = eqb-true d 0 e
+  balanced-depth d (n ∷ ns) e = balanced-depth (depthBehind opens closes d n) ns (both (not (closes n && eqb d 0)) (balancedFrom opens closes (depthBehind opens closes d n) ns) e .1)
+
+  pub depth-map : (f : SourceNode → SourceNode) → ((n : SourceNode) → opens (f n) ≡ opens n) → ((n : SourceNode) → closes (f n) ≡ closes n) → (d : ℕ) (ns : List SourceNode) → depth opens closes d (map f ns) ≡ depth opens closes d ns
+  unfolding depth depthBehind
+  depth-map f h k d [] = refl
+  depth-map f h k d (n ∷ ns) = ap₂ (λ (x y : Bool). depth opens closes (cond x (d + 1) (cond y (d - 1) d)) (map f ns)) (h n) (k n) ∙ depth-map f h k (depthBehind opens closes d n) ns
 
 -- ---- ordered nodes
 
