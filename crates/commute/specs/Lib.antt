@@ -1,3 +1,4 @@
 pub mod Cut
 pub mod Outline
 pub mod Merged
+pub mod Passage

@@ -1,0 +1,195 @@
+-- Same passage: the earlier edit's region is found again after the later correction, and the later edit's region is the old one moved after
+-- the earlier correction. Number 12 of the second merge fixes a region's length. Section 7.
+use mathlib.Core.Path.{_≡_, refl, sym, ap, ap₂, _∙_}
+use Prim.Native.Nat.{ℕ, zero, suc, _+_, _-_, _≤_, _<_}
+use native.Mathlib.Omega.{arith}
+use mathlib.Core.Bool.{Bool, true, false, cond, not, _&&_, _||_, false≢true}
+use mathlib.Core.List.{List, [], _∷_, _++_}
+use lib.ListN.{length, getD}
+use lib.Dec.{leb, ltb, eqb}
+use borrow.Author.Tests.{eqb-true, eqb-false, eq-eqb, ne-eqb}
+use Rattle.model.specs.Offset.{Span}
+use Rattle.model.specs.Types.{LexOutput, RegionOutput}
+use Rattle.model.specs.Region.{Edit, edited, behindEdit, newlineAt, safeCut, regionStart, regionEnd, balancedRegion}
+use Rattle.model.specs.Demand3.{movedBehind, regionBehind}
+use Rattle.commute.specs.Cut.{SameBefore, SameBehind, start-le, start-safe, end-bounds, end-safe, start-before, end-behind, length-safe}
+
+-- the length of a region by number 12: that of the reading, less the change in length
+abbrev pub Twelve : Edit → LexOutput → Span → Type 0
+Twelve e reading r = length (reading .sanitized) + (e .end - e .start) ≡ r .end - r .start + length (e .replacement)
+
+pub record Bounds (b : LexOutput) (e : Edit) (r : Span) : Type 0 where
+  pub startsBefore : r .start ≤ e .start
+  pub endsBehind : e .end ≤ r .end
+  pub inside : r .end ≤ length (b .sanitized)
+  pub strictly : e .end < length (b .sanitized) → e .end < r .end
+  pub startSafe : safeCut b (r .start) ≡ true
+  pub endSafe : safeCut b (r .end) ≡ true
+
+pub bounds : (b : LexOutput) (e : Edit) → e .end ≤ length (b .sanitized) → Bounds b e (balancedRegion b e)
+unfolding balancedRegion
+bounds b e h =
+    let u = end-bounds b (length (b .sanitized) - e .end) (e .end) (omega arith) in
+    record {
+      startsBefore = start-le b (e .start);
+      endsBehind = u .0;
+      inside = u .1;
+      strictly = u .2;
+      startSafe = start-safe b (e .start);
+      endSafe = end-safe b (length (b .sanitized) - e .end) (e .end);
+    }
+
+-- ---- the earlier edit, merged second
+
+-- a region's start at the end of a text that ends in a newline
+start-at-end : (b : LexOutput) (o : ℕ) → suc o ≡ length (b .sanitized) → newlineAt (b .sanitized) o ≡ true → regionStart b (suc o) ≡ suc o
+unfolding regionStart
+start-at-end b o q e =
+    let s : safeCut b (suc o) ≡ true = rw q (length-safe b) in
+    rw (e, s)
+
+start-no-newline : (b : LexOutput) (o : ℕ) → newlineAt (b .sanitized) o ≡ false → regionStart b (suc o) ≡ regionStart b o
+unfolding regionStart
+start-no-newline b o e = rw e
+
+start-zero : (b b′ : LexOutput) → regionStart b′ 0 ≡ regionStart b 0
+unfolding regionStart
+start-zero b b′ = refl
+
+module _ (b b′ : LexOutput) (l : ℕ) (same : SameBefore l b b′) (e : Edit) (reading : LexOutput)
+    (rising : e .start ≤ e .end) (inside : e .end ≤ length (b .sanitized)) (inside′ : e .end ≤ length (b′ .sanitized)) (far : l ≤ length (b′ .sanitized))
+    (apart : regionEnd b (length (b .sanitized) - e .end) (e .end) ≤ l)
+    (grown : e .end ≡ length (b .sanitized) → length (b .sanitized) < length (b′ .sanitized))
+    (twelve : Twelve e reading (balancedRegion b e)) (twelve′ : Twelve e reading (balancedRegion b′ e)) where
+  start-again : regionStart b′ (e .start) ≡ regionStart b (e .start)
+  unfolding balancedRegion
+  start-again = go (eqb (e .start) (length (b .sanitized))) refl
+    where
+      u : Bounds b e (balancedRegion b e)
+      u = bounds b e inside
+
+      u′ : Bounds b′ e (balancedRegion b′ e)
+      u′ = bounds b′ e inside′
+
+      -- the edit starts at the end of the text: only there may the length make a difference
+      newline : (o : ℕ) → e .start ≡ suc o → e .start ≡ length (b .sanitized) → (t : Bool) → newlineAt (b .sanitized) o ≡ t → regionStart b′ (suc o) ≡ regionStart b (suc o)
+      newline o p q true x =
+          let s : regionStart b (e .start) ≡ e .start = rw p (start-at-end b o (omega arith) x) in
+          let a = u .endsBehind in
+          let c = u .inside in
+          let a′ = u′ .startsBefore in
+          let s′ = u′ .strictly in
+          let g = grown (omega arith) in
+          let m : e .end < balancedRegion b′ e .end = s′ (omega arith) in
+          absurd (omega arith)
+      newline o p q false x =
+          let a = u .endsBehind in
+          let g = grown (omega arith) in
+          let y : newlineAt (b′ .sanitized) o ≡ false = rw (same .text o (omega arith)) x in
+          start-no-newline b′ o y ∙ start-before l b b′ same o (omega arith) (omega arith) (omega arith) ∙ sym (start-no-newline b o x)
+
+      at-end : (o : ℕ) → e .start ≡ o → e .start ≡ length (b .sanitized) → regionStart b′ o ≡ regionStart b o
+      at-end zero p q = start-zero b b′
+      at-end (suc o) p q = newline o p q (newlineAt (b .sanitized) o) refl
+
+      longer : (t : Bool) → eqb (e .end) (length (b .sanitized)) ≡ t → e .start < length (b .sanitized) → e .start < length (b′ .sanitized)
+      longer true x n = let g = grown (eqb-true (e .end) (length (b .sanitized)) x) in omega arith
+      longer false x n =
+          let m = eqb-false (e .end) (length (b .sanitized)) x in
+          let s = u .strictly (omega arith) in
+          omega arith
+
+      go : (t : Bool) → eqb (e .start) (length (b .sanitized)) ≡ t → regionStart b′ (e .start) ≡ regionStart b (e .start)
+      go true x = at-end (e .start) refl (eqb-true (e .start) (length (b .sanitized)) x)
+      go false x =
+          let n = eqb-false (e .start) (length (b .sanitized)) x in
+          let a = u .endsBehind in
+          let m : e .start < length (b .sanitized) = omega arith in
+          start-before l b b′ same (e .start) (omega arith) m (longer (eqb (e .end) (length (b .sanitized))) refl m)
+
+  pub region-again : balancedRegion b′ e ≡ balancedRegion b e
+  unfolding balancedRegion
+  region-again =
+      let s = start-again in
+      let u = bounds b e inside in
+      let u′ = bounds b′ e inside′ in
+      let a = u .startsBefore in
+      let c = u .endsBehind in
+      let a′ = u′ .startsBefore in
+      let c′ = u′ .endsBehind in
+      let m : regionEnd b′ (length (b′ .sanitized) - e .end) (e .end) ≡ regionEnd b (length (b .sanitized) - e .end) (e .end) = omega arith in
+      λ i. record { start = s i; end = m i }
+
+-- ---- the later edit, merged second
+
+-- an offset at or behind an edit's end, moved: with nothing taken away
+pub behind-is : (e : Edit) (o : ℕ) → e .start ≤ e .end → e .end ≤ o → behindEdit e o + e .end ≡ o + length (e .replacement) + e .start
+unfolding behindEdit
+behind-is e o h k = omega arith
+
+pub add-rest : (a b : ℕ) → a ≤ b → a + (b - a) ≡ b
+add-rest a b h = omega arith
+
+module _ (b b′ : LexOutput) (first e : Edit) (r : Span) (same : SameBehind (r .end) (behindEdit first (r .end)) b b′) (reading : LexOutput)
+    (first-rising : first .start ≤ first .end) (first-inside : first .end ≤ r .end)
+    (rising : e .start ≤ e .end) (inside : e .end ≤ length (b .sanitized))
+    (apart : r .end ≤ regionStart b (e .start))
+    (twelve : Twelve e reading (balancedRegion b e)) (twelve′ : Twelve (movedBehind first e) reading (balancedRegion b′ (movedBehind first e))) where
+  moves : (o : ℕ) → first .end ≤ o → behindEdit first o + first .end ≡ o + length (first .replacement) + first .start
+  moves o h = behind-is first o first-rising h
+
+  -- k bytes from the cut to the edit's end, n from there to the text's
+  end-moved-by : (k n : ℕ) → r .end + k ≡ e .end → e .end + n ≡ length (b .sanitized)
+      → regionEnd b′ n (behindEdit first (e .end)) ≡ behindEdit first (regionEnd b n (e .end))
+  end-moved-by k n p q =
+      let x = end-behind (r .end) (behindEdit first (r .end)) b b′ same n k (omega arith) in
+      let u = end-bounds b n (e .end) q .0 in
+      let m₁ = moves (r .end) first-inside in
+      let m₂ = moves (e .end) (omega arith) in
+      let m₃ = moves (regionEnd b n (e .end)) (omega arith) in
+      let e₂ : behindEdit first (r .end) + k ≡ behindEdit first (e .end) = omega arith in
+      let y : regionEnd b′ n (behindEdit first (e .end)) + r .end ≡ regionEnd b n (e .end) + behindEdit first (r .end) = rw (p, e₂) at x in
+      omega arith
+
+  end-moved : regionEnd b′ (length (b′ .sanitized) - behindEdit first (e .end)) (behindEdit first (e .end)) ≡ behindEdit first (regionEnd b (length (b .sanitized) - e .end) (e .end))
+  end-moved =
+      let a = start-le b (e .start) in
+      let s = same .size in
+      let m₁ = moves (r .end) first-inside in
+      let m₂ = moves (e .end) (omega arith) in
+      let e₃ : length (b′ .sanitized) - behindEdit first (e .end) ≡ length (b .sanitized) - e .end = omega arith in
+      rw e₃ (end-moved-by (e .end - r .end) (length (b .sanitized) - e .end) (add-rest (r .end) (e .end) (omega arith)) (add-rest (e .end) (length (b .sanitized)) inside))
+
+  lengths : regionEnd b′ (length (b′ .sanitized) - behindEdit first (e .end)) (behindEdit first (e .end)) - regionStart b′ (behindEdit first (e .start)) ≡ regionEnd b (length (b .sanitized) - e .end) (e .end) - regionStart b (e .start)
+  unfolding balancedRegion movedBehind
+  lengths =
+      let a = start-le b (e .start) in
+      let m₂ = moves (e .end) (omega arith) in
+      let m₃ = moves (e .start) (omega arith) in
+      let d : behindEdit first (e .end) - behindEdit first (e .start) ≡ e .end - e .start = omega arith in
+      let t : length (reading .sanitized) + (behindEdit first (e .end) - behindEdit first (e .start)) ≡ regionEnd b′ (length (b′ .sanitized) - behindEdit first (e .end)) (behindEdit first (e .end)) - regionStart b′ (behindEdit first (e .start)) + length (e .replacement) = twelve′ in
+      let t′ : length (reading .sanitized) + (e .end - e .start) ≡ regionEnd b′ (length (b′ .sanitized) - behindEdit first (e .end)) (behindEdit first (e .end)) - regionStart b′ (behindEdit first (e .start)) + length (e .replacement) = rw d at t in
+      let v : length (reading .sanitized) + (e .end - e .start) ≡ regionEnd b (length (b .sanitized) - e .end) (e .end) - regionStart b (e .start) + length (e .replacement) = twelve in
+      cancel (length (reading .sanitized) + (e .end - e .start)) _ _ (length (e .replacement)) t′ v
+    where
+      cancel : (x y z w : ℕ) → x ≡ y + w → x ≡ z + w → y ≡ z
+      cancel x y z w p q = omega arith
+
+  pub region-moved : balancedRegion b′ (movedBehind first e) ≡ regionBehind first (balancedRegion b e)
+  unfolding balancedRegion regionBehind movedBehind
+  region-moved =
+      let m = end-moved in
+      let a = start-le b (e .start) in
+      let a′ = start-le b′ (behindEdit first (e .start)) in
+      let u = end-bounds b (length (b .sanitized) - e .end) (e .end) (add-rest (e .end) (length (b .sanitized)) inside) .0 in
+      let m₁ = moves (e .start) (omega arith) in
+      let m₂ = moves (regionStart b (e .start)) (omega arith) in
+      let m₃ = moves (regionEnd b (length (b .sanitized) - e .end) (e .end)) (omega arith) in
+      let t = starts (regionStart b′ (behindEdit first (e .start))) (regionEnd b′ (length (b′ .sanitized) - behindEdit first (e .end)) (behindEdit first (e .end))) (regionStart b (e .start)) (regionEnd b (length (b .sanitized) - e .end) (e .end)) lengths m (omega arith) (omega arith) (omega arith) in
+      λ i. record { start = t i; end = m i }
+    where
+      starts : (x y p q : ℕ) → y - x ≡ q - p → y ≡ behindEdit first q → first .end ≤ p → p ≤ q → x ≤ y → x ≡ behindEdit first p
+      starts x y p q d m h k l =
+          let m₂ = moves p h in
+          let m₃ = moves q (omega arith) in
+          omega arith
