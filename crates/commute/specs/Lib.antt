@@ -2,3 +2,4 @@ pub mod Cut
 pub mod Outline
 pub mod Merged
 pub mod Passage
+pub mod Places

@@ -15,7 +15,7 @@ use Rattle.model.specs.Graft.{NewLayer, layered, graftNode, graftNodeRef, graft
 use Rattle.model.specs.Region.{depth, isBlockOpen, isBlockClose, isWarichuOpen, isWarichuClose}
 use Rattle.model.specs.Merge.{balancedFrom, balancedNodes, grafted}
 use Rattle.laws.specs.Lists.{both}
-use Rattle.laws.specs.Keep.{all-map-is, map-same}
+use Rattle.laws.specs.Keep.{all-map-is, all-true}
 use Rattle.laws.specs.Nodes.{Sound, nodeIn, offsetTest, images-map, spans-map, depth-map, balanced-depth}
 
 abbrev pub outline : SourceNode → SourceNode
@@ -51,10 +51,6 @@ unfolding offsetsOk imageLength standalonePadding spanLength
 offsets-outline i s [] = refl
 offsets-outline i s (n ∷ ns) = ap (λ (t : Bool). offsetTest i s n && t) (offsets-outline (i + imageLength n) (s + spanLength n) ns)
 
-everything : (ns : List SourceNode) → all (λ n. true) ns ≡ true
-everything [] = refl
-everything (n ∷ ns) = everything ns
-
 pub record GraftedNodes (old : LexOutput) (reading : RegionOutput) : Type 0 where
   pub inside : all (nodeIn (length (reading .sanitized))) (grafted old reading .0) ≡ true
   pub order : ordered 0 (grafted old reading .0) ≡ true
@@ -74,8 +70,8 @@ grafted-nodes old reading s e =
       order = same-outline (ordered 0) (ordered-outline 0) old reading ∙ s .places .order;
       offsets = same-outline (offsetsOk 0 0) (offsets-outline 0 0) old reading ∙ s .places .offsets;
       small = same-outline (all (λ (n : SourceNode). leb (n .normalizedOffset) (length (reading .normalized)))) (λ ns. all-map-is (λ (n : SourceNode). leb (n .normalizedOffset) (length (reading .normalized))) outline ns) old reading;
-      images = same-outline images (λ ns. images-map (λ n. true) outline (λ n h. refl) ns (everything ns)) old reading;
-      spans = same-outline spans (λ ns. spans-map (λ n. true) outline (λ n h. refl) ns (everything ns)) old reading;
+      images = same-outline images (λ ns. images-map (λ n. true) outline (λ n h. refl) ns (all-true ns)) old reading;
+      spans = same-outline spans (λ ns. spans-map (λ n. true) outline (λ n h. refl) ns (all-true ns)) old reading;
       blocks =
           same-outline (depth isBlockOpen isBlockClose 0) (λ ns. depth-map isBlockOpen isBlockClose outline (λ n. refl) (λ n. refl) 0 ns) old reading
           ∙ balanced-depth isBlockOpen isBlockClose 0 (reading .sourceNodes) (b .0);

@@ -92,6 +92,10 @@ pub all-kept : {A : Type 0} (ok p : A → Bool) (l : List A) → all ok l ≡ tr
 all-kept ok p l a = all-and ok p (keep p l) (all-keep ok p l a) (all-keep-self p l)
 
 module _ {A : Type 0} where
+  pub all-true : (l : List A) → all (λ x. true) l ≡ true
+  all-true [] = refl
+  all-true (x ∷ l) = all-true l
+
   pub any-is : (p : A → Bool) (l : List A) → any p l ≡ not (isEmpty (keep p l))
   any-is p [] = refl
   any-is p (x ∷ l) = go (p x) (any-is p l)

@@ -410,3 +410,56 @@ module _ (b : LexOutput) (s : Sound b) (c : ℕ) (safe : SafeCut b c) where
 -- no offset of a node is past the normalized text
 pub offsets-small : (b : LexOutput) → Sound b → all (λ (n : SourceNode). ltb (n .normalizedOffset) (length (b .normalized))) (b .sourceNodes) ≡ true
 offsets-small b s = let x = s .sizes in offsets-below (length (b .sanitized)) (length (b .normalized)) 0 0 0 (b .sourceNodes) (omega arith) (s .places .order) (s .places .sourceSpans) (s .places .offsets)
+
+-- ---- nodes that are moved
+
+-- starts and ends by + b − a, offsets by + d − c
+pub record NodeShift (f : SourceNode → SourceNode) (a b c d : ℕ) (n : SourceNode) : Type 0 where
+  pub start : f n .sourceSpan .start + a ≡ n .sourceSpan .start + b
+  pub end : f n .sourceSpan .end + a ≡ n .sourceSpan .end + b
+  pub offset : f n .normalizedOffset + c ≡ n .normalizedOffset + d
+  pub image : imageLength (f n) ≡ imageLength n
+
+module _ (ok : SourceNode → Bool) (f : SourceNode → SourceNode) (a b c d : ℕ) (shift : (n : SourceNode) → ok n ≡ true → NodeShift f a b c d n) where
+  shift-length : (n : SourceNode) → ok n ≡ true → spanLength (f n) ≡ spanLength n
+  unfolding spanLength
+  shift-length n o = let s = shift n o in let x = s .start in let y = s .end in omega arith
+
+  pub shift-spans : (ns : List SourceNode) → all ok ns ≡ true → spans (map f ns) ≡ spans ns
+  shift-spans = spans-map ok f shift-length
+
+  pub shift-images : (ns : List SourceNode) → all ok ns ≡ true → images (map f ns) ≡ images ns
+  shift-images = images-map ok f (λ n o. shift n o .image)
+
+  pub shift-ordered : (k k′ : ℕ) → k′ + a ≤ k + b → (ns : List SourceNode) → all ok ns ≡ true → ordered k ns ≡ true → ordered k′ (map f ns) ≡ true
+  unfolding ordered
+  shift-ordered k k′ h [] o r = refl
+  shift-ordered k k′ h (n ∷ ns) o r =
+      let u = both (ok n) (all ok ns) o in
+      let v = both (leb k (n .sourceSpan .start)) (ordered (n .sourceSpan .end) ns) r in
+      let x = shift n (u .0) .start in
+      let y = shift n (u .0) .end in
+      let l = leb-true k (n .sourceSpan .start) (v .0) in
+      join (leb k′ (f n .sourceSpan .start)) (ordered (f n .sourceSpan .end) (map f ns)) (le-leb k′ (f n .sourceSpan .start) (omega arith)) (shift-ordered (n .sourceSpan .end) (f n .sourceSpan .end) (omega arith) ns (u .1) (v .1))
+
+  pub shift-offsets : (ns : List SourceNode) (i s i′ s′ : ℕ) → b + i′ + c + s ≡ d + s′ + a + i → all ok ns ≡ true → offsetsOk i s ns ≡ true → offsetsOk i′ s′ (map f ns) ≡ true
+  unfolding offsetsOk
+  shift-offsets [] i s i′ s′ h o r = refl
+  shift-offsets (n ∷ ns) i s i′ s′ h o r =
+      let u = both (ok n) (all ok ns) o in
+      let v = both (offsetTest i s n) (offsetsOk (i + imageLength n) (s + spanLength n) ns) r in
+      let z = shift n (u .0) in
+      let l = shift-length n (u .0) in
+      join (offsetTest i′ s′ (f n)) (offsetsOk (i′ + imageLength (f n)) (s′ + spanLength (f n)) (map f ns)) (one n z (v .0))
+      (rw (z .image, l) (shift-offsets ns (i + imageLength n) (s + spanLength n) (i′ + imageLength n) (s′ + spanLength n) (omega arith) (u .1) (v .1)))
+    where
+      one : (n : SourceNode) → NodeShift f a b c d n → offsetTest i s n ≡ true → offsetTest i′ s′ (f n) ≡ true
+      one n z e =
+          let w = both (leb (n .sourceSpan .start + i) (n .normalizedOffset + s)) (ltb (n .normalizedOffset + s) (n .sourceSpan .start + i + imageLength n)) e in
+          let x = leb-true (n .sourceSpan .start + i) (n .normalizedOffset + s) (w .0) in
+          let y = ltb-true (n .normalizedOffset + s) (n .sourceSpan .start + i + imageLength n) (w .1) in
+          let z₁ = z .start in
+          let z₂ = z .offset in
+          let z₃ = z .image in
+          join (leb (f n .sourceSpan .start + i′) (f n .normalizedOffset + s′)) (ltb (f n .normalizedOffset + s′) (f n .sourceSpan .start + i′ + imageLength (f n)))
+          (le-leb (f n .sourceSpan .start + i′) (f n .normalizedOffset + s′) (omega arith)) (lt-ltb (f n .normalizedOffset + s′) (f n .sourceSpan .start + i′ + imageLength (f n)) (omega arith))
