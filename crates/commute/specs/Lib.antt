@@ -3,3 +3,4 @@ pub mod Outline
 pub mod Merged
 pub mod Passage
 pub mod Places
+pub mod Orders

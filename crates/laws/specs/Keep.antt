@@ -96,6 +96,15 @@ module _ {A : Type 0} where
   all-true [] = refl
   all-true (x ∷ l) = all-true l
 
+  -- what is true of all that a test keeps
+  pub all-if : (p q : A → Bool) (l : List A) → all p (keep q l) ≡ true → all (λ x. not (q x) || p x) l ≡ true
+  all-if p q [] a = refl
+  all-if p q (x ∷ l) a = go (q x) (all-if p q l) a
+    where
+      go : (t : Bool) → (all p (keep q l) ≡ true → all (λ y. not (q y) || p y) l ≡ true) → all p (cond t (x ∷ keep q l) (keep q l)) ≡ true → (not t || p x) && all (λ y. not (q y) || p y) l ≡ true
+      go true r a = let s = both (p x) (all p (keep q l)) a in join (p x) (all (λ y. not (q y) || p y) l) (s .0) (r (s .1))
+      go false r a = r a
+
   pub any-is : (p : A → Bool) (l : List A) → any p l ≡ not (isEmpty (keep p l))
   any-is p [] = refl
   any-is p (x ∷ l) = go (p x) (any-is p l)

@@ -1,0 +1,303 @@
+-- Two corrections of one book with separate regions, E the earlier-lying and L the later-lying: texts, pairs, containers and
+-- diagnostics of the two orders are equal. Section 7.
+use mathlib.Core.Path.{_≡_, refl, sym, ap, ap₂, _∙_}
+use Prim.Native.Nat.{ℕ, zero, suc, _+_, _-_, _≤_, _<_}
+use native.Mathlib.Omega.{arith}
+use mathlib.Core.Bool.{Bool, true, false, _&&_}
+use mathlib.Core.List.{List, [], _∷_, _++_, map}
+use lib.ListN.{length}
+use lib.IntN.{ℤ, pos, subℕ}
+use lib.Dec.{leb, ltb}
+use borrow.Author.Tests.{leb-true}
+use Rattle.model.specs.Lists.{all, keep}
+use Rattle.model.specs.Limits.{maxText}
+use Rattle.model.specs.Offset.{Span, shiftClamp, shifted}
+use Rattle.model.specs.Types.{PairLink, ContainerPair, Diagnostic, LexOutput, RegionOutput}
+use Rattle.model.specs.WellFormed.{spanOk, pairOk, containerOk}
+use Rattle.model.specs.Region.{Edit, edited, behindEdit}
+use Rattle.model.specs.Merge.{MergeWindow, changeInLength, windowOf, normalizedOffset, movedOffset, keptBefore, keptBehind, spliced, shiftedPair, pairLocated, containerLocated, shiftedDiagnostic, diagnosticLocated, notBehind, sortDiagnostics, mergedNormalized, mergedBook}
+use Rattle.model.specs.Demand3.{movedBehind, regionBehind}
+use Rattle.laws.specs.Checks.{mergedOf}
+use Rattle.laws.specs.Splice.{splice-comm}
+use Rattle.laws.specs.Sort.{sort-first, all-unsorted, not-behind-moved}
+use Rattle.laws.specs.Located.{Carried, two-orders}
+use Rattle.laws.specs.Nodes.{Sound, span-facts, PairFacts, pair-facts, container-facts, normal-rises, normal-inside}
+use Rattle.commute.specs.Merged.{Fit, p, q, region-rises, moved-sum, size-sum, placed-number, length-sum, behind-sum, normal-region-rises, offset-sum, pairs-carried, diagnostics-carried, containers-carried}
+use Rattle.commute.specs.Places.{normal-before, normal-moves}
+
+-- A merge of a book whose diagnostics a merge has sorted: it might as well not be sorted.
+pub sorted-again : (old : LexOutput) (e : Edit) (reading : RegionOutput) (r : Span) → Fit old e reading r → (ds : List Diagnostic) → old .diagnostics ≡ sortDiagnostics ds
+    → mergedOf old e reading r .diagnostics ≡ sortDiagnostics (spliced diagnosticLocated (windowOf old e reading r) ds (reading .diagnostics))
+unfolding mergedBook spliced keptBefore keptBehind diagnosticLocated shiftedDiagnostic
+sorted-again old e reading r f ds h =
+    let w = windowOf old e reading r in
+    let ok : Diagnostic → Bool = λ d. spanOk (length (old .sanitized)) (d .span) in
+    ap (λ (l : List Diagnostic). sortDiagnostics (spliced diagnosticLocated w l (reading .diagnostics))) h
+    ∙ sort-first ok (λ d. leb (d .span .end) (w .source .start)) (λ d. leb (w .source .end) (d .span .start)) (diagnosticLocated .moved w) moved ds (map (diagnosticLocated .placed w) (reading .diagnostics))
+    (all-unsorted ok ds (rw h at (f .oldSound .places .diagnostics)))
+  where
+    moved : (d d₁ : Diagnostic) → spanOk (length (old .sanitized)) (d .span) ≡ true → spanOk (length (old .sanitized)) (d₁ .span) ≡ true → leb (windowOf old e reading r .source .end) (d .span .start) ≡ true → leb (windowOf old e reading r .source .end) (d₁ .span .start) ≡ true
+        → notBehind d d₁ ≡ false → notBehind (diagnosticLocated .moved (windowOf old e reading r) d) (diagnosticLocated .moved (windowOf old e reading r) d₁) ≡ false
+    moved d d₁ o o₁ k k₁ n =
+        let w = windowOf old e reading r in
+        let c = diagnostics-carried old e reading r f in
+        let z = leb-true (w .source .end) (d .span .start) k in
+        let z₁ = leb-true (w .source .end) (d₁ .span .start) k₁ in
+        not-behind-moved d d₁ (diagnosticLocated .moved w d) (diagnosticLocated .moved w d₁) refl refl (p old e reading r f) (q old e reading r f) (c .movedStart d o z) (c .movedEnd d o z) (c .movedStart d₁ o₁ z₁) (c .movedEnd d₁ o₁ z₁) n
+
+-- ---- the four merges
+
+pub record FourMerges (b : LexOutput) (E L : Edit) (RE RL : RegionOutput) (rE rL : Span) : Type 0 where
+  pub firstE : Fit b E RE rE
+  pub firstL : Fit b L RL rL
+  pub apart : rE .end ≤ rL .start
+  pub secondL : Fit (mergedOf b E RE rE) (movedBehind E L) RL (regionBehind E rL)
+  pub secondE : Fit (mergedOf b L RL rL) E RE rE
+
+module _ (b : LexOutput) (E L : Edit) (RE RL : RegionOutput) (rE rL : Span) (m : FourMerges b E L RE RL rE rL) where
+  abbrev pub bE : LexOutput
+  bE = mergedOf b E RE rE
+
+  abbrev pub bL : LexOutput
+  bL = mergedOf b L RL rL
+
+  abbrev pub L′ : Edit
+  L′ = movedBehind E L
+
+  abbrev pub wE : MergeWindow
+  wE = windowOf b E RE rE
+
+  abbrev pub wL : MergeWindow
+  wL = windowOf b L RL rL
+
+  abbrev pub wL′ : MergeWindow
+  wL′ = windowOf bE L′ RL (regionBehind E rL)
+
+  abbrev pub pE : ℕ
+  pE = p b E RE rE (m .firstE)
+
+  abbrev pub qE : ℕ
+  qE = q b E RE rE (m .firstE)
+
+  abbrev pub pL : ℕ
+  pL = p b L RL rL (m .firstL)
+
+  abbrev pub qL : ℕ
+  qL = q b L RL rL (m .firstL)
+
+  riseL : rL .start ≤ rL .end
+  riseL = region-rises b L RL rL (m .firstL)
+
+  moves : (o : ℕ) → rE .end ≤ o → behindEdit E o + qE ≡ o + pE
+  moves = behind-sum b E RE rE (m .firstE)
+
+  pub start-moves : regionBehind E rL .start + qE ≡ rL .start + pE
+  unfolding regionBehind
+  start-moves = moves (rL .start) (m .apart)
+
+  pub end-moves : regionBehind E rL .end + qE ≡ rL .end + pE
+  unfolding regionBehind
+  end-moves = let a = m .apart in let c = riseL in moves (rL .end) (omega arith)
+
+  -- ---- offsets of the text, moved in both orders
+
+  pub twice-number : (o : ℕ) → rL .end ≤ o → o ≤ length (b .sanitized) → shiftClamp (shiftClamp o (changeInLength E)) (changeInLength L′) ≡ shiftClamp (shiftClamp o (changeInLength L)) (changeInLength E)
+  unfolding movedBehind
+  twice-number o h k =
+      let a = m .apart in
+      let c = riseL in
+      let g = m .firstL in
+      let g₁ = g .startsBefore in
+      let g₂ = g .rising in
+      let g₃ = g .endsBehind in
+      let x₁ = moved-sum b E RE rE (m .firstE) o (omega arith) k in
+      let y₁ = moved-sum b L RL rL g o h k in
+      let e₁ = end-moves in
+      let e₂ = moves (L .end) (omega arith) in
+      let e₃ = moves (L .start) (omega arith) in
+      let s₁ = length-sum b E RE rE (m .firstE) in
+      let s₂ = length-sum b L RL rL g in
+      let z = size-sum b L RL rL g in
+      let x₂ = moved-sum bE L′ RL (regionBehind E rL) (m .secondL) (shiftClamp o (changeInLength E)) (omega arith) (omega arith) in
+      let y₂ = moved-sum bL E RE rE (m .secondE) (shiftClamp o (changeInLength L)) (omega arith) (omega arith) in
+      omega arith
+
+  pub placed-twice : (o : ℕ) → o ≤ length (RL .sanitized) → shiftClamp o (pos (regionBehind E rL .start)) ≡ shiftClamp (shiftClamp o (pos (rL .start))) (changeInLength E)
+  placed-twice o k =
+      let a = m .apart in
+      let x₁ = placed-number b L RL rL (m .firstL) o k in
+      let x₂ = placed-number bE L′ RL (regionBehind E rL) (m .secondL) o k in
+      let e₁ = start-moves in
+      let s = length-sum b L RL rL (m .firstL) in
+      let z = size-sum b L RL rL (m .firstL) in
+      let i = m .firstL .inside in
+      let y₂ : shiftClamp (o + rL .start) (changeInLength E) + qE ≡ o + rL .start + pE = moved-sum bL E RE rE (m .secondE) (o + rL .start) (omega arith) (omega arith) in
+      rw (x₁, x₂) (omega arith)
+
+  -- ---- offsets of the normalized text
+
+  abbrev pub nE : ℕ → ℕ
+  nE o = normalizedOffset (b .sourceNodes) o
+
+  riseE : nE (rE .start) ≤ nE (rE .end)
+  riseE = normal-region-rises b E RE rE (m .firstE)
+
+  riseM : nE (rE .end) ≤ nE (rL .start)
+  riseM = normal-rises b (m .firstE .oldSound) (rE .end) (m .firstE .endSafe) (rL .start) (m .apart)
+
+  riseN : nE (rL .start) ≤ nE (rL .end)
+  riseN = normal-region-rises b L RL rL (m .firstL)
+
+  -- E's window is the same, merged first or second
+  pub window-again : windowOf bL E RE rE ≡ wE
+  unfolding windowOf
+  window-again =
+      let a = m .apart in
+      let c = region-rises b E RE rE (m .firstE) in
+      rw (normal-before b L RL rL (m .firstL) (rE .start) (omega arith), normal-before b L RL rL (m .firstL) (rE .end) a)
+
+  pub start-moves-normal : wL′ .normalized .start + nE (rE .end) ≡ nE (rL .start) + (length (RE .normalized) + nE (rE .start))
+  unfolding windowOf
+  start-moves-normal = normal-moves b E RE rE (m .firstE) (m .secondL .oldSound) (rL .start) (regionBehind E rL .start) (m .apart) start-moves
+
+  pub end-moves-normal : wL′ .normalized .end + nE (rE .end) ≡ nE (rL .end) + (length (RE .normalized) + nE (rE .start))
+  unfolding windowOf
+  end-moves-normal = let a = m .apart in let c = riseL in normal-moves b E RE rE (m .firstE) (m .secondL .oldSound) (rL .end) (regionBehind E rL .end) (omega arith) end-moves
+
+  pub twice-offset : (o : ℕ) → nE (rL .end) ≤ o → o ≤ maxText → movedOffset (movedOffset o (wE .normalizedDelta)) (wL′ .normalizedDelta) ≡ movedOffset (movedOffset o (wL .normalizedDelta)) (wE .normalizedDelta)
+  unfolding windowOf
+  twice-offset o h k =
+      let r₁ = riseE in
+      let r₂ = riseM in
+      let r₃ = riseN in
+      let s₁ = m .firstE .readingSound .normalized in
+      let s₂ = m .firstL .readingSound .normalized in
+      let e₀ = start-moves-normal in
+      let e₁ = end-moves-normal in
+      let x₁ = offset-sum b E RE rE (m .firstE) o (omega arith) (omega arith) in
+      let x₂ = offset-sum bE L′ RL (regionBehind E rL) (m .secondL) (movedOffset o (wE .normalizedDelta)) (omega arith) (omega arith) in
+      let y₁ = offset-sum b L RL rL (m .firstL) o h (omega arith) in
+      let y₂ = offset-sum b E RE rE (m .firstE) (movedOffset o (wL .normalizedDelta)) (omega arith) (omega arith) in
+      omega arith
+
+  pub placed-offset : (o : ℕ) → o ≤ maxText → o + wL′ .normalized .start ≡ movedOffset (o + wL .normalized .start) (wE .normalizedDelta)
+  unfolding windowOf
+  placed-offset o k =
+      let r₂ = riseM in
+      let i = m .firstL .inside in
+      let c = riseL in
+      let l = normal-inside b (m .firstE .oldSound) (rL .start) (m .firstL .startSafe) (omega arith) in
+      let s = m .firstE .oldSound .normalized in
+      let e = start-moves-normal in
+      let x = offset-sum b E RE rE (m .firstE) (o + nE (rL .start)) (omega arith) (omega arith) in
+      omega arith
+
+  -- ---- the texts
+
+  pub texts-agree : mergedOf bE L′ RL (regionBehind E rL) .sanitized ≡ mergedOf bL E RE rE .sanitized
+  unfolding mergedBook edited movedBehind behindEdit
+  texts-agree =
+      let f = m .firstE in
+      let g = m .firstL in
+      let x = f .endsBehind in
+      let a = m .apart in
+      let y = g .startsBefore in
+      let z = g .endsBehind in
+      let u = g .inside in
+      splice-comm (E .start) (E .end) (L .start) (L .end) (E .replacement) (L .replacement) (b .sanitized) (f .rising) (omega arith) (g .rising) (omega arith)
+
+  -- ---- pairs
+
+  pub pairs-agree : mergedOf bE L′ RL (regionBehind E rL) .pairs ≡ mergedOf bL E RE rE .pairs
+  unfolding mergedBook pairLocated windowOf shiftedPair shifted
+  pairs-agree =
+      two-orders pairLocated wE wL wL′ (pairOk (length (b .sanitized))) (pairOk (length (RE .sanitized))) (pairOk (length (RL .sanitized))) (length (RE .sanitized)) pE qE (length (RL .sanitized)) pL qL
+      (pairs-carried b E RE rE (m .firstE)) (pairs-carried b L RL rL (m .firstL)) (m .apart) start-moves end-moves twice again (b .pairs) (RE .pairs) (RL .pairs)
+      (m .firstE .oldSound .places .pairs) (m .firstE .readingSound .places .pairs) (m .firstL .readingSound .places .pairs)
+      ∙ ap (λ (w : MergeWindow). spliced pairLocated w (spliced pairLocated wL (b .pairs) (RL .pairs)) (RE .pairs)) (sym window-again)
+    where
+      twice : (x : PairLink) → pairOk (length (b .sanitized)) x ≡ true → rL .end ≤ x .opening .start → pairLocated .moved wL′ (pairLocated .moved wE x) ≡ pairLocated .moved wE (pairLocated .moved wL x)
+      twice x o h =
+          let g = pair-facts (length (b .sanitized)) x o in
+          let g₁ = g .opens in
+          let g₂ = g .apart in
+          let g₃ = g .closes in
+          let g₄ = g .inside in
+          rw (twice-number (x .opening .start) h (omega arith), twice-number (x .opening .end) (omega arith) (omega arith), twice-number (x .closing .start) (omega arith) (omega arith), twice-number (x .closing .end) (omega arith) g₄)
+
+      again : (x : PairLink) → pairOk (length (RL .sanitized)) x ≡ true → pairLocated .placed wL′ x ≡ pairLocated .moved wE (pairLocated .placed wL x)
+      again x o =
+          let g = pair-facts (length (RL .sanitized)) x o in
+          let g₁ = g .opens in
+          let g₂ = g .apart in
+          let g₃ = g .closes in
+          let g₄ = g .inside in
+          rw (placed-twice (x .opening .start) (omega arith), placed-twice (x .opening .end) (omega arith), placed-twice (x .closing .start) (omega arith), placed-twice (x .closing .end) g₄)
+
+  -- ---- containers
+
+  pub containers-agree : mergedOf bE L′ RL (regionBehind E rL) .containerPairs ≡ mergedOf bL E RE rE .containerPairs
+  unfolding mergedBook containerLocated windowOf
+  containers-agree =
+      two-orders containerLocated wE wL wL′ (containerOk (length (b .normalized))) (containerOk (length (RE .normalized))) (containerOk (length (RL .normalized)))
+      (length (RE .normalized)) (length (RE .normalized) + nE (rE .start)) (nE (rE .end)) (length (RL .normalized)) (length (RL .normalized) + nE (rL .start)) (nE (rL .end))
+      (containers-carried b E RE rE (m .firstE)) (containers-carried b L RL rL (m .firstL)) riseM start-moves-normal end-moves-normal twice again (b .containerPairs) (RE .containerPairs) (RL .containerPairs)
+      (m .firstE .oldSound .places .containerPairs) (m .firstE .readingSound .places .containerPairs) (m .firstL .readingSound .places .containerPairs)
+      ∙ ap (λ (w : MergeWindow). spliced containerLocated w (spliced containerLocated wL (b .containerPairs) (RL .containerPairs)) (RE .containerPairs)) (sym window-again)
+    where
+      twice : (x : ContainerPair) → containerOk (length (b .normalized)) x ≡ true → wL .normalized .end ≤ x .opening → containerLocated .moved wL′ (containerLocated .moved wE x) ≡ containerLocated .moved wE (containerLocated .moved wL x)
+      twice x o h =
+          let g = container-facts (length (b .normalized)) x o in
+          let g₁ = g .0 in
+          let g₂ = g .1 in
+          let z = m .firstE .oldSound .normalized in
+          rw (twice-offset (x .opening) h (omega arith), twice-offset (x .closing) (omega arith) (omega arith))
+
+      again : (x : ContainerPair) → containerOk (length (RL .normalized)) x ≡ true → containerLocated .placed wL′ x ≡ containerLocated .moved wE (containerLocated .placed wL x)
+      again x o =
+          let g = container-facts (length (RL .normalized)) x o in
+          let g₁ = g .0 in
+          let g₂ = g .1 in
+          let z = m .firstL .readingSound .normalized in
+          rw (placed-offset (x .opening) (omega arith), placed-offset (x .closing) (omega arith))
+
+  -- ---- diagnostics
+
+  unsorted-agree : spliced diagnosticLocated wL′ (spliced diagnosticLocated wE (b .diagnostics) (RE .diagnostics)) (RL .diagnostics) ≡ spliced diagnosticLocated wE (spliced diagnosticLocated wL (b .diagnostics) (RL .diagnostics)) (RE .diagnostics)
+  unfolding diagnosticLocated windowOf shiftedDiagnostic shifted
+  unsorted-agree =
+      two-orders diagnosticLocated wE wL wL′ (λ (d : Diagnostic). spanOk (length (b .sanitized)) (d .span)) (λ (d : Diagnostic). spanOk (length (RE .sanitized)) (d .span)) (λ (d : Diagnostic). spanOk (length (RL .sanitized)) (d .span))
+      (length (RE .sanitized)) pE qE (length (RL .sanitized)) pL qL
+      (diagnostics-carried b E RE rE (m .firstE)) (diagnostics-carried b L RL rL (m .firstL)) (m .apart) start-moves end-moves twice again (b .diagnostics) (RE .diagnostics) (RL .diagnostics)
+      (m .firstE .oldSound .places .diagnostics) (m .firstE .readingSound .places .diagnostics) (m .firstL .readingSound .places .diagnostics)
+    where
+      twice : (d : Diagnostic) → spanOk (length (b .sanitized)) (d .span) ≡ true → rL .end ≤ d .span .start → diagnosticLocated .moved wL′ (diagnosticLocated .moved wE d) ≡ diagnosticLocated .moved wE (diagnosticLocated .moved wL d)
+      twice d o h = let g = span-facts (length (b .sanitized)) (d .span) o in let g₁ = g .0 in let g₂ = g .1 in rw (twice-number (d .span .start) h (omega arith), twice-number (d .span .end) (omega arith) g₂)
+
+      again : (d : Diagnostic) → spanOk (length (RL .sanitized)) (d .span) ≡ true → diagnosticLocated .placed wL′ d ≡ diagnosticLocated .moved wE (diagnosticLocated .placed wL d)
+      again d o = let g = span-facts (length (RL .sanitized)) (d .span) o in let g₁ = g .0 in let g₂ = g .1 in rw (placed-twice (d .span .start) (omega arith), placed-twice (d .span .end) g₂)
+
+  pub diagnostics-agree : mergedOf bE L′ RL (regionBehind E rL) .diagnostics ≡ mergedOf bL E RE rE .diagnostics
+  unfolding mergedBook
+  diagnostics-agree =
+      sorted-again bE L′ RL (regionBehind E rL) (m .secondL) (spliced diagnosticLocated wE (b .diagnostics) (RE .diagnostics)) refl
+      ∙ ap sortDiagnostics (unsorted-agree ∙ ap (λ (w : MergeWindow). spliced diagnosticLocated w (spliced diagnosticLocated wL (b .diagnostics) (RL .diagnostics)) (RE .diagnostics)) (sym window-again))
+      ∙ sym (sorted-again bL E RE rE (m .secondE) (spliced diagnosticLocated wL (b .diagnostics) (RL .diagnostics)) refl)
+
+  -- ---- the normalized text
+
+  pub normalized-agree : mergedOf bE L′ RL (regionBehind E rL) .normalized ≡ mergedOf bL E RE rE .normalized
+  unfolding mergedBook mergedNormalized windowOf
+  normalized-agree =
+      let a = m .apart in
+      let c = region-rises b E RE rE (m .firstE) in
+      let r₁ = riseE in
+      let r₂ = riseM in
+      let r₃ = riseN in
+      let l = normal-inside b (m .firstE .oldSound) (rL .end) (m .firstL .endSafe) (m .firstL .inside) in
+      let e₀ = start-moves-normal in
+      let e₁ = end-moves-normal in
+      let x₀ : normalizedOffset (bE .sourceNodes) (regionBehind E rL .start) ≡ nE (rL .start) + length (RE .normalized) - (nE (rE .end) - nE (rE .start)) = omega arith in
+      let x₁ : normalizedOffset (bE .sourceNodes) (regionBehind E rL .end) ≡ nE (rL .end) + length (RE .normalized) - (nE (rE .end) - nE (rE .start)) = omega arith in
+      rw (x₀, x₁, normal-before b L RL rL (m .firstL) (rE .start) (omega arith), normal-before b L RL rL (m .firstL) (rE .end) a)
+      (splice-comm (nE (rE .start)) (nE (rE .end)) (nE (rL .start)) (nE (rL .end)) (RE .normalized) (RL .normalized) (b .normalized) r₁ r₂ r₃ l)
