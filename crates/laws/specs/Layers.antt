@@ -1,4 +1,5 @@
--- More behind a store's pools changes nothing of what its ids and ranges show. Assumes nothing.
+-- A layer on top changes nothing below: ids and ranges of the layers below stay right and show what they showed. And how the
+-- layers number what a new one holds.
 use mathlib.Core.Path.{_≡_, refl, sym, ap, ap₂, _∙_, subst}
 use Prim.Native.Nat.{ℕ, zero, suc, _+_, _-_, _≤_, _<_}
 use native.Mathlib.Omega.{arith}
@@ -7,20 +8,22 @@ use mathlib.Core.List.{List, [], _∷_, _++_, append-assoc, append-nil, map, fla
 use lib.ListN.{length, getD, take, drop, length-append, length-drop, List·getD-append}
 use lib.Seq.{drop-append-le, take-append-le}
 use lib.Dec.{T, eqb, leb, ltb}
-use borrow.Author.Tests.{eqb-true, leb-true, ltb-true, lt-ltb}
+use borrow.Author.Tests.{eqb-true, leb-true, ltb-true, le-leb, lt-ltb}
 use Rattle.laws.specs.Checks.{id-facts}
-use Rattle.laws.specs.Lists.{both, all-take, all-drop, all-append, flatten-append, map-append}
+use Rattle.laws.specs.Lists.{both, all-take, all-drop, all-append, all-map, join, flatten-append, flatten-snoc, map-append}
 use Rattle.model.specs.Lists.{all, any, sum}
 use Rattle.model.specs.Types.{Body, Content, Segment, Layer, SourceNode, LexOutput}
 use Rattle.model.specs.Limits.{noString, maxLevel}
 use Rattle.model.specs.Tape.{Field, Field.str, Field.optStr, Field.contentRange, Field.segRange, fieldsOf, nodeFields}
-use Rattle.model.specs.Store.{NodeStore, storeOf, stringCounts, contentCounts, segmentCounts, rangeOk, idOk, resolveStr, resolveContentRange, resolveSegRange}
+use Rattle.model.specs.Store.{NodeStore, storeOf, stringCounts, contentCounts, segmentCounts, inOneLayer, rangeOk, idOk, resolveStr, resolveContentRange, resolveSegRange}
 use Rattle.model.specs.WellFormed.{wordOf, fieldOk, contentOk, segmentOk, nodeOk, idsOk}
 use Rattle.model.specs.Tree.{Tree, Tree.tree, Fields, Fields.done, Fields.text, Fields.absent, Fields.contents, Fields.segments}
 use Rattle.model.specs.Tree.{Contents, Contents.noContent, Contents.plain, Contents.segmented, Segments, Segments.noSegment, Segments.segment}
 use Rattle.model.specs.Tree.{showSegments, showContents, showFields, showWith, showBody, showNode}
 use Rattle.model.specs.Demand3.{KeptReferences, shownString, shownContents, shownSegments}
-use Rattle.laws.specs.Graft.{inner, show-body}
+use Rattle.model.specs.Graft.{NewLayer, layered, layerOf}
+use Rattle.laws.specs.Intern.{fresh-sound}
+use Rattle.laws.specs.Graft.{inner, show-body, withLayer, Above, Numbered}
 
 -- st′ has st's pools with more behind them
 pub record More (st st′ : NodeStore) : Type 0 where
@@ -221,3 +224,124 @@ kept-references first later more e ids =
 -- number 4's test, of the pools
 pub ids-pools : (b : LexOutput) → idsOk b ≡ true → (all (contentOk (b .layers)) (storeOf (b .layers) .contents) ≡ true) × (all (segmentOk (b .layers)) (storeOf (b .layers) .segments) ≡ true)
 ids-pools b e = let i = id-facts b e .pools in (pool-contents (b .layers) (b .layers) i, pool-segments (b .layers) (b .layers) i)
+
+-- ---- ids and ranges of fewer layers are right
+
+sum-more : (a b : List ℕ) → sum a ≤ sum (a ++ b)
+sum-more [] b = omega arith
+sum-more (x ∷ a) b = let r = sum-more a b in omega arith
+
+id-more : (a b : List ℕ) (id : ℕ) → idOk a id ≡ true → idOk (a ++ b) id ≡ true
+unfolding idOk
+id-more a b id e = let l = ltb-true id (sum a) e in let m = sum-more a b in lt-ltb id (sum (a ++ b)) (omega arith)
+
+or-more : (t x y : Bool) → (x ≡ true → y ≡ true) → t || x ≡ true → t || y ≡ true
+or-more true x y h e = refl
+or-more false x y h e = h e
+
+in-more : (from : ℕ) (a b : List ℕ) (s n : ℕ) → inOneLayer from a s n ≡ true → inOneLayer from (a ++ b) s n ≡ true
+unfolding inOneLayer
+in-more from [] b s n e = absurd (false≢true e)
+in-more from (x ∷ a) b s n e = or-more (leb from s && leb (s + n) (from + x)) (inOneLayer (from + x) a s n) (inOneLayer (from + x) (a ++ b) s n) (in-more (from + x) a b s n) e
+
+range-more : (a b : List ℕ) (s n : ℕ) → rangeOk a s n ≡ true → rangeOk (a ++ b) s n ≡ true
+unfolding rangeOk
+range-more a b s n e =
+    let u = both (leb (s + n) (sum a)) (eqb n 0 || inOneLayer 0 a s n) e in
+    let l = leb-true (s + n) (sum a) (u .0) in
+    let m = sum-more a b in
+    join (leb (s + n) (sum (a ++ b))) (eqb n 0 || inOneLayer 0 (a ++ b) s n) (le-leb (s + n) (sum (a ++ b)) (omega arith)) (or-more (eqb n 0) (inOneLayer 0 a s n) (inOneLayer 0 (a ++ b) s n) (in-more 0 a b s n) (u .1))
+
+module _ (ls more : List Layer) where
+  string-more : (id : ℕ) → idOk (stringCounts ls) id ≡ true → idOk (stringCounts (ls ++ more)) id ≡ true
+  unfolding stringCounts
+  string-more id e = rw (map-append (λ (l : Layer). length (l .strings)) ls more) (id-more (stringCounts ls) (stringCounts more) id e)
+
+  contents-more : (s n : ℕ) → rangeOk (contentCounts ls) s n ≡ true → rangeOk (contentCounts (ls ++ more)) s n ≡ true
+  unfolding contentCounts
+  contents-more s n e = rw (map-append (λ (l : Layer). length (l .contents)) ls more) (range-more (contentCounts ls) (contentCounts more) s n e)
+
+  segments-more : (s n : ℕ) → rangeOk (segmentCounts ls) s n ≡ true → rangeOk (segmentCounts (ls ++ more)) s n ≡ true
+  unfolding segmentCounts
+  segments-more s n e = rw (map-append (λ (l : Layer). length (l .segments)) ls more) (range-more (segmentCounts ls) (segmentCounts more) s n e)
+
+  field-more : (b : Body) (f : Field) → fieldOk ls b f ≡ true → fieldOk (ls ++ more) b f ≡ true
+  unfolding fieldOk
+  field-more b (str i) e = string-more (wordOf b i) e
+  field-more b (optStr i) e = or-more (eqb (wordOf b i) noString) (idOk (stringCounts ls) (wordOf b i)) (idOk (stringCounts (ls ++ more)) (wordOf b i)) (string-more (wordOf b i)) e
+  field-more b (contentRange i) e = contents-more (wordOf b i) (wordOf b (i + 1)) e
+  field-more b (segRange i) e = segments-more (wordOf b i) (wordOf b (i + 1)) e
+
+  pub content-more : (c : Content) → contentOk ls c ≡ true → contentOk (ls ++ more) c ≡ true
+  unfolding contentOk
+  content-more c e = go (eqb (c .tag) 0) e
+    where
+      go : (t : Bool) → cond t (idOk (stringCounts ls) (c .first)) (rangeOk (segmentCounts ls) (c .first) (c .second)) ≡ true
+          → cond t (idOk (stringCounts (ls ++ more)) (c .first)) (rangeOk (segmentCounts (ls ++ more)) (c .first) (c .second)) ≡ true
+      go true q = string-more (c .first) q
+      go false q = segments-more (c .first) (c .second) q
+
+  pub segment-more : (s : Segment) → segmentOk ls s ≡ true → segmentOk (ls ++ more) s ≡ true
+  unfolding segmentOk
+  segment-more s e = all-map (fieldOk ls (s .body)) (fieldOk (ls ++ more) (s .body)) (field-more (s .body)) (fieldsOf (s .body)) e
+
+  pub node-more : (n : SourceNode) → nodeOk ls n ≡ true → nodeOk (ls ++ more) n ≡ true
+  unfolding nodeOk
+  node-more n e = all-map (fieldOk ls (n .body)) (fieldOk (ls ++ more) (n .body)) (field-more (n .body)) (nodeFields n) e
+
+-- ---- a new layer above
+
+pub fresh-above : (ls : List Layer) → Above (storeOf ls) (layered ls)
+unfolding layered
+fresh-above ls = record { strings = string-count ls; contents = content-count ls; segments = segment-count ls; sound = fresh-sound }
+
+-- the store of the old layers and the new one
+pub store-with : (ls : List Layer) (f : NewLayer) → storeOf (ls ++ (layerOf f ∷ [])) ≡ withLayer (storeOf ls) f
+unfolding storeOf layerOf
+store-with ls f =
+    let e₀ = ap flatten (map-append (λ (l : Layer). l .strings) ls (layerOf f ∷ [])) ∙ flatten-snoc (map (λ (l : Layer). l .strings) ls) (f .interner .strings) in
+    let e₁ = ap flatten (map-append (λ (l : Layer). l .contents) ls (layerOf f ∷ [])) ∙ flatten-snoc (map (λ (l : Layer). l .contents) ls) (f .contents) in
+    let e₂ = ap flatten (map-append (λ (l : Layer). l .segments) ls (layerOf f ∷ [])) ∙ flatten-snoc (map (λ (l : Layer). l .segments) ls) (f .segments) in
+    λ i. record { strings = e₀ i; contents = e₁ i; segments = e₂ i }
+
+in-last : (from : ℕ) (cs : List ℕ) (m a n : ℕ) → a + n ≤ m → inOneLayer from (cs ++ (m ∷ [])) (from + sum cs + a) n ≡ true
+unfolding inOneLayer
+in-last from [] m a n h = rw (le-leb from (from + 0 + a) (omega arith), le-leb (from + 0 + a + n) (from + m) (omega arith))
+in-last from (c ∷ cs) m a n h =
+    let e : from + (c + sum cs) + a ≡ from + c + sum cs + a = omega arith in
+    rw e (or-right (leb from (from + c + sum cs + a) && leb (from + c + sum cs + a + n) (from + c)) (inOneLayer (from + c) (cs ++ (m ∷ [])) (from + c + sum cs + a) n) (in-last (from + c) cs m a n h))
+  where
+    or-right : (x y : Bool) → y ≡ true → x || y ≡ true
+    or-right true y q = refl
+    or-right false y q = q
+
+-- a range of the last layer
+range-last : (cs : List ℕ) (m size a n : ℕ) (counts : List ℕ) → counts ≡ cs ++ (m ∷ []) → sum cs ≡ size → sum counts ≡ size + m → a + n ≤ m → rangeOk counts (size + a) n ≡ true
+unfolding rangeOk
+range-last cs m size a n counts e q s h =
+    let z : 0 + sum cs + a ≡ size + a = omega arith in
+    let y : inOneLayer 0 counts (size + a) n ≡ true = ap₂ (λ (k : List ℕ) (o : ℕ). inOneLayer 0 k o n) e (sym z) ∙ in-last 0 cs m a n h in
+    rw (y, le-leb (size + a + n) (sum counts) (omega arith)) (or-true (eqb n 0))
+  where
+    or-true : (x : Bool) → x || true ≡ true
+    or-true true = refl
+    or-true false = refl
+
+-- the layers with the new one number it, where a word can
+pub numbered-with : (ls : List Layer) (g : NewLayer) → sum (stringCounts (ls ++ (layerOf g ∷ []))) ≤ noString → sum (contentCounts (ls ++ (layerOf g ∷ []))) ≤ noString → sum (segmentCounts (ls ++ (layerOf g ∷ []))) ≤ noString
+    → Numbered (storeOf ls) g (ls ++ (layerOf g ∷ []))
+unfolding idOk contentCounts segmentCounts layerOf
+numbered-with ls g h₁ h₂ h₃ =
+    let new = ls ++ (layerOf g ∷ []) in
+    let st = store-with ls g in
+    let a₁ = string-count new ∙ ap (λ (s : NodeStore). length (s .strings)) st ∙ length-append (storeOf ls .strings) (g .interner .strings) in
+    let a₂ = content-count new ∙ ap (λ (s : NodeStore). length (s .contents)) st ∙ length-append (storeOf ls .contents) (g .contents) in
+    let a₃ = segment-count new ∙ ap (λ (s : NodeStore). length (s .segments)) st ∙ length-append (storeOf ls .segments) (g .segments) in
+    record {
+      string = λ id h. lt-ltb id (sum (stringCounts new)) (omega arith);
+      content = λ a n h. range-last (contentCounts ls) (length (g .contents)) (length (storeOf ls .contents)) a n (contentCounts new) (map-append (λ (l : Layer). length (l .contents)) ls (layerOf g ∷ [])) (content-count ls) a₂ h;
+      segment = λ a n h. range-last (segmentCounts ls) (length (g .segments)) (length (storeOf ls .segments)) a n (segmentCounts new) (map-append (λ (l : Layer). length (l .segments)) ls (layerOf g ∷ [])) (segment-count ls) a₃ h;
+      strings = omega arith;
+      contents = omega arith;
+      segments = omega arith;
+    }

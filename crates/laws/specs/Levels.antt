@@ -19,11 +19,11 @@ use Rattle.model.specs.WellFormed.{wordOf, contentSegments, fieldSegments, leve
 use Rattle.model.specs.Tree.{Tree, Tree.tree, Fields, Fields.done, Fields.text, Fields.absent, Fields.contents, Fields.segments}
 use Rattle.model.specs.Tree.{Contents, Contents.noContent, Contents.plain, Contents.segmented, Segments, Segments.noSegment, Segments.segment}
 use Rattle.model.specs.Tree.{showSegments, showContents, showFields, showWith, showBody, showNode, ShownNode, shownNode}
-use Rattle.model.specs.Graft.{NewLayer, graftNode, graftFields, graftNodeRef}
+use Rattle.model.specs.Graft.{NewLayer, graftNode, graftFields, graftNodeRef, graftNodeRefs}
 use Rattle.laws.specs.Lists.{both, join, either, all-take, all-drop, all-append, all-left, all-right, all-map}
 use Rattle.laws.specs.Keep.{all-get}
 use Rattle.laws.specs.Fits.{operandsFit, recordFits}
-use Rattle.laws.specs.Graft.{inner, show-body, TreeOf, FieldsOf, ContentsOf, SegmentsOf, distinct, table-distinct, withLayer, Above, Later, Made, Numbered, Pools, goodString, tagKind, segmentHead, sixWords, segmentFrom, level-shown, operands-append, operands-left, FieldsMade, FieldsGood, graft-fields, six-fit, unused-kept}
+use Rattle.laws.specs.Graft.{inner, show-body, TreeOf, FieldsOf, ContentsOf, SegmentsOf, distinct, table-distinct, withLayer, Above, Later, later-refl, later-trans, Made, made-trans, Numbered, Pools, goodString, tagKind, segmentHead, sixWords, segmentFrom, level-shown, operands-append, operands-left, FieldsMade, FieldsGood, graft-fields, six-fit, unused-kept}
 
 -- a node with other words that fit
 node-fits : (n : SourceNode) (ws : List ℕ) → operandsFit sixWords ws ≡ true → recordFits nodeCodec n ≡ true
@@ -285,4 +285,42 @@ module _ (st : NodeStore) where
             shape = λ e. node-shape n ws (unused-kept xs ws (m .kept)) e;
             ids = x .ids new refl;
           };
+        }
+
+    -- ---- the nodes of a reading
+
+    pub record NodesGood (old : NodeStore) (g : NewLayer) (ls : List Layer) (numbered : Numbered old g ls) (ns : List SourceNode) (f : NewLayer) : Type 0 where
+      pub pools : Pools old g ls numbered f → Pools old g ls numbered (graftNodeRefs (map (shownNode st) ns) f .1)
+      pub shows : map (shownNode (withLayer old g)) (graftNodeRefs (map (shownNode st) ns) f .0) ≡ map (shownNode st) ns
+      pub fits : all (recordFits nodeCodec) ns ≡ true → all (recordFits nodeCodec) (graftNodeRefs (map (shownNode st) ns) f .0) ≡ true
+      pub shape : all nodeShape ns ≡ true → all nodeShape (graftNodeRefs (map (shownNode st) ns) f .0) ≡ true
+      pub ids : all (nodeOk ls) (graftNodeRefs (map (shownNode st) ns) f .0) ≡ true
+
+    pub record NodesGrafted (old : NodeStore) (g : NewLayer) (ls : List Layer) (numbered : Numbered old g ls) (ns : List SourceNode) (f : NewLayer) : Type 0 where
+      pub made : Made old f (graftNodeRefs (map (shownNode st) ns) f .1)
+      pub good : Later (graftNodeRefs (map (shownNode st) ns) f .1) g → NodesGood old g ls numbered ns f
+
+    pub nodes-grafted : (old : NodeStore) (g : NewLayer) (ls : List Layer) (numbered : Numbered old g ls) (ns : List SourceNode) (f : NewLayer) → Above old f → NodesGrafted old g ls numbered ns f
+    unfolding graftNodeRefs
+    nodes-grafted old g ls numbered [] f a = record {
+      made = record { above = a; later = later-refl f };
+      good = λ lt. record { pools = λ p. p; shows = refl; fits = λ e. e; shape = λ e. e; ids = refl };
+    }
+    nodes-grafted old g ls numbered (n ∷ ns) f a =
+        let one = node-grafted old g ls numbered n f a in
+        let r = graftNodeRef (shownNode st n) f in
+        let more = nodes-grafted old g ls numbered ns (r .1) (one .made .above) in
+        let final = graftNodeRefs (map (shownNode st) ns) (r .1) in
+        record {
+          made = made-trans old f (r .1) (final .1) (one .made) (more .made);
+          good = λ lt.
+              let x = one .good (later-trans (r .1) (final .1) g (more .made .later) lt) in
+              let y = more .good lt in
+              record {
+                pools = λ p. y .pools (x .pools p);
+                shows = ap₂ (λ (m : ShownNode) (ms : List ShownNode). m ∷ ms) (x .shows) (y .shows);
+                fits = λ e. let s = both (recordFits nodeCodec n) (all (recordFits nodeCodec) ns) e in join (recordFits nodeCodec (r .0)) (all (recordFits nodeCodec) (final .0)) (x .fits (s .0)) (y .fits (s .1));
+                shape = λ e. let s = both (nodeShape n) (all nodeShape ns) e in join (nodeShape (r .0)) (all nodeShape (final .0)) (x .shape (s .0)) (y .shape (s .1));
+                ids = join (nodeOk ls (r .0)) (all (nodeOk ls) (final .0)) (x .ids) (y .ids);
+              };
         }
