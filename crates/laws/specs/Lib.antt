@@ -1,3 +1,6 @@
 pub mod Lists
 pub mod Checks
 pub mod Fits
+pub mod Words
+pub mod Records
+pub mod RoundTrip
