@@ -4,3 +4,5 @@ pub mod Fits
 pub mod Words
 pub mod Records
 pub mod RoundTrip
+pub mod WriteRead
+pub mod ReadFits
