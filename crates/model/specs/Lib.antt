@@ -18,3 +18,4 @@ pub mod Runs
 pub mod Demand3
 pub mod Computed
 pub mod Examples
+pub mod Traps
