@@ -6,3 +6,5 @@ pub mod Records
 pub mod RoundTrip
 pub mod WriteRead
 pub mod ReadFits
+pub mod Numbers
+pub mod Ordered
