@@ -19,3 +19,4 @@ pub mod Demand3
 pub mod Computed
 pub mod Examples
 pub mod Traps
+pub mod TwoEdits
