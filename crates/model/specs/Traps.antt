@@ -9,7 +9,7 @@ use lib.ListN.{length, replicate}
 use Rattle.model.specs.Lists.{tabulate, ascii}
 use Rattle.model.specs.Limits.{noString}
 use Rattle.model.specs.Offset.{Span}
-use Rattle.model.specs.Intern.{StrInterner, freshInterner, intern, internAll}
+use Rattle.model.specs.Intern.{StrInterner, Interned, freshInterner, intern, internAll}
 use Rattle.model.specs.Types.{Body, Content, Segment, Layer, SourceNode, PairLink, ContainerPair, Diagnostic, LexOutput, RegionOutput}
 use Rattle.model.specs.Refusal.{Checked, Checked.refused, Checked.accepted, numberOf}
 use Rattle.model.specs.Tape.{parse, tapeOf, bytesOf}
@@ -99,13 +99,15 @@ field f none-answer (some b) = f b
 abbrev full : StrInterner
 full = internAll freshInterner (tabulate 224 (λ i. i ∷ []))
 
+-- slots, resizes, table hits and id of an answer
+abbrev numbers : Interned → List ℕ
+numbers r = length (r .state .table) ∷ r .state .stats .resizes ∷ r .state .stats .tableHits ∷ r .id ∷ []
+
 -- Growing only on a miss: growth is tested before probing, even for a string already there. 224 entries, then one older than
 -- the last, grows to 512 slots, as one resize.
-pub grows-before-probing :
-    (length (full .table) ≡ 256) × (length (intern full (0 ∷ []) .state .table) ≡ 512)
-    × (intern full (0 ∷ []) .state .stats .resizes ≡ 1) × (intern full (0 ∷ []) .state .stats .tableHits ≡ 1) × (intern full (0 ∷ []) .id ≡ 0)
+pub grows-before-probing : (length (full .table) ≡ 256) × (numbers (intern full (0 ∷ [])) ≡ 512 ∷ 1 ∷ 1 ∷ 0 ∷ [])
 unfolding computed
-grows-before-probing = (refl, refl, refl, refl, refl)
+grows-before-probing = (refl, refl)
 
 -- a Gaiji, Unresolved, with hint "h" and mencode "m"
 abbrev gaiji : LexOutput

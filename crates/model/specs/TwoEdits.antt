@@ -8,12 +8,13 @@ use lib.ListN.{length}
 use Rattle.model.specs.Lists.{ascii}
 use Rattle.model.specs.Offset.{Span}
 use Rattle.model.specs.Types.{SourceNode, PairLink, ContainerPair, Diagnostic, LexOutput, RegionOutput}
-use Rattle.model.specs.Refusal.{Checked, Checked.refused, Checked.accepted, _>>=_}
+use Rattle.model.specs.Refusal.{Checked, Checked.accepted, _>>=_}
 use Rattle.model.specs.WellFormed.{checkBook}
+use Rattle.model.specs.Tree.{Tree.tree, Fields.done, Fields.text, Fields.contents, Contents, Contents.noContent, Contents.plain, ShownNode}
 use Rattle.model.specs.Region.{Edit}
-use Rattle.model.specs.Merge.{IncrementalOutput, storedBook, merge}
+use Rattle.model.specs.Merge.{storedBook, merge}
 use Rattle.model.specs.Runs.{programRoom}
-use Rattle.model.specs.Demand3.{shown, shownString, shownContents, movedBehind, regionBehind}
+use Rattle.model.specs.Demand3.{Shown, shown, shownString, shownContents, movedBehind, regionBehind}
 use Rattle.model.specs.Examples.{rubyReading}
 use Rattle.model.specs.Computed.{computed}
 
@@ -24,7 +25,7 @@ abbrev container : ℕ → ℕ → ContainerPair
 container opening closing = record { plain = 7; opening = opening; closing = closing }
 
 abbrev diagnostic : ℕ → ℕ → ℕ → Diagnostic
-diagnostic start end plain = record { kind = 1; codeRank = 2; span = span start end; plain = plain }
+diagnostic start end word = record { kind = 1; codeRank = 2; span = span start end; plain = word }
 
 abbrev pair : ℕ → ℕ → PairLink
 pair opening closing = record { kind = 2; opening = span opening (suc opening); closing = span closing (suc closing) }
@@ -87,51 +88,76 @@ laterReading = record {
   diagnostics = diagnostic 0 1 7 ∷ diagnostic 0 1 8 ∷ [];
 }
 
+-- ---- the two orders
+
+-- what demand 3 speaks of, of one order: the regions of its two merges, the sum of their reread nodes, what the final book
+-- shows and how many layers it has, and what string 1 and content 0 of the first book show there
+pub record Told : Type 0 where
+  pub firstRegion : Span
+  pub secondRegion : Span
+  pub rereadTotal : ℕ
+  pub final : Shown
+  pub layers : ℕ
+  pub string1 : List ℕ
+  pub content0 : Contents
+
 -- two merges, one behind the other; the second edit is already moved
-abbrev inTurn : Edit → RegionOutput → Edit → RegionOutput → Checked (IncrementalOutput × IncrementalOutput × LexOutput)
+abbrev inTurn : Edit → RegionOutput → Edit → RegionOutput → Checked Told
 inTurn e reading e′ reading′ = do
   first ← merge (storedBook book) e (storedBook reading) programRoom
   second ← merge (first .output) e′ (storedBook reading′) programRoom
   final ← checkBook (second .output .tape) (second .output .bytes)
-  accepted (first, second, final)
+  accepted (record {
+    firstRegion = first .region;
+    secondRegion = second .region;
+    rereadTotal = first .reparsedNodes + second .reparsedNodes;
+    final = shown final;
+    layers = length (final .layers);
+    string1 = shownString final 1;
+    content0 = shownContents final 0 1;
+  })
 
-abbrev earlierFirst : Checked (IncrementalOutput × IncrementalOutput × LexOutput)
-earlierFirst = inTurn earlier earlierReading (movedBehind earlier later) laterReading
+abbrev shownKaeriten : ℕ → ℕ → ℕ → List ℕ → ShownNode
+shownKaeriten start end offset mark = record {
+  class = 0;
+  inline = 0;
+  sourceSpan = span start end;
+  normalizedOffset = offset;
+  body = tree 12 0 0 0 (text 0 mark done);
+}
 
-abbrev laterFirst : Checked (IncrementalOutput × IncrementalOutput × LexOutput)
-laterFirst = inTurn later laterReading earlier earlierReading
+-- the final book of both orders, with strings in place of ids
+abbrev final : Shown
+final = record {
+  sanitized = ascii "aa\n\nxbb\n\nyyc\n\nd";
+  normalized = ascii "aa\n\n" ++ (image ++ (ascii "b\n\n" ++ (image ++ (ascii "c\n\n" ++ image))));
+  sourceNodes = record {
+    class = 0;
+    inline = 0;
+    sourceSpan = span 4 6;
+    normalizedOffset = 4;
+    body = tree 1 0 0 0 (contents 0 (plain (ascii "x") noContent) (contents 2 (plain (ascii "b") noContent) done));
+  } ∷ shownKaeriten 9 11 10 (ascii "x") ∷ shownKaeriten 14 15 17 (ascii "d") ∷ [];
+  pairs = pair 0 1 ∷ pair 4 5 ∷ [];
+  containerPairs = container 0 3 ∷ container 4 8 ∷ container 10 15 ∷ container 16 18 ∷ [];
+  diagnostics = diagnostic 0 1 3 ∷ diagnostic 7 8 5 ∷ diagnostic 7 8 6 ∷ diagnostic 9 10 7 ∷ diagnostic 9 10 8 ∷ diagnostic 14 15 1 ∷ diagnostic 14 15 2 ∷ [];
+}
 
-abbrev mapped : {A B : Type 0} → (A → B) → Checked A → Checked B
-mapped f (refused n) = refused n
-mapped f (accepted a) = accepted (f a)
+abbrev told : Span → Span → Told
+told first second = record {
+  firstRegion = first;
+  secondRegion = second;
+  rereadTotal = 2;
+  final = final;
+  layers = 3;
+  string1 = ascii "q";
+  content0 = plain (ascii "q") noContent;
+}
 
--- Same passage: 4..8 first or second, and 8..12 moved by one.
-pub same-passage :
-    (mapped (λ o. o .0 .region) earlierFirst ≡ accepted (span 4 8)) × (mapped (λ o. o .1 .region) laterFirst ≡ accepted (span 4 8))
-    × (mapped (λ o. o .0 .region) laterFirst ≡ accepted (span 8 12)) × (mapped (λ o. o .1 .region) earlierFirst ≡ accepted (regionBehind earlier (span 8 12)))
-unfolding computed regionBehind movedBehind
-same-passage = (refl, refl, refl, refl)
-
--- Equal books: what the two final books show, and what lies where the regions meet.
-pub equal-books :
-    (mapped (λ o. shown (o .2)) earlierFirst ≡ mapped (λ o. shown (o .2)) laterFirst)
-    × (mapped (λ o. o .2 .sanitized) laterFirst ≡ accepted (ascii "aa\n\nxbb\n\nyyc\n\nd"))
-    × (mapped (λ o. o .2 .containerPairs) laterFirst ≡ accepted (container 0 3 ∷ container 4 8 ∷ container 10 15 ∷ container 16 18 ∷ []))
-    × (mapped (λ o. o .2 .pairs) laterFirst ≡ accepted (pair 0 1 ∷ pair 4 5 ∷ []))
-    × (mapped (λ o. o .2 .diagnostics) laterFirst
-    ≡ accepted (diagnostic 0 1 3 ∷ diagnostic 7 8 5 ∷ diagnostic 7 8 6 ∷ diagnostic 9 10 7 ∷ diagnostic 9 10 8 ∷ diagnostic 14 15 1 ∷ diagnostic 14 15 2 ∷ []))
-    × (mapped (λ o. length (o .2 .layers)) laterFirst ≡ accepted 3)
-unfolding computed shown movedBehind
-equal-books = (refl, refl, refl, refl, refl, refl)
-
--- Equal totals: one node reread by each merge.
-pub equal-totals : (mapped (λ o. o .0 .reparsedNodes + o .1 .reparsedNodes) earlierFirst ≡ accepted 2) × (mapped (λ o. o .0 .reparsedNodes + o .1 .reparsedNodes) laterFirst ≡ accepted 2)
-unfolding computed movedBehind
-equal-totals = (refl, refl)
-
--- Kept references: string 1 and content 0 of the first book, which no node uses.
-pub kept-references :
-    (mapped (λ o. shownString (o .2) 1) earlierFirst ≡ accepted (shownString book 1)) × (mapped (λ o. shownString (o .2) 1) laterFirst ≡ accepted (shownString book 1))
-    × (mapped (λ o. shownContents (o .2) 0 1) earlierFirst ≡ accepted (shownContents book 0 1)) × (mapped (λ o. shownContents (o .2) 0 1) laterFirst ≡ accepted (shownContents book 0 1))
-unfolding computed shownString shownContents movedBehind
-kept-references = (refl, refl, refl, refl)
+-- Both orders: the earlier region is 4..8, the later one 8..12, moved by one where it comes second; book, total and references
+-- are the same.
+pub both-orders :
+    (inTurn earlier earlierReading (movedBehind earlier later) laterReading ≡ accepted (told (span 4 8) (regionBehind earlier (span 8 12))))
+    × (inTurn later laterReading earlier earlierReading ≡ accepted (told (span 8 12) (span 4 8)))
+unfolding computed shown shownString shownContents movedBehind regionBehind
+both-orders = (refl, refl)
