@@ -18,3 +18,5 @@ pub mod Runs
 pub mod Demand3
 pub mod Computed
 pub mod Examples
+pub mod Traps
+pub mod TwoEdits

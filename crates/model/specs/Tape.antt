@@ -32,11 +32,18 @@ pub record Codec (A : Type 0) : Type 0 where
 abbrev pub recordSize : {A : Type 0} → Codec A → ℕ
 recordSize c = 1 + sum (map operandSize (c .operands))
 
+abbrev pub valueAt : Operand → List ℕ → ℕ → ℕ
+valueAt byte t p = byteAt t p
+valueAt word t p = wordAt t p
+
+abbrev pub valueBytes : Operand → ℕ → List ℕ
+valueBytes byte v = v ∷ []
+valueBytes word v = wordBytes v
+
 -- the operands behind the place p, the first of them at p + k
 unfoldable pub operandsAt : List Operand → List ℕ → ℕ → ℕ → List ℕ
 operandsAt [] t p k = []
-operandsAt (byte ∷ os) t p k = byteAt t (p + k) ∷ operandsAt os t p (k + 1)
-operandsAt (word ∷ os) t p k = wordAt t (p + k) ∷ operandsAt os t p (k + 4)
+operandsAt (o ∷ os) t p k = valueAt o t (p + k) ∷ operandsAt os t p (k + operandSize o)
 
 -- the record whose command byte stands at p
 unfoldable pub recordAt : {A : Type 0} → Codec A → List ℕ → ℕ → A
@@ -45,8 +52,7 @@ recordAt c t p = c .decode (operandsAt (c .operands) t p 1)
 unfoldable pub operandBytes : List Operand → List ℕ → List ℕ
 operandBytes [] vs = []
 operandBytes (o ∷ os) [] = []
-operandBytes (byte ∷ os) (v ∷ vs) = v ∷ operandBytes os vs
-operandBytes (word ∷ os) (v ∷ vs) = wordBytes v ++ operandBytes os vs
+operandBytes (o ∷ os) (v ∷ vs) = valueBytes o v ++ operandBytes os vs
 
 unfoldable pub recordBytes : {A : Type 0} → Codec A → A → List ℕ
 recordBytes c a = c .command ∷ operandBytes (c .operands) (c .encode a)

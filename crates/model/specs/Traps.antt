@@ -1,0 +1,256 @@
+-- The traps of document 01, and the sentences that two readers could take differently (docs/DECISIONS.md): each a theorem by
+-- computation that tells the right answer from the wrong one. For each there is a must-fail edit of its definition.
+use mathlib.Core.Path.{_≡_, refl}
+use Prim.Native.Nat.{ℕ, zero, suc}
+use mathlib.Core.Bool.{Bool, true, false}
+use mathlib.Core.Option.{Option, none, some}
+use mathlib.Core.List.{List, [], _∷_, _++_, map}
+use lib.ListN.{length, replicate}
+use Rattle.model.specs.Lists.{tabulate, ascii}
+use Rattle.model.specs.Limits.{noString}
+use Rattle.model.specs.Offset.{Span}
+use Rattle.model.specs.Intern.{StrInterner, Interned, freshInterner, intern, internAll}
+use Rattle.model.specs.Types.{Body, Content, Segment, Layer, SourceNode, PairLink, ContainerPair, Diagnostic, LexOutput, RegionOutput}
+use Rattle.model.specs.Refusal.{Checked, Checked.refused, Checked.accepted, numberOf}
+use Rattle.model.specs.Tape.{parse, tapeOf, bytesOf}
+use Rattle.model.specs.WellFormed.{checkBook, checkReading}
+use Rattle.model.specs.Tree.{shownNodes}
+use Rattle.model.specs.Graft.{layered, graftNodeRefs}
+use Rattle.model.specs.Region.{Edit, chooseRegion}
+use Rattle.model.specs.Merge.{Stored, Room, IncrementalOutput, storedBook, merge}
+use Rattle.model.specs.Runs.{program, programRoom}
+use Rattle.model.specs.Examples.{plainBook, edit, regionIn, region, rubyReading, input}
+use Rattle.model.specs.Computed.{computed}
+
+-- ---- small books
+
+abbrev span : ℕ → ℕ → Span
+span start end = record { start = start; end = end }
+
+-- a body with no plain words
+abbrev body : ℕ → ℕ → List ℕ → Body
+body kind tag words = record { kind = kind; tag = tag; plain1 = 0; plain2 = 0; words = words }
+
+-- six words, the first two of them given
+abbrev words : ℕ → ℕ → List ℕ
+words a b = a ∷ b ∷ 0 ∷ 0 ∷ 0 ∷ 0 ∷ []
+
+abbrev plainContent : ℕ → Content
+plainContent id = record { tag = 0; first = id; second = 0 }
+
+abbrev layerOf : List (List ℕ) → List Content → List Segment → Layer
+layerOf strings contents segments = record { strings = strings; contents = contents; segments = segments }
+
+-- the text "a" as one Inline node
+abbrev oneNode : List Layer → Body → LexOutput
+oneNode layers b = record {
+  sanitized = ascii "a";
+  normalized = 0xee ∷ 0x80 ∷ 0x81 ∷ [];
+  layers = layers;
+  sourceNodes = record { class = 0; inline = 0; sourceSpan = span 0 1; normalizedOffset = 0; body = b } ∷ [];
+  pairs = [];
+  containerPairs = [];
+  diagnostics = [];
+}
+
+-- the number of a book, 0 where it is accepted
+abbrev number : LexOutput → ℕ
+number b = numberOf (checkBook (tapeOf b) (bytesOf b))
+
+-- "aa\n\nbb\n\ncc" with these lists
+abbrev threeWith : List PairLink → List ContainerPair → List Diagnostic → LexOutput
+threeWith pairs containers diagnostics = record {
+  sanitized = ascii "aa\n\nbb\n\ncc";
+  normalized = ascii "aa\n\nbb\n\ncc";
+  layers = layerOf [] [] [] ∷ [];
+  sourceNodes = [];
+  pairs = pairs;
+  containerPairs = containers;
+  diagnostics = diagnostics;
+}
+
+-- the reading "xb\n\n" without nodes, with these diagnostics
+abbrev plainReading : List Diagnostic → RegionOutput
+plainReading diagnostics = record {
+  sanitized = ascii "xb\n\n";
+  normalized = ascii "xb\n\n";
+  layers = layerOf [] [] [] ∷ [];
+  sourceNodes = [];
+  pairs = [];
+  containerPairs = [];
+  diagnostics = diagnostics;
+}
+
+abbrev readBack : Checked IncrementalOutput → Option LexOutput
+readBack (refused n) = none
+readBack (accepted m) = parse (m .output .tape) (m .output .bytes)
+
+-- the book that P4's edit, 4..5 with "x", makes of a book and a reading, read back from its tape
+abbrev merged : LexOutput → RegionOutput → Option LexOutput
+merged old reading = readBack (merge (storedBook old) (edit 4 5) (storedBook reading) programRoom)
+
+abbrev field : {A : Type 0} → (LexOutput → A) → A → Option LexOutput → A
+field f none-answer none = none-answer
+field f none-answer (some b) = f b
+
+-- ---- traps
+
+-- 224 entries of one byte
+abbrev full : StrInterner
+full = internAll freshInterner (tabulate 224 (λ i. i ∷ []))
+
+-- slots, resizes, table hits and id of an answer
+abbrev numbers : Interned → List ℕ
+numbers r = length (r .state .table) ∷ r .state .stats .resizes ∷ r .state .stats .tableHits ∷ r .id ∷ []
+
+-- Growing only on a miss: growth is tested before probing, even for a string already there. 224 entries, then one older than
+-- the last, grows to 512 slots, as one resize.
+pub grows-before-probing : (length (full .table) ≡ 256) × (numbers (intern full (0 ∷ [])) ≡ 512 ∷ 1 ∷ 1 ∷ 0 ∷ [])
+unfolding computed
+grows-before-probing = (refl, refl)
+
+-- a Gaiji, Unresolved, with hint "h" and mencode "m"
+abbrev gaiji : LexOutput
+gaiji = oneNode (layerOf (ascii "h" ∷ ascii "m" ∷ []) [] [] ∷ []) (body 3 2 (words 0 1))
+
+-- Hint before mencode: mencode is grafted first.
+pub mencode-before-hint : graftNodeRefs (shownNodes gaiji) (layered []) .1 .interner .strings ≡ ascii "m" ∷ ascii "h" ∷ []
+unfolding computed
+mencode-before-hint = refl
+
+-- a Kaeriten with mark "x", which has id 1
+abbrev kaeriten : LexOutput
+kaeriten = oneNode (layerOf (ascii "y" ∷ ascii "x" ∷ []) [] [] ∷ []) (body 12 0 (words 1 0))
+
+-- Looking for strings in older layers: a new layer never finds them. The "x" of the layer below has id 1, the new one 2.
+pub older-strings-not-found :
+    (graftNodeRefs (shownNodes kaeriten) (layered (kaeriten .layers)) .1 .interner .strings ≡ ascii "x" ∷ [])
+    × (map (λ (n : SourceNode). n .body .words) (graftNodeRefs (shownNodes kaeriten) (layered (kaeriten .layers)) .0) ≡ words 2 0 ∷ [])
+unfolding computed
+older-strings-not-found = (refl, refl)
+
+abbrev container : ℕ → ℕ → ContainerPair
+container opening closing = record { plain = 7; opening = opening; closing = closing }
+
+-- Taking a container whose close equals the normalized start: it is dropped; one that closes before it is kept, one that opens
+-- at the normalized end moves.
+pub container-at-the-start-dropped :
+    field (λ b. b .containerPairs) [] (merged (threeWith [] (container 1 3 ∷ container 1 4 ∷ container 7 9 ∷ container 8 9 ∷ []) []) (plainReading []))
+    ≡ container 1 3 ∷ container 8 9 ∷ []
+unfolding computed
+container-at-the-start-dropped = refl
+
+-- ---- sentences that could be read twice
+
+-- two layers with one content each
+abbrev twoLayers : ℕ → ℕ → LexOutput
+twoLayers start len =
+    oneNode (layerOf (ascii "s" ∷ []) (plainContent 0 ∷ []) [] ∷ layerOf (ascii "t" ∷ []) (plainContent 1 ∷ []) [] ∷ []) (body 9 0 (words start len))
+
+-- A range of length 0 may start anywhere up to the pool's count, also between layers; one across layers is 4.
+pub empty-range-between-layers : (number (twoLayers 1 0) ≡ 0) × (number (twoLayers 2 0) ≡ 0) × (number (twoLayers 3 0) ≡ 4) × (number (twoLayers 0 2) ≡ 4) × (number (twoLayers 1 1) ≡ 0)
+unfolding computed
+empty-range-between-layers = (refl, refl, refl, refl, refl)
+
+-- an Illustration: file, number, dimensions, description, no caption
+abbrev illustration : ℕ → ℕ → LexOutput
+illustration file number = oneNode (layerOf (ascii "f" ∷ []) [] [] ∷ []) (body 11 0 (file ∷ number ∷ noString ∷ noString ∷ 0 ∷ 0 ∷ []))
+
+-- 0xFFFFFFFF where an id may not be missing is 4.
+pub missing-where-it-may-not : (number (illustration 0 noString) ≡ 0) × (number (illustration noString 0) ≡ 4)
+unfolding computed
+missing-where-it-may-not = (refl, refl)
+
+-- a Heading whose one content is one text segment of this level
+abbrev textSegment : ℕ → LexOutput
+textSegment level =
+    oneNode (layerOf (ascii "s" ∷ []) (record { tag = 1; first = 0; second = 1 } ∷ []) (record { tag = 0; level = level; body = body 0 0 (words 0 0) } ∷ []) ∷ [])
+    (body 9 0 (words 0 1))
+
+-- A level byte of 1 in a text segment is 5, and no fault of the layout.
+pub level-of-a-text-segment : (number (textSegment 0) ≡ 0) × (number (textSegment 1) ≡ 5)
+unfolding computed
+level-of-a-text-segment = (refl, refl)
+
+-- The end cut lies behind the edit's end: it is the newline that is at or behind it.
+pub end-behind-the-edit : (regionIn (ascii "aa\n\nbb\n\ncc") (edit 4 4) ≡ region 4 8) × (regionIn (ascii "aa\n\nbb\n\ncc") (edit 10 10) ≡ region 8 10)
+unfolding computed
+end-behind-the-edit = (refl, refl)
+
+-- the reading "xb\n\n" as one BlockOpen and one BlockClose, both inline
+abbrev blockReading : RegionOutput
+blockReading = record {
+  sanitized = ascii "xb\n\n";
+  normalized = 0xee ∷ 0x80 ∷ 0x81 ∷ 0xee ∷ 0x80 ∷ 0x82 ∷ 0x0a ∷ 0x0a ∷ [];
+  layers = layerOf [] [] [] ∷ [];
+  sourceNodes = record { class = 2; inline = 1; sourceSpan = span 0 1; normalizedOffset = 0; body = body 0 0 (words 0 0) }
+      ∷ record { class = 3; inline = 1; sourceSpan = span 1 2; normalizedOffset = 3; body = body 0 0 (words 0 0) } ∷ [];
+  pairs = [];
+  containerPairs = [];
+  diagnostics = [];
+}
+
+-- A reading of only BlockOpen and BlockClose adds a layer, an empty one; a reading with no nodes adds none.
+pub layer-of-blocks :
+    (field (λ b. length (b .layers)) 0 (merged (threeWith [] [] []) blockReading) ≡ 2)
+    × (field (λ b. length (b .layers)) 0 (merged (threeWith [] [] []) (plainReading [])) ≡ 1)
+unfolding computed
+layer-of-blocks = (refl, refl)
+
+abbrev diagnostic : ℕ → ℕ → ℕ → Diagnostic
+diagnostic start end plain = record { kind = 0; codeRank = 3; span = span start end; plain = plain }
+
+-- Equal diagnostic keys keep their order, those of the book and those of the reading; old lists need not be sorted.
+pub equal-keys-keep-their-order :
+    field (λ b. b .diagnostics) []
+    (merged (threeWith [] [] (diagnostic 9 10 1 ∷ diagnostic 8 9 2 ∷ diagnostic 0 1 3 ∷ diagnostic 8 9 4 ∷ [])) (plainReading (diagnostic 0 1 5 ∷ diagnostic 0 1 6 ∷ [])))
+    ≡ diagnostic 0 1 3 ∷ diagnostic 4 5 5 ∷ diagnostic 4 5 6 ∷ diagnostic 8 9 2 ∷ diagnostic 8 9 4 ∷ diagnostic 9 10 1 ∷ []
+unfolding computed
+equal-keys-keep-their-order = refl
+
+-- a pair of one byte each
+abbrev pair : ℕ → ℕ → PairLink
+pair opening closing = record { kind = 0; opening = span opening (suc opening); closing = span closing (suc closing) }
+
+abbrev regionWith : LexOutput → Checked Span
+regionWith b = chooseRegion (tapeOf b) (bytesOf b) (edit 4 5)
+
+-- A pair that ends exactly at a cut does not lie across it; one byte more does.
+pub pair-up-to-the-cut : (regionWith (threeWith (pair 0 3 ∷ []) [] []) ≡ region 4 8) × (regionWith (threeWith (pair 0 4 ∷ []) [] []) ≡ region 0 8)
+unfolding computed
+pair-up-to-the-cut = (refl, refl)
+
+-- "a\n\nb" with a BlockClose on the "a": the depth falls below 0, which counts as 0
+abbrev closesFirst : LexOutput
+closesFirst = record {
+  sanitized = ascii "a\n\nb";
+  normalized = 0xee ∷ 0x80 ∷ 0x81 ∷ 0x0a ∷ 0x0a ∷ 0x62 ∷ [];
+  layers = layerOf [] [] [] ∷ [];
+  sourceNodes = record { class = 3; inline = 1; sourceSpan = span 0 1; normalizedOffset = 0; body = body 0 0 (words 0 0) } ∷ [];
+  pairs = [];
+  containerPairs = [];
+  diagnostics = [];
+}
+
+pub depth-below-zero : chooseRegion (tapeOf closesFirst) (bytesOf closesFirst) (edit 3 4) ≡ region 3 4
+unfolding computed
+depth-below-zero = refl
+
+-- 16384 work words are asked for also where nothing is grafted.
+pub work-words-always :
+    (numberOf (merge (storedBook (threeWith [] [] [])) (edit 4 5) (storedBook (plainReading [])) (record { tapeBytes = 65536; textBytes = 65536; workWords = 16384 })) ≡ 0)
+    × (numberOf (merge (storedBook (threeWith [] [] [])) (edit 4 5) (storedBook (plainReading [])) (record { tapeBytes = 65536; textBytes = 65536; workWords = 16383 })) ≡ 18)
+unfolding computed
+work-words-always = (refl, refl)
+
+-- A reading has exactly one layer: another count is 1, where a book of two layers is accepted.
+pub reading-of-two-layers : (number (twoLayers 0 1) ≡ 0) × (numberOf (checkReading (tapeOf (twoLayers 0 1)) (bytesOf (twoLayers 0 1))) ≡ 1)
+unfolding computed
+reading-of-two-layers = (refl, refl)
+
+-- The program: fewer than seven words are 1; then a part over 65536 bytes is 3; then surplus input is 1.
+pub program-input :
+    (numberOf (program (replicate 27 255)) ≡ 1) × (numberOf (program (replicate 28 255)) ≡ 3)
+    × (numberOf (program (input (plainBook (ascii "aa\n\nbb\n\ncc")) (edit 4 5) rubyReading ++ (0 ∷ []))) ≡ 1)
+unfolding computed
+program-input = (refl, refl, refl)
