@@ -4,3 +4,4 @@ pub mod Merged
 pub mod Passage
 pub mod Places
 pub mod Orders
+pub mod Grown
