@@ -5,3 +5,5 @@ pub mod Passage
 pub mod Places
 pub mod Orders
 pub mod Grown
+pub mod Step
+pub mod Book

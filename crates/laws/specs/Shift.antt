@@ -1,4 +1,5 @@
--- Offsets moved by a difference of two numbers, where neither end of the 32 bits is met. Section 1.
+-- Section 1: offsets moved by a difference of two numbers where neither end of the 32 bits is met, so that `shift_u32` has an
+-- answer wherever the merge asks.
 use mathlib.Core.Path.{_≡_, refl, sym, ap, _∙_}
 use Prim.Native.Nat.{ℕ, zero, suc, _+_, _-_, _^_, _≤_, _<_, min}
 use native.Mathlib.Omega.{arith}
@@ -8,8 +9,9 @@ use lib.Dec.{leb, ltb}
 use lib.IntN.{ℤ, pos, negsuc, subℕ, _+ℤ_}
 use lib.Signed.{leZ}
 use borrow.Author.Tests.{leb-true, leb-false, ltb-true, ltb-false, le-leb, lt-leb, le-ltb, lt-ltb}
-use Rattle.model.specs.Offset.{Span, saturatingAdd, clampU32, shiftClamp, shifted, shiftU32}
+use Rattle.model.specs.Offset.{minI64, maxI64, maxU32, saturatingAdd, clampU32, shiftClamp, shiftU32}
 use Rattle.model.specs.Merge.{movedOffset}
+use Rattle.laws.specs.Fits.{isWord}
 
 pub add-sub : (o p q : ℕ) → q ≤ o + p → subℕ p q +ℤ pos o ≡ pos (o + p - q)
 add-sub o p q h = go (ltb p q) refl
@@ -37,11 +39,21 @@ unfolding movedOffset shiftU32 clampU32
 offset-by o p q h k =
     rw (add-sub o p q h, le-leb (o + p - q) (2 ^ 63 - 1) (omega arith), le-leb 0 (o + p - q) (omega arith), le-leb (o + p - q) 4294967295 k) (omega arith)
 
-pub span-up : (s : Span) (p : ℕ) → s .start + p ≤ 4294967295 → s .end + p ≤ 4294967295 → shifted s (pos p) ≡ record { start = s .start + p; end = s .end + p }
-unfolding shifted
-span-up s p h k = rw (shift-up (s .start) p h, shift-up (s .end) p k)
+-- ---- a moved number fits a word, clamped or not
 
-pub span-by : (s : Span) (p q : ℕ) → q ≤ s .start + p → s .start + p - q ≤ 4294967295 → q ≤ s .end + p → s .end + p - q ≤ 4294967295
-    → shifted s (subℕ p q) ≡ record { start = s .start + p - q; end = s .end + p - q }
-unfolding shifted
-span-by s p q h k h′ k′ = rw (shift-by (s .start) p q h k, shift-by (s .end) p q h′ k′)
+clamp-small : (z : ℤ) → isWord (clampU32 z) ≡ true
+unfolding clampU32
+clamp-small (pos n) = lt-ltb (min n maxU32) 4294967296 (omega arith)
+clamp-small (negsuc n) = refl
+
+pub shift-small : (o : ℕ) (by : ℤ) → isWord (shiftClamp o by) ≡ true
+unfolding shiftClamp
+shift-small o by = clamp-small (saturatingAdd by (pos o))
+
+pub moved-small : (o : ℕ) (by : ℤ) → isWord (movedOffset o by) ≡ true
+unfolding movedOffset shiftU32
+moved-small o by = go (leZ minI64 (by +ℤ pos o) && leZ (by +ℤ pos o) maxI64 && leZ (pos 0) (by +ℤ pos o) && leZ (by +ℤ pos o) (pos maxU32))
+  where
+    go : (t : Bool) → isWord (Option·getD (cond t (some (clampU32 (by +ℤ pos o))) none) 0) ≡ true
+    go true = clamp-small (by +ℤ pos o)
+    go false = refl
