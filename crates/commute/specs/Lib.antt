@@ -7,3 +7,5 @@ pub mod Orders
 pub mod Grown
 pub mod Step
 pub mod Book
+pub mod Shown
+pub mod Demand3
