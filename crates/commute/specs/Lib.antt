@@ -9,3 +9,4 @@ pub mod Step
 pub mod Book
 pub mod Shown
 pub mod Demand3
+pub mod Clauses

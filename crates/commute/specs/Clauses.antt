@@ -1,0 +1,49 @@
+-- What demand 3 says, clause by clause, of four accepted merges: the statements that a reader asks for, each by itself. The
+-- edits in must-fail/ ask more than each of them.
+use mathlib.Core.Path.{_≡_, sym, ap, _∙_}
+use Prim.Native.Nat.{ℕ, _+_, _<_}
+use mathlib.Core.List.{List}
+use Rattle.model.specs.Lists.{sum}
+use Rattle.model.specs.Types.{PairLink, ContainerPair, Diagnostic, LexOutput}
+use Rattle.model.specs.Refusal.{Checked.accepted}
+use Rattle.model.specs.Store.{stringCounts}
+use Rattle.model.specs.WellFormed.{checkBook}
+use Rattle.model.specs.Tree.{ShownNode, shownNodes}
+use Rattle.model.specs.Merge.{Stored}
+use Rattle.model.specs.Demand3.{Shown, shown, shownString, Correction, StoredBytes, regionBehind, Separate, BothOrders, Commutes, Demand3}
+use Rattle.commute.specs.Demand3.{demand3}
+
+module _ (stored : Stored) (book : LexOutput) (bytes : StoredBytes stored) (checked : checkBook (stored .tape) (stored .bytes) ≡ accepted book)
+    (earlier later : Correction) (earlierBytes : StoredBytes (earlier .reading)) (laterBytes : StoredBytes (later .reading))
+    (separate : Separate book earlier later) (orders : BothOrders stored earlier later) where
+  pub commutes : Commutes book stored earlier later orders
+  unfolding Demand3
+  commutes = demand3 stored book bytes checked earlier later earlierBytes laterBytes separate orders
+
+  -- Same passage.
+  pub earlier-region-again : orders .earlierSecond .region ≡ orders .earlierFirst .region
+  earlier-region-again = commutes .earlierPassage
+
+  pub later-region-moved : orders .laterSecond .region ≡ regionBehind (earlier .edit) (orders .laterFirst .region)
+  later-region-moved = commutes .laterPassage
+
+  -- Equal books: nodes with strings in place of ids, lists in tape order.
+  pub equal-texts : commutes .final₁ .sanitized ≡ commutes .final₂ .sanitized
+  unfolding shown
+  equal-texts = ap (λ (s : Shown). s .sanitized) (commutes .equalBooks)
+
+  pub equal-nodes : shownNodes (commutes .final₁) ≡ shownNodes (commutes .final₂)
+  unfolding shown
+  equal-nodes = ap (λ (s : Shown). s .sourceNodes) (commutes .equalBooks)
+
+  pub equal-diagnostics : commutes .final₁ .diagnostics ≡ commutes .final₂ .diagnostics
+  unfolding shown
+  equal-diagnostics = ap (λ (s : Shown). s .diagnostics) (commutes .equalBooks)
+
+  -- Equal totals.
+  pub equal-totals : orders .earlierFirst .reparsedNodes + orders .laterSecond .reparsedNodes ≡ orders .laterFirst .reparsedNodes + orders .earlierSecond .reparsedNodes
+  equal-totals = commutes .equalTotals
+
+  -- Kept references: a string number of the first book shows the same in both final books.
+  pub kept-string : (id : ℕ) → id < sum (stringCounts (book .layers)) → shownString (commutes .final₁) id ≡ shownString (commutes .final₂) id
+  kept-string id h = commutes .kept₁ .strings id h ∙ sym (commutes .kept₂ .strings id h)
