@@ -88,7 +88,6 @@ module _ {A : Type 0} (l : Located A) (w : MergeWindow) (ok okR : A → Bool) (s
           let g = c .some x (s .0) in
           let b = c .movedStart x (s .0) k in
           let d = c .movedEnd x (s .0) k in
-          let z = c .sizes in
           fails (l .moved w x) (omega arith) (omega arith)
 
   abbrev pub acrossAt : ℕ → A → Bool
@@ -182,7 +181,6 @@ module _ {A : Type 0} (l : Located A) (w : MergeWindow) (ok okR : A → Bool) (s
       in-moved x o h =
           let b = c .movedStart x o h in
           let d = c .movedEnd x o h in
-          let z = c .sizes in
           ap₂ (λ (s t : Bool). s && t) (same-le (suc (startOf l (l .moved w x))) (newEnd + suc k) (suc (startOf l x)) (l .window w .end + suc k) (omega arith) (omega arith))
           (same-le (suc (newEnd + suc k)) (endOf l (l .moved w x)) (suc (l .window w .end + suc k)) (endOf l x) (omega arith) (omega arith))
 
@@ -267,14 +265,14 @@ module _ {A : Type 0} (l : Located A) (wE wL wL′ : MergeWindow) (ok okE okL : 
       ∙ sym (ap₂ (λ (x y : List A). x ++ (PE ++ map mE y)) before₂ behind₂)
     where
       nested-before : (x : A) → isBefore l wE x ≡ true → isBefore l wL x ≡ true
-      nested-before x h = let k = leb-true (endOf l x) (l .window wE .start) h in let u = cE .rising in le-leb (endOf l x) (l .window wL .start) (omega arith)
+      nested-before x h = let k = leb-true (endOf l x) (l .window wE .start) h in le-leb (endOf l x) (l .window wL .start) (omega arith)
 
       nested-behind : (x : A) → isBehind l wL x ≡ true → isBehind l wE x ≡ true
-      nested-behind x h = let k = leb-true (l .window wL .end) (startOf l x) h in let u = cL .rising in le-leb (l .window wE .end) (startOf l x) (omega arith)
+      nested-behind x h = let k = leb-true (l .window wL .end) (startOf l x) h in le-leb (l .window wE .end) (startOf l x) (omega arith)
 
       -- E's region does not end before it starts
       first : l .window wE .start + qE ≤ l .window wE .end + pE
-      first = let u = cE .sizes in omega arith
+      first = omega arith
 
       front-before : (x : A) → ok x ≡ true → isBefore l wE x ≡ true → isBefore l wL′ x ≡ true
       front-before x o h = let k = leb-true (endOf l x) (l .window wE .start) h in let u = first in le-leb (endOf l x) (l .window wL′ .start) (omega arith)
@@ -283,20 +281,17 @@ module _ {A : Type 0} (l : Located A) (wE wL wL′ : MergeWindow) (ok okE okL : 
       front-behind x o h =
           let k = leb-true (endOf l x) (l .window wE .start) h in
           let u = first in
-          let v = cL .rising in
           let g = cE .some x o in
           lt-leb (l .window wL′ .end) (startOf l x) (omega arith)
 
       placed-before : (x : A) → okE x ≡ true → isBefore l wL′ (l .placed wE x) ≡ true
-      placed-before x o = let i = cE .inside x o in let d = cE .placedEnd x o in let u = cE .sizes in le-leb (endOf l (l .placed wE x)) (l .window wL′ .start) (omega arith)
+      placed-before x o = let i = cE .inside x o in let d = cE .placedEnd x o in le-leb (endOf l (l .placed wE x)) (l .window wL′ .start) (omega arith)
 
       placed-behind : (x : A) → okE x ≡ true → isBehind l wL′ (l .placed wE x) ≡ false
       placed-behind x o =
           let i = cE .inside x o in
           let g = cE .someRead x o in
           let d = cE .placedStart x o in
-          let u = cE .sizes in
-          let v = cL .rising in
           lt-leb (l .window wL′ .end) (startOf l (l .placed wE x)) (omega arith)
 
       rest-before : (x : A) → ok x ≡ true → isBehind l wE x ≡ true → isBefore l wL′ (l .moved wE x) ≡ isBefore l wL x
@@ -310,7 +305,7 @@ module _ {A : Type 0} (l : Located A) (wE wL wL′ : MergeWindow) (ok okE okL : 
           same-le (l .window wL′ .end) (startOf l (l .moved wE x)) (l .window wL .end) (startOf l x) (omega arith) (omega arith)
 
       placedL-before : (x : A) → okL x ≡ true → isBefore l wE (l .placed wL x) ≡ false
-      placedL-before x o = let g = cL .someRead x o in let d = cL .placedEnd x o in let u = cE .rising in lt-leb (endOf l (l .placed wL x)) (l .window wE .start) (omega arith)
+      placedL-before x o = let g = cL .someRead x o in let d = cL .placedEnd x o in lt-leb (endOf l (l .placed wL x)) (l .window wE .start) (omega arith)
 
       placedL-behind : (x : A) → okL x ≡ true → isBehind l wE (l .placed wL x) ≡ true
       placedL-behind x o = let d = cL .placedStart x o in le-leb (l .window wE .end) (startOf l (l .placed wL x)) (omega arith)
@@ -320,15 +315,12 @@ module _ {A : Type 0} (l : Located A) (wE wL wL′ : MergeWindow) (ok okE okL : 
           let k = leb-true (l .window wL .end) (startOf l x) h in
           let g = cL .some x o in
           let d = cL .movedEnd x o k in
-          let u = cL .sizes in
-          let v = cE .rising in
           lt-leb (endOf l (l .moved wL x)) (l .window wE .start) (omega arith)
 
       restL-behind : (x : A) → ok x ≡ true → isBehind l wL x ≡ true → isBehind l wE (l .moved wL x) ≡ true
       restL-behind x o h =
           let k = leb-true (l .window wL .end) (startOf l x) h in
           let d = cL .movedStart x o k in
-          let u = cL .sizes in
           le-leb (l .window wE .end) (startOf l (l .moved wL x)) (omega arith)
 
       moved-twice : (x : A) → ok x ≡ true → isBehind l wL x ≡ true → l .moved wL′ (l .moved wE x) ≡ l .moved wE (l .moved wL x)

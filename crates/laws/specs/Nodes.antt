@@ -281,7 +281,6 @@ offsets-below size t k i s (n ∷ ns) h o a e =
     let w = both (offsetTest i s n) (offsetsOk (i + imageLength n) (s + (n .sourceSpan .end - n .sourceSpan .start)) ns) e in
     let x = ltb-true (n .normalizedOffset + s) (n .sourceSpan .start + i + imageLength n) (both (leb (n .sourceSpan .start + i) (n .normalizedOffset + s)) (ltb (n .normalizedOffset + s) (n .sourceSpan .start + i + imageLength n)) (w .0) .1) in
     let f = span-facts size (n .sourceSpan) (v .0) in
-    let g = f .0 in
     let q = f .1 in
     let ends = all-map (nodeIn size) (endsBy size) (λ m z. le-leb (m .sourceSpan .end) size (span-facts size (m .sourceSpan) z .1)) ns (v .1) in
     let r = spans-within size size (n .sourceSpan .end) q ns (u .1) (v .1) ends in
@@ -396,7 +395,6 @@ module _ (b : LexOutput) (s : Sound b) (c : ℕ) (safe : SafeCut b c) where
   normal-inside h =
       let size = length (b .sanitized) in
       let x = normal-rises size h in
-      let z = s .sizes in
       let e : keep (endsBy size) (b .sourceNodes) ≡ b .sourceNodes = keep-all (nodeIn size) (endsBy size) (λ n q. le-leb (n .sourceSpan .end) size (span-facts size (n .sourceSpan) q .1)) (b .sourceNodes) (s .places .sourceSpans) in
       let f : normalizedOffset (b .sourceNodes) size + spans (b .sourceNodes) ≡ size + images (b .sourceNodes) = rw e at (normal-sum size (b .sourceNodes) (s .places .order) (s .places .sourceSpans) size) in
       omega arith
@@ -409,7 +407,7 @@ module _ (b : LexOutput) (s : Sound b) (c : ℕ) (safe : SafeCut b c) where
 
 -- no offset of a node is past the normalized text
 pub offsets-small : (b : LexOutput) → Sound b → all (λ (n : SourceNode). ltb (n .normalizedOffset) (length (b .normalized))) (b .sourceNodes) ≡ true
-offsets-small b s = let x = s .sizes in offsets-below (length (b .sanitized)) (length (b .normalized)) 0 0 0 (b .sourceNodes) (omega arith) (s .places .order) (s .places .sourceSpans) (s .places .offsets)
+offsets-small b s = offsets-below (length (b .sanitized)) (length (b .normalized)) 0 0 0 (b .sourceNodes) (omega arith) (s .places .order) (s .places .sourceSpans) (s .places .offsets)
 
 -- ---- nodes that are moved
 
@@ -423,7 +421,7 @@ pub record NodeShift (f : SourceNode → SourceNode) (a b c d : ℕ) (n : Source
 module _ (ok : SourceNode → Bool) (f : SourceNode → SourceNode) (a b c d : ℕ) (shift : (n : SourceNode) → ok n ≡ true → NodeShift f a b c d n) where
   shift-length : (n : SourceNode) → ok n ≡ true → spanLength (f n) ≡ spanLength n
   unfolding spanLength
-  shift-length n o = let s = shift n o in let x = s .start in let y = s .end in omega arith
+  shift-length n o = let s = shift n o in omega arith
 
   pub shift-spans : (ns : List SourceNode) → all ok ns ≡ true → spans (map f ns) ≡ spans ns
   shift-spans = spans-map ok f shift-length
@@ -458,8 +456,5 @@ module _ (ok : SourceNode → Bool) (f : SourceNode → SourceNode) (a b c d : �
           let w = both (leb (n .sourceSpan .start + i) (n .normalizedOffset + s)) (ltb (n .normalizedOffset + s) (n .sourceSpan .start + i + imageLength n)) e in
           let x = leb-true (n .sourceSpan .start + i) (n .normalizedOffset + s) (w .0) in
           let y = ltb-true (n .normalizedOffset + s) (n .sourceSpan .start + i + imageLength n) (w .1) in
-          let z₁ = z .start in
-          let z₂ = z .offset in
-          let z₃ = z .image in
           join (leb (f n .sourceSpan .start + i′) (f n .normalizedOffset + s′)) (ltb (f n .normalizedOffset + s′) (f n .sourceSpan .start + i′ + imageLength (f n)))
           (le-leb (f n .sourceSpan .start + i′) (f n .normalizedOffset + s′) (omega arith)) (lt-ltb (f n .normalizedOffset + s′) (f n .sourceSpan .start + i′ + imageLength (f n)) (omega arith))
