@@ -52,7 +52,7 @@ end-bounds b (suc n) o h = go (newlineAt (b .sanitized) o && safeCut b (o + 1)) 
     go : (t : Bool) → (o + 1 ≤ regionEnd b n (o + 1)) × (regionEnd b n (o + 1) ≤ length (b .sanitized)) × (o + 1 < length (b .sanitized) → o + 1 < regionEnd b n (o + 1))
         → (o ≤ cond t (o + 1) (regionEnd b n (o + 1))) × (cond t (o + 1) (regionEnd b n (o + 1)) ≤ length (b .sanitized)) × (o < length (b .sanitized) → o < cond t (o + 1) (regionEnd b n (o + 1)))
     go true r = omega arith
-    go false r = let x = r .0 in let y = r .1 in omega arith
+    go false r = omega arith
 
 pub end-safe : (b : LexOutput) (n o : ℕ) → safeCut b (regionEnd b n o) ≡ true
 unfolding regionEnd
@@ -126,13 +126,12 @@ module _ (c d : ℕ) (b b′ : LexOutput) (h : SameBehind c d b b′) (some : c 
   pub safe-behind : (k : ℕ) → safeCut b′ (d + suc k) ≡ safeCut b (c + suc k)
   unfolding safeCut
   safe-behind k =
-      let s = h .size in
       let e : eqb (d + suc k) (length (b′ .sanitized)) ≡ eqb (c + suc k) (length (b .sanitized)) = same-test (eqb (c + suc k) (length (b .sanitized))) refl in
       rw (ne-eqb (d + suc k) 0 (omega arith), ne-eqb (c + suc k) 0 (omega arith), e, allows-behind k)
     where
       same-test : (t : Bool) → eqb (c + suc k) (length (b .sanitized)) ≡ t → eqb (d + suc k) (length (b′ .sanitized)) ≡ t
-      same-test true e = let q = eqb-true (c + suc k) (length (b .sanitized)) e in let s = h .size in eq-eqb (d + suc k) (length (b′ .sanitized)) (omega arith)
-      same-test false e = let q = eqb-false (c + suc k) (length (b .sanitized)) e in let s = h .size in ne-eqb (d + suc k) (length (b′ .sanitized)) (omega arith)
+      same-test true e = let q = eqb-true (c + suc k) (length (b .sanitized)) e in eq-eqb (d + suc k) (length (b′ .sanitized)) (omega arith)
+      same-test false e = let q = eqb-false (c + suc k) (length (b .sanitized)) e in ne-eqb (d + suc k) (length (b′ .sanitized)) (omega arith)
 
 -- the end of a region whose edit ends at or behind the cut
 pub end-behind : (c d : ℕ) (b b′ : LexOutput) → SameBehind c d b b′ → (n k : ℕ) → c + k + n ≡ length (b .sanitized) → regionEnd b′ n (d + k) + c ≡ regionEnd b n (c + k) + d

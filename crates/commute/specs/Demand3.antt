@@ -41,7 +41,7 @@ inserts b e r c h = go (e .replacement) refl
   where
     go : (l : List ℕ) → e .replacement ≡ l → 1 ≤ length l
     go [] q =
-        let n : e .end ≡ e .start = let x = c .rising in let y = c .inside in omega arith in
+        let n : e .end ≡ e .start = let x = c .rising in omega arith in
         let z : same (take (e .start) (b .sanitized) ++ (e .replacement ++ drop (e .end) (b .sanitized))) (b .sanitized) ≡ true = rw (q, n, take-append-drop (e .start) (b .sanitized)) (same-refl (b .sanitized)) in
         absurd (false≢true (sym (c .changes) ∙ z))
     go (x ∷ l) q = omega arith

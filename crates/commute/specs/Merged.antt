@@ -57,43 +57,31 @@ module _ (old : LexOutput) (e : Edit) (reading : RegionOutput) (r : Span) (f : F
   q = e .end
 
   pub region-rises : r .start ≤ r .end
-  region-rises = let a = f .startsBefore in let b = f .rising in let c = f .endsBehind in omega arith
+  region-rises = omega arith
 
   pub moved-sum : (o : ℕ) → r .end ≤ o → o ≤ length (old .sanitized) → shiftClamp o (changeInLength e) + q ≡ o + p
   unfolding changeInLength
   moved-sum o h k =
-      let a = f .rising in
-      let b = f .endsBehind in
-      let c = f .limit in
       rw (shift-by o (length (e .replacement)) (e .end - e .start) (omega arith) (omega arith)) (omega arith)
 
   pub size-sum : r .start + length (reading .sanitized) + q ≡ r .end + p
   size-sum =
-      let a = f .startsBefore in
-      let b = f .rising in
-      let c = f .endsBehind in
-      let s = f .size in
       omega arith
 
   pub placed-number : (o : ℕ) → o ≤ length (reading .sanitized) → shiftClamp o (pos (r .start)) ≡ o + r .start
   placed-number o h =
-      let c = f .inside in
-      let d = f .oldSound .sanitized in
       let x = region-rises in
-      let s = f .readingSound .sanitized in
       shift-up o (r .start) (omega arith)
 
   pub length-sum : length (mergedOf old e reading r .sanitized) + q ≡ length (old .sanitized) + p
   unfolding mergedBook edited
   length-sum =
       let a = f .rising in
-      let b = f .endsBehind in
-      let c = f .inside in
       rw (splice-length (e .start) (e .end) (e .replacement) (old .sanitized) a (omega arith)) (omega arith)
 
   pub behind-sum : (o : ℕ) → r .end ≤ o → behindEdit e o + q ≡ o + p
   unfolding behindEdit
-  behind-sum o h = let a = f .rising in let b = f .endsBehind in omega arith
+  behind-sum o h = omega arith
 
   -- the same in the normalized text
   abbrev pub startN : ℕ
@@ -108,7 +96,6 @@ module _ (old : LexOutput) (e : Edit) (reading : RegionOutput) (r : Span) (f : F
   pub offset-sum : (o : ℕ) → endN ≤ o → o ≤ 1000000000 → movedOffset o (w .normalizedDelta) + endN ≡ o + (length (reading .normalized) + startN)
   unfolding windowOf
   offset-sum o h k =
-      let a = f .readingSound .normalized in
       let b = normal-region-rises in
       rw (offset-by o (length (reading .normalized)) (endN - startN) (omega arith) (omega arith)) (omega arith)
 
@@ -177,10 +164,6 @@ module _ (old : LexOutput) (e : Edit) (reading : RegionOutput) (r : Span) (f : F
   text-before : (i : ℕ) → i < r .start → getD (edited (old .sanitized) e) i 0 ≡ getD (old .sanitized) i 0
   unfolding edited
   text-before i h =
-      let a = f .startsBefore in
-      let b = f .rising in
-      let c = f .endsBehind in
-      let d = f .inside in
       let l = length-take-le (e .start) (old .sanitized) (omega arith) in
       List·getD-append (take (e .start) (old .sanitized)) (e .replacement ++ drop (e .end) (old .sanitized)) 0 i (omega arith) ∙ getD-take (e .start) (old .sanitized) i 0 (omega arith)
 
@@ -226,8 +209,6 @@ module _ (old : LexOutput) (e : Edit) (reading : RegionOutput) (r : Span) (f : F
   unfolding edited
   text-behind i i′ h g =
       let a = f .rising in
-      let b = f .endsBehind in
-      let c = f .inside in
       let n : i′ ≡ e .start + length (e .replacement) + (i - e .end) + 0 = omega arith in
       let m : e .end + (i - e .end) + 0 ≡ i = omega arith in
       rw n (sym (getD-drop (e .start + length (e .replacement) + (i - e .end)) (splice (e .start) (e .end) (e .replacement) (old .sanitized)) 0 0)
@@ -293,16 +274,16 @@ module _ (old : LexOutput) (e : Edit) (reading : RegionOutput) (r : Span) (f : F
       ∙ ap (λ (d : ℕ). not (any (acrossNode (r .end + suc k)) (old .sourceNodes)) && eqb (depth isBlockOpen isBlockClose 0 (nodesBefore (r .end + suc k) (old .sourceNodes))) 0 && eqb d 0) z
 
   strict : r .end < length (old .sanitized) → e .end < r .end
-  strict h = let b = f .endsBehind in f .strictly (omega arith)
+  strict h = f .strictly (omega arith)
 
   same-end : SameBehind (r .end) end′ old (mergedOf old e reading r)
   unfolding mergedBook
   same-end = record {
     size = let a = length-sum in let b = size-sum in omega arith;
     inside = λ h. let a = strict h in omega arith;
-    inside′ = λ h. let a = strict h in let b = size-sum in let c = f .rising in omega arith;
+    inside′ = λ h. let a = strict h in let b = size-sum in omega arith;
     last = λ h. let a = strict h in let b = size-sum in text-behind (r .end - 1) (end′ - 1) (omega arith) (omega arith);
-    text = λ k. let a = f .endsBehind in let b = size-sum in text-behind (r .end + k) (end′ + k) (omega arith) (omega arith);
+    text = λ k. let b = size-sum in text-behind (r .end + k) (end′ + k) (omega arith) (omega arith);
     nodes = nodes-behind;
     pairs = pairs-behind;
   }

@@ -97,19 +97,15 @@ module _ (b : LexOutput) (E L : Edit) (RE RL : RegionOutput) (rE rL : Span) (m :
 
   pub end-moves : regionBehind E rL .end + qE ≡ rL .end + pE
   unfolding regionBehind
-  end-moves = let a = m .apart in let c = riseL in moves (rL .end) (omega arith)
+  end-moves = let c = riseL in moves (rL .end) (omega arith)
 
   -- ---- offsets of the text, moved in both orders
 
   pub twice-number : (o : ℕ) → rL .end ≤ o → o ≤ length (b .sanitized) → shiftClamp (shiftClamp o (changeInLength E)) (changeInLength L′) ≡ shiftClamp (shiftClamp o (changeInLength L)) (changeInLength E)
   unfolding movedBehind
   twice-number o h k =
-      let a = m .apart in
       let c = riseL in
       let g = m .firstL in
-      let g₁ = g .startsBefore in
-      let g₂ = g .rising in
-      let g₃ = g .endsBehind in
       let x₁ = moved-sum b E RE rE (m .firstE) o (omega arith) k in
       let y₁ = moved-sum b L RL rL g o h k in
       let e₁ = end-moves in
@@ -124,13 +120,11 @@ module _ (b : LexOutput) (E L : Edit) (RE RL : RegionOutput) (rE rL : Span) (m :
 
   pub placed-twice : (o : ℕ) → o ≤ length (RL .sanitized) → shiftClamp o (pos (regionBehind E rL .start)) ≡ shiftClamp (shiftClamp o (pos (rL .start))) (changeInLength E)
   placed-twice o k =
-      let a = m .apart in
       let x₁ = placed-number b L RL rL (m .firstL) o k in
       let x₂ = placed-number bE L′ RL (regionBehind E rL) (m .secondL) o k in
       let e₁ = start-moves in
       let s = length-sum b L RL rL (m .firstL) in
       let z = size-sum b L RL rL (m .firstL) in
-      let i = m .firstL .inside in
       let y₂ : shiftClamp (o + rL .start) (changeInLength E) + qE ≡ o + rL .start + pE = moved-sum bL E RE rE (m .secondE) (o + rL .start) (omega arith) (omega arith) in
       rw (x₁, x₂) (omega arith)
 
@@ -199,11 +193,6 @@ module _ (b : LexOutput) (E L : Edit) (RE RL : RegionOutput) (rE rL : Span) (m :
   texts-agree =
       let f = m .firstE in
       let g = m .firstL in
-      let x = f .endsBehind in
-      let a = m .apart in
-      let y = g .startsBefore in
-      let z = g .endsBehind in
-      let u = g .inside in
       splice-comm (E .start) (E .end) (L .start) (L .end) (E .replacement) (L .replacement) (b .sanitized) (f .rising) (omega arith) (g .rising) (omega arith)
 
   -- ---- pairs
@@ -219,18 +208,12 @@ module _ (b : LexOutput) (E L : Edit) (RE RL : RegionOutput) (rE rL : Span) (m :
       twice : (x : PairLink) → pairOk (length (b .sanitized)) x ≡ true → rL .end ≤ x .opening .start → pairLocated .moved wL′ (pairLocated .moved wE x) ≡ pairLocated .moved wE (pairLocated .moved wL x)
       twice x o h =
           let g = pair-facts (length (b .sanitized)) x o in
-          let g₁ = g .opens in
-          let g₂ = g .apart in
-          let g₃ = g .closes in
           let g₄ = g .inside in
           rw (twice-number (x .opening .start) h (omega arith), twice-number (x .opening .end) (omega arith) (omega arith), twice-number (x .closing .start) (omega arith) (omega arith), twice-number (x .closing .end) (omega arith) g₄)
 
       again : (x : PairLink) → pairOk (length (RL .sanitized)) x ≡ true → pairLocated .placed wL′ x ≡ pairLocated .moved wE (pairLocated .placed wL x)
       again x o =
           let g = pair-facts (length (RL .sanitized)) x o in
-          let g₁ = g .opens in
-          let g₂ = g .apart in
-          let g₃ = g .closes in
           let g₄ = g .inside in
           rw (placed-twice (x .opening .start) (omega arith), placed-twice (x .opening .end) (omega arith), placed-twice (x .closing .start) (omega arith), placed-twice (x .closing .end) g₄)
 
@@ -256,9 +239,6 @@ module _ (b : LexOutput) (E L : Edit) (RE RL : RegionOutput) (rE rL : Span) (m :
       again : (x : ContainerPair) → containerOk (length (RL .normalized)) x ≡ true → containerLocated .placed wL′ x ≡ containerLocated .moved wE (containerLocated .placed wL x)
       again x o =
           let g = container-facts (length (RL .normalized)) x o in
-          let g₁ = g .0 in
-          let g₂ = g .1 in
-          let z = m .firstL .readingSound .normalized in
           rw (placed-offset (x .opening) (omega arith), placed-offset (x .closing) (omega arith))
 
   -- ---- diagnostics
@@ -272,10 +252,10 @@ module _ (b : LexOutput) (E L : Edit) (RE RL : RegionOutput) (rE rL : Span) (m :
       (m .firstE .oldSound .places .diagnostics) (m .firstE .readingSound .places .diagnostics) (m .firstL .readingSound .places .diagnostics)
     where
       twice : (d : Diagnostic) → spanOk (length (b .sanitized)) (d .span) ≡ true → rL .end ≤ d .span .start → diagnosticLocated .moved wL′ (diagnosticLocated .moved wE d) ≡ diagnosticLocated .moved wE (diagnosticLocated .moved wL d)
-      twice d o h = let g = span-facts (length (b .sanitized)) (d .span) o in let g₁ = g .0 in let g₂ = g .1 in rw (twice-number (d .span .start) h (omega arith), twice-number (d .span .end) (omega arith) g₂)
+      twice d o h = let g = span-facts (length (b .sanitized)) (d .span) o in let g₂ = g .1 in rw (twice-number (d .span .start) h (omega arith), twice-number (d .span .end) (omega arith) g₂)
 
       again : (d : Diagnostic) → spanOk (length (RL .sanitized)) (d .span) ≡ true → diagnosticLocated .placed wL′ d ≡ diagnosticLocated .moved wE (diagnosticLocated .placed wL d)
-      again d o = let g = span-facts (length (RL .sanitized)) (d .span) o in let g₁ = g .0 in let g₂ = g .1 in rw (placed-twice (d .span .start) (omega arith), placed-twice (d .span .end) g₂)
+      again d o = let g = span-facts (length (RL .sanitized)) (d .span) o in let g₂ = g .1 in rw (placed-twice (d .span .start) (omega arith), placed-twice (d .span .end) g₂)
 
   pub diagnostics-agree : mergedOf bE L′ RL (regionBehind E rL) .diagnostics ≡ mergedOf bL E RE rE .diagnostics
   unfolding mergedBook

@@ -154,7 +154,6 @@ module _ (b b′ : LexOutput) (first e : Edit) (r : Span) (same : SameBehind (r 
   end-moved : regionEnd b′ (length (b′ .sanitized) - behindEdit first (e .end)) (behindEdit first (e .end)) ≡ behindEdit first (regionEnd b (length (b .sanitized) - e .end) (e .end))
   end-moved =
       let a = start-le b (e .start) in
-      let s = same .size in
       let m₁ = moves (r .end) first-inside in
       let m₂ = moves (e .end) (omega arith) in
       let e₃ : length (b′ .sanitized) - behindEdit first (e .end) ≡ length (b .sanitized) - e .end = omega arith in

@@ -156,7 +156,6 @@ module _ (old : LexOutput) (e : Edit) (reading : RegionOutput) (r : Span) (f : F
   grown =
       let a = length-sum old e reading r f in
       let b = size-sum old e reading r f in
-      let c = f .inside in
       omega arith
 
   nodes-in : all (nodeIn (length (new .sanitized))) (new .sourceNodes) ≡ true
@@ -198,7 +197,6 @@ module _ (old : LexOutput) (e : Edit) (reading : RegionOutput) (r : Span) (f : F
       let s = f .oldSound in
       let y₁ = normal-at old s (r .start) (f .startSafe) in
       let y₂ = normal-at old s (r .end) (f .endSafe) in
-      let z = f .readingSound .sizes in
       let t = size-sum old e reading r f in
       let i = placed-images in
       let j = placed-spans in
@@ -233,10 +231,6 @@ module _ (old : LexOutput) (e : Edit) (reading : RegionOutput) (r : Span) (f : F
       read : (x : PairLink) → pairOk (length (reading .sanitized)) x ≡ true → pairOk (length (new .sanitized)) (pairLocated .placed win x) ≡ true
       read x o =
           let g = pair-facts (length (reading .sanitized)) x o in
-          let g₁ = g .opens in
-          let g₂ = g .apart in
-          let g₃ = g .closes in
-          let g₄ = g .inside in
           let z = grown in
           let a = placed-number old e reading r f (x .opening .start) (omega arith) in
           let b = placed-number old e reading r f (x .opening .end) (omega arith) in
@@ -247,9 +241,6 @@ module _ (old : LexOutput) (e : Edit) (reading : RegionOutput) (r : Span) (f : F
       rest : (x : PairLink) → pairOk (length (old .sanitized)) x ≡ true → r .end ≤ x .opening .start → pairOk (length (new .sanitized)) (pairLocated .moved win x) ≡ true
       rest x o h =
           let g = pair-facts (length (old .sanitized)) x o in
-          let g₁ = g .opens in
-          let g₂ = g .apart in
-          let g₃ = g .closes in
           let g₄ = g .inside in
           let z = length-sum old e reading r f in
           let a = moved-sum old e reading r f (x .opening .start) h (omega arith) in
@@ -282,8 +273,8 @@ module _ (old : LexOutput) (e : Edit) (reading : RegionOutput) (r : Span) (f : F
       let R = length (reading .normalized) in
       spliced-all containerLocated win (containerOk N) (containerOk R) (containerOk size)
       (λ x o h. container-ok size x (container-facts N x o .0) (omega arith))
-      (λ x o. let g = container-facts R x o in let g₁ = g .0 in let g₂ = g .1 in container-ok size (containerLocated .placed win x) (omega arith) (omega arith))
-      (λ x o h. let g = container-facts N x o in let g₁ = g .0 in let g₂ = g .1 in let m₁ = c .movedStart x o h in let m₂ = c .movedEnd x o h in container-ok size (containerLocated .moved win x) (omega arith) (omega arith))
+      (λ x o. let g = container-facts R x o in container-ok size (containerLocated .placed win x) (omega arith) (omega arith))
+      (λ x o h. let g = container-facts N x o in let m₁ = c .movedStart x o h in let m₂ = c .movedEnd x o h in container-ok size (containerLocated .moved win x) (omega arith) (omega arith))
       (old .containerPairs) (reading .containerPairs) (f .oldSound .places .containerPairs) (f .readingSound .places .containerPairs)
 
   -- ---- 6 and 7
@@ -298,7 +289,6 @@ module _ (old : LexOutput) (e : Edit) (reading : RegionOutput) (r : Span) (f : F
       let s = f .oldSound in
       let y₁ = normal-at old s (r .start) (f .startSafe) in
       let y₂ = normal-at old s (r .end) (f .endSafe) in
-      let z = f .readingSound .sizes in
       let t = size-sum old e reading r f in
       let l = length-sum old e reading r f in
       let x = normal-length in
@@ -308,5 +298,4 @@ module _ (old : LexOutput) (e : Edit) (reading : RegionOutput) (r : Span) (f : F
       ap images parts ∙ images-append front (placed ++ moved) ∙ ap (λ (k : ℕ). images front + k) (images-append placed moved ∙ ap₂ (λ (a b : ℕ). a + b) placed-images (shift-images movable (nodeLocated .moved win) qw pw s₁ (length (reading .normalized) + s₀) moved-shift behind all-movable)) in
       let so : spans (old .sourceNodes) ≡ spans until + spans behind = ap spans (split old s (r .end) (f .endSafe)) ∙ spans-append until behind in
       let io : images (old .sourceNodes) ≡ images until + images behind = ap images (split old s (r .end) (f .endSafe)) ∙ images-append until behind in
-      let u = s .sizes in
       eq-eqb (length (new .normalized) + spans (new .sourceNodes)) (length (new .sanitized) + images (new .sourceNodes)) (omega arith)

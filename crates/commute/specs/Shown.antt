@@ -144,10 +144,8 @@ module _ (b : LexOutput) (E L : Edit) (RE RL : RegionOutput) (rE rL : Span) (m :
       again n o =
           let u = both (spanOk (length (RL .sanitized)) (n .sourceSpan)) (ltb (n .normalizedOffset) (length (RL .normalized))) o in
           let g = span-facts (length (RL .sanitized)) (n .sourceSpan) (u .0) in
-          let g₁ = g .0 in
           let g₂ = g .1 in
           let x = ltb-true (n .normalizedOffset) (length (RL .normalized)) (u .1) in
-          let z = m .firstL .readingSound .normalized in
           rw (placed-twice b E L RE RL rE rL m (n .sourceSpan .start) (omega arith), placed-twice b E L RE RL rE rL m (n .sourceSpan .end) g₂, placed-offset b E L RE RL rE rL m (n .normalizedOffset) (omega arith))
 
   -- The nodes of the two final books show the same.

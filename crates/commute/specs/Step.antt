@@ -71,7 +71,6 @@ module _ (old : LexOutput) (e : Edit) (r : Span) (reading : RegionOutput) (m : I
   limit : length (old .sanitized) + length (e .replacement) - (e .end - e .start) ≤ maxText
   unfolding edited
   limit =
-      let x = s .chosen .limit in
       let n = splice-length (e .start) (e .end) (e .replacement) (old .sanitized) (s .chosen .rising) (s .chosen .inside) in
       omega arith
 
