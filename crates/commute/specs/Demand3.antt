@@ -23,10 +23,9 @@ use Rattle.laws.specs.ReadFits.{read-fits}
 use Rattle.laws.specs.Layers.{kept-references}
 use Rattle.commute.specs.Merged.{Fit, same-before, same-behind, length-sum}
 use Rattle.commute.specs.Passage.{region-again, region-moved}
-use Rattle.commute.specs.Orders.{FourMerges, texts-agree, normalized-agree, pairs-agree, containers-agree, diagnostics-agree}
+use Rattle.commute.specs.Orders.{FourMerges, texts-agree, normalized-agree, pairs-agree, containers-agree, diagnostics-agree, nodes-agree}
 use Rattle.commute.specs.Step.{Step, step-of, twelve, fit-of}
 use Rattle.commute.specs.Book.{merged-book, output-again}
-use Rattle.commute.specs.Shown.{nodes-agree}
 
 -- ---- the regions of the second merges
 

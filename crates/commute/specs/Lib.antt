@@ -3,10 +3,10 @@ pub mod Outline
 pub mod Merged
 pub mod Passage
 pub mod Places
-pub mod Orders
-pub mod Grown
 pub mod Step
+pub mod Grown
 pub mod Book
 pub mod Shown
+pub mod Orders
 pub mod Demand3
 pub mod Clauses

@@ -1,29 +1,35 @@
--- Two corrections of one book with separate regions, E the earlier-lying and L the later-lying: texts, pairs, containers and
--- diagnostics of the two orders are equal. Section 7.
+-- Two corrections of one book with separate regions, E the earlier-lying and L the later-lying: the two orders give equal
+-- texts, pairs, containers, diagnostics and shown nodes. Section 7.
 use mathlib.Core.Path.{_≡_, refl, sym, ap, ap₂, _∙_}
 use Prim.Native.Nat.{ℕ, zero, suc, _+_, _-_, _≤_, _<_}
 use native.Mathlib.Omega.{arith}
-use mathlib.Core.Bool.{Bool, true, false, _&&_}
+use mathlib.Core.Bool.{Bool, true, false, not, _&&_, _||_}
 use mathlib.Core.List.{List, [], _∷_, _++_, map}
 use lib.ListN.{length}
 use lib.IntN.{ℤ, pos, subℕ}
 use lib.Dec.{leb, ltb}
-use borrow.Author.Tests.{leb-true}
+use borrow.Author.Tests.{leb-true, ltb-true, le-leb}
 use Rattle.model.specs.Lists.{all, keep}
 use Rattle.model.specs.Limits.{maxText}
 use Rattle.model.specs.Offset.{Span, shiftClamp, shifted}
-use Rattle.model.specs.Types.{PairLink, ContainerPair, Diagnostic, LexOutput, RegionOutput}
+use Rattle.model.specs.Types.{SourceNode, PairLink, ContainerPair, Diagnostic, LexOutput, RegionOutput}
 use Rattle.model.specs.WellFormed.{spanOk, pairOk, containerOk}
+use Rattle.model.specs.Store.{storeOf}
+use Rattle.model.specs.Tree.{ShownNode, shownNode, shownNodes}
 use Rattle.model.specs.Region.{Edit, edited, behindEdit}
-use Rattle.model.specs.Merge.{MergeWindow, changeInLength, windowOf, normalizedOffset, movedOffset, keptBefore, keptBehind, spliced, shiftedPair, pairLocated, containerLocated, shiftedDiagnostic, diagnosticLocated, notBehind, sortDiagnostics, mergedNormalized, mergedBook}
+use Rattle.model.specs.Merge.{MergeWindow, IncrementalOutput, changeInLength, windowOf, normalizedOffset, movedOffset, keptBefore, keptBehind, spliced, shiftedPair, pairLocated, containerLocated, shiftedDiagnostic, diagnosticLocated, notBehind, sortDiagnostics, mergedNormalized, mergedBook}
 use Rattle.model.specs.Demand3.{movedBehind, regionBehind}
+use Rattle.laws.specs.Lists.{both, all-and}
+use Rattle.laws.specs.Keep.{all-map-is, all-if}
 use Rattle.laws.specs.Checks.{mergedOf}
 use Rattle.laws.specs.Splice.{splice-comm}
 use Rattle.laws.specs.Sort.{sort-first, all-unsorted, not-behind-moved}
 use Rattle.laws.specs.Located.{Carried, two-orders}
-use Rattle.laws.specs.Nodes.{Sound, span-facts, PairFacts, pair-facts, container-facts, normal-rises, normal-inside}
-use Rattle.commute.specs.Merged.{Fit, p, q, region-rises, moved-sum, size-sum, placed-number, length-sum, behind-sum, normal-region-rises, offset-sum, pairs-carried, diagnostics-carried, containers-carried}
+use Rattle.laws.specs.Nodes.{Sound, span-facts, PairFacts, pair-facts, container-facts, startsAt, nodeIn, normal-rises, normal-inside, offsets-behind, offsets-small}
+use Rattle.commute.specs.Merged.{Fit, p, q, region-rises, moved-sum, size-sum, placed-number, length-sum, behind-sum, normal-region-rises, offset-sum, source-carried, pairs-carried, diagnostics-carried, containers-carried}
 use Rattle.commute.specs.Places.{normal-before, normal-moves}
+use Rattle.commute.specs.Step.{Step}
+use Rattle.commute.specs.Shown.{shownLocated, shown-merged}
 
 -- A merge of a book whose diagnostics a merge has sorted: it might as well not be sorted.
 pub sorted-again : (old : LexOutput) (e : Edit) (reading : RegionOutput) (r : Span) → Fit old e reading r → (ds : List Diagnostic) → old .diagnostics ≡ sortDiagnostics ds
@@ -281,3 +287,80 @@ module _ (b : LexOutput) (E L : Edit) (RE RL : RegionOutput) (rE rL : Span) (m :
       let x₁ : normalizedOffset (bE .sourceNodes) (regionBehind E rL .end) ≡ nE (rL .end) + length (RE .normalized) - (nE (rE .end) - nE (rE .start)) = omega arith in
       rw (x₀, x₁, normal-before b L RL rL (m .firstL) (rE .start) (omega arith), normal-before b L RL rL (m .firstL) (rE .end) a)
       (splice-comm (nE (rE .start)) (nE (rE .end)) (nE (rL .start)) (nE (rL .end)) (RE .normalized) (RL .normalized) (b .normalized) r₁ r₂ r₃ l)
+
+  -- ---- nodes with their trees
+
+  -- behind L's region a node's offset lies behind the region's place
+  abbrev inBook : ShownNode → Bool
+  inBook n = spanOk (length (b .sanitized)) (n .sourceSpan) && ((not (leb (rL .end) (n .sourceSpan .start)) || leb (normalizedOffset (b .sourceNodes) (rL .end)) (n .normalizedOffset)) && ltb (n .normalizedOffset) (length (b .normalized)))
+
+  abbrev inEarlier : ShownNode → Bool
+  inEarlier n = spanOk (length (RE .sanitized)) (n .sourceSpan)
+
+  abbrev inLater : ShownNode → Bool
+  inLater n = spanOk (length (RL .sanitized)) (n .sourceSpan) && ltb (n .normalizedOffset) (length (RL .normalized))
+
+  all-in-book : all inBook (shownNodes b) ≡ true
+  unfolding shownNodes shownNode
+  all-in-book =
+      let s = m .firstE .oldSound in
+      let ns = b .sourceNodes in
+      all-map-is inBook (shownNode (storeOf (b .layers))) ns
+      ∙ all-and (nodeIn (length (b .sanitized))) (λ n. (not (startsAt (rL .end) n) || leb (normalizedOffset ns (rL .end)) (n .normalizedOffset)) && ltb (n .normalizedOffset) (length (b .normalized))) ns (s .places .sourceSpans)
+      (all-and (λ n. not (startsAt (rL .end) n) || leb (normalizedOffset ns (rL .end)) (n .normalizedOffset)) (λ n. ltb (n .normalizedOffset) (length (b .normalized))) ns
+      (all-if (λ n. leb (normalizedOffset ns (rL .end)) (n .normalizedOffset)) (startsAt (rL .end)) ns (offsets-behind b s (rL .end) (m .firstL .endSafe))) (offsets-small b s))
+
+  all-in-earlier : all inEarlier (shownNodes RE) ≡ true
+  unfolding shownNodes shownNode
+  all-in-earlier = all-map-is inEarlier (shownNode (storeOf (RE .layers))) (RE .sourceNodes) ∙ m .firstE .readingSound .places .sourceSpans
+
+  all-in-later : all inLater (shownNodes RL) ≡ true
+  unfolding shownNodes shownNode
+  all-in-later =
+      let s = m .firstL .readingSound in
+      all-map-is inLater (shownNode (storeOf (RL .layers))) (RL .sourceNodes)
+      ∙ all-and (nodeIn (length (RL .sanitized))) (λ n. ltb (n .normalizedOffset) (length (RL .normalized))) (RL .sourceNodes) (s .places .sourceSpans) (offsets-small RL s)
+
+  splices-agree : spliced shownLocated wL′ (spliced shownLocated wE (shownNodes b) (shownNodes RE)) (shownNodes RL)
+      ≡ spliced shownLocated wE (spliced shownLocated wL (shownNodes b) (shownNodes RL)) (shownNodes RE)
+  unfolding shownLocated windowOf shifted
+  splices-agree =
+      two-orders shownLocated wE wL wL′ inBook inEarlier inLater
+      (length (RE .sanitized)) pE qE (length (RL .sanitized)) pL qL
+      (source-carried b E RE rE (m .firstE) shownLocated inBook inEarlier refl placeOf (λ n o. span-facts (length (RE .sanitized)) (n .sourceSpan) o) (λ n. (refl, refl)) (λ n. (refl, refl)))
+      (source-carried b L RL rL (m .firstL) shownLocated inBook inLater refl placeOf (λ n o. span-facts (length (RL .sanitized)) (n .sourceSpan) (both (spanOk (length (RL .sanitized)) (n .sourceSpan)) _ o .0)) (λ n. (refl, refl)) (λ n. (refl, refl)))
+      (m .apart) start-moves end-moves twice again (shownNodes b) (shownNodes RE) (shownNodes RL) all-in-book all-in-earlier all-in-later
+    where
+      placeOf : (n : ShownNode) → inBook n ≡ true → (n .sourceSpan .start < n .sourceSpan .end) × (n .sourceSpan .end ≤ length (b .sanitized))
+      placeOf n o = span-facts (length (b .sanitized)) (n .sourceSpan) (both (spanOk (length (b .sanitized)) (n .sourceSpan)) _ o .0)
+
+      twice : (n : ShownNode) → inBook n ≡ true → rL .end ≤ n .sourceSpan .start
+          → shownLocated .moved wL′ (shownLocated .moved wE n) ≡ shownLocated .moved wE (shownLocated .moved wL n)
+      twice n o h =
+          let at = normalizedOffset (b .sourceNodes) (rL .end) in
+          let u = both (spanOk (length (b .sanitized)) (n .sourceSpan)) _ o in
+          let v = both (not (leb (rL .end) (n .sourceSpan .start)) || leb at (n .normalizedOffset)) (ltb (n .normalizedOffset) (length (b .normalized))) (u .1) in
+          let k : leb at (n .normalizedOffset) ≡ true = rw (le-leb (rL .end) (n .sourceSpan .start) h) at (v .0) in
+          let g = placeOf n o in
+          let g₁ = g .0 in
+          let g₂ = g .1 in
+          let x = ltb-true (n .normalizedOffset) (length (b .normalized)) (v .1) in
+          let z = m .firstE .oldSound .normalized in
+          rw (twice-number (n .sourceSpan .start) h (omega arith), twice-number (n .sourceSpan .end) (omega arith) g₂, twice-offset (n .normalizedOffset) (leb-true at (n .normalizedOffset) k) (omega arith))
+
+      again : (n : ShownNode) → inLater n ≡ true → shownLocated .placed wL′ n ≡ shownLocated .moved wE (shownLocated .placed wL n)
+      again n o =
+          let u = both (spanOk (length (RL .sanitized)) (n .sourceSpan)) (ltb (n .normalizedOffset) (length (RL .normalized))) o in
+          let g = span-facts (length (RL .sanitized)) (n .sourceSpan) (u .0) in
+          let g₂ = g .1 in
+          let x = ltb-true (n .normalizedOffset) (length (RL .normalized)) (u .1) in
+          rw (placed-twice (n .sourceSpan .start) (omega arith), placed-twice (n .sourceSpan .end) g₂, placed-offset (n .normalizedOffset) (omega arith))
+
+  -- The nodes of the two final books show the same.
+  pub nodes-agree : (m₁ m₂ m₃ m₄ : IncrementalOutput) → Step b E rE RE m₁ → Step bE L′ (regionBehind E rL) RL m₂ → Step b L rL RL m₃ → Step bL E rE RE m₄
+      → shownNodes (mergedOf bE L′ RL (regionBehind E rL)) ≡ shownNodes (mergedOf bL E RE rE)
+  nodes-agree m₁ m₂ m₃ m₄ s₁ s₂ s₃ s₄ =
+      shown-merged bE L′ (regionBehind E rL) RL m₂ s₂
+      ∙ ap (λ (l : List ShownNode). spliced shownLocated wL′ l (shownNodes RL)) (shown-merged b E rE RE m₁ s₁)
+      ∙ splices-agree
+      ∙ sym (shown-merged bL E rE RE m₄ s₄ ∙ ap₂ (λ (w : MergeWindow) (l : List ShownNode). spliced shownLocated w l (shownNodes RE)) window-again (shown-merged b L rL RL m₃ s₃))
