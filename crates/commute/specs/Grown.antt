@@ -19,13 +19,13 @@ use Rattle.model.specs.Graft.{NewLayer, layered, layerOf, graftNodeRefs}
 use Rattle.model.specs.Region.{Edit}
 use Rattle.model.specs.Merge.{grafted, mergedLayers, mergedBook}
 use Rattle.laws.specs.Lists.{both, join, all-append, all-and, all-map}
-use Rattle.laws.specs.Keep.{all-append-is, all-map-is}
+use Rattle.laws.specs.Keep.{all-map-is}
 use Rattle.laws.specs.Checks.{WellFormed, Utf8Facts, utf8-facts, LimitFacts, IdFacts, id-facts, mergedOf}
 use Rattle.laws.specs.Fits.{isWord, recordFits, layerFits, fits}
 use Rattle.laws.specs.WriteRead.{LayerFits, layer-fits, BookFits, book-fits}
 use Rattle.laws.specs.Graft.{goodString, inner, show-body, levelFrom, level-shown, withLayer, Later, later-refl, Numbered, Pools, goodContent, goodSegment}
 use Rattle.laws.specs.Levels.{good, NodesGood, nodes-grafted}
-use Rattle.laws.specs.Layers.{More, more-layers, show-same, show-node-same, ids-pools, content-more, segment-more, node-more, fresh-above, store-with, numbered-with}
+use Rattle.laws.specs.Layers.{pool-all, More, more-layers, show-same, show-node-same, ids-pools, content-more, segment-more, node-more, fresh-above, store-with, numbered-with}
 
 -- ---- shapes
 
@@ -49,18 +49,13 @@ shape-is b s = rw (s .layers, s .nodes, s .pairs, s .diagnostics)
 
 -- ---- the pools of layers
 
-pool-is : {A : Type 0} (t : A → Bool) (f : Layer → List A) (ls : List Layer) → all t (flatten (map f ls)) ≡ all (λ (l : Layer). all t (f l)) ls
-unfolding flatten
-pool-is t f [] = refl
-pool-is t f (l ∷ ls) = all-append-is t (f l) (flatten (map f ls)) ∙ ap (λ (x : Bool). all t (f l) && x) (pool-is t f ls)
-
 abbrev layerUtf8 : Layer → Bool
 layerUtf8 l = all utf8 (l .strings)
 
 pool-strings : (ls : List Layer) → all layerFits ls ≡ true → all layerUtf8 ls ≡ true → all goodString (storeOf ls .strings) ≡ true
 unfolding storeOf
 pool-strings ls f u =
-    pool-is goodString (λ (l : Layer). l .strings) ls
+    pool-all (λ (l : Layer). l .strings) goodString ls
     ∙ all-map (λ l. layerFits l && layerUtf8 l) (λ (l : Layer). all goodString (l .strings))
     (λ l e. let s = both (layerFits l) (layerUtf8 l) e in all-and (λ (x : List ℕ). isWord (length x)) utf8 (l .strings) (layer-fits l (s .0) .strings) (s .1)) ls (all-and layerFits layerUtf8 ls f u)
 
@@ -70,9 +65,9 @@ pool-segments b f s v =
     let ls = b .layers in
     let st = storeOf ls in
     all-and (recordFits segmentCodec) (λ x. segmentShape x && levelOk st x) (st .segments)
-    (pool-is (recordFits segmentCodec) (λ (l : Layer). l .segments) ls ∙ all-map layerFits (λ (l : Layer). all (recordFits segmentCodec) (l .segments)) (λ l e. layer-fits l e .segments) ls f)
+    (pool-all (λ (l : Layer). l .segments) (recordFits segmentCodec) ls ∙ all-map layerFits (λ (l : Layer). all (recordFits segmentCodec) (l .segments)) (λ l e. layer-fits l e .segments) ls f)
     (all-and segmentShape (levelOk st) (st .segments)
-    (pool-is segmentShape (λ (l : Layer). l .segments) ls ∙ all-map layerShape (λ (l : Layer). all segmentShape (l .segments)) (λ l e. both (all contentShape (l .contents)) (all segmentShape (l .segments)) e .1) ls s) v)
+    (pool-all (λ (l : Layer). l .segments) segmentShape ls ∙ all-map layerShape (λ (l : Layer). all segmentShape (l .segments)) (λ l e. both (all contentShape (l .contents)) (all segmentShape (l .segments)) e .1) ls s) v)
 
 -- ---- what holds of the layers and of the grafted nodes
 

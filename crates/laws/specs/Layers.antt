@@ -10,6 +10,7 @@ use lib.Seq.{drop-append-le, take-append-le}
 use lib.Dec.{T, eqb, leb, ltb}
 use borrow.Author.Tests.{eqb-true, leb-true, ltb-true, le-leb, lt-ltb}
 use Rattle.laws.specs.Checks.{id-facts}
+use Rattle.laws.specs.Keep.{all-append-is}
 use Rattle.laws.specs.Lists.{both, all-take, all-drop, all-append, all-map, join, flatten-append, flatten-snoc, map-append}
 use Rattle.model.specs.Lists.{all, any, sum}
 use Rattle.model.specs.Types.{Body, Content, Segment, Layer, SourceNode, LexOutput}
@@ -34,27 +35,34 @@ pub record More (st st′ : NodeStore) : Type 0 where
   pub contents : st′ .contents ≡ st .contents ++ moreContents
   pub segments : st′ .segments ≡ st .segments ++ moreSegments
 
-part-same : {A : Type 0} (start len : ℕ) (l more : List A) → start + len ≤ length l → take len (drop start (l ++ more)) ≡ take len (drop start l)
-part-same start len l more h =
-    let e = length-drop start l in
-    ap (take len) (drop-append-le start l more (omega arith)) ∙ take-append-le len (drop start l) more (omega arith)
+-- ---- a pool runs through the layers
 
--- ---- the counts of the layers are the lengths of the pools
+module _ {A : Type 0} (f : Layer → List A) where
+  count-is : (ls : List Layer) → sum (map (λ (l : Layer). length (f l)) ls) ≡ length (flatten (map f ls))
+  unfolding flatten
+  count-is [] = refl
+  count-is (l ∷ ls) = ap (λ (k : ℕ). length (f l) + k) (count-is ls) ∙ sym (length-append (f l) (flatten (map f ls)))
 
+  pool-append : (ls more : List Layer) → flatten (map f (ls ++ more)) ≡ flatten (map f ls) ++ flatten (map f more)
+  pool-append ls more = ap flatten (map-append f ls more) ∙ flatten-append (map f ls) (map f more)
+
+  pub pool-all : (t : A → Bool) (ls : List Layer) → all t (flatten (map f ls)) ≡ all (λ (l : Layer). all t (f l)) ls
+  unfolding flatten
+  pool-all t [] = refl
+  pool-all t (l ∷ ls) = all-append-is t (f l) (flatten (map f ls)) ∙ ap (λ (x : Bool). all t (f l) && x) (pool-all t ls)
+
+-- so the counts of the layers are the lengths of the pools
 pub string-count : (ls : List Layer) → sum (stringCounts ls) ≡ length (storeOf ls .strings)
-unfolding stringCounts storeOf flatten
-string-count [] = refl
-string-count (l ∷ ls) = ap (λ (k : ℕ). length (l .strings) + k) (string-count ls) ∙ sym (length-append (l .strings) (flatten (map (λ (x : Layer). x .strings) ls)))
+unfolding stringCounts storeOf
+string-count = count-is (λ (l : Layer). l .strings)
 
 pub content-count : (ls : List Layer) → sum (contentCounts ls) ≡ length (storeOf ls .contents)
-unfolding contentCounts storeOf flatten
-content-count [] = refl
-content-count (l ∷ ls) = ap (λ (k : ℕ). length (l .contents) + k) (content-count ls) ∙ sym (length-append (l .contents) (flatten (map (λ (x : Layer). x .contents) ls)))
+unfolding contentCounts storeOf
+content-count = count-is (λ (l : Layer). l .contents)
 
 pub segment-count : (ls : List Layer) → sum (segmentCounts ls) ≡ length (storeOf ls .segments)
-unfolding segmentCounts storeOf flatten
-segment-count [] = refl
-segment-count (l ∷ ls) = ap (λ (k : ℕ). length (l .segments) + k) (segment-count ls) ∙ sym (length-append (l .segments) (flatten (map (λ (x : Layer). x .segments) ls)))
+unfolding segmentCounts storeOf
+segment-count = count-is (λ (l : Layer). l .segments)
 
 -- ---- ids and ranges inside the pools show the same
 
@@ -65,21 +73,20 @@ module _ (ls : List Layer) (st′ : NodeStore) (m : More (storeOf ls) st′) whe
       ap (λ (l : List (List ℕ)). getD l id []) (m .strings)
       ∙ List·getD-append (storeOf ls .strings) (m .moreStrings) [] id (omega (arith, ltb-true id (sum (stringCounts ls)) h, string-count ls))
 
-  range-inside : (counts : List ℕ) (start len : ℕ) → rangeOk counts start len ≡ true → start + len ≤ sum counts
+  run-same : {A : Type 0} (counts : List ℕ) (start len : ℕ) (l more l′ : List A) → rangeOk counts start len ≡ true → sum counts ≡ length l → l′ ≡ l ++ more → take len (drop start l′) ≡ take len (drop start l)
   unfolding rangeOk
-  range-inside counts start len h = leb-true (start + len) (sum counts) (both (leb (start + len) (sum counts)) _ h .0)
+  run-same counts start len l more l′ h n e =
+      let i = leb-true (start + len) (sum counts) (both (leb (start + len) (sum counts)) _ h .0) in
+      let d = length-drop start l in
+      ap (λ x. take len (drop start x)) e ∙ ap (take len) (drop-append-le start l more (omega arith)) ∙ take-append-le len (drop start l) more (omega arith)
 
   contents-same : (start len : ℕ) → rangeOk (contentCounts ls) start len ≡ true → resolveContentRange st′ start len ≡ resolveContentRange (storeOf ls) start len
   unfolding resolveContentRange
-  contents-same start len h =
-      ap (λ (l : List Content). take len (drop start l)) (m .contents)
-      ∙ part-same start len (storeOf ls .contents) (m .moreContents) (omega (arith, range-inside (contentCounts ls) start len h, content-count ls))
+  contents-same start len h = run-same (contentCounts ls) start len (storeOf ls .contents) (m .moreContents) (st′ .contents) h (content-count ls) (m .contents)
 
   segments-same : (start len : ℕ) → rangeOk (segmentCounts ls) start len ≡ true → resolveSegRange st′ start len ≡ resolveSegRange (storeOf ls) start len
   unfolding resolveSegRange
-  segments-same start len h =
-      ap (λ (l : List Segment). take len (drop start l)) (m .segments)
-      ∙ part-same start len (storeOf ls .segments) (m .moreSegments) (omega (arith, range-inside (segmentCounts ls) start len h, segment-count ls))
+  segments-same start len h = run-same (segmentCounts ls) start len (storeOf ls .segments) (m .moreSegments) (st′ .segments) h (segment-count ls) (m .segments)
 
   -- the pools' own ids and ranges are right: number 4, list by list
   module _ (contentsOk : all (contentOk ls) (storeOf ls .contents) ≡ true) (segmentsOk : all (segmentOk ls) (storeOf ls .segments) ≡ true) where
@@ -175,39 +182,30 @@ more-layers ls more = record {
   moreStrings = storeOf more .strings;
   moreContents = storeOf more .contents;
   moreSegments = storeOf more .segments;
-  strings = ap flatten (map-append (λ (l : Layer). l .strings) ls more) ∙ flatten-append (map (λ (l : Layer). l .strings) ls) (map (λ (l : Layer). l .strings) more);
-  contents = ap flatten (map-append (λ (l : Layer). l .contents) ls more) ∙ flatten-append (map (λ (l : Layer). l .contents) ls) (map (λ (l : Layer). l .contents) more);
-  segments = ap flatten (map-append (λ (l : Layer). l .segments) ls more) ∙ flatten-append (map (λ (l : Layer). l .segments) ls) (map (λ (l : Layer). l .segments) more);
+  strings = pool-append (λ (l : Layer). l .strings) ls more;
+  contents = pool-append (λ (l : Layer). l .contents) ls more;
+  segments = pool-append (λ (l : Layer). l .segments) ls more;
 }
 
--- number 4's test, on the pools
-module _ (ls : List Layer) where
-  abbrev layerOk : Layer → Bool
-  layerOk l = all (contentOk ls) (l .contents) && all (segmentOk ls) (l .segments)
-
-  pool-contents : (ks : List Layer) → all layerOk ks ≡ true → all (contentOk ls) (storeOf ks .contents) ≡ true
-  unfolding storeOf flatten
-  pool-contents [] e = refl
-  pool-contents (k ∷ ks) e =
-      let s = both (layerOk k) (all layerOk ks) e in
-      all-append (contentOk ls) (k .contents) (storeOf ks .contents) (both (all (contentOk ls) (k .contents)) _ (s .0) .0) (pool-contents ks (s .1))
-
-  pool-segments : (ks : List Layer) → all layerOk ks ≡ true → all (segmentOk ls) (storeOf ks .segments) ≡ true
-  unfolding storeOf flatten
-  pool-segments [] e = refl
-  pool-segments (k ∷ ks) e =
-      let s = both (layerOk k) (all layerOk ks) e in
-      all-append (segmentOk ls) (k .segments) (storeOf ks .segments)
-      (both (all (contentOk ls) (k .contents)) _ (s .0) .1) (pool-segments ks (s .1))
+-- number 4's test, of the pools
+pub ids-pools : (b : LexOutput) → idsOk b ≡ true → (all (contentOk (b .layers)) (storeOf (b .layers) .contents) ≡ true) × (all (segmentOk (b .layers)) (storeOf (b .layers) .segments) ≡ true)
+unfolding storeOf
+ids-pools b e =
+    let ls = b .layers in
+    let layer : Layer → Bool = λ l. all (contentOk ls) (l .contents) && all (segmentOk ls) (l .segments) in
+    let i = id-facts b e .pools in (
+      pool-all (λ (l : Layer). l .contents) (contentOk ls) ls ∙ all-map layer (λ (l : Layer). all (contentOk ls) (l .contents)) (λ l h. both (all (contentOk ls) (l .contents)) (all (segmentOk ls) (l .segments)) h .0) ls i,
+      pool-all (λ (l : Layer). l .segments) (segmentOk ls) ls ∙ all-map layer (λ (l : Layer). all (segmentOk ls) (l .segments)) (λ l h. both (all (contentOk ls) (l .contents)) (all (segmentOk ls) (l .segments)) h .1) ls i,
+    )
 
 -- Kept references, of a book whose layers go on from those of a book that passes number 4.
 pub kept-references : (first later : LexOutput) (more : List Layer) → later .layers ≡ first .layers ++ more → idsOk first ≡ true → KeptReferences first later
 unfolding shownString shownContents shownSegments idOk
 kept-references first later more e ids =
     let ls = first .layers in
-    let i = id-facts first ids in
-    let cok = pool-contents ls ls (i .pools) in
-    let sok = pool-segments ls ls (i .pools) in
+    let i = ids-pools first ids in
+    let cok = i .0 in
+    let sok = i .1 in
     let st = storeOf (later .layers) in
     let m : More (storeOf ls) st = subst (λ (k : List Layer). More (storeOf ls) (storeOf k)) (sym e) (more-layers ls more) in
     let f : Body → Tree = λ x. showBody maxLevel st x in
@@ -220,10 +218,6 @@ kept-references first later more e ids =
           ∙ show-contents-same ls st m cok sok f g agree (resolveContentRange (storeOf ls) start len) (run-contents-ok ls st m cok sok start len);
       segments = λ start len h. show-run-same ls st m cok sok f g agree start len h;
     }
-
--- number 4's test, of the pools
-pub ids-pools : (b : LexOutput) → idsOk b ≡ true → (all (contentOk (b .layers)) (storeOf (b .layers) .contents) ≡ true) × (all (segmentOk (b .layers)) (storeOf (b .layers) .segments) ≡ true)
-ids-pools b e = let i = id-facts b e .pools in (pool-contents (b .layers) (b .layers) i, pool-segments (b .layers) (b .layers) i)
 
 -- ---- ids and ranges of fewer layers are right
 
