@@ -510,51 +510,47 @@ module _ (old : NodeStore) (g : NewLayer) (ls : List Layer) (numbered : Numbered
   here : (xs : List Field) (ws final : List ℕ) (i v : ℕ) → length ws ≡ 6 → free i xs ≡ true → Keeps xs (set ws i v) final → (b : Body) → b .words ≡ final → wordOf b i ≡ v
   here xs ws final i v six fr k b e = ap (λ (x : List ℕ). getD x i 0) e ∙ word-kept xs ws final i v six fr k
 
+  -- a string's field, which may be one that may be missing
+  string-word : (may : Bool) (i v : ℕ) (xs : List Field) (ws final : List ℕ) → length ws ≡ 6 → distinct (stringField may i ∷ xs) ≡ true → Keeps xs (set ws i v) final
+      → Keeps (stringField may i ∷ xs) ws final × ((b : Body) → b .words ≡ final → wordOf b i ≡ v)
+  string-word true i v xs ws final six d k = (one-kept xs ws final i v k, here xs ws final i v six (both (free i xs) (distinct xs) d .0) k)
+  string-word false i v xs ws final six d k = (one-kept xs ws final i v k, here xs ws final i v six (both (free i xs) (distinct xs) d .0) k)
+
+  string-shows : (may : Bool) (i v : ℕ) (s : List ℕ) (fs : Fields) (l : ℕ) (xs : List Field) (b : Body) → wordOf b i ≡ v → v < noString → resolveStr st v ≡ s
+      → showFields (λ x. inner l st x) st b xs ≡ fs → showFields (λ x. inner l st x) st b (stringField may i ∷ xs) ≡ text i s fs
+  unfolding showFields
+  string-shows true i v s fs l xs b h k x y = rw (h, ne-eqb v noString (omega arith), x, y)
+  string-shows false i v s fs l xs b h k x y = rw (h, x, y)
+
+  string-ids : (may : Bool) (i v : ℕ) (xs : List Field) (b : Body) → wordOf b i ≡ v → v < noString → idOk (stringCounts ls) v ≡ true → all (fieldOk ls b) xs ≡ true → all (fieldOk ls b) (stringField may i ∷ xs) ≡ true
+  unfolding fieldOk
+  string-ids true i v xs b h k x y = rw (h, ne-eqb v noString (omega arith), x, y)
+  string-ids false i v xs b h k x y = rw (h, x, y)
+
   text-done : (may : Bool) (i : ℕ) (s : List ℕ) (fs : Fields) (l : ℕ) (xs : List Field) (ws : List ℕ) (f : NewLayer) → Above old f → length ws ≡ 6 → goodString s ≡ true
       → FieldsMade fs l xs (set ws i (graftStr s f .0)) (graftStr s f .1)
       → distinct (stringField may i ∷ xs) ≡ true → FieldsMade (text i s fs) l (stringField may i ∷ xs) ws f
-  unfolding graftFields showFields fieldOk
+  unfolding graftFields
   text-done may i s fs l xs ws f a six h rest d =
       let r = str-made s f a in
       let v = graftStr s f .0 in
       let f₁ = graftStr s f .1 in
       let final = graftFields fs (set ws i v) f₁ in
+      let set-at = string-word may i v xs ws (final .0) six d (rest .kept) in
       record {
         made = made-trans old f f₁ (final .1) (r .made) (rest .made);
         six = rest .six;
-        kept = kept may;
+        kept = set-at .0;
         good = λ lt.
             let since = later-trans f₁ (final .1) g (rest .made .later) lt in
             let more = rest .good lt in
             record {
               words = λ w. more .words (all-set isWord ws i v w (lt-ltb v 4294967296 (omega (arith, r .below since))));
               pools = λ p. more .pools (r .pools h p);
-              shows = λ b e. shows may d (r .below since) b e (r .shows since) (more .shows b e);
-              ids = λ b e. ids may d b e (r .ok since) (more .ids b e);
+              shows = λ b e. string-shows may i v s fs l xs b (set-at .1 b e) (r .below since) (r .shows since) (more .shows b e);
+              ids = λ b e. string-ids may i v xs b (set-at .1 b e) (r .below since) (r .ok since) (more .ids b e);
             };
       }
-    where
-      kept : (may : Bool) → Keeps (stringField may i ∷ xs) ws (graftFields fs (set ws i (graftStr s f .0)) (graftStr s f .1) .0)
-      kept true = one-kept xs ws (graftFields fs (set ws i (graftStr s f .0)) (graftStr s f .1) .0) i (graftStr s f .0) (rest .kept)
-      kept false = one-kept xs ws (graftFields fs (set ws i (graftStr s f .0)) (graftStr s f .1) .0) i (graftStr s f .0) (rest .kept)
-
-      is : (may : Bool) → distinct (stringField may i ∷ xs) ≡ true → (b : Body) → b .words ≡ graftFields fs (set ws i (graftStr s f .0)) (graftStr s f .1) .0 → wordOf b i ≡ graftStr s f .0
-      is true d b e = here xs ws (graftFields fs (set ws i (graftStr s f .0)) (graftStr s f .1) .0) i (graftStr s f .0) six (both (free i xs) (distinct xs) d .0) (rest .kept) b e
-      is false d b e = here xs ws (graftFields fs (set ws i (graftStr s f .0)) (graftStr s f .1) .0) i (graftStr s f .0) six (both (free i xs) (distinct xs) d .0) (rest .kept) b e
-
-      shows : (may : Bool) → distinct (stringField may i ∷ xs) ≡ true → graftStr s f .0 < noString → (b : Body) → b .words ≡ graftFields fs (set ws i (graftStr s f .0)) (graftStr s f .1) .0
-          → resolveStr st (graftStr s f .0) ≡ s → showFields (λ x. inner l st x) st b xs ≡ fs → showFields (λ x. inner l st x) st b (stringField may i ∷ xs) ≡ text i s fs
-      shows true d k b e x y = rw (is true d b e, ne-eqb (graftStr s f .0) noString (omega arith), x, y)
-      shows false d k b e x y = rw (is false d b e, x, y)
-
-      ids : (may : Bool) → distinct (stringField may i ∷ xs) ≡ true → (b : Body) → b .words ≡ graftFields fs (set ws i (graftStr s f .0)) (graftStr s f .1) .0
-          → idOk (stringCounts ls) (graftStr s f .0) ≡ true → all (fieldOk ls b) xs ≡ true → all (fieldOk ls b) (stringField may i ∷ xs) ≡ true
-      ids true d b e x y = rw (is true d b e, x, y) (or-true (eqb (graftStr s f .0) noString))
-        where
-          or-true : (t : Bool) → (t || true) && true ≡ true
-          or-true true = refl
-          or-true false = refl
-      ids false d b e x y = rw (is false d b e, x, y)
 
   absent-done : (i : ℕ) (fs : Fields) (l : ℕ) (xs : List Field) (ws : List ℕ) (f : NewLayer) → length ws ≡ 6
       → FieldsMade fs l xs (set ws i noString) f

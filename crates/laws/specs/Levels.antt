@@ -8,7 +8,7 @@ use mathlib.Core.Bool.{Bool, true, false, cond, not, _&&_, _||_, false≢true}
 use mathlib.Core.List.{List, [], _∷_, _++_, map, flatten}
 use lib.ListN.{length, getD, take, drop, replicate}
 use lib.Dec.{eqb, leb, ltb}
-use borrow.Author.Tests.{eqb-true, leb-true, ltb-true, lt-ltb, le-ltb}
+use borrow.Author.Tests.{eqb-true, ne-eqb, leb-true, ltb-true, lt-ltb, le-ltb}
 use Rattle.model.specs.Lists.{all, any}
 use Rattle.model.specs.Limits.{noString, maxLevel}
 use Rattle.model.specs.Utf8.{utf8, utf8From, isBetween}
@@ -21,7 +21,7 @@ use Rattle.model.specs.Tree.{Contents, Contents.noContent, Contents.plain, Cont
 use Rattle.model.specs.Tree.{showSegments, showContents, showFields, showWith, showBody, showNode, ShownNode, shownNode}
 use Rattle.model.specs.Graft.{NewLayer, graftNode, graftFields, graftNodeRef, graftNodeRefs}
 use Rattle.laws.specs.Lists.{both, join, either, all-take, all-drop, all-append, all-left, all-right, all-map}
-use Rattle.laws.specs.Keep.{all-get}
+use Rattle.laws.specs.Keep.{all-get, and-false}
 use Rattle.laws.specs.Fits.{operandsFit, recordFits}
 use Rattle.laws.specs.Graft.{inner, show-body, TreeOf, FieldsOf, ContentsOf, SegmentsOf, distinct, table-distinct, withLayer, Above, Later, later-refl, later-trans, Made, made-trans, Numbered, Pools, goodString, tagKind, segmentHead, sixWords, segmentFrom, level-shown, operands-append, operands-left, FieldsMade, FieldsGood, graft-fields, six-fit, unused-kept}
 
@@ -75,28 +75,20 @@ module _ (st : NodeStore) where
   plain-kind : (s : Segment) → segmentShape s ≡ true → ltb (s .tag) 3 ≡ true → (s .body .kind ≡ 0) ⊎ ((s .body .kind ≡ 3) ⊎ (s .body .kind ≡ 13))
   unfolding segmentShape
   plain-kind s e h =
-      let k = s .body .kind in
-      let a = eqb (s .tag) 0 && eqb k 0 in
-      let b = eqb (s .tag) 1 && eqb k 3 in
-      let c = eqb (s .tag) 2 && eqb k 13 in
-      let d = eqb (s .tag) 3 && leb 1 k in
-      go (either (a || b || c) d (both (a || b || c || d) _ e .0))
+      let t = ltb-true (s .tag) 3 h in
+      let x : (eqb (s .tag) 0 && eqb (s .body .kind) 0) || (eqb (s .tag) 1 && eqb (s .body .kind) 3) || (eqb (s .tag) 2 && eqb (s .body .kind) 13) || false ≡ true =
+      rw (ne-eqb (s .tag) 3 (omega arith)) at (both (tagKind (s .tag) (s .body .kind)) _ e .0) in
+      go (eqb (s .tag) 0) (eqb (s .tag) 1) (eqb (s .tag) 2) (eqb (s .body .kind) 0) refl (eqb (s .body .kind) 3) refl (eqb (s .body .kind) 13) refl x
     where
-      low-tag : eqb (s .tag) 3 ≡ true → ⊥
-      low-tag q = omega (arith, eqb-true (s .tag) 3 q, ltb-true (s .tag) 3 h)
-
-      three : (eqb (s .tag) 0 && eqb (s .body .kind) 0 ≡ true) ⊎ (eqb (s .tag) 1 && eqb (s .body .kind) 3 ≡ true) → (s .body .kind ≡ 0) ⊎ ((s .body .kind ≡ 3) ⊎ (s .body .kind ≡ 13))
-      three (inl x) = inl (eqb-true (s .body .kind) 0 (both (eqb (s .tag) 0) (eqb (s .body .kind) 0) x .1))
-      three (inr x) = inr (inl (eqb-true (s .body .kind) 3 (both (eqb (s .tag) 1) (eqb (s .body .kind) 3) x .1)))
-
-      two : (eqb (s .tag) 0 && eqb (s .body .kind) 0 || eqb (s .tag) 1 && eqb (s .body .kind) 3 ≡ true) ⊎ (eqb (s .tag) 2 && eqb (s .body .kind) 13 ≡ true) → (s .body .kind ≡ 0) ⊎ ((s .body .kind ≡ 3) ⊎ (s .body .kind ≡ 13))
-      two (inl x) = three (either (eqb (s .tag) 0 && eqb (s .body .kind) 0) (eqb (s .tag) 1 && eqb (s .body .kind) 3) x)
-      two (inr x) = inr (inr (eqb-true (s .body .kind) 13 (both (eqb (s .tag) 2) (eqb (s .body .kind) 13) x .1)))
-
-      go : (eqb (s .tag) 0 && eqb (s .body .kind) 0 || eqb (s .tag) 1 && eqb (s .body .kind) 3 || eqb (s .tag) 2 && eqb (s .body .kind) 13 ≡ true) ⊎ (eqb (s .tag) 3 && leb 1 (s .body .kind) ≡ true)
+      go : (t₀ t₁ t₂ k₀ : Bool) → eqb (s .body .kind) 0 ≡ k₀ → (k₁ : Bool) → eqb (s .body .kind) 3 ≡ k₁ → (k₂ : Bool) → eqb (s .body .kind) 13 ≡ k₂ → (t₀ && k₀) || (t₁ && k₁) || (t₂ && k₂) || false ≡ true
           → (s .body .kind ≡ 0) ⊎ ((s .body .kind ≡ 3) ⊎ (s .body .kind ≡ 13))
-      go (inl x) = two (either (eqb (s .tag) 0 && eqb (s .body .kind) 0 || eqb (s .tag) 1 && eqb (s .body .kind) 3) (eqb (s .tag) 2 && eqb (s .body .kind) 13) x)
-      go (inr x) = absurd (low-tag (both (eqb (s .tag) 3) (leb 1 (s .body .kind)) x .0))
+      go t₀ t₁ t₂ true p₀ k₁ p₁ k₂ p₂ x = inl (eqb-true (s .body .kind) 0 p₀)
+      go t₀ t₁ t₂ false p₀ true p₁ k₂ p₂ x = inr (inl (eqb-true (s .body .kind) 3 p₁))
+      go t₀ t₁ t₂ false p₀ false p₁ true p₂ x = inr (inr (eqb-true (s .body .kind) 13 p₂))
+      go t₀ t₁ t₂ false p₀ false p₁ false p₂ x = absurd (false≢true (sym (none t₀ t₁ t₂) ∙ x))
+        where
+          none : (t₀ t₁ t₂ : Bool) → (t₀ && false) || (t₁ && false) || (t₂ && false) || false ≡ false
+          none t₀ t₁ t₂ = rw (and-false t₀ false refl, and-false t₁ false refl, and-false t₂ false refl)
 
   -- below a segment's own level
   segment-named : (s : Segment) (l : ℕ) → good s ≡ true → s .level ≤ l → Named (s .body) (fieldsOf (s .body)) l
