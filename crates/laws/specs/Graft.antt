@@ -23,6 +23,7 @@ use Rattle.model.specs.Tree.{Contents, Contents.noContent, Contents.plain, Cont
 use Rattle.model.specs.Tree.{showSegments, showContents, showFields, showWith, showBody}
 use Rattle.model.specs.Graft.{NewLayer, graftStr, pushContents, pushSegments, graftNode, graftFields, graftContents, graftSegments}
 use Rattle.laws.specs.Lists.{both, join, neither, all-append}
+use Rattle.laws.specs.Prefix.{Prefix, prefix-refl, prefix-trans, prefix-length}
 use Rattle.laws.specs.Keep.{all-append-is, all-get, all-set}
 use Rattle.laws.specs.Fits.{isWord, operandFits, operandsFit, recordFits}
 use Rattle.laws.specs.Intern.{Sound, intern-answers}
@@ -45,31 +46,18 @@ pub record Above (old : NodeStore) (f : NewLayer) : Type 0 where
 
 -- g is f with more behind
 pub record Later (f g : NewLayer) : Type 0 where
-  pub moreStrings : List (List ℕ)
-  pub moreContents : List Content
-  pub moreSegments : List Segment
-  pub strings : g .interner .strings ≡ f .interner .strings ++ moreStrings
-  pub contents : g .contents ≡ f .contents ++ moreContents
-  pub segments : g .segments ≡ f .segments ++ moreSegments
+  pub strings : Prefix (f .interner .strings) (g .interner .strings)
+  pub contents : Prefix (f .contents) (g .contents)
+  pub segments : Prefix (f .segments) (g .segments)
 
 pub later-refl : (f : NewLayer) → Later f f
-later-refl f = record {
-  moreStrings = [];
-  moreContents = [];
-  moreSegments = [];
-  strings = sym (append-nil (f .interner .strings));
-  contents = sym (append-nil (f .contents));
-  segments = sym (append-nil (f .segments));
-}
+later-refl f = record { strings = prefix-refl (f .interner .strings); contents = prefix-refl (f .contents); segments = prefix-refl (f .segments) }
 
 pub later-trans : (f g h : NewLayer) → Later f g → Later g h → Later f h
 later-trans f g h a b = record {
-  moreStrings = a .moreStrings ++ b .moreStrings;
-  moreContents = a .moreContents ++ b .moreContents;
-  moreSegments = a .moreSegments ++ b .moreSegments;
-  strings = b .strings ∙ ap (λ (l : List (List ℕ)). l ++ b .moreStrings) (a .strings) ∙ append-assoc (f .interner .strings) (a .moreStrings) (b .moreStrings);
-  contents = b .contents ∙ ap (λ (l : List Content). l ++ b .moreContents) (a .contents) ∙ append-assoc (f .contents) (a .moreContents) (b .moreContents);
-  segments = b .segments ∙ ap (λ (l : List Segment). l ++ b .moreSegments) (a .segments) ∙ append-assoc (f .segments) (a .moreSegments) (b .moreSegments);
+  strings = prefix-trans (f .interner .strings) (g .interner .strings) (h .interner .strings) (a .strings) (b .strings);
+  contents = prefix-trans (f .contents) (g .contents) (h .contents) (a .contents) (b .contents);
+  segments = prefix-trans (f .segments) (g .segments) (h .segments) (a .segments) (b .segments);
 }
 
 -- the layer was only added to, and its numbers still begin where the old store's end
@@ -361,18 +349,11 @@ module _ (old : NodeStore) (g : NewLayer) (ls : List Layer) (numbered : Numbered
       let id = intern (f .interner) s .id in
       let strings = intern (f .interner) s .state .strings in
       let inside : Later (graftStr s f .1) g → f .stringOffset + id < length (old .strings) + length (g .interner .strings) =
-      λ l. omega (arith, a .strings, r .inside, ap length (l .strings), length-append strings (l .moreStrings)) in
+      λ l. omega (arith, a .strings, r .inside, prefix-length strings (g .interner .strings) (l .strings)) in
       record {
         made = record {
           above = record { strings = a .strings; contents = a .contents; segments = a .segments; sound = r .sound };
-          later = record {
-            moreStrings = r .more;
-            moreContents = [];
-            moreSegments = [];
-            strings = r .grown;
-            contents = sym (append-nil (f .contents));
-            segments = sym (append-nil (f .segments));
-          };
+          later = record { strings = (r .more, r .grown); contents = prefix-refl (f .contents); segments = prefix-refl (f .segments) };
         };
         pools = λ h p. record {
           strings = ap (all goodString) (r .grown) ∙ all-append goodString (f .interner .strings) (r .more) (p .strings) (r .only goodString h);
@@ -382,18 +363,19 @@ module _ (old : NodeStore) (g : NewLayer) (ls : List Layer) (numbered : Numbered
         shows = λ l.
             ap (λ (k : ℕ). getD (old .strings ++ g .interner .strings) (k + id) []) (a .strings)
             ∙ getD-append-add (old .strings) (g .interner .strings) id []
-            ∙ ap (λ (x : List (List ℕ)). getD x id []) (l .strings)
-            ∙ List·getD-append strings (l .moreStrings) [] id (r .inside)
+            ∙ ap (λ (x : List (List ℕ)). getD x id []) (l .strings .1)
+            ∙ List·getD-append strings (l .strings .0) [] id (r .inside)
             ∙ r .shows;
         ok = λ l. numbered .string (f .stringOffset + id) (inside l);
         below = λ l. omega (arith, inside l, numbered .strings);
       }
 
-  -- a run behind a pool's first part
-  run-behind : {A : Type 0} (a p r more : List A) → take (length r) (drop (length a + length p) (a ++ ((p ++ r) ++ more))) ≡ r
-  run-behind a p r more =
-      ap (take (length r)) (drop-append-add a ((p ++ r) ++ more) (length p) ∙ ap (drop (length p)) (append-assoc p r more) ∙ drop-append-seam p (r ++ more))
-      ∙ take-append-seam r more
+  -- a run behind a pool's first part, in a later state of the pool
+  run-behind : {A : Type 0} (start : ℕ) (a p r g : List A) → start ≡ length a → Prefix (p ++ r) g → take (length r) (drop (start + length p) (a ++ g)) ≡ r
+  run-behind {A} start a p r g h l =
+      ap₂ (λ (k : ℕ) (x : List A). take (length r) (drop (k + length p) (a ++ x))) h (l .1)
+      ∙ ap (take (length r)) (drop-append-add a ((p ++ r) ++ l .0) (length p) ∙ ap (drop (length p)) (append-assoc p r (l .0)) ∙ drop-append-seam p (r ++ l .0))
+      ∙ take-append-seam r (l .0)
 
   -- a run that was pushed, from f to f′
   record RunMade {A : Type 0} (f f′ : NewLayer) (start : ℕ) (xs : List A) (sizes : List ℕ) (resolve : ℕ → ℕ → List A) : Type 0 where
@@ -407,22 +389,13 @@ module _ (old : NodeStore) (g : NewLayer) (ls : List Layer) (numbered : Numbered
   unfolding pushContents resolveContentRange
   contents-made cs f a =
       let sizes : Later (pushContents cs f .1) g → length (f .contents) + length cs ≤ length (g .contents) =
-      λ l. omega (arith, ap length (l .contents), length-append (f .contents ++ cs) (l .moreContents), length-append (f .contents) cs) in
+      λ l. omega (arith, prefix-length (f .contents ++ cs) (g .contents) (l .contents), length-append (f .contents) cs) in
       record {
         made = record {
           above = record { strings = a .strings; contents = a .contents; segments = a .segments; sound = a .sound };
-          later = record {
-            moreStrings = [];
-            moreContents = cs;
-            moreSegments = [];
-            strings = sym (append-nil (f .interner .strings));
-            contents = refl;
-            segments = sym (append-nil (f .segments));
-          };
+          later = record { strings = prefix-refl (f .interner .strings); contents = (cs, refl); segments = prefix-refl (f .segments) };
         };
-        shows = λ l.
-            ap₂ (λ (k : ℕ) (x : List Content). take (length cs) (drop (k + length (f .contents)) (old .contents ++ x))) (a .contents) (l .contents)
-            ∙ run-behind (old .contents) (f .contents) cs (l .moreContents);
+        shows = λ l. run-behind (f .contentOffset) (old .contents) (f .contents) cs (g .contents) (a .contents) (l .contents);
         ok = λ l. rw (a .contents) (numbered .content (length (f .contents)) (length cs) (sizes l));
         starts = λ l. lt-ltb (f .contentOffset + length (f .contents)) 4294967296 (omega (arith, a .contents, sizes l, numbered .contents));
         counts = λ l. lt-ltb (length cs) 4294967296 (omega (arith, sizes l, numbered .contents));
@@ -432,22 +405,13 @@ module _ (old : NodeStore) (g : NewLayer) (ls : List Layer) (numbered : Numbered
   unfolding pushSegments resolveSegRange
   segments-made ss f a =
       let sizes : Later (pushSegments ss f .1) g → length (f .segments) + length ss ≤ length (g .segments) =
-      λ l. omega (arith, ap length (l .segments), length-append (f .segments ++ ss) (l .moreSegments), length-append (f .segments) ss) in
+      λ l. omega (arith, prefix-length (f .segments ++ ss) (g .segments) (l .segments), length-append (f .segments) ss) in
       record {
         made = record {
           above = record { strings = a .strings; contents = a .contents; segments = a .segments; sound = a .sound };
-          later = record {
-            moreStrings = [];
-            moreContents = [];
-            moreSegments = ss;
-            strings = sym (append-nil (f .interner .strings));
-            contents = sym (append-nil (f .contents));
-            segments = refl;
-          };
+          later = record { strings = prefix-refl (f .interner .strings); contents = prefix-refl (f .contents); segments = (ss, refl) };
         };
-        shows = λ l.
-            ap₂ (λ (k : ℕ) (x : List Segment). take (length ss) (drop (k + length (f .segments)) (old .segments ++ x))) (a .segments) (l .segments)
-            ∙ run-behind (old .segments) (f .segments) ss (l .moreSegments);
+        shows = λ l. run-behind (f .segmentOffset) (old .segments) (f .segments) ss (g .segments) (a .segments) (l .segments);
         ok = λ l. rw (a .segments) (numbered .segment (length (f .segments)) (length ss) (sizes l));
         starts = λ l. lt-ltb (f .segmentOffset + length (f .segments)) 4294967296 (omega (arith, a .segments, sizes l, numbered .segments));
         counts = λ l. lt-ltb (length ss) 4294967296 (omega (arith, sizes l, numbered .segments));

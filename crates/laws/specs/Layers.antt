@@ -11,6 +11,7 @@ use lib.Dec.{T, eqb, leb, ltb}
 use borrow.Author.Tests.{eqb-true, leb-true, ltb-true, le-leb, lt-ltb}
 use Rattle.laws.specs.Checks.{id-facts}
 use Rattle.laws.specs.Keep.{all-append-is}
+use Rattle.laws.specs.Prefix.{Prefix}
 use Rattle.laws.specs.Lists.{both, all-take, all-drop, all-append, all-map, join, flatten-append, flatten-snoc, map-append}
 use Rattle.model.specs.Lists.{all, any, sum}
 use Rattle.model.specs.Types.{Body, Content, Segment, Layer, SourceNode, LexOutput}
@@ -28,12 +29,9 @@ use Rattle.laws.specs.Graft.{inner, show-body, withLayer, Above, Numbere
 
 -- st′ has st's pools with more behind them
 pub record More (st st′ : NodeStore) : Type 0 where
-  pub moreStrings : List (List ℕ)
-  pub moreContents : List Content
-  pub moreSegments : List Segment
-  pub strings : st′ .strings ≡ st .strings ++ moreStrings
-  pub contents : st′ .contents ≡ st .contents ++ moreContents
-  pub segments : st′ .segments ≡ st .segments ++ moreSegments
+  pub strings : Prefix (st .strings) (st′ .strings)
+  pub contents : Prefix (st .contents) (st′ .contents)
+  pub segments : Prefix (st .segments) (st′ .segments)
 
 -- ---- a pool runs through the layers
 
@@ -70,23 +68,23 @@ module _ (ls : List Layer) (st′ : NodeStore) (m : More (storeOf ls) st′) whe
   str-same : (id : ℕ) → idOk (stringCounts ls) id ≡ true → resolveStr st′ id ≡ resolveStr (storeOf ls) id
   unfolding resolveStr idOk
   str-same id h =
-      ap (λ (l : List (List ℕ)). getD l id []) (m .strings)
-      ∙ List·getD-append (storeOf ls .strings) (m .moreStrings) [] id (omega (arith, ltb-true id (sum (stringCounts ls)) h, string-count ls))
+      ap (λ (l : List (List ℕ)). getD l id []) (m .strings .1)
+      ∙ List·getD-append (storeOf ls .strings) (m .strings .0) [] id (omega (arith, ltb-true id (sum (stringCounts ls)) h, string-count ls))
 
-  run-same : {A : Type 0} (counts : List ℕ) (start len : ℕ) (l more l′ : List A) → rangeOk counts start len ≡ true → sum counts ≡ length l → l′ ≡ l ++ more → take len (drop start l′) ≡ take len (drop start l)
+  run-same : {A : Type 0} (counts : List ℕ) (start len : ℕ) (l l′ : List A) → rangeOk counts start len ≡ true → sum counts ≡ length l → Prefix l l′ → take len (drop start l′) ≡ take len (drop start l)
   unfolding rangeOk
-  run-same counts start len l more l′ h n e =
+  run-same counts start len l l′ h n e =
       let i = leb-true (start + len) (sum counts) (both (leb (start + len) (sum counts)) _ h .0) in
       let d = length-drop start l in
-      ap (λ x. take len (drop start x)) e ∙ ap (take len) (drop-append-le start l more (omega arith)) ∙ take-append-le len (drop start l) more (omega arith)
+      ap (λ x. take len (drop start x)) (e .1) ∙ ap (take len) (drop-append-le start l (e .0) (omega arith)) ∙ take-append-le len (drop start l) (e .0) (omega arith)
 
   contents-same : (start len : ℕ) → rangeOk (contentCounts ls) start len ≡ true → resolveContentRange st′ start len ≡ resolveContentRange (storeOf ls) start len
   unfolding resolveContentRange
-  contents-same start len h = run-same (contentCounts ls) start len (storeOf ls .contents) (m .moreContents) (st′ .contents) h (content-count ls) (m .contents)
+  contents-same start len h = run-same (contentCounts ls) start len (storeOf ls .contents) (st′ .contents) h (content-count ls) (m .contents)
 
   segments-same : (start len : ℕ) → rangeOk (segmentCounts ls) start len ≡ true → resolveSegRange st′ start len ≡ resolveSegRange (storeOf ls) start len
   unfolding resolveSegRange
-  segments-same start len h = run-same (segmentCounts ls) start len (storeOf ls .segments) (m .moreSegments) (st′ .segments) h (segment-count ls) (m .segments)
+  segments-same start len h = run-same (segmentCounts ls) start len (storeOf ls .segments) (st′ .segments) h (segment-count ls) (m .segments)
 
   -- the pools' own ids and ranges are right: number 4, list by list
   module _ (contentsOk : all (contentOk ls) (storeOf ls .contents) ≡ true) (segmentsOk : all (segmentOk ls) (storeOf ls .segments) ≡ true) where
@@ -179,12 +177,9 @@ module _ (ls : List Layer) (st′ : NodeStore) (m : More (storeOf ls) st′) whe
 pub more-layers : (ls more : List Layer) → More (storeOf ls) (storeOf (ls ++ more))
 unfolding storeOf
 more-layers ls more = record {
-  moreStrings = storeOf more .strings;
-  moreContents = storeOf more .contents;
-  moreSegments = storeOf more .segments;
-  strings = pool-append (λ (l : Layer). l .strings) ls more;
-  contents = pool-append (λ (l : Layer). l .contents) ls more;
-  segments = pool-append (λ (l : Layer). l .segments) ls more;
+  strings = (storeOf more .strings, pool-append (λ (l : Layer). l .strings) ls more);
+  contents = (storeOf more .contents, pool-append (λ (l : Layer). l .contents) ls more);
+  segments = (storeOf more .segments, pool-append (λ (l : Layer). l .segments) ls more);
 }
 
 -- number 4's test, of the pools

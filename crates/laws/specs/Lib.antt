@@ -15,6 +15,7 @@ pub mod Utf8
 pub mod Sort
 pub mod Located
 pub mod Nodes
+pub mod Prefix
 pub mod Intern
 pub mod Graft
 pub mod Levels
