@@ -1,33 +1,33 @@
 -- A merged book is a book again: its numbers fit their places on a tape, and it passes 1 to 7. Section 4.
-use mathlib.Core.Path.{_≡_, refl, sym, ap, ap₂, _∙_, subst}
-use Prim.Native.Nat.{ℕ, zero, suc, _+_, _≤_, _<_}
+use mathlib.Core.Path.{_≡_, refl, ap, _∙_}
+use Prim.Native.Nat.{ℕ, _+_, _≤_}
 use native.Mathlib.Omega.{arith}
-use mathlib.Core.Bool.{Bool, true, false, cond, not, _&&_, false≢true}
+use mathlib.Core.Bool.{Bool, true, false, cond, not, _&&_}
 use mathlib.Core.List.{List, [], _∷_, _++_, map}
 use lib.ListN.{length}
 use lib.IntN.{ℤ, pos}
-use lib.Dec.{leb, ltb}
+use lib.Dec.{ltb}
 use borrow.Author.Tests.{ltb-true, lt-ltb}
 use Rattle.model.specs.Lists.{all, isEmpty}
 use Rattle.model.specs.Limits.{maxText}
 use Rattle.model.specs.Utf8.{utf8, isCharBoundary}
-use Rattle.model.specs.Offset.{Span, shifted, shiftClamp}
-use Rattle.model.specs.Types.{Body, Layer, SourceNode, PairLink, ContainerPair, Diagnostic, LexOutput, RegionOutput}
+use Rattle.model.specs.Offset.{Span, shifted}
+use Rattle.model.specs.Types.{Layer, SourceNode, PairLink, ContainerPair, Diagnostic, LexOutput, RegionOutput}
 use Rattle.model.specs.Refusal.{Checked.accepted}
 use Rattle.model.specs.Tape.{bodyOperands, bodyValues, nodeCodec, pairCodec, containerCodec, diagnosticCodec, nodeFields, nodeShape, pairShape, diagnosticShape}
 use Rattle.model.specs.WellFormed.{textsAreUtf8, nodeOk, idsOk, levelsOk, containerOk, checkBook}
 use Rattle.model.specs.Graft.{layerOf}
 use Rattle.model.specs.Region.{Edit, edited}
 use Rattle.model.specs.Merge.{MergeWindow, IncrementalOutput, windowOf, normalizedOffset, movedOffset, cutsOk, spliced, nodeLocated, shiftedPair, pairLocated, containerLocated, shiftedDiagnostic, diagnosticLocated, mergedNormalized, grafted, mergedLayers, mergedBook, storedBook, answer}
-use Rattle.laws.specs.Lists.{both, join, all-and, all-map}
-use Rattle.laws.specs.Checks.{WellFormed, checked-again, Utf8Facts, utf8-facts, LimitFacts, id-facts, mergedOf}
+use Rattle.laws.specs.Lists.{both, all-and}
+use Rattle.laws.specs.Checks.{WellFormed, checked-again, utf8-facts, id-facts, mergedOf}
 use Rattle.laws.specs.Fits.{isWord, operandsFit, recordFits, fits}
 use Rattle.laws.specs.WriteRead.{BookFits, book-fits, fits-book, write-read}
 use Rattle.laws.specs.Shift.{shift-small, moved-small}
 use Rattle.laws.specs.Utf8.{splice-utf8}
 use Rattle.laws.specs.Sort.{all-sort}
 use Rattle.laws.specs.Located.{spliced-all}
-use Rattle.laws.specs.Nodes.{Sound, sound-of, container-facts, normal-inside, offsets-small}
+use Rattle.laws.specs.Nodes.{container-facts, normal-inside, offsets-small}
 use Rattle.commute.specs.Outline.{same-outline, outline}
 use Rattle.commute.specs.Merged.{Fit, region-rises}
 use Rattle.commute.specs.Places.{places-ok, sizes-ok}

@@ -2,13 +2,12 @@
 -- edits in must-fail/ ask more than each of them.
 use mathlib.Core.Path.{_≡_, sym, ap, _∙_}
 use Prim.Native.Nat.{ℕ, _+_, _<_}
-use mathlib.Core.List.{List}
 use Rattle.model.specs.Lists.{sum}
-use Rattle.model.specs.Types.{PairLink, ContainerPair, Diagnostic, LexOutput}
+use Rattle.model.specs.Types.{LexOutput}
 use Rattle.model.specs.Refusal.{Checked.accepted}
 use Rattle.model.specs.Store.{stringCounts}
 use Rattle.model.specs.WellFormed.{checkBook}
-use Rattle.model.specs.Tree.{ShownNode, shownNodes}
+use Rattle.model.specs.Tree.{shownNodes}
 use Rattle.model.specs.Merge.{Stored}
 use Rattle.model.specs.Demand3.{Shown, shown, shownString, Correction, StoredBytes, regionBehind, Separate, BothOrders, Commutes, Demand3}
 use Rattle.commute.specs.Demand3.{demand3}

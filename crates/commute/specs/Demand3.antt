@@ -1,24 +1,21 @@
 -- Demand 3, proved: two corrections of separate passages commute. Section 7, its second paragraph.
 use mathlib.Core.Path.{_≡_, refl, sym, ap, ap₂, _∙_, subst}
-use Prim.Native.Nat.{ℕ, zero, suc, _+_, _-_, _≤_, _<_}
+use Prim.Native.Nat.{ℕ, _+_, _≤_, _<_}
 use native.Mathlib.Omega.{arith}
 use native.Mathlib.Nat.{add-comm}
 use mathlib.Core.Bool.{Bool, true, false, cond, false≢true}
 use mathlib.Core.List.{List, [], _∷_, _++_, append-assoc, append-nil}
 use lib.ListN.{length, take, drop, take-append-drop}
-use lib.Dec.{eqb}
 use borrow.Author.Tests.{eq-eqb}
 use Rattle.model.specs.Lists.{isEmpty, same}
 use Rattle.model.specs.Offset.{Span}
 use Rattle.model.specs.Types.{Layer, LexOutput, RegionOutput}
-use Rattle.model.specs.Refusal.{Checked.accepted}
-use Rattle.model.specs.WellFormed.{idsOk, checkBook}
+use Rattle.model.specs.WellFormed.{idsOk}
 use Rattle.model.specs.Graft.{layerOf}
-use Rattle.model.specs.Region.{Edit, edited, balancedRegion, regionStart, regionEnd}
-use Rattle.model.specs.Merge.{Stored, IncrementalOutput, windowOf, grafted, mergedLayers, mergedBook, answer}
-use Rattle.model.specs.Demand3.{Shown, shown, KeptReferences, Correction, StoredBytes, movedBehind, regionBehind, Separate, BothOrders, Commutes, Demand3}
+use Rattle.model.specs.Region.{Edit, edited, balancedRegion}
+use Rattle.model.specs.Merge.{IncrementalOutput, windowOf, grafted, mergedLayers, mergedBook, answer}
+use Rattle.model.specs.Demand3.{shown, KeptReferences, movedBehind, regionBehind, Demand3}
 use Rattle.laws.specs.Checks.{checked-book, checked-reading, Chosen, chosen-facts, merge-accepted, mergedOf}
-use Rattle.laws.specs.Fits.{fits}
 use Rattle.laws.specs.ReadFits.{read-fits}
 use Rattle.laws.specs.Layers.{kept-references}
 use Rattle.commute.specs.Merged.{Fit, same-before, same-behind, length-sum}

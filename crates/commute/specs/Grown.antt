@@ -1,30 +1,27 @@
 -- The layers of a merged book and its grafted nodes pass 1, 2, 4 and 5, and show what old book and reading showed. Sections 4 and 5.
-use mathlib.Core.Path.{_≡_, refl, sym, ap, ap₂, _∙_, subst}
-use Prim.Native.Nat.{ℕ, zero, suc, _+_, _≤_}
+use mathlib.Core.Path.{_≡_, refl, sym, ap, _∙_, subst}
+use Prim.Native.Nat.{ℕ}
 use native.Mathlib.Omega.{arith}
-use mathlib.Core.Bool.{Bool, true, false, cond, not, _&&_, false≢true}
-use mathlib.Core.List.{List, [], _∷_, _++_, map, flatten}
+use mathlib.Core.Bool.{Bool, true, false, cond, _&&_, false≢true}
+use mathlib.Core.List.{List, [], _∷_, _++_, map}
 use lib.ListN.{length}
-use lib.Dec.{ltb}
 use Rattle.model.specs.Lists.{all, isEmpty}
-use Rattle.model.specs.Limits.{noString}
 use Rattle.model.specs.Utf8.{utf8}
 use Rattle.model.specs.Offset.{Span}
-use Rattle.model.specs.Types.{Body, Content, Segment, Layer, SourceNode, PairLink, Diagnostic, LexOutput, RegionOutput}
+use Rattle.model.specs.Types.{Content, Segment, Layer, SourceNode, LexOutput}
 use Rattle.model.specs.Tape.{contentCodec, segmentCodec, nodeCodec, contentShape, segmentShape, nodeShape, pairShape, diagnosticShape, layerShape, bookShape, fieldsOf}
 use Rattle.model.specs.Store.{NodeStore, storeOf}
-use Rattle.model.specs.WellFormed.{contentOk, segmentOk, nodeOk, fieldOk, levelOk, levelsOk}
-use Rattle.model.specs.Tree.{Tree, ShownNode, showWith, showBody, shownNode, shownNodes}
+use Rattle.model.specs.WellFormed.{contentOk, segmentOk, nodeOk, levelOk, levelsOk}
+use Rattle.model.specs.Tree.{showWith, shownNode, shownNodes}
 use Rattle.model.specs.Graft.{NewLayer, layered, layerOf, graftNodeRefs}
 use Rattle.model.specs.Region.{Edit}
 use Rattle.model.specs.Merge.{grafted, mergedLayers, mergedBook}
 use Rattle.laws.specs.Lists.{both, join, all-append, all-and, all-map}
-use Rattle.laws.specs.Keep.{all-map-is}
-use Rattle.laws.specs.Checks.{WellFormed, Utf8Facts, utf8-facts, LimitFacts, IdFacts, id-facts, mergedOf}
+use Rattle.laws.specs.Checks.{WellFormed, utf8-facts, LimitFacts, id-facts, mergedOf}
 use Rattle.laws.specs.Fits.{isWord, recordFits, layerFits, fits}
-use Rattle.laws.specs.WriteRead.{LayerFits, layer-fits, BookFits, book-fits}
-use Rattle.laws.specs.Graft.{goodString, inner, show-body, levelFrom, level-shown, withLayer, Later, later-refl, Numbered, Pools, goodContent, goodSegment}
-use Rattle.laws.specs.Levels.{good, NodesGood, nodes-grafted}
+use Rattle.laws.specs.WriteRead.{layer-fits, BookFits, book-fits}
+use Rattle.laws.specs.Graft.{goodString, inner, show-body, levelFrom, level-shown, withLayer, later-refl, Numbered, Pools, goodContent, goodSegment}
+use Rattle.laws.specs.Levels.{good, nodes-grafted}
 use Rattle.laws.specs.Layers.{pool-all, More, more-layers, show-same, show-node-same, ids-pools, content-more, segment-more, node-more, fresh-above, store-with, numbered-with}
 
 -- ---- shapes

@@ -1,29 +1,29 @@
 -- One accepted merge, as numbers: where each element of the merged lists lies, and that section 6's safe cuts up to the region's
 -- start and behind its end are those of the old book.
 use mathlib.Core.Path.{_≡_, refl, sym, ap, ap₂, _∙_}
-use Prim.Native.Nat.{ℕ, zero, suc, _+_, _-_, _≤_, _<_}
+use Prim.Native.Nat.{ℕ, suc, _+_, _-_, _≤_, _<_}
 use native.Mathlib.Omega.{arith}
-use mathlib.Core.Bool.{Bool, true, false, cond, not, _&&_, _||_, false≢true}
-use mathlib.Core.List.{List, [], _∷_, _++_, append-assoc, append-nil, map}
+use mathlib.Core.Bool.{Bool, true, false, not, _&&_}
+use mathlib.Core.List.{List, _++_, map}
 use lib.ListN.{length, getD, take, drop, List·getD-append}
 use lib.Seq.{length-take-le, getD-take, getD-drop}
-use lib.IntN.{ℤ, pos, subℕ}
-use lib.Dec.{leb, ltb, eqb}
-use borrow.Author.Tests.{leb-true, leb-false, ltb-true, ltb-false, not-true, le-leb, lt-leb, le-ltb, lt-ltb}
-use Rattle.model.specs.Lists.{all, any, keep}
+use lib.IntN.{pos}
+use lib.Dec.{ltb, eqb}
+use borrow.Author.Tests.{leb-true, ltb-true, ltb-false, not-true, le-ltb, lt-ltb}
+use Rattle.model.specs.Lists.{any, keep}
 use Rattle.model.specs.Limits.{maxText}
 use Rattle.model.specs.Offset.{Span, shiftClamp, shifted}
-use Rattle.model.specs.Types.{SourceNode, PairLink, ContainerPair, Diagnostic, LexOutput, RegionOutput}
+use Rattle.model.specs.Types.{SourceNode, PairLink, Diagnostic, LexOutput, RegionOutput}
 use Rattle.model.specs.WellFormed.{spanOk, pairOk, containerOk}
-use Rattle.model.specs.Region.{Edit, edited, behindEdit, across, depth, isBlockOpen, isBlockClose, isWarichuOpen, isWarichuClose, nodesBefore, nodesAllowCut, pairsAllowCut}
+use Rattle.model.specs.Region.{Edit, edited, behindEdit, depth, isBlockOpen, isBlockClose, isWarichuOpen, isWarichuClose, nodesBefore, nodesAllowCut, pairsAllowCut}
 use Rattle.model.specs.Merge.{MergeWindow, changeInLength, windowOf, normalizedOffset, movedOffset, Located, keptBefore, keptBehind, spliced, nodeLocated, shiftedPair, pairLocated, containerLocated, shiftedDiagnostic, diagnosticLocated, balancedNodes, grafted, mergedBook}
-use Rattle.laws.specs.Lists.{both, all-and}
+use Rattle.laws.specs.Lists.{both}
 use Rattle.laws.specs.Keep.{keep-append, keep-all, all-kept, any-all, same-le}
 use Rattle.laws.specs.Checks.{mergedOf}
 use Rattle.laws.specs.Shift.{shift-up, shift-by, offset-by}
 use Rattle.laws.specs.Splice.{splice, splice-length, drop-splice-rest}
 use Rattle.laws.specs.Located.{startOf, endOf, Carried, keep-front, keep-rest, across-front, across-rest}
-use Rattle.laws.specs.Nodes.{Sound, span-facts, PairFacts, pair-facts, container-facts, endsBy, startsAt, nodeIn, acrossNode, SafeCut, before-split, split, normal-rises, depth-append, depth-map}
+use Rattle.laws.specs.Nodes.{Sound, span-facts, pair-facts, container-facts, endsBy, startsAt, nodeIn, acrossNode, SafeCut, before-split, split, normal-rises, depth-append, depth-map}
 use Rattle.commute.specs.Cut.{SameBefore, SameBehind}
 use Rattle.commute.specs.Outline.{GraftedNodes, grafted-nodes}
 

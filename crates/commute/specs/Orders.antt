@@ -1,18 +1,18 @@
 -- Two corrections of one book with separate regions, E the earlier-lying and L the later-lying: the two orders give equal
 -- texts, pairs, containers, diagnostics and shown nodes. Section 7.
 use mathlib.Core.Path.{_≡_, refl, sym, ap, ap₂, _∙_}
-use Prim.Native.Nat.{ℕ, zero, suc, _+_, _-_, _≤_, _<_}
+use Prim.Native.Nat.{ℕ, _+_, _-_, _≤_, _<_}
 use native.Mathlib.Omega.{arith}
 use mathlib.Core.Bool.{Bool, true, false, not, _&&_, _||_}
-use mathlib.Core.List.{List, [], _∷_, _++_, map}
+use mathlib.Core.List.{List, map}
 use lib.ListN.{length}
-use lib.IntN.{ℤ, pos, subℕ}
+use lib.IntN.{pos}
 use lib.Dec.{leb, ltb}
 use borrow.Author.Tests.{leb-true, ltb-true, le-leb}
-use Rattle.model.specs.Lists.{all, keep}
+use Rattle.model.specs.Lists.{all}
 use Rattle.model.specs.Limits.{maxText}
 use Rattle.model.specs.Offset.{Span, shiftClamp, shifted}
-use Rattle.model.specs.Types.{SourceNode, PairLink, ContainerPair, Diagnostic, LexOutput, RegionOutput}
+use Rattle.model.specs.Types.{PairLink, ContainerPair, Diagnostic, LexOutput, RegionOutput}
 use Rattle.model.specs.WellFormed.{spanOk, pairOk, containerOk}
 use Rattle.model.specs.Store.{storeOf}
 use Rattle.model.specs.Tree.{ShownNode, shownNode, shownNodes}
@@ -24,8 +24,8 @@ use Rattle.laws.specs.Keep.{all-map-is, all-if}
 use Rattle.laws.specs.Checks.{mergedOf}
 use Rattle.laws.specs.Splice.{splice-comm}
 use Rattle.laws.specs.Sort.{sort-first, all-unsorted, not-behind-moved}
-use Rattle.laws.specs.Located.{Carried, two-orders}
-use Rattle.laws.specs.Nodes.{Sound, span-facts, PairFacts, pair-facts, container-facts, startsAt, nodeIn, normal-rises, normal-inside, offsets-behind, offsets-small}
+use Rattle.laws.specs.Located.{two-orders}
+use Rattle.laws.specs.Nodes.{span-facts, pair-facts, container-facts, startsAt, nodeIn, normal-rises, normal-inside, offsets-behind, offsets-small}
 use Rattle.commute.specs.Merged.{Fit, p, q, region-rises, moved-sum, size-sum, placed-number, length-sum, behind-sum, normal-region-rises, offset-sum, source-carried, pairs-carried, diagnostics-carried, containers-carried}
 use Rattle.commute.specs.Places.{normal-before, normal-moves}
 use Rattle.commute.specs.Step.{Step}

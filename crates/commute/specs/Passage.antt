@@ -1,16 +1,15 @@
 -- Same passage: the earlier edit's region is found again after the later correction, and the later edit's region is the old one moved after
 -- the earlier correction. Number 12 of the second merge fixes a region's length. Section 7.
-use mathlib.Core.Path.{_≡_, refl, sym, ap, ap₂, _∙_}
+use mathlib.Core.Path.{_≡_, refl, sym, _∙_}
 use Prim.Native.Nat.{ℕ, zero, suc, _+_, _-_, _≤_, _<_}
 use native.Mathlib.Omega.{arith}
-use mathlib.Core.Bool.{Bool, true, false, cond, not, _&&_, _||_, false≢true}
-use mathlib.Core.List.{List, [], _∷_, _++_}
-use lib.ListN.{length, getD}
-use lib.Dec.{leb, ltb, eqb}
-use borrow.Author.Tests.{eqb-true, eqb-false, eq-eqb, ne-eqb}
+use mathlib.Core.Bool.{Bool, true, false}
+use lib.ListN.{length}
+use lib.Dec.{eqb}
+use borrow.Author.Tests.{eqb-true, eqb-false}
 use Rattle.model.specs.Offset.{Span}
-use Rattle.model.specs.Types.{LexOutput, RegionOutput}
-use Rattle.model.specs.Region.{Edit, edited, behindEdit, newlineAt, safeCut, regionStart, regionEnd, balancedRegion}
+use Rattle.model.specs.Types.{LexOutput}
+use Rattle.model.specs.Region.{Edit, behindEdit, newlineAt, safeCut, regionStart, regionEnd, balancedRegion}
 use Rattle.model.specs.Demand3.{movedBehind, regionBehind}
 use Rattle.commute.specs.Cut.{SameBefore, SameBehind, start-le, start-safe, end-bounds, end-safe, start-before, end-behind, length-safe}
 

@@ -1,29 +1,28 @@
 -- A merged book passes 6 and 7: its spans, its order, its nodes' offsets and its normalized length. And where its cuts lie in
 -- its normalized text.
-use mathlib.Core.Path.{_≡_, refl, sym, ap, ap₂, _∙_}
-use Prim.Native.Nat.{ℕ, zero, suc, _+_, _-_, _≤_, _<_}
+use mathlib.Core.Path.{_≡_, refl, ap, ap₂, _∙_}
+use Prim.Native.Nat.{ℕ, _+_, _≤_}
 use native.Mathlib.Omega.{arith}
-use mathlib.Core.Bool.{Bool, true, false, not, _&&_}
-use mathlib.Core.List.{List, [], _∷_, _++_, map}
+use mathlib.Core.Bool.{Bool, true, _&&_}
+use mathlib.Core.List.{List, _++_, map}
 use lib.ListN.{length}
-use lib.Dec.{leb, ltb, eqb}
+use lib.Dec.{leb, ltb}
 use borrow.Author.Tests.{leb-true, ltb-true, le-leb, lt-leb, eq-eqb}
 use Rattle.model.specs.Lists.{all, keep}
-use Rattle.model.specs.Limits.{maxText}
 use Rattle.model.specs.Offset.{Span, shifted}
-use Rattle.model.specs.Types.{SourceNode, PairLink, ContainerPair, Diagnostic, LexOutput, RegionOutput}
+use Rattle.model.specs.Types.{SourceNode, PairLink, Diagnostic, LexOutput, RegionOutput}
 use Rattle.model.specs.WellFormed.{spanOk, ordered, offsetsOk, standalonePadding, imageLength, pairOk, containerOk, placesOk, images, spans, normalizedLengthOk}
-use Rattle.model.specs.Region.{Edit, edited, behindEdit}
-use Rattle.model.specs.Merge.{MergeWindow, windowOf, normalizedOffset, Located, keptBefore, keptBehind, spliced, nodeLocated, shiftedPair, pairLocated, containerLocated, shiftedDiagnostic, diagnosticLocated, mergedNormalized, grafted, mergedBook}
-use Rattle.laws.specs.Lists.{both, join, all-and, all-keep, all-map, all-append}
+use Rattle.model.specs.Region.{Edit}
+use Rattle.model.specs.Merge.{MergeWindow, windowOf, normalizedOffset, keptBefore, keptBehind, spliced, nodeLocated, shiftedPair, pairLocated, containerLocated, diagnosticLocated, mergedNormalized, grafted, mergedBook}
+use Rattle.laws.specs.Lists.{both, join, all-and, all-keep, all-map}
 use Rattle.laws.specs.Keep.{all-keep-self, all-map-is, all-true, same-le}
 use Rattle.laws.specs.Checks.{mergedOf}
 use Rattle.laws.specs.Splice.{splice-length}
 use Rattle.laws.specs.Sort.{all-sort}
 use Rattle.laws.specs.Located.{spliced-all, keep-front, keep-rest}
-use Rattle.laws.specs.Nodes.{Sound, span-facts, span-ok, PairFacts, pair-facts, pair-ok, container-facts, container-ok, endsBy, startsAt, nodeIn, images-append, spans-append, ordered-keep, ordered-join, normal-sum, offsets-append, split, behind-ordered, offsets-split, normal-at, normal-behind, normal-inside, offsets-behind, offsets-small, NodeShift, shift-spans, shift-images, shift-ordered, shift-offsets}
+use Rattle.laws.specs.Nodes.{Sound, span-facts, span-ok, pair-facts, pair-ok, container-facts, container-ok, endsBy, startsAt, nodeIn, images-append, spans-append, ordered-keep, ordered-join, normal-sum, offsets-append, split, behind-ordered, offsets-split, normal-at, normal-behind, normal-inside, offsets-behind, offsets-small, NodeShift, shift-spans, shift-images, shift-ordered, shift-offsets}
 use Rattle.commute.specs.Outline.{GraftedNodes, grafted-nodes}
-use Rattle.commute.specs.Merged.{Fit, w, p, q, startN, endN, region-rises, moved-sum, size-sum, placed-number, length-sum, behind-sum, normal-region-rises, offset-sum, nodes-carried, diagnostics-carried, containers-carried}
+use Rattle.commute.specs.Merged.{Fit, p, q, startN, endN, moved-sum, size-sum, placed-number, length-sum, normal-region-rises, offset-sum, nodes-carried, diagnostics-carried, containers-carried}
 
 module _ (old : LexOutput) (e : Edit) (reading : RegionOutput) (r : Span) (f : Fit old e reading r) where
   abbrev new : LexOutput

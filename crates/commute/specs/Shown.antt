@@ -17,7 +17,7 @@ use Rattle.laws.specs.Lists.{all-keep, map-append}
 use Rattle.laws.specs.Keep.{keep-map, map-map, map-same}
 use Rattle.laws.specs.Checks.{id-facts, mergedOf}
 use Rattle.laws.specs.Located.{isBefore, isBehind}
-use Rattle.commute.specs.Grown.{Grown, grown}
+use Rattle.commute.specs.Grown.{grown}
 use Rattle.commute.specs.Step.{Step, limits}
 
 -- as `nodeLocated`

@@ -1,15 +1,15 @@
 -- What is grafted shows the tree it was made of and passes numbers 1, 2, 4 and 5, in every later state g of its layer. One
 -- induction over trees.
 use mathlib.Core.Path.{_≡_, refl, sym, ap, ap₂, _∙_, subst}
-use Prim.Native.Nat.{ℕ, zero, suc, _+_, _-_, _%_, _≤_, _<_}
+use Prim.Native.Nat.{ℕ, zero, suc, _+_, _%_, _≤_, _<_}
 use native.Mathlib.Omega.{arith}
 use native.Mathlib.Nat.{add-zero, zero-add}
 use mathlib.Core.Bool.{Bool, true, false, cond, not, _&&_, _||_, false≢true}
-use mathlib.Core.List.{List, [], _∷_, _++_, append-assoc, append-nil, map, flatten}
+use mathlib.Core.List.{List, [], _∷_, _++_, append-assoc, map, flatten}
 use lib.ListN.{length, getD, set, take, drop, replicate, length-append, length-set, List·getD-append}
 use lib.Seq.{getD-append-add, drop-append-add, drop-append-seam, take-append-seam, getD-set-same, getD-set-other}
 use lib.Dec.{eqb, ltb, leb}
-use borrow.Author.Tests.{eqb-true, eqb-false, ltb-true, lt-ltb, not-true, ne-eqb, eq-eqb}
+use borrow.Author.Tests.{eqb-false, ltb-true, lt-ltb, not-true, ne-eqb, eq-eqb}
 use Rattle.model.specs.Lists.{all, any}
 use Rattle.model.specs.Limits.{noString, maxLevel}
 use Rattle.model.specs.Utf8.{utf8}

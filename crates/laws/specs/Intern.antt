@@ -1,17 +1,17 @@
 -- An interned id shows its string, and every later state of the layer still shows it. Assumes nothing.
-use mathlib.Core.Path.{_≡_, refl, sym, ap, ap₂, _∙_, subst, subst⁻¹}
+use mathlib.Core.Path.{_≡_, refl, sym, ap, _∙_}
 use mathlib.Core.Logic.{_⊎_, inl, inr}
 use Prim.Native.Nat.{ℕ, zero, suc, _+_, _-_, _*_, _%_, _≤_, _<_, zero-le}
 use native.Mathlib.Omega.{arith}
-use mathlib.Core.Bool.{Bool, true, false, cond, not, _&&_, false≢true}
-use mathlib.Core.List.{List, [], _∷_, _++_, append-assoc, append-nil}
-use lib.ListN.{length, getD, set, replicate, length-append, List·getD-append}
+use mathlib.Core.Bool.{Bool, true, false, cond, false≢true}
+use mathlib.Core.List.{List, [], _∷_, _++_, append-nil}
+use lib.ListN.{length, getD, set, replicate, length-append}
 use lib.Seq.{getD-append-seam}
-use lib.Dec.{eqb, leb, ltb}
+use lib.Dec.{eqb, ltb}
 use borrow.Author.Tests.{eqb-true, eqb-false}
 use Rattle.laws.specs.Lists.{join}
 use Rattle.laws.specs.Checks.{same-eq}
-use Rattle.model.specs.Lists.{all, same, isEmpty}
+use Rattle.model.specs.Lists.{all, isEmpty}
 use Rattle.model.specs.Limits.{internLengthLimit, initialCapacity}
 use Rattle.model.specs.Intern.{fxHash, StrInterner, Interned, Probe, freshInterner, holds, probe, emptySlot, moveSlots, grows, tableFor, cacheHit, bypass, tableHit, tableAlloc, tableCall, intern}
 

@@ -1,11 +1,11 @@
 -- Laws of `keep`, `map`, `all` and `any` beside a test `ok` that every element passes; and two tests of numbers that agree.
-use mathlib.Core.Path.{_≡_, refl, sym, ap, ap₂, _∙_, subst}
-use Prim.Native.Nat.{ℕ, zero, suc, _+_, _≤_, _<_}
+use mathlib.Core.Path.{_≡_, refl, sym, ap, ap₂, _∙_}
+use Prim.Native.Nat.{ℕ, zero, suc, _≤_, _<_}
 use lib.ListN.{getD, set}
 use lib.Dec.{leb}
 use borrow.Author.Tests.{leb-true, leb-false, le-leb, lt-leb}
 use mathlib.Core.Bool.{Bool, true, false, cond, not, _&&_, _||_, false≢true}
-use mathlib.Core.List.{List, [], _∷_, _++_, append-assoc, append-nil, map}
+use mathlib.Core.List.{List, [], _∷_, _++_, map}
 use Rattle.model.specs.Lists.{all, any, keep, isEmpty}
 use Rattle.laws.specs.Lists.{both, join, neither, all-and, all-keep}
 

@@ -1,31 +1,31 @@
 -- A layer on top changes nothing below: ids and ranges of the layers below stay right and show what they showed. And how the
 -- layers number what a new one holds.
 use mathlib.Core.Path.{_≡_, refl, sym, ap, ap₂, _∙_, subst}
-use Prim.Native.Nat.{ℕ, zero, suc, _+_, _-_, _≤_, _<_}
+use Prim.Native.Nat.{ℕ, zero, suc, _+_, _≤_}
 use native.Mathlib.Omega.{arith}
-use mathlib.Core.Bool.{Bool, true, false, cond, not, _&&_, _||_, false≢true}
-use mathlib.Core.List.{List, [], _∷_, _++_, append-assoc, append-nil, map, flatten}
+use mathlib.Core.Bool.{Bool, true, false, cond, _&&_, _||_, false≢true}
+use mathlib.Core.List.{List, [], _∷_, _++_, map, flatten}
 use lib.ListN.{length, getD, take, drop, length-append, length-drop, List·getD-append}
 use lib.Seq.{drop-append-le, take-append-le}
-use lib.Dec.{T, eqb, leb, ltb}
-use borrow.Author.Tests.{eqb-true, leb-true, ltb-true, le-leb, lt-ltb}
+use lib.Dec.{eqb, leb}
+use borrow.Author.Tests.{leb-true, ltb-true, le-leb, lt-ltb}
 use Rattle.laws.specs.Checks.{id-facts}
 use Rattle.laws.specs.Keep.{all-append-is}
 use Rattle.laws.specs.Prefix.{Prefix}
-use Rattle.laws.specs.Lists.{both, all-take, all-drop, all-append, all-map, join, flatten-append, flatten-snoc, map-append}
-use Rattle.model.specs.Lists.{all, any, sum}
+use Rattle.laws.specs.Lists.{both, all-take, all-drop, all-map, join, flatten-append, flatten-snoc, map-append}
+use Rattle.model.specs.Lists.{all, sum}
 use Rattle.model.specs.Types.{Body, Content, Segment, Layer, SourceNode, LexOutput}
 use Rattle.model.specs.Limits.{noString, maxLevel}
 use Rattle.model.specs.Tape.{Field, Field.str, Field.optStr, Field.contentRange, Field.segRange, fieldsOf, nodeFields}
 use Rattle.model.specs.Store.{NodeStore, storeOf, stringCounts, contentCounts, segmentCounts, inOneLayer, rangeOk, idOk, resolveStr, resolveContentRange, resolveSegRange}
 use Rattle.model.specs.WellFormed.{wordOf, fieldOk, contentOk, segmentOk, nodeOk, idsOk}
 use Rattle.model.specs.Tree.{Tree, Tree.tree, Fields, Fields.done, Fields.text, Fields.absent, Fields.contents, Fields.segments}
-use Rattle.model.specs.Tree.{Contents, Contents.noContent, Contents.plain, Contents.segmented, Segments, Segments.noSegment, Segments.segment}
+use Rattle.model.specs.Tree.{Contents, Contents.plain, Contents.segmented, Segments, Segments.segment}
 use Rattle.model.specs.Tree.{showSegments, showContents, showFields, showWith, showBody, showNode}
 use Rattle.model.specs.Demand3.{KeptReferences, shownString, shownContents, shownSegments}
 use Rattle.model.specs.Graft.{NewLayer, layered, layerOf}
 use Rattle.laws.specs.Intern.{fresh-sound}
-use Rattle.laws.specs.Graft.{inner, show-body, withLayer, Above, Numbered}
+use Rattle.laws.specs.Graft.{withLayer, Above, Numbered}
 
 -- st′ has st's pools with more behind them
 pub record More (st st′ : NodeStore) : Type 0 where

@@ -2,28 +2,28 @@
 -- in every later state of the new layer, what it showed in the reading, and passes.
 use mathlib.Core.Path.{_≡_, refl, sym, ap, ap₂, _∙_, subst}
 use mathlib.Core.Logic.{_⊎_, inl, inr}
-use Prim.Native.Nat.{ℕ, zero, suc, _+_, _-_, _≤_, _<_}
+use Prim.Native.Nat.{ℕ, zero, suc, _+_, _≤_}
 use native.Mathlib.Omega.{arith}
-use mathlib.Core.Bool.{Bool, true, false, cond, not, _&&_, _||_, false≢true}
+use mathlib.Core.Bool.{Bool, true, false, cond, _&&_, _||_, false≢true}
 use mathlib.Core.List.{List, [], _∷_, _++_, map, flatten}
-use lib.ListN.{length, getD, take, drop, replicate}
+use lib.ListN.{getD, drop, replicate}
 use lib.Dec.{eqb, leb, ltb}
-use borrow.Author.Tests.{eqb-true, ne-eqb, leb-true, ltb-true, lt-ltb, le-ltb}
-use Rattle.model.specs.Lists.{all, any}
+use borrow.Author.Tests.{eqb-true, ne-eqb, leb-true, ltb-true, lt-ltb}
+use Rattle.model.specs.Lists.{all}
 use Rattle.model.specs.Limits.{noString, maxLevel}
 use Rattle.model.specs.Utf8.{utf8, utf8From, isBetween}
-use Rattle.model.specs.Types.{Body, Content, Segment, Layer, SourceNode, LexOutput}
+use Rattle.model.specs.Types.{Body, Content, Segment, Layer, SourceNode}
 use Rattle.model.specs.Tape.{Operand, Operand.byte, Operand.word, Field, Field.str, Field.optStr, Field.contentRange, Field.segRange, segmentCodec, nodeCodec, fieldTable, fieldsOf, nodeFields, tagCounts, unusedZero, bodyShape, segmentShape, nodeShape}
 use Rattle.model.specs.Store.{NodeStore, resolveStr, resolveContentRange, resolveSegRange}
 use Rattle.model.specs.WellFormed.{wordOf, contentSegments, fieldSegments, levelOk, nodeOk}
-use Rattle.model.specs.Tree.{Tree, Tree.tree, Fields, Fields.done, Fields.text, Fields.absent, Fields.contents, Fields.segments}
-use Rattle.model.specs.Tree.{Contents, Contents.noContent, Contents.plain, Contents.segmented, Segments, Segments.noSegment, Segments.segment}
-use Rattle.model.specs.Tree.{showSegments, showContents, showFields, showWith, showBody, showNode, ShownNode, shownNode}
+use Rattle.model.specs.Tree.{Tree, Fields.text, Fields.absent, Fields.segments}
+use Rattle.model.specs.Tree.{Contents.plain, Contents.segmented}
+use Rattle.model.specs.Tree.{showSegments, showContents, showFields, showWith, showNode, ShownNode, shownNode}
 use Rattle.model.specs.Graft.{NewLayer, graftNode, graftFields, graftNodeRef, graftNodeRefs}
-use Rattle.laws.specs.Lists.{both, join, either, all-take, all-drop, all-append, all-left, all-right, all-map}
+use Rattle.laws.specs.Lists.{both, join, all-take, all-drop, all-append, all-left, all-right, all-map}
 use Rattle.laws.specs.Keep.{all-get, and-false}
 use Rattle.laws.specs.Fits.{operandsFit, recordFits}
-use Rattle.laws.specs.Graft.{inner, show-body, TreeOf, FieldsOf, ContentsOf, SegmentsOf, distinct, table-distinct, withLayer, Above, Later, later-refl, later-trans, Made, made-trans, Numbered, Pools, goodString, tagKind, segmentHead, sixWords, segmentFrom, level-shown, operands-append, operands-left, FieldsMade, FieldsGood, graft-fields, six-fit, unused-kept}
+use Rattle.laws.specs.Graft.{inner, show-body, TreeOf, FieldsOf, ContentsOf, SegmentsOf, distinct, table-distinct, withLayer, Above, Later, later-refl, later-trans, Made, made-trans, Numbered, Pools, goodString, tagKind, segmentHead, sixWords, segmentFrom, level-shown, operands-append, operands-left, graft-fields, six-fit, unused-kept}
 
 -- a node with other words that fit
 node-fits : (n : SourceNode) (ws : List ℕ) → operandsFit sixWords ws ≡ true → recordFits nodeCodec n ≡ true

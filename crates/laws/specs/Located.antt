@@ -1,16 +1,16 @@
 -- Section 7's splice, for every kind of list at once: what a merge keeps, places and moves, beside a cut and in the two orders
 -- of two merges.
 use mathlib.Core.Path.{_≡_, refl, sym, ap, ap₂, _∙_}
-use Prim.Native.Nat.{ℕ, zero, suc, _+_, _≤_, _<_}
+use Prim.Native.Nat.{ℕ, suc, _+_, _≤_, _<_}
 use native.Mathlib.Omega.{arith}
-use mathlib.Core.Bool.{Bool, true, false, cond, not, _&&_, _||_, false≢true}
+use mathlib.Core.Bool.{Bool, true, false, not, _&&_}
 use mathlib.Core.List.{List, [], _∷_, _++_, append-assoc, append-nil, map}
 use lib.Dec.{leb, ltb}
 use borrow.Author.Tests.{leb-true, leb-false, ltb-true, ltb-false, le-leb, lt-leb, le-ltb, lt-ltb, not-true}
 use Rattle.model.specs.Lists.{all, any, keep, isEmpty}
 use Rattle.model.specs.Region.{across}
 use Rattle.model.specs.Merge.{MergeWindow, Located, keptBefore, keptBehind, spliced}
-use Rattle.laws.specs.Lists.{both, join, all-append, all-and, all-map, map-append}
+use Rattle.laws.specs.Lists.{both, all-append, all-map, map-append}
 use Rattle.laws.specs.Keep.{keep-append, keep-map, keep-same, keep-none, keep-all, keep-keep, keep-comm, map-same, map-map, all-kept, all-map-is, any-is, any-all, same-le, and-false}
 
 abbrev pub startOf : {A : Type 0} → Located A → A → ℕ

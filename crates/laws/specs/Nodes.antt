@@ -1,25 +1,24 @@
 -- The nodes of one book around a cut: those that end by it, those that start at it or behind, and their places in the normalized
 -- text. Numbers 3, 6 and 7 as facts, and sections 4 and 6.
 use mathlib.Core.Path.{_≡_, refl, sym, ap, ap₂, _∙_}
-use mathlib.Core.Logic.{_⊎_, inl, inr}
-use Prim.Native.Nat.{ℕ, zero, suc, _+_, _-_, _≤_, _<_}
+use Prim.Native.Nat.{ℕ, _+_, _-_, _≤_, _<_}
 use native.Mathlib.Omega.{arith}
 use native.Mathlib.Nat.{add-zero, zero-add, add-assoc}
-use mathlib.Core.Bool.{Bool, true, false, cond, not, _&&_, _||_, false≢true}
-use mathlib.Core.List.{List, [], _∷_, _++_, append-nil, map}
+use mathlib.Core.Bool.{Bool, true, false, cond, not, _&&_, _||_}
+use mathlib.Core.List.{List, [], _∷_, _++_, map}
 use lib.ListN.{length}
 use lib.Dec.{leb, ltb, eqb}
-use borrow.Author.Tests.{leb-true, leb-false, ltb-true, ltb-false, eqb-true, not-true, le-leb, lt-leb, le-ltb, lt-ltb}
+use borrow.Author.Tests.{leb-true, ltb-true, ltb-false, eqb-true, not-true, le-leb, lt-leb, le-ltb, lt-ltb}
 use Rattle.model.specs.Lists.{all, any, keep, sum}
 use Rattle.model.specs.Limits.{maxText}
 use Rattle.model.specs.Offset.{Span}
-use Rattle.model.specs.Types.{SourceNode, PairLink, ContainerPair, Diagnostic, LexOutput}
+use Rattle.model.specs.Types.{SourceNode, PairLink, ContainerPair, LexOutput}
 use Rattle.model.specs.WellFormed.{spanOk, ordered, offsetsOk, imageLength, spanLength, pairOk, containerOk, images, spans}
 use Rattle.model.specs.Region.{across, depthBehind, depth, isBlockOpen, isBlockClose, isWarichuOpen, isWarichuClose, nodesBefore, nodesAllowCut, pairsAllowCut, blankLineBefore, safeCut}
 use Rattle.model.specs.Merge.{balancedFrom, normalizedOffset}
-use Rattle.laws.specs.Lists.{both, join, either, all-and, all-keep, all-map, all-append, map-append}
-use Rattle.laws.specs.Keep.{keep-append, keep-all, keep-none, keep-same, map-map, map-same, all-kept, all-keep-self, any-none, any-all, and-false}
-use Rattle.laws.specs.Checks.{WellFormed, LimitFacts, limit-facts, PlaceFacts, place-facts, size-fact}
+use Rattle.laws.specs.Lists.{both, join, all-and, all-keep, all-map, map-append}
+use Rattle.laws.specs.Keep.{keep-append, keep-all, keep-none, keep-same, map-map, map-same, all-keep-self, any-none, any-all, and-false}
+use Rattle.laws.specs.Checks.{WellFormed, limit-facts, PlaceFacts, place-facts, size-fact}
 
 -- ---- 3, 6 and 7
 

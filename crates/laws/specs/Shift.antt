@@ -1,14 +1,14 @@
 -- Section 1: offsets moved by a difference of two numbers where neither end of the 32 bits is met, so that `shift_u32` has an
 -- answer wherever the merge asks.
-use mathlib.Core.Path.{_≡_, refl, sym, ap, _∙_}
-use Prim.Native.Nat.{ℕ, zero, suc, _+_, _-_, _^_, _≤_, _<_, min}
+use mathlib.Core.Path.{_≡_, refl, ap}
+use Prim.Native.Nat.{ℕ, suc, _+_, _-_, _^_, _≤_, min}
 use native.Mathlib.Omega.{arith}
 use mathlib.Core.Bool.{Bool, true, false, cond, _&&_}
-use mathlib.Core.Option.{Option, none, some, Option·getD}
-use lib.Dec.{leb, ltb}
+use mathlib.Core.Option.{none, some, Option·getD}
+use lib.Dec.{ltb}
 use lib.IntN.{ℤ, pos, negsuc, subℕ, _+ℤ_}
 use lib.Signed.{leZ}
-use borrow.Author.Tests.{leb-true, leb-false, ltb-true, ltb-false, le-leb, lt-leb, le-ltb, lt-ltb}
+use borrow.Author.Tests.{ltb-true, ltb-false, le-leb, lt-leb, le-ltb, lt-ltb}
 use Rattle.model.specs.Offset.{minI64, maxI64, maxU32, saturatingAdd, clampU32, shiftClamp, shiftU32}
 use Rattle.model.specs.Merge.{movedOffset}
 use Rattle.laws.specs.Fits.{isWord}
