@@ -132,8 +132,7 @@ module _ (old : LexOutput) (e : Edit) (r : Span) (reading : RegionOutput) (m : I
   containers-fit =
       let R = length (reading .normalized) in
       spliced-all containerLocated win (recordFits containerCodec) (λ c. recordFits containerCodec c && containerOk R c) (recordFits containerCodec) (λ c o h. o)
-      (λ c o. let u = both (recordFits containerCodec c) (containerOk R c) o in let x = container-facts R c (u .1) in let x₁ = x .0 in let x₂ = x .1 in
-      container-refits c (c .opening + win .normalized .start) (c .closing + win .normalized .start) (lt-ltb (c .opening + win .normalized .start) 4294967296 (omega (arith, start-small, f .readingSound .normalized)))
+      (λ c o. let u = both (recordFits containerCodec c) (containerOk R c) o in let x = container-facts R c (u .1) in container-refits c (c .opening + win .normalized .start) (c .closing + win .normalized .start) (lt-ltb (c .opening + win .normalized .start) 4294967296 (omega (arith, start-small, f .readingSound .normalized)))
       (lt-ltb (c .closing + win .normalized .start) 4294967296 (omega (arith, start-small, f .readingSound .normalized))) (u .0))
       (λ c o h. container-refits c (movedOffset (c .opening) (win .normalizedDelta)) (movedOffset (c .closing) (win .normalizedDelta)) (moved-small (c .opening) (win .normalizedDelta)) (moved-small (c .closing) (win .normalizedDelta)) o)
       (old .containerPairs) (reading .containerPairs) (fo .containerPairs) (all-and (recordFits containerCodec) (containerOk R) (reading .containerPairs) (fr .containerPairs) (f .readingSound .places .containerPairs))

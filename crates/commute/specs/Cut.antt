@@ -114,8 +114,6 @@ module _ (c d : ℕ) (b b′ : LexOutput) (h : SameBehind c d b b′) (some : c 
       let e₄ : d + 1 - 1 ≡ d + 0 = omega arith in
       rw (le-leb 2 (c + 1) (omega arith), le-leb 2 (d + 1) (omega arith), e₁, e₂, e₃, e₄, h .last some, h .text 0, h .nodes 0 some, h .pairs 0)
   allows-behind (suc k) =
-      let l = h .inside some in
-      let m = h .inside′ some in
       let e₁ : c + suc (suc k) - 2 ≡ c + k = omega arith in
       let e₂ : d + suc (suc k) - 2 ≡ d + k = omega arith in
       let e₃ : c + suc (suc k) - 1 ≡ c + suc k = omega arith in

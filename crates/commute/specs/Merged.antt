@@ -70,7 +70,6 @@ module _ (old : LexOutput) (e : Edit) (reading : RegionOutput) (r : Span) (f : F
 
   pub placed-number : (o : ℕ) → o ≤ length (reading .sanitized) → shiftClamp o (pos (r .start)) ≡ o + r .start
   placed-number o h =
-      let x = region-rises in
       shift-up o (r .start) (omega arith)
 
   pub length-sum : length (mergedOf old e reading r .sanitized) + q ≡ length (old .sanitized) + p
@@ -203,7 +202,7 @@ module _ (old : LexOutput) (e : Edit) (reading : RegionOutput) (r : Span) (f : F
   end′ = r .start + length (reading .sanitized)
 
   pub end-moved : behindEdit e (r .end) ≡ end′
-  end-moved = let x = behind-sum (r .end) (omega arith) in let y = size-sum in omega arith
+  end-moved = let x = behind-sum (r .end) (omega arith) in omega arith
 
   text-behind : (i i′ : ℕ) → e .end ≤ i → i′ + q ≡ i + p → getD (edited (old .sanitized) e) i′ 0 ≡ getD (old .sanitized) i 0
   unfolding edited
@@ -253,7 +252,6 @@ module _ (old : LexOutput) (e : Edit) (reading : RegionOutput) (r : Span) (f : F
         in-moved : (n : SourceNode) → nodeIn (length (old .sanitized)) n ≡ true → r .end ≤ n .sourceSpan .start → ltb (nodeLocated .moved w n .sourceSpan .start) (end′ + suc k) ≡ ltb (n .sourceSpan .start) (r .end + suc k)
         in-moved n o h =
             let m = nodes-carried .movedStart n o h in
-            let z = size-sum in
             same-le (suc (nodeLocated .moved w n .sourceSpan .start)) (end′ + suc k) (suc (n .sourceSpan .start)) (r .end + suc k) (omega arith) (omega arith)
 
         in-until : (n : SourceNode) → nodeIn (length (old .sanitized)) n && endsBy (r .end) n ≡ true → ltb (n .sourceSpan .start) (r .end + suc k) ≡ true
@@ -266,7 +264,6 @@ module _ (old : LexOutput) (e : Edit) (reading : RegionOutput) (r : Span) (f : F
   nodes-behind : (k : ℕ) → r .end < length (old .sanitized) → nodesAllowCut (mergedOf old e reading r .sourceNodes) (end′ + suc k) ≡ nodesAllowCut (old .sourceNodes) (r .end + suc k)
   unfolding nodesAllowCut mergedBook nodeLocated windowOf
   nodes-behind k some =
-      let a = region-rises in
       let x = across-rest nodeLocated w (nodeIn (length (old .sanitized))) (nodeIn (length (reading .sanitized))) (length (reading .sanitized)) p q nodes-carried (old .sourceNodes) (grafted old reading .0) (f .oldSound .places .sourceSpans) (gn .inside) k (f .endSafe .nodes) in
       let y = depth-behind isBlockOpen isBlockClose (λ n. (refl, refl)) (λ n. (refl, refl)) (f .startSafe .blocks (omega arith)) (f .endSafe .blocks some) (gn .blocks) k in
       let z = depth-behind isWarichuOpen isWarichuClose (λ n. (refl, refl)) (λ n. (refl, refl)) (f .startSafe .warichu (omega arith)) (f .endSafe .warichu some) (gn .warichu) k in
@@ -283,7 +280,7 @@ module _ (old : LexOutput) (e : Edit) (reading : RegionOutput) (r : Span) (f : F
     inside = λ h. let a = strict h in omega arith;
     inside′ = λ h. let a = strict h in let b = size-sum in omega arith;
     last = λ h. let a = strict h in let b = size-sum in text-behind (r .end - 1) (end′ - 1) (omega arith) (omega arith);
-    text = λ k. let b = size-sum in text-behind (r .end + k) (end′ + k) (omega arith) (omega arith);
+    text = λ k. text-behind (r .end + k) (end′ + k) (omega arith) (omega arith);
     nodes = nodes-behind;
     pairs = pairs-behind;
   }

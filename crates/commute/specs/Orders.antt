@@ -103,14 +103,13 @@ module _ (b : LexOutput) (E L : Edit) (RE RL : RegionOutput) (rE rL : Span) (m :
 
   pub end-moves : regionBehind E rL .end + qE ≡ rL .end + pE
   unfolding regionBehind
-  end-moves = let c = riseL in moves (rL .end) (omega arith)
+  end-moves = moves (rL .end) (omega arith)
 
   -- ---- offsets of the text, moved in both orders
 
   pub twice-number : (o : ℕ) → rL .end ≤ o → o ≤ length (b .sanitized) → shiftClamp (shiftClamp o (changeInLength E)) (changeInLength L′) ≡ shiftClamp (shiftClamp o (changeInLength L)) (changeInLength E)
   unfolding movedBehind
   twice-number o h k =
-      let c = riseL in
       let g = m .firstL in
       let x₁ = moved-sum b E RE rE (m .firstE) o (omega arith) k in
       let y₁ = moved-sum b L RL rL g o h k in
@@ -119,7 +118,6 @@ module _ (b : LexOutput) (E L : Edit) (RE RL : RegionOutput) (rE rL : Span) (m :
       let e₃ = moves (L .start) (omega arith) in
       let s₁ = length-sum b E RE rE (m .firstE) in
       let s₂ = length-sum b L RL rL g in
-      let z = size-sum b L RL rL g in
       let x₂ = moved-sum bE L′ RL (regionBehind E rL) (m .secondL) (shiftClamp o (changeInLength E)) (omega arith) (omega arith) in
       let y₂ = moved-sum bL E RE rE (m .secondE) (shiftClamp o (changeInLength L)) (omega arith) (omega arith) in
       omega arith
@@ -153,7 +151,6 @@ module _ (b : LexOutput) (E L : Edit) (RE RL : RegionOutput) (rE rL : Span) (m :
   unfolding windowOf
   window-again =
       let a = m .apart in
-      let c = region-rises b E RE rE (m .firstE) in
       rw (normal-before b L RL rL (m .firstL) (rE .start) (omega arith), normal-before b L RL rL (m .firstL) (rE .end) a)
 
   pub start-moves-normal : wL′ .normalized .start + nE (rE .end) ≡ nE (rL .start) + (length (RE .normalized) + nE (rE .start))
@@ -162,7 +159,7 @@ module _ (b : LexOutput) (E L : Edit) (RE RL : RegionOutput) (rE rL : Span) (m :
 
   pub end-moves-normal : wL′ .normalized .end + nE (rE .end) ≡ nE (rL .end) + (length (RE .normalized) + nE (rE .start))
   unfolding windowOf
-  end-moves-normal = let a = m .apart in let c = riseL in normal-moves b E RE rE (m .firstE) (m .secondL .oldSound) (rL .end) (regionBehind E rL .end) (omega arith) end-moves
+  end-moves-normal = normal-moves b E RE rE (m .firstE) (m .secondL .oldSound) (rL .end) (regionBehind E rL .end) (omega arith) end-moves
 
   pub twice-offset : (o : ℕ) → nE (rL .end) ≤ o → o ≤ maxText → movedOffset (movedOffset o (wE .normalizedDelta)) (wL′ .normalizedDelta) ≡ movedOffset (movedOffset o (wL .normalizedDelta)) (wE .normalizedDelta)
   unfolding windowOf
@@ -170,8 +167,6 @@ module _ (b : LexOutput) (E L : Edit) (RE RL : RegionOutput) (rE rL : Span) (m :
       let r₁ = riseE in
       let r₂ = riseM in
       let r₃ = riseN in
-      let s₁ = m .firstE .readingSound .normalized in
-      let s₂ = m .firstL .readingSound .normalized in
       let e₀ = start-moves-normal in
       let e₁ = end-moves-normal in
       let x₁ = offset-sum b E RE rE (m .firstE) o (omega arith) (omega arith) in
@@ -184,10 +179,7 @@ module _ (b : LexOutput) (E L : Edit) (RE RL : RegionOutput) (rE rL : Span) (m :
   unfolding windowOf
   placed-offset o k =
       let r₂ = riseM in
-      let i = m .firstL .inside in
-      let c = riseL in
       let l = normal-inside b (m .firstE .oldSound) (rL .start) (m .firstL .startSafe) (omega arith) in
-      let s = m .firstE .oldSound .normalized in
       let e = start-moves-normal in
       let x = offset-sum b E RE rE (m .firstE) (o + nE (rL .start)) (omega arith) (omega arith) in
       omega arith
@@ -237,9 +229,6 @@ module _ (b : LexOutput) (E L : Edit) (RE RL : RegionOutput) (rE rL : Span) (m :
       twice : (x : ContainerPair) → containerOk (length (b .normalized)) x ≡ true → wL .normalized .end ≤ x .opening → containerLocated .moved wL′ (containerLocated .moved wE x) ≡ containerLocated .moved wE (containerLocated .moved wL x)
       twice x o h =
           let g = container-facts (length (b .normalized)) x o in
-          let g₁ = g .0 in
-          let g₂ = g .1 in
-          let z = m .firstE .oldSound .normalized in
           rw (twice-offset (x .opening) h (omega arith), twice-offset (x .closing) (omega arith) (omega arith))
 
       again : (x : ContainerPair) → containerOk (length (RL .normalized)) x ≡ true → containerLocated .placed wL′ x ≡ containerLocated .moved wE (containerLocated .placed wL x)
@@ -276,7 +265,6 @@ module _ (b : LexOutput) (E L : Edit) (RE RL : RegionOutput) (rE rL : Span) (m :
   unfolding mergedBook mergedNormalized windowOf
   normalized-agree =
       let a = m .apart in
-      let c = region-rises b E RE rE (m .firstE) in
       let r₁ = riseE in
       let r₂ = riseM in
       let r₃ = riseN in
@@ -342,10 +330,8 @@ module _ (b : LexOutput) (E L : Edit) (RE RL : RegionOutput) (rE rL : Span) (m :
           let v = both (not (leb (rL .end) (n .sourceSpan .start)) || leb at (n .normalizedOffset)) (ltb (n .normalizedOffset) (length (b .normalized))) (u .1) in
           let k : leb at (n .normalizedOffset) ≡ true = rw (le-leb (rL .end) (n .sourceSpan .start) h) at (v .0) in
           let g = placeOf n o in
-          let g₁ = g .0 in
           let g₂ = g .1 in
           let x = ltb-true (n .normalizedOffset) (length (b .normalized)) (v .1) in
-          let z = m .firstE .oldSound .normalized in
           rw (twice-number (n .sourceSpan .start) h (omega arith), twice-number (n .sourceSpan .end) (omega arith) g₂, twice-offset (n .normalizedOffset) (leb-true at (n .normalizedOffset) k) (omega arith))
 
       again : (n : ShownNode) → inLater n ≡ true → shownLocated .placed wL′ n ≡ shownLocated .moved wE (shownLocated .placed wL n)

@@ -83,7 +83,6 @@ module _ (b b′ : LexOutput) (l : ℕ) (same : SameBefore l b b′) (e : Edit) 
           absurd (omega arith)
       newline o p q false x =
           let a = u .endsBehind in
-          let g = grown (omega arith) in
           let y : newlineAt (b′ .sanitized) o ≡ false = rw (same .text o (omega arith)) x in
           start-no-newline b′ o y ∙ start-before l b b′ same o (omega arith) (omega arith) (omega arith) ∙ sym (start-no-newline b o x)
 
@@ -112,10 +111,6 @@ module _ (b b′ : LexOutput) (l : ℕ) (same : SameBefore l b b′) (e : Edit) 
       let s = start-again in
       let u = bounds b e inside in
       let u′ = bounds b′ e inside′ in
-      let a = u .startsBefore in
-      let c = u .endsBehind in
-      let a′ = u′ .startsBefore in
-      let c′ = u′ .endsBehind in
       let m : regionEnd b′ (length (b′ .sanitized) - e .end) (e .end) ≡ regionEnd b (length (b .sanitized) - e .end) (e .end) = omega arith in
       λ i. record { start = s i; end = m i }
 

@@ -133,10 +133,8 @@ module _ (old : LexOutput) (e : Edit) (reading : RegionOutput) (r : Span) (f : F
       let b₄ = shift-images movable (nodeLocated .moved win) qw pw s₁ (length (reading .normalized) + s₀) moved-shift m okM in
       let y₁ = normal-at old (f .oldSound) (r .start) (f .startSafe) in
       let y₂ = normal-behind old (f .oldSound) (r .end) (f .endSafe) c h in
-      let z = f .readingSound .sizes in
       let g₁ = gn .spans in
       let g₂ = gn .images in
-      let t = size-sum old e reading r f in
       omega arith
 
   -- ---- the nodes
@@ -154,7 +152,6 @@ module _ (old : LexOutput) (e : Edit) (reading : RegionOutput) (r : Span) (f : F
   grown : newEnd ≤ length (new .sanitized)
   grown =
       let a = length-sum old e reading r f in
-      let b = size-sum old e reading r f in
       omega arith
 
   nodes-in : all (nodeIn (length (new .sanitized))) (new .sourceNodes) ≡ true
@@ -179,7 +176,6 @@ module _ (old : LexOutput) (e : Edit) (reading : RegionOutput) (r : Span) (f : F
   nodes-ordered : ordered 0 (new .sourceNodes) ≡ true
   nodes-ordered =
       let s = f .oldSound in
-      let z = size-sum old e reading r f in
       rw parts
       (ordered-join 0 (r .start) front (placed ++ moved) (omega arith) (ordered-keep (length (old .sanitized)) (endsBy (r .start)) 0 (old .sourceNodes) (s .places .sourceSpans) (s .places .order)) (all-keep-self (endsBy (r .start)) (old .sourceNodes))
       (ordered-join (r .start) newEnd placed moved (omega arith) (shift-ordered inRead (nodeLocated .placed win) 0 (r .start) 0 s₀ placed-shift 0 (r .start) (omega arith) (grafted old reading .0) (gn .inside) (gn .order)) placed-ends
@@ -196,7 +192,6 @@ module _ (old : LexOutput) (e : Edit) (reading : RegionOutput) (r : Span) (f : F
       let s = f .oldSound in
       let y₁ = normal-at old s (r .start) (f .startSafe) in
       let y₂ = normal-at old s (r .end) (f .endSafe) in
-      let t = size-sum old e reading r f in
       let i = placed-images in
       let j = placed-spans in
       let o₂ : offsetsOk (0 + images front) (0 + spans front) placed ≡ true =
@@ -288,7 +283,6 @@ module _ (old : LexOutput) (e : Edit) (reading : RegionOutput) (r : Span) (f : F
       let s = f .oldSound in
       let y₁ = normal-at old s (r .start) (f .startSafe) in
       let y₂ = normal-at old s (r .end) (f .endSafe) in
-      let t = size-sum old e reading r f in
       let l = length-sum old e reading r f in
       let x = normal-length in
       let sp : spans (new .sourceNodes) ≡ spans front + (spans (reading .sourceNodes) + spans behind) =
