@@ -7,39 +7,25 @@ use mathlib.Core.Bool.{Bool, true, false, cond, false≢true}
 use mathlib.Core.List.{List, [], _∷_, _++_, append-nil}
 use lib.ListN.{length, getD, set, replicate, length-append}
 use lib.Seq.{getD-append-seam}
-use lib.Dec.{eqb, ltb}
-use borrow.Author.Tests.{eqb-true, eqb-false}
-use Rattle.laws.specs.Lists.{join}
+use lib.Dec.{eqb, leb, ltb}
+use borrow.Author.Tests.{eqb-true, eqb-false, leb-true, le-leb}
+use Rattle.laws.specs.Lists.{both, join, all-map}
+use Rattle.laws.specs.Keep.{all-get, all-set}
 use Rattle.laws.specs.Checks.{same-eq}
 use Rattle.model.specs.Lists.{all, isEmpty}
 use Rattle.model.specs.Limits.{internLengthLimit, initialCapacity}
 use Rattle.model.specs.Intern.{fxHash, StrInterner, Interned, Probe, freshInterner, holds, probe, emptySlot, moveSlots, grows, tableFor, cacheHit, bypass, tableHit, tableAlloc, tableCall, intern}
 
--- ---- lists of numbers with a bound
-
+-- every number is at most m
 abbrev pub Below : ℕ → List ℕ → Type 0
-Below m [] = Unit {0}
-Below m (x ∷ xs) = (x ≤ m) × Below m xs
+Below m l = all (λ x. leb x m) l ≡ true
 
 below-more : (m n : ℕ) (l : List ℕ) → m ≤ n → Below m l → Below n l
-below-more m n [] h b = tt
-below-more m n (x ∷ xs) h b = (omega (arith, b .0), below-more m n xs h (b .1))
-
-below-set : (m : ℕ) (l : List ℕ) (i x : ℕ) → x ≤ m → Below m l → Below m (set l i x)
-below-set m [] i x h b = tt
-below-set m (y ∷ ys) zero x h b = (h, b .1)
-below-set m (y ∷ ys) (suc i) x h b = (b .0, below-set m ys i x h (b .1))
-
-below-get : (m : ℕ) (l : List ℕ) (i : ℕ) → Below m l → getD l i 0 ≤ m
-below-get m [] i b = zero-le
-below-get m (y ∷ ys) zero b = b .0
-below-get m (y ∷ ys) (suc i) b = below-get m ys i (b .1)
+below-more m n l h b = all-map (λ x. leb x m) (λ x. leb x n) (λ x e. let k = leb-true x m e in le-leb x n (omega arith)) l b
 
 below-zeros : (m n : ℕ) → Below m (replicate n 0)
-below-zeros m zero = tt
-below-zeros m (suc n) = (zero-le, below-zeros m n)
-
--- ---- strings
+below-zeros m zero = refl
+below-zeros m (suc n) = join (leb 0 m) (all (λ x. leb x m) (replicate n 0)) (le-leb 0 m zero-le) (below-zeros m n)
 
 -- a slot that holds s names a string of the layer that is s
 pub record Names (strings : List (List ℕ)) (slot : ℕ) (s : List ℕ) : Type 0 where
@@ -59,10 +45,11 @@ holds-names strings (suc i) s h e =
 moved-below : (m : ℕ) (strings : List (List ℕ)) (old new : List ℕ) → Below m old → Below m new → Below m (moveSlots strings old new)
 unfolding moveSlots
 moved-below m strings [] new b c = c
-moved-below m strings (zero ∷ old) new b c = moved-below m strings old new (b .1) c
+moved-below m strings (zero ∷ old) new b c = moved-below m strings old new (both (leb 0 m) (all (λ x. leb x m) old) b .1) c
 moved-below m strings (suc i ∷ old) new b c =
-    moved-below m strings old (set new (emptySlot (length new) new (fxHash (getD strings i []) % length new)) (suc i)) (b .1)
-    (below-set m new (emptySlot (length new) new (fxHash (getD strings i []) % length new)) (suc i) (b .0) c)
+    let at = emptySlot (length new) new (fxHash (getD strings i []) % length new) in
+    let s = both (leb (suc i) m) (all (λ x. leb x m) old) b in
+    moved-below m strings old (set new at (suc i)) (s .1) (all-set (λ x. leb x m) new at (suc i) c (s .0))
 
 -- every slot and the last answer name a string of the layer
 pub record Sound (t : StrInterner) : Type 0 where
@@ -99,7 +86,7 @@ probe-ends (suc n) strings table s at k b =
 
     pick : Ends strings s (more .slot) → (x : Bool) → eqb (getD table at 0) 0 ≡ x → (y : Bool) → holds strings (getD table at 0) s ≡ y → Ends strings s (cond x stop (cond y stop more) .slot)
     pick m true e y f = inl (eqb-true (getD table at 0) 0 e)
-    pick m false e true f = inr (holds-names strings (getD table at 0) s (below-get (length strings) table at b) f)
+    pick m false e true f = inr (holds-names strings (getD table at 0) s (leb-true (getD table at 0) (length strings) (all-get (λ x. leb x (length strings)) table at 0 b (le-leb 0 (length strings) zero-le))) f)
     pick m false e false f = m
 
 -- ---- a call
@@ -156,7 +143,7 @@ table-answers t table s ok b = pick (probe-ends (length table) (t .strings) tabl
         let e = length-snoc (t .strings) s in
         record {
           sound = record {
-            slots = below-set (length (t .strings ++ (s ∷ []))) table (p .at) (suc (length (t .strings))) (omega arith) (below-more (length (t .strings)) (length (t .strings ++ (s ∷ []))) table (omega arith) b);
+            slots = all-set (λ x. leb x (length (t .strings ++ (s ∷ [])))) table (p .at) (suc (length (t .strings))) (below-more (length (t .strings)) (length (t .strings ++ (s ∷ []))) table (omega arith) b) (le-leb (suc (length (t .strings))) (length (t .strings ++ (s ∷ []))) (omega arith));
             answer = omega arith;
           };
           more = s ∷ [];
@@ -191,4 +178,4 @@ intern-answers t s ok = pick (holds (t .strings) (t .last) s) refl (ltb internLe
     pick false e false = table-answers t (tableFor t) s ok (table-below t ok)
 
 pub fresh-sound : Sound freshInterner
-fresh-sound = record { slots = tt; answer = zero-le }
+fresh-sound = record { slots = refl; answer = zero-le }
