@@ -36,9 +36,9 @@ pub record Fit (old : LexOutput) (e : Edit) (reading : RegionOutput) (r : Span) 
   pub inside : r .end ≤ length (old .sanitized)
   pub strictly : e .end < length (old .sanitized) → e .end < r .end
   -- number 12
-  pub size : length (reading .sanitized) + (e .end - e .start) ≡ r .end - r .start + length (e .replacement)
+  pub size : r .start + length (reading .sanitized) + e .end ≡ r .end + (length (e .replacement) + e .start)
   -- number 3 of the new text
-  pub limit : length (old .sanitized) + length (e .replacement) - (e .end - e .start) ≤ maxText
+  pub limit : length (old .sanitized) + (length (e .replacement) + e .start) ≤ maxText + e .end
   pub startSafe : SafeCut old (r .start)
   pub endSafe : SafeCut old (r .end)
   -- number 13

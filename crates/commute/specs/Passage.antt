@@ -8,14 +8,14 @@ use lib.ListN.{length}
 use lib.Dec.{eqb}
 use borrow.Author.Tests.{eqb-true, eqb-false}
 use Rattle.model.specs.Offset.{Span}
-use Rattle.model.specs.Types.{LexOutput}
+use Rattle.model.specs.Types.{LexOutput, RegionOutput}
 use Rattle.model.specs.Region.{Edit, behindEdit, newlineAt, safeCut, regionStart, regionEnd, balancedRegion}
 use Rattle.model.specs.Demand3.{movedBehind, regionBehind}
 use Rattle.commute.specs.Cut.{SameBefore, SameBehind, start-le, start-safe, end-bounds, end-safe, start-before, end-behind, length-safe}
 
--- the length of a region by number 12: that of the reading, less the change in length
-abbrev pub Twelve : Edit → LexOutput → Span → Type 0
-Twelve e reading r = length (reading .sanitized) + (e .end - e .start) ≡ r .end - r .start + length (e .replacement)
+-- number 12, as lengths: the reading is as long as the region, moved by the change in length
+abbrev pub Twelve : Edit → RegionOutput → Span → Type 0
+Twelve e reading r = r .start + length (reading .sanitized) + e .end ≡ r .end + (length (e .replacement) + e .start)
 
 pub record Bounds (b : LexOutput) (e : Edit) (r : Span) : Type 0 where
   pub startsBefore : r .start ≤ e .start
@@ -55,7 +55,7 @@ start-zero : (b b′ : LexOutput) → regionStart b′ 0 ≡ regionStart b 0
 unfolding regionStart
 start-zero b b′ = refl
 
-module _ (b b′ : LexOutput) (l : ℕ) (same : SameBefore l b b′) (e : Edit) (reading : LexOutput)
+module _ (b b′ : LexOutput) (l : ℕ) (same : SameBefore l b b′) (e : Edit) (reading : RegionOutput)
     (rising : e .start ≤ e .end) (inside : e .end ≤ length (b .sanitized)) (inside′ : e .end ≤ length (b′ .sanitized)) (far : l ≤ length (b′ .sanitized))
     (apart : regionEnd b (length (b .sanitized) - e .end) (e .end) ≤ l)
     (grown : e .end ≡ length (b .sanitized) → length (b .sanitized) < length (b′ .sanitized))
@@ -117,25 +117,22 @@ module _ (b b′ : LexOutput) (l : ℕ) (same : SameBefore l b b′) (e : Edit) 
 -- ---- the later edit, merged second
 
 -- an offset at or behind an edit's end, moved: with nothing taken away
-pub behind-is : (e : Edit) (o : ℕ) → e .start ≤ e .end → e .end ≤ o → behindEdit e o + e .end ≡ o + length (e .replacement) + e .start
+pub behind-is : (e : Edit) (o : ℕ) → e .start ≤ e .end → e .end ≤ o → behindEdit e o + e .end ≡ o + (length (e .replacement) + e .start)
 unfolding behindEdit
 behind-is e o h k = omega arith
 
-pub add-rest : (a b : ℕ) → a ≤ b → a + (b - a) ≡ b
-add-rest a b h = omega arith
-
-module _ (b b′ : LexOutput) (first e : Edit) (r : Span) (same : SameBehind (r .end) (behindEdit first (r .end)) b b′) (reading : LexOutput)
+module _ (b b′ : LexOutput) (first e : Edit) (r : Span) (same : SameBehind (r .end) (behindEdit first (r .end)) b b′) (reading : RegionOutput)
     (first-rising : first .start ≤ first .end) (first-inside : first .end ≤ r .end)
     (rising : e .start ≤ e .end) (inside : e .end ≤ length (b .sanitized))
     (apart : r .end ≤ regionStart b (e .start))
     (twelve : Twelve e reading (balancedRegion b e)) (twelve′ : Twelve (movedBehind first e) reading (balancedRegion b′ (movedBehind first e))) where
-  moves : (o : ℕ) → first .end ≤ o → behindEdit first o + first .end ≡ o + length (first .replacement) + first .start
+  moves : (o : ℕ) → first .end ≤ o → behindEdit first o + first .end ≡ o + (length (first .replacement) + first .start)
   moves o h = behind-is first o first-rising h
 
   -- k bytes from the cut to the edit's end, n from there to the text's
-  end-moved-by : (k n : ℕ) → r .end + k ≡ e .end → e .end + n ≡ length (b .sanitized)
-      → regionEnd b′ n (behindEdit first (e .end)) ≡ behindEdit first (regionEnd b n (e .end))
-  end-moved-by k n p q =
+  end-moved : (k n n′ : ℕ) → r .end + k ≡ e .end → e .end + n ≡ length (b .sanitized) → n′ ≡ n
+      → (regionEnd b′ n′ (behindEdit first (e .end)) ≡ behindEdit first (regionEnd b n (e .end))) × (e .end ≤ regionEnd b n (e .end))
+  end-moved k n n′ p q t =
       let x = end-behind (r .end) (behindEdit first (r .end)) b b′ same n k (omega arith) in
       let u = end-bounds b n (e .end) q .0 in
       let m₁ = moves (r .end) first-inside in
@@ -143,46 +140,18 @@ module _ (b b′ : LexOutput) (first e : Edit) (r : Span) (same : SameBehind (r 
       let m₃ = moves (regionEnd b n (e .end)) (omega arith) in
       let e₂ : behindEdit first (r .end) + k ≡ behindEdit first (e .end) = omega arith in
       let y : regionEnd b′ n (behindEdit first (e .end)) + r .end ≡ regionEnd b n (e .end) + behindEdit first (r .end) = rw (p, e₂) at x in
-      omega arith
-
-  end-moved : regionEnd b′ (length (b′ .sanitized) - behindEdit first (e .end)) (behindEdit first (e .end)) ≡ behindEdit first (regionEnd b (length (b .sanitized) - e .end) (e .end))
-  end-moved =
-      let a = start-le b (e .start) in
-      let m₁ = moves (r .end) first-inside in
-      let m₂ = moves (e .end) (omega arith) in
-      let e₃ : length (b′ .sanitized) - behindEdit first (e .end) ≡ length (b .sanitized) - e .end = omega arith in
-      rw e₃ (end-moved-by (e .end - r .end) (length (b .sanitized) - e .end) (add-rest (r .end) (e .end) (omega arith)) (add-rest (e .end) (length (b .sanitized)) inside))
-
-  lengths : regionEnd b′ (length (b′ .sanitized) - behindEdit first (e .end)) (behindEdit first (e .end)) - regionStart b′ (behindEdit first (e .start)) ≡ regionEnd b (length (b .sanitized) - e .end) (e .end) - regionStart b (e .start)
-  unfolding balancedRegion movedBehind
-  lengths =
-      let a = start-le b (e .start) in
-      let m₂ = moves (e .end) (omega arith) in
-      let m₃ = moves (e .start) (omega arith) in
-      let d : behindEdit first (e .end) - behindEdit first (e .start) ≡ e .end - e .start = omega arith in
-      let t : length (reading .sanitized) + (behindEdit first (e .end) - behindEdit first (e .start)) ≡ regionEnd b′ (length (b′ .sanitized) - behindEdit first (e .end)) (behindEdit first (e .end)) - regionStart b′ (behindEdit first (e .start)) + length (e .replacement) = twelve′ in
-      let t′ : length (reading .sanitized) + (e .end - e .start) ≡ regionEnd b′ (length (b′ .sanitized) - behindEdit first (e .end)) (behindEdit first (e .end)) - regionStart b′ (behindEdit first (e .start)) + length (e .replacement) = rw d at t in
-      let v : length (reading .sanitized) + (e .end - e .start) ≡ regionEnd b (length (b .sanitized) - e .end) (e .end) - regionStart b (e .start) + length (e .replacement) = twelve in
-      cancel (length (reading .sanitized) + (e .end - e .start)) _ _ (length (e .replacement)) t′ v
-    where
-      cancel : (x y z w : ℕ) → x ≡ y + w → x ≡ z + w → y ≡ z
-      cancel x y z w p q = omega arith
+      (rw t (omega arith), u)
 
   pub region-moved : balancedRegion b′ (movedBehind first e) ≡ regionBehind first (balancedRegion b e)
   unfolding balancedRegion regionBehind movedBehind
   region-moved =
-      let m = end-moved in
+      let n = length (b .sanitized) - e .end in
       let a = start-le b (e .start) in
-      let a′ = start-le b′ (behindEdit first (e .start)) in
-      let u = end-bounds b (length (b .sanitized) - e .end) (e .end) (add-rest (e .end) (length (b .sanitized)) inside) .0 in
-      let m₁ = moves (e .start) (omega arith) in
-      let m₂ = moves (regionStart b (e .start)) (omega arith) in
-      let m₃ = moves (regionEnd b (length (b .sanitized) - e .end) (e .end)) (omega arith) in
-      let t = starts (regionStart b′ (behindEdit first (e .start))) (regionEnd b′ (length (b′ .sanitized) - behindEdit first (e .end)) (behindEdit first (e .end))) (regionStart b (e .start)) (regionEnd b (length (b .sanitized) - e .end) (e .end)) lengths m (omega arith) (omega arith) (omega arith) in
-      λ i. record { start = t i; end = m i }
-    where
-      starts : (x y p q : ℕ) → y - x ≡ q - p → y ≡ behindEdit first q → first .end ≤ p → p ≤ q → x ≤ y → x ≡ behindEdit first p
-      starts x y p q d m h k l =
-          let m₂ = moves p h in
-          let m₃ = moves q (omega arith) in
-          omega arith
+      let m₁ = moves (r .end) first-inside in
+      let m₂ = moves (e .end) (omega arith) in
+      let m₃ = moves (e .start) (omega arith) in
+      let m = end-moved (e .end - r .end) n (length (b′ .sanitized) - behindEdit first (e .end)) (omega arith) (omega arith) (omega arith) in
+      let m₄ = moves (regionStart b (e .start)) (omega arith) in
+      let m₅ = moves (regionEnd b n (e .end)) (omega (arith, m .1)) in
+      let t : regionStart b′ (behindEdit first (e .start)) ≡ behindEdit first (regionStart b (e .start)) = omega (arith, m .0) in
+      λ i. record { start = t i; end = m .0 i }

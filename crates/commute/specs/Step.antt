@@ -68,7 +68,7 @@ module _ (old : LexOutput) (e : Edit) (r : Span) (reading : RegionOutput) (m : I
       let l₃ = ap length (s .facts .regionText) in
       omega arith
 
-  limit : length (old .sanitized) + length (e .replacement) - (e .end - e .start) ≤ maxText
+  limit : length (old .sanitized) + (length (e .replacement) + e .start) ≤ maxText + e .end
   unfolding edited
   limit =
       let n = splice-length (e .start) (e .end) (e .replacement) (old .sanitized) (s .chosen .rising) (s .chosen .inside) in
