@@ -70,7 +70,6 @@ module _ (b : LexOutput) (E L : Edit) (RE RL : RegionOutput) (m₁ m₂ m₃ m�
   again =
       let x = fitL .inside in
       let y = fitL .startsBefore in
-      let z = fitL .rising in
       let n = length-sum b L RL rL fitL in
       region-again b bL (rL .start) (same-before b L RL rL fitL) E RE (s₁ .chosen .rising) (s₁ .chosen .inside) (s₄ .chosen .inside) (omega arith) apart grown (twelve b E rE RE m₁ s₁) (twelve bL E (balancedRegion bL E) RE m₄ s₄)
     where

@@ -64,10 +64,6 @@ module _ (old : LexOutput) (e : Edit) (reading : RegionOutput) (r : Span) (f : F
   moved-sum o h k =
       rw (shift-by o (length (e .replacement)) (e .end - e .start) (omega arith) (omega arith)) (omega arith)
 
-  pub size-sum : r .start + length (reading .sanitized) + q ≡ r .end + p
-  size-sum =
-      omega arith
-
   pub placed-number : (o : ℕ) → o ≤ length (reading .sanitized) → shiftClamp o (pos (r .start)) ≡ o + r .start
   placed-number o h =
       shift-up o (r .start) (omega arith)
@@ -112,7 +108,7 @@ module _ (old : LexOutput) (e : Edit) (reading : RegionOutput) (r : Span) (f : F
       let t = ap (λ (x : Span). x .end) at in
       record {
         rising = omega (arith, region-rises);
-        sizes = omega (arith, size-sum);
+        sizes = omega arith;
         some = λ x o. i x o .0;
         someRead = λ x o. j x o .0;
         inside = λ x o. j x o .1;
@@ -276,10 +272,10 @@ module _ (old : LexOutput) (e : Edit) (reading : RegionOutput) (r : Span) (f : F
   same-end : SameBehind (r .end) end′ old (mergedOf old e reading r)
   unfolding mergedBook
   same-end = record {
-    size = let a = length-sum in let b = size-sum in omega arith;
+    size = let a = length-sum in omega arith;
     inside = λ h. let a = strict h in omega arith;
-    inside′ = λ h. let a = strict h in let b = size-sum in omega arith;
-    last = λ h. let a = strict h in let b = size-sum in text-behind (r .end - 1) (end′ - 1) (omega arith) (omega arith);
+    inside′ = λ h. let a = strict h in omega arith;
+    last = λ h. let a = strict h in text-behind (r .end - 1) (end′ - 1) (omega arith) (omega arith);
     text = λ k. text-behind (r .end + k) (end′ + k) (omega arith) (omega arith);
     nodes = nodes-behind;
     pairs = pairs-behind;

@@ -26,7 +26,7 @@ use Rattle.laws.specs.Splice.{splice-comm}
 use Rattle.laws.specs.Sort.{sort-first, all-unsorted, not-behind-moved}
 use Rattle.laws.specs.Located.{two-orders}
 use Rattle.laws.specs.Nodes.{span-facts, pair-facts, container-facts, startsAt, nodeIn, normal-rises, normal-inside, offsets-behind, offsets-small}
-use Rattle.commute.specs.Merged.{Fit, p, q, region-rises, moved-sum, size-sum, placed-number, length-sum, behind-sum, normal-region-rises, offset-sum, source-carried, pairs-carried, diagnostics-carried, containers-carried}
+use Rattle.commute.specs.Merged.{Fit, p, q, region-rises, moved-sum, placed-number, length-sum, behind-sum, normal-region-rises, offset-sum, source-carried, pairs-carried, diagnostics-carried, containers-carried}
 use Rattle.commute.specs.Places.{normal-before, normal-moves}
 use Rattle.commute.specs.Step.{Step}
 use Rattle.commute.specs.Shown.{shownLocated, shown-merged}
@@ -128,7 +128,6 @@ module _ (b : LexOutput) (E L : Edit) (RE RL : RegionOutput) (rE rL : Span) (m :
       let x₂ = placed-number bE L′ RL (regionBehind E rL) (m .secondL) o k in
       let e₁ = start-moves in
       let s = length-sum b L RL rL (m .firstL) in
-      let z = size-sum b L RL rL (m .firstL) in
       let y₂ : shiftClamp (o + rL .start) (changeInLength E) + qE ≡ o + rL .start + pE = moved-sum bL E RE rE (m .secondE) (o + rL .start) (omega arith) (omega arith) in
       rw (x₁, x₂) (omega arith)
 

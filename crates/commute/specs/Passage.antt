@@ -109,8 +109,6 @@ module _ (b b′ : LexOutput) (l : ℕ) (same : SameBefore l b b′) (e : Edit) 
   unfolding balancedRegion
   region-again =
       let s = start-again in
-      let u = bounds b e inside in
-      let u′ = bounds b′ e inside′ in
       let m : regionEnd b′ (length (b′ .sanitized) - e .end) (e .end) ≡ regionEnd b (length (b .sanitized) - e .end) (e .end) = omega arith in
       λ i. record { start = s i; end = m i }
 

@@ -22,7 +22,7 @@ use Rattle.laws.specs.Sort.{all-sort}
 use Rattle.laws.specs.Located.{spliced-all, keep-front, keep-rest}
 use Rattle.laws.specs.Nodes.{Sound, span-facts, span-ok, pair-facts, pair-ok, container-facts, container-ok, endsBy, startsAt, nodeIn, images-append, spans-append, ordered-keep, ordered-join, normal-sum, offsets-append, split, behind-ordered, offsets-split, normal-at, normal-behind, normal-inside, offsets-behind, offsets-small, NodeShift, shift-spans, shift-images, shift-ordered, shift-offsets}
 use Rattle.commute.specs.Outline.{GraftedNodes, grafted-nodes}
-use Rattle.commute.specs.Merged.{Fit, p, q, startN, endN, moved-sum, size-sum, placed-number, length-sum, normal-region-rises, offset-sum, nodes-carried, diagnostics-carried, containers-carried}
+use Rattle.commute.specs.Merged.{Fit, p, q, startN, endN, moved-sum, placed-number, length-sum, normal-region-rises, offset-sum, nodes-carried, diagnostics-carried, containers-carried}
 
 module _ (old : LexOutput) (e : Edit) (reading : RegionOutput) (r : Span) (f : Fit old e reading r) where
   abbrev new : LexOutput
@@ -114,7 +114,7 @@ module _ (old : LexOutput) (e : Edit) (reading : RegionOutput) (r : Span) (f : F
   unfolding mergedBook nodeLocated windowOf keptBefore keptBehind
   taken c c′ h g =
       keep-rest nodeLocated win inOld inRead (length (reading .sanitized)) pw qw (nodes-carried old e reading r f) (old .sourceNodes) (grafted old reading .0) (f .oldSound .places .sourceSpans) (gn .inside)
-      (endsBy c) (endsBy c′) (λ n k l. let z = size-sum old e reading r f in le-leb (n .sourceSpan .end) c′ (omega arith))
+      (endsBy c) (endsBy c′) (λ n k l. let z = f .size in le-leb (n .sourceSpan .end) c′ (omega arith))
       (λ n o k. let z = nodes-carried old e reading r f .movedEnd n o k in same-le (nodeLocated .moved win n .sourceSpan .end) c′ (n .sourceSpan .end) c (omega arith) (omega arith))
 
   pub normal-moves : Sound new → (c c′ : ℕ) → r .end ≤ c → c′ + qw ≡ c + pw → normalizedOffset (new .sourceNodes) c′ + s₁ ≡ normalizedOffset (old .sourceNodes) c + (length (reading .normalized) + s₀)
