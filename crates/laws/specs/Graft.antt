@@ -385,37 +385,34 @@ module _ (old : NodeStore) (g : NewLayer) (ls : List Layer) (numbered : Numbered
     pub starts : Later f′ g → isWord start ≡ true
     pub counts : Later f′ g → isWord (length xs) ≡ true
 
+  run-made : {A : Type 0} (f f′ : NewLayer) (offset : ℕ) (base pool xs final : List A) (sizes : List ℕ) → Made old f f′ → offset ≡ length base → (Later f′ g → Prefix (pool ++ xs) final)
+      → ((a n : ℕ) → a + n ≤ length final → rangeOk sizes (length base + a) n ≡ true) → length base + length final ≤ noString
+      → RunMade f f′ (offset + length pool) xs sizes (λ a n. take n (drop a (base ++ final)))
+  run-made f f′ offset base pool xs final sizes made at grown range room =
+      let inside : Later f′ g → length pool + length xs ≤ length final = λ l. omega (arith, prefix-length (pool ++ xs) final (grown l), length-append pool xs) in
+      record {
+        made = made;
+        shows = λ l. run-behind offset base pool xs final at (grown l);
+        ok = λ l. rw at (range (length pool) (length xs) (inside l));
+        starts = λ l. lt-ltb (offset + length pool) 4294967296 (omega (arith, inside l));
+        counts = λ l. lt-ltb (length xs) 4294967296 (omega (arith, inside l));
+      }
+
   contents-made : (cs : List Content) (f : NewLayer) → Above old f → RunMade f (pushContents cs f .1) (pushContents cs f .0) cs (contentCounts ls) (resolveContentRange st)
   unfolding pushContents resolveContentRange
   contents-made cs f a =
-      let sizes : Later (pushContents cs f .1) g → length (f .contents) + length cs ≤ length (g .contents) =
-      λ l. omega (arith, prefix-length (f .contents ++ cs) (g .contents) (l .contents), length-append (f .contents) cs) in
-      record {
-        made = record {
-          above = record { strings = a .strings; contents = a .contents; segments = a .segments; sound = a .sound };
-          later = record { strings = prefix-refl (f .interner .strings); contents = (cs, refl); segments = prefix-refl (f .segments) };
-        };
-        shows = λ l. run-behind (f .contentOffset) (old .contents) (f .contents) cs (g .contents) (a .contents) (l .contents);
-        ok = λ l. rw (a .contents) (numbered .content (length (f .contents)) (length cs) (sizes l));
-        starts = λ l. lt-ltb (f .contentOffset + length (f .contents)) 4294967296 (omega (arith, a .contents, sizes l, numbered .contents));
-        counts = λ l. lt-ltb (length cs) 4294967296 (omega (arith, sizes l, numbered .contents));
-      }
+      run-made f (pushContents cs f .1) (f .contentOffset) (old .contents) (f .contents) cs (g .contents) (contentCounts ls) (record {
+        above = record { strings = a .strings; contents = a .contents; segments = a .segments; sound = a .sound };
+        later = record { strings = prefix-refl (f .interner .strings); contents = (cs, refl); segments = prefix-refl (f .segments) };
+      }) (a .contents) (λ l. l .contents) (numbered .content) (numbered .contents)
 
   segments-made : (ss : List Segment) (f : NewLayer) → Above old f → RunMade f (pushSegments ss f .1) (pushSegments ss f .0) ss (segmentCounts ls) (resolveSegRange st)
   unfolding pushSegments resolveSegRange
   segments-made ss f a =
-      let sizes : Later (pushSegments ss f .1) g → length (f .segments) + length ss ≤ length (g .segments) =
-      λ l. omega (arith, prefix-length (f .segments ++ ss) (g .segments) (l .segments), length-append (f .segments) ss) in
-      record {
-        made = record {
-          above = record { strings = a .strings; contents = a .contents; segments = a .segments; sound = a .sound };
-          later = record { strings = prefix-refl (f .interner .strings); contents = prefix-refl (f .contents); segments = (ss, refl) };
-        };
-        shows = λ l. run-behind (f .segmentOffset) (old .segments) (f .segments) ss (g .segments) (a .segments) (l .segments);
-        ok = λ l. rw (a .segments) (numbered .segment (length (f .segments)) (length ss) (sizes l));
-        starts = λ l. lt-ltb (f .segmentOffset + length (f .segments)) 4294967296 (omega (arith, a .segments, sizes l, numbered .segments));
-        counts = λ l. lt-ltb (length ss) 4294967296 (omega (arith, sizes l, numbered .segments));
-      }
+      run-made f (pushSegments ss f .1) (f .segmentOffset) (old .segments) (f .segments) ss (g .segments) (segmentCounts ls) (record {
+        above = record { strings = a .strings; contents = a .contents; segments = a .segments; sound = a .sound };
+        later = record { strings = prefix-refl (f .interner .strings); contents = prefix-refl (f .contents); segments = (ss, refl) };
+      }) (a .segments) (λ l. l .segments) (numbered .segment) (numbered .segments)
 
   contents-pools : (cs : List Content) (f : NewLayer) → all goodContent cs ≡ true → Pools f → Pools (pushContents cs f .1)
   unfolding pushContents

@@ -90,41 +90,37 @@ module _ (st : NodeStore) where
           none : (t₀ t₁ t₂ : Bool) → (t₀ && false) || (t₁ && false) || (t₂ && false) || false ≡ false
           none t₀ t₁ t₂ = rw (and-false t₀ false refl, and-false t₁ false refl, and-false t₂ false refl)
 
+  -- number 5 of a segment: its level is 0 or at most 32, and the levels in its runs are below it
+  record LevelFacts (s : Segment) : Type 0 where
+    pub top : s .level ≤ maxLevel
+    pub runs : (ltb (s .tag) 3 ≡ true) ⊎ Named (s .body) (fieldsOf (s .body)) (s .level)
+
+  level-facts : (s : Segment) → levelOk st s ≡ true → LevelFacts s
+  unfolding levelOk
+  level-facts s e = go (ltb (s .tag) 3) refl e
+    where
+      go : (x : Bool) → ltb (s .tag) 3 ≡ x → cond x (eqb (s .level) 0) (leb 1 (s .level) && leb (s .level) maxLevel && all (λ (f : Field). all (low (s .level)) (fieldSegments st (s .body) f)) (fieldsOf (s .body))) ≡ true → LevelFacts s
+      go true q e = record { top = omega (arith, eqb-true (s .level) 0 e); runs = inl q }
+      go false q e =
+          let d = both (leb 1 (s .level) && leb (s .level) maxLevel) _ e in
+          record { top = leb-true (s .level) maxLevel (both (leb 1 (s .level)) (leb (s .level) maxLevel) (d .0) .1); runs = inr (d .1) }
+
+  good-level : (s : Segment) → good s ≡ true → (segmentShape s ≡ true) × (levelOk st s ≡ true)
+  good-level s e = both (segmentShape s) (levelOk st s) (both (recordFits segmentCodec s) _ e .1)
+
   -- below a segment's own level
   segment-named : (s : Segment) (l : ℕ) → good s ≡ true → s .level ≤ l → Named (s .body) (fieldsOf (s .body)) l
-  unfolding levelOk
-  segment-named s l e h = go (ltb (s .tag) 3) refl
+  segment-named s l e h = go (level-facts s (good-level s e .1) .runs)
     where
-      g : (segmentShape s ≡ true) × (levelOk st s ≡ true)
-      g = both (segmentShape s) (levelOk st s) (both (recordFits segmentCodec s) _ e .1)
-
-      deep : Bool
-      deep = leb 1 (s .level) && leb (s .level) maxLevel && all (λ (f : Field). all (λ (x : Segment). ltb (x .level) (s .level)) (fieldSegments st (s .body) f)) (fieldsOf (s .body))
-
-      go : (x : Bool) → ltb (s .tag) 3 ≡ x → Named (s .body) (fieldsOf (s .body)) l
-      go true q = quiet (s .body) l (plain-kind s (g .0) q)
-      go false q =
-          let d : deep ≡ true = ap (λ (x : Bool). cond x (eqb (s .level) 0) deep) (sym q) ∙ g .1 in
+      go : (ltb (s .tag) 3 ≡ true) ⊎ Named (s .body) (fieldsOf (s .body)) (s .level) → Named (s .body) (fieldsOf (s .body)) l
+      go (inl q) = quiet (s .body) l (plain-kind s (good-level s e .0) q)
+      go (inr d) =
           all-map (λ (f : Field). all (low (s .level)) (fieldSegments st (s .body) f)) (λ (f : Field). all (low l) (fieldSegments st (s .body) f))
-          (λ f k. all-map (low (s .level)) (low l) (low-more (s .level) l h) (fieldSegments st (s .body) f) k)
-          (fieldsOf (s .body)) (both (leb 1 (s .level) && leb (s .level) maxLevel) _ d .1)
+          (λ f k. all-map (low (s .level)) (low l) (low-more (s .level) l h) (fieldSegments st (s .body) f) k) (fieldsOf (s .body)) d
 
   -- no level is above 32
   level-top : (s : Segment) → good s ≡ true → low 33 s ≡ true
-  unfolding levelOk
-  level-top s e = go (ltb (s .tag) 3) refl
-    where
-      g : levelOk st s ≡ true
-      g = both (segmentShape s) (levelOk st s) (both (recordFits segmentCodec s) _ e .1) .1
-
-      deep : Bool
-      deep = leb 1 (s .level) && leb (s .level) maxLevel && all (λ (f : Field). all (λ (x : Segment). ltb (x .level) (s .level)) (fieldSegments st (s .body) f)) (fieldsOf (s .body))
-
-      go : (x : Bool) → ltb (s .tag) 3 ≡ x → low 33 s ≡ true
-      go true q = lt-ltb (s .level) 33 (omega (arith, eqb-true (s .level) 0 (ap (λ (x : Bool). cond x (eqb (s .level) 0) deep) (sym q) ∙ g)))
-      go false q =
-          let d : deep ≡ true = ap (λ (x : Bool). cond x (eqb (s .level) 0) deep) (sym q) ∙ g in
-          lt-ltb (s .level) 33 (omega (arith, leb-true (s .level) maxLevel (both (leb 1 (s .level)) (leb (s .level) maxLevel) (both (leb 1 (s .level) && leb (s .level) maxLevel) _ d .0) .1)))
+  level-top s e = lt-ltb (s .level) 33 (omega (arith, level-facts s (good-level s e .1) .top))
 
   -- what a good segment says of the tree that its body shows
   segment-from : (show : Body → Tree) (s : Segment) → good s ≡ true → segmentFrom (s .tag) (s .level) (showWith show st (fieldsOf (s .body)) (s .body)) ≡ true
