@@ -68,7 +68,7 @@ container-refits c o o′ h k e = rw (both (isWord (c .plain)) _ e .0, h, k)
 
 -- ---- the merged book
 
-module _ (old : LexOutput) (e : Edit) (r : Span) (reading : RegionOutput) (m : IncrementalOutput) (s : Step old e r reading m) where
+module _ {old : LexOutput} {e : Edit} {r : Span} {reading : RegionOutput} {m : IncrementalOutput} (s : Step old e r reading m) where
   abbrev new : LexOutput
   new = mergedOf old e reading r
 
@@ -82,24 +82,24 @@ module _ (old : LexOutput) (e : Edit) (r : Span) (reading : RegionOutput) (m : I
   fr = book-fits reading (s .readingFits)
 
   f : Fit old e reading r
-  f = fit-of old e r reading m s
+  f = fit-of s
 
   g : Grown old reading (new .layers) (grafted old reading .0)
-  g = grown old reading (s .oldFits) (s .readingFits) (s .oldFormed) (s .readingFormed) e r (limits old e r reading m s)
+  g = grown old reading (s .oldFits) (s .readingFits) (s .oldFormed) (s .readingFormed) e r (limits s)
 
   start-small : win .normalized .start ≤ maxText
   unfolding windowOf
   start-small =
-      let x = region-rises old e reading r f in
+      let x = region-rises f in
       let i = f .inside in
-      let n = normal-inside old (f .oldSound) (r .start) (f .startSafe) (omega arith) in
+      let n = normal-inside (f .oldSound) (f .startSafe) (omega arith) in
       let k = f .oldSound .normalized in
       omega arith
 
   -- ---- the layout
 
   offsets-fit : all (λ (n : SourceNode). ltb (n .normalizedOffset) (length (reading .normalized))) (grafted old reading .0) ≡ true
-  offsets-fit = same-outline (all (λ (n : SourceNode). ltb (n .normalizedOffset) (length (reading .normalized)))) (λ ns. outline-test ns) old reading ∙ offsets-small reading (f .readingSound)
+  offsets-fit = same-outline (all (λ (n : SourceNode). ltb (n .normalizedOffset) (length (reading .normalized)))) (λ ns. outline-test ns) old reading ∙ offsets-small (f .readingSound)
     where
       outline-test : (ns : List SourceNode) → all (λ (n : SourceNode). ltb (n .normalizedOffset) (length (reading .normalized))) (map outline ns) ≡ all (λ (n : SourceNode). ltb (n .normalizedOffset) (length (reading .normalized))) ns
       outline-test [] = refl
@@ -162,7 +162,7 @@ module _ (old : LexOutput) (e : Edit) (r : Span) (reading : RegionOutput) (m : I
 
   merged-fits : fits new ≡ true
   merged-fits =
-      let l = limits old e r reading m s in
+      let l = limits s in
       fits-book new (record {
         sanitized = lt-ltb (length (new .sanitized)) 4294967296 (omega (arith, l .sanitized));
         normalized = lt-ltb (length (new .normalized)) 4294967296 (omega (arith, l .normalized));
@@ -205,7 +205,7 @@ module _ (old : LexOutput) (e : Edit) (r : Span) (reading : RegionOutput) (m : I
   pub merged-book : (fits new ≡ true) × WellFormed new
   merged-book = (
     merged-fits,
-    record { utf8 = texts-ok; limits = s .facts .limits; ids = ids-ok; levels = levels-ok; places = places-ok old e reading r f; sizes = sizes-ok old e reading r f },
+    record { utf8 = texts-ok; limits = s .facts .limits; ids = ids-ok; levels = levels-ok; places = places-ok f; sizes = sizes-ok f },
   )
 
   -- so its tape is accepted again, as that book

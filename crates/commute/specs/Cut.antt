@@ -73,7 +73,7 @@ pub record SameBefore (c : ℕ) (b b′ : LexOutput) : Type 0 where
   pub nodes : (o : ℕ) → o ≤ c → nodesAllowCut (b′ .sourceNodes) o ≡ nodesAllowCut (b .sourceNodes) o
   pub pairs : (o : ℕ) → o ≤ c → pairsAllowCut (b′ .pairs) o ≡ pairsAllowCut (b .pairs) o
 
-module _ (c : ℕ) (b b′ : LexOutput) (h : SameBefore c b b′) where
+module _ {c : ℕ} {b b′ : LexOutput} (h : SameBefore c b b′) where
   allows-before : (o : ℕ) → o ≤ c → allows b′ o ≡ allows b o
   unfolding blankLineBefore
   allows-before o l = rw (h .nodes o l, h .pairs o l) (go (leb 2 o) refl)
@@ -102,7 +102,7 @@ pub record SameBehind (c d : ℕ) (b b′ : LexOutput) : Type 0 where
   pub nodes : (k : ℕ) → c < length (b .sanitized) → nodesAllowCut (b′ .sourceNodes) (d + suc k) ≡ nodesAllowCut (b .sourceNodes) (c + suc k)
   pub pairs : (k : ℕ) → pairsAllowCut (b′ .pairs) (d + suc k) ≡ pairsAllowCut (b .pairs) (c + suc k)
 
-module _ (c d : ℕ) (b b′ : LexOutput) (h : SameBehind c d b b′) (some : c < length (b .sanitized)) where
+module _ {c d : ℕ} {b b′ : LexOutput} (h : SameBehind c d b b′) (some : c < length (b .sanitized)) where
   allows-behind : (k : ℕ) → allows b′ (d + suc k) ≡ allows b (c + suc k)
   unfolding blankLineBefore
   allows-behind zero =
@@ -131,13 +131,13 @@ module _ (c d : ℕ) (b b′ : LexOutput) (h : SameBehind c d b b′) (some : c 
       same-test false e = let q = eqb-false (c + suc k) (length (b .sanitized)) e in ne-eqb (d + suc k) (length (b′ .sanitized)) (omega arith)
 
 -- the end of a region whose edit ends at or behind the cut
-pub end-behind : (c d : ℕ) (b b′ : LexOutput) → SameBehind c d b b′ → (n k : ℕ) → c + k + n ≡ length (b .sanitized) → regionEnd b′ n (d + k) + c ≡ regionEnd b n (c + k) + d
+pub end-behind : {c d : ℕ} {b b′ : LexOutput} → SameBehind c d b b′ → (n k : ℕ) → c + k + n ≡ length (b .sanitized) → regionEnd b′ n (d + k) + c ≡ regionEnd b n (c + k) + d
 unfolding regionEnd
-end-behind c d b b′ h zero k e = h .size
-end-behind c d b b′ h (suc n) k e =
+end-behind h zero k e = h .size
+end-behind {c} {d} {b} {b′} h (suc n) k e =
     let e₁ : d + k + 1 ≡ d + suc k = omega arith in
     let e₂ : c + k + 1 ≡ c + suc k = omega arith in
-    rw (h .text k, e₁, e₂, safe-behind c d b b′ h (omega arith) k) (go (newlineAt (b .sanitized) (c + k) && safeCut b (c + suc k)) (end-behind c d b b′ h n (suc k) (omega arith)))
+    rw (h .text k, e₁, e₂, safe-behind h (omega arith) k) (go (newlineAt (b .sanitized) (c + k) && safeCut b (c + suc k)) (end-behind h n (suc k) (omega arith)))
   where
     go : (t : Bool) → regionEnd b′ n (d + suc k) + c ≡ regionEnd b n (c + suc k) + d → cond t (d + suc k) (regionEnd b′ n (d + suc k)) + c ≡ cond t (c + suc k) (regionEnd b n (c + suc k)) + d
     go true r = omega arith

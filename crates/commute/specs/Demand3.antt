@@ -42,7 +42,7 @@ inserts b e r c h = go (e .replacement) refl
         absurd (false≢true (sym (c .changes) ∙ z))
     go (x ∷ l) q = omega arith
 
-module _ (b : LexOutput) (E L : Edit) (RE RL : RegionOutput) (m₁ m₂ m₃ m₄ : IncrementalOutput) (apart : balancedRegion b E .end ≤ balancedRegion b L .start)
+module _ {b : LexOutput} {E L : Edit} {RE RL : RegionOutput} {m₁ m₂ m₃ m₄ : IncrementalOutput} (apart : balancedRegion b E .end ≤ balancedRegion b L .start)
     (s₁ : Step b E (balancedRegion b E) RE m₁) (s₃ : Step b L (balancedRegion b L) RL m₃)
     (s₂ : Step (mergedOf b E RE (balancedRegion b E)) (movedBehind E L) (balancedRegion (mergedOf b E RE (balancedRegion b E)) (movedBehind E L)) RL m₂)
     (s₄ : Step (mergedOf b L RL (balancedRegion b L)) E (balancedRegion (mergedOf b L RL (balancedRegion b L)) E) RE m₄) where
@@ -59,10 +59,10 @@ module _ (b : LexOutput) (E L : Edit) (RE RL : RegionOutput) (m₁ m₂ m₃ m�
   bL = mergedOf b L RL rL
 
   fitE : Fit b E RE rE
-  fitE = fit-of b E rE RE m₁ s₁
+  fitE = fit-of s₁
 
   fitL : Fit b L RL rL
-  fitL = fit-of b L rL RL m₃ s₃
+  fitL = fit-of s₃
 
   -- the earlier edit finds its region again
   again : balancedRegion bL E ≡ rE
@@ -70,23 +70,23 @@ module _ (b : LexOutput) (E L : Edit) (RE RL : RegionOutput) (m₁ m₂ m₃ m�
   again =
       let x = fitL .inside in
       let y = fitL .startsBefore in
-      let n = length-sum b L RL rL fitL in
-      region-again b bL (rL .start) (same-before b L RL rL fitL) E RE (s₁ .chosen .rising) (s₁ .chosen .inside) (s₄ .chosen .inside) (omega arith) apart grown (twelve b E rE RE m₁ s₁) (twelve bL E (balancedRegion bL E) RE m₄ s₄)
+      let n = length-sum fitL in
+      region-again (same-before fitL) E RE (s₁ .chosen .rising) (s₁ .chosen .inside) (s₄ .chosen .inside) (omega arith) apart grown (twelve s₁) (twelve s₄)
     where
       grown : E .end ≡ length (b .sanitized) → length (b .sanitized) < length (bL .sanitized)
       grown q =
           let x = fitE .endsBehind in
           let y = fitL .startsBefore in
           let i = inserts b L rL (s₃ .chosen) (omega arith) in
-          let n = length-sum b L RL rL fitL in
+          let n = length-sum fitL in
           omega arith
 
   -- the later edit, moved, finds its own moved
   moved : balancedRegion bE (movedBehind E L) ≡ regionBehind E rL
   unfolding balancedRegion
   moved =
-      region-moved b bE E L rE (same-behind b E RE rE fitE) RL (s₁ .chosen .rising) (fitE .endsBehind) (s₃ .chosen .rising) (s₃ .chosen .inside) apart
-      (twelve b L rL RL m₃ s₃) (twelve bE (movedBehind E L) (balancedRegion bE (movedBehind E L)) RL m₂ s₂)
+      region-moved E L rE (same-behind fitE) RL (s₁ .chosen .rising) (fitE .endsBehind) (s₃ .chosen .rising) (s₃ .chosen .inside) apart
+      (twelve s₃) (twelve s₂)
 
 -- ---- kept references
 
@@ -133,32 +133,32 @@ demand3 stored b bytes hb earlier later bytesE bytesL sep o =
     let bL = mergedOf b L RL rL in
     let L′ = movedBehind E L in
     let rL′ = regionBehind E rL in
-    let n₂ = step-of (m₁ .output) bE L′ (later .reading) RL (o .room₂) m₂ (merged-book b E rE RE m₁ s₁ .0) fL (output-again b E rE RE m₁ s₁) (aL .read) (o .merge₂) in
-    let n₄ = step-of (m₃ .output) bL E (earlier .reading) RE (o .room₄) m₄ (merged-book b L rL RL m₃ s₃ .0) fE (output-again b L rL RL m₃ s₃) (aE .read) (o .merge₄) in
+    let n₂ = step-of (m₁ .output) bE L′ (later .reading) RL (o .room₂) m₂ (merged-book s₁ .0) fL (output-again s₁) (aL .read) (o .merge₂) in
+    let n₄ = step-of (m₃ .output) bL E (earlier .reading) RE (o .room₄) m₄ (merged-book s₃ .0) fE (output-again s₃) (aE .read) (o .merge₄) in
     let cE = chosen-facts b E (sep .earlierRegion) (sep .earlierChosen) .region in
     let cL = chosen-facts b L (sep .laterRegion) (sep .laterChosen) .region in
     let apart : rE .end ≤ rL .start = subst (λ (r : Span). rE .end ≤ r .start) cL (subst (λ (r : Span). r .end ≤ sep .laterRegion .start) cE (sep .apart)) in
-    let s₂ : Step bE L′ rL′ RL m₂ = subst (λ (r : Span). Step bE L′ r RL m₂) (moved b E L RE RL m₁ m₂ m₃ m₄ apart s₁ s₃ n₂ n₄) n₂ in
-    let s₄ : Step bL E rE RE m₄ = subst (λ (r : Span). Step bL E r RE m₄) (again b E L RE RL m₁ m₂ m₃ m₄ apart s₁ s₃ n₂ n₄) n₄ in
+    let s₂ : Step bE L′ rL′ RL m₂ = subst (λ (r : Span). Step bE L′ r RL m₂) (moved apart s₁ s₃ n₂ n₄) n₂ in
+    let s₄ : Step bL E rE RE m₄ = subst (λ (r : Span). Step bL E r RE m₄) (again apart s₁ s₃ n₂ n₄) n₄ in
     let four : FourMerges b E L RE RL rE rL = record {
-      firstE = fit-of b E rE RE m₁ s₁;
-      firstL = fit-of b L rL RL m₃ s₃;
+      firstE = fit-of s₁;
+      firstL = fit-of s₃;
       apart = apart;
-      secondL = fit-of bE L′ rL′ RL m₂ s₂;
-      secondE = fit-of bL E rE RE m₄ s₄;
+      secondL = fit-of s₂;
+      secondE = fit-of s₄;
     } in
-    let t = texts-agree b E L RE RL rE rL four in
-    let n = normalized-agree b E L RE RL rE rL four in
-    let k = nodes-agree b E L RE RL rE rL four m₁ m₂ m₃ m₄ s₁ s₂ s₃ s₄ in
-    let p = pairs-agree b E L RE RL rE rL four in
-    let c = containers-agree b E L RE RL rE rL four in
-    let d = diagnostics-agree b E L RE RL rE rL four in
+    let t = texts-agree four in
+    let n = normalized-agree four in
+    let k = nodes-agree four s₁ s₂ s₃ s₄ in
+    let p = pairs-agree four in
+    let c = containers-agree four in
+    let d = diagnostics-agree four in
     let ids = s₁ .oldFormed .ids in
     record {
       final₁ = mergedOf bE L′ RL rL′;
       final₂ = mergedOf bL E RE rE;
-      holds₁ = output-again bE L′ rL′ RL m₂ s₂;
-      holds₂ = output-again bL E rE RE m₄ s₄;
+      holds₁ = output-again s₂;
+      holds₂ = output-again s₄;
       earlierPassage = ap (λ (q : IncrementalOutput). q .region) (s₄ .facts .result) ∙ sym (ap (λ (q : IncrementalOutput). q .region) (s₁ .facts .result));
       laterPassage = ap (λ (q : IncrementalOutput). q .region) (s₂ .facts .result) ∙ sym (ap (λ (q : IncrementalOutput). regionBehind E (q .region)) (s₃ .facts .result));
       equalBooks = λ i. record { sanitized = t i; normalized = n i; sourceNodes = k i; pairs = p i; containerPairs = c i; diagnostics = d i };

@@ -44,7 +44,7 @@ pub record Fit (old : LexOutput) (e : Edit) (reading : RegionOutput) (r : Span) 
   -- number 13
   pub balanced : balancedNodes (reading .sourceNodes) ≡ true
 
-module _ (old : LexOutput) (e : Edit) (reading : RegionOutput) (r : Span) (f : Fit old e reading r) where
+module _ {old : LexOutput} {e : Edit} {reading : RegionOutput} {r : Span} (f : Fit old e reading r) where
   abbrev pub w : MergeWindow
   w = windowOf old e reading r
 
@@ -86,7 +86,7 @@ module _ (old : LexOutput) (e : Edit) (reading : RegionOutput) (r : Span) (f : F
   endN = normalizedOffset (old .sourceNodes) (r .end)
 
   pub normal-region-rises : startN ≤ endN
-  normal-region-rises = normal-rises old (f .oldSound) (r .start) (f .startSafe) (r .end) region-rises
+  normal-region-rises = normal-rises (f .oldSound) (f .startSafe) (r .end) region-rises
 
   pub offset-sum : (o : ℕ) → endN ≤ o → o ≤ 1000000000 → movedOffset o (w .normalizedDelta) + endN ≡ o + (length (reading .normalized) + startN)
   unfolding windowOf
@@ -169,8 +169,8 @@ module _ (old : LexOutput) (e : Edit) (reading : RegionOutput) (r : Span) (f : F
   unfolding nodesAllowCut nodesBefore mergedBook nodeLocated windowOf
   nodes-before o h =
       let inOld = f .oldSound .places .sourceSpans in
-      let x = across-front nodeLocated w (nodeIn (length (old .sanitized))) (nodeIn (length (reading .sanitized))) (length (reading .sanitized)) p q nodes-carried (old .sourceNodes) (grafted old reading .0) inOld (gn .inside) o h (f .startSafe .nodes) in
-      let y = keep-front nodeLocated w (nodeIn (length (old .sanitized))) (nodeIn (length (reading .sanitized))) (length (reading .sanitized)) p q nodes-carried (old .sourceNodes) (grafted old reading .0) inOld (gn .inside)
+      let x = across-front nodes-carried (old .sourceNodes) (grafted old reading .0) inOld (gn .inside) o h (f .startSafe .nodes) in
+      let y = keep-front nodes-carried (old .sourceNodes) (grafted old reading .0) inOld (gn .inside)
       (λ n. ltb (n .sourceSpan .start) o) (λ n. not (acrossNode (r .start) n)) fails ends (any-all (acrossNode (r .start)) (old .sourceNodes) (f .startSafe .nodes)) in
       ap₂ (λ (s : Bool) (ns : List SourceNode). not s && eqb (depth isBlockOpen isBlockClose 0 ns) 0 && eqb (depth isWarichuOpen isWarichuClose 0 ns) 0) x y
     where
@@ -186,7 +186,7 @@ module _ (old : LexOutput) (e : Edit) (reading : RegionOutput) (r : Span) (f : F
   pairs-before : (o : ℕ) → o ≤ r .start → pairsAllowCut (mergedOf old e reading r .pairs) o ≡ pairsAllowCut (old .pairs) o
   unfolding pairsAllowCut mergedBook pairLocated windowOf
   pairs-before o h =
-      ap not (across-front pairLocated w (pairOk (length (old .sanitized))) (pairOk (length (reading .sanitized))) (length (reading .sanitized)) p q pairs-carried (old .pairs) (reading .pairs) (f .oldSound .places .pairs) (f .readingSound .places .pairs) o h (f .startSafe .pairs))
+      ap not (across-front pairs-carried (old .pairs) (reading .pairs) (f .oldSound .places .pairs) (f .readingSound .places .pairs) o h (f .startSafe .pairs))
 
   pub same-before : SameBefore (r .start) old (mergedOf old e reading r)
   unfolding mergedBook
@@ -213,7 +213,7 @@ module _ (old : LexOutput) (e : Edit) (reading : RegionOutput) (r : Span) (f : F
   pairs-behind : (k : ℕ) → pairsAllowCut (mergedOf old e reading r .pairs) (end′ + suc k) ≡ pairsAllowCut (old .pairs) (r .end + suc k)
   unfolding pairsAllowCut mergedBook pairLocated windowOf
   pairs-behind k =
-      ap not (across-rest pairLocated w (pairOk (length (old .sanitized))) (pairOk (length (reading .sanitized))) (length (reading .sanitized)) p q pairs-carried (old .pairs) (reading .pairs) (f .oldSound .places .pairs) (f .readingSound .places .pairs) k (f .endSafe .pairs))
+      ap not (across-rest pairs-carried (old .pairs) (reading .pairs) (f .oldSound .places .pairs) (f .readingSound .places .pairs) k (f .endSafe .pairs))
 
   -- the depth at a cut behind the region is that of the nodes between
   module _ (opens closes : SourceNode → Bool) (moved : (n : SourceNode) → (opens (nodeLocated .moved w n) ≡ opens n) × (closes (nodeLocated .moved w n) ≡ closes n)) (placed : (n : SourceNode) → (opens (nodeLocated .placed w n) ≡ opens n) × (closes (nodeLocated .placed w n) ≡ closes n))
@@ -231,10 +231,10 @@ module _ (old : LexOutput) (e : Edit) (reading : RegionOutput) (r : Span) (f : F
         let G = map (nodeLocated .placed w) (grafted old reading .0) in
         let M = map (nodeLocated .moved w) (keep t behind) in
         let new : keep t′ (spliced nodeLocated w (old .sourceNodes) (grafted old reading .0)) ≡ front ++ (G ++ M) =
-        keep-rest nodeLocated w (nodeIn size) (nodeIn (length (reading .sanitized))) (length (reading .sanitized)) p q nodes-carried (old .sourceNodes) (grafted old reading .0) inOld (gn .inside) t t′
+        keep-rest nodes-carried (old .sourceNodes) (grafted old reading .0) inOld (gn .inside) t t′
         (λ n g h. lt-ltb (n .sourceSpan .start) (end′ + suc k) (omega arith)) in-moved in
         let kept : keep t (old .sourceNodes) ≡ until ++ keep t behind =
-        ap (keep t) (split old (f .oldSound) (r .end) (f .endSafe)) ∙ keep-append t until behind
+        ap (keep t) (split (f .oldSound) (f .endSafe)) ∙ keep-append t until behind
         ∙ ap (λ (l : List SourceNode). l ++ keep t behind) (keep-all (λ n. nodeIn size n && endsBy (r .end) n) t in-until until (all-kept (nodeIn size) (endsBy (r .end)) (old .sourceNodes) inOld)) in
         let dF : depth opens closes 0 front ≡ 0 = ap (depth opens closes 0) (sym (before-split size (r .start) (old .sourceNodes) inOld (f .startSafe .nodes))) ∙ atStart in
         let dU : depth opens closes 0 until ≡ 0 = ap (depth opens closes 0) (sym (before-split size (r .end) (old .sourceNodes) inOld (f .endSafe .nodes))) ∙ atEnd in
@@ -260,7 +260,7 @@ module _ (old : LexOutput) (e : Edit) (reading : RegionOutput) (r : Span) (f : F
   nodes-behind : (k : ℕ) → r .end < length (old .sanitized) → nodesAllowCut (mergedOf old e reading r .sourceNodes) (end′ + suc k) ≡ nodesAllowCut (old .sourceNodes) (r .end + suc k)
   unfolding nodesAllowCut mergedBook nodeLocated windowOf
   nodes-behind k some =
-      let x = across-rest nodeLocated w (nodeIn (length (old .sanitized))) (nodeIn (length (reading .sanitized))) (length (reading .sanitized)) p q nodes-carried (old .sourceNodes) (grafted old reading .0) (f .oldSound .places .sourceSpans) (gn .inside) k (f .endSafe .nodes) in
+      let x = across-rest nodes-carried (old .sourceNodes) (grafted old reading .0) (f .oldSound .places .sourceSpans) (gn .inside) k (f .endSafe .nodes) in
       let y = depth-behind isBlockOpen isBlockClose (λ n. (refl, refl)) (λ n. (refl, refl)) (f .startSafe .blocks (omega arith)) (f .endSafe .blocks some) (gn .blocks) k in
       let z = depth-behind isWarichuOpen isWarichuClose (λ n. (refl, refl)) (λ n. (refl, refl)) (f .startSafe .warichu (omega arith)) (f .endSafe .warichu some) (gn .warichu) k in
       ap₂ (λ (s : Bool) (d : ℕ). not s && eqb d 0 && eqb (depth isWarichuOpen isWarichuClose 0 (nodesBefore (end′ + suc k) (mergedOf old e reading r .sourceNodes))) 0) x y

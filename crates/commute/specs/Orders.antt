@@ -32,10 +32,10 @@ use Rattle.commute.specs.Step.{Step}
 use Rattle.commute.specs.Shown.{shownLocated, shown-merged}
 
 -- A merge of a book whose diagnostics a merge has sorted: it might as well not be sorted.
-pub sorted-again : (old : LexOutput) (e : Edit) (reading : RegionOutput) (r : Span) → Fit old e reading r → (ds : List Diagnostic) → old .diagnostics ≡ sortDiagnostics ds
+pub sorted-again : {old : LexOutput} {e : Edit} {reading : RegionOutput} {r : Span} → Fit old e reading r → (ds : List Diagnostic) → old .diagnostics ≡ sortDiagnostics ds
     → mergedOf old e reading r .diagnostics ≡ sortDiagnostics (spliced diagnosticLocated (windowOf old e reading r) ds (reading .diagnostics))
 unfolding mergedBook spliced keptBefore keptBehind diagnosticLocated shiftedDiagnostic
-sorted-again old e reading r f ds h =
+sorted-again {old} {e} {reading} {r} f ds h =
     let w = windowOf old e reading r in
     let ok : Diagnostic → Bool = λ d. spanOk (length (old .sanitized)) (d .span) in
     ap (λ (l : List Diagnostic). sortDiagnostics (spliced diagnosticLocated w l (reading .diagnostics))) h
@@ -46,10 +46,10 @@ sorted-again old e reading r f ds h =
         → notBehind d d₁ ≡ false → notBehind (diagnosticLocated .moved (windowOf old e reading r) d) (diagnosticLocated .moved (windowOf old e reading r) d₁) ≡ false
     moved d d₁ o o₁ k k₁ n =
         let w = windowOf old e reading r in
-        let c = diagnostics-carried old e reading r f in
+        let c = diagnostics-carried f in
         let z = leb-true (w .source .end) (d .span .start) k in
         let z₁ = leb-true (w .source .end) (d₁ .span .start) k₁ in
-        not-behind-moved d d₁ (diagnosticLocated .moved w d) (diagnosticLocated .moved w d₁) refl refl (p old e reading r f) (q old e reading r f) (c .movedStart d o z) (c .movedEnd d o z) (c .movedStart d₁ o₁ z₁) (c .movedEnd d₁ o₁ z₁) n
+        not-behind-moved d d₁ (diagnosticLocated .moved w d) (diagnosticLocated .moved w d₁) refl refl (p f) (q f) (c .movedStart d o z) (c .movedEnd d o z) (c .movedStart d₁ o₁ z₁) (c .movedEnd d₁ o₁ z₁) n
 
 -- ---- the four merges
 
@@ -60,7 +60,7 @@ pub record FourMerges (b : LexOutput) (E L : Edit) (RE RL : RegionOutput) (rE rL
   pub secondL : Fit (mergedOf b E RE rE) (movedBehind E L) RL (regionBehind E rL)
   pub secondE : Fit (mergedOf b L RL rL) E RE rE
 
-module _ (b : LexOutput) (E L : Edit) (RE RL : RegionOutput) (rE rL : Span) (m : FourMerges b E L RE RL rE rL) where
+module _ {b : LexOutput} {E L : Edit} {RE RL : RegionOutput} {rE rL : Span} (m : FourMerges b E L RE RL rE rL) where
   abbrev pub bE : LexOutput
   bE = mergedOf b E RE rE
 
@@ -80,22 +80,22 @@ module _ (b : LexOutput) (E L : Edit) (RE RL : RegionOutput) (rE rL : Span) (m :
   wL′ = windowOf bE L′ RL (regionBehind E rL)
 
   abbrev pub pE : ℕ
-  pE = p b E RE rE (m .firstE)
+  pE = p (m .firstE)
 
   abbrev pub qE : ℕ
-  qE = q b E RE rE (m .firstE)
+  qE = q (m .firstE)
 
   abbrev pub pL : ℕ
-  pL = p b L RL rL (m .firstL)
+  pL = p (m .firstL)
 
   abbrev pub qL : ℕ
-  qL = q b L RL rL (m .firstL)
+  qL = q (m .firstL)
 
   riseL : rL .start ≤ rL .end
-  riseL = region-rises b L RL rL (m .firstL)
+  riseL = region-rises (m .firstL)
 
   moves : (o : ℕ) → rE .end ≤ o → behindEdit E o + qE ≡ o + pE
-  moves = behind-sum b E RE rE (m .firstE)
+  moves = behind-sum (m .firstE)
 
   pub start-moves : regionBehind E rL .start + qE ≡ rL .start + pE
   unfolding regionBehind
@@ -111,24 +111,24 @@ module _ (b : LexOutput) (E L : Edit) (RE RL : RegionOutput) (rE rL : Span) (m :
   unfolding movedBehind
   twice-number o h k =
       let g = m .firstL in
-      let x₁ = moved-sum b E RE rE (m .firstE) o (omega arith) k in
-      let y₁ = moved-sum b L RL rL g o h k in
+      let x₁ = moved-sum (m .firstE) o (omega arith) k in
+      let y₁ = moved-sum g o h k in
       let e₁ = end-moves in
       let e₂ = moves (L .end) (omega arith) in
       let e₃ = moves (L .start) (omega arith) in
-      let s₁ = length-sum b E RE rE (m .firstE) in
-      let s₂ = length-sum b L RL rL g in
-      let x₂ = moved-sum bE L′ RL (regionBehind E rL) (m .secondL) (shiftClamp o (changeInLength E)) (omega arith) (omega arith) in
-      let y₂ = moved-sum bL E RE rE (m .secondE) (shiftClamp o (changeInLength L)) (omega arith) (omega arith) in
+      let s₁ = length-sum (m .firstE) in
+      let s₂ = length-sum g in
+      let x₂ = moved-sum (m .secondL) (shiftClamp o (changeInLength E)) (omega arith) (omega arith) in
+      let y₂ = moved-sum (m .secondE) (shiftClamp o (changeInLength L)) (omega arith) (omega arith) in
       omega arith
 
   pub placed-twice : (o : ℕ) → o ≤ length (RL .sanitized) → shiftClamp o (pos (regionBehind E rL .start)) ≡ shiftClamp (shiftClamp o (pos (rL .start))) (changeInLength E)
   placed-twice o k =
-      let x₁ = placed-number b L RL rL (m .firstL) o k in
-      let x₂ = placed-number bE L′ RL (regionBehind E rL) (m .secondL) o k in
+      let x₁ = placed-number (m .firstL) o k in
+      let x₂ = placed-number (m .secondL) o k in
       let e₁ = start-moves in
-      let s = length-sum b L RL rL (m .firstL) in
-      let y₂ : shiftClamp (o + rL .start) (changeInLength E) + qE ≡ o + rL .start + pE = moved-sum bL E RE rE (m .secondE) (o + rL .start) (omega arith) (omega arith) in
+      let s = length-sum (m .firstL) in
+      let y₂ : shiftClamp (o + rL .start) (changeInLength E) + qE ≡ o + rL .start + pE = moved-sum (m .secondE) (o + rL .start) (omega arith) (omega arith) in
       rw (x₁, x₂) (omega arith)
 
   -- ---- offsets of the normalized text
@@ -137,28 +137,28 @@ module _ (b : LexOutput) (E L : Edit) (RE RL : RegionOutput) (rE rL : Span) (m :
   nE o = normalizedOffset (b .sourceNodes) o
 
   riseE : nE (rE .start) ≤ nE (rE .end)
-  riseE = normal-region-rises b E RE rE (m .firstE)
+  riseE = normal-region-rises (m .firstE)
 
   riseM : nE (rE .end) ≤ nE (rL .start)
-  riseM = normal-rises b (m .firstE .oldSound) (rE .end) (m .firstE .endSafe) (rL .start) (m .apart)
+  riseM = normal-rises (m .firstE .oldSound) (m .firstE .endSafe) (rL .start) (m .apart)
 
   riseN : nE (rL .start) ≤ nE (rL .end)
-  riseN = normal-region-rises b L RL rL (m .firstL)
+  riseN = normal-region-rises (m .firstL)
 
   -- E's window is the same, merged first or second
   pub window-again : windowOf bL E RE rE ≡ wE
   unfolding windowOf
   window-again =
       let a = m .apart in
-      rw (normal-before b L RL rL (m .firstL) (rE .start) (omega arith), normal-before b L RL rL (m .firstL) (rE .end) a)
+      rw (normal-before (m .firstL) (rE .start) (omega arith), normal-before (m .firstL) (rE .end) a)
 
   pub start-moves-normal : wL′ .normalized .start + nE (rE .end) ≡ nE (rL .start) + (length (RE .normalized) + nE (rE .start))
   unfolding windowOf
-  start-moves-normal = normal-moves b E RE rE (m .firstE) (m .secondL .oldSound) (rL .start) (regionBehind E rL .start) (m .apart) start-moves
+  start-moves-normal = normal-moves (m .firstE) (m .secondL .oldSound) (rL .start) (regionBehind E rL .start) (m .apart) start-moves
 
   pub end-moves-normal : wL′ .normalized .end + nE (rE .end) ≡ nE (rL .end) + (length (RE .normalized) + nE (rE .start))
   unfolding windowOf
-  end-moves-normal = normal-moves b E RE rE (m .firstE) (m .secondL .oldSound) (rL .end) (regionBehind E rL .end) (omega arith) end-moves
+  end-moves-normal = normal-moves (m .firstE) (m .secondL .oldSound) (rL .end) (regionBehind E rL .end) (omega arith) end-moves
 
   pub twice-offset : (o : ℕ) → nE (rL .end) ≤ o → o ≤ maxText → movedOffset (movedOffset o (wE .normalizedDelta)) (wL′ .normalizedDelta) ≡ movedOffset (movedOffset o (wL .normalizedDelta)) (wE .normalizedDelta)
   unfolding windowOf
@@ -168,19 +168,19 @@ module _ (b : LexOutput) (E L : Edit) (RE RL : RegionOutput) (rE rL : Span) (m :
       let r₃ = riseN in
       let e₀ = start-moves-normal in
       let e₁ = end-moves-normal in
-      let x₁ = offset-sum b E RE rE (m .firstE) o (omega arith) (omega arith) in
-      let x₂ = offset-sum bE L′ RL (regionBehind E rL) (m .secondL) (movedOffset o (wE .normalizedDelta)) (omega arith) (omega arith) in
-      let y₁ = offset-sum b L RL rL (m .firstL) o h (omega arith) in
-      let y₂ = offset-sum b E RE rE (m .firstE) (movedOffset o (wL .normalizedDelta)) (omega arith) (omega arith) in
+      let x₁ = offset-sum (m .firstE) o (omega arith) (omega arith) in
+      let x₂ = offset-sum (m .secondL) (movedOffset o (wE .normalizedDelta)) (omega arith) (omega arith) in
+      let y₁ = offset-sum (m .firstL) o h (omega arith) in
+      let y₂ = offset-sum (m .firstE) (movedOffset o (wL .normalizedDelta)) (omega arith) (omega arith) in
       omega arith
 
   pub placed-offset : (o : ℕ) → o ≤ maxText → o + wL′ .normalized .start ≡ movedOffset (o + wL .normalized .start) (wE .normalizedDelta)
   unfolding windowOf
   placed-offset o k =
       let r₂ = riseM in
-      let l = normal-inside b (m .firstE .oldSound) (rL .start) (m .firstL .startSafe) (omega arith) in
+      let l = normal-inside (m .firstE .oldSound) (m .firstL .startSafe) (omega arith) in
       let e = start-moves-normal in
-      let x = offset-sum b E RE rE (m .firstE) (o + nE (rL .start)) (omega arith) (omega arith) in
+      let x = offset-sum (m .firstE) (o + nE (rL .start)) (omega arith) (omega arith) in
       omega arith
 
   -- ---- the texts
@@ -197,8 +197,7 @@ module _ (b : LexOutput) (E L : Edit) (RE RL : RegionOutput) (rE rL : Span) (m :
   pub pairs-agree : mergedOf bE L′ RL (regionBehind E rL) .pairs ≡ mergedOf bL E RE rE .pairs
   unfolding mergedBook pairLocated windowOf shiftedPair shifted
   pairs-agree =
-      two-orders pairLocated wE wL wL′ (pairOk (length (b .sanitized))) (pairOk (length (RE .sanitized))) (pairOk (length (RL .sanitized))) (length (RE .sanitized)) pE qE (length (RL .sanitized)) pL qL
-      (pairs-carried b E RE rE (m .firstE)) (pairs-carried b L RL rL (m .firstL)) (m .apart) start-moves end-moves twice again (b .pairs) (RE .pairs) (RL .pairs)
+      two-orders wL′ (pairs-carried (m .firstE)) (pairs-carried (m .firstL)) (m .apart) start-moves end-moves twice again (b .pairs) (RE .pairs) (RL .pairs)
       (m .firstE .oldSound .places .pairs) (m .firstE .readingSound .places .pairs) (m .firstL .readingSound .places .pairs)
       ∙ ap (λ (w : MergeWindow). spliced pairLocated w (spliced pairLocated wL (b .pairs) (RL .pairs)) (RE .pairs)) (sym window-again)
     where
@@ -219,9 +218,7 @@ module _ (b : LexOutput) (E L : Edit) (RE RL : RegionOutput) (rE rL : Span) (m :
   pub containers-agree : mergedOf bE L′ RL (regionBehind E rL) .containerPairs ≡ mergedOf bL E RE rE .containerPairs
   unfolding mergedBook containerLocated windowOf
   containers-agree =
-      two-orders containerLocated wE wL wL′ (containerOk (length (b .normalized))) (containerOk (length (RE .normalized))) (containerOk (length (RL .normalized)))
-      (length (RE .normalized)) (length (RE .normalized) + nE (rE .start)) (nE (rE .end)) (length (RL .normalized)) (length (RL .normalized) + nE (rL .start)) (nE (rL .end))
-      (containers-carried b E RE rE (m .firstE)) (containers-carried b L RL rL (m .firstL)) riseM start-moves-normal end-moves-normal twice again (b .containerPairs) (RE .containerPairs) (RL .containerPairs)
+      two-orders wL′ (containers-carried (m .firstE)) (containers-carried (m .firstL)) riseM start-moves-normal end-moves-normal twice again (b .containerPairs) (RE .containerPairs) (RL .containerPairs)
       (m .firstE .oldSound .places .containerPairs) (m .firstE .readingSound .places .containerPairs) (m .firstL .readingSound .places .containerPairs)
       ∙ ap (λ (w : MergeWindow). spliced containerLocated w (spliced containerLocated wL (b .containerPairs) (RL .containerPairs)) (RE .containerPairs)) (sym window-again)
     where
@@ -240,9 +237,7 @@ module _ (b : LexOutput) (E L : Edit) (RE RL : RegionOutput) (rE rL : Span) (m :
   unsorted-agree : spliced diagnosticLocated wL′ (spliced diagnosticLocated wE (b .diagnostics) (RE .diagnostics)) (RL .diagnostics) ≡ spliced diagnosticLocated wE (spliced diagnosticLocated wL (b .diagnostics) (RL .diagnostics)) (RE .diagnostics)
   unfolding diagnosticLocated windowOf shiftedDiagnostic shifted
   unsorted-agree =
-      two-orders diagnosticLocated wE wL wL′ (λ (d : Diagnostic). spanOk (length (b .sanitized)) (d .span)) (λ (d : Diagnostic). spanOk (length (RE .sanitized)) (d .span)) (λ (d : Diagnostic). spanOk (length (RL .sanitized)) (d .span))
-      (length (RE .sanitized)) pE qE (length (RL .sanitized)) pL qL
-      (diagnostics-carried b E RE rE (m .firstE)) (diagnostics-carried b L RL rL (m .firstL)) (m .apart) start-moves end-moves twice again (b .diagnostics) (RE .diagnostics) (RL .diagnostics)
+      two-orders wL′ (diagnostics-carried (m .firstE)) (diagnostics-carried (m .firstL)) (m .apart) start-moves end-moves twice again (b .diagnostics) (RE .diagnostics) (RL .diagnostics)
       (m .firstE .oldSound .places .diagnostics) (m .firstE .readingSound .places .diagnostics) (m .firstL .readingSound .places .diagnostics)
     where
       twice : (d : Diagnostic) → spanOk (length (b .sanitized)) (d .span) ≡ true → rL .end ≤ d .span .start → diagnosticLocated .moved wL′ (diagnosticLocated .moved wE d) ≡ diagnosticLocated .moved wE (diagnosticLocated .moved wL d)
@@ -254,9 +249,9 @@ module _ (b : LexOutput) (E L : Edit) (RE RL : RegionOutput) (rE rL : Span) (m :
   pub diagnostics-agree : mergedOf bE L′ RL (regionBehind E rL) .diagnostics ≡ mergedOf bL E RE rE .diagnostics
   unfolding mergedBook
   diagnostics-agree =
-      sorted-again bE L′ RL (regionBehind E rL) (m .secondL) (spliced diagnosticLocated wE (b .diagnostics) (RE .diagnostics)) refl
+      sorted-again (m .secondL) (spliced diagnosticLocated wE (b .diagnostics) (RE .diagnostics)) refl
       ∙ ap sortDiagnostics (unsorted-agree ∙ ap (λ (w : MergeWindow). spliced diagnosticLocated w (spliced diagnosticLocated wL (b .diagnostics) (RL .diagnostics)) (RE .diagnostics)) (sym window-again))
-      ∙ sym (sorted-again bL E RE rE (m .secondE) (spliced diagnosticLocated wL (b .diagnostics) (RL .diagnostics)) refl)
+      ∙ sym (sorted-again (m .secondE) (spliced diagnosticLocated wL (b .diagnostics) (RL .diagnostics)) refl)
 
   -- ---- the normalized text
 
@@ -267,12 +262,12 @@ module _ (b : LexOutput) (E L : Edit) (RE RL : RegionOutput) (rE rL : Span) (m :
       let r₁ = riseE in
       let r₂ = riseM in
       let r₃ = riseN in
-      let l = normal-inside b (m .firstE .oldSound) (rL .end) (m .firstL .endSafe) (m .firstL .inside) in
+      let l = normal-inside (m .firstE .oldSound) (m .firstL .endSafe) (m .firstL .inside) in
       let e₀ = start-moves-normal in
       let e₁ = end-moves-normal in
       let x₀ : normalizedOffset (bE .sourceNodes) (regionBehind E rL .start) ≡ nE (rL .start) + length (RE .normalized) - (nE (rE .end) - nE (rE .start)) = omega arith in
       let x₁ : normalizedOffset (bE .sourceNodes) (regionBehind E rL .end) ≡ nE (rL .end) + length (RE .normalized) - (nE (rE .end) - nE (rE .start)) = omega arith in
-      rw (x₀, x₁, normal-before b L RL rL (m .firstL) (rE .start) (omega arith), normal-before b L RL rL (m .firstL) (rE .end) a)
+      rw (x₀, x₁, normal-before (m .firstL) (rE .start) (omega arith), normal-before (m .firstL) (rE .end) a)
       (splice-comm (nE (rE .start)) (nE (rE .end)) (nE (rL .start)) (nE (rL .end)) (RE .normalized) (RL .normalized) (b .normalized) r₁ r₂ r₃ l)
 
   -- ---- nodes with their trees
@@ -295,7 +290,7 @@ module _ (b : LexOutput) (E L : Edit) (RE RL : RegionOutput) (rE rL : Span) (m :
       all-map-is inBook (shownNode (storeOf (b .layers))) ns
       ∙ all-and (nodeIn (length (b .sanitized))) (λ n. (not (startsAt (rL .end) n) || leb (normalizedOffset ns (rL .end)) (n .normalizedOffset)) && ltb (n .normalizedOffset) (length (b .normalized))) ns (s .places .sourceSpans)
       (all-and (λ n. not (startsAt (rL .end) n) || leb (normalizedOffset ns (rL .end)) (n .normalizedOffset)) (λ n. ltb (n .normalizedOffset) (length (b .normalized))) ns
-      (all-if (λ n. leb (normalizedOffset ns (rL .end)) (n .normalizedOffset)) (startsAt (rL .end)) ns (offsets-behind b s (rL .end) (m .firstL .endSafe))) (offsets-small b s))
+      (all-if (λ n. leb (normalizedOffset ns (rL .end)) (n .normalizedOffset)) (startsAt (rL .end)) ns (offsets-behind s (m .firstL .endSafe))) (offsets-small s))
 
   all-in-earlier : all inEarlier (shownNodes RE) ≡ true
   unfolding shownNodes shownNode
@@ -306,16 +301,14 @@ module _ (b : LexOutput) (E L : Edit) (RE RL : RegionOutput) (rE rL : Span) (m :
   all-in-later =
       let s = m .firstL .readingSound in
       all-map-is inLater (shownNode (storeOf (RL .layers))) (RL .sourceNodes)
-      ∙ all-and (nodeIn (length (RL .sanitized))) (λ n. ltb (n .normalizedOffset) (length (RL .normalized))) (RL .sourceNodes) (s .places .sourceSpans) (offsets-small RL s)
+      ∙ all-and (nodeIn (length (RL .sanitized))) (λ n. ltb (n .normalizedOffset) (length (RL .normalized))) (RL .sourceNodes) (s .places .sourceSpans) (offsets-small s)
 
   splices-agree : spliced shownLocated wL′ (spliced shownLocated wE (shownNodes b) (shownNodes RE)) (shownNodes RL)
       ≡ spliced shownLocated wE (spliced shownLocated wL (shownNodes b) (shownNodes RL)) (shownNodes RE)
   unfolding shownLocated windowOf shifted
   splices-agree =
-      two-orders shownLocated wE wL wL′ inBook inEarlier inLater
-      (length (RE .sanitized)) pE qE (length (RL .sanitized)) pL qL
-      (source-carried b E RE rE (m .firstE) shownLocated inBook inEarlier refl placeOf (λ n o. span-facts (length (RE .sanitized)) (n .sourceSpan) o) (λ n. (refl, refl)) (λ n. (refl, refl)))
-      (source-carried b L RL rL (m .firstL) shownLocated inBook inLater refl placeOf (λ n o. span-facts (length (RL .sanitized)) (n .sourceSpan) (both (spanOk (length (RL .sanitized)) (n .sourceSpan)) _ o .0)) (λ n. (refl, refl)) (λ n. (refl, refl)))
+      two-orders wL′ (source-carried (m .firstE) shownLocated inBook inEarlier refl placeOf (λ n o. span-facts (length (RE .sanitized)) (n .sourceSpan) o) (λ n. (refl, refl)) (λ n. (refl, refl)))
+      (source-carried (m .firstL) shownLocated inBook inLater refl placeOf (λ n o. span-facts (length (RL .sanitized)) (n .sourceSpan) (both (spanOk (length (RL .sanitized)) (n .sourceSpan)) _ o .0)) (λ n. (refl, refl)) (λ n. (refl, refl)))
       (m .apart) start-moves end-moves twice again (shownNodes b) (shownNodes RE) (shownNodes RL) all-in-book all-in-earlier all-in-later
     where
       placeOf : (n : ShownNode) → inBook n ≡ true → (n .sourceSpan .start < n .sourceSpan .end) × (n .sourceSpan .end ≤ length (b .sanitized))
@@ -342,10 +335,10 @@ module _ (b : LexOutput) (E L : Edit) (RE RL : RegionOutput) (rE rL : Span) (m :
           rw (placed-twice (n .sourceSpan .start) (omega arith), placed-twice (n .sourceSpan .end) g₂, placed-offset (n .normalizedOffset) (omega arith))
 
   -- The nodes of the two final books show the same.
-  pub nodes-agree : (m₁ m₂ m₃ m₄ : IncrementalOutput) → Step b E rE RE m₁ → Step bE L′ (regionBehind E rL) RL m₂ → Step b L rL RL m₃ → Step bL E rE RE m₄
+  pub nodes-agree : {m₁ m₂ m₃ m₄ : IncrementalOutput} → Step b E rE RE m₁ → Step bE L′ (regionBehind E rL) RL m₂ → Step b L rL RL m₃ → Step bL E rE RE m₄
       → shownNodes (mergedOf bE L′ RL (regionBehind E rL)) ≡ shownNodes (mergedOf bL E RE rE)
-  nodes-agree m₁ m₂ m₃ m₄ s₁ s₂ s₃ s₄ =
-      shown-merged bE L′ (regionBehind E rL) RL m₂ s₂
-      ∙ ap (λ (l : List ShownNode). spliced shownLocated wL′ l (shownNodes RL)) (shown-merged b E rE RE m₁ s₁)
+  nodes-agree s₁ s₂ s₃ s₄ =
+      shown-merged s₂
+      ∙ ap (λ (l : List ShownNode). spliced shownLocated wL′ l (shownNodes RL)) (shown-merged s₁)
       ∙ splices-agree
-      ∙ sym (shown-merged bL E rE RE m₄ s₄ ∙ ap₂ (λ (w : MergeWindow) (l : List ShownNode). spliced shownLocated w l (shownNodes RE)) window-again (shown-merged b L rL RL m₃ s₃))
+      ∙ sym (shown-merged s₄ ∙ ap₂ (λ (w : MergeWindow) (l : List ShownNode). spliced shownLocated w l (shownNodes RE)) window-again (shown-merged s₃))

@@ -55,7 +55,7 @@ start-zero : (b b′ : LexOutput) → regionStart b′ 0 ≡ regionStart b 0
 unfolding regionStart
 start-zero b b′ = refl
 
-module _ (b b′ : LexOutput) (l : ℕ) (same : SameBefore l b b′) (e : Edit) (reading : RegionOutput)
+module _ {b b′ : LexOutput} {l : ℕ} (same : SameBefore l b b′) (e : Edit) (reading : RegionOutput)
     (rising : e .start ≤ e .end) (inside : e .end ≤ length (b .sanitized)) (inside′ : e .end ≤ length (b′ .sanitized)) (far : l ≤ length (b′ .sanitized))
     (apart : regionEnd b (length (b .sanitized) - e .end) (e .end) ≤ l)
     (grown : e .end ≡ length (b .sanitized) → length (b .sanitized) < length (b′ .sanitized))
@@ -84,7 +84,7 @@ module _ (b b′ : LexOutput) (l : ℕ) (same : SameBefore l b b′) (e : Edit) 
       newline o p q false x =
           let a = u .endsBehind in
           let y : newlineAt (b′ .sanitized) o ≡ false = rw (same .text o (omega arith)) x in
-          start-no-newline b′ o y ∙ start-before l b b′ same o (omega arith) (omega arith) (omega arith) ∙ sym (start-no-newline b o x)
+          start-no-newline b′ o y ∙ start-before same o (omega arith) (omega arith) (omega arith) ∙ sym (start-no-newline b o x)
 
       at-end : (o : ℕ) → e .start ≡ o → e .start ≡ length (b .sanitized) → regionStart b′ o ≡ regionStart b o
       at-end zero p q = start-zero b b′
@@ -103,7 +103,7 @@ module _ (b b′ : LexOutput) (l : ℕ) (same : SameBefore l b b′) (e : Edit) 
           let n = eqb-false (e .start) (length (b .sanitized)) x in
           let a = u .endsBehind in
           let m : e .start < length (b .sanitized) = omega arith in
-          start-before l b b′ same (e .start) (omega arith) m (longer (eqb (e .end) (length (b .sanitized))) refl m)
+          start-before same (e .start) (omega arith) m (longer (eqb (e .end) (length (b .sanitized))) refl m)
 
   pub region-again : balancedRegion b′ e ≡ balancedRegion b e
   unfolding balancedRegion
@@ -119,7 +119,7 @@ pub behind-is : (e : Edit) (o : ℕ) → e .start ≤ e .end → e .end ≤ o �
 unfolding behindEdit
 behind-is e o h k = omega arith
 
-module _ (b b′ : LexOutput) (first e : Edit) (r : Span) (same : SameBehind (r .end) (behindEdit first (r .end)) b b′) (reading : RegionOutput)
+module _ {b b′ : LexOutput} (first e : Edit) (r : Span) (same : SameBehind (r .end) (behindEdit first (r .end)) b b′) (reading : RegionOutput)
     (first-rising : first .start ≤ first .end) (first-inside : first .end ≤ r .end)
     (rising : e .start ≤ e .end) (inside : e .end ≤ length (b .sanitized))
     (apart : r .end ≤ regionStart b (e .start))
@@ -131,7 +131,7 @@ module _ (b b′ : LexOutput) (first e : Edit) (r : Span) (same : SameBehind (r 
   end-moved : (k n n′ : ℕ) → r .end + k ≡ e .end → e .end + n ≡ length (b .sanitized) → n′ ≡ n
       → (regionEnd b′ n′ (behindEdit first (e .end)) ≡ behindEdit first (regionEnd b n (e .end))) × (e .end ≤ regionEnd b n (e .end))
   end-moved k n n′ p q t =
-      let x = end-behind (r .end) (behindEdit first (r .end)) b b′ same n k (omega arith) in
+      let x = end-behind same n k (omega arith) in
       let u = end-bounds b n (e .end) q .0 in
       let m₁ = moves (r .end) first-inside in
       let m₂ = moves (e .end) (omega arith) in

@@ -24,7 +24,7 @@ use Rattle.laws.specs.Nodes.{Sound, span-facts, span-ok, pair-facts, pair-ok, c
 use Rattle.commute.specs.Outline.{GraftedNodes, grafted-nodes}
 use Rattle.commute.specs.Merged.{Fit, p, q, startN, endN, moved-sum, placed-number, length-sum, normal-region-rises, offset-sum, nodes-carried, diagnostics-carried, containers-carried}
 
-module _ (old : LexOutput) (e : Edit) (reading : RegionOutput) (r : Span) (f : Fit old e reading r) where
+module _ {old : LexOutput} {e : Edit} {reading : RegionOutput} {r : Span} (f : Fit old e reading r) where
   abbrev new : LexOutput
   new = mergedOf old e reading r
 
@@ -32,16 +32,16 @@ module _ (old : LexOutput) (e : Edit) (reading : RegionOutput) (r : Span) (f : F
   win = windowOf old e reading r
 
   abbrev s₀ : ℕ
-  s₀ = startN old e reading r f
+  s₀ = startN f
 
   abbrev s₁ : ℕ
-  s₁ = endN old e reading r f
+  s₁ = endN f
 
   abbrev pw : ℕ
-  pw = p old e reading r f
+  pw = p f
 
   abbrev qw : ℕ
-  qw = q old e reading r f
+  qw = q f
 
   gn : GraftedNodes old reading
   gn = grafted-nodes old reading (f .readingSound) (f .balanced)
@@ -69,7 +69,7 @@ module _ (old : LexOutput) (e : Edit) (reading : RegionOutput) (r : Span) (f : F
   placed-shift : (n : SourceNode) → inRead n ≡ true → NodeShift (nodeLocated .placed win) 0 (r .start) 0 s₀ n
   unfolding nodeLocated windowOf imageLength standalonePadding
   placed-shift n o =
-      let c = nodes-carried old e reading r f in
+      let c = nodes-carried f in
       record { start = omega (arith, c .placedStart n o); end = omega (arith, c .placedEnd n o); offset = omega arith; image = refl }
 
   -- a node behind the region, with its offset
@@ -81,13 +81,13 @@ module _ (old : LexOutput) (e : Edit) (reading : RegionOutput) (r : Span) (f : F
       let s = f .oldSound in
       all-and (λ n. inOld n && startsAt (r .end) n) (λ n. leb s₁ (n .normalizedOffset) && ltb (n .normalizedOffset) (length (old .normalized))) behind
       (all-and inOld (startsAt (r .end)) behind (all-keep inOld (startsAt (r .end)) (old .sourceNodes) (s .places .sourceSpans)) (all-keep-self (startsAt (r .end)) (old .sourceNodes)))
-      (all-and (λ n. leb s₁ (n .normalizedOffset)) (λ n. ltb (n .normalizedOffset) (length (old .normalized))) behind (offsets-behind old s (r .end) (f .endSafe))
-      (all-keep (λ n. ltb (n .normalizedOffset) (length (old .normalized))) (startsAt (r .end)) (old .sourceNodes) (offsets-small old s)))
+      (all-and (λ n. leb s₁ (n .normalizedOffset)) (λ n. ltb (n .normalizedOffset) (length (old .normalized))) behind (offsets-behind s (f .endSafe))
+      (all-keep (λ n. ltb (n .normalizedOffset) (length (old .normalized))) (startsAt (r .end)) (old .sourceNodes) (offsets-small s)))
 
   moved-shift : (n : SourceNode) → movable n ≡ true → NodeShift (nodeLocated .moved win) qw pw s₁ (length (reading .normalized) + s₀) n
   unfolding nodeLocated windowOf imageLength standalonePadding
   moved-shift n o =
-      let c = nodes-carried old e reading r f in
+      let c = nodes-carried f in
       let u = both (inOld n && startsAt (r .end) n) _ o in
       let v = both (inOld n) (startsAt (r .end) n) (u .0) in
       let z = both (leb s₁ (n .normalizedOffset)) (ltb (n .normalizedOffset) (length (old .normalized))) (u .1) in
@@ -96,7 +96,7 @@ module _ (old : LexOutput) (e : Edit) (reading : RegionOutput) (r : Span) (f : F
       record {
         start = c .movedStart n (v .0) h;
         end = c .movedEnd n (v .0) h;
-        offset = offset-sum old e reading r f (n .normalizedOffset) (leb-true s₁ (n .normalizedOffset) (z .0)) (omega (arith, small, f .oldSound .normalized));
+        offset = offset-sum f (n .normalizedOffset) (leb-true s₁ (n .normalizedOffset) (z .0)) (omega (arith, small, f .oldSound .normalized));
         image = refl;
       }
 
@@ -106,16 +106,16 @@ module _ (old : LexOutput) (e : Edit) (reading : RegionOutput) (r : Span) (f : F
   pub normal-before : (c : ℕ) → c ≤ r .start → normalizedOffset (new .sourceNodes) c ≡ normalizedOffset (old .sourceNodes) c
   unfolding normalizedOffset mergedBook nodeLocated windowOf
   normal-before c h =
-      rw (keep-front nodeLocated win inOld inRead (length (reading .sanitized)) pw qw (nodes-carried old e reading r f) (old .sourceNodes) (grafted old reading .0) (f .oldSound .places .sourceSpans) (gn .inside)
+      rw (keep-front (nodes-carried f) (old .sourceNodes) (grafted old reading .0) (f .oldSound .places .sourceSpans) (gn .inside)
       (endsBy c) (λ n. true) (λ n k g. lt-leb (n .sourceSpan .end) c (omega arith)) (λ n k t. let x = leb-true (n .sourceSpan .end) c t in omega arith) (all-true (old .sourceNodes)))
 
   -- behind it
   taken : (c c′ : ℕ) → r .end ≤ c → c′ + qw ≡ c + pw → keep (endsBy c′) (new .sourceNodes) ≡ front ++ (placed ++ map (nodeLocated .moved win) (keep (endsBy c) behind))
   unfolding mergedBook nodeLocated windowOf keptBefore keptBehind
   taken c c′ h g =
-      keep-rest nodeLocated win inOld inRead (length (reading .sanitized)) pw qw (nodes-carried old e reading r f) (old .sourceNodes) (grafted old reading .0) (f .oldSound .places .sourceSpans) (gn .inside)
+      keep-rest (nodes-carried f) (old .sourceNodes) (grafted old reading .0) (f .oldSound .places .sourceSpans) (gn .inside)
       (endsBy c) (endsBy c′) (λ n k l. let z = f .size in le-leb (n .sourceSpan .end) c′ (omega arith))
-      (λ n o k. let z = nodes-carried old e reading r f .movedEnd n o k in same-le (nodeLocated .moved win n .sourceSpan .end) c′ (n .sourceSpan .end) c (omega arith) (omega arith))
+      (λ n o k. let z = nodes-carried f .movedEnd n o k in same-le (nodeLocated .moved win n .sourceSpan .end) c′ (n .sourceSpan .end) c (omega arith) (omega arith))
 
   pub normal-moves : Sound new → (c c′ : ℕ) → r .end ≤ c → c′ + qw ≡ c + pw → normalizedOffset (new .sourceNodes) c′ + s₁ ≡ normalizedOffset (old .sourceNodes) c + (length (reading .normalized) + s₀)
   normal-moves sound c c′ h g =
@@ -125,14 +125,14 @@ module _ (old : LexOutput) (e : Edit) (reading : RegionOutput) (r : Span) (f : F
       let x : normalizedOffset (new .sourceNodes) c′ + spans (front ++ (placed ++ M)) ≡ c′ + images (front ++ (placed ++ M)) = rw (taken c c′ h g) at (normal-sum (length (new .sanitized)) (new .sourceNodes) (sound .places .order) (sound .places .sourceSpans) c′) in
       let a₁ = spans-append front (placed ++ M) in
       let a₂ = spans-append placed M in
-      let a₃ = shift-spans inRead (nodeLocated .placed win) 0 (r .start) 0 s₀ placed-shift (grafted old reading .0) (gn .inside) in
-      let a₄ = shift-spans movable (nodeLocated .moved win) qw pw s₁ (length (reading .normalized) + s₀) moved-shift m okM in
+      let a₃ = shift-spans placed-shift (grafted old reading .0) (gn .inside) in
+      let a₄ = shift-spans moved-shift m okM in
       let b₁ = images-append front (placed ++ M) in
       let b₂ = images-append placed M in
-      let b₃ = shift-images inRead (nodeLocated .placed win) 0 (r .start) 0 s₀ placed-shift (grafted old reading .0) (gn .inside) in
-      let b₄ = shift-images movable (nodeLocated .moved win) qw pw s₁ (length (reading .normalized) + s₀) moved-shift m okM in
-      let y₁ = normal-at old (f .oldSound) (r .start) (f .startSafe) in
-      let y₂ = normal-behind old (f .oldSound) (r .end) (f .endSafe) c h in
+      let b₃ = shift-images placed-shift (grafted old reading .0) (gn .inside) in
+      let b₄ = shift-images moved-shift m okM in
+      let y₁ = normal-at (f .oldSound) (f .startSafe) in
+      let y₂ = normal-behind (f .oldSound) (f .endSafe) c h in
       let g₁ = gn .spans in
       let g₂ = gn .images in
       omega arith
@@ -151,25 +151,25 @@ module _ (old : LexOutput) (e : Edit) (reading : RegionOutput) (r : Span) (f : F
 
   grown : newEnd ≤ length (new .sanitized)
   grown =
-      let a = length-sum old e reading r f in
+      let a = length-sum f in
       omega arith
 
   nodes-in : all (nodeIn (length (new .sanitized))) (new .sourceNodes) ≡ true
   unfolding mergedBook nodeLocated windowOf
   nodes-in =
-      let c = nodes-carried old e reading r f in
+      let c = nodes-carried f in
       let size = length (new .sanitized) in
       spliced-all nodeLocated win inOld inRead (nodeIn size)
       (λ n o h. span-ok size (n .sourceSpan) (c .some n o) (omega (arith, grown)))
       (λ n o. span-ok size (nodeLocated .placed win n .sourceSpan) (omega (arith, c .someRead n o, c .placedStart n o, c .placedEnd n o)) (omega (arith, grown, c .inside n o, c .placedEnd n o)))
       (λ n o h. span-ok size (nodeLocated .moved win n .sourceSpan) (omega (arith, c .some n o, c .movedStart n o h, c .movedEnd n o h))
-      (omega (arith, length-sum old e reading r f, c .movedEnd n o h, span-facts (length (old .sanitized)) (n .sourceSpan) o .1)))
+      (omega (arith, length-sum f, c .movedEnd n o h, span-facts (length (old .sanitized)) (n .sourceSpan) o .1)))
       (old .sourceNodes) (grafted old reading .0) (f .oldSound .places .sourceSpans) (gn .inside)
 
   placed-ends : all (endsBy newEnd) placed ≡ true
   unfolding nodeLocated windowOf
   placed-ends =
-      let c = nodes-carried old e reading r f in
+      let c = nodes-carried f in
       all-map-is (endsBy newEnd) (nodeLocated .placed win) (grafted old reading .0)
       ∙ all-map inRead (λ n. endsBy newEnd (nodeLocated .placed win n)) (λ n o. le-leb (nodeLocated .placed win n .sourceSpan .end) newEnd (omega (arith, c .inside n o, c .placedEnd n o))) (grafted old reading .0) (gn .inside)
 
@@ -178,29 +178,29 @@ module _ (old : LexOutput) (e : Edit) (reading : RegionOutput) (r : Span) (f : F
       let s = f .oldSound in
       rw parts
       (ordered-join 0 (r .start) front (placed ++ moved) (omega arith) (ordered-keep (length (old .sanitized)) (endsBy (r .start)) 0 (old .sourceNodes) (s .places .sourceSpans) (s .places .order)) (all-keep-self (endsBy (r .start)) (old .sourceNodes))
-      (ordered-join (r .start) newEnd placed moved (omega arith) (shift-ordered inRead (nodeLocated .placed win) 0 (r .start) 0 s₀ placed-shift 0 (r .start) (omega arith) (grafted old reading .0) (gn .inside) (gn .order)) placed-ends
-      (shift-ordered movable (nodeLocated .moved win) qw pw s₁ (length (reading .normalized) + s₀) moved-shift (r .end) newEnd (omega arith) behind all-movable (behind-ordered old s (r .end) (f .endSafe)))))
+      (ordered-join (r .start) newEnd placed moved (omega arith) (shift-ordered placed-shift 0 (r .start) (omega arith) (grafted old reading .0) (gn .inside) (gn .order)) placed-ends
+      (shift-ordered moved-shift (r .end) newEnd (omega arith) behind all-movable (behind-ordered s (f .endSafe)))))
 
   placed-spans : spans placed ≡ spans (reading .sourceNodes)
-  placed-spans = shift-spans inRead (nodeLocated .placed win) 0 (r .start) 0 s₀ placed-shift (grafted old reading .0) (gn .inside) ∙ gn .spans
+  placed-spans = shift-spans placed-shift (grafted old reading .0) (gn .inside) ∙ gn .spans
 
   placed-images : images placed ≡ images (reading .sourceNodes)
-  placed-images = shift-images inRead (nodeLocated .placed win) 0 (r .start) 0 s₀ placed-shift (grafted old reading .0) (gn .inside) ∙ gn .images
+  placed-images = shift-images placed-shift (grafted old reading .0) (gn .inside) ∙ gn .images
 
   nodes-offsets : offsetsOk 0 0 (new .sourceNodes) ≡ true
   nodes-offsets =
       let s = f .oldSound in
-      let y₁ = normal-at old s (r .start) (f .startSafe) in
-      let y₂ = normal-at old s (r .end) (f .endSafe) in
+      let y₁ = normal-at s (f .startSafe) in
+      let y₂ = normal-at s (f .endSafe) in
       let i = placed-images in
       let j = placed-spans in
       let o₂ : offsetsOk (0 + images front) (0 + spans front) placed ≡ true =
-      shift-offsets inRead (nodeLocated .placed win) 0 (r .start) 0 s₀ placed-shift (grafted old reading .0) 0 0 (0 + images front) (0 + spans front) (omega arith) (gn .inside) (gn .offsets) in
+      shift-offsets placed-shift (grafted old reading .0) 0 0 (0 + images front) (0 + spans front) (omega arith) (gn .inside) (gn .offsets) in
       let o₃ : offsetsOk (0 + images front + images placed) (0 + spans front + spans placed) moved ≡ true =
-      shift-offsets movable (nodeLocated .moved win) qw pw s₁ (length (reading .normalized) + s₀) moved-shift behind (images until) (spans until) (0 + images front + images placed) (0 + spans front + spans placed) (omega arith) all-movable (offsets-split old s (r .end) (f .endSafe) .1) in
+      shift-offsets moved-shift behind (images until) (spans until) (0 + images front + images placed) (0 + spans front + spans placed) (omega arith) all-movable (offsets-split s (f .endSafe) .1) in
       rw parts
       (offsets-append 0 0 front (placed ++ moved)
-      ∙ join (offsetsOk 0 0 front) (offsetsOk (0 + images front) (0 + spans front) (placed ++ moved)) (offsets-split old s (r .start) (f .startSafe) .0)
+      ∙ join (offsetsOk 0 0 front) (offsetsOk (0 + images front) (0 + spans front) (placed ++ moved)) (offsets-split s (f .startSafe) .0)
       (offsets-append (0 + images front) (0 + spans front) placed moved ∙ join (offsetsOk (0 + images front) (0 + spans front) placed) _ o₂ o₃))
 
   -- ---- the other lists
@@ -208,8 +208,8 @@ module _ (old : LexOutput) (e : Edit) (reading : RegionOutput) (r : Span) (f : F
   normal-length : length (new .normalized) + s₁ ≡ length (old .normalized) + (length (reading .normalized) + s₀)
   unfolding mergedBook mergedNormalized windowOf
   normal-length =
-      let x = normal-region-rises old e reading r f in
-      let y = normal-inside old (f .oldSound) (r .end) (f .endSafe) (f .inside) in
+      let x = normal-region-rises f in
+      let y = normal-inside (f .oldSound) (f .endSafe) (f .inside) in
       let l = splice-length s₀ s₁ (reading .normalized) (old .normalized) x y in
       omega arith
 
@@ -226,43 +226,43 @@ module _ (old : LexOutput) (e : Edit) (reading : RegionOutput) (r : Span) (f : F
       read x o =
           let g = pair-facts (length (reading .sanitized)) x o in
           let z = grown in
-          let a = placed-number old e reading r f (x .opening .start) (omega arith) in
-          let b = placed-number old e reading r f (x .opening .end) (omega arith) in
-          let c = placed-number old e reading r f (x .closing .start) (omega arith) in
-          let d = placed-number old e reading r f (x .closing .end) (omega arith) in
+          let a = placed-number f (x .opening .start) (omega arith) in
+          let b = placed-number f (x .opening .end) (omega arith) in
+          let c = placed-number f (x .closing .start) (omega arith) in
+          let d = placed-number f (x .closing .end) (omega arith) in
           pair-ok (length (new .sanitized)) (pairLocated .placed win x) (record { opens = omega arith; apart = omega arith; closes = omega arith; inside = omega arith })
 
       rest : (x : PairLink) → pairOk (length (old .sanitized)) x ≡ true → r .end ≤ x .opening .start → pairOk (length (new .sanitized)) (pairLocated .moved win x) ≡ true
       rest x o h =
           let g = pair-facts (length (old .sanitized)) x o in
           let g₄ = g .inside in
-          let z = length-sum old e reading r f in
-          let a = moved-sum old e reading r f (x .opening .start) h (omega arith) in
-          let b = moved-sum old e reading r f (x .opening .end) (omega arith) (omega arith) in
-          let c = moved-sum old e reading r f (x .closing .start) (omega arith) (omega arith) in
-          let d = moved-sum old e reading r f (x .closing .end) (omega arith) g₄ in
+          let z = length-sum f in
+          let a = moved-sum f (x .opening .start) h (omega arith) in
+          let b = moved-sum f (x .opening .end) (omega arith) (omega arith) in
+          let c = moved-sum f (x .closing .start) (omega arith) (omega arith) in
+          let d = moved-sum f (x .closing .end) (omega arith) g₄ in
           pair-ok (length (new .sanitized)) (pairLocated .moved win x) (record { opens = omega arith; apart = omega arith; closes = omega arith; inside = omega arith })
 
   diagnostics-in : all (λ (d : Diagnostic). spanOk (length (new .sanitized)) (d .span)) (new .diagnostics) ≡ true
   unfolding mergedBook diagnosticLocated windowOf
   diagnostics-in =
-      let c = diagnostics-carried old e reading r f in
+      let c = diagnostics-carried f in
       let size = length (new .sanitized) in
       let ok′ : Diagnostic → Bool = λ d. spanOk size (d .span) in
       all-sort ok′ (spliced diagnosticLocated win (old .diagnostics) (reading .diagnostics))
       (spliced-all diagnosticLocated win (λ d. spanOk (length (old .sanitized)) (d .span)) (λ d. spanOk (length (reading .sanitized)) (d .span)) ok′
       (λ d o h. span-ok size (d .span) (c .some d o) (omega (arith, grown)))
       (λ d o. span-ok size (diagnosticLocated .placed win d .span) (omega (arith, c .someRead d o, c .placedStart d o, c .placedEnd d o)) (omega (arith, grown, c .inside d o, c .placedEnd d o)))
-      (λ d o h. span-ok size (diagnosticLocated .moved win d .span) (omega (arith, c .some d o, c .movedStart d o h, c .movedEnd d o h)) (omega (arith, length-sum old e reading r f, c .movedEnd d o h, span-facts (length (old .sanitized)) (d .span) o .1)))
+      (λ d o h. span-ok size (diagnosticLocated .moved win d .span) (omega (arith, c .some d o, c .movedStart d o h, c .movedEnd d o h)) (omega (arith, length-sum f, c .movedEnd d o h, span-facts (length (old .sanitized)) (d .span) o .1)))
       (old .diagnostics) (reading .diagnostics) (f .oldSound .places .diagnostics) (f .readingSound .places .diagnostics))
 
   containers-in : all (containerOk (length (new .normalized))) (new .containerPairs) ≡ true
   unfolding mergedBook containerLocated windowOf
   containers-in =
-      let c = containers-carried old e reading r f in
+      let c = containers-carried f in
       let size = length (new .normalized) in
       let z = normal-length in
-      let y = normal-inside old (f .oldSound) (r .end) (f .endSafe) (f .inside) in
+      let y = normal-inside (f .oldSound) (f .endSafe) (f .inside) in
       let N = length (old .normalized) in
       let R = length (reading .normalized) in
       spliced-all containerLocated win (containerOk N) (containerOk R) (containerOk size)
@@ -281,14 +281,14 @@ module _ (old : LexOutput) (e : Edit) (reading : RegionOutput) (r : Span) (f : F
   unfolding normalizedLengthOk
   sizes-ok =
       let s = f .oldSound in
-      let y₁ = normal-at old s (r .start) (f .startSafe) in
-      let y₂ = normal-at old s (r .end) (f .endSafe) in
-      let l = length-sum old e reading r f in
+      let y₁ = normal-at s (f .startSafe) in
+      let y₂ = normal-at s (f .endSafe) in
+      let l = length-sum f in
       let x = normal-length in
       let sp : spans (new .sourceNodes) ≡ spans front + (spans (reading .sourceNodes) + spans behind) =
-      ap spans parts ∙ spans-append front (placed ++ moved) ∙ ap (λ (k : ℕ). spans front + k) (spans-append placed moved ∙ ap₂ (λ (a b : ℕ). a + b) placed-spans (shift-spans movable (nodeLocated .moved win) qw pw s₁ (length (reading .normalized) + s₀) moved-shift behind all-movable)) in
+      ap spans parts ∙ spans-append front (placed ++ moved) ∙ ap (λ (k : ℕ). spans front + k) (spans-append placed moved ∙ ap₂ (λ (a b : ℕ). a + b) placed-spans (shift-spans moved-shift behind all-movable)) in
       let im : images (new .sourceNodes) ≡ images front + (images (reading .sourceNodes) + images behind) =
-      ap images parts ∙ images-append front (placed ++ moved) ∙ ap (λ (k : ℕ). images front + k) (images-append placed moved ∙ ap₂ (λ (a b : ℕ). a + b) placed-images (shift-images movable (nodeLocated .moved win) qw pw s₁ (length (reading .normalized) + s₀) moved-shift behind all-movable)) in
-      let so : spans (old .sourceNodes) ≡ spans until + spans behind = ap spans (split old s (r .end) (f .endSafe)) ∙ spans-append until behind in
-      let io : images (old .sourceNodes) ≡ images until + images behind = ap images (split old s (r .end) (f .endSafe)) ∙ images-append until behind in
+      ap images parts ∙ images-append front (placed ++ moved) ∙ ap (λ (k : ℕ). images front + k) (images-append placed moved ∙ ap₂ (λ (a b : ℕ). a + b) placed-images (shift-images moved-shift behind all-movable)) in
+      let so : spans (old .sourceNodes) ≡ spans until + spans behind = ap spans (split s (f .endSafe)) ∙ spans-append until behind in
+      let io : images (old .sourceNodes) ≡ images until + images behind = ap images (split s (f .endSafe)) ∙ images-append until behind in
       eq-eqb (length (new .normalized) + spans (new .sourceNodes)) (length (new .sanitized) + images (new .sourceNodes)) (omega arith)

@@ -42,12 +42,12 @@ shownLocated = record {
 }
 
 -- What the nodes of a merged book show: the old book's and the reading's, spliced.
-pub shown-merged : (old : LexOutput) (e : Edit) (r : Span) (reading : RegionOutput) (m : IncrementalOutput) → Step old e r reading m
+pub shown-merged : {old : LexOutput} {e : Edit} {r : Span} {reading : RegionOutput} {m : IncrementalOutput} → Step old e r reading m
     → shownNodes (mergedOf old e reading r) ≡ spliced shownLocated (windowOf old e reading r) (shownNodes old) (shownNodes reading)
 unfolding shownNodes mergedBook spliced keptBefore keptBehind nodeLocated shownLocated shownNode showNode nodeFields
-shown-merged old e r reading m s =
+shown-merged {old} {e} {r} {reading} s =
     let w = windowOf old e reading r in
-    let g = grown old reading (s .oldFits) (s .readingFits) (s .oldFormed) (s .readingFormed) e r (limits old e r reading m s) in
+    let g = grown old reading (s .oldFits) (s .readingFits) (s .oldFormed) (s .readingFormed) e r (limits s) in
     let st = storeOf (mergedOf old e reading r .layers) in
     let st₀ = storeOf (old .layers) in
     let ns = old .sourceNodes in

@@ -48,7 +48,7 @@ step-of s b e rs reading room m fb fr hb hr q =
       facts = subst (λ (r : Span). MergeFacts b e r reading room m) (c .region) f;
     }
 
-module _ (old : LexOutput) (e : Edit) (r : Span) (reading : RegionOutput) (m : IncrementalOutput) (s : Step old e r reading m) where
+module _ {old : LexOutput} {e : Edit} {r : Span} {reading : RegionOutput} {m : IncrementalOutput} (s : Step old e r reading m) where
   around : Bounds old e r
   around = subst (Bounds old e) (sym (s .chosen .region)) (bounds old e (s .chosen .inside))
 
@@ -87,8 +87,8 @@ module _ (old : LexOutput) (e : Edit) (r : Span) (reading : RegionOutput) (m : I
         strictly = around .strictly;
         size = twelve;
         limit = limit;
-        startSafe = safe-facts old sound (r .start) (around .startSafe);
-        endSafe = safe-facts old sound (r .end) (around .endSafe);
+        startSafe = safe-facts sound (r .start) (around .startSafe);
+        endSafe = safe-facts sound (r .end) (around .endSafe);
         balanced = s .facts .balanced;
       }
 

@@ -56,7 +56,7 @@ pub record Carried {A : Type 0} (l : Located A) (w : MergeWindow) (ok okR : A �
   pub placedStart : (x : A) → okR x ≡ true → startOf l (l .placed w x) ≡ startOf l x + l .window w .start
   pub placedEnd : (x : A) → okR x ≡ true → endOf l (l .placed w x) ≡ endOf l x + l .window w .start
 
-module _ {A : Type 0} (l : Located A) (w : MergeWindow) (ok okR : A → Bool) (size p q : ℕ) (c : Carried l w ok okR size p q) (old reading : List A) (a : all ok old ≡ true) (r : all okR reading ≡ true) where
+module _ {A : Type 0} {l : Located A} {w : MergeWindow} {ok okR : A → Bool} {size p q : ℕ} (c : Carried l w ok okR size p q) (old reading : List A) (a : all ok old ≡ true) (r : all okR reading ≡ true) where
   -- ---- beside a cut at or before the region
 
   -- Where a test fails at and behind the region's start, and no old element that passes goes past it, the test keeps the same.
@@ -199,7 +199,7 @@ module _ {A : Type 0} (l : Located A) (w : MergeWindow) (ok okR : A → Bool) (s
 -- ---- two merges
 
 -- Two regions, the second behind the first: E the first merge, L the second, L′ the second once E has moved it.
-module _ {A : Type 0} (l : Located A) (wE wL wL′ : MergeWindow) (ok okE okL : A → Bool) (sE pE qE sL pL qL : ℕ) (cE : Carried l wE ok okE sE pE qE) (cL : Carried l wL ok okL sL pL qL)
+module _ {A : Type 0} {l : Located A} {wE wL : MergeWindow} (wL′ : MergeWindow) {ok okE okL : A → Bool} {sE pE qE sL pL qL : ℕ} (cE : Carried l wE ok okE sE pE qE) (cL : Carried l wL ok okL sL pL qL)
     (apart : l .window wE .end ≤ l .window wL .start)
     (start′ : l .window wL′ .start + qE ≡ l .window wL .start + pE) (end′ : l .window wL′ .end + qE ≡ l .window wL .end + pE)
     (twice : (x : A) → ok x ≡ true → l .window wL .end ≤ startOf l x → l .moved wL′ (l .moved wE x) ≡ l .moved wE (l .moved wL x))

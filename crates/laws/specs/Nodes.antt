@@ -334,9 +334,9 @@ safe-inside b o e =
       warichu = λ h. eqb-true (depth isWarichuOpen isWarichuClose 0 d) 0 (u .1);
     }
 
-pub safe-facts : (b : LexOutput) → Sound b → (o : ℕ) → safeCut b o ≡ true → SafeCut b o
+pub safe-facts : {b : LexOutput} → Sound b → (o : ℕ) → safeCut b o ≡ true → SafeCut b o
 unfolding safeCut
-safe-facts b s o e = go (eqb o 0) refl (eqb o (length (b .sanitized))) refl e
+safe-facts {b} s o e = go (eqb o 0) refl (eqb o (length (b .sanitized))) refl e
   where
     go : (x : Bool) → eqb o 0 ≡ x → (y : Bool) → eqb o (length (b .sanitized)) ≡ y → x || y || (blankLineBefore (b .sanitized) o && nodesAllowCut (b .sourceNodes) o && pairsAllowCut (b .pairs) o) ≡ true → SafeCut b o
     go true p y q e = rw (eqb-true o 0 p) (safe-start b s)
@@ -345,7 +345,7 @@ safe-facts b s o e = go (eqb o 0) refl (eqb o (length (b .sanitized))) refl e
 
 -- ---- a book around a safe cut c
 
-module _ (b : LexOutput) (s : Sound b) (c : ℕ) (safe : SafeCut b c) where
+module _ {b : LexOutput} (s : Sound b) {c : ℕ} (safe : SafeCut b c) where
   abbrev pub until : List SourceNode
   until = keep (endsBy c) (b .sourceNodes)
 
@@ -405,8 +405,8 @@ module _ (b : LexOutput) (s : Sound b) (c : ℕ) (safe : SafeCut b c) where
       offsets-from (length (b .sanitized)) (normalizedOffset (b .sourceNodes) c) c (images until) (spans until) (omega arith) behind behind-ordered (all-keep (nodeIn (length (b .sanitized))) (startsAt c) (b .sourceNodes) (s .places .sourceSpans)) (offsets-split .1)
 
 -- no offset of a node is past the normalized text
-pub offsets-small : (b : LexOutput) → Sound b → all (λ (n : SourceNode). ltb (n .normalizedOffset) (length (b .normalized))) (b .sourceNodes) ≡ true
-offsets-small b s = offsets-below (length (b .sanitized)) (length (b .normalized)) 0 0 0 (b .sourceNodes) (omega arith) (s .places .order) (s .places .sourceSpans) (s .places .offsets)
+pub offsets-small : {b : LexOutput} → Sound b → all (λ (n : SourceNode). ltb (n .normalizedOffset) (length (b .normalized))) (b .sourceNodes) ≡ true
+offsets-small {b} s = offsets-below (length (b .sanitized)) (length (b .normalized)) 0 0 0 (b .sourceNodes) (omega arith) (s .places .order) (s .places .sourceSpans) (s .places .offsets)
 
 -- ---- nodes that are moved
 
@@ -417,7 +417,7 @@ pub record NodeShift (f : SourceNode → SourceNode) (a b c d : ℕ) (n : Source
   pub offset : f n .normalizedOffset + c ≡ n .normalizedOffset + d
   pub image : imageLength (f n) ≡ imageLength n
 
-module _ (ok : SourceNode → Bool) (f : SourceNode → SourceNode) (a b c d : ℕ) (shift : (n : SourceNode) → ok n ≡ true → NodeShift f a b c d n) where
+module _ {ok : SourceNode → Bool} {f : SourceNode → SourceNode} {a b c d : ℕ} (shift : (n : SourceNode) → ok n ≡ true → NodeShift f a b c d n) where
   shift-length : (n : SourceNode) → ok n ≡ true → spanLength (f n) ≡ spanLength n
   unfolding spanLength
   shift-length n o = let s = shift n o in omega arith
