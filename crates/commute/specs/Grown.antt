@@ -113,7 +113,7 @@ module _ (old reading : LexOutput) (fo : fits old ≡ true) (fr : fits reading �
 
   -- ---- a new layer g
 
-  module _ (g : NewLayer) (numbered : Numbered (storeOf (old .layers)) g (old .layers ++ (layerOf g ∷ []))) (pools : Pools (storeOf (old .layers)) g (old .layers ++ (layerOf g ∷ [])) numbered g) where
+  module _ (g : NewLayer) (numbered : Numbered (storeOf (old .layers)) g (old .layers ++ (layerOf g ∷ []))) (pools : Pools numbered g) where
     abbrev new : List Layer
     new = old .layers ++ (layerOf g ∷ [])
 
@@ -121,10 +121,10 @@ module _ (old reading : LexOutput) (fo : fits old ≡ true) (fr : fits reading �
     st = withLayer (storeOf (old .layers)) g
 
     abbrev gc : Content → Bool
-    gc = goodContent (storeOf (old .layers)) g new numbered
+    gc = goodContent numbered
 
     abbrev gs : Segment → Bool
-    gs = goodSegment (storeOf (old .layers)) g new numbered
+    gs = goodSegment numbered
 
     more : More (storeOf (old .layers)) st
     more = subst (More (storeOf (old .layers))) (store-with (old .layers) g) (more-layers (old .layers) (layerOf g ∷ []))
@@ -223,7 +223,7 @@ module _ (old reading : LexOutput) (fo : fits old ≡ true) (fr : fits reading �
     empty-list [] q = refl
     empty-list (n ∷ ns) q = absurd (false≢true q)
 
-    no-pools : (g : NewLayer) (numbered : Numbered (storeOf (old .layers)) g (old .layers ++ (layerOf g ∷ []))) → Pools (storeOf (old .layers)) g (old .layers ++ (layerOf g ∷ [])) numbered (layered (old .layers))
+    no-pools : (g : NewLayer) (numbered : Numbered (storeOf (old .layers)) g (old .layers ++ (layerOf g ∷ []))) → Pools numbered (layered (old .layers))
     unfolding layered
     no-pools g numbered = record { strings = refl; contents = refl; segments = refl }
 
@@ -239,8 +239,7 @@ module _ (old reading : LexOutput) (fo : fits old ≡ true) (fr : fits reading �
 
         with-layer : Numbered (storeOf (old .layers)) top (old .layers ++ (layerOf top ∷ [])) → Grown old reading (old .layers ++ (layerOf top ∷ [])) nodes
         with-layer numbered =
-            let n = nodes-grafted rs (pool-strings (reading .layers) (readFits .layers) (utf8-facts reading (wr .utf8) .strings)) (pool-segments reading (readFits .layers) (shapes-of reading (readFits .shape) .layers) (wr .levels))
-            (storeOf (old .layers)) top (old .layers ++ (layerOf top ∷ [])) numbered (reading .sourceNodes) (layered (old .layers)) (fresh-above (old .layers)) .good (later-refl top) in
+            let n = nodes-grafted rs (pool-strings (reading .layers) (readFits .layers) (utf8-facts reading (wr .utf8) .strings)) (pool-segments reading (readFits .layers) (shapes-of reading (readFits .shape) .layers) (wr .levels)) numbered (reading .sourceNodes) (layered (old .layers)) (fresh-above (old .layers)) .good (later-refl top) in
             something-new top numbered (n .pools (no-pools top numbered)) nodes (n .fits (readFits .sourceNodes)) (n .shape (shapes-of reading (readFits .shape) .nodes)) (n .ids) (n .shows)
 
         go : (t : Bool) → isEmpty (reading .sourceNodes) ≡ t → LimitFacts (mergedOf old e reading r) → Grown old reading (cond t (old .layers) (old .layers ++ (layerOf top ∷ []))) nodes

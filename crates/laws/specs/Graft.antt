@@ -51,13 +51,13 @@ pub record Later (f g : NewLayer) : Type 0 where
   pub segments : Prefix (f .segments) (g .segments)
 
 pub later-refl : (f : NewLayer) → Later f f
-later-refl f = record { strings = prefix-refl (f .interner .strings); contents = prefix-refl (f .contents); segments = prefix-refl (f .segments) }
+later-refl f = record { strings = prefix-refl; contents = prefix-refl; segments = prefix-refl }
 
-pub later-trans : (f g h : NewLayer) → Later f g → Later g h → Later f h
-later-trans f g h a b = record {
-  strings = prefix-trans (f .interner .strings) (g .interner .strings) (h .interner .strings) (a .strings) (b .strings);
-  contents = prefix-trans (f .contents) (g .contents) (h .contents) (a .contents) (b .contents);
-  segments = prefix-trans (f .segments) (g .segments) (h .segments) (a .segments) (b .segments);
+pub later-trans : {f g h : NewLayer} → Later f g → Later g h → Later f h
+later-trans {f} {g} {h} a b = record {
+  strings = prefix-trans (a .strings) (b .strings);
+  contents = prefix-trans (a .contents) (b .contents);
+  segments = prefix-trans (a .segments) (b .segments);
 }
 
 -- the layer was only added to, and its numbers still begin where the old store's end
@@ -65,8 +65,8 @@ pub record Made (old : NodeStore) (f g : NewLayer) : Type 0 where
   pub above : Above old g
   pub later : Later f g
 
-pub made-trans : (old : NodeStore) (f g h : NewLayer) → Made old f g → Made old g h → Made old f h
-made-trans old f g h a b = record { above = b .above; later = later-trans f g h (a .later) (b .later) }
+pub made-trans : {old : NodeStore} {f g h : NewLayer} → Made old f g → Made old g h → Made old f h
+made-trans a b = record { above = b .above; later = later-trans (a .later) (b .later) }
 
 -- the layers ls number what the old store and the layer g hold, and a word can
 pub record Numbered (old : NodeStore) (g : NewLayer) (ls : List Layer) : Type 0 where
@@ -318,7 +318,7 @@ six-fit (suc n) (w ∷ ws) e a = let s = both (isWord w) (all isWord ws) a in jo
 
 -- ---- the law
 
-module _ (old : NodeStore) (g : NewLayer) (ls : List Layer) (numbered : Numbered old g ls) where
+module _ {old : NodeStore} {g : NewLayer} {ls : List Layer} (numbered : Numbered old g ls) where
   abbrev pub st : NodeStore
   st = withLayer old g
 
@@ -349,11 +349,11 @@ module _ (old : NodeStore) (g : NewLayer) (ls : List Layer) (numbered : Numbered
       let id = intern (f .interner) s .id in
       let strings = intern (f .interner) s .state .strings in
       let inside : Later (graftStr s f .1) g → f .stringOffset + id < length (old .strings) + length (g .interner .strings) =
-      λ l. omega (arith, a .strings, r .inside, prefix-length strings (g .interner .strings) (l .strings)) in
+      λ l. omega (arith, a .strings, r .inside, prefix-length (l .strings)) in
       record {
         made = record {
           above = record { strings = a .strings; contents = a .contents; segments = a .segments; sound = r .sound };
-          later = record { strings = (r .more, r .grown); contents = prefix-refl (f .contents); segments = prefix-refl (f .segments) };
+          later = record { strings = record { more = r .more; grown = r .grown }; contents = prefix-refl; segments = prefix-refl };
         };
         pools = λ h p. record {
           strings = ap (all goodString) (r .grown) ∙ all-append goodString (f .interner .strings) (r .more) (p .strings) (r .only goodString h);
@@ -363,8 +363,8 @@ module _ (old : NodeStore) (g : NewLayer) (ls : List Layer) (numbered : Numbered
         shows = λ l.
             ap (λ (k : ℕ). getD (old .strings ++ g .interner .strings) (k + id) []) (a .strings)
             ∙ getD-append-add (old .strings) (g .interner .strings) id []
-            ∙ ap (λ (x : List (List ℕ)). getD x id []) (l .strings .1)
-            ∙ List·getD-append strings (l .strings .0) [] id (r .inside)
+            ∙ ap (λ (x : List (List ℕ)). getD x id []) (l .strings .grown)
+            ∙ List·getD-append strings (l .strings .more) [] id (r .inside)
             ∙ r .shows;
         ok = λ l. numbered .string (f .stringOffset + id) (inside l);
         below = λ l. omega (arith, inside l, numbered .strings);
@@ -373,9 +373,9 @@ module _ (old : NodeStore) (g : NewLayer) (ls : List Layer) (numbered : Numbered
   -- a run behind a pool's first part, in a later state of the pool
   run-behind : {A : Type 0} (start : ℕ) (a p r g : List A) → start ≡ length a → Prefix (p ++ r) g → take (length r) (drop (start + length p) (a ++ g)) ≡ r
   run-behind {A} start a p r g h l =
-      ap₂ (λ (k : ℕ) (x : List A). take (length r) (drop (k + length p) (a ++ x))) h (l .1)
-      ∙ ap (take (length r)) (drop-append-add a ((p ++ r) ++ l .0) (length p) ∙ ap (drop (length p)) (append-assoc p r (l .0)) ∙ drop-append-seam p (r ++ l .0))
-      ∙ take-append-seam r (l .0)
+      ap₂ (λ (k : ℕ) (x : List A). take (length r) (drop (k + length p) (a ++ x))) h (l .grown)
+      ∙ ap (take (length r)) (drop-append-add a ((p ++ r) ++ l .more) (length p) ∙ ap (drop (length p)) (append-assoc p r (l .more)) ∙ drop-append-seam p (r ++ l .more))
+      ∙ take-append-seam r (l .more)
 
   -- a run that was pushed, from f to f′
   record RunMade {A : Type 0} (f f′ : NewLayer) (start : ℕ) (xs : List A) (sizes : List ℕ) (resolve : ℕ → ℕ → List A) : Type 0 where
@@ -389,7 +389,7 @@ module _ (old : NodeStore) (g : NewLayer) (ls : List Layer) (numbered : Numbered
       → ((a n : ℕ) → a + n ≤ length final → rangeOk sizes (length base + a) n ≡ true) → length base + length final ≤ noString
       → RunMade f f′ (offset + length pool) xs sizes (λ a n. take n (drop a (base ++ final)))
   run-made f f′ offset base pool xs final sizes made at grown range room =
-      let inside : Later f′ g → length pool + length xs ≤ length final = λ l. omega (arith, prefix-length (pool ++ xs) final (grown l), length-append pool xs) in
+      let inside : Later f′ g → length pool + length xs ≤ length final = λ l. omega (arith, prefix-length (grown l), length-append pool xs) in
       record {
         made = made;
         shows = λ l. run-behind offset base pool xs final at (grown l);
@@ -403,7 +403,7 @@ module _ (old : NodeStore) (g : NewLayer) (ls : List Layer) (numbered : Numbered
   contents-made cs f a =
       run-made f (pushContents cs f .1) (f .contentOffset) (old .contents) (f .contents) cs (g .contents) (contentCounts ls) (record {
         above = record { strings = a .strings; contents = a .contents; segments = a .segments; sound = a .sound };
-        later = record { strings = prefix-refl (f .interner .strings); contents = (cs, refl); segments = prefix-refl (f .segments) };
+        later = record { strings = prefix-refl; contents = record { more = cs; grown = refl }; segments = prefix-refl };
       }) (a .contents) (λ l. l .contents) (numbered .content) (numbered .contents)
 
   segments-made : (ss : List Segment) (f : NewLayer) → Above old f → RunMade f (pushSegments ss f .1) (pushSegments ss f .0) ss (segmentCounts ls) (resolveSegRange st)
@@ -411,7 +411,7 @@ module _ (old : NodeStore) (g : NewLayer) (ls : List Layer) (numbered : Numbered
   segments-made ss f a =
       run-made f (pushSegments ss f .1) (f .segmentOffset) (old .segments) (f .segments) ss (g .segments) (segmentCounts ls) (record {
         above = record { strings = a .strings; contents = a .contents; segments = a .segments; sound = a .sound };
-        later = record { strings = prefix-refl (f .interner .strings); contents = prefix-refl (f .contents); segments = (ss, refl) };
+        later = record { strings = prefix-refl; contents = prefix-refl; segments = record { more = ss; grown = refl } };
       }) (a .segments) (λ l. l .segments) (numbered .segment) (numbered .segments)
 
   contents-pools : (cs : List Content) (f : NewLayer) → all goodContent cs ≡ true → Pools f → Pools (pushContents cs f .1)
@@ -499,11 +499,11 @@ module _ (old : NodeStore) (g : NewLayer) (ls : List Layer) (numbered : Numbered
       let final = graftFields fs (set ws i v) f₁ in
       let set-at = string-word may i v xs ws (final .0) six d (rest .kept) in
       record {
-        made = made-trans old f f₁ (final .1) (r .made) (rest .made);
+        made = made-trans (r .made) (rest .made);
         six = rest .six;
         kept = set-at .0;
         good = λ lt.
-            let since = later-trans f₁ (final .1) g (rest .made .later) lt in
+            let since = later-trans (rest .made .later) lt in
             let more = rest .good lt in
             record {
               words = λ w. more .words (all-set isWord ws i v w (lt-ltb v 4294967296 (omega (arith, r .below since))));
@@ -563,12 +563,12 @@ module _ (old : NodeStore) (g : NewLayer) (ls : List Layer) (numbered : Numbered
       let final = graftFields fs (set (set ws i (at .0)) (i + 1) (length (r .0))) (at .1) in
       let set-at = placed i (at .0) (length (r .0)) xs ws (final .0) six d (rest .kept) in
       record {
-        made = made-trans old f (r .1) (final .1) (m .made) (made-trans old (r .1) (at .1) (final .1) (run .made) (rest .made));
+        made = made-trans (m .made) (made-trans (run .made) (rest .made));
         six = rest .six;
         kept = set-at .kept;
         good = λ lt.
-            let since = later-trans (at .1) (final .1) g (rest .made .later) lt in
-            let inside = m .good (later-trans (r .1) (at .1) g (run .made .later) since) in
+            let since = later-trans (rest .made .later) lt in
+            let inside = m .good (later-trans (run .made .later) since) in
             let more = rest .good lt in
             record {
               words = λ w. more .words (two-words ws i (at .0) (length (r .0)) (run .starts since) (run .counts since) w);
@@ -590,12 +590,12 @@ module _ (old : NodeStore) (g : NewLayer) (ls : List Layer) (numbered : Numbered
       let final = graftFields fs (set (set ws i (at .0)) (i + 1) (length (r .0))) (at .1) in
       let set-at = placed i (at .0) (length (r .0)) xs ws (final .0) six d (rest .kept) in
       record {
-        made = made-trans old f (r .1) (final .1) (m .made) (made-trans old (r .1) (at .1) (final .1) (run .made) (rest .made));
+        made = made-trans (m .made) (made-trans (run .made) (rest .made));
         six = rest .six;
         kept = set-at .kept;
         good = λ lt.
-            let since = later-trans (at .1) (final .1) g (rest .made .later) lt in
-            let inside = m .good (later-trans (r .1) (at .1) g (run .made .later) since) in
+            let since = later-trans (rest .made .later) lt in
+            let inside = m .good (later-trans (run .made .later) since) in
             let more = rest .good lt in
             record {
               words = λ w. more .words (two-words ws i (at .0) (length (r .0)) (run .starts since) (run .counts since) w);
@@ -622,9 +622,9 @@ module _ (old : NodeStore) (g : NewLayer) (ls : List Layer) (numbered : Numbered
       let f₁ = graftStr s f .1 in
       let final = graftContents cs f₁ in
       record {
-        made = made-trans old f f₁ (final .1) (r .made) (rest .made);
+        made = made-trans (r .made) (rest .made);
         good = λ lt.
-            let since = later-trans f₁ (final .1) g (rest .made .later) lt in
+            let since = later-trans (rest .made .later) lt in
             let more = rest .good lt in
             record {
               pools = λ p. more .pools (r .pools h p);
@@ -643,10 +643,10 @@ module _ (old : NodeStore) (g : NewLayer) (ls : List Layer) (numbered : Numbered
       let run = segments-made (r .0) (r .1) (m .made .above) in
       let final = graftContents cs (at .1) in
       record {
-        made = made-trans old f (r .1) (final .1) (m .made) (made-trans old (r .1) (at .1) (final .1) (run .made) (rest .made));
+        made = made-trans (m .made) (made-trans (run .made) (rest .made));
         good = λ lt.
-            let since = later-trans (at .1) (final .1) g (rest .made .later) lt in
-            let inside = m .good (later-trans (r .1) (at .1) g (run .made .later) since) in
+            let since = later-trans (rest .made .later) lt in
+            let inside = m .good (later-trans (run .made .later) since) in
             let more = rest .good lt in
             record {
               pools = λ p. more .pools (segments-pools (r .0) (r .1) (inside .items) (inside .pools p));
@@ -684,9 +684,9 @@ module _ (old : NodeStore) (g : NewLayer) (ls : List Layer) (numbered : Numbered
       let r = graftNode t f in
       let final = graftSegments ss (r .1) in
       record {
-        made = made-trans old f (r .1) (final .1) (m .made) (rest .made);
+        made = made-trans (m .made) (rest .made);
         good = λ lt.
-            let one = m .good (later-trans (r .1) (final .1) g (rest .made .later) lt) in
+            let one = m .good (later-trans (rest .made .later) lt) in
             let more = rest .good lt in
             record {
               pools = λ p. more .pools (one .pools p);

@@ -68,15 +68,15 @@ module _ (ls : List Layer) (st′ : NodeStore) (m : More (storeOf ls) st′) whe
   str-same : (id : ℕ) → idOk (stringCounts ls) id ≡ true → resolveStr st′ id ≡ resolveStr (storeOf ls) id
   unfolding resolveStr idOk
   str-same id h =
-      ap (λ (l : List (List ℕ)). getD l id []) (m .strings .1)
-      ∙ List·getD-append (storeOf ls .strings) (m .strings .0) [] id (omega (arith, ltb-true id (sum (stringCounts ls)) h, string-count ls))
+      ap (λ (l : List (List ℕ)). getD l id []) (m .strings .grown)
+      ∙ List·getD-append (storeOf ls .strings) (m .strings .more) [] id (omega (arith, ltb-true id (sum (stringCounts ls)) h, string-count ls))
 
   run-same : {A : Type 0} (counts : List ℕ) (start len : ℕ) (l l′ : List A) → rangeOk counts start len ≡ true → sum counts ≡ length l → Prefix l l′ → take len (drop start l′) ≡ take len (drop start l)
   unfolding rangeOk
   run-same counts start len l l′ h n e =
       let i = leb-true (start + len) (sum counts) (both (leb (start + len) (sum counts)) _ h .0) in
       let d = length-drop start l in
-      ap (λ x. take len (drop start x)) (e .1) ∙ ap (take len) (drop-append-le start l (e .0) (omega arith)) ∙ take-append-le len (drop start l) (e .0) (omega arith)
+      ap (λ x. take len (drop start x)) (e .grown) ∙ ap (take len) (drop-append-le start l (e .more) (omega arith)) ∙ take-append-le len (drop start l) (e .more) (omega arith)
 
   contents-same : (start len : ℕ) → rangeOk (contentCounts ls) start len ≡ true → resolveContentRange st′ start len ≡ resolveContentRange (storeOf ls) start len
   unfolding resolveContentRange
@@ -177,9 +177,9 @@ module _ (ls : List Layer) (st′ : NodeStore) (m : More (storeOf ls) st′) whe
 pub more-layers : (ls more : List Layer) → More (storeOf ls) (storeOf (ls ++ more))
 unfolding storeOf
 more-layers ls more = record {
-  strings = (storeOf more .strings, pool-append (λ (l : Layer). l .strings) ls more);
-  contents = (storeOf more .contents, pool-append (λ (l : Layer). l .contents) ls more);
-  segments = (storeOf more .segments, pool-append (λ (l : Layer). l .segments) ls more);
+  strings = record { more = storeOf more .strings; grown = pool-append (λ (l : Layer). l .strings) ls more };
+  contents = record { more = storeOf more .contents; grown = pool-append (λ (l : Layer). l .contents) ls more };
+  segments = record { more = storeOf more .segments; grown = pool-append (λ (l : Layer). l .segments) ls more };
 }
 
 -- number 4's test, of the pools

@@ -244,24 +244,24 @@ module _ (st : NodeStore) where
 
     -- The grafted node adds to the layer; in a later state g it shows what it showed in the reading, its words fit, its shape
     -- and its ids are right.
-    pub record NodeGood (old : NodeStore) (g : NewLayer) (ls : List Layer) (numbered : Numbered old g ls) (n : SourceNode) (f : NewLayer) : Type 0 where
-      pub pools : Pools old g ls numbered f → Pools old g ls numbered (graftNodeRef (shownNode st n) f .1)
+    pub record NodeGood {old : NodeStore} {g : NewLayer} {ls : List Layer} (numbered : Numbered old g ls) (n : SourceNode) (f : NewLayer) : Type 0 where
+      pub pools : Pools numbered f → Pools numbered (graftNodeRef (shownNode st n) f .1)
       pub shows : shownNode (withLayer old g) (graftNodeRef (shownNode st n) f .0) ≡ shownNode st n
       pub fits : recordFits nodeCodec n ≡ true → recordFits nodeCodec (graftNodeRef (shownNode st n) f .0) ≡ true
       pub shape : nodeShape n ≡ true → nodeShape (graftNodeRef (shownNode st n) f .0) ≡ true
       pub ids : nodeOk ls (graftNodeRef (shownNode st n) f .0) ≡ true
 
-    pub record NodeGrafted (old : NodeStore) (g : NewLayer) (ls : List Layer) (numbered : Numbered old g ls) (n : SourceNode) (f : NewLayer) : Type 0 where
+    pub record NodeGrafted {old : NodeStore} {g : NewLayer} {ls : List Layer} (numbered : Numbered old g ls) (n : SourceNode) (f : NewLayer) : Type 0 where
       pub made : Made old f (graftNodeRef (shownNode st n) f .1)
-      pub good : Later (graftNodeRef (shownNode st n) f .1) g → NodeGood old g ls numbered n f
+      pub good : Later (graftNodeRef (shownNode st n) f .1) g → NodeGood numbered n f
 
-    pub node-grafted : (old : NodeStore) (g : NewLayer) (ls : List Layer) (numbered : Numbered old g ls) (n : SourceNode) (f : NewLayer) → Above old f → NodeGrafted old g ls numbered n f
+    pub node-grafted : {old : NodeStore} {g : NewLayer} {ls : List Layer} (numbered : Numbered old g ls) (n : SourceNode) (f : NewLayer) → Above old f → NodeGrafted numbered n f
     unfolding graftNodeRef shownNode showNode showWith graftNode nodeOk nodeFields fieldsOf
-    node-grafted old g ls numbered n f a =
+    node-grafted numbered n f a =
         let b = n .body in
         let xs = nodeFields n in
         let fs = showFields (λ x. inner 33 st x) st b xs in
-        let m = graft-fields old g ls numbered fs 33 xs (all-shown 33 b xs (fields-low b xs)) (replicate 6 0) f a refl (node-distinct n) in
+        let m = graft-fields numbered fs 33 xs (all-shown 33 b xs (fields-low b xs)) (replicate 6 0) f a refl (node-distinct n) in
         let ws = graftFields fs (replicate 6 0) f .0 in
         let new : Body = record { kind = b .kind; tag = b .tag; plain1 = b .plain1; plain2 = b .plain2; words = ws } in
         record {
@@ -277,32 +277,32 @@ module _ (st : NodeStore) where
 
     -- ---- the nodes of a reading
 
-    pub record NodesGood (old : NodeStore) (g : NewLayer) (ls : List Layer) (numbered : Numbered old g ls) (ns : List SourceNode) (f : NewLayer) : Type 0 where
-      pub pools : Pools old g ls numbered f → Pools old g ls numbered (graftNodeRefs (map (shownNode st) ns) f .1)
+    pub record NodesGood {old : NodeStore} {g : NewLayer} {ls : List Layer} (numbered : Numbered old g ls) (ns : List SourceNode) (f : NewLayer) : Type 0 where
+      pub pools : Pools numbered f → Pools numbered (graftNodeRefs (map (shownNode st) ns) f .1)
       pub shows : map (shownNode (withLayer old g)) (graftNodeRefs (map (shownNode st) ns) f .0) ≡ map (shownNode st) ns
       pub fits : all (recordFits nodeCodec) ns ≡ true → all (recordFits nodeCodec) (graftNodeRefs (map (shownNode st) ns) f .0) ≡ true
       pub shape : all nodeShape ns ≡ true → all nodeShape (graftNodeRefs (map (shownNode st) ns) f .0) ≡ true
       pub ids : all (nodeOk ls) (graftNodeRefs (map (shownNode st) ns) f .0) ≡ true
 
-    pub record NodesGrafted (old : NodeStore) (g : NewLayer) (ls : List Layer) (numbered : Numbered old g ls) (ns : List SourceNode) (f : NewLayer) : Type 0 where
+    pub record NodesGrafted {old : NodeStore} {g : NewLayer} {ls : List Layer} (numbered : Numbered old g ls) (ns : List SourceNode) (f : NewLayer) : Type 0 where
       pub made : Made old f (graftNodeRefs (map (shownNode st) ns) f .1)
-      pub good : Later (graftNodeRefs (map (shownNode st) ns) f .1) g → NodesGood old g ls numbered ns f
+      pub good : Later (graftNodeRefs (map (shownNode st) ns) f .1) g → NodesGood numbered ns f
 
-    pub nodes-grafted : (old : NodeStore) (g : NewLayer) (ls : List Layer) (numbered : Numbered old g ls) (ns : List SourceNode) (f : NewLayer) → Above old f → NodesGrafted old g ls numbered ns f
+    pub nodes-grafted : {old : NodeStore} {g : NewLayer} {ls : List Layer} (numbered : Numbered old g ls) (ns : List SourceNode) (f : NewLayer) → Above old f → NodesGrafted numbered ns f
     unfolding graftNodeRefs
-    nodes-grafted old g ls numbered [] f a = record {
+    nodes-grafted numbered [] f a = record {
       made = record { above = a; later = later-refl f };
       good = λ lt. record { pools = λ p. p; shows = refl; fits = λ e. e; shape = λ e. e; ids = refl };
     }
-    nodes-grafted old g ls numbered (n ∷ ns) f a =
-        let one = node-grafted old g ls numbered n f a in
+    nodes-grafted {ls = ls} numbered (n ∷ ns) f a =
+        let one = node-grafted numbered n f a in
         let r = graftNodeRef (shownNode st n) f in
-        let more = nodes-grafted old g ls numbered ns (r .1) (one .made .above) in
+        let more = nodes-grafted numbered ns (r .1) (one .made .above) in
         let final = graftNodeRefs (map (shownNode st) ns) (r .1) in
         record {
-          made = made-trans old f (r .1) (final .1) (one .made) (more .made);
+          made = made-trans (one .made) (more .made);
           good = λ lt.
-              let x = one .good (later-trans (r .1) (final .1) g (more .made .later) lt) in
+              let x = one .good (later-trans (more .made .later) lt) in
               let y = more .good lt in
               record {
                 pools = λ p. y .pools (x .pools p);
