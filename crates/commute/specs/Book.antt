@@ -27,9 +27,8 @@ use Rattle.laws.specs.Shift.{shift-small, moved-small}
 use Rattle.laws.specs.Utf8.{splice-utf8}
 use Rattle.laws.specs.Sort.{all-sort}
 use Rattle.laws.specs.Located.{spliced-all}
-use Rattle.laws.specs.Nodes.{container-facts, normal-inside, offsets-small}
-use Rattle.commute.specs.Outline.{same-outline, outline}
-use Rattle.commute.specs.Merged.{Fit, region-rises}
+use Rattle.laws.specs.Nodes.{container-facts, normal-inside}
+use Rattle.commute.specs.Merged.{Fit, gn, region-rises}
 use Rattle.commute.specs.Places.{places-ok, sizes-ok}
 use Rattle.commute.specs.Grown.{Shapes, shapes-of, shape-is, Grown, grown}
 use Rattle.commute.specs.Step.{Step, fit-of, limits}
@@ -98,13 +97,6 @@ module _ {old : LexOutput} {e : Edit} {r : Span} {reading : RegionOutput} {m : I
 
   -- ---- the layout
 
-  offsets-fit : all (λ (n : SourceNode). ltb (n .normalizedOffset) (length (reading .normalized))) (grafted old reading .0) ≡ true
-  offsets-fit = same-outline (all (λ (n : SourceNode). ltb (n .normalizedOffset) (length (reading .normalized)))) (λ ns. outline-test ns) old reading ∙ offsets-small (f .readingSound)
-    where
-      outline-test : (ns : List SourceNode) → all (λ (n : SourceNode). ltb (n .normalizedOffset) (length (reading .normalized))) (map outline ns) ≡ all (λ (n : SourceNode). ltb (n .normalizedOffset) (length (reading .normalized))) ns
-      outline-test [] = refl
-      outline-test (n ∷ ns) = ap (λ (t : Bool). ltb (n .normalizedOffset) (length (reading .normalized)) && t) (outline-test ns)
-
   nodes-fit : all (recordFits nodeCodec) (new .sourceNodes) ≡ true
   unfolding mergedBook nodeLocated shifted
   nodes-fit =
@@ -114,7 +106,7 @@ module _ {old : LexOutput} {e : Edit} {r : Span} {reading : RegionOutput} {m : I
       node-refits n (shifted (n .sourceSpan) (pos (win .source .start))) (n .normalizedOffset + win .normalized .start) (shift-small (n .sourceSpan .start) (pos (win .source .start))) (shift-small (n .sourceSpan .end) (pos (win .source .start)))
       (lt-ltb (n .normalizedOffset + win .normalized .start) 4294967296 (omega (arith, start-small, f .readingSound .normalized))) (u .0))
       (λ n o h. node-refits n (shifted (n .sourceSpan) (win .sourceDelta)) (movedOffset (n .normalizedOffset) (win .normalizedDelta)) (shift-small (n .sourceSpan .start) (win .sourceDelta)) (shift-small (n .sourceSpan .end) (win .sourceDelta)) (moved-small (n .normalizedOffset) (win .normalizedDelta)) o)
-      (old .sourceNodes) (grafted old reading .0) (fo .sourceNodes) (all-and (recordFits nodeCodec) small (grafted old reading .0) (g .nodeFits) offsets-fit)
+      (old .sourceNodes) (grafted old reading .0) (fo .sourceNodes) (all-and (recordFits nodeCodec) small (grafted old reading .0) (g .nodeFits) (gn f .small))
 
   pairs-fit : all (recordFits pairCodec) (new .pairs) ≡ true
   unfolding mergedBook pairLocated

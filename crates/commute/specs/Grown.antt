@@ -1,4 +1,5 @@
--- The layers of a merged book and its grafted nodes pass 1, 2, 4 and 5, and show what old book and reading showed. Sections 4 and 5.
+-- The layers of a merged book and its grafted nodes pass 1, 2, 4 and 5, and show what old book and reading showed. Sections 4
+-- and 5.
 use mathlib.Core.Path.{_≡_, refl, sym, ap, _∙_, subst}
 use Prim.Native.Nat.{ℕ}
 use native.Mathlib.Omega.{arith}

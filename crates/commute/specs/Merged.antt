@@ -162,7 +162,8 @@ module _ {old : LexOutput} {e : Edit} {reading : RegionOutput} {r : Span} (f : F
       let l = length-take-le (e .start) (old .sanitized) (omega arith) in
       List·getD-append (take (e .start) (old .sanitized)) (e .replacement ++ drop (e .end) (old .sanitized)) 0 i (omega arith) ∙ getD-take (e .start) (old .sanitized) i 0 (omega arith)
 
-  gn : GraftedNodes old reading
+  -- the grafted nodes lie as the reading's
+  pub gn : GraftedNodes old reading
   gn = grafted-nodes old reading (f .readingSound) (f .balanced)
 
   nodes-before : (o : ℕ) → o ≤ r .start → nodesAllowCut (mergedOf old e reading r .sourceNodes) o ≡ nodesAllowCut (old .sourceNodes) o

@@ -5,7 +5,7 @@ use Prim.Native.Nat.{ℕ, _+_}
 use mathlib.Core.Bool.{Bool, true, _&&_}
 use mathlib.Core.List.{List, [], _∷_, map}
 use lib.ListN.{length}
-use lib.Dec.{leb}
+use lib.Dec.{leb, ltb}
 use Rattle.model.specs.Lists.{all}
 use Rattle.model.specs.Types.{SourceNode, LexOutput, RegionOutput}
 use Rattle.model.specs.Store.{NodeStore, storeOf}
@@ -16,7 +16,7 @@ use Rattle.model.specs.Region.{depth, isBlockOpen, isBlockClose, isWarichuOpen,
 use Rattle.model.specs.Merge.{balancedFrom, balancedNodes, grafted}
 use Rattle.laws.specs.Lists.{both}
 use Rattle.laws.specs.Keep.{all-map-is, all-true}
-use Rattle.laws.specs.Nodes.{Sound, nodeIn, offsetTest, images-map, spans-map, depth-map, balanced-depth}
+use Rattle.laws.specs.Nodes.{Sound, nodeIn, offsets-small, offsetTest, images-map, spans-map, depth-map, balanced-depth}
 
 abbrev pub outline : SourceNode → SourceNode
 outline n = record {
@@ -55,7 +55,7 @@ pub record GraftedNodes (old : LexOutput) (reading : RegionOutput) : Type 0 wher
   pub inside : all (nodeIn (length (reading .sanitized))) (grafted old reading .0) ≡ true
   pub order : ordered 0 (grafted old reading .0) ≡ true
   pub offsets : offsetsOk 0 0 (grafted old reading .0) ≡ true
-  pub small : all (λ (n : SourceNode). leb (n .normalizedOffset) (length (reading .normalized))) (grafted old reading .0) ≡ all (λ (n : SourceNode). leb (n .normalizedOffset) (length (reading .normalized))) (reading .sourceNodes)
+  pub small : all (λ (n : SourceNode). ltb (n .normalizedOffset) (length (reading .normalized))) (grafted old reading .0) ≡ true
   pub images : images (grafted old reading .0) ≡ images (reading .sourceNodes)
   pub spans : spans (grafted old reading .0) ≡ spans (reading .sourceNodes)
   pub blocks : depth isBlockOpen isBlockClose 0 (grafted old reading .0) ≡ 0
@@ -64,12 +64,13 @@ pub record GraftedNodes (old : LexOutput) (reading : RegionOutput) : Type 0 wher
 pub grafted-nodes : (old : LexOutput) (reading : RegionOutput) → Sound reading → balancedNodes (reading .sourceNodes) ≡ true → GraftedNodes old reading
 unfolding balancedNodes imageLength standalonePadding spanLength
 grafted-nodes old reading s e =
+    let offsetIn : SourceNode → Bool = λ n. ltb (n .normalizedOffset) (length (reading .normalized)) in
     let b = both (balancedFrom isBlockOpen isBlockClose 0 (reading .sourceNodes)) (balancedFrom isWarichuOpen isWarichuClose 0 (reading .sourceNodes)) e in
     record {
       inside = same-outline (all (nodeIn (length (reading .sanitized)))) (λ ns. all-map-is (nodeIn (length (reading .sanitized))) outline ns) old reading ∙ s .places .sourceSpans;
       order = same-outline (ordered 0) (ordered-outline 0) old reading ∙ s .places .order;
       offsets = same-outline (offsetsOk 0 0) (offsets-outline 0 0) old reading ∙ s .places .offsets;
-      small = same-outline (all (λ (n : SourceNode). leb (n .normalizedOffset) (length (reading .normalized)))) (λ ns. all-map-is (λ (n : SourceNode). leb (n .normalizedOffset) (length (reading .normalized))) outline ns) old reading;
+      small = same-outline (all offsetIn) (λ ns. all-map-is offsetIn outline ns) old reading ∙ offsets-small s;
       images = same-outline images (λ ns. images-map (λ n. true) outline (λ n h. refl) ns (all-true ns)) old reading;
       spans = same-outline spans (λ ns. spans-map (λ n. true) outline (λ n h. refl) ns (all-true ns)) old reading;
       blocks =

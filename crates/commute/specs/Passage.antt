@@ -1,5 +1,5 @@
--- Same passage: the earlier edit's region is found again after the later correction, and the later edit's region is the old one moved after
--- the earlier correction. Number 12 of the second merge fixes a region's length. Section 7.
+-- Same passage: the earlier edit's region is found again after the later correction, and the later edit's region is the old one
+-- moved after the earlier correction. Number 12 of the second merge fixes a region's length. Section 7.
 use mathlib.Core.Path.{_≡_, refl, sym, _∙_}
 use Prim.Native.Nat.{ℕ, zero, suc, _+_, _-_, _≤_, _<_}
 use native.Mathlib.Omega.{arith}

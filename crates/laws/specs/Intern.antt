@@ -1,4 +1,4 @@
--- An interned id shows its string, and every later state of the layer still shows it. Assumes nothing.
+-- An interned id shows its string, and every later state of the layer still shows it.
 use mathlib.Core.Path.{_≡_, refl, sym, ap, _∙_}
 use mathlib.Core.Logic.{_⊎_, inl, inr}
 use Prim.Native.Nat.{ℕ, zero, suc, _+_, _-_, _*_, _%_, _≤_, _<_, zero-le}
