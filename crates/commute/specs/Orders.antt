@@ -26,7 +26,7 @@ use Rattle.laws.specs.Splice.{splice-comm}
 use Rattle.laws.specs.Sort.{sort-first, all-unsorted, not-behind-moved}
 use Rattle.laws.specs.Located.{two-orders}
 use Rattle.laws.specs.Nodes.{span-facts, pair-facts, container-facts, startsAt, nodeIn, normal-rises, normal-inside, offsets-behind, offsets-small}
-use Rattle.commute.specs.Merged.{Fit, p, q, region-rises, moved-sum, placed-number, length-sum, behind-sum, normal-region-rises, offset-sum, source-carried, pairs-carried, diagnostics-carried, containers-carried}
+use Rattle.commute.specs.Merged.{Fit, p, q, moved-sum, placed-number, length-sum, behind-sum, normal-region-rises, offset-sum, source-carried, pairs-carried, diagnostics-carried, containers-carried}
 use Rattle.commute.specs.Places.{normal-before, normal-moves}
 use Rattle.commute.specs.Step.{Step}
 use Rattle.commute.specs.Shown.{shownLocated, shown-merged}
@@ -90,9 +90,6 @@ module _ {b : LexOutput} {E L : Edit} {RE RL : RegionOutput} {rE rL : Span} (m :
 
   abbrev pub qL : ℕ
   qL = q (m .firstL)
-
-  riseL : rL .start ≤ rL .end
-  riseL = region-rises (m .firstL)
 
   moves : (o : ℕ) → rE .end ≤ o → behindEdit E o + qE ≡ o + pE
   moves = behind-sum (m .firstE)

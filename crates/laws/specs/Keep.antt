@@ -62,21 +62,6 @@ module _ {A : Type 0} (ok : A → Bool) where
       let s = both (ok x) (all ok l) h in
       rw (e x (s .0)) (any-none p e l (s .1))
 
-  pub any-same : (p q : A → Bool) → ((x : A) → ok x ≡ true → p x ≡ q x) → (l : List A) → all ok l ≡ true → any p l ≡ any q l
-  any-same p q e [] h = refl
-  any-same p q e (x ∷ l) h =
-      let s = both (ok x) (all ok l) h in
-      ap₂ (λ (s t : Bool). s || t) (e x (s .0)) (any-same p q e l (s .1))
-
-  -- what a test drops does not matter to another that it does not pass
-  pub any-keep : (p q : A → Bool) → ((x : A) → ok x ≡ true → q x ≡ false → p x ≡ false) → (l : List A) → all ok l ≡ true → any p (keep q l) ≡ any p l
-  any-keep p q e [] h = refl
-  any-keep p q e (x ∷ l) h = go (q x) refl (any-keep p q e l (both (ok x) (all ok l) h .1))
-    where
-      go : (t : Bool) → q x ≡ t → any p (keep q l) ≡ any p l → any p (cond t (x ∷ keep q l) (keep q l)) ≡ p x || any p l
-      go true f r = ap (λ (t : Bool). p x || t) r
-      go false f r = rw (e x (both (ok x) (all ok l) h .0) f) r
-
   pub keep-keep : (p q : A → Bool) → ((x : A) → ok x ≡ true → p x ≡ true → q x ≡ true) → (l : List A) → all ok l ≡ true → keep p (keep q l) ≡ keep p l
   keep-keep p q e [] h = refl
   keep-keep p q e (x ∷ l) h = go (q x) refl (p x) refl (keep-keep p q e l (both (ok x) (all ok l) h .1))
@@ -132,14 +117,6 @@ module _ {A : Type 0} where
       go true = refl
       go false = refl
 
-  pub any-append : (p : A → Bool) (a b : List A) → any p (a ++ b) ≡ any p a || any p b
-  any-append p [] b = refl
-  any-append p (x ∷ a) b = rw (any-append p a b) (go (p x))
-    where
-      go : (t : Bool) → t || (any p a || any p b) ≡ t || any p a || any p b
-      go true = refl
-      go false = refl
-
   pub all-get : (p : A → Bool) (l : List A) (i : ℕ) (d : A) → all p l ≡ true → p d ≡ true → p (getD l i d) ≡ true
   all-get p [] i d a h = h
   all-get p (x ∷ l) zero d a h = both (p x) (all p l) a .0
@@ -164,10 +141,6 @@ module _ {A B : Type 0} where
   all-map-is p f [] = refl
   all-map-is p f (x ∷ l) = ap (λ (t : Bool). p (f x) && t) (all-map-is p f l)
 
-  pub any-map-is : (p : B → Bool) (f : A → B) (l : List A) → any p (map f l) ≡ any (λ x. p (f x)) l
-  any-map-is p f [] = refl
-  any-map-is p f (x ∷ l) = ap (λ (t : Bool). p (f x) || t) (any-map-is p f l)
-
 pub map-map : {A B C : Type 0} (g : B → C) (f : A → B) (l : List A) → map g (map f l) ≡ map (λ x. g (f x)) l
 map-map g f [] = refl
 map-map {C} g f (x ∷ l) = ap (λ (k : List C). g (f x) ∷ k) (map-map g f l)
@@ -189,9 +162,3 @@ and-false false y z = refl
 pub any-all : {A : Type 0} (p : A → Bool) (l : List A) → any p l ≡ false → all (λ x. not (p x)) l ≡ true
 any-all p [] e = refl
 any-all p (x ∷ l) e = let s = neither (p x) (any p l) e in rw (s .0) (any-all p l (s .1))
-
-pub all-same : {A : Type 0} (ok p q : A → Bool) → ((x : A) → ok x ≡ true → p x ≡ q x) → (l : List A) → all ok l ≡ true → all p l ≡ all q l
-all-same ok p q e [] h = refl
-all-same ok p q e (x ∷ l) h =
-    let s = both (ok x) (all ok l) h in
-    ap₂ (λ (t u : Bool). t && u) (e x (s .0)) (all-same ok p q e l (s .1))
