@@ -103,28 +103,33 @@ module _ {old : LexOutput} {e : Edit} {r : Span} {reading : RegionOutput} {m : I
       let small : SourceNode → Bool = λ n. ltb (n .normalizedOffset) (length (reading .normalized)) in
       spliced-all nodeLocated win (recordFits nodeCodec) (λ n. recordFits nodeCodec n && small n) (recordFits nodeCodec) (λ n o h. o)
       (λ n o. let u = both (recordFits nodeCodec n) (small n) o in let x = ltb-true (n .normalizedOffset) (length (reading .normalized)) (u .1) in
-      node-refits n (shifted (n .sourceSpan) (pos (win .source .start))) (n .normalizedOffset + win .normalized .start) (shift-small (n .sourceSpan .start) (pos (win .source .start))) (shift-small (n .sourceSpan .end) (pos (win .source .start)))
+      node-refits n (shifted (n .sourceSpan) (pos (win .source .start))) (n .normalizedOffset + win .normalized .start) (shift-small (n .sourceSpan .start) (pos (win .source .start)))
+      (shift-small (n .sourceSpan .end) (pos (win .source .start)))
       (lt-ltb (n .normalizedOffset + win .normalized .start) 4294967296 (omega (arith, start-small, f .readingSound .normalized))) (u .0))
-      (λ n o h. node-refits n (shifted (n .sourceSpan) (win .sourceDelta)) (movedOffset (n .normalizedOffset) (win .normalizedDelta)) (shift-small (n .sourceSpan .start) (win .sourceDelta)) (shift-small (n .sourceSpan .end) (win .sourceDelta)) (moved-small (n .normalizedOffset) (win .normalizedDelta)) o)
+      (λ n o h. node-refits n (shifted (n .sourceSpan) (win .sourceDelta)) (movedOffset (n .normalizedOffset) (win .normalizedDelta)) (shift-small (n .sourceSpan .start) (win .sourceDelta))
+      (shift-small (n .sourceSpan .end) (win .sourceDelta)) (moved-small (n .normalizedOffset) (win .normalizedDelta)) o)
       (old .sourceNodes) (grafted old reading .0) (fo .sourceNodes) (all-and (recordFits nodeCodec) small (grafted old reading .0) (g .nodeFits) (gn f .small))
 
   pairs-fit : all (recordFits pairCodec) (new .pairs) ≡ true
   unfolding mergedBook pairLocated
   pairs-fit =
-      spliced-all pairLocated win (recordFits pairCodec) (recordFits pairCodec) (recordFits pairCodec) (λ x o h. o) (pair-refits (pos (win .source .start))) (λ x o h. pair-refits (win .sourceDelta) x o) (old .pairs) (reading .pairs) (fo .pairs) (fr .pairs)
+      spliced-all pairLocated win (recordFits pairCodec) (recordFits pairCodec) (recordFits pairCodec) (λ x o h. o) (pair-refits (pos (win .source .start)))
+      (λ x o h. pair-refits (win .sourceDelta) x o) (old .pairs) (reading .pairs) (fo .pairs) (fr .pairs)
 
   diagnostics-fit : all (recordFits diagnosticCodec) (new .diagnostics) ≡ true
   unfolding mergedBook diagnosticLocated
   diagnostics-fit =
       all-sort (recordFits diagnosticCodec) (spliced diagnosticLocated win (old .diagnostics) (reading .diagnostics))
-      (spliced-all diagnosticLocated win (recordFits diagnosticCodec) (recordFits diagnosticCodec) (recordFits diagnosticCodec) (λ x o h. o) (diagnostic-refits (pos (win .source .start))) (λ x o h. diagnostic-refits (win .sourceDelta) x o) (old .diagnostics) (reading .diagnostics) (fo .diagnostics) (fr .diagnostics))
+      (spliced-all diagnosticLocated win (recordFits diagnosticCodec) (recordFits diagnosticCodec) (recordFits diagnosticCodec) (λ x o h. o) (diagnostic-refits (pos (win .source .start)))
+      (λ x o h. diagnostic-refits (win .sourceDelta) x o) (old .diagnostics) (reading .diagnostics) (fo .diagnostics) (fr .diagnostics))
 
   containers-fit : all (recordFits containerCodec) (new .containerPairs) ≡ true
   unfolding mergedBook containerLocated
   containers-fit =
       let R = length (reading .normalized) in
       spliced-all containerLocated win (recordFits containerCodec) (λ c. recordFits containerCodec c && containerOk R c) (recordFits containerCodec) (λ c o h. o)
-      (λ c o. let u = both (recordFits containerCodec c) (containerOk R c) o in let x = container-facts R c (u .1) in container-refits c (c .opening + win .normalized .start) (c .closing + win .normalized .start) (lt-ltb (c .opening + win .normalized .start) 4294967296 (omega (arith, start-small, f .readingSound .normalized)))
+      (λ c o. let u = both (recordFits containerCodec c) (containerOk R c) o in let x = container-facts R c (u .1) in
+      container-refits c (c .opening + win .normalized .start) (c .closing + win .normalized .start) (lt-ltb (c .opening + win .normalized .start) 4294967296 (omega (arith, start-small, f .readingSound .normalized)))
       (lt-ltb (c .closing + win .normalized .start) 4294967296 (omega (arith, start-small, f .readingSound .normalized))) (u .0))
       (λ c o h. container-refits c (movedOffset (c .opening) (win .normalizedDelta)) (movedOffset (c .closing) (win .normalizedDelta)) (moved-small (c .opening) (win .normalizedDelta)) (moved-small (c .closing) (win .normalizedDelta)) o)
       (old .containerPairs) (reading .containerPairs) (fo .containerPairs) (all-and (recordFits containerCodec) (containerOk R) (reading .containerPairs) (fr .containerPairs) (f .readingSound .places .containerPairs))

@@ -240,7 +240,8 @@ module _ (old reading : LexOutput) (fo : fits old ≡ true) (fr : fits reading �
 
         with-layer : Numbered (storeOf (old .layers)) top (old .layers ++ (layerOf top ∷ [])) → Grown old reading (old .layers ++ (layerOf top ∷ [])) nodes
         with-layer numbered =
-            let n = nodes-grafted rs (pool-strings (reading .layers) (readFits .layers) (utf8-facts reading (wr .utf8) .strings)) (pool-segments reading (readFits .layers) (shapes-of reading (readFits .shape) .layers) (wr .levels)) numbered (reading .sourceNodes) (layered (old .layers)) (fresh-above (old .layers)) .good (later-refl top) in
+            let n = nodes-grafted rs (pool-strings (reading .layers) (readFits .layers) (utf8-facts reading (wr .utf8) .strings))
+            (pool-segments reading (readFits .layers) (shapes-of reading (readFits .shape) .layers) (wr .levels)) numbered (reading .sourceNodes) (layered (old .layers)) (fresh-above (old .layers)) .good (later-refl top) in
             something-new top numbered (n .pools (no-pools top numbered)) nodes (n .fits (readFits .sourceNodes)) (n .shape (shapes-of reading (readFits .shape) .nodes)) (n .ids) (n .shows)
 
         go : (t : Bool) → isEmpty (reading .sourceNodes) ≡ t → LimitFacts (mergedOf old e reading r) → Grown old reading (cond t (old .layers) (old .layers ++ (layerOf top ∷ []))) nodes

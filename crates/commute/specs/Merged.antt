@@ -217,7 +217,8 @@ module _ {old : LexOutput} {e : Edit} {reading : RegionOutput} {r : Span} (f : F
       ap not (across-rest pairs-carried (old .pairs) (reading .pairs) (f .oldSound .places .pairs) (f .readingSound .places .pairs) k (f .endSafe .pairs))
 
   -- the depth at a cut behind the region is that of the nodes between
-  module _ (opens closes : SourceNode → Bool) (moved : (n : SourceNode) → (opens (nodeLocated .moved w n) ≡ opens n) × (closes (nodeLocated .moved w n) ≡ closes n)) (placed : (n : SourceNode) → (opens (nodeLocated .placed w n) ≡ opens n) × (closes (nodeLocated .placed w n) ≡ closes n))
+  module _ (opens closes : SourceNode → Bool) (moved : (n : SourceNode) → (opens (nodeLocated .moved w n) ≡ opens n) × (closes (nodeLocated .moved w n) ≡ closes n))
+      (placed : (n : SourceNode) → (opens (nodeLocated .placed w n) ≡ opens n) × (closes (nodeLocated .placed w n) ≡ closes n))
       (atStart : depth opens closes 0 (nodesBefore (r .start) (old .sourceNodes)) ≡ 0) (atEnd : depth opens closes 0 (nodesBefore (r .end) (old .sourceNodes)) ≡ 0) (read : depth opens closes 0 (grafted old reading .0) ≡ 0) where
     depth-behind : (k : ℕ) → depth opens closes 0 (nodesBefore (end′ + suc k) (mergedOf old e reading r .sourceNodes)) ≡ depth opens closes 0 (nodesBefore (r .end + suc k) (old .sourceNodes))
     unfolding nodesBefore mergedBook nodeLocated windowOf keptBefore keptBehind

@@ -42,7 +42,8 @@ sorted-again {old} {e} {reading} {r} f ds h =
     ∙ sort-first ok (λ d. leb (d .span .end) (w .source .start)) (λ d. leb (w .source .end) (d .span .start)) (diagnosticLocated .moved w) moved ds (map (diagnosticLocated .placed w) (reading .diagnostics))
     (all-unsorted ok ds (rw h at (f .oldSound .places .diagnostics)))
   where
-    moved : (d d₁ : Diagnostic) → spanOk (length (old .sanitized)) (d .span) ≡ true → spanOk (length (old .sanitized)) (d₁ .span) ≡ true → leb (windowOf old e reading r .source .end) (d .span .start) ≡ true → leb (windowOf old e reading r .source .end) (d₁ .span .start) ≡ true
+    moved : (d d₁ : Diagnostic) → spanOk (length (old .sanitized)) (d .span) ≡ true → spanOk (length (old .sanitized)) (d₁ .span) ≡ true
+        → leb (windowOf old e reading r .source .end) (d .span .start) ≡ true → leb (windowOf old e reading r .source .end) (d₁ .span .start) ≡ true
         → notBehind d d₁ ≡ false → notBehind (diagnosticLocated .moved (windowOf old e reading r) d) (diagnosticLocated .moved (windowOf old e reading r) d₁) ≡ false
     moved d d₁ o o₁ k k₁ n =
         let w = windowOf old e reading r in
@@ -231,7 +232,8 @@ module _ {b : LexOutput} {E L : Edit} {RE RL : RegionOutput} {rE rL : Span} (m :
 
   -- ---- diagnostics
 
-  unsorted-agree : spliced diagnosticLocated wL′ (spliced diagnosticLocated wE (b .diagnostics) (RE .diagnostics)) (RL .diagnostics) ≡ spliced diagnosticLocated wE (spliced diagnosticLocated wL (b .diagnostics) (RL .diagnostics)) (RE .diagnostics)
+  unsorted-agree : spliced diagnosticLocated wL′ (spliced diagnosticLocated wE (b .diagnostics) (RE .diagnostics)) (RL .diagnostics)
+      ≡ spliced diagnosticLocated wE (spliced diagnosticLocated wL (b .diagnostics) (RL .diagnostics)) (RE .diagnostics)
   unfolding diagnosticLocated windowOf shiftedDiagnostic shifted
   unsorted-agree =
       two-orders wL′ (diagnostics-carried (m .firstE)) (diagnostics-carried (m .firstL)) (m .apart) start-moves end-moves twice again (b .diagnostics) (RE .diagnostics) (RL .diagnostics)

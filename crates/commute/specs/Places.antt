@@ -118,7 +118,8 @@ module _ {old : LexOutput} {e : Edit} {reading : RegionOutput} {r : Span} (f : F
       let m = keep (endsBy c) behind in
       let M = map (nodeLocated .moved win) m in
       let okM = all-keep movable (endsBy c) behind all-movable in
-      let x : normalizedOffset (new .sourceNodes) c′ + spans (front ++ (placed ++ M)) ≡ c′ + images (front ++ (placed ++ M)) = rw (taken c c′ h g) at (normal-sum (length (new .sanitized)) (new .sourceNodes) (sound .places .order) (sound .places .sourceSpans) c′) in
+      let x : normalizedOffset (new .sourceNodes) c′ + spans (front ++ (placed ++ M)) ≡ c′ + images (front ++ (placed ++ M)) =
+      rw (taken c c′ h g) at (normal-sum (length (new .sanitized)) (new .sourceNodes) (sound .places .order) (sound .places .sourceSpans) c′) in
       let a₁ = spans-append front (placed ++ M) in
       let a₂ = spans-append placed M in
       let a₃ = shift-spans placed-shift (grafted old reading .0) (gn f .inside) in
@@ -173,7 +174,8 @@ module _ {old : LexOutput} {e : Edit} {reading : RegionOutput} {r : Span} (f : F
   nodes-ordered =
       let s = f .oldSound in
       rw parts
-      (ordered-join 0 (r .start) front (placed ++ moved) (omega arith) (ordered-keep (length (old .sanitized)) (endsBy (r .start)) 0 (old .sourceNodes) (s .places .sourceSpans) (s .places .order)) (all-keep-self (endsBy (r .start)) (old .sourceNodes))
+      (ordered-join 0 (r .start) front (placed ++ moved) (omega arith) (ordered-keep (length (old .sanitized)) (endsBy (r .start)) 0 (old .sourceNodes) (s .places .sourceSpans) (s .places .order))
+      (all-keep-self (endsBy (r .start)) (old .sourceNodes))
       (ordered-join (r .start) newEnd placed moved (omega arith) (shift-ordered placed-shift 0 (r .start) (omega arith) (grafted old reading .0) (gn f .inside) (gn f .order)) placed-ends
       (shift-ordered moved-shift (r .end) newEnd (omega arith) behind all-movable (behind-ordered s (f .endSafe)))))
 

@@ -143,7 +143,8 @@ table-answers t table s ok b = pick (probe-ends (length table) (t .strings) tabl
         let e = length-snoc (t .strings) s in
         record {
           sound = record {
-            slots = all-set (λ x. leb x (length (t .strings ++ (s ∷ [])))) table (p .at) (suc (length (t .strings))) (below-more (length (t .strings)) (length (t .strings ++ (s ∷ []))) table (omega arith) b) (le-leb (suc (length (t .strings))) (length (t .strings ++ (s ∷ []))) (omega arith));
+            slots = all-set (λ x. leb x (length (t .strings ++ (s ∷ [])))) table (p .at) (suc (length (t .strings)))
+                (below-more (length (t .strings)) (length (t .strings ++ (s ∷ []))) table (omega arith) b) (le-leb (suc (length (t .strings))) (length (t .strings ++ (s ∷ []))) (omega arith));
             answer = omega arith;
           };
           more = s ∷ [];

@@ -25,9 +25,18 @@ use Rattle.laws.specs.Keep.{all-get, and-false}
 use Rattle.laws.specs.Fits.{operandsFit, recordFits}
 use Rattle.laws.specs.Graft.{inner, show-body, TreeOf, FieldsOf, ContentsOf, SegmentsOf, distinct, table-distinct, withLayer, Above, Later, later-refl, later-trans, Made, made-trans, Numbered, Pools, goodString, tagKind, segmentHead, sixWords, segmentFrom, level-shown, operands-append, operands-left, graft-fields, six-fit, unused-kept}
 
--- a node with other words that fit
+-- a node with other words
+abbrev withWords : SourceNode → List ℕ → SourceNode
+withWords n ws = record {
+  class = n .class;
+  inline = n .inline;
+  sourceSpan = n .sourceSpan;
+  normalizedOffset = n .normalizedOffset;
+  body = record { kind = n .body .kind; tag = n .body .tag; plain1 = n .body .plain1; plain2 = n .body .plain2; words = ws };
+}
+
 node-fits : (n : SourceNode) (ws : List ℕ) → operandsFit sixWords ws ≡ true → recordFits nodeCodec n ≡ true
-    → recordFits nodeCodec (record { class = n .class; inline = n .inline; sourceSpan = n .sourceSpan; normalizedOffset = n .normalizedOffset; body = record { kind = n .body .kind; tag = n .body .tag; plain1 = n .body .plain1; plain2 = n .body .plain2; words = ws } }) ≡ true
+    → recordFits nodeCodec (withWords n ws) ≡ true
 unfolding recordFits nodeCodec
 node-fits n ws h e =
     let os : List Operand = byte ∷ byte ∷ word ∷ word ∷ word ∷ byte ∷ byte ∷ word ∷ word ∷ [] in
@@ -35,7 +44,7 @@ node-fits n ws h e =
     operands-append os sixWords vs ws (operands-left os sixWords vs (n .body .words) refl e) h
 
 node-shape : (n : SourceNode) (ws : List ℕ) → unusedZero (nodeFields n) 0 ws ≡ true → nodeShape n ≡ true
-    → nodeShape (record { class = n .class; inline = n .inline; sourceSpan = n .sourceSpan; normalizedOffset = n .normalizedOffset; body = record { kind = n .body .kind; tag = n .body .tag; plain1 = n .body .plain1; plain2 = n .body .plain2; words = ws } }) ≡ true
+    → nodeShape (withWords n ws) ≡ true
 unfolding nodeShape bodyShape nodeFields fieldsOf
 node-shape n ws h e =
     let c = (ltb (n .class) 2 && leb 1 (n .body .kind) && eqb (n .inline) 0) || (leb 2 (n .class) && ltb (n .class) 4 && eqb (n .body .kind) 0 && ltb (n .inline) 2) in

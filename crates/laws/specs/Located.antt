@@ -102,7 +102,8 @@ module _ {A : Type 0} {l : Located A} {w : MergeWindow} {ok okR : A → Bool} {s
       → keep t′ (map (l .moved w) (keep (isBehind l w) old)) ≡ map (l .moved w) (keep t (keep (isBehind l w) old))
   moved-kept t t′ h =
       keep-map t′ (l .moved w) (keep (isBehind l w) old)
-      ∙ ap (map (l .moved w)) (keep-same (λ x. ok x && isBehind l w x) (λ x. t′ (l .moved w x)) t (λ x o. let s = both (ok x) (isBehind l w x) o in h x (s .0) (leb-true (l .window w .end) (startOf l x) (s .1))) (keep (isBehind l w) old) (all-kept ok (isBehind l w) old a))
+      ∙ ap (map (l .moved w)) (keep-same (λ x. ok x && isBehind l w x) (λ x. t′ (l .moved w x)) t (λ x o. let s = both (ok x) (isBehind l w x) o in
+      h x (s .0) (leb-true (l .window w .end) (startOf l x) (s .1))) (keep (isBehind l w) old) (all-kept ok (isBehind l w) old a))
 
   -- Where a test passes all that ends by the region's new end, and says of a moved element what t said of the old one.
   pub keep-rest : (t t′ : A → Bool) → ((x : A) → startOf l x < endOf l x → endOf l x ≤ newEnd → t′ x ≡ true)

@@ -250,7 +250,8 @@ pub offsets-append : (i s : ℕ) (a b : List SourceNode) → offsetsOk i s (a ++
 unfolding offsetsOk images spans
 offsets-append i s [] b = rw (add-zero i, add-zero s)
 offsets-append i s (n ∷ a) b =
-    rw (offsets-append (i + imageLength n) (s + spanLength n) a b, sym (add-assoc i (imageLength n) (images a)), sym (add-assoc s (spanLength n) (spans a))) (and-assoc (offsetTest i s n) (offsetsOk (i + imageLength n) (s + spanLength n) a) (offsetsOk (i + imageLength n + images a) (s + spanLength n + spans a) b))
+    rw (offsets-append (i + imageLength n) (s + spanLength n) a b, sym (add-assoc i (imageLength n) (images a)), sym (add-assoc s (spanLength n) (spans a)))
+    (and-assoc (offsetTest i s n) (offsetsOk (i + imageLength n) (s + spanLength n) a) (offsetsOk (i + imageLength n + images a) (s + spanLength n + spans a) b))
   where
     and-assoc : (x y z : Bool) → x && (y && z) ≡ x && y && z
     and-assoc true y z = refl
@@ -271,14 +272,16 @@ offsets-from size t k i s h (n ∷ ns) o a e =
     (offsets-from size t (n .sourceSpan .end) (i + imageLength n) (s + (n .sourceSpan .end - n .sourceSpan .start)) (omega arith) ns (u .1) (v .1) (w .1))
 
 -- below the normalized length
-pub offsets-below : (size t k i s : ℕ) (ns : List SourceNode) → t + s + spans ns ≡ size + i + images ns → ordered k ns ≡ true → all (nodeIn size) ns ≡ true → offsetsOk i s ns ≡ true → all (λ (n : SourceNode). ltb (n .normalizedOffset) t) ns ≡ true
+pub offsets-below : (size t k i s : ℕ) (ns : List SourceNode) → t + s + spans ns ≡ size + i + images ns → ordered k ns ≡ true → all (nodeIn size) ns ≡ true → offsetsOk i s ns ≡ true
+    → all (λ (n : SourceNode). ltb (n .normalizedOffset) t) ns ≡ true
 unfolding ordered offsetsOk spanLength spans images
 offsets-below size t k i s [] h o a e = refl
 offsets-below size t k i s (n ∷ ns) h o a e =
     let u = both (leb k (n .sourceSpan .start)) (ordered (n .sourceSpan .end) ns) o in
     let v = both (nodeIn size n) (all (nodeIn size) ns) a in
     let w = both (offsetTest i s n) (offsetsOk (i + imageLength n) (s + (n .sourceSpan .end - n .sourceSpan .start)) ns) e in
-    let x = ltb-true (n .normalizedOffset + s) (n .sourceSpan .start + i + imageLength n) (both (leb (n .sourceSpan .start + i) (n .normalizedOffset + s)) (ltb (n .normalizedOffset + s) (n .sourceSpan .start + i + imageLength n)) (w .0) .1) in
+    let x = ltb-true (n .normalizedOffset + s) (n .sourceSpan .start + i + imageLength n)
+    (both (leb (n .sourceSpan .start + i) (n .normalizedOffset + s)) (ltb (n .normalizedOffset + s) (n .sourceSpan .start + i + imageLength n)) (w .0) .1) in
     let f = span-facts size (n .sourceSpan) (v .0) in
     let q = f .1 in
     let ends = all-map (nodeIn size) (endsBy size) (λ m z. le-leb (m .sourceSpan .end) size (span-facts size (m .sourceSpan) z .1)) ns (v .1) in
@@ -313,8 +316,10 @@ safe-end : (b : LexOutput) → Sound b → SafeCut b (length (b .sanitized))
 safe-end b s =
     let size = length (b .sanitized) in
     record {
-      nodes = any-none (nodeIn size) (acrossNode size) (λ n i. and-false (ltb (n .sourceSpan .start) size) (ltb size (n .sourceSpan .end)) (le-ltb size (n .sourceSpan .end) (span-facts size (n .sourceSpan) i .1))) (b .sourceNodes) (s .places .sourceSpans);
-      pairs = any-none (pairOk size) (λ (p : PairLink). across size (p .opening .start) (p .closing .end)) (λ p i. and-false (ltb (p .opening .start) size) (ltb size (p .closing .end)) (le-ltb size (p .closing .end) (pair-facts size p i .inside))) (b .pairs) (s .places .pairs);
+      nodes = any-none (nodeIn size) (acrossNode size) (λ n i. and-false (ltb (n .sourceSpan .start) size) (ltb size (n .sourceSpan .end))
+          (le-ltb size (n .sourceSpan .end) (span-facts size (n .sourceSpan) i .1))) (b .sourceNodes) (s .places .sourceSpans);
+      pairs = any-none (pairOk size) (λ (p : PairLink). across size (p .opening .start) (p .closing .end))
+          (λ p i. and-false (ltb (p .opening .start) size) (ltb size (p .closing .end)) (le-ltb size (p .closing .end) (pair-facts size p i .inside))) (b .pairs) (s .places .pairs);
       blocks = λ h. absurd (omega arith);
       warichu = λ h. absurd (omega arith);
     }
@@ -402,7 +407,8 @@ module _ {b : LexOutput} (s : Sound b) {c : ℕ} (safe : SafeCut b c) where
   pub offsets-behind : all (λ (n : SourceNode). leb (normalizedOffset (b .sourceNodes) c) (n .normalizedOffset)) behind ≡ true
   offsets-behind =
       let x = normal-at in
-      offsets-from (length (b .sanitized)) (normalizedOffset (b .sourceNodes) c) c (images until) (spans until) (omega arith) behind behind-ordered (all-keep (nodeIn (length (b .sanitized))) (startsAt c) (b .sourceNodes) (s .places .sourceSpans)) (offsets-split .1)
+      offsets-from (length (b .sanitized)) (normalizedOffset (b .sourceNodes) c) c (images until) (spans until) (omega arith) behind behind-ordered
+      (all-keep (nodeIn (length (b .sanitized))) (startsAt c) (b .sourceNodes) (s .places .sourceSpans)) (offsets-split .1)
 
 -- no offset of a node is past the normalized text
 pub offsets-small : {b : LexOutput} → Sound b → all (λ (n : SourceNode). ltb (n .normalizedOffset) (length (b .normalized))) (b .sourceNodes) ≡ true
