@@ -2,11 +2,14 @@
 // by characters, and specs/Chars.antt says that from `between` a whole character leads back to `between`, and what is none to
 // a state that never comes back.
 ghost use mathlib.Core.Path.{_≡_};
-ghost use mathlib.Core.Bool.{cond};
+ghost use mathlib.Core.Bool.{cond, _&&_};
 ghost use Prim.Native.Nat.{_+_, _≤_, _<_};
 ghost use lib.ListN.{length, getD, drop};
+ghost use lib.Dec.{ltb};
 ghost use Rattle.model.specs.Utf8.{utf8, isCharBoundary, utf8First, utf8Step, within as isWithin, tail1, tail2, bad};
+ghost use Rattle.wire.specs.Loops.{allUpTo};
 ghost use Rattle.utf8.specs.Chars.{charLen};
+ghost use Rattle.utf8.specs.Skips.{Skipped, Next, asciiAt, isThree};
 
 fn within(lo: u8, hi: u8, b: u8) -> bool
     ensures { λ r. ⌜ r ≡ isWithin lo hi b ⌝ }
@@ -93,7 +96,7 @@ fn four(s: &[u8], at: usize) -> usize
 }
 
 // How many bytes the character at `at` has, 0 where there is none.
-pub fn char_len(s: &[u8], at: usize) -> usize
+fn char_len(s: &[u8], at: usize) -> usize
     requires { ⌜ at < length (now s) ⌝ }
     ensures { λ r. ⌜ r ≡ charLen (drop at (now (s .entry))) ⌝ }
 {
@@ -116,16 +119,93 @@ pub fn char_len(s: &[u8], at: usize) -> usize
     0
 }
 
+// A single `&` and no branches, so that LLVM tests the bytes together.
+fn four_ascii(a: u8, b: u8, c: u8, d: u8) -> bool
+    ensures { λ r. ⌜ r ≡ (ltb a 0x80 && ltb b 0x80 && ltb c 0x80 && ltb d 0x80) ⌝ }
+{
+    (a < 0x80) & (b < 0x80) & (c < 0x80) & (d < 0x80)
+}
+
+fn eight_ascii(s: &[u8], at: usize) -> bool
+    requires { ⌜ at + 8 ≤ length (now s) ⌝ }
+    ensures { λ r. ⌜ r ≡ allUpTo 8 (asciiAt (now (s .entry)) at) ⌝ }
+{
+    four_ascii(s[at], s[at + 1], s[at + 2], s[at + 3])
+        & four_ascii(s[at + 4], s[at + 5], s[at + 6], s[at + 7])
+}
+
+// Behind the blocks of eight ASCII bytes from `at` on.
+fn ascii_end(s: &[u8], at: usize) -> usize
+    requires { ⌜ at ≤ length (now s) ⌝ }
+    ensures { λ r. ⌜ Skipped (now (s .entry)) at r ⌝ }
+{
+    let mut i = at;
+    while 8 <= s.len() - i {
+        if !eight_ascii(s, i) {
+            return i;
+        }
+        i += 8;
+    }
+    i
+}
+
+fn is_three(a: u8, b: u8, c: u8) -> bool
+    ensures { λ r. ⌜ r ≡ isThree a b c ⌝ }
+{
+    within(0xe1, 0xec, a) & within(0x80, 0xbf, b) & within(0x80, 0xbf, c)
+}
+
+// Behind the characters E1-EC 80-BF 80-BF from `at` on.
+fn three_end(s: &[u8], at: usize) -> usize
+    requires { ⌜ at ≤ length (now s) ⌝ }
+    ensures { λ r. ⌜ Skipped (now (s .entry)) at r ⌝ }
+{
+    let mut i = at;
+    while 3 <= s.len() - i {
+        if !is_three(s[i], s[i + 1], s[i + 2]) {
+            return i;
+        }
+        i += 3;
+    }
+    i
+}
+
+fn after_ascii(s: &[u8], at: usize) -> usize
+    requires { ⌜ (at < length (now s)) × (getD (now s) at 0 < 0x80) ⌝ }
+    ensures { λ r. ⌜ Next (now (s .entry)) at r ⌝ }
+{
+    let end = ascii_end(s, at);
+    if at < end {
+        return end;
+    }
+    at + 1
+}
+
+// Behind the next characters, one or many; `at` itself where there is none.
+fn next(s: &[u8], at: usize) -> usize
+    requires { ⌜ at < length (now s) ⌝ }
+    ensures { λ r. ⌜ Next (now (s .entry)) at r ⌝ }
+{
+    if s[at] < 0x80 {
+        return after_ascii(s, at);
+    }
+    let end = three_end(s, at);
+    if at < end {
+        return end;
+    }
+    at + char_len(s, at)
+}
+
 pub fn is_utf8(s: &[u8]) -> bool
     ensures { λ r. ⌜ r ≡ utf8 (now (s .entry)) ⌝ }
 {
     let mut at = 0;
     while at < s.len() {
-        let n = char_len(s, at);
-        if n == 0 {
+        let end = next(s, at);
+        if end == at {
             return false;
         }
-        at += n;
+        at = end;
     }
     true
 }

@@ -1,59 +1,46 @@
 use Rattle.model.specs.Utf8.{utf8}
-use Rattle.utf8.specs.Chars.{char-fits, char-none, char-next, utf8-end}
+use Rattle.utf8.specs.Chars.{utf8-end}
 use mathlib.Core.Path.{_≡_, refl, sym, _∙_}
-use Prim.Native.Nat.{_-_, _≤_}
+use Prim.Native.Nat.{_-_}
 use native.Mathlib.Omega.{arith}
 use lib.ListN.{length, drop}
 use Rattle.utf8.proofs.is_utf8.Statement.{statement}
 use Rattle.utf8.proofs.is_utf8.Tie as tie
 use Rattle.utf8.proofs.is_utf8.Reads as reads
 use Rattle.utf8.proofs.is_utf8.Lts as lts
-use Rattle.utf8.proofs.char_len.Reads as char-len-reads
+use Rattle.utf8.proofs.next.Reads as next-reads
 
 abbrev Inv-loop : tie.InvT-loop
-Inv-loop s at₀ at = (at ≤ length s) × (utf8 s ≡ utf8 (drop at s))
+Inv-loop s at₀ at = utf8 s ≡ utf8 (drop at s)
 
 abbrev μ-loop : tie.MeasureT-loop
 μ-loop s at₀ at = length s - at
 
--- src/lib.rt:123:5
+-- src/lib.rt:203:5
 loop-holds : tie.Need-loop-holds Inv-loop μ-loop
-loop-holds c = (omega arith, refl)
+loop-holds c = refl
 
--- src/lib.rt:124:13
-char-len-requires : tie.Need-char-len-requires Inv-loop μ-loop
-char-len-requires c κs = omega arith
+-- src/lib.rt:204:13
+next-requires : tie.Need-next-requires Inv-loop μ-loop
+next-requires c κs = omega arith
 
--- src/lib.rt:126:13
+-- src/lib.rt:206:13
 returns : tie.Need-returns Inv-loop μ-loop
-returns c = sym (c .before .before .before .loop .inv .1 ∙ char-none _ _ _ (c .before .char-len .ensures) (c .before .before .loop-test .taken) (c .if1 .taken))
+returns c = sym (c .before .before .before .loop .inv ∙ c .before .next .ensures .none (c .if1 .taken))
 
--- src/lib.rt:128:9
-add-at : tie.Need-add-at Inv-loop μ-loop
-add-at c = omega (arith, char-fits (c .before .before .before .before .before .args .s .now) _ _ (c .before .char-len .ensures) (c .before .before .before .loop .inv .0))
-
--- src/lib.rt:123:5
+-- src/lib.rt:203:5
 loop-less : tie.Need-loop-less Inv-loop μ-loop
-loop-less c = omega (arith, char-fits (c .before .before .before .before .before .args .s .now) _ _ (c .before .char-len .ensures) (c .before .before .before .loop .inv .0), c .if1 .left)
+loop-less c = omega (arith, c .before .next .ensures .order, c .before .next .ensures .fits, c .if1 .left)
 
--- src/lib.rt:123:5
+-- src/lib.rt:203:5
 loop-again : tie.Need-loop-again Inv-loop μ-loop
-loop-again c = (char-fits (c .before .before .before .before .before .args .s .now) _ _ (c .before .char-len .ensures) (c .before .before .before .loop .inv .0), c .before .before .before .loop .inv .1 ∙ char-next _ _ _ (c .before .char-len .ensures) (c .before .before .loop-test .taken) (c .if1 .left))
+loop-again c = c .before .before .before .loop .inv ∙ c .before .next .ensures .some (c .if1 .left)
 
--- src/lib.rt:119:1
+-- src/lib.rt:199:1
 returns-2 : tie.Need-returns-2 Inv-loop μ-loop
-returns-2 c = sym (c .before .loop .inv .1 ∙ utf8-end _ _ (c .loop-test .left))
+returns-2 c = sym (c .before .loop .inv ∙ utf8-end _ _ (c .loop-test .left))
 
 pub is-utf8-spec : {M : Type 1} → statement M
 is-utf8-spec =
     tie.close
-    (tie.spec
-    Inv-loop
-    μ-loop
-    loop-holds
-    char-len-requires
-    returns
-    add-at
-    loop-less
-    loop-again
-    returns-2)
+    (tie.spec Inv-loop μ-loop loop-holds next-requires returns loop-less loop-again returns-2)
