@@ -1,5 +1,5 @@
 -- Whole characters that are skipped together: runs of ASCII, and of three bytes E1-EC 80-BF 80-BF, which most of Japanese is.
-use Prim.Native.Nat.{ℕ, zero, suc, _+_, _≤_, _<_}
+use Prim.Native.Nat.{ℕ, zero, suc, _+_, _-_, _≤_, _<_}
 use mathlib.Core.Path.{_≡_, refl, ap, _∙_}
 use mathlib.Core.Bool.{Bool, true, false, _&&_, and-assoc}
 use mathlib.Core.List.{List}
@@ -19,12 +19,11 @@ pub record Skipped (s : List ℕ) (at r : ℕ) : Type 0 where
   pub fits : r ≤ length s
   pub rest : utf8 (drop at s) ≡ utf8 (drop r s)
 
--- the same, or r is `at`, where there is no character
-pub record Next (s : List ℕ) (at r : ℕ) : Type 0 where
-  pub order : at ≤ r
-  pub fits : r ≤ length s
-  pub none : r ≡ at → utf8 (drop at s) ≡ false
-  pub some : (r ≡ at → ⊥) → utf8 (drop at s) ≡ utf8 (drop r s)
+-- the same of the n bytes from `at` on; or n is 0, where there is no character
+pub record Step (s : List ℕ) (at n : ℕ) : Type 0 where
+  pub fits : at + n ≤ length s
+  pub none : n ≡ 0 → utf8 (drop at s) ≡ false
+  pub some : (n ≡ 0 → ⊥) → utf8 (drop at s) ≡ utf8 (drop (at + n) s)
 
 pub skipped-none : (s : List ℕ) (at : ℕ) → at ≤ length s → Skipped s at at
 skipped-none s at h = record { order = omega arith; fits = h; rest = refl }
@@ -33,8 +32,10 @@ pub skipped-more : {s : List ℕ} {at i r : ℕ} → Skipped s at i → Skipped 
 skipped-more p q = record { order = omega (arith, p .order, q .order); fits = q .fits; rest = p .rest ∙ q .rest }
 
 -- a place that lies ahead
-pub next-skipped : {s : List ℕ} {at r : ℕ} → Skipped s at r → at < r → Next s at r
-next-skipped p h = record { order = p .order; fits = p .fits; none = λ e. absurd (omega arith); some = λ e. p .rest }
+pub step-skipped : {s : List ℕ} {at r : ℕ} → Skipped s at r → at < r → Step s at (r - at)
+step-skipped {s} {at} {r} p h =
+    let e : at + (r - at) ≡ r = omega arith in
+    record { fits = rw e (p .fits); none = λ z. absurd (omega arith); some = λ z. rw e (p .rest) }
 
 module _ (s : List ℕ) (at : ℕ) (h : at < length s) where
   pub skip-char : (n : ℕ) → n ≡ charLen (drop at s) → (n ≡ 0 → ⊥) → Skipped s at (at + n)
@@ -43,16 +44,11 @@ module _ (s : List ℕ) (at : ℕ) (h : at < length s) where
   pub skip-1 : getD s at 0 < 0x80 → Skipped s at (at + 1)
   skip-1 a = skip-char 1 (len-1 s at h (lead-1 (getD s at 0) a)) (λ e. omega arith)
 
-  pub next-1 : getD s at 0 < 0x80 → Next s at (at + 1)
-  next-1 a = next-skipped (skip-1 a) (omega arith)
+  pub step-char : (n : ℕ) → n ≡ charLen (drop at s) → Step s at n
+  step-char n e = record { fits = char-fits s at n e (omega arith); none = char-none s at n e h; some = char-next s at n e h }
 
-  pub next-char : (n : ℕ) → n ≡ charLen (drop at s) → Next s at (at + n)
-  next-char n e = record {
-    order = omega arith;
-    fits = char-fits s at n e (omega arith);
-    none = λ q. char-none s at n e h (omega arith);
-    some = λ q. char-next s at n e h (λ z. q (omega arith));
-  }
+  pub step-1 : getD s at 0 < 0x80 → Step s at 1
+  step-1 a = step-char 1 (len-1 s at h (lead-1 (getD s at 0) a))
 
 -- ---- ASCII
 

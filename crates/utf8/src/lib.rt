@@ -9,7 +9,7 @@ ghost use lib.Dec.{ltb};
 ghost use Rattle.model.specs.Utf8.{utf8, isCharBoundary, utf8First, utf8Step, within as isWithin, tail1, tail2, bad};
 ghost use Rattle.wire.specs.Loops.{allUpTo};
 ghost use Rattle.utf8.specs.Chars.{charLen};
-ghost use Rattle.utf8.specs.Skips.{Skipped, Next, asciiAt, isThree};
+ghost use Rattle.utf8.specs.Skips.{Skipped, Step, asciiAt, isThree};
 
 fn within(lo: u8, hi: u8, b: u8) -> bool
     ensures { λ r. ⌜ r ≡ isWithin lo hi b ⌝ }
@@ -170,30 +170,40 @@ fn three_end(s: &[u8], at: usize) -> usize
     i
 }
 
-fn after_ascii(s: &[u8], at: usize) -> usize
+fn ascii_len(s: &[u8], at: usize) -> usize
     requires { ⌜ (at < length (now s)) × (getD (now s) at 0 < 0x80) ⌝ }
-    ensures { λ r. ⌜ Next (now (s .entry)) at r ⌝ }
+    ensures { λ r. ⌜ Step (now (s .entry)) at r ⌝ }
 {
     let end = ascii_end(s, at);
     if at < end {
-        return end;
+        return end - at;
     }
-    at + 1
+    1
 }
 
-// Behind the next characters, one or many; `at` itself where there is none.
-fn next(s: &[u8], at: usize) -> usize
+fn three_len(s: &[u8], at: usize) -> usize
     requires { ⌜ at < length (now s) ⌝ }
-    ensures { λ r. ⌜ Next (now (s .entry)) at r ⌝ }
+    ensures { λ r. ⌜ Step (now (s .entry)) at r ⌝ }
 {
-    if s[at] < 0x80 {
-        return after_ascii(s, at);
-    }
     let end = three_end(s, at);
     if at < end {
-        return end;
+        return end - at;
     }
-    at + char_len(s, at)
+    char_len(s, at)
+}
+
+// How many bytes the next characters have, one or many, 0 where there is none.
+fn step_len(s: &[u8], at: usize) -> usize
+    requires { ⌜ at < length (now s) ⌝ }
+    ensures { λ r. ⌜ Step (now (s .entry)) at r ⌝ }
+{
+    if s[at] < 0x80 {
+        return ascii_len(s, at);
+    }
+    if within(0xe1, 0xec, s[at]) {
+        return three_len(s, at);
+    }
+    char_len(s, at)
 }
 
 pub fn is_utf8(s: &[u8]) -> bool
@@ -201,11 +211,11 @@ pub fn is_utf8(s: &[u8]) -> bool
 {
     let mut at = 0;
     while at < s.len() {
-        let end = next(s, at);
-        if end == at {
+        let n = step_len(s, at);
+        if n == 0 {
             return false;
         }
-        at = end;
+        at += n;
     }
     true
 }
