@@ -5,10 +5,11 @@
 ghost use mathlib.Core.Path.{_≡_};
 ghost use mathlib.Core.List.{_∷_, []};
 ghost use Prim.Native.Nat.{_+_, _-_, _*_, _≤_, _<_};
-ghost use lib.ListN.{length};
+ghost use lib.ListN.{length, drop};
 ghost use Rattle.model.specs.Bytes.{byteAt, wordAt, wordBytes};
 ghost use Rattle.model.specs.Lists.{same as sameBytes};
 ghost use Rattle.wire.specs.Overwrite.{overwrite, zeros};
+ghost use Rattle.wire.specs.Compare.{same4, same16};
 ghost use Rattle.wire.specs.Runs.{runLength};
 
 // A function of numbers alone: its needs are arithmetic.
@@ -100,13 +101,29 @@ pub fn zero_words(out: &mut [u32])
     }
 }
 
-pub fn same(a: &[u8], b: &[u8]) -> bool
-    ensures { λ r. ⌜ r ≡ sameBytes (now (a .entry)) (now (b .entry)) ⌝ }
+// A single `&` and no branches, so that LLVM compares the bytes together.
+fn same_4(a: &[u8], b: &[u8], at: usize) -> bool
+    requires { ⌜ (at + 4 ≤ length (now a)) × (at + 4 ≤ length (now b)) ⌝ }
+    ensures { λ r. ⌜ r ≡ same4 (now (a .entry)) (now (b .entry)) at ⌝ }
 {
-    if a.len() != b.len() {
-        return false;
-    }
-    let mut i = 0;
+    (a[at] == b[at])
+        & (a[at + 1] == b[at + 1])
+        & (a[at + 2] == b[at + 2])
+        & (a[at + 3] == b[at + 3])
+}
+
+fn same_16(a: &[u8], b: &[u8], at: usize) -> bool
+    requires { ⌜ (at + 16 ≤ length (now a)) × (at + 16 ≤ length (now b)) ⌝ }
+    ensures { λ r. ⌜ r ≡ same16 (now (a .entry)) (now (b .entry)) at ⌝ }
+{
+    same_4(a, b, at) & same_4(a, b, at + 4) & same_4(a, b, at + 8) & same_4(a, b, at + 12)
+}
+
+fn same_from(a: &[u8], b: &[u8], from: usize) -> bool
+    requires { ⌜ (from ≤ length (now a)) × (length (now a) ≡ length (now b)) ⌝ }
+    ensures { λ r. ⌜ r ≡ sameBytes (drop from (now (a .entry))) (drop from (now (b .entry))) ⌝ }
+{
+    let mut i = from;
     while i < a.len() {
         if a[i] != b[i] {
             return false;
@@ -114,6 +131,22 @@ pub fn same(a: &[u8], b: &[u8]) -> bool
         i += 1;
     }
     true
+}
+
+pub fn same(a: &[u8], b: &[u8]) -> bool
+    ensures { λ r. ⌜ r ≡ sameBytes (now (a .entry)) (now (b .entry)) ⌝ }
+{
+    if a.len() != b.len() {
+        return false;
+    }
+    let mut at = 0;
+    while 16 <= a.len() - at {
+        if !same_16(a, b, at) {
+            return false;
+        }
+        at += 16;
+    }
+    same_from(a, b, at)
 }
 
 // How many records of `size` bytes with this command follow each other from `at` on.

@@ -1,5 +1,6 @@
+use Rattle.wire.specs.Compare.{same-length, sixteen-turn, sixteen-differs}
+use borrow.Author.Tests.{not-true, not-false}
 use Rattle.model.specs.Lists.{same}
-use Rattle.wire.specs.Compare.{same-length, same-turn, same-differs, same-done}
 use mathlib.Core.Path.{_≡_, refl, sym, _∙_}
 use Prim.Native.Nat.{_-_, _≤_}
 use native.Mathlib.Omega.{arith}
@@ -8,48 +9,54 @@ use Rattle.wire.proofs.same.Statement.{statement}
 use Rattle.wire.proofs.same.Tie as tie
 use Rattle.wire.proofs.same.Reads as reads
 use Rattle.wire.proofs.same.Lts as lts
+use Rattle.wire.proofs.same_16.Reads as same-16-reads
+use Rattle.wire.proofs.same_from.Reads as same-from-reads
 
 abbrev Inv-loop : tie.InvT-loop
-Inv-loop a b i₀ i = (i ≤ length a) × (length a ≡ length b) × (same a b ≡ same (drop i a) (drop i b))
+Inv-loop a b at₀ at = (at ≤ length a) × (length a ≡ length b) × (same a b ≡ same (drop at a) (drop at b))
 
 abbrev μ-loop : tie.MeasureT-loop
-μ-loop a b i₀ i = length a - i
+μ-loop a b at₀ at = length a - at
 
--- src/lib.rt:102:9
+-- src/lib.rt:140:9
 returns : tie.Need-returns Inv-loop μ-loop
-returns c = sym (same-length (c .before .args .a .now) (c .before .args .b .now) (c .if1 .taken))
+returns c = sym (same-length (c .before .before .before .args .a .now) (c .before .before .before .args .b .now) (c .if1 .taken))
 
--- src/lib.rt:105:5
+-- src/lib.rt:143:5
 loop-holds : tie.Need-loop-holds Inv-loop μ-loop
 loop-holds c = (omega arith, c .if1 .left, refl)
 
--- src/lib.rt:106:12
-shared-slice-read-if2 : tie.Need-shared-slice-read-if2 Inv-loop μ-loop
-shared-slice-read-if2 c = omega arith
+-- src/lib.rt:143:17
+sub-loop : tie.Need-sub-loop Inv-loop μ-loop
+sub-loop c = omega arith
 
--- src/lib.rt:106:20
-shared-slice-read-if2-2 : tie.Need-shared-slice-read-if2-2 Inv-loop μ-loop
-shared-slice-read-if2-2 c = omega arith
+-- src/lib.rt:144:13
+same-16-requires : tie.Need-same-16-requires Inv-loop μ-loop
+same-16-requires c κs = omega arith
 
--- src/lib.rt:107:13
+-- src/lib.rt:145:13
 returns-2 : tie.Need-returns-2 Inv-loop μ-loop
-returns-2 c = sym (c .before .before .before .before .loop .inv .2 ∙ same-differs _ _ _ (c .before .before .before .loop-test .taken) (omega arith) (c .if2 .taken))
+returns-2 c = sym (c .before .before .before .loop .inv .2 ∙ sixteen-differs (c .before .before .before .before .before .before .before .args .a .now) (c .before .before .before .before .before .before .before .args .b .now) (c .before .before .before .loop .at) (omega arith) (omega arith) _ (c .before .same-16 .ensures) (not-true _ (c .if2 .taken)))
 
--- src/lib.rt:109:9
-add-i : tie.Need-add-i Inv-loop μ-loop
-add-i c = omega arith
+-- src/lib.rt:147:9
+add-at : tie.Need-add-at Inv-loop μ-loop
+add-at c = omega arith
 
--- src/lib.rt:105:5
+-- src/lib.rt:143:5
 loop-less : tie.Need-loop-less Inv-loop μ-loop
 loop-less c = omega arith
 
--- src/lib.rt:105:5
+-- src/lib.rt:143:5
 loop-again : tie.Need-loop-again Inv-loop μ-loop
-loop-again c = (omega arith, c .before .before .before .before .loop .inv .1, c .before .before .before .before .loop .inv .2 ∙ same-turn _ _ _ (c .before .before .before .loop-test .taken) (omega arith) (c .if2 .left))
+loop-again c = (omega arith, c .before .before .before .loop .inv .1, c .before .before .before .loop .inv .2 ∙ sixteen-turn (c .before .before .before .before .before .before .before .args .a .now) (c .before .before .before .before .before .before .before .args .b .now) (c .before .before .before .loop .at) (omega arith) (omega arith) _ (c .before .same-16 .ensures) (not-false _ (c .if2 .left)))
 
--- src/lib.rt:98:1
+-- src/lib.rt:149:5
+same-from-requires : tie.Need-same-from-requires Inv-loop μ-loop
+same-from-requires c κs = omega arith
+
+-- src/lib.rt:136:1
 returns-3 : tie.Need-returns-3 Inv-loop μ-loop
-returns-3 c = sym (c .before .loop .inv .2 ∙ same-done _ _ _ (c .loop-test .left) (omega arith))
+returns-3 c = c .same-from .ensures ∙ sym (c .before .before .loop .inv .2)
 
 pub same-spec : {M : Type 1} → statement M
 same-spec =
@@ -59,10 +66,11 @@ same-spec =
     μ-loop
     returns
     loop-holds
-    shared-slice-read-if2
-    shared-slice-read-if2-2
+    sub-loop
+    same-16-requires
     returns-2
-    add-i
+    add-at
     loop-less
     loop-again
+    same-from-requires
     returns-3)
