@@ -166,8 +166,8 @@ both-orders = (refl, refl)
 
 -- the number of the second of two merges of plain text, the first being accepted
 abbrev numberSecond : List ℕ → Edit → List ℕ → Edit → List ℕ → Checked ℕ
-numberSecond text e reading e′ reading′ = do
-  first ← merge (storedBook (plainBook text)) e (storedBook (plainBook reading)) programRoom
+numberSecond old e reading e′ reading′ = do
+  first ← merge (storedBook (plainBook old)) e (storedBook (plainBook reading)) programRoom
   accepted (numberOf (merge (first .output) e′ (storedBook (plainBook reading′)) programRoom))
 
 abbrev over : ℕ → ℕ → List ℕ → Edit
