@@ -1,6 +1,7 @@
-// RFC 3629: whether a slice is UTF-8, and where its characters begin. The model reads the bytes by a machine; this code walks
-// by characters, and specs/Chars.antt says that from `between` a whole character leads back to `between`, and what is none to
-// a state that never comes back.
+// UTF-8 by RFC 3629, for document 01's returned numbers 2 (a text is not UTF-8), 8 and 16 (a place inside a character). The
+// model reads the bytes by a machine; this code walks by characters. specs/Chars.antt: from `between` a whole character leads
+// back to `between`, and what is none to a state that never comes back. specs/Leads.antt: what each first byte asks for.
+// specs/Skips.antt: runs of ASCII, and of three bytes, are skipped together.
 ghost use mathlib.Core.Path.{_≡_};
 ghost use mathlib.Core.Bool.{cond, _&&_};
 ghost use Prim.Native.Nat.{_+_, _≤_, _<_};

@@ -107,7 +107,7 @@ fn leads(second: u8, n: usize)
     end();
 }
 
-fn seconds() {
+fn two_bytes() {
     name(b"leads 80-FF, one byte");
     leads(0x80, 1);
     name(b"leads 80-FF, two bytes, second 7F");
@@ -118,6 +118,9 @@ fn seconds() {
     leads(0xbf, 2);
     name(b"leads 80-FF, two bytes, second C0");
     leads(0xc0, 2);
+}
+
+fn three_bytes() {
     name(b"leads 80-FF, three bytes, second 7F");
     leads(0x7f, 3);
     name(b"leads 80-FF, three bytes, second 80");
@@ -130,6 +133,9 @@ fn seconds() {
     leads(0xbf, 3);
     name(b"leads 80-FF, three bytes, second C0");
     leads(0xc0, 3);
+}
+
+fn four_bytes() {
     name(b"leads 80-FF, four bytes, second 7F");
     leads(0x7f, 4);
     name(b"leads 80-FF, four bytes, second 80");
@@ -180,13 +186,16 @@ fn kana_with(byte: u8) {
     end();
 }
 
-fn blocks() {
+fn ascii_blocks() {
     name(b"7F in twenty ASCII bytes");
     ascii_with(0x7f);
     name(b"80 in twenty ASCII bytes");
     ascii_with(0x80);
     name(b"E3 in twenty ASCII bytes");
     ascii_with(0xe3);
+}
+
+fn kana_blocks() {
     name(b"7F in four kana");
     kana_with(0x7f);
     name(b"80 in four kana");
@@ -219,7 +228,10 @@ fn main() {
     surrogates();
     overlong();
     continuation();
-    seconds();
-    blocks();
+    two_bytes();
+    three_bytes();
+    four_bytes();
+    ascii_blocks();
+    kana_blocks();
     bounds();
 }

@@ -128,6 +128,29 @@ count-stops (suc n) (suc r) P h p f =
     rw (p .all 0 (omega arith))
     (ap suc (count-stops n r (λ (i : ℕ). P (suc i)) (omega arith) (record { all = λ k l. p .all (suc k) (omega arith) }) f))
 
+-- what was counted: at most n, each passes, and what follows does not
+pub count-le : (n : ℕ) (P : ℕ → Bool) → countWhile n P ≤ n
+unfolding countWhile
+count-le zero P = omega arith
+count-le (suc n) P = by-bool (P 0) (λ t. rw t (omega (arith, count-le n (λ (i : ℕ). P (suc i))))) (λ f. rw f (omega arith))
+
+pub count-at : (n i : ℕ) (P : ℕ → Bool) → i < countWhile n P → P i ≡ true
+unfolding countWhile
+count-at zero i P h = absurd (omega arith)
+count-at (suc n) zero P h = by-bool (P 0) (λ t. t) (λ f. let g : 0 < 0 = rw f at h in absurd (omega arith))
+count-at (suc n) (suc i) P h =
+    by-bool (P 0)
+    (λ t. let g : suc i < suc (countWhile n (λ (k : ℕ). P (suc k))) = rw t at h in count-at n i (λ (k : ℕ). P (suc k)) (omega arith))
+    (λ f. let g : suc i < 0 = rw f at h in absurd (omega arith))
+
+pub count-next : (n : ℕ) (P : ℕ → Bool) → countWhile n P < n → P (countWhile n P) ≡ false
+unfolding countWhile
+count-next zero P h = absurd (omega arith)
+count-next (suc n) P h =
+    by-bool (P 0)
+    (λ t. let g : suc (countWhile n (λ (i : ℕ). P (suc i))) < suc n = rw t at h in rw t (count-next n (λ (i : ℕ). P (suc i)) (omega arith)))
+    (λ f. rw (f, f) refl)
+
 -- ---- a search from the end: the indices from r on do not count
 
 pub last-below : (P : ℕ → Bool) (n r : ℕ) → r ≤ n → ((k : ℕ) → r ≤ k → k < n → P k ≡ false) → lastUpTo n P ≡ lastUpTo r P

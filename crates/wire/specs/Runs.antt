@@ -1,13 +1,13 @@
 -- A maximal run of records of one command and one size.
 use Prim.Native.Nat.{ℕ, _+_, _*_, _≤_, _<_}
 use mathlib.Core.Path.{_≡_, refl, sym}
-use mathlib.Core.Bool.{Bool, true, false, _&&_, and-false}
+use mathlib.Core.Bool.{Bool, true, false, _&&_, and-false, false≢true}
 use mathlib.Core.List.{List}
-use borrow.Author.Tests.{le-leb, lt-leb, eq-eqb, ne-eqb}
+use borrow.Author.Tests.{le-leb, lt-leb, eq-eqb, ne-eqb, leb-true, eqb-true}
 use lib.ListN.{length}
 use lib.Dec.{leb, eqb}
 use Rattle.model.specs.Bytes.{byteAt}
-use Rattle.wire.specs.Loops.{countWhile, Passed, count-stops}
+use Rattle.wire.specs.Loops.{countWhile, Passed, count-stops, count-at, by-bool}
 
 -- a record of z bytes with the command k lies at `at`
 unfoldable pub isRecord : List ℕ → ℕ → ℕ → ℕ → Bool
@@ -38,3 +38,19 @@ module _ (s : List ℕ) (at k z i p : ℕ) (e : p ≡ at + z * i) where
 pub run-stops : (s : List ℕ) (at k z r : ℕ) → r ≤ length s → Passed (recordAt s at k z) r → recordAt s at k z r ≡ false → r ≡ runLength s at k z
 unfolding runLength
 run-stops s at k z r h p f = sym (count-stops (length s) r (recordAt s at k z) h p f)
+
+-- ---- what a record is, and that the run has them
+
+module _ (s : List ℕ) (at k z i : ℕ) (t : recordAt s at k z i ≡ true) where
+  pub record-fits : at + z * i + z ≤ length s
+  unfolding recordAt isRecord
+  record-fits = by-bool (leb (at + z * i + z) (length s)) (λ e. leb-true _ _ e) (λ e. absurd (false≢true (rw e at t)))
+
+  pub record-command : byteAt s (at + z * i) ≡ k
+  unfolding recordAt isRecord
+  record-command =
+      by-bool (eqb (byteAt s (at + z * i)) k) (λ e. eqb-true _ _ e) (λ e. absurd (false≢true (rw (e, and-false) at t)))
+
+pub run-record : (s : List ℕ) (at k z i : ℕ) → i < runLength s at k z → recordAt s at k z i ≡ true
+unfolding runLength
+run-record s at k z i h = count-at (length s) i (recordAt s at k z) h

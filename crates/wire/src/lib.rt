@@ -94,10 +94,10 @@ pub fn zero_from(out: &mut [u8], at: usize)
 pub fn zero_words(out: &mut [u32])
     ensures { λ _. ⌜ now (out .exit) ≡ zeros (length (now (out .entry))) ⌝ }
 {
-    let mut i = 0;
-    while i < out.len() {
-        out[i] = 0;
-        i += 1;
+    let mut k = 0;
+    while k < out.len() {
+        out[k] = 0;
+        k += 1;
     }
 }
 

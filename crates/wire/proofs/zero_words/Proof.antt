@@ -9,10 +9,10 @@ use Rattle.wire.proofs.zero_words.Reads as reads
 use Rattle.wire.proofs.zero_words.Lts as lts
 
 abbrev Inv-loop : tie.InvT-loop
-Inv-loop out₀ i₀ out i = (i ≤ length out₀) × (length out ≡ length out₀) × (out ≡ overwrite out₀ 0 (zeros i))
+Inv-loop out₀ k₀ out k = (k ≤ length out₀) × (length out ≡ length out₀) × (out ≡ overwrite out₀ 0 (zeros k))
 
 abbrev μ-loop : tie.MeasureT-loop
-μ-loop out₀ i₀ out i = length out₀ - i
+μ-loop out₀ k₀ out k = length out₀ - k
 
 -- src/lib.rt:92:5
 loop-holds : tie.Need-loop-holds Inv-loop μ-loop
@@ -27,8 +27,8 @@ slice-write-out : tie.Need-slice-write-out Inv-loop μ-loop
 slice-write-out c = omega arith
 
 -- src/lib.rt:94:9
-add-i : tie.Need-add-i Inv-loop μ-loop
-add-i c = omega arith
+add-k : tie.Need-add-k Inv-loop μ-loop
+add-k c = omega arith
 
 -- src/lib.rt:92:5
 loop-less : tie.Need-loop-less Inv-loop μ-loop
@@ -36,7 +36,7 @@ loop-less c = omega arith
 
 -- src/lib.rt:92:5
 loop-again : tie.Need-loop-again Inv-loop μ-loop
-loop-again c = (omega arith, simp length-set (omega arith), rw (c .before .loop .inv .2) (zero-more _ 0 (c .before .loop .i) (c .before .loop .i) (omega arith) (omega arith)))
+loop-again c = (omega arith, simp length-set (omega arith), rw (c .before .loop .inv .2) (zero-more _ 0 (c .before .loop .k) (c .before .loop .k) (omega arith) (omega arith)))
 
 -- src/lib.rt:88:1
 same-length : tie.Need-same-length Inv-loop μ-loop
@@ -45,7 +45,7 @@ same-length c = omega arith
 -- src/lib.rt:88:1
 returns : tie.Need-returns Inv-loop μ-loop
 returns c =
-    let e : c .before .loop .i ≡ length (c .before .before .args .out .now) = omega arith in
+    let e : c .before .loop .k ≡ length (c .before .before .args .out .now) = omega arith in
     c .before .loop .inv .2 ∙ rw e (overwrite-all (c .before .before .args .out .now))
 
 pub zero-words-spec : {M : Type 1} → statement M
@@ -57,7 +57,7 @@ zero-words-spec =
     loop-holds
     mul-out
     slice-write-out
-    add-i
+    add-k
     loop-less
     loop-again
     same-length
