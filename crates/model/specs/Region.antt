@@ -135,7 +135,7 @@ balancedRegion b e = record {
 unfoldable pub isWhole : LexOutput → Span → Bool
 isWhole b r = eqb (r .start) 0 && eqb (r .end) (length (b .sanitized))
 
--- Section 6. The region is handed on as that part of the text.
+-- Section 6. The region is handed on as that part of the text: of the old text, where its cuts were chosen.
 unfoldable pub regionText : LexOutput → Span → List ℕ
 regionText b r = part (b .sanitized) (r .start) (r .end - r .start)
 

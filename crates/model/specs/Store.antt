@@ -1,11 +1,12 @@
 -- Section 3: the three pools of a store, each numbered from 0 across the layers.
-use Prim.Native.Nat.{ℕ, _+_}
+use Prim.Native.Nat.{ℕ, _+_, _-_}
 use mathlib.Core.Bool.{Bool, false, true, cond, _&&_, _||_}
 use mathlib.Core.Option.{Option, none, some}
 use mathlib.Core.List.{List, [], _∷_, map, flatten}
 use lib.ListN.{length, getD, take, drop}
 use lib.Dec.{leb, ltb, eqb}
 use Rattle.model.specs.Lists.{sum}
+use Rattle.model.specs.Bytes.{part}
 use Rattle.model.specs.Offset.{Span}
 use Rattle.model.specs.Types.{Content, Segment, Layer}
 
@@ -81,3 +82,11 @@ contentRangeAsPlain st start len = asPlain st (resolveContentRange st start len)
 -- Section 3. Where a string stands in the bytes of its pool, by the lengths of the pool's strings.
 unfoldable pub stringSpan : List ℕ → ℕ → Span
 stringSpan lengths id = record { start = sum (take id lengths); end = sum (take id lengths) + getD lengths id 0 }
+
+-- Section 3. A resolved string is shown as a part of the old string bytes or of the new layer's, chosen by its id: the old
+-- strings come first. Each side is the lengths of its strings and its bytes.
+unfoldable pub shownPart : List ℕ → List ℕ → List ℕ → List ℕ → ℕ → List ℕ
+shownPart oldLengths oldBytes newLengths newBytes id =
+    let old = stringSpan oldLengths id in
+    let new = stringSpan newLengths (id - length oldLengths) in
+    cond (ltb id (length oldLengths)) (part oldBytes (old .start) (old .end - old .start)) (part newBytes (new .start) (new .end - new .start))

@@ -8,14 +8,14 @@ use lib.ListN.{length}
 use Rattle.model.specs.Lists.{ascii}
 use Rattle.model.specs.Offset.{Span}
 use Rattle.model.specs.Types.{SourceNode, PairLink, ContainerPair, Diagnostic, LexOutput, RegionOutput}
-use Rattle.model.specs.Refusal.{Checked, Checked.accepted, _>>=_}
+use Rattle.model.specs.Refusal.{Checked, Checked.accepted, _>>=_, numberOf}
 use Rattle.model.specs.WellFormed.{checkBook}
 use Rattle.model.specs.Tree.{Tree.tree, Fields.done, Fields.text, Fields.contents, Contents, Contents.noContent, Contents.plain, ShownNode}
 use Rattle.model.specs.Region.{Edit}
 use Rattle.model.specs.Merge.{storedBook, merge}
 use Rattle.model.specs.Runs.{programRoom}
 use Rattle.model.specs.Demand3.{Shown, shown, shownString, shownContents, movedBehind, regionBehind}
-use Rattle.model.specs.Examples.{rubyReading}
+use Rattle.model.specs.Examples.{plainBook, rubyReading}
 use Rattle.model.specs.Computed.{computed}
 
 abbrev span : ℕ → ℕ → Span
@@ -161,3 +161,30 @@ pub both-orders :
     × (inTurn later laterReading earlier earlierReading ≡ accepted (told (span 8 12) (span 4 8)))
 unfolding computed shown shownString shownContents movedBehind regionBehind
 both-orders = (refl, refl)
+
+-- ---- pairs that are accepted in one order only
+
+-- the number of the second of two merges of plain text, the first being accepted
+abbrev numberSecond : List ℕ → Edit → List ℕ → Edit → List ℕ → Checked ℕ
+numberSecond old e reading e′ reading′ = do
+  first ← merge (storedBook (plainBook old)) e (storedBook (plainBook reading)) programRoom
+  accepted (numberOf (merge (first .output) e′ (storedBook (plainBook reading′)) programRoom))
+
+abbrev over : ℕ → ℕ → List ℕ → Edit
+over start end replacement = record { start = start; end = end; replacement = replacement }
+
+-- A blank line destroyed: "x" over the first of the two newlines that end region 0..4. The adjacent passage 4..8 has no safe cut
+-- before it any more, and its reading is refused with 12. The other way round both are accepted.
+pub blank-line-destroyed :
+    (numberSecond (ascii "aa\n\nbb\n\ncc") (over 2 3 (ascii "x")) (ascii "aax\n") (over 4 5 (ascii "y")) (ascii "yb\n\n") ≡ accepted 12)
+    × (numberSecond (ascii "aa\n\nbb\n\ncc") (over 4 5 (ascii "y")) (ascii "yb\n\n") (over 2 3 (ascii "x")) (ascii "aax\n") ≡ accepted 0)
+unfolding computed
+blank-line-destroyed = (refl, refl)
+
+-- A text's end that was safe only as the end: region 4..7 ends there. Once "x" is put behind it, the region goes on to the new
+-- end, and the reading is refused with 12. The other way round both are accepted.
+pub end-only-safe-as-the-end :
+    (numberSecond (ascii "aa\n\nbb\n") (over 7 7 (ascii "x")) (ascii "x") (over 4 5 (ascii "y")) (ascii "yb\n") ≡ accepted 12)
+    × (numberSecond (ascii "aa\n\nbb\n") (over 4 5 (ascii "y")) (ascii "yb\n") (over 7 7 (ascii "x")) (ascii "x") ≡ accepted 0)
+unfolding computed
+end-only-safe-as-the-end = (refl, refl)

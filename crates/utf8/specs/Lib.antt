@@ -1,0 +1,3 @@
+pub mod Chars
+pub mod Leads
+pub mod Skips

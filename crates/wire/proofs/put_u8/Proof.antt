@@ -1,0 +1,21 @@
+use Rattle.wire.specs.Overwrite.{set-overwrite}
+use borrow.Author.Needs.{needs}
+use Rattle.wire.proofs.put_u8.Statement.{statement}
+use Rattle.wire.proofs.put_u8.Tie as tie
+use Rattle.wire.proofs.put_u8.Reads as reads
+use Rattle.wire.proofs.put_u8.Lts as lts
+
+-- src/lib.rt:53:5
+slice-write-out : tie.Need-slice-write-out
+slice-write-out c = search needs
+
+-- src/lib.rt:49:1
+same-length : tie.Need-same-length
+same-length c = search needs
+
+-- src/lib.rt:49:1
+returns : tie.Need-returns
+returns c = set-overwrite _ _ _ (c .pre)
+
+pub put-u8-spec : {M : Type 1} → statement M
+put-u8-spec = tie.close (tie.spec slice-write-out same-length returns)

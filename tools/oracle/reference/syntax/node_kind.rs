@@ -1,0 +1,27 @@
+//! Stand-in: node_kind.rs is not among the sources; only the names that payload.rs and registry.rs use.
+#[derive(Debug, Clone, Copy, PartialEq, Eq)]
+pub enum NodeKind {
+    Ruby,
+    Bouten,
+    CombineUpright,
+    Emphasis,
+    Gaiji,
+    Indent,
+    AlignEnd,
+    Center,
+    LineGothic,
+    LineFontSize,
+    PageBreak,
+    SectionBreak,
+    BodyEnd,
+    ForcedBreak,
+    Heading,
+    HeadingHint,
+    Illustration,
+    Kaeriten,
+    Directive,
+    AngleQuote,
+    MarginNote,
+    ContainerOpen,
+    ContainerClose,
+}
