@@ -86,12 +86,6 @@ module _ {b : LexOutput} {E L : Edit} {RE RL : RegionOutput} {rE rL : Span} (m :
   abbrev pub qE : ℕ
   qE = q (m .firstE)
 
-  abbrev pub pL : ℕ
-  pL = p (m .firstL)
-
-  abbrev pub qL : ℕ
-  qL = q (m .firstL)
-
   moves : (o : ℕ) → rE .end ≤ o → behindEdit E o + qE ≡ o + pE
   moves = behind-sum (m .firstE)
 
