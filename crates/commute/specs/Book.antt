@@ -1,5 +1,5 @@
 -- A merged book is a book again: its numbers fit their places on a tape, and it passes 1 to 7. Section 4.
-use mathlib.Core.Path.{_≡_, refl}
+use mathlib.Core.Path.{_≡_, refl, _∙_}
 use Prim.Native.Nat.{ℕ, _+_, _≤_}
 use native.Mathlib.Omega.{arith}
 use mathlib.Core.Bool.{Bool, true, false, cond, not, _&&_}
@@ -25,7 +25,7 @@ use Rattle.laws.specs.Fits.{isWord, operandsFit, recordFits, fits}
 use Rattle.laws.specs.WriteRead.{BookFits, book-fits, fits-book, write-read}
 use Rattle.laws.specs.Shift.{shift-small, moved-small}
 use Rattle.laws.specs.Utf8.{splice-utf8}
-use Rattle.laws.specs.Sort.{all-sort}
+use Rattle.laws.specs.Sort.{all-sort-is}
 use Rattle.laws.specs.Located.{spliced-all}
 use Rattle.laws.specs.Nodes.{container-facts, normal-inside}
 use Rattle.commute.specs.Merged.{Fit, gn, region-rises}
@@ -119,8 +119,8 @@ module _ {old : LexOutput} {e : Edit} {r : Span} {reading : RegionOutput} {m : I
   diagnostics-fit : all (recordFits diagnosticCodec) (new .diagnostics) ≡ true
   unfolding mergedBook diagnosticLocated
   diagnostics-fit =
-      all-sort (recordFits diagnosticCodec) (spliced diagnosticLocated win (old .diagnostics) (reading .diagnostics))
-      (spliced-all diagnosticLocated win (recordFits diagnosticCodec) (recordFits diagnosticCodec) (recordFits diagnosticCodec) (λ x o h. o) (diagnostic-refits (pos (win .source .start)))
+      all-sort-is (recordFits diagnosticCodec) (spliced diagnosticLocated win (old .diagnostics) (reading .diagnostics))
+      ∙ (spliced-all diagnosticLocated win (recordFits diagnosticCodec) (recordFits diagnosticCodec) (recordFits diagnosticCodec) (λ x o h. o) (diagnostic-refits (pos (win .source .start)))
       (λ x o h. diagnostic-refits (win .sourceDelta) x o) (old .diagnostics) (reading .diagnostics) (fo .diagnostics) (fr .diagnostics))
 
   containers-fit : all (recordFits containerCodec) (new .containerPairs) ≡ true
@@ -144,8 +144,8 @@ module _ {old : LexOutput} {e : Edit} {r : Span} {reading : RegionOutput} {m : I
         nodes = spliced-all nodeLocated win nodeShape nodeShape nodeShape (λ n o h. o) (λ n o. o) (λ n o h. o) (old .sourceNodes) (grafted old reading .0) (so .nodes) (g .nodeShapes);
         pairs = spliced-all pairLocated win pairShape pairShape pairShape (λ n o h. o) (λ n o. o) (λ n o h. o) (old .pairs) (reading .pairs) (so .pairs) (sr .pairs);
         diagnostics =
-            all-sort diagnosticShape (spliced diagnosticLocated win (old .diagnostics) (reading .diagnostics))
-            (spliced-all diagnosticLocated win diagnosticShape diagnosticShape diagnosticShape (λ n o h. o) (λ n o. o) (λ n o h. o) (old .diagnostics) (reading .diagnostics) (so .diagnostics) (sr .diagnostics));
+            all-sort-is diagnosticShape (spliced diagnosticLocated win (old .diagnostics) (reading .diagnostics))
+            ∙ (spliced-all diagnosticLocated win diagnosticShape diagnosticShape diagnosticShape (λ n o h. o) (λ n o. o) (λ n o h. o) (old .diagnostics) (reading .diagnostics) (so .diagnostics) (sr .diagnostics));
       }
 
   some-layers : not (isEmpty (new .layers)) ≡ true

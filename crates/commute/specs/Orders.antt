@@ -23,7 +23,7 @@ use Rattle.laws.specs.Lists.{both, all-and}
 use Rattle.laws.specs.Keep.{all-map-is, all-if}
 use Rattle.laws.specs.Checks.{mergedOf}
 use Rattle.laws.specs.Splice.{splice-comm}
-use Rattle.laws.specs.Sort.{sort-first, all-unsorted, not-behind-moved}
+use Rattle.laws.specs.Sort.{sort-first, all-sort-is, not-behind-moved}
 use Rattle.laws.specs.Located.{two-orders}
 use Rattle.laws.specs.Nodes.{span-facts, pair-facts, container-facts, startsAt, nodeIn, normal-rises, normal-inside, offsets-behind, offsets-small}
 use Rattle.commute.specs.Merged.{Fit, p, q, moved-sum, placed-number, length-sum, behind-sum, normal-region-rises, offset-sum, source-carried, pairs-carried, diagnostics-carried, containers-carried}
@@ -40,7 +40,7 @@ sorted-again {old} {e} {reading} {r} f ds h =
     let ok : Diagnostic → Bool = λ d. spanOk (length (old .sanitized)) (d .span) in
     ap (λ (l : List Diagnostic). sortDiagnostics (spliced diagnosticLocated w l (reading .diagnostics))) h
     ∙ sort-first ok (λ d. leb (d .span .end) (w .source .start)) (λ d. leb (w .source .end) (d .span .start)) (diagnosticLocated .moved w) moved ds (map (diagnosticLocated .placed w) (reading .diagnostics))
-    (all-unsorted ok ds (rw h at (f .oldSound .places .diagnostics)))
+    (sym (all-sort-is ok ds) ∙ rw h at (f .oldSound .places .diagnostics))
   where
     moved : (d d₁ : Diagnostic) → spanOk (length (old .sanitized)) (d .span) ≡ true → spanOk (length (old .sanitized)) (d₁ .span) ≡ true
         → leb (windowOf old e reading r .source .end) (d .span .start) ≡ true → leb (windowOf old e reading r .source .end) (d₁ .span .start) ≡ true

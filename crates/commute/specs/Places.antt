@@ -18,7 +18,7 @@ use Rattle.laws.specs.Lists.{both, join, all-and, all-keep, all-map}
 use Rattle.laws.specs.Keep.{all-keep-self, all-map-is, all-true, same-le}
 use Rattle.laws.specs.Checks.{mergedOf}
 use Rattle.laws.specs.Splice.{splice-length}
-use Rattle.laws.specs.Sort.{all-sort}
+use Rattle.laws.specs.Sort.{all-sort-is}
 use Rattle.laws.specs.Located.{spliced-all, keep-front, keep-rest}
 use Rattle.laws.specs.Nodes.{Sound, span-facts, span-ok, pair-facts, pair-ok, container-facts, container-ok, endsBy, startsAt, nodeIn, images-append, spans-append, ordered-keep, ordered-join, normal-sum, offsets-append, split, behind-ordered, offsets-split, normal-at, normal-behind, normal-inside, offsets-behind, offsets-small, NodeShift, shift-spans, shift-images, shift-ordered, shift-offsets}
 use Rattle.commute.specs.Merged.{Fit, gn, p, q, startN, endN, moved-sum, placed-number, length-sum, normal-region-rises, offset-sum, nodes-carried, diagnostics-carried, containers-carried}
@@ -247,8 +247,8 @@ module _ {old : LexOutput} {e : Edit} {reading : RegionOutput} {r : Span} (f : F
       let c = diagnostics-carried f in
       let size = length (new .sanitized) in
       let ok′ : Diagnostic → Bool = λ d. spanOk size (d .span) in
-      all-sort ok′ (spliced diagnosticLocated win (old .diagnostics) (reading .diagnostics))
-      (spliced-all diagnosticLocated win (λ d. spanOk (length (old .sanitized)) (d .span)) (λ d. spanOk (length (reading .sanitized)) (d .span)) ok′
+      all-sort-is ok′ (spliced diagnosticLocated win (old .diagnostics) (reading .diagnostics))
+      ∙ (spliced-all diagnosticLocated win (λ d. spanOk (length (old .sanitized)) (d .span)) (λ d. spanOk (length (reading .sanitized)) (d .span)) ok′
       (λ d o h. span-ok size (d .span) (c .some d o) (omega (arith, grown)))
       (λ d o. span-ok size (diagnosticLocated .placed win d .span) (omega (arith, c .someRead d o, c .placedStart d o, c .placedEnd d o)) (omega (arith, grown, c .inside d o, c .placedEnd d o)))
       (λ d o h. span-ok size (diagnosticLocated .moved win d .span) (omega (arith, c .some d o, c .movedStart d o h, c .movedEnd d o h)) (omega (arith, length-sum f, c .movedEnd d o h, span-facts (length (old .sanitized)) (d .span) o .1)))
