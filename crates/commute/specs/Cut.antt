@@ -11,62 +11,51 @@ use Rattle.model.specs.Types.{LexOutput}
 use Rattle.model.specs.Region.{newlineAt, nodesAllowCut, pairsAllowCut, blankLineBefore, safeCut, regionStart, regionEnd}
 use Rattle.laws.specs.Lists.{both}
 
--- ---- bounds of a region's start and end, and that they are safe
-
-pub start-le : (b : LexOutput) (o : ℕ) → regionStart b o ≤ o
-unfolding regionStart
-start-le b zero = omega arith
-start-le b (suc o) = go (newlineAt (b .sanitized) o && safeCut b (suc o)) (start-le b o)
-  where
-    go : (t : Bool) → regionStart b o ≤ o → cond t (suc o) (regionStart b o) ≤ suc o
-    go true r = omega arith
-    go false r = omega arith
-
-pub zero-safe : (b : LexOutput) → safeCut b 0 ≡ true
-unfolding safeCut
-zero-safe b = refl
-
-pub length-safe : (b : LexOutput) → safeCut b (length (b .sanitized)) ≡ true
-unfolding safeCut
-length-safe b = go (eqb (length (b .sanitized)) 0) (eqb (length (b .sanitized)) (length (b .sanitized))) (eq-eqb (length (b .sanitized)) (length (b .sanitized)) refl)
-  where
-    go : (s t : Bool) → t ≡ true → s || t || (blankLineBefore (b .sanitized) (length (b .sanitized)) && nodesAllowCut (b .sourceNodes) (length (b .sanitized)) && pairsAllowCut (b .pairs) (length (b .sanitized))) ≡ true
-    go true t e = refl
-    go false t e = rw e
-
-pub start-safe : (b : LexOutput) (o : ℕ) → safeCut b (regionStart b o) ≡ true
-unfolding regionStart
-start-safe b zero = zero-safe b
-start-safe b (suc o) = go (newlineAt (b .sanitized) o && safeCut b (suc o)) refl (start-safe b o)
-  where
-    go : (t : Bool) → newlineAt (b .sanitized) o && safeCut b (suc o) ≡ t → safeCut b (regionStart b o) ≡ true → safeCut b (cond t (suc o) (regionStart b o)) ≡ true
-    go true e r = both (newlineAt (b .sanitized) o) (safeCut b (suc o)) e .1
-    go false e r = r
-
-pub end-bounds : (b : LexOutput) (n o : ℕ) → o + n ≡ length (b .sanitized) → (o ≤ regionEnd b n o) × (regionEnd b n o ≤ length (b .sanitized)) × (o < length (b .sanitized) → o < regionEnd b n o)
-unfolding regionEnd
-end-bounds b zero o h = omega arith
-end-bounds b (suc n) o h = go (newlineAt (b .sanitized) o && safeCut b (o + 1)) (end-bounds b n (o + 1) (omega arith))
-  where
-    go : (t : Bool) → (o + 1 ≤ regionEnd b n (o + 1)) × (regionEnd b n (o + 1) ≤ length (b .sanitized)) × (o + 1 < length (b .sanitized) → o + 1 < regionEnd b n (o + 1))
-        → (o ≤ cond t (o + 1) (regionEnd b n (o + 1))) × (cond t (o + 1) (regionEnd b n (o + 1)) ≤ length (b .sanitized)) × (o < length (b .sanitized) → o < cond t (o + 1) (regionEnd b n (o + 1)))
-    go true r = omega arith
-    go false r = omega arith
-
-pub end-safe : (b : LexOutput) (n o : ℕ) → safeCut b (regionEnd b n o) ≡ true
-unfolding regionEnd
-end-safe b zero o = length-safe b
-end-safe b (suc n) o = go (newlineAt (b .sanitized) o && safeCut b (o + 1)) refl (end-safe b n (o + 1))
-  where
-    go : (t : Bool) → newlineAt (b .sanitized) o && safeCut b (o + 1) ≡ t → safeCut b (regionEnd b n (o + 1)) ≡ true → safeCut b (cond t (o + 1) (regionEnd b n (o + 1))) ≡ true
-    go true e r = both (newlineAt (b .sanitized) o) (safeCut b (o + 1)) e .1
-    go false e r = r
-
--- ---- two books that agree up to a cut c
-
 -- what section 6 asks of an offset inside a text
 abbrev pub allows : LexOutput → ℕ → Bool
 allows b o = blankLineBefore (b .sanitized) o && nodesAllowCut (b .sourceNodes) o && pairsAllowCut (b .pairs) o
+
+-- ---- bounds of a region's start and end, and that they are safe
+
+pub length-safe : (b : LexOutput) → safeCut b (length (b .sanitized)) ≡ true
+unfolding safeCut
+length-safe b = rw (eq-eqb (length (b .sanitized)) (length (b .sanitized)) refl) (go (eqb (length (b .sanitized)) 0))
+  where
+    go : (s : Bool) → s || true || allows b (length (b .sanitized)) ≡ true
+    go true = refl
+    go false = refl
+
+-- a region's start x for an edit that starts at o
+pub record Starts (b : LexOutput) (o x : ℕ) : Type 0 where
+  pub before : x ≤ o
+  pub safe : safeCut b x ≡ true
+
+pub starts : (b : LexOutput) (o : ℕ) → Starts b o (regionStart b o)
+unfolding regionStart safeCut
+starts b zero = record { before = omega arith; safe = refl }
+starts b (suc o) = go (newlineAt (b .sanitized) o && safeCut b (suc o)) refl (starts b o)
+  where
+    go : (t : Bool) → newlineAt (b .sanitized) o && safeCut b (suc o) ≡ t → Starts b o (regionStart b o) → Starts b (suc o) (cond t (suc o) (regionStart b o))
+    go true e r = record { before = omega arith; safe = both (newlineAt (b .sanitized) o) (safeCut b (suc o)) e .1 }
+    go false e r = record { before = omega arith; safe = r .safe }
+
+-- a region's end x for an edit that ends at o
+pub record Ends (b : LexOutput) (o x : ℕ) : Type 0 where
+  pub behind : o ≤ x
+  pub inside : x ≤ length (b .sanitized)
+  pub strictly : o < length (b .sanitized) → o < x
+  pub safe : safeCut b x ≡ true
+
+pub ends : (b : LexOutput) (n o : ℕ) → o + n ≡ length (b .sanitized) → Ends b o (regionEnd b n o)
+unfolding regionEnd
+ends b zero o h = record { behind = omega arith; inside = omega arith; strictly = λ k. k; safe = length-safe b }
+ends b (suc n) o h = go (newlineAt (b .sanitized) o && safeCut b (o + 1)) refl (ends b n (o + 1) (omega arith))
+  where
+    go : (t : Bool) → newlineAt (b .sanitized) o && safeCut b (o + 1) ≡ t → Ends b (o + 1) (regionEnd b n (o + 1)) → Ends b o (cond t (o + 1) (regionEnd b n (o + 1)))
+    go true e r = record { behind = omega arith; inside = omega arith; strictly = λ k. omega arith; safe = both (newlineAt (b .sanitized) o) (safeCut b (o + 1)) e .1 }
+    go false e r = record { behind = omega arith; inside = r .inside; strictly = λ k. omega arith; safe = r .safe }
+
+-- ---- two books that agree up to a cut c
 
 pub record SameBefore (c : ℕ) (b b′ : LexOutput) : Type 0 where
   pub text : (i : ℕ) → i < c → getD (b′ .sanitized) i 0 ≡ getD (b .sanitized) i 0

@@ -11,32 +11,19 @@ use Rattle.model.specs.Offset.{Span}
 use Rattle.model.specs.Types.{LexOutput, RegionOutput}
 use Rattle.model.specs.Region.{Edit, behindEdit, newlineAt, safeCut, regionStart, regionEnd, balancedRegion}
 use Rattle.model.specs.Demand3.{movedBehind, regionBehind}
-use Rattle.commute.specs.Cut.{SameBefore, SameBehind, start-le, start-safe, end-bounds, end-safe, start-before, end-behind, length-safe}
+use Rattle.commute.specs.Cut.{SameBefore, SameBehind, Starts, starts, Ends, ends, start-before, end-behind, length-safe}
 
 -- number 12, as lengths: the reading is as long as the region, moved by the change in length
 abbrev pub Twelve : Edit → RegionOutput → Span → Type 0
 Twelve e reading r = r .start + length (reading .sanitized) + e .end ≡ r .end + (length (e .replacement) + e .start)
 
 pub record Bounds (b : LexOutput) (e : Edit) (r : Span) : Type 0 where
-  pub startsBefore : r .start ≤ e .start
-  pub endsBehind : e .end ≤ r .end
-  pub inside : r .end ≤ length (b .sanitized)
-  pub strictly : e .end < length (b .sanitized) → e .end < r .end
-  pub startSafe : safeCut b (r .start) ≡ true
-  pub endSafe : safeCut b (r .end) ≡ true
+  pub starts : Starts b (e .start) (r .start)
+  pub ends : Ends b (e .end) (r .end)
 
 pub bounds : (b : LexOutput) (e : Edit) → e .end ≤ length (b .sanitized) → Bounds b e (balancedRegion b e)
 unfolding balancedRegion
-bounds b e h =
-    let u = end-bounds b (length (b .sanitized) - e .end) (e .end) (omega arith) in
-    record {
-      startsBefore = start-le b (e .start);
-      endsBehind = u .0;
-      inside = u .1;
-      strictly = u .2;
-      startSafe = start-safe b (e .start);
-      endSafe = end-safe b (length (b .sanitized) - e .end) (e .end);
-    }
+bounds b e h = record { starts = starts b (e .start); ends = ends b (length (b .sanitized) - e .end) (e .end) (omega arith) }
 
 -- ---- the earlier edit, merged second
 
@@ -74,15 +61,15 @@ module _ {b b′ : LexOutput} {l : ℕ} (same : SameBefore l b b′) (e : Edit) 
       newline : (o : ℕ) → e .start ≡ suc o → e .start ≡ length (b .sanitized) → (t : Bool) → newlineAt (b .sanitized) o ≡ t → regionStart b′ (suc o) ≡ regionStart b (suc o)
       newline o p q true x =
           let s : regionStart b (e .start) ≡ e .start = rw p (start-at-end b o (omega arith) x) in
-          let a = u .endsBehind in
-          let c = u .inside in
-          let a′ = u′ .startsBefore in
-          let s′ = u′ .strictly in
+          let a = u .ends .behind in
+          let c = u .ends .inside in
+          let a′ = u′ .starts .before in
+          let s′ = u′ .ends .strictly in
           let g = grown (omega arith) in
           let m : e .end < balancedRegion b′ e .end = s′ (omega arith) in
           absurd (omega arith)
       newline o p q false x =
-          let a = u .endsBehind in
+          let a = u .ends .behind in
           let y : newlineAt (b′ .sanitized) o ≡ false = rw (same .text o (omega arith)) x in
           start-no-newline b′ o y ∙ start-before same o (omega arith) (omega arith) (omega arith) ∙ sym (start-no-newline b o x)
 
@@ -94,14 +81,14 @@ module _ {b b′ : LexOutput} {l : ℕ} (same : SameBefore l b b′) (e : Edit) 
       longer true x n = let g = grown (eqb-true (e .end) (length (b .sanitized)) x) in omega arith
       longer false x n =
           let m = eqb-false (e .end) (length (b .sanitized)) x in
-          let s = u .strictly (omega arith) in
+          let s = u .ends .strictly (omega arith) in
           omega arith
 
       go : (t : Bool) → eqb (e .start) (length (b .sanitized)) ≡ t → regionStart b′ (e .start) ≡ regionStart b (e .start)
       go true x = at-end (e .start) refl (eqb-true (e .start) (length (b .sanitized)) x)
       go false x =
           let n = eqb-false (e .start) (length (b .sanitized)) x in
-          let a = u .endsBehind in
+          let a = u .ends .behind in
           let m : e .start < length (b .sanitized) = omega arith in
           start-before same (e .start) (omega arith) m (longer (eqb (e .end) (length (b .sanitized))) refl m)
 
@@ -132,7 +119,7 @@ module _ {b b′ : LexOutput} (first e : Edit) (r : Span) (same : SameBehind (r 
       → (regionEnd b′ n′ (behindEdit first (e .end)) ≡ behindEdit first (regionEnd b n (e .end))) × (e .end ≤ regionEnd b n (e .end))
   end-moved k n n′ p q t =
       let x = end-behind same n k (omega arith) in
-      let u = end-bounds b n (e .end) q .0 in
+      let u = ends b n (e .end) q .behind in
       let m₁ = moves (r .end) first-inside in
       let m₂ = moves (e .end) (omega arith) in
       let m₃ = moves (regionEnd b n (e .end)) (omega arith) in
@@ -144,7 +131,7 @@ module _ {b b′ : LexOutput} (first e : Edit) (r : Span) (same : SameBehind (r 
   unfolding balancedRegion regionBehind movedBehind
   region-moved =
       let n = length (b .sanitized) - e .end in
-      let a = start-le b (e .start) in
+      let a = starts b (e .start) .before in
       let m₁ = moves (r .end) first-inside in
       let m₂ = moves (e .end) (omega arith) in
       let m₃ = moves (e .start) (omega arith) in

@@ -56,9 +56,9 @@ module _ {old : LexOutput} {e : Edit} {r : Span} {reading : RegionOutput} {m : I
   pub twelve : Twelve e reading r
   unfolding newRegionText edited
   twelve =
-      let a = around .startsBefore in
-      let b = around .endsBehind in
-      let d = around .inside in
+      let a = around .starts .before in
+      let b = around .ends .behind in
+      let d = around .ends .inside in
       let x = s .chosen .rising in
       let n = splice-length (e .start) (e .end) (e .replacement) (old .sanitized) x (s .chosen .inside) in
       let k = behind-is e (r .end) x b in
@@ -80,15 +80,15 @@ module _ {old : LexOutput} {e : Edit} {r : Span} {reading : RegionOutput} {m : I
       record {
         oldSound = sound;
         readingSound = sound-of reading (s .readingFormed);
-        startsBefore = around .startsBefore;
+        startsBefore = around .starts .before;
         rising = s .chosen .rising;
-        endsBehind = around .endsBehind;
-        inside = around .inside;
-        strictly = around .strictly;
+        endsBehind = around .ends .behind;
+        inside = around .ends .inside;
+        strictly = around .ends .strictly;
         size = twelve;
         limit = limit;
-        startSafe = safe-facts sound (r .start) (around .startSafe);
-        endSafe = safe-facts sound (r .end) (around .endSafe);
+        startSafe = safe-facts sound (r .start) (around .starts .safe);
+        endSafe = safe-facts sound (r .end) (around .ends .safe);
         balanced = s .facts .balanced;
       }
 
