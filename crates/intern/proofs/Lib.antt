@@ -9,3 +9,4 @@ mod Roomy
 mod Tables
 mod Added
 mod Answers
+mod Begun

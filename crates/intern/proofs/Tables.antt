@@ -95,6 +95,10 @@ due-full n k e = leb-true _ _ (and-right (not (eqb n 0)) (leb (n * 7) (k * 8)) e
 pub due-not : (n k : ℕ) → isDue n k ≡ false → (n ≡ 0 → ⊥) → k * 8 < n * 7
 due-not n k e ne = leb-false _ _ (not-both _ (subst (λ (b : Bool). (not b && leb (n * 7) (k * 8)) ≡ false) (ne-eqb n 0 ne) e))
 
+pub one-or-none : (b : Bool) → cond b 1 0 ≤ 1
+one-or-none true = lit≤ tt
+one-or-none false = lit≤ tt
+
 -- ---- another table
 module _ (work strs : List ℕ) (st : Interner) (v : List ℕ) (g : Good work strs st) (len : length v ≡ length work) (high : drop 8192 v ≡ drop 8192 work) (n : ℕ) where
   starts-same : startsOf (st .count) v ≡ startsOf (st .count) work

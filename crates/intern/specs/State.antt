@@ -5,7 +5,7 @@ use mathlib.Core.List.{List, [], _∷_, _++_, flatten}
 use Prim.Native.Nat.{ℕ, zero, suc, _+_, _-_, _*_, _%_, _^_, _<_, _≤_}
 use lib.Dec.{eqb, leb}
 use lib.ListN.{length, getD, take, drop, set}
-use Rattle.model.specs.Intern.{InternStats, StrInterner, Interned, Probe, fxHash, probe, grows, tableFor, tableHit, tableAlloc, plusStats}
+use Rattle.model.specs.Intern.{InternStats, StrInterner, Interned, Probe, fxHash, probe, grows, tableFor, tableHit, tableAlloc, plusStats, freshInterner}
 use Rattle.model.specs.Limits.{maxNewStrings, loadFactorNumerator, loadFactorDenominator}
 use Rattle.intern.specs.declared.InternStats.{InternStats as Counters}
 use Rattle.intern.specs.declared.StrInterner.{StrInterner as Interner}
@@ -98,6 +98,13 @@ pub record Answered (work strs : List ℕ) (st : Interner) (work′ strs′ : Li
 pub record Told (work strs : List ℕ) (st : Interner) (work′ strs′ : List ℕ) (r : Answer) (a : Interned) : Type 0 where
   pub ok : r .ok ≡ hasRoom (length strs) (st .base) (a .state)
   pub answered : r .ok ≡ true → Answered work strs st work′ strs′ r a
+
+-- A new layer: no strings, from `base` on; one word is written.
+pub record Fresh (work strs : List ℕ) (base : ℕ) (work′ : List ℕ) (r : Interner) : Type 0 where
+  pub good : Good work′ strs r
+  pub state : stateOf work′ strs r ≡ freshInterner
+  pub begins : r .base ≡ base
+  pub words : work′ ≡ set work 8192 base
 
 -- ---- the steps of a call
 

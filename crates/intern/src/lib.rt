@@ -17,7 +17,7 @@ ghost use Rattle.model.specs.Limits.{fxPrime, fxRotateBits, maxNewStrings, minW
 ghost use Rattle.model.specs.Intern.{rotateLeft, fxStep, fxHash, plusStats, freshInterner, emptySlot, moveSlots, holds, grows, cacheHit, tableHit, tableAlloc};
 ghost use Rattle.model.specs.Intern.{probe as probeOfModel, bypass as bypassOfModel, intern as internOfModel};
 ghost use Rattle.intern.specs.Layout.{probeOf, stringAt, stringsOf, Starts, Entries, Work, tableOf, startsOf, slotFor};
-ghost use Rattle.intern.specs.State.{statsOf, Counted, OneCall, stateOf, Good, hasRoom, Told, Known, Ready, isDue, withSlots, withEntry, Alloced, firstProbe, probedCall};
+ghost use Rattle.intern.specs.State.{statsOf, Counted, OneCall, stateOf, Good, hasRoom, Told, Fresh, Known, Ready, isDue, withSlots, withEntry, Alloced, firstProbe, probedCall};
 
 const INTERN_LENGTH_LIMIT: usize = 64;
 const INITIAL_CAPACITY: usize = 256;
@@ -503,4 +503,150 @@ fn lookup(work: &[u32], strs: &[u8], st: StrInterner, s: &[u8]) -> Probed
     let last = 8192 + st.count + 1;
     let from = slot_of(fx_hash(s), slots);
     probe(&work[off..end], &work[8192..last], strs, s, from)
+}
+
+// A string over 64 bytes: a new one, and the table is not looked at.
+fn bypass(work: &mut [u32], strs: &mut [u8], st: StrInterner, s: &[u8]) -> Answer
+    requires { ⌜ Good (now work) (now strs) st ⌝ }
+    requires { ⌜ st .stats .calls < 2 ^ 32 ⌝ }
+    ensures { λ r. ⌜ Told (now (work .entry)) (now (strs .entry)) st (now (work .exit)) (now (strs .exit)) r (bypassOfModel (stateOf (now (work .entry)) (now (strs .entry)) st) (now (s .entry))) ⌝ }
+{
+    let count = st.count;
+    let c = st.stats;
+    if has_room(strs.len(), count, st.used, s.len()) {
+        let by = InternStats {
+            calls: 1,
+            cachehits: 0,
+            tablehits: 0,
+            allocs: 1,
+            longbypass: 1,
+            resizes: 0,
+            probesteps: 0,
+        };
+        let t = alloc(work, strs, st, s, plus_stats(c, by));
+        return Answer {
+            ok: true,
+            id: count as u32,
+            state: t,
+        };
+    }
+    Answer {
+        ok: false,
+        id: 0,
+        state: st,
+    }
+}
+
+// The probe ended at an empty slot: a new string, entered there.
+fn table_alloc(work: &mut [u32], strs: &mut [u8], st: StrInterner, s: &[u8], p: Probed, resized: u64) -> Answer
+    requires { ⌜ Good (now work) (now strs) st ⌝ }
+    requires { ⌜ (0 < st .slots) × (st .stats .calls < 2 ^ 32) × (resized ≤ 1) ⌝ }
+    requires { ⌜ (p .at < st .slots) × (p .steps ≤ 4096) × (getD (tableOf (st .slots) (now work)) (p .at) 0 ≡ 0) ⌝ }
+    ensures { λ r. ⌜ Told (now (work .entry)) (now (strs .entry)) st (now (work .exit)) (now (strs .exit)) r (tableAlloc (stateOf (now (work .entry)) (now (strs .entry)) st) (tableOf (st .slots) (now (work .entry))) resized (probeOf p) (now (s .entry))) ⌝ }
+{
+    let count = st.count;
+    let c = st.stats;
+    let at = p.at;
+    if has_room(strs.len(), count, st.used, s.len()) {
+        let by = InternStats {
+            calls: 1,
+            cachehits: 0,
+            tablehits: 0,
+            allocs: 1,
+            longbypass: 0,
+            resizes: resized,
+            probesteps: p.steps,
+        };
+        let t = alloc(work, strs, st, s, plus_stats(c, by));
+        let u = enter(work, t, at);
+        return Answer {
+            ok: true,
+            id: count as u32,
+            state: u,
+        };
+    }
+    Answer {
+        ok: false,
+        id: 0,
+        state: st,
+    }
+}
+
+// A call for the table, which is in its place.
+fn table_call(work: &mut [u32], strs: &mut [u8], st: StrInterner, s: &[u8], resized: u64) -> Answer
+    requires { ⌜ Good (now work) (now strs) st ⌝ }
+    requires { ⌜ (0 < st .slots) × (st .occupied * 8 < st .slots * 7) ⌝ }
+    requires { ⌜ (st .stats .calls < 2 ^ 32) × (resized ≤ 1) ⌝ }
+    ensures { λ r. ⌜ Told (now (work .entry)) (now (strs .entry)) st (now (work .exit)) (now (strs .exit)) r (probedCall (stateOf (now (work .entry)) (now (strs .entry)) st) resized (now (s .entry))) ⌝ }
+{
+    let p = lookup(work, strs, st, s);
+    let slot = p.slot;
+    if slot == 0 {
+        return table_alloc(work, strs, st, s, p, resized);
+    }
+    let by = InternStats {
+        calls: 1,
+        cachehits: 0,
+        tablehits: 1,
+        allocs: 0,
+        longbypass: 0,
+        resizes: resized,
+        probesteps: p.steps,
+    };
+    known(st, slot, by)
+}
+
+// `intern`. The calls are to be below 2 to the 32, so that no count of 64 bits wraps; number 18 refuses far smaller readings.
+// Where the defined state has over 3583 strings, or bytes past the buffer's end, the answer is not ok, and only then.
+pub fn intern(work: &mut [u32], strs: &mut [u8], st: StrInterner, s: &[u8]) -> Answer
+    requires { ⌜ Good (now work) (now strs) st ⌝ }
+    requires { ⌜ st .stats .calls < 2 ^ 32 ⌝ }
+    ensures { λ r. ⌜ Told (now (work .entry)) (now (strs .entry)) st (now (work .exit)) (now (strs .exit)) r (internOfModel (stateOf (now (work .entry)) (now (strs .entry)) st) (now (s .entry))) ⌝ }
+{
+    let last = st.last;
+    if is_last(work, strs, st, s) {
+        let by = InternStats {
+            calls: 1,
+            cachehits: 1,
+            tablehits: 0,
+            allocs: 0,
+            longbypass: 0,
+            resizes: 0,
+            probesteps: 0,
+        };
+        return known(st, last as u32, by);
+    }
+    if INTERN_LENGTH_LIMIT < s.len() {
+        return bypass(work, strs, st, s);
+    }
+    let resized = resizes(st.slots, st.occupied);
+    let t = table_for(work, strs, st);
+    table_call(work, strs, t, s, resized)
+}
+
+// The interner of a new layer, whose strings are to stand from `base` on. The work words may hold anything: the table is cleared
+// at its first use.
+pub fn fresh(work: &mut [u32], strs: &[u8], base: usize) -> StrInterner
+    requires { ⌜ minWorkWords ≤ length (now work) ⌝ }
+    requires { ⌜ (base ≤ length (now strs)) × (length (now strs) < 2 ^ 32) ⌝ }
+    ensures { λ r. ⌜ Fresh (now (work .entry)) (now (strs .entry)) base (now (work .exit)) r ⌝ }
+{
+    work[8192] = base as u32;
+    StrInterner {
+        slots: 0,
+        occupied: 0,
+        count: 0,
+        base: base,
+        used: base,
+        last: 0,
+        stats: InternStats {
+            calls: 0,
+            cachehits: 0,
+            tablehits: 0,
+            allocs: 0,
+            longbypass: 0,
+            resizes: 0,
+            probesteps: 0,
+        },
+    }
 }
