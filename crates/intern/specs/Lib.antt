@@ -1,2 +1,3 @@
 pub mod Layout
 pub mod State
+pub mod Counts

@@ -196,22 +196,22 @@ fn probe(table: &[u32], starts: &[u32], strs: &[u8], s: &[u8], from: usize) -> P
 {
     let n = table.len();
     let mut at = from;
-    let mut k: usize = 0;
-    while k < n {
+    let mut steps: usize = 0;
+    while steps < n {
         let e = table[at];
-        k += 1;
+        steps += 1;
         if e == 0 {
             return Probed {
                 at: at,
                 slot: 0,
-                steps: k as u64,
+                steps: steps as u64,
             };
         }
         if same_bytes(resolve(starts, strs, e - 1), s) {
             return Probed {
                 at: at,
                 slot: e,
-                steps: k as u64,
+                steps: steps as u64,
             };
         }
         at = next_slot(at, n);
@@ -219,7 +219,7 @@ fn probe(table: &[u32], starts: &[u32], strs: &[u8], s: &[u8], from: usize) -> P
     Probed {
         at: at,
         slot: 0,
-        steps: k as u64,
+        steps: steps as u64,
     }
 }
 

@@ -17,10 +17,10 @@ use Rattle.intern.proofs.resolve.Reads as resolve-reads
 use Rattle.intern.proofs.same_bytes.Reads as same-bytes-reads
 
 abbrev Inv-loop : tie.InvT-loop
-Inv-loop table starts strs s from n at₀ k₀ at k = (k ≤ n) × (n ≡ length table) × (at < n) × (probe (n - k) (stringsOf starts strs) table s at k ≡ probe (length table) (stringsOf starts strs) table s from 0)
+Inv-loop table starts strs s from n at₀ steps₀ at steps = (steps ≤ n) × (n ≡ length table) × (at < n) × (probe (n - steps) (stringsOf starts strs) table s at steps ≡ probe (length table) (stringsOf starts strs) table s from 0)
 
 abbrev μ-loop : tie.MeasureT-loop
-μ-loop table starts strs s from n at₀ k₀ at k = n - k
+μ-loop table starts strs s from n at₀ steps₀ at steps = n - steps
 
 -- src/lib.rt:200:5
 loop-holds : tie.Need-loop-holds Inv-loop μ-loop
@@ -35,8 +35,8 @@ shared-slice-read-e : tie.Need-shared-slice-read-e Inv-loop μ-loop
 shared-slice-read-e c = search needs
 
 -- src/lib.rt:202:9
-add-k : tie.Need-add-k Inv-loop μ-loop
-add-k c = search needs
+add-steps : tie.Need-add-steps Inv-loop μ-loop
+add-steps c = search needs
 
 -- src/lib.rt:204:13
 returns : tie.Need-returns Inv-loop μ-loop
@@ -83,7 +83,7 @@ probe-spec =
     loop-holds
     mul-e
     shared-slice-read-e
-    add-k
+    add-steps
     returns
     sub-resolve
     resolve-requires
