@@ -1,6 +1,6 @@
 -- A new string: its bytes behind the others, and its end among the starts. Assumes nothing.
 use mathlib.Core.Path.{_≡_, refl, sym, ap, _∙_, subst}
-use mathlib.Core.List.{List, [], _∷_, _++_, append-assoc, append-nil, flatten}
+use mathlib.Core.List.{List, [], _∷_, _++_, append-assoc, flatten}
 use Prim.Native.Nat.{ℕ, zero, suc, _+_, _-_, _*_, _%_, _^_, _<_, _≤_}
 use native.Mathlib.Omega.{arith}
 use native.Mathlib.Decide.{ℕ-discrete}
@@ -11,15 +11,11 @@ use Rattle.intern.specs.declared.InternStats.{InternStats as Counters}
 use Rattle.intern.specs.declared.StrInterner.{StrInterner as Interner}
 use Rattle.intern.specs.Layout.{taken, part, tableOf, startsOf, stringAt, stringsUpTo, Work, Starts, Entries}
 use Rattle.intern.specs.State.{Counted, statsOf, stateOf, Good, Size, allocated, Alloced}
+use Rattle.intern.specs.Calls.{flatten-snoc}
 use Rattle.intern.proofs.Views.{length-part, getD-part, part-high}
 use Rattle.intern.proofs.Cleared.{part-ext}
 use Rattle.intern.proofs.Strings.{length-strings, strings-ext}
 use Rattle.intern.proofs.Tables.{size-hi, starts-length}
-
-pub flatten-snoc : (l : List (List ℕ)) (s : List ℕ) → flatten (l ++ (s ∷ [])) ≡ flatten l ++ s
-unfolding flatten
-flatten-snoc [] s = append-nil s
-flatten-snoc (x ∷ xs) s = ap (λ (l : List ℕ). x ++ l) (flatten-snoc xs s) ∙ sym (append-assoc x (flatten xs) s)
 
 -- ---- the bytes
 module _ (strs s : List ℕ) (used : ℕ) (fits : used + length s ≤ length strs) where

@@ -19,11 +19,11 @@ use Rattle.intern.specs.declared.Probed.{Probed}
 use Rattle.intern.specs.declared.Answer.{Answer}
 use Rattle.intern.specs.Layout.{taken, part, tableOf, startsOf, stringAt, stringsUpTo, stringsOf, Work, Starts, Entries, probeOf}
 use Rattle.intern.specs.State.{Counted, OneCall, statsOf, stateOf, Good, hasRoom, Answered, Told, Known, Ready, Alloced, allocated, withTable, withSlots, withLast, withEntry, firstProbe, probedCall}
+use Rattle.intern.specs.Calls.{flatten-snoc, and-true}
 use Rattle.intern.proofs.Views.{part-in}
 use Rattle.intern.proofs.Strings.{length-strings, string-is}
 use Rattle.intern.proofs.Slots.{holds-some}
 use Rattle.intern.proofs.Roomy.{taken-set, set-entries, Inside, inside, never-round}
-use Rattle.intern.proofs.Added.{flatten-snoc}
 use Rattle.intern.proofs.Tables.{size-hi, size-lo, size-length, strings-all, grows-is}
 
 -- ---- room
@@ -33,10 +33,6 @@ room-left size used n h =
       | yes lt ↦ lt-leb n (size - used) lt ∙ sym (lt-leb (used + n) size (omega arith))
       | no ge ↦ le-leb n (size - used) (omega (arith, ge)) ∙ sym (le-leb (used + n) size (omega (arith, ge)))
     ]
-
-and-true : (a b : Bool) → (a && b) ≡ true → (a ≡ true) × (b ≡ true)
-and-true true b e = (refl, e)
-and-true false b e = absurd (false≢true e)
 
 pub room-there : (count used n size : ℕ) → (leb (count + 1) maxNewStrings && leb (used + n) size) ≡ true → (count < 3583) × (used + n ≤ size)
 room-there count used n size e =
@@ -106,9 +102,12 @@ module _ (work strs : List ℕ) (st : Interner) (g : Good work strs st) where
     pub probe-in : (st .occupied * 8 < st .slots * 7) → (p : Probe) → p ≡ firstProbe (stateOf work strs st) s → (p .at < st .slots) × (p .slot ≤ st .count) × (p .steps ≤ 4096) × (getD table (p .at) 0 ≡ p .slot)
     unfolding firstProbe
     probe-in roomy p is =
-        let i = subst (Inside table (st .count + 1) (length table + 0)) (sym is) (inside strings s table (st .count + 1) (length table) (fxHash s % length table) 0 (omega arith) (g .entries) start-lt) in
-        (omega (arith, i .at, len), omega (arith, i .slot), omega (arith, i .steps, len, size-hi (g .size)),
-          subst (λ (q : Probe). getD table (q .at) 0 ≡ q .slot) (sym is) (never-round strings s table (fxHash s % length table) 0 start-lt (omega (arith, g .number, len))))
+        let i = subst (Inside table (st .count + 1) (length table + 0)) (sym is) (inside strings s table (st .count + 1) (length table) (fxHash s % length table) 0 (omega arith) (g .entries) start-lt) in (
+          omega (arith, i .at, len),
+          omega (arith, i .slot),
+          omega (arith, i .steps, len, size-hi (g .size)),
+          subst (λ (q : Probe). getD table (q .at) 0 ≡ q .slot) (sym is) (never-round strings s table (fxHash s % length table) 0 start-lt (omega (arith, g .number, len))),
+        )
 
   -- ---- a string that is there
   pub known-told : (slot : ℕ) (by : Counters) (r : Answer) → slot ≤ st .count → Known st slot by r → (c : InternStats) → statsOf by ≡ c

@@ -1,3 +1,3 @@
 pub mod Layout
 pub mod State
-pub mod Counts
+pub mod Calls

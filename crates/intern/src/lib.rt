@@ -20,9 +20,13 @@ ghost use Rattle.intern.specs.Layout.{probeOf, stringAt, stringsOf, Star
 ghost use Rattle.intern.specs.State.{statsOf, Counted, OneCall, stateOf, Good, hasRoom, Told, Fresh, Known, Ready, isDue, withSlots, withEntry, Alloced, firstProbe, probedCall};
 
 const INTERN_LENGTH_LIMIT: usize = 64;
+
 const INITIAL_CAPACITY: usize = 256;
+
 const LOAD_FACTOR_NUMERATOR: usize = 7;
+
 const LOAD_FACTOR_DENOMINATOR: usize = 8;
+
 const MAX_NEW_STRINGS: usize = 3583;
 
 // `InternStats`: the seven counts, by the Rust's names without their underscores, which a clause would have to quote.
@@ -408,7 +412,13 @@ fn has_room(size: usize, count: usize, used: usize, n: usize) -> bool
 }
 
 // A new string: its bytes behind the others, and its end.
-fn alloc(work: &mut [u32], strs: &mut [u8], st: StrInterner, s: &[u8], stats: InternStats) -> StrInterner
+fn alloc(
+    work: &mut [u32],
+    strs: &mut [u8],
+    st: StrInterner,
+    s: &[u8],
+    stats: InternStats,
+) -> StrInterner
     requires { ⌜ Good (now work) (now strs) st ⌝ }
     requires { ⌜ (st .count < 3583) × (st .used + length (now s) ≤ length (now strs)) ⌝ }
     requires { ⌜ Counted stats ⌝ }
@@ -538,7 +548,14 @@ fn bypass(work: &mut [u32], strs: &mut [u8], st: StrInterner, s: &[u8]) -> Answe
 }
 
 // The probe ended at an empty slot: a new string, entered there.
-fn table_alloc(work: &mut [u32], strs: &mut [u8], st: StrInterner, s: &[u8], p: Probed, resized: u64) -> Answer
+fn table_alloc(
+    work: &mut [u32],
+    strs: &mut [u8],
+    st: StrInterner,
+    s: &[u8],
+    p: Probed,
+    resized: u64,
+) -> Answer
     requires { ⌜ Good (now work) (now strs) st ⌝ }
     requires { ⌜ (0 < st .slots) × (st .stats .calls < 2 ^ 32) × (resized ≤ 1) ⌝ }
     requires { ⌜ (p .at < st .slots) × (p .steps ≤ 4096) × (getD (tableOf (st .slots) (now work)) (p .at) 0 ≡ 0) ⌝ }
@@ -596,7 +613,7 @@ fn table_call(work: &mut [u32], strs: &mut [u8], st: StrInterner, s: &[u8], resi
     known(st, slot, by)
 }
 
-// `intern`. The calls are to be below 2 to the 32, so that no count of 64 bits wraps; number 18 refuses far smaller readings.
+// `intern`. The calls are to be below 2 to the 32, so that no count of 64 bits wraps: what a caller keeps by `answered-calls`.
 // Where the defined state has over 3583 strings, or bytes past the buffer's end, the answer is not ok, and only then.
 pub fn intern(work: &mut [u32], strs: &mut [u8], st: StrInterner, s: &[u8]) -> Answer
     requires { ⌜ Good (now work) (now strs) st ⌝ }

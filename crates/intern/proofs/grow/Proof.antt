@@ -38,13 +38,13 @@ clear-part-requires c κs = search needs
 -- src/lib.rt:310:5
 move-slots-requires : tie.Need-move-slots-requires
 move-slots-requires c κs = (
-      record {
-        room = rw (new-length (c .before .before .before .before .before .before .before .args .work .now) (c .before .before .before .before .before .before .before .args .n) (c .before .before .before .before .before .before .before .pre .1 .0 .0) (c .before .before .before .before .before .before .before .pre .1 .0 .1) (c .before .before .before .before .before .before .before .pre .0 .room) _ (c .before .before .before .clear-part .ensures)) (c .before .before .before .before .before .before .before .pre .0 .room);
-        few = c .before .before .before .before .before .before .before .pre .0 .few;
-        starts = subst (λ (l : List ℕ). Starts (take (8192 + c .before .before .before .before .before .before .before .args .count + 1 - 8192) l) (length (c .before .before .before .before .before .before .before .args .strs .now))) (sym (new-high (c .before .before .before .before .before .before .before .args .work .now) (c .before .before .before .before .before .before .before .args .n) (c .before .before .before .before .before .before .before .pre .1 .0 .0) (c .before .before .before .before .before .before .before .pre .1 .0 .1) (c .before .before .before .before .before .before .before .pre .0 .room) _ (c .before .before .before .clear-part .ensures))) (c .before .before .before .before .before .before .before .pre .0 .starts);
-      },
-      (c .before .before .before .before .before .before .before .pre .1 .0, subst (λ (l : List ℕ). Entries l (c .before .before .before .before .before .before .before .args .count + 1)) (sym (new-old (c .before .before .before .before .before .before .before .args .work .now) (c .before .before .before .before .before .before .before .args .n) (c .before .before .before .before .before .before .before .pre .1 .0 .0) (c .before .before .before .before .before .before .before .pre .1 .0 .1) (c .before .before .before .before .before .before .before .pre .0 .room) _ (c .before .before .before .clear-part .ensures))) (c .before .before .before .before .before .before .before .pre .1 .1)),
-    )
+  record {
+    room = rw (new-length (c .before .before .before .before .before .before .before .args .work .now) (c .before .before .before .before .before .before .before .args .n) (c .before .before .before .before .before .before .before .pre .1 .0 .0) (c .before .before .before .before .before .before .before .pre .1 .0 .1) (c .before .before .before .before .before .before .before .pre .0 .room) _ (c .before .before .before .clear-part .ensures)) (c .before .before .before .before .before .before .before .pre .0 .room);
+    few = c .before .before .before .before .before .before .before .pre .0 .few;
+    starts = subst (λ (l : List ℕ). Starts (take (8192 + c .before .before .before .before .before .before .before .args .count + 1 - 8192) l) (length (c .before .before .before .before .before .before .before .args .strs .now))) (sym (new-high (c .before .before .before .before .before .before .before .args .work .now) (c .before .before .before .before .before .before .before .args .n) (c .before .before .before .before .before .before .before .pre .1 .0 .0) (c .before .before .before .before .before .before .before .pre .1 .0 .1) (c .before .before .before .before .before .before .before .pre .0 .room) _ (c .before .before .before .clear-part .ensures))) (c .before .before .before .before .before .before .before .pre .0 .starts);
+  },
+  (c .before .before .before .before .before .before .before .pre .1 .0, subst (λ (l : List ℕ). Entries l (c .before .before .before .before .before .before .before .args .count + 1)) (sym (new-old (c .before .before .before .before .before .before .before .args .work .now) (c .before .before .before .before .before .before .before .args .n) (c .before .before .before .before .before .before .before .pre .1 .0 .0) (c .before .before .before .before .before .before .before .pre .1 .0 .1) (c .before .before .before .before .before .before .before .pre .0 .room) _ (c .before .before .before .clear-part .ensures))) (c .before .before .before .before .before .before .before .pre .1 .1)),
+)
 
 -- src/lib.rt:301:1
 same-length : tie.Need-same-length
@@ -53,9 +53,9 @@ same-length c = search needs
 -- src/lib.rt:301:1
 returns : tie.Need-returns
 returns c = (
-      grown (c .before .before .before .before .before .before .before .before .before .before .args .strs .now) (c .before .before .before .before .before .before .before .before .before .before .args .work .now) _ _ (c .before .before .before .before .before .before .before .before .before .before .args .count) (c .before .before .before .before .before .before .before .before .before .before .args .n) (new-old (c .before .before .before .before .before .before .before .before .before .before .args .work .now) (c .before .before .before .before .before .before .before .before .before .before .args .n) (c .before .before .before .before .before .before .before .before .before .before .pre .1 .0 .0) (c .before .before .before .before .before .before .before .before .before .before .pre .1 .0 .1) (c .before .before .before .before .before .before .before .before .before .before .pre .0 .room) _ (c .before .before .before .before .before .before .clear-part .ensures)) (new-high (c .before .before .before .before .before .before .before .before .before .before .args .work .now) (c .before .before .before .before .before .before .before .before .before .before .args .n) (c .before .before .before .before .before .before .before .before .before .before .pre .1 .0 .0) (c .before .before .before .before .before .before .before .before .before .before .pre .1 .0 .1) (c .before .before .before .before .before .before .before .before .before .before .pre .0 .room) _ (c .before .before .before .before .before .before .clear-part .ensures)) (new-table (c .before .before .before .before .before .before .before .before .before .before .args .work .now) (c .before .before .before .before .before .before .before .before .before .before .args .n) (c .before .before .before .before .before .before .before .before .before .before .pre .1 .0 .0) (c .before .before .before .before .before .before .before .before .before .before .pre .1 .0 .1) (c .before .before .before .before .before .before .before .before .before .before .pre .0 .room) _ (c .before .before .before .before .before .before .clear-part .ensures)) (c .before .before .move-slots .ensures .0),
-      c .before .before .move-slots .ensures .1 ∙ new-high (c .before .before .before .before .before .before .before .before .before .before .args .work .now) (c .before .before .before .before .before .before .before .before .before .before .args .n) (c .before .before .before .before .before .before .before .before .before .before .pre .1 .0 .0) (c .before .before .before .before .before .before .before .before .before .before .pre .1 .0 .1) (c .before .before .before .before .before .before .before .before .before .before .pre .0 .room) _ (c .before .before .before .before .before .before .clear-part .ensures),
-    )
+  grown (c .before .before .before .before .before .before .before .before .before .before .args .strs .now) (c .before .before .before .before .before .before .before .before .before .before .args .work .now) _ _ (c .before .before .before .before .before .before .before .before .before .before .args .count) (c .before .before .before .before .before .before .before .before .before .before .args .n) (new-old (c .before .before .before .before .before .before .before .before .before .before .args .work .now) (c .before .before .before .before .before .before .before .before .before .before .args .n) (c .before .before .before .before .before .before .before .before .before .before .pre .1 .0 .0) (c .before .before .before .before .before .before .before .before .before .before .pre .1 .0 .1) (c .before .before .before .before .before .before .before .before .before .before .pre .0 .room) _ (c .before .before .before .before .before .before .clear-part .ensures)) (new-high (c .before .before .before .before .before .before .before .before .before .before .args .work .now) (c .before .before .before .before .before .before .before .before .before .before .args .n) (c .before .before .before .before .before .before .before .before .before .before .pre .1 .0 .0) (c .before .before .before .before .before .before .before .before .before .before .pre .1 .0 .1) (c .before .before .before .before .before .before .before .before .before .before .pre .0 .room) _ (c .before .before .before .before .before .before .clear-part .ensures)) (new-table (c .before .before .before .before .before .before .before .before .before .before .args .work .now) (c .before .before .before .before .before .before .before .before .before .before .args .n) (c .before .before .before .before .before .before .before .before .before .before .pre .1 .0 .0) (c .before .before .before .before .before .before .before .before .before .before .pre .1 .0 .1) (c .before .before .before .before .before .before .before .before .before .before .pre .0 .room) _ (c .before .before .before .before .before .before .clear-part .ensures)) (c .before .before .move-slots .ensures .0),
+  c .before .before .move-slots .ensures .1 ∙ new-high (c .before .before .before .before .before .before .before .before .before .before .args .work .now) (c .before .before .before .before .before .before .before .before .before .before .args .n) (c .before .before .before .before .before .before .before .before .before .before .pre .1 .0 .0) (c .before .before .before .before .before .before .before .before .before .before .pre .1 .0 .1) (c .before .before .before .before .before .before .before .before .before .before .pre .0 .room) _ (c .before .before .before .before .before .before .clear-part .ensures),
+)
 
 pub grow-spec : {M : Type 1} → statement M
 grow-spec =

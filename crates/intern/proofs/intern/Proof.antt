@@ -72,7 +72,7 @@ table-for-requires c κs = search needs
 
 -- src/lib.rt:624:5
 table-call-requires : tie.Need-table-call-requires
-table-call-requires c κs = 
+table-call-requires c κs =
     let y = c .before .before .before .before .table-for .ensures in
     (y .good, ((y .some, y .roomy), (omega (arith, ap (λ (x : Interner). x .stats .calls) (y .is), c .before .before .before .before .before .before .before .before .before .before .before .before .before .before .before .before .pre .1), omega (arith, c .before .before .before .before .before .before .before .resizes .ensures, one-or-none (isDue (c .before .before .before .before .before .before .before .before .before .before .before .before .before .before .before .before .args .st .slots) (c .before .before .before .before .before .before .before .before .before .before .before .before .before .before .before .before .args .st .occupied))))))
 

@@ -70,7 +70,7 @@ part-probe-end-2 c = search needs
 
 -- src/lib.rt:505:5
 probe-requires : tie.Need-probe-requires
-probe-requires c κs = 
+probe-requires c κs =
     let len = size-length (c .before .before .before .before .before .before .before .before .args .work .now) (c .before .before .before .before .before .before .before .before .pre .0 .size) (c .before .before .before .before .before .before .before .before .pre .0 .words .room) in
     let starts = starts-length (c .before .before .before .before .before .before .before .before .args .work .now) (length (c .before .before .before .before .before .before .before .before .args .strs .now)) (c .before .before .before .before .before .before .before .before .args .st .count) (c .before .before .before .before .before .before .before .before .pre .0 .words) in
     (subst (λ (m : ℕ). c .before .before .slot-of .result < m) (sym len) (c .before .before .slot-of .ensures .1), (c .before .before .before .before .before .before .before .before .pre .0 .words .starts, subst (λ (m : ℕ). Entries (tableOf (c .before .before .before .before .before .before .before .before .args .st .slots) (c .before .before .before .before .before .before .before .before .args .work .now)) m) (sym starts) (c .before .before .before .before .before .before .before .before .pre .0 .entries)))

@@ -99,7 +99,7 @@ same-length c = search needs
 
 -- src/lib.rt:266:1
 returns : tie.Need-returns
-returns c = 
+returns c =
     let len = table-length (c .before .before .before .before .before .before .before .before .before .before .args .n) (c .before .before .before .before .before .before .before .before .before .before .args .work .now) (c .before .before .before .before .before .before .before .before .before .before .pre .1 .0 .0) (c .before .before .before .before .before .before .before .before .before .before .pre .1 .0 .1) (c .before .before .before .before .before .before .before .before .before .before .pre .0 .room) in
     let at = slot-found (stringsOf (startsOf (c .before .before .before .before .before .before .before .before .before .before .args .count) (c .before .before .before .before .before .before .before .before .before .before .args .work .now)) (c .before .before .before .before .before .before .before .before .before .before .args .strs .now)) (tableOf (c .before .before .before .before .before .before .before .before .before .before .args .n) (c .before .before .before .before .before .before .before .before .before .before .args .work .now)) _ (c .before .before .before .before .before .before .before .before .before .before .args .n) (c .before .before .before .before .before .before .before .before .before .before .args .e - 1) _ (c .empty-slot .result) _ len (c .before .before .before .before .before .resolve .ensures) (c .before .before .before .before .fx-hash .ensures) (c .before .before .before .slot-of .ensures .0) (c .empty-slot .ensures .0) in
     (ap (λ (j : ℕ). set (c .before .before .before .before .before .before .before .before .before .before .args .work .now) (c .before .before .before .before .before .before .before .before .before .before .args .n - 256 + j) (c .before .before .before .before .before .before .before .before .before .before .args .e)) at, subst (λ (j : ℕ). j < c .before .before .before .before .before .before .before .before .before .before .args .n) at (omega (arith, len, c .empty-slot .ensures .1)))

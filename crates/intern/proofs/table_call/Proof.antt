@@ -24,7 +24,7 @@ lookup-requires c κs = search needs
 
 -- src/lib.rt:585:9
 table-alloc-requires : tie.Need-table-alloc-requires
-table-alloc-requires c κs = 
+table-alloc-requires c κs =
     let in-table = probe-in (c .before .before .before .before .before .before .before .before .before .args .work .now) (c .before .before .before .before .before .before .before .before .before .args .strs .now) (c .before .before .before .before .before .before .before .before .before .args .st) (c .before .before .before .before .before .before .before .before .before .pre .0) (c .before .before .before .before .before .before .before .before .before .args .s .now) (c .before .before .before .before .before .before .before .before .before .pre .1 .0 .0) (c .before .before .before .before .before .before .before .before .before .pre .1 .0 .1) (probeOf (c .before .before .before .lookup .result)) (c .before .before .before .lookup .ensures) in
     (c .before .before .before .before .before .before .before .before .before .pre .0, ((c .before .before .before .before .before .before .before .before .before .pre .1 .0 .0, c .before .before .before .before .before .before .before .before .before .pre .1 .1 .0, c .before .before .before .before .before .before .before .before .before .pre .1 .1 .1), (in-table .0, in-table .2, in-table .3 ∙ c .before .before .if1 .taken)))
 
@@ -42,7 +42,7 @@ returns c = subst (λ (a : Interned). Told (c .before .before .before .before .b
 
 -- src/lib.rt:596:5
 known-requires : tie.Need-known-requires
-known-requires c κs = 
+known-requires c κs =
     let in-table = probe-in (c .before .before .before .before .before .before .before .args .work .now) (c .before .before .before .before .before .before .before .args .strs .now) (c .before .before .before .before .before .before .before .args .st) (c .before .before .before .before .before .before .before .pre .0) (c .before .before .before .before .before .before .before .args .s .now) (c .before .before .before .before .before .before .before .pre .1 .0 .0) (c .before .before .before .before .before .before .before .pre .1 .0 .1) (probeOf (c .before .lookup .result)) (c .before .lookup .ensures) in
     let ne = c .if1 .left in
     (omega arith, (c .before .before .before .before .before .before .before .pre .0 .counts, (c .before .before .before .before .before .before .before .pre .1 .1 .0, record { calls = refl; cachehits = lit≤ tt; tablehits = lit≤ tt; allocs = lit≤ tt; longbypass = lit≤ tt; resizes = c .before .before .before .before .before .before .before .pre .1 .1 .1; probesteps = in-table .2 })))
@@ -57,7 +57,7 @@ same-length-4 c = search needs
 
 -- src/lib.rt:576:1
 returns-2 : tie.Need-returns-2
-returns-2 c = 
+returns-2 c =
     let in-table = probe-in (c .before .before .before .before .before .before .before .before .args .work .now) (c .before .before .before .before .before .before .before .before .args .strs .now) (c .before .before .before .before .before .before .before .before .args .st) (c .before .before .before .before .before .before .before .before .pre .0) (c .before .before .before .before .before .before .before .before .args .s .now) (c .before .before .before .before .before .before .before .before .pre .1 .0 .0) (c .before .before .before .before .before .before .before .before .pre .1 .0 .1) (probeOf (c .before .before .lookup .result)) (c .before .before .lookup .ensures) in
     hit-told (c .before .before .before .before .before .before .before .before .args .work .now) (c .before .before .before .before .before .before .before .before .args .strs .now) (c .before .before .before .before .before .before .before .before .args .st) (c .before .before .before .before .before .before .before .before .pre .0) (c .before .before .before .before .before .before .before .before .args .s .now) (c .before .before .before .before .before .before .before .before .args .resized) (probeOf (c .before .before .lookup .result)) (c .before .before .lookup .ensures) _ _ (c .before .if1 .left) (in-table .1) (c .known .ensures) refl
 
