@@ -62,16 +62,17 @@ module _ (work strs : List ℕ) (st : Interner) (g : Good work strs st) where
       let m : st .used + length s ≡ st .base + length (flatten (t .strings)) = omega (arith, used-is, ap length (ap flatten e ∙ flatten-snoc strings s), length-append (flatten strings) s) in
       hb ∙ (λ i. leb (n i) maxNewStrings && leb (m i) (length strs))
 
+  -- ---- a string
+  pub resolved : (bytes : List ℕ) (id : ℕ) → bytes ≡ getD (stringsOf (startsOf (st .count) work) strs) id [] → bytes ≡ getD strings id []
+  resolved bytes id hb = hb ∙ ap (λ (ss : List (List ℕ)). getD ss id []) (strings-all work strs (length strs) (st .count) (g .words))
+
   -- ---- the last answer
   pub last-none : (s : List ℕ) → st .last ≡ 0 → false ≡ holds strings (st .last) s
   unfolding holds
   last-none s e = sym (ap (λ (k : ℕ). holds strings k s) e)
 
-  pub last-some : (s bytes : List ℕ) (r : Bool) → (st .last ≡ 0 → ⊥) → bytes ≡ getD (stringsOf (startsOf (st .count) work) strs) (st .last - 1) [] → r ≡ same bytes s → r ≡ holds strings (st .last) s
-  last-some s bytes r ne hb hr =
-      hr
-      ∙ ap (λ (l : List ℕ). same l s) (hb ∙ ap (λ (ss : List (List ℕ)). getD ss (st .last - 1) []) (strings-all work strs (length strs) (st .count) (g .words)))
-      ∙ sym (holds-some strings (st .last) s ne)
+  pub last-some : (s bytes : List ℕ) (r : Bool) → (st .last ≡ 0 → ⊥) → bytes ≡ getD strings (st .last - 1) [] → r ≡ same bytes s → r ≡ holds strings (st .last) s
+  last-some s bytes r ne hb hr = hr ∙ ap (λ (l : List ℕ). same l s) hb ∙ sym (holds-some strings (st .last) s ne)
 
   pub last-there : (s : List ℕ) → holds strings (st .last) s ≡ true → 0 < st .last
   last-there s e =

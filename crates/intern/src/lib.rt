@@ -6,18 +6,18 @@
 // Work words: a table of n slots stands at n - 256, so that the tables of 256 to 4096 slots lie side by side up to 7936; the
 // starts stand from 8192 on, one more than there are strings. The words from 11776 on are free for others.
 ghost use mathlib.Core.Path.{_≡_};
-ghost use mathlib.Core.Bool.{true, false, cond, _&&_};
+ghost use mathlib.Core.Bool.{cond, _&&_};
 ghost use mathlib.Core.List.{_++_, []};
-ghost use Prim.Native.Nat.{ℕ, _+_, _*_, _-_, _/_, _%_, _^_, _<_, _≤_};
+ghost use Prim.Native.Nat.{_+_, _*_, _-_, _/_, _%_, _^_, _<_, _≤_};
 ghost use lib.Dec.{leb};
 ghost use lib.ListN.{length, getD, take, drop, set, replicate};
 ghost use lib.Seq.{paste};
 ghost use Rattle.model.specs.Lists.{same};
 ghost use Rattle.model.specs.Limits.{fxPrime, fxRotateBits, maxNewStrings, minWorkWords};
-ghost use Rattle.model.specs.Intern.{rotateLeft, fxStep, fxHash, plusStats, freshInterner, emptySlot, moveSlots, holds, grows, cacheHit, tableHit, tableAlloc};
+ghost use Rattle.model.specs.Intern.{rotateLeft, fxStep, fxHash, plusStats, emptySlot, moveSlots, holds, tableAlloc};
 ghost use Rattle.model.specs.Intern.{probe as probeOfModel, bypass as bypassOfModel, intern as internOfModel};
-ghost use Rattle.intern.specs.Layout.{probeOf, stringAt, stringsOf, Starts, Entries, Work, tableOf, startsOf, slotFor};
-ghost use Rattle.intern.specs.State.{statsOf, Counted, OneCall, stateOf, Good, hasRoom, Told, Fresh, Known, Ready, isDue, withSlots, withEntry, Alloced, firstProbe, probedCall};
+ghost use Rattle.intern.specs.Layout.{probeOf, stringsOf, Starts, Entries, Work, tableOf, startsOf, slotFor};
+ghost use Rattle.intern.specs.State.{statsOf, Counted, OneCall, stateOf, Good, Told, Fresh, Known, Ready, isDue, withSlots, withEntry, Alloced, firstProbe, probedCall};
 
 const INTERN_LENGTH_LIMIT: usize = 64;
 
@@ -28,6 +28,9 @@ const LOAD_FACTOR_NUMERATOR: usize = 7;
 const LOAD_FACTOR_DENOMINATOR: usize = 8;
 
 const MAX_NEW_STRINGS: usize = 3583;
+
+// where the strings' places begin among the work words
+const STARTS: usize = 8192;
 
 // `InternStats`: the seven counts, by the Rust's names without their underscores, which a clause would have to quote.
 pub struct InternStats {
@@ -163,8 +166,8 @@ fn wide(x: u32) -> usize
     x as usize
 }
 
-// The bytes of string id.
-fn resolve<'a>(starts: &[u32], strs: &'a [u8], id: u32) -> &'a [u8]
+// The bytes of string id, by the places where the strings start.
+fn string_at<'a>(starts: &[u32], strs: &'a [u8], id: u32) -> &'a [u8]
     requires { ⌜ Starts (now starts) (length (now strs)) ⌝ }
     requires { ⌜ id + 1 < length (now starts) ⌝ }
     ensures { λ r. ⌜ now r ≡ getD (stringsOf (now (starts .entry)) (now (strs .entry))) id [] ⌝ }
@@ -211,7 +214,7 @@ fn probe(table: &[u32], starts: &[u32], strs: &[u8], s: &[u8], from: usize) -> P
                 steps: steps as u64,
             };
         }
-        if same_bytes(resolve(starts, strs, e - 1), s) {
+        if same_bytes(string_at(starts, strs, e - 1), s) {
             return Probed {
                 at: at,
                 slot: e,
@@ -274,10 +277,10 @@ fn place(work: &mut [u32], strs: &[u8], count: usize, n: usize, e: u32)
     ensures { λ _. ⌜ now (work .exit) ≡ set (now (work .entry)) (n - 256 + slotFor (stringsOf (startsOf count (now (work .entry))) (now (strs .entry))) (tableOf n (now (work .entry))) (e - 1)) e ⌝ }
     ensures { λ _. ⌜ slotFor (stringsOf (startsOf count (now (work .entry))) (now (strs .entry))) (tableOf n (now (work .entry))) (e - 1) < n ⌝ }
 {
-    let off = n - 256;
+    let off = n - INITIAL_CAPACITY;
     let end = off + n;
-    let last = 8192 + count + 1;
-    let h = slot_of(fx_hash(resolve(&work[8192..last], strs, e - 1)), n);
+    let last = STARTS + count + 1;
+    let h = slot_of(fx_hash(string_at(&work[STARTS..last], strs, e - 1)), n);
     let p = empty_slot(&work[off..end], h);
     work[off + p] = e;
 }
@@ -290,7 +293,7 @@ fn move_slots(work: &mut [u32], strs: &[u8], count: usize, n: usize)
     ensures { λ _. ⌜ tableOf (n * 2) (now (work .exit)) ≡ moveSlots (stringsOf (startsOf count (now (work .entry))) (now (strs .entry))) (tableOf n (now (work .entry))) (tableOf (n * 2) (now (work .entry))) ⌝ }
     ensures { λ _. ⌜ drop 8192 (now (work .exit)) ≡ drop 8192 (now (work .entry)) ⌝ }
 {
-    let off = n - 256;
+    let off = n - INITIAL_CAPACITY;
     let mut i: usize = 0;
     while i < n {
         let e = work[off + i];
@@ -428,7 +431,7 @@ fn alloc(
     let count = st.count;
     let end = used + s.len();
     copy_at(strs, used, s);
-    work[8192 + count + 1] = end as u32;
+    work[STARTS + count + 1] = end as u32;
     StrInterner {
         slots: st.slots,
         occupied: st.occupied,
@@ -488,17 +491,26 @@ fn known(st: StrInterner, slot: u32, by: InternStats) -> Answer
     }
 }
 
+// `resolve`: the bytes of string id.
+pub fn resolve<'a>(work: &[u32], strs: &'a [u8], st: StrInterner, id: u32) -> &'a [u8]
+    requires { ⌜ Good (now work) (now strs) st ⌝ }
+    requires { ⌜ id < st .count ⌝ }
+    ensures { λ r. ⌜ now r ≡ getD (stateOf (now (work .entry)) (now (strs .entry)) st .strings) id [] ⌝ }
+{
+    let end = STARTS + st.count + 1;
+    string_at(&work[STARTS..end], strs, id)
+}
+
 // Whether the last answer's string is s.
 fn is_last(work: &[u32], strs: &[u8], st: StrInterner, s: &[u8]) -> bool
     requires { ⌜ Good (now work) (now strs) st ⌝ }
     ensures { λ r. ⌜ r ≡ holds (stateOf (now (work .entry)) (now (strs .entry)) st .strings) (st .last) (now (s .entry)) ⌝ }
 {
     let last = st.last;
-    let end = 8192 + st.count + 1;
     if last == 0 {
         return false;
     }
-    same_bytes(resolve(&work[8192..end], strs, (last - 1) as u32), s)
+    same_bytes(resolve(work, strs, st, (last - 1) as u32), s)
 }
 
 // Where s is in the table, or where it goes.
@@ -510,9 +522,9 @@ fn lookup(work: &[u32], strs: &[u8], st: StrInterner, s: &[u8]) -> Probed
     let slots = st.slots;
     let off = slots - INITIAL_CAPACITY;
     let end = off + slots;
-    let last = 8192 + st.count + 1;
+    let last = STARTS + st.count + 1;
     let from = slot_of(fx_hash(s), slots);
-    probe(&work[off..end], &work[8192..last], strs, s, from)
+    probe(&work[off..end], &work[STARTS..last], strs, s, from)
 }
 
 // A string over 64 bytes: a new one, and the table is not looked at.
@@ -648,7 +660,7 @@ pub fn fresh(work: &mut [u32], strs: &[u8], base: usize) -> StrInterner
     requires { ⌜ (base ≤ length (now strs)) × (length (now strs) < 2 ^ 32) ⌝ }
     ensures { λ r. ⌜ Fresh (now (work .entry)) (now (strs .entry)) base (now (work .exit)) r ⌝ }
 {
-    work[8192] = base as u32;
+    work[STARTS] = base as u32;
     StrInterner {
         slots: 0,
         occupied: 0,

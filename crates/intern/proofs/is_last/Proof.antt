@@ -12,62 +12,31 @@ use Rattle.intern.proofs.is_last.Lts as lts
 use Rattle.intern.proofs.resolve.Reads as resolve-reads
 use Rattle.intern.proofs.same_bytes.Reads as same-bytes-reads
 
--- src/lib.rt:487:15
-add-end : tie.Need-add-end
-add-end c = search needs
-
--- src/lib.rt:487:15
-add-end-2 : tie.Need-add-end-2
-add-end-2 c = search needs
-
--- src/lib.rt:489:9
+-- src/lib.rt:511:9
 returns : tie.Need-returns
-returns c = last-none (c .before .before .before .before .before .args .work .now) (c .before .before .before .before .before .args .strs .now) (c .before .before .before .before .before .args .st) (c .before .before .before .before .before .pre) _ (c .if1 .taken)
+returns c = last-none (c .before .before .before .before .args .work .now) (c .before .before .before .before .args .strs .now) (c .before .before .before .before .args .st) (c .before .before .before .before .pre) _ (c .if1 .taken)
 
--- src/lib.rt:491:24
+-- src/lib.rt:513:41
 sub-resolve : tie.Need-sub-resolve
 sub-resolve c = search needs
 
--- src/lib.rt:491:24
-part-resolve-start : tie.Need-part-resolve-start
-part-resolve-start c = search needs
-
--- src/lib.rt:491:24
-part-resolve-end : tie.Need-part-resolve-end
-part-resolve-end c = search needs
-
--- src/lib.rt:491:49
-sub-resolve-2 : tie.Need-sub-resolve-2
-sub-resolve-2 c = search needs
-
--- src/lib.rt:491:48
+-- src/lib.rt:513:40
 cast-resolve : tie.Need-cast-resolve
 cast-resolve c = search needs
 
--- src/lib.rt:491:16
+-- src/lib.rt:513:16
 resolve-requires : tie.Need-resolve-requires
 resolve-requires c κs = search needs
 
--- src/lib.rt:491:5
+-- src/lib.rt:513:5
 same-bytes-requires : tie.Need-same-bytes-requires
 same-bytes-requires c κs = search needs
 
--- src/lib.rt:482:1
+-- src/lib.rt:505:1
 returns-2 : tie.Need-returns-2
-returns-2 c = last-some (c .before .before .before .before .before .before .before .before .args .work .now) (c .before .before .before .before .before .before .before .before .args .strs .now) (c .before .before .before .before .before .before .before .before .args .st) (c .before .before .before .before .before .before .before .before .pre) _ _ _ (c .before .before .before .if1 .left) (c .before .resolve .ensures) (c .same-bytes .ensures)
+returns-2 c = last-some (c .before .before .before .before .before .before .args .work .now) (c .before .before .before .before .before .before .args .strs .now) (c .before .before .before .before .before .before .args .st) (c .before .before .before .before .before .before .pre) _ _ _ (c .before .before .if1 .left) (c .before .resolve .ensures) (c .same-bytes .ensures)
 
 pub is-last-spec : {M : Type 1} → statement M
 is-last-spec =
     tie.close
-    (tie.spec
-    add-end
-    add-end-2
-    returns
-    sub-resolve
-    part-resolve-start
-    part-resolve-end
-    sub-resolve-2
-    cast-resolve
-    resolve-requires
-    same-bytes-requires
-    returns-2)
+    (tie.spec returns sub-resolve cast-resolve resolve-requires same-bytes-requires returns-2)

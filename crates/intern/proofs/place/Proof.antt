@@ -14,7 +14,7 @@ use Rattle.intern.proofs.place.Reads as reads
 use Rattle.intern.proofs.place.Lts as lts
 use Rattle.intern.proofs.empty_slot.Reads as empty-slot-reads
 use Rattle.intern.proofs.fx_hash.Reads as fx-hash-reads
-use Rattle.intern.proofs.resolve.Reads as resolve-reads
+use Rattle.intern.proofs.string_at.Reads as string-at-reads
 use Rattle.intern.proofs.slot_of.Reads as slot-of-reads
 
 -- src/lib.rt:273:15
@@ -34,24 +34,24 @@ add-last-2 : tie.Need-add-last-2
 add-last-2 c = search needs
 
 -- src/lib.rt:276:37
-sub-resolve : tie.Need-sub-resolve
-sub-resolve c = search needs
+sub-string-at : tie.Need-sub-string-at
+sub-string-at c = search needs
 
 -- src/lib.rt:276:37
-part-resolve-start : tie.Need-part-resolve-start
-part-resolve-start c = search needs
+part-string-at-start : tie.Need-part-string-at-start
+part-string-at-start c = search needs
 
 -- src/lib.rt:276:37
-part-resolve-end : tie.Need-part-resolve-end
-part-resolve-end c = search needs
+part-string-at-end : tie.Need-part-string-at-end
+part-string-at-end c = search needs
 
 -- src/lib.rt:276:62
-sub-resolve-2 : tie.Need-sub-resolve-2
-sub-resolve-2 c = search needs
+sub-string-at-2 : tie.Need-sub-string-at-2
+sub-string-at-2 c = search needs
 
 -- src/lib.rt:276:29
-resolve-requires : tie.Need-resolve-requires
-resolve-requires c κs = search needs
+string-at-requires : tie.Need-string-at-requires
+string-at-requires c κs = search needs
 
 -- src/lib.rt:276:21
 fx-hash-requires : tie.Need-fx-hash-requires
@@ -101,7 +101,7 @@ same-length c = search needs
 returns : tie.Need-returns
 returns c =
     let len = table-length (c .before .before .before .before .before .before .before .before .before .before .args .n) (c .before .before .before .before .before .before .before .before .before .before .args .work .now) (c .before .before .before .before .before .before .before .before .before .before .pre .1 .0 .0) (c .before .before .before .before .before .before .before .before .before .before .pre .1 .0 .1) (c .before .before .before .before .before .before .before .before .before .before .pre .0 .room) in
-    let at = slot-found (stringsOf (startsOf (c .before .before .before .before .before .before .before .before .before .before .args .count) (c .before .before .before .before .before .before .before .before .before .before .args .work .now)) (c .before .before .before .before .before .before .before .before .before .before .args .strs .now)) (tableOf (c .before .before .before .before .before .before .before .before .before .before .args .n) (c .before .before .before .before .before .before .before .before .before .before .args .work .now)) _ (c .before .before .before .before .before .before .before .before .before .before .args .n) (c .before .before .before .before .before .before .before .before .before .before .args .e - 1) _ (c .empty-slot .result) _ len (c .before .before .before .before .before .resolve .ensures) (c .before .before .before .before .fx-hash .ensures) (c .before .before .before .slot-of .ensures .0) (c .empty-slot .ensures .0) in
+    let at = slot-found (stringsOf (startsOf (c .before .before .before .before .before .before .before .before .before .before .args .count) (c .before .before .before .before .before .before .before .before .before .before .args .work .now)) (c .before .before .before .before .before .before .before .before .before .before .args .strs .now)) (tableOf (c .before .before .before .before .before .before .before .before .before .before .args .n) (c .before .before .before .before .before .before .before .before .before .before .args .work .now)) _ (c .before .before .before .before .before .before .before .before .before .before .args .n) (c .before .before .before .before .before .before .before .before .before .before .args .e - 1) _ (c .empty-slot .result) _ len (c .before .before .before .before .before .string-at .ensures) (c .before .before .before .before .fx-hash .ensures) (c .before .before .before .slot-of .ensures .0) (c .empty-slot .ensures .0) in
     (ap (λ (j : ℕ). set (c .before .before .before .before .before .before .before .before .before .before .args .work .now) (c .before .before .before .before .before .before .before .before .before .before .args .n - 256 + j) (c .before .before .before .before .before .before .before .before .before .before .args .e)) at, subst (λ (j : ℕ). j < c .before .before .before .before .before .before .before .before .before .before .args .n) at (omega (arith, len, c .empty-slot .ensures .1)))
 
 pub place-spec : {M : Type 1} → statement M
@@ -112,11 +112,11 @@ place-spec =
     add-end
     add-last
     add-last-2
-    sub-resolve
-    part-resolve-start
-    part-resolve-end
-    sub-resolve-2
-    resolve-requires
+    sub-string-at
+    part-string-at-start
+    part-string-at-end
+    sub-string-at-2
+    string-at-requires
     fx-hash-requires
     slot-of-requires
     mul-empty-slot

@@ -13,7 +13,7 @@ use Rattle.intern.proofs.probe.Tie as tie
 use Rattle.intern.proofs.probe.Reads as reads
 use Rattle.intern.proofs.probe.Lts as lts
 use Rattle.intern.proofs.next_slot.Reads as next-slot-reads
-use Rattle.intern.proofs.resolve.Reads as resolve-reads
+use Rattle.intern.proofs.string_at.Reads as string-at-reads
 use Rattle.intern.proofs.same_bytes.Reads as same-bytes-reads
 
 abbrev Inv-loop : tie.InvT-loop
@@ -43,12 +43,12 @@ returns : tie.Need-returns Inv-loop μ-loop
 returns c = sym (turn-empty (stringsOf (c .before .before .before .before .before .before .before .before .args .starts .now) (c .before .before .before .before .before .before .before .before .args .strs .now)) (c .before .before .before .before .before .before .before .before .args .s .now) (c .before .before .before .before .before .before .before .before .args .table .now) _ _ _ (c .before .before .loop-test .taken) (c .if1 .taken)) ∙ c .before .before .before .loop .inv .3
 
 -- src/lib.rt:210:45
-sub-resolve : tie.Need-sub-resolve Inv-loop μ-loop
-sub-resolve c = search needs
+sub-string-at : tie.Need-sub-string-at Inv-loop μ-loop
+sub-string-at c = search needs
 
 -- src/lib.rt:210:23
-resolve-requires : tie.Need-resolve-requires Inv-loop μ-loop
-resolve-requires c κs = (c .before .before .before .before .before .before .before .before .pre .1 .0, omega (arith, c .before .before .before .before .before .before .before .before .pre .1 .1 (c .before .before .before .loop .at) (omega arith)))
+string-at-requires : tie.Need-string-at-requires Inv-loop μ-loop
+string-at-requires c κs = (c .before .before .before .before .before .before .before .before .pre .1 .0, omega (arith, c .before .before .before .before .before .before .before .before .pre .1 .1 (c .before .before .before .loop .at) (omega arith)))
 
 -- src/lib.rt:210:12
 same-bytes-requires : tie.Need-same-bytes-requires Inv-loop μ-loop
@@ -56,7 +56,7 @@ same-bytes-requires c κs = search needs
 
 -- src/lib.rt:211:13
 returns-2 : tie.Need-returns-2 Inv-loop μ-loop
-returns-2 c = sym (turn-hit (stringsOf (c .before .before .before .before .before .before .before .before .before .before .before .args .starts .now) (c .before .before .before .before .before .before .before .before .before .before .before .args .strs .now)) (c .before .before .before .before .before .before .before .before .before .before .before .args .s .now) (c .before .before .before .before .before .before .before .before .before .before .before .args .table .now) _ _ _ (c .before .before .before .before .before .loop-test .taken) (c .before .before .before .if1 .left) (ap (λ (l : List ℕ). same l (c .before .before .before .before .before .before .before .before .before .before .before .args .s .now)) (sym (c .before .before .resolve .ensures)) ∙ sym (c .before .same-bytes .ensures) ∙ c .if2 .taken)) ∙ c .before .before .before .before .before .before .loop .inv .3
+returns-2 c = sym (turn-hit (stringsOf (c .before .before .before .before .before .before .before .before .before .before .before .args .starts .now) (c .before .before .before .before .before .before .before .before .before .before .before .args .strs .now)) (c .before .before .before .before .before .before .before .before .before .before .before .args .s .now) (c .before .before .before .before .before .before .before .before .before .before .before .args .table .now) _ _ _ (c .before .before .before .before .before .loop-test .taken) (c .before .before .before .if1 .left) (ap (λ (l : List ℕ). same l (c .before .before .before .before .before .before .before .before .before .before .before .args .s .now)) (sym (c .before .before .string-at .ensures)) ∙ sym (c .before .same-bytes .ensures) ∙ c .if2 .taken)) ∙ c .before .before .before .before .before .before .loop .inv .3
 
 -- src/lib.rt:217:9
 next-slot-requires : tie.Need-next-slot-requires Inv-loop μ-loop
@@ -68,7 +68,7 @@ loop-less c = search needs
 
 -- src/lib.rt:200:5
 loop-again : tie.Need-loop-again Inv-loop μ-loop
-loop-again c = (omega arith, c .before .before .before .before .before .before .before .loop .inv .1, c .next-slot .ensures .1, turn-on (stringsOf (c .before .before .before .before .before .before .before .before .before .before .before .before .args .starts .now) (c .before .before .before .before .before .before .before .before .before .before .before .before .args .strs .now)) (c .before .before .before .before .before .before .before .before .before .before .before .before .args .s .now) (c .before .before .before .before .before .before .before .before .before .before .before .before .args .table .now) _ _ _ (c .before .before .before .before .before .before .loop-test .taken) (c .next-slot .ensures .0) (c .before .before .before .before .if1 .left) (ap (λ (l : List ℕ). same l (c .before .before .before .before .before .before .before .before .before .before .before .before .args .s .now)) (sym (c .before .before .before .resolve .ensures)) ∙ sym (c .before .before .same-bytes .ensures) ∙ c .before .if2 .left) ∙ c .before .before .before .before .before .before .before .loop .inv .3)
+loop-again c = (omega arith, c .before .before .before .before .before .before .before .loop .inv .1, c .next-slot .ensures .1, turn-on (stringsOf (c .before .before .before .before .before .before .before .before .before .before .before .before .args .starts .now) (c .before .before .before .before .before .before .before .before .before .before .before .before .args .strs .now)) (c .before .before .before .before .before .before .before .before .before .before .before .before .args .s .now) (c .before .before .before .before .before .before .before .before .before .before .before .before .args .table .now) _ _ _ (c .before .before .before .before .before .before .loop-test .taken) (c .next-slot .ensures .0) (c .before .before .before .before .if1 .left) (ap (λ (l : List ℕ). same l (c .before .before .before .before .before .before .before .before .before .before .before .before .args .s .now)) (sym (c .before .before .before .string-at .ensures)) ∙ sym (c .before .before .same-bytes .ensures) ∙ c .before .if2 .left) ∙ c .before .before .before .before .before .before .before .loop .inv .3)
 
 -- src/lib.rt:191:1
 returns-3 : tie.Need-returns-3 Inv-loop μ-loop
@@ -85,8 +85,8 @@ probe-spec =
     shared-slice-read-e
     add-steps
     returns
-    sub-resolve
-    resolve-requires
+    sub-string-at
+    string-at-requires
     same-bytes-requires
     returns-2
     next-slot-requires

@@ -1,4 +1,4 @@
-use Rattle.intern.proofs.Strings.{resolved}
+use Rattle.intern.proofs.Answers.{resolved}
 use mathlib.Core.Path.{_≡_, refl, sym, ap, _∙_}
 use mathlib.Core.List.{List, [], _∷_, _++_}
 use Prim.Native.Nat.{ℕ, zero, suc, _+_, _-_, _*_, _%_, _/_, _^_, _≤_, _<_}
@@ -9,69 +9,44 @@ use Rattle.intern.proofs.resolve.Statement.{statement}
 use Rattle.intern.proofs.resolve.Tie as tie
 use Rattle.intern.proofs.resolve.Reads as reads
 use Rattle.intern.proofs.resolve.Lts as lts
-use Rattle.intern.proofs.wide.Reads as wide-reads
+use Rattle.intern.proofs.string_at.Reads as string-at-reads
 
--- src/lib.rt:168:9
-wide-requires : tie.Need-wide-requires
-wide-requires c κs = search needs
+-- src/lib.rt:500:15
+add-end : tie.Need-add-end
+add-end c = search needs
 
--- src/lib.rt:169:18
-mul-wide : tie.Need-mul-wide
-mul-wide c = search needs
+-- src/lib.rt:500:15
+add-end-2 : tie.Need-add-end-2
+add-end-2 c = search needs
 
--- src/lib.rt:169:18
-shared-slice-read-wide : tie.Need-shared-slice-read-wide
-shared-slice-read-wide c = search needs
+-- src/lib.rt:501:15
+sub-string-at : tie.Need-sub-string-at
+sub-string-at c = search needs
 
--- src/lib.rt:169:9
-wide-requires-2 : tie.Need-wide-requires-2
-wide-requires-2 c κs = search needs
+-- src/lib.rt:501:15
+part-string-at-start : tie.Need-part-string-at-start
+part-string-at-start c = search needs
 
--- src/lib.rt:170:25
-add-wide : tie.Need-add-wide
-add-wide c = search needs
+-- src/lib.rt:501:15
+part-string-at-end : tie.Need-part-string-at-end
+part-string-at-end c = search needs
 
--- src/lib.rt:170:18
-mul-wide-2 : tie.Need-mul-wide-2
-mul-wide-2 c = search needs
+-- src/lib.rt:501:5
+string-at-requires : tie.Need-string-at-requires
+string-at-requires c κs = search needs
 
--- src/lib.rt:170:18
-shared-slice-read-wide-2 : tie.Need-shared-slice-read-wide-2
-shared-slice-read-wide-2 c = search needs
-
--- src/lib.rt:170:9
-wide-requires-3 : tie.Need-wide-requires-3
-wide-requires-3 c κs = search needs
-
--- src/lib.rt:171:5
-sub-result : tie.Need-sub-result
-sub-result c = omega (arith, c .before .before .before .before .before .before .before .pre .0 (c .before .before .before .before .wide .result) (omega arith))
-
--- src/lib.rt:171:5
-part-result-start : tie.Need-part-result-start
-part-result-start c = omega (arith, c .before .before .before .before .before .before .before .pre .0 (c .before .before .before .before .wide .result) (omega arith))
-
--- src/lib.rt:171:5
-part-result-end : tie.Need-part-result-end
-part-result-end c = omega (arith, c .before .before .before .before .before .before .before .pre .0 (c .before .before .before .before .wide .result) (omega arith))
-
--- src/lib.rt:163:1
+-- src/lib.rt:495:1
 returns : tie.Need-returns
-returns c = resolved (c .before .before .before .before .before .before .before .before .args .starts .now) (c .before .before .before .before .before .before .before .before .args .strs .now) _ _ _ _ (c .before .before .before .before .before .wide .ensures) (c .before .before .before .wide2 .ensures) (c .before .wide3 .ensures) (c .before .before .before .before .before .before .before .before .pre .1)
+returns c = resolved (c .before .before .before .before .before .args .work .now) (c .before .before .before .before .before .args .strs .now) (c .before .before .before .before .before .args .st) (c .before .before .before .before .before .pre .0) _ _ (c .string-at .ensures)
 
 pub resolve-spec : {M : Type 1} → statement M
 resolve-spec =
     tie.close
     (tie.spec
-    wide-requires
-    mul-wide
-    shared-slice-read-wide
-    wide-requires-2
-    add-wide
-    mul-wide-2
-    shared-slice-read-wide-2
-    wide-requires-3
-    sub-result
-    part-result-start
-    part-result-end
+    add-end
+    add-end-2
+    sub-string-at
+    part-string-at-start
+    part-string-at-end
+    string-at-requires
     returns)
