@@ -18,7 +18,7 @@ use Rattle.intern.specs.declared.StrInterner.{StrInterner as Interner}
 use Rattle.intern.specs.declared.Probed.{Probed}
 use Rattle.intern.specs.declared.Answer.{Answer}
 use Rattle.intern.specs.Layout.{taken, part, tableOf, startsOf, stringAt, stringsUpTo, stringsOf, Work, Starts, Entries, probeOf}
-use Rattle.intern.specs.State.{Counted, OneCall, statsOf, stateOf, Good, hasRoom, Answered, Told, Known, Ready, Alloced, allocated, withTable, withSlots, withLast, withEntry, firstProbe, probedCall}
+use Rattle.intern.specs.State.{Counted, OneCall, statsOf, stateOf, Good, hasRoom, Answered, Refused, Told, Known, Ready, Alloced, allocated, withTable, withSlots, withLast, withEntry, firstProbe, probedCall}
 use Rattle.intern.specs.Calls.{flatten-snoc, and-true}
 use Rattle.intern.proofs.Views.{part-in}
 use Rattle.intern.proofs.Strings.{length-strings, string-is}
@@ -117,6 +117,7 @@ module _ (work strs : List ℕ) (st : Interner) (g : Good work strs st) where
   known-told slot by r le k c hc =
       record {
         ok = k .ok ∙ room-same;
+        refused = λ e. absurd (false≢true (sym e ∙ k .ok));
         answered = λ _. record {
           good = subst (Good work strs) (sym (k .state)) (record { words = g .words; small = g .small; size = g .size; entries = g .entries; number = g .number; most = g .most; known = le; end = g .end; fits = g .fits; begins = g .begins; laid = g .laid; counts = k .counts });
           state = ap (stateOf work strs) (k .state) ∙ ap (λ (x : InternStats). record { strings = strings; table = tableOf (st .slots) work; occupied = st .occupied; last = slot; stats = x }) (k .stats ∙ ap (plusStats (statsOf (st .stats))) hc);
@@ -128,17 +129,22 @@ module _ (work strs : List ℕ) (st : Interner) (g : Good work strs st) where
       }
 
   -- ---- a new string
-  refused : (work′ strs′ : List ℕ) (r : Answer) (a : Interned) → r .ok ≡ false → r .ok ≡ hasRoom (length strs) (st .base) (a .state) → Told work strs st work′ strs′ r a
-  refused work′ strs′ r a no-room ok = record { ok = ok; answered = λ e. absurd (false≢true (sym no-room ∙ e)) }
+  refusal : (work′ strs′ : List ℕ) (r : Answer) (a : Interned) → r .ok ≡ false → r .id ≡ 0 → r .state ≡ st → r .ok ≡ hasRoom (length strs) (st .base) (a .state) → Told work strs st work′ strs′ r a
+  refusal work′ strs′ r a no-room id state ok =
+      record {
+        ok = ok;
+        answered = λ e. absurd (false≢true (sym no-room ∙ e));
+        refused = λ _. record { id = id; state = state ∙ ap (withSlots st) (sym (ap (λ (x : Interner). x .slots) state)) };
+      }
 
   module _ (s : List ℕ) (b : Bool) (room : b ≡ (leb (st .count + 1) maxNewStrings && leb (st .used + length s) (length strs))) where
-    pub bypass-refused : (work′ strs′ : List ℕ) (r : Answer) → b ≡ false → r .ok ≡ false → Told work strs st work′ strs′ r (bypass (stateOf work strs st) s)
+    pub bypass-refused : (work′ strs′ : List ℕ) (r : Answer) → b ≡ false → r .ok ≡ false → r .id ≡ 0 → r .state ≡ st → Told work strs st work′ strs′ r (bypass (stateOf work strs st) s)
     unfolding bypass
-    bypass-refused work′ strs′ r hb hr = refused work′ strs′ r _ hr (hr ∙ sym hb ∙ room-more b s room _ refl)
+    bypass-refused work′ strs′ r hb hr id state = refusal work′ strs′ r _ hr id state (hr ∙ sym hb ∙ room-more b s room _ refl)
 
-    pub alloc-refused : (work′ strs′ : List ℕ) (r : Answer) (resized : ℕ) (p : Probe) → b ≡ false → r .ok ≡ false → Told work strs st work′ strs′ r (tableAlloc (stateOf work strs st) (tableOf (st .slots) work) resized p s)
+    pub alloc-refused : (work′ strs′ : List ℕ) (r : Answer) (resized : ℕ) (p : Probe) → b ≡ false → r .ok ≡ false → r .id ≡ 0 → r .state ≡ st → Told work strs st work′ strs′ r (tableAlloc (stateOf work strs st) (tableOf (st .slots) work) resized p s)
     unfolding tableAlloc
-    alloc-refused work′ strs′ r resized p hb hr = refused work′ strs′ r _ hr (hr ∙ sym hb ∙ room-more b s room _ refl)
+    alloc-refused work′ strs′ r resized p hb hr id state = refusal work′ strs′ r _ hr id state (hr ∙ sym hb ∙ room-more b s room _ refl)
 
     module _ (has : b ≡ true) (work′ strs′ : List ℕ) (c by : Counters) (stats : statsOf c ≡ plusStats (statsOf (st .stats)) (statsOf by)) (t : Interner) (a : Alloced work strs st s c work′ strs′ t) where
       pub bypass-told : (r : Answer) → statsOf by ≡ record { calls = 1; cacheHits = 0; tableHits = 0; allocs = 1; longBypass = 1; resizes = 0; probeSteps = 0 } → r .ok ≡ true → r .id ≡ st .count → r .state ≡ t
@@ -147,6 +153,7 @@ module _ (work strs : List ℕ) (st : Interner) (g : Good work strs st) where
       bypass-told r hby ok id state =
           record {
             ok = ok ∙ sym has ∙ room-more b s room _ refl;
+            refused = λ e. absurd (false≢true (sym e ∙ ok));
             answered = λ _. record {
               good = subst (Good work′ strs′) (sym state) (a .good);
               state = ap (stateOf work′ strs′) state ∙ a .state ∙ ap (allocated (stateOf work strs st) s) (stats ∙ ap (plusStats (statsOf (st .stats))) hby);
@@ -220,6 +227,7 @@ module _ (work strs : List ℕ) (st : Interner) (g : Good work strs st) where
             subst (λ (w : List ℕ). Told work strs st w strs′ r (tableAlloc (stateOf work strs st) (tableOf (st .slots) work) resized p s)) (sym hw)
             (record {
               ok = ok ∙ sym has ∙ room-more b s room _ refl;
+              refused = λ e. absurd (false≢true (sym e ∙ ok));
               answered = λ _. record {
                 good = subst (Good new strs′) (sym state) entered-good;
                 state =
@@ -284,6 +292,7 @@ module _ (work strs : List ℕ) (st : Interner) (g : Good work strs st) where
         let free : drop 11776 w ≡ drop 11776 work = sym (drop-drop 3584 8192 w) ∙ ap (λ (l : List ℕ). drop 3584 l) (y .high) ∙ drop-drop 3584 8192 work in
         subst (λ (a : Interned). Told work strs st work′ strs′ r a) (ready-call w u resized y hr ∙ intern-table hb le)
         (record {
+          refused = λ e. let q = h .refused e in record { id = q .id; state = q .state ∙ ap (λ (x : Interner). withSlots x (r .state .slots)) (y .is) };
           ok = h .ok ∙ ap (λ (n : ℕ). hasRoom (length strs) n (probedCall (stateOf w strs u) resized s .state)) base;
           answered = λ e.
               let q = h .answered e in

@@ -94,10 +94,20 @@ pub record Answered (work strs : List ℕ) (st : Interner) (work′ strs′ : Li
   pub kept : take (st .used) strs′ ≡ take (st .used) strs
   pub free : drop 11776 work′ ≡ drop 11776 work
 
+-- the same interner over a table of n slots
+abbrev pub withSlots : Interner → ℕ → Interner
+withSlots st n = record { slots = n; occupied = st .occupied; count = st .count; base = st .base; used = st .used; last = st .last; stats = st .stats }
+
+-- A refusal leaves the interner as it was, but for a table that may have grown.
+pub record Refused (st : Interner) (r : Answer) : Type 0 where
+  pub id : r .id ≡ 0
+  pub state : r .state ≡ withSlots st (r .state .slots)
+
 -- Every answer: it is a refusal exactly where the defined state has no room.
 pub record Told (work strs : List ℕ) (st : Interner) (work′ strs′ : List ℕ) (r : Answer) (a : Interned) : Type 0 where
   pub ok : r .ok ≡ hasRoom (length strs) (st .base) (a .state)
   pub answered : r .ok ≡ true → Answered work strs st work′ strs′ r a
+  pub refused : r .ok ≡ false → Refused st r
 
 -- A new layer: no strings, from `base` on; one word is written.
 pub record Fresh (work strs : List ℕ) (base : ℕ) (work′ : List ℕ) (r : Interner) : Type 0 where
@@ -110,9 +120,6 @@ pub record Fresh (work strs : List ℕ) (base : ℕ) (work′ : List ℕ) (r : I
 
 abbrev pub withTable : StrInterner → List ℕ → StrInterner
 withTable t table = record { strings = t .strings; table = table; occupied = t .occupied; last = t .last; stats = t .stats }
-
-abbrev pub withSlots : Interner → ℕ → Interner
-withSlots st n = record { slots = n; occupied = st .occupied; count = st .count; base = st .base; used = st .used; last = st .last; stats = st .stats }
 
 -- the table that a call probes is in its place, with room
 pub record Ready (work strs : List ℕ) (st : Interner) (work′ : List ℕ) (r : Interner) : Type 0 where

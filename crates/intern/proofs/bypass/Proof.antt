@@ -44,7 +44,7 @@ returns c = bypass-told (c .before .before .before .before .before .before .befo
 
 -- src/lib.rt:509:1
 returns-2 : tie.Need-returns-2
-returns-2 c = bypass-refused (c .before .before .before .before .before .before .args .work .now) (c .before .before .before .before .before .before .args .strs .now) (c .before .before .before .before .before .before .args .st) (c .before .before .before .before .before .before .pre .0) (c .before .before .before .before .before .before .args .s .now) _ (c .before .has-room .ensures) _ _ _ (c .if1 .left) refl
+returns-2 c = bypass-refused (c .before .before .before .before .before .before .args .work .now) (c .before .before .before .before .before .before .args .strs .now) (c .before .before .before .before .before .before .args .st) (c .before .before .before .before .before .before .pre .0) (c .before .before .before .before .before .before .args .s .now) _ (c .before .has-room .ensures) _ _ _ (c .if1 .left) refl refl refl
 
 pub bypass-spec : {M : Type 1} → statement M
 bypass-spec =

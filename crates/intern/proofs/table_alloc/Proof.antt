@@ -49,7 +49,7 @@ returns c = alloc-told (c .before .before .before .before .before .before .befor
 
 -- src/lib.rt:541:1
 returns-2 : tie.Need-returns-2
-returns-2 c = alloc-refused (c .before .before .before .before .before .before .args .work .now) (c .before .before .before .before .before .before .args .strs .now) (c .before .before .before .before .before .before .args .st) (c .before .before .before .before .before .before .pre .0) (c .before .before .before .before .before .before .args .s .now) _ (c .before .has-room .ensures) _ _ _ _ _ (c .if1 .left) refl
+returns-2 c = alloc-refused (c .before .before .before .before .before .before .args .work .now) (c .before .before .before .before .before .before .args .strs .now) (c .before .before .before .before .before .before .args .st) (c .before .before .before .before .before .before .pre .0) (c .before .before .before .before .before .before .args .s .now) _ (c .before .has-room .ensures) _ _ _ _ _ (c .if1 .left) refl refl refl
 
 pub table-alloc-spec : {M : Type 1} → statement M
 table-alloc-spec =
