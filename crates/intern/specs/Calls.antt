@@ -7,12 +7,13 @@ use Prim.Native.Nat.{ℕ, _+_, _%_, _≤_}
 use native.Mathlib.Omega.{arith}
 use borrow.Author.Tests.{le-leb, leb-true}
 use lib.Dec.{eqb, leb, ltb}
-use lib.ListN.{length, length-append}
+use lib.ListN.{length, take, length-append}
+use lib.Seq.{take-take}
 use Rattle.model.specs.Limits.{internLengthLimit, maxNewStrings}
 use Rattle.model.specs.Intern.{InternStats, StrInterner, Interned, Probe, freshInterner, fxHash, plusStats, holds, probe, grows, tableFor, cacheHit, bypass, tableHit, tableAlloc, tableCall, intern, internAll}
 use Rattle.intern.specs.declared.StrInterner.{StrInterner as Interner}
 use Rattle.intern.specs.declared.Answer.{Answer}
-use Rattle.intern.specs.State.{stateOf, hasRoom, Answered}
+use Rattle.intern.specs.State.{stateOf, Good, hasRoom, Answered}
 
 by-cond : (P : Interned → Type 0) (b : Bool) (x y : Interned) → P x → P y → P (cond b x y)
 by-cond P true x y hx hy = hx
@@ -59,6 +60,14 @@ calls-one t s = each-way (λ (a : Interned). a .state .stats .calls ≡ t .stats
 -- so a caller knows how many calls it has left
 pub answered-calls : (work strs : List ℕ) (st : Interner) (s : List ℕ) (work′ strs′ : List ℕ) (r : Answer) → Answered work strs st work′ strs′ r (intern (stateOf work strs st) s) → r .state .stats .calls ≡ st .stats .calls + 1
 answered-calls work strs st s work′ strs′ r a = ap (λ (t : StrInterner). t .stats .calls) (a .state) ∙ calls-one (stateOf work strs st) s
+
+-- ---- the bytes before the layer's strings stay as they are
+pub answered-base : (work strs : List ℕ) (st : Interner) (work′ strs′ : List ℕ) (r : Answer) (a : Interned) → Good work strs st → Answered work strs st work′ strs′ r a → take (r .state .base) strs′ ≡ take (st .base) strs
+answered-base work strs st work′ strs′ r a g h =
+    ap (λ (n : ℕ). take n strs′) (h .base)
+    ∙ sym (take-take (st .base) (st .used) strs′ (g .begins))
+    ∙ ap (λ (l : List ℕ). take (st .base) l) (h .kept)
+    ∙ take-take (st .base) (st .used) strs (g .begins)
 
 -- ---- strings only grow
 pub strings-grow : (t : StrInterner) (s : List ℕ) → (intern t s .state .strings ≡ t .strings) ⊎ (intern t s .state .strings ≡ t .strings ++ (s ∷ []))
