@@ -1,7 +1,7 @@
 -- Whole characters that are skipped together: runs of ASCII, and of three bytes E1-EC 80-BF 80-BF, which most of Japanese is.
 use Prim.Native.Nat.{ℕ, zero, suc, _+_, _-_, _≤_, _<_}
-use mathlib.Core.Path.{_≡_, refl, ap, _∙_}
-use mathlib.Core.Bool.{Bool, true, false, _&&_, and-assoc}
+use mathlib.Core.Path.{_≡_, refl, sym, ap, _∙_}
+use mathlib.Core.Bool.{Bool, true, false, _&&_, and-assoc, and-true}
 use mathlib.Core.List.{List}
 use native.Mathlib.Omega.{arith}
 use native.Mathlib.Nat.{add-zero}
@@ -75,6 +75,18 @@ pub eight-ascii : (s : List ℕ) (at : ℕ) (p q : Bool)
     → (p && q) ≡ allUpTo 8 (asciiAt s at)
 unfolding allUpTo asciiAt
 eight-ascii s at p q ep eq = rw (ep, eq, add-zero) (simp and-assoc)
+
+all-add : (s : List ℕ) (at n m : ℕ) → allUpTo (n + m) (asciiAt s at) ≡ (allUpTo n (asciiAt s at) && allUpTo m (asciiAt s (at + n)))
+unfolding allUpTo asciiAt
+all-add s at n zero = rw add-zero (sym (and-true (allUpTo n (asciiAt s at))))
+all-add s at n (suc m) =
+    let e : n + suc m ≡ suc (n + m) = omega arith in
+    let k : at + (n + m) ≡ at + n + m = omega arith in
+    rw (e, all-add s at n m, k) (and-assoc (allUpTo n (asciiAt s at)) (allUpTo m (asciiAt s (at + n))) (ltb (getD s (at + n + m) 0) 0x80))
+
+-- two blocks of n bytes, as the code tests them
+pub twice-ascii : (s : List ℕ) (at n : ℕ) (p q : Bool) → p ≡ allUpTo n (asciiAt s at) → q ≡ allUpTo n (asciiAt s (at + n)) → (p && q) ≡ allUpTo (n + n) (asciiAt s at)
+twice-ascii s at n p q ep eq = rw (ep, eq, all-add s at n n) refl
 
 -- ---- three bytes
 

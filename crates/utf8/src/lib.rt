@@ -135,6 +135,42 @@ fn eight_ascii(s: &[u8], at: usize) -> bool
         & four_ascii(s[at + 4], s[at + 5], s[at + 6], s[at + 7])
 }
 
+fn sixteen_ascii(s: &[u8], at: usize) -> bool
+    requires { ⌜ at + 16 ≤ length (now s) ⌝ }
+    ensures { λ r. ⌜ r ≡ allUpTo 16 (asciiAt (now (s .entry)) at) ⌝ }
+{
+    eight_ascii(s, at) & eight_ascii(s, at + 8)
+}
+
+fn thirty_two_ascii(s: &[u8], at: usize) -> bool
+    requires { ⌜ at + 32 ≤ length (now s) ⌝ }
+    ensures { λ r. ⌜ r ≡ allUpTo 32 (asciiAt (now (s .entry)) at) ⌝ }
+{
+    sixteen_ascii(s, at) & sixteen_ascii(s, at + 16)
+}
+
+fn sixty_four_ascii(s: &[u8], at: usize) -> bool
+    requires { ⌜ at + 64 ≤ length (now s) ⌝ }
+    ensures { λ r. ⌜ r ≡ allUpTo 64 (asciiAt (now (s .entry)) at) ⌝ }
+{
+    thirty_two_ascii(s, at) & thirty_two_ascii(s, at + 32)
+}
+
+// Behind the blocks of 64 ASCII bytes from `at` on.
+fn ascii_blocks(s: &[u8], at: usize) -> usize
+    requires { ⌜ at ≤ length (now s) ⌝ }
+    ensures { λ r. ⌜ Skipped (now (s .entry)) at r ⌝ }
+{
+    let mut i = at;
+    while 64 <= s.len() - i {
+        if !sixty_four_ascii(s, i) {
+            return i;
+        }
+        i += 64;
+    }
+    i
+}
+
 // Behind the blocks of eight ASCII bytes from `at` on.
 fn ascii_end(s: &[u8], at: usize) -> usize
     requires { ⌜ at ≤ length (now s) ⌝ }
@@ -175,7 +211,7 @@ fn ascii_len(s: &[u8], at: usize) -> usize
     requires { ⌜ (at < length (now s)) × (getD (now s) at 0 < 0x80) ⌝ }
     ensures { λ r. ⌜ Step (now (s .entry)) at r ⌝ }
 {
-    let end = ascii_end(s, at);
+    let end = ascii_end(s, ascii_blocks(s, at));
     if at < end {
         return end - at;
     }

@@ -1,0 +1,307 @@
+-- The ways of a call. Assumes nothing.
+use mathlib.Core.Path.{_≡_, refl, sym, ap, _∙_, subst}
+use mathlib.Core.Bool.{Bool, true, false, cond, _&&_, false≢true}
+use mathlib.Core.List.{List, [], _∷_, _++_, flatten}
+use Prim.Native.Nat.{ℕ, zero, suc, _+_, _-_, _*_, _%_, _^_, _<_, _≤_}
+use native.Mathlib.Omega.{arith}
+use native.Mathlib.Decide.{decLt}
+use native.Mathlib.Nat.{mod-lt}
+use borrow.Author.Tests.{eq-eqb, ne-eqb, lt-ltb, le-ltb, le-leb, lt-leb, leb-true}
+use lib.Dec.{eqb, leb, lit<}
+use lib.ListN.{length, getD, take, drop, set, length-set, length-append, length-take}
+use lib.Seq.{drop-set-lt, drop-drop, length-take-le, take-take}
+use Rattle.model.specs.Lists.{same}
+use Rattle.model.specs.Intern.{StrInterner, InternStats, Interned, Probe, fxHash, holds, probe, grows, tableFor, plusStats, cacheHit, bypass, tableHit, tableAlloc, tableCall, intern}
+use Rattle.model.specs.Limits.{maxNewStrings}
+use Rattle.intern.specs.declared.InternStats.{InternStats as Counters}
+use Rattle.intern.specs.declared.StrInterner.{StrInterner as Interner}
+use Rattle.intern.specs.declared.Probed.{Probed}
+use Rattle.intern.specs.declared.Answer.{Answer}
+use Rattle.intern.specs.Layout.{taken, part, tableOf, startsOf, stringAt, stringsUpTo, stringsOf, Work, Starts, Entries, probeOf}
+use Rattle.intern.specs.State.{Counted, OneCall, statsOf, stateOf, Good, hasRoom, Answered, Refused, Told, Known, Ready, Alloced, allocated, withTable, withSlots, withLast, withEntry, firstProbe, probedCall}
+use Rattle.intern.specs.Calls.{flatten-snoc, and-true}
+use Rattle.intern.proofs.Views.{part-in}
+use Rattle.intern.proofs.Strings.{length-strings, string-is}
+use Rattle.intern.proofs.Slots.{holds-some}
+use Rattle.intern.proofs.Roomy.{taken-set, set-entries, Inside, inside, never-round}
+use Rattle.intern.proofs.Tables.{size-hi, size-lo, size-length, strings-all, grows-is}
+
+-- ---- room
+pub room-left : (size used n : ℕ) → used ≤ size → leb n (size - used) ≡ leb (used + n) size
+room-left size used n h =
+    elim (decLt (size - used) n) [
+      | yes lt ↦ lt-leb n (size - used) lt ∙ sym (lt-leb (used + n) size (omega arith))
+      | no ge ↦ le-leb n (size - used) (omega (arith, ge)) ∙ sym (le-leb (used + n) size (omega (arith, ge)))
+    ]
+
+pub room-there : (count used n size : ℕ) → (leb (count + 1) maxNewStrings && leb (used + n) size) ≡ true → (count < 3583) × (used + n ≤ size)
+room-there count used n size e =
+    let p = and-true (leb (count + 1) maxNewStrings) (leb (used + n) size) e in
+    (omega (arith, leb-true (count + 1) maxNewStrings (p .0)), leb-true (used + n) size (p .1))
+
+module _ (work strs : List ℕ) (st : Interner) (g : Good work strs st) where
+  abbrev strings : List (List ℕ)
+  strings = stringsUpTo (st .count) (startsOf (st .count) work) strs
+
+  -- the strings' bytes are those from `base` up to `used`
+  used-is : st .base + length (flatten strings) ≡ st .used
+  used-is =
+      omega (arith, length-take-le (st .used) strs (g .fits), ap length (g .laid), length-append (take (st .base) strs) (flatten strings), length-take-le (st .base) strs (omega (arith, g .fits, g .begins)), g .fits, g .begins)
+
+  count-is : length strings ≡ st .count
+  count-is = length-strings (startsOf (st .count) work) strs (st .count)
+
+  pub room-same : true ≡ hasRoom (length strs) (st .base) (stateOf work strs st)
+  unfolding hasRoom
+  room-same = sym (rw (le-leb (length strings) maxNewStrings (omega (arith, count-is, g .words .few)), le-leb (st .base + length (flatten strings)) (length strs) (omega (arith, used-is, g .fits))) refl)
+
+  pub room-more : (b : Bool) (s : List ℕ) → b ≡ (leb (st .count + 1) maxNewStrings && leb (st .used + length s) (length strs)) → (t : StrInterner) → t .strings ≡ strings ++ (s ∷ []) → b ≡ hasRoom (length strs) (st .base) t
+  unfolding hasRoom
+  room-more b s hb t e =
+      let n : st .count + 1 ≡ length (t .strings) = sym (ap length e ∙ length-append strings (s ∷ []) ∙ omega (arith, count-is)) in
+      let m : st .used + length s ≡ st .base + length (flatten (t .strings)) = omega (arith, used-is, ap length (ap flatten e ∙ flatten-snoc strings s), length-append (flatten strings) s) in
+      hb ∙ (λ i. leb (n i) maxNewStrings && leb (m i) (length strs))
+
+  -- ---- a string
+  pub resolved : (bytes : List ℕ) (id : ℕ) → bytes ≡ getD (stringsOf (startsOf (st .count) work) strs) id [] → bytes ≡ getD strings id []
+  resolved bytes id hb = hb ∙ ap (λ (ss : List (List ℕ)). getD ss id []) (strings-all work strs (length strs) (st .count) (g .words))
+
+  -- ---- the last answer
+  pub last-none : (s : List ℕ) → st .last ≡ 0 → false ≡ holds strings (st .last) s
+  unfolding holds
+  last-none s e = sym (ap (λ (k : ℕ). holds strings k s) e)
+
+  pub last-some : (s bytes : List ℕ) (r : Bool) → (st .last ≡ 0 → ⊥) → bytes ≡ getD strings (st .last - 1) [] → r ≡ same bytes s → r ≡ holds strings (st .last) s
+  last-some s bytes r ne hb hr = hr ∙ ap (λ (l : List ℕ). same l s) hb ∙ sym (holds-some strings (st .last) s ne)
+
+  pub last-there : (s : List ℕ) → holds strings (st .last) s ≡ true → 0 < st .last
+  last-there s e =
+      elim (decLt 0 (st .last)) [
+        | yes lt ↦ lt
+        | no ge ↦ absurd (false≢true (last-none s (omega (arith, ge)) ∙ e))
+      ]
+
+  -- ---- the probe
+  module _ (s : List ℕ) (some : 0 < st .slots) where
+    abbrev table : List ℕ
+    table = tableOf (st .slots) work
+
+    len : length table ≡ st .slots
+    len = size-length work (g .size) (g .words .room)
+
+    pub lookup-is : (p : Probed) (h from : ℕ) → h ≡ fxHash s → from ≡ h % st .slots → probeOf p ≡ probe (length table) (stringsOf (startsOf (st .count) work) strs) table s from 0 → probeOf p ≡ firstProbe (stateOf work strs st) s
+    unfolding firstProbe
+    lookup-is p h from hh hf hp =
+        hp
+        ∙ ap (λ (ss : List (List ℕ)). probe (length table) ss table s from 0) (strings-all work strs (length strs) (st .count) (g .words))
+        ∙ ap (λ (k : ℕ). probe (length table) strings table s k 0) (hf ∙ ap (λ (k : ℕ). k % st .slots) hh ∙ ap (λ (n : ℕ). fxHash s % n) (sym len))
+
+    start-lt : fxHash s % length table < length table
+    start-lt = mod-lt (fxHash s) (omega (arith, len))
+
+    -- a slot of the table, below the number of starts, after 4096 steps at most
+    pub probe-in : (st .occupied * 8 < st .slots * 7) → (p : Probe) → p ≡ firstProbe (stateOf work strs st) s → (p .at < st .slots) × (p .slot ≤ st .count) × (p .steps ≤ 4096) × (getD table (p .at) 0 ≡ p .slot)
+    unfolding firstProbe
+    probe-in roomy p is =
+        let i = subst (Inside table (st .count + 1) (length table + 0)) (sym is) (inside strings s table (st .count + 1) (length table) (fxHash s % length table) 0 (omega arith) (g .entries) start-lt) in (
+          omega (arith, i .at, len),
+          omega (arith, i .slot),
+          omega (arith, i .steps, len, size-hi (g .size)),
+          subst (λ (q : Probe). getD table (q .at) 0 ≡ q .slot) (sym is) (never-round strings s table (fxHash s % length table) 0 start-lt (omega (arith, g .number, len))),
+        )
+
+  -- ---- a string that is there
+  pub known-told : (slot : ℕ) (by : Counters) (r : Answer) → slot ≤ st .count → Known st slot by r → (c : InternStats) → statsOf by ≡ c
+      → Told work strs st work strs r (record { id = slot - 1; state = record { strings = strings; table = tableOf (st .slots) work; occupied = st .occupied; last = slot; stats = plusStats (statsOf (st .stats)) c } })
+  unfolding hasRoom
+  known-told slot by r le k c hc =
+      record {
+        ok = k .ok ∙ room-same;
+        refused = λ e. absurd (false≢true (sym e ∙ k .ok));
+        answered = λ _. record {
+          good = subst (Good work strs) (sym (k .state)) (record { words = g .words; small = g .small; size = g .size; entries = g .entries; number = g .number; most = g .most; known = le; end = g .end; fits = g .fits; begins = g .begins; laid = g .laid; counts = k .counts });
+          state = ap (stateOf work strs) (k .state) ∙ ap (λ (x : InternStats). record { strings = strings; table = tableOf (st .slots) work; occupied = st .occupied; last = slot; stats = x }) (k .stats ∙ ap (plusStats (statsOf (st .stats))) hc);
+          id = k .id;
+          base = ap (λ (x : Interner). x .base) (k .state);
+          kept = refl;
+          free = refl;
+        };
+      }
+
+  -- ---- a new string
+  refusal : (work′ strs′ : List ℕ) (r : Answer) (a : Interned) → r .ok ≡ false → r .id ≡ 0 → r .state ≡ st → r .ok ≡ hasRoom (length strs) (st .base) (a .state) → Told work strs st work′ strs′ r a
+  refusal work′ strs′ r a no-room id state ok =
+      record {
+        ok = ok;
+        answered = λ e. absurd (false≢true (sym no-room ∙ e));
+        refused = λ _. record { id = id; state = state ∙ ap (withSlots st) (sym (ap (λ (x : Interner). x .slots) state)) };
+      }
+
+  module _ (s : List ℕ) (b : Bool) (room : b ≡ (leb (st .count + 1) maxNewStrings && leb (st .used + length s) (length strs))) where
+    pub bypass-refused : (work′ strs′ : List ℕ) (r : Answer) → b ≡ false → r .ok ≡ false → r .id ≡ 0 → r .state ≡ st → Told work strs st work′ strs′ r (bypass (stateOf work strs st) s)
+    unfolding bypass
+    bypass-refused work′ strs′ r hb hr id state = refusal work′ strs′ r _ hr id state (hr ∙ sym hb ∙ room-more b s room _ refl)
+
+    pub alloc-refused : (work′ strs′ : List ℕ) (r : Answer) (resized : ℕ) (p : Probe) → b ≡ false → r .ok ≡ false → r .id ≡ 0 → r .state ≡ st → Told work strs st work′ strs′ r (tableAlloc (stateOf work strs st) (tableOf (st .slots) work) resized p s)
+    unfolding tableAlloc
+    alloc-refused work′ strs′ r resized p hb hr id state = refusal work′ strs′ r _ hr id state (hr ∙ sym hb ∙ room-more b s room _ refl)
+
+    module _ (has : b ≡ true) (work′ strs′ : List ℕ) (c by : Counters) (stats : statsOf c ≡ plusStats (statsOf (st .stats)) (statsOf by)) (t : Interner) (a : Alloced work strs st s c work′ strs′ t) where
+      pub bypass-told : (r : Answer) → statsOf by ≡ record { calls = 1; cacheHits = 0; tableHits = 0; allocs = 1; longBypass = 1; resizes = 0; probeSteps = 0 } → r .ok ≡ true → r .id ≡ st .count → r .state ≡ t
+          → Told work strs st work′ strs′ r (bypass (stateOf work strs st) s)
+      unfolding bypass
+      bypass-told r hby ok id state =
+          record {
+            ok = ok ∙ sym has ∙ room-more b s room _ refl;
+            refused = λ e. absurd (false≢true (sym e ∙ ok));
+            answered = λ _. record {
+              good = subst (Good work′ strs′) (sym state) (a .good);
+              state = ap (stateOf work′ strs′) state ∙ a .state ∙ ap (allocated (stateOf work strs st) s) (stats ∙ ap (plusStats (statsOf (st .stats))) hby);
+              id = id ∙ sym count-is;
+              base = ap (λ (x : Interner). x .base) state ∙ a .base;
+              kept = a .kept;
+              free = a .free;
+            };
+          }
+
+      -- what `enter` asks
+      pub enter-asks : (some : 0 < st .slots) (at : ℕ) → at < st .slots → (256 ≤ t .slots) × (t .slots ≤ 4096) × (at < t .slots) × (t .count ≤ 3583) × (t .occupied < t .count)
+      enter-asks some at lt =
+          (omega (arith, a .slots, size-lo (g .size) (λ e. omega (arith, e))), omega (arith, a .slots, size-hi (g .size)), omega (arith, a .slots), a .good .words .few, omega (arith, a .occupied, a .count, g .most))
+
+      -- the entry
+      module _ (at : ℕ) (lt : at < st .slots) (empty : getD (tableOf (st .slots) work) at 0 ≡ 0) where
+        abbrev new : List ℕ
+        new = set work′ (t .slots - 256 + at) (t .count)
+
+        lt-t : at < t .slots
+        lt-t = omega (arith, a .slots)
+
+        high : drop 8192 new ≡ drop 8192 work′
+        high = drop-set-lt 8192 work′ (t .slots - 256 + at) (t .count) (omega (arith, size-hi (a .good .size), lt-t))
+
+        starts : startsOf (t .count) new ≡ startsOf (t .count) work′
+        starts = ap (λ (l : List ℕ). take (8192 + t .count + 1 - 8192) l) high
+
+        table-new : tableOf (t .slots) new ≡ set (tableOf (t .slots) work′) at (t .count)
+        table-new = part-in (t .slots - 256) (t .slots - 256 + t .slots) work′ at (t .count) (omega (arith, lt-t))
+
+        empty-t : getD (tableOf (t .slots) work′) at 0 ≡ 0
+        empty-t = ap (λ (n : ℕ). getD (tableOf n work′) at 0) (a .slots) ∙ ap (λ (l : List ℕ). getD l at 0) (a .table) ∙ empty
+
+        entered-good : Good new strs′ (withEntry t)
+        entered-good =
+            record {
+              words = record { room = subst (λ (m : ℕ). 16384 ≤ m) (sym (length-set work′ (t .slots - 256 + at) (t .count))) (a .good .words .room); few = a .good .words .few; starts = subst (λ (l : List ℕ). Starts l (length strs′)) (sym starts) (a .good .words .starts) };
+              small = a .good .small;
+              size = a .good .size;
+              entries = subst (λ (l : List ℕ). Entries l (t .count + 1)) (sym table-new) (set-entries (t .count + 1) (tableOf (t .slots) work′) at (t .count) (a .good .entries) (omega arith));
+              number = ap taken table-new ∙ taken-set (tableOf (t .slots) work′) at (t .count) (subst (λ (m : ℕ). at < m) (sym (size-length work′ (a .good .size) (a .good .words .room))) lt-t) empty-t (λ e. omega (arith, e, a .count)) ∙ omega (arith, a .good .number);
+              most = omega (arith, a .occupied, a .count, g .most);
+              known = a .good .known;
+              end = ap (λ (l : List ℕ). getD l (t .count) 0) starts ∙ a .good .end;
+              fits = a .good .fits;
+              begins = a .good .begins;
+              laid = a .good .laid ∙ ap (λ (l : List ℕ). take (t .base) strs′ ++ flatten (stringsUpTo (t .count) l strs′)) (sym starts);
+              counts = a .good .counts;
+            }
+
+        abbrev entered : StrInterner → StrInterner
+        entered x = record { strings = x .strings; table = set (x .table) at (length (x .strings)); occupied = x .occupied + 1; last = x .last; stats = x .stats }
+
+        entered-state : stateOf new strs′ (withEntry t) ≡ entered (stateOf work′ strs′ t)
+        entered-state = λ i. record {
+          strings = stringsUpTo (t .count) (starts i) strs′;
+          table = (table-new ∙ ap (λ (k : ℕ). set (tableOf (t .slots) work′) at k) (sym (length-strings (startsOf (t .count) work′) strs′ (t .count)))) i;
+          occupied = t .occupied + 1;
+          last = t .last;
+          stats = statsOf (t .stats);
+        }
+
+        pub alloc-told : (r : Answer) (work″ : List ℕ) (resized : ℕ) (p : Probe) → p .at ≡ at → statsOf by ≡ record { calls = 1; cacheHits = 0; tableHits = 0; allocs = 1; longBypass = 0; resizes = resized; probeSteps = p .steps } → work″ ≡ new
+            → r .ok ≡ true → r .id ≡ st .count → r .state ≡ withEntry t
+            → Told work strs st work″ strs′ r (tableAlloc (stateOf work strs st) (tableOf (st .slots) work) resized p s)
+        unfolding tableAlloc
+        alloc-told r work″ resized p hat hby hw ok id state =
+            let more : length (strings ++ (s ∷ [])) ≡ suc (length strings) = length-append strings (s ∷ []) ∙ omega arith in
+            subst (λ (w : List ℕ). Told work strs st w strs′ r (tableAlloc (stateOf work strs st) (tableOf (st .slots) work) resized p s)) (sym hw)
+            (record {
+              ok = ok ∙ sym has ∙ room-more b s room _ refl;
+              refused = λ e. absurd (false≢true (sym e ∙ ok));
+              answered = λ _. record {
+                good = subst (Good new strs′) (sym state) entered-good;
+                state =
+                    ap (stateOf new strs′) state ∙ entered-state ∙ ap entered (a .state)
+                    ∙ (λ i. record { strings = strings ++ (s ∷ []); table = set (tableOf (st .slots) work) (sym hat i) (more i); occupied = st .occupied + 1; last = suc (length strings); stats = (stats ∙ ap (plusStats (statsOf (st .stats))) hby) i });
+                id = id ∙ sym count-is;
+                base = ap (λ (x : Interner). x .base) state ∙ a .base;
+                kept = a .kept;
+                free = drop-set-lt 11776 work′ (t .slots - 256 + at) (t .count) (omega (arith, size-hi (a .good .size), lt-t)) ∙ a .free;
+              };
+            })
+
+  -- ---- the table
+  module _ (s : List ℕ) (resized : ℕ) (p : Probe) (is : p ≡ firstProbe (stateOf work strs st) s) where
+    pub call-alloc : p .slot ≡ 0 → tableAlloc (stateOf work strs st) (tableOf (st .slots) work) resized p s ≡ probedCall (stateOf work strs st) resized s
+    unfolding probedCall
+    call-alloc e =
+        let z : firstProbe (stateOf work strs st) s .slot ≡ 0 = sym (ap (λ (q : Probe). q .slot) is) ∙ e in
+        ap (λ (q : Probe). tableAlloc (stateOf work strs st) (tableOf (st .slots) work) resized q s) is ∙ sym (rw (eq-eqb _ _ z) refl)
+
+    pub call-hit : (p .slot ≡ 0 → ⊥) → tableHit (stateOf work strs st) (tableOf (st .slots) work) resized p ≡ probedCall (stateOf work strs st) resized s
+    unfolding probedCall
+    call-hit ne =
+        let z : firstProbe (stateOf work strs st) s .slot ≡ 0 → ⊥ = λ e. ne (ap (λ (q : Probe). q .slot) is ∙ e) in
+        ap (λ (q : Probe). tableHit (stateOf work strs st) (tableOf (st .slots) work) resized q) is ∙ sym (rw (ne-eqb _ _ z) refl)
+
+    pub hit-told : (by : Counters) (r : Answer) → (p .slot ≡ 0 → ⊥) → p .slot ≤ st .count → Known st (p .slot) by r → statsOf by ≡ record { calls = 1; cacheHits = 0; tableHits = 1; allocs = 0; longBypass = 0; resizes = resized; probeSteps = p .steps }
+        → Told work strs st work strs r (probedCall (stateOf work strs st) resized s)
+    unfolding tableHit
+    hit-told by r ne le k hby = subst (λ (a : Interned). Told work strs st work strs r a) (call-hit ne) (known-told (p .slot) by r le k _ hby)
+
+  -- ---- the whole call
+  module _ (s : List ℕ) (b : Bool) (is-last : b ≡ holds strings (st .last) s) where
+    pub intern-cached : (by : Counters) (r : Answer) → b ≡ true → Known st (st .last) by r → statsOf by ≡ record { calls = 1; cacheHits = 1; tableHits = 0; allocs = 0; longBypass = 0; resizes = 0; probeSteps = 0 }
+        → Told work strs st work strs r (intern (stateOf work strs st) s)
+    unfolding intern cacheHit
+    intern-cached by r hb k hby =
+        let e : cacheHit (stateOf work strs st) ≡ intern (stateOf work strs st) s = sym (rw (sym is-last ∙ hb) refl) in
+        subst (λ (a : Interned). Told work strs st work strs r a) e (known-told (st .last) by r (g .known) k _ hby)
+
+    pub intern-bypass : (work′ strs′ : List ℕ) (r : Answer) → b ≡ false → 64 < length s → Told work strs st work′ strs′ r (bypass (stateOf work strs st) s) → Told work strs st work′ strs′ r (intern (stateOf work strs st) s)
+    unfolding intern
+    intern-bypass work′ strs′ r hb lt h =
+        let e : bypass (stateOf work strs st) s ≡ intern (stateOf work strs st) s = sym (rw (sym is-last ∙ hb, lt-ltb 64 (length s) lt) refl) in
+        subst (λ (a : Interned). Told work strs st work′ strs′ r a) e h
+
+    intern-table : b ≡ false → length s ≤ 64 → tableCall (stateOf work strs st) (tableFor (stateOf work strs st)) s ≡ intern (stateOf work strs st) s
+    unfolding intern
+    intern-table hb le = sym (rw (sym is-last ∙ hb, le-ltb 64 (length s) le) refl)
+
+    ready-call : (w : List ℕ) (u : Interner) (resized : ℕ) → Ready work strs st w u → resized ≡ cond (grows (stateOf work strs st)) 1 0 → probedCall (stateOf w strs u) resized s ≡ tableCall (stateOf work strs st) (tableFor (stateOf work strs st)) s
+    unfolding probedCall firstProbe tableCall tableAlloc tableHit
+    ready-call w u resized y hr =
+        ap (λ (x : StrInterner). probedCall x resized s) (y .state)
+        ∙ ap (λ (n : ℕ). probedCall (withTable (stateOf work strs st) (tableFor (stateOf work strs st))) n s) hr
+
+    pub intern-told : (w work′ strs′ : List ℕ) (u : Interner) (r : Answer) (resized : ℕ) → b ≡ false → length s ≤ 64 → Ready work strs st w u → resized ≡ cond (grows (stateOf work strs st)) 1 0
+        → Told w strs u work′ strs′ r (probedCall (stateOf w strs u) resized s) → Told work strs st work′ strs′ r (intern (stateOf work strs st) s)
+    intern-told w work′ strs′ u r resized hb le y hr h =
+        let base : u .base ≡ st .base = ap (λ (x : Interner). x .base) (y .is) in
+        let used : u .used ≡ st .used = ap (λ (x : Interner). x .used) (y .is) in
+        let free : drop 11776 w ≡ drop 11776 work = sym (drop-drop 3584 8192 w) ∙ ap (λ (l : List ℕ). drop 3584 l) (y .high) ∙ drop-drop 3584 8192 work in
+        subst (λ (a : Interned). Told work strs st work′ strs′ r a) (ready-call w u resized y hr ∙ intern-table hb le)
+        (record {
+          refused = λ e. let q = h .refused e in record { id = q .id; state = q .state ∙ ap (λ (x : Interner). withSlots x (r .state .slots)) (y .is) };
+          ok = h .ok ∙ ap (λ (n : ℕ). hasRoom (length strs) n (probedCall (stateOf w strs u) resized s .state)) base;
+          answered = λ e.
+              let q = h .answered e in
+              record {
+                good = q .good;
+                state = q .state;
+                id = q .id;
+                base = q .base ∙ base;
+                kept = subst (λ (n : ℕ). take n strs′ ≡ take n strs) used (q .kept);
+                free = q .free ∙ free;
+              };
+        })

@@ -1,0 +1,60 @@
+use Rattle.intern.proofs.Answers.{room-there, bypass-told, bypass-refused}
+use lib.Dec.{lit≤}
+use mathlib.Core.Path.{_≡_, refl, sym, ap, _∙_}
+use mathlib.Core.List.{List, [], _∷_, _++_}
+use Prim.Native.Nat.{ℕ, zero, suc, _+_, _-_, _*_, _%_, _/_, _^_, _≤_, _<_}
+use native.Mathlib.Omega.{arith}
+use lib.ListN.{length, getD, take, drop, set, replicate, length-set, length-take, length-drop, length-append, length-replicate}
+use borrow.Author.Needs.{needs}
+use Rattle.intern.proofs.bypass.Statement.{statement}
+use Rattle.intern.proofs.bypass.Tie as tie
+use Rattle.intern.proofs.bypass.Reads as reads
+use Rattle.intern.proofs.bypass.Lts as lts
+use Rattle.intern.proofs.alloc.Reads as alloc-reads
+use Rattle.intern.proofs.has_room.Reads as has-room-reads
+use Rattle.intern.proofs.plus_stats.Reads as plus-stats-reads
+
+-- src/lib.rt:516:8
+has-room-requires : tie.Need-has-room-requires
+has-room-requires c κs = search needs
+
+-- src/lib.rt:526:42
+plus-stats-requires : tie.Need-plus-stats-requires
+plus-stats-requires c κs = search needs
+
+-- src/lib.rt:526:13
+alloc-requires : tie.Need-alloc-requires
+alloc-requires c κs = (c .before .before .before .before .before .before .before .before .before .pre .0, (room-there _ _ _ _ (sym (c .before .before .before .before .has-room .ensures) ∙ c .before .before .before .if1 .taken), c .plus-stats .ensures .1))
+
+-- src/lib.rt:529:17
+cast-t17 : tie.Need-cast-t17
+cast-t17 c = search needs
+
+-- src/lib.rt:527:9
+same-length : tie.Need-same-length
+same-length c = search needs
+
+-- src/lib.rt:527:9
+same-length-2 : tie.Need-same-length-2
+same-length-2 c = search needs
+
+-- src/lib.rt:527:9
+returns : tie.Need-returns
+returns c = bypass-told (c .before .before .before .before .before .before .before .before .before .before .before .before .before .before .args .work .now) (c .before .before .before .before .before .before .before .before .before .before .before .before .before .before .args .strs .now) (c .before .before .before .before .before .before .before .before .before .before .before .before .before .before .args .st) (c .before .before .before .before .before .before .before .before .before .before .before .before .before .before .pre .0) (c .before .before .before .before .before .before .before .before .before .before .before .before .before .before .args .s .now) _ (c .before .before .before .before .before .before .before .before .before .has-room .ensures) (c .before .before .before .before .before .before .before .before .if1 .taken) _ _ _ _ (c .before .before .before .before .before .plus-stats .ensures .0) _ (c .before .before .before .before .alloc .ensures) _ refl refl refl refl
+
+-- src/lib.rt:509:1
+returns-2 : tie.Need-returns-2
+returns-2 c = bypass-refused (c .before .before .before .before .before .before .args .work .now) (c .before .before .before .before .before .before .args .strs .now) (c .before .before .before .before .before .before .args .st) (c .before .before .before .before .before .before .pre .0) (c .before .before .before .before .before .before .args .s .now) _ (c .before .has-room .ensures) _ _ _ (c .if1 .left) refl refl refl
+
+pub bypass-spec : {M : Type 1} → statement M
+bypass-spec =
+    tie.close
+    (tie.spec
+    has-room-requires
+    plus-stats-requires
+    alloc-requires
+    cast-t17
+    same-length
+    same-length-2
+    returns
+    returns-2)

@@ -1,0 +1,76 @@
+use Rattle.intern.proofs.Answers.{probe-in, call-alloc, hit-told}
+use Rattle.intern.specs.State.{Told}
+use Rattle.intern.specs.Layout.{probeOf}
+use Rattle.model.specs.Intern.{Interned}
+use lib.Dec.{lit≤}
+use mathlib.Core.Path.{subst}
+use mathlib.Core.Path.{_≡_, refl, sym, ap, _∙_}
+use mathlib.Core.List.{List, [], _∷_, _++_}
+use Prim.Native.Nat.{ℕ, zero, suc, _+_, _-_, _*_, _%_, _/_, _^_, _≤_, _<_}
+use native.Mathlib.Omega.{arith}
+use lib.ListN.{length, getD, take, drop, set, replicate, length-set, length-take, length-drop, length-append, length-replicate}
+use borrow.Author.Needs.{needs}
+use Rattle.intern.proofs.table_call.Statement.{statement}
+use Rattle.intern.proofs.table_call.Tie as tie
+use Rattle.intern.proofs.table_call.Reads as reads
+use Rattle.intern.proofs.table_call.Lts as lts
+use Rattle.intern.proofs.known.Reads as known-reads
+use Rattle.intern.proofs.lookup.Reads as lookup-reads
+use Rattle.intern.proofs.table_alloc.Reads as table-alloc-reads
+
+-- src/lib.rt:582:9
+lookup-requires : tie.Need-lookup-requires
+lookup-requires c κs = search needs
+
+-- src/lib.rt:585:9
+table-alloc-requires : tie.Need-table-alloc-requires
+table-alloc-requires c κs =
+    let in-table = probe-in (c .before .before .before .before .before .before .before .before .before .args .work .now) (c .before .before .before .before .before .before .before .before .before .args .strs .now) (c .before .before .before .before .before .before .before .before .before .args .st) (c .before .before .before .before .before .before .before .before .before .pre .0) (c .before .before .before .before .before .before .before .before .before .args .s .now) (c .before .before .before .before .before .before .before .before .before .pre .1 .0 .0) (c .before .before .before .before .before .before .before .before .before .pre .1 .0 .1) (probeOf (c .before .before .before .lookup .result)) (c .before .before .before .lookup .ensures) in
+    (c .before .before .before .before .before .before .before .before .before .pre .0, ((c .before .before .before .before .before .before .before .before .before .pre .1 .0 .0, c .before .before .before .before .before .before .before .before .before .pre .1 .1 .0, c .before .before .before .before .before .before .before .before .before .pre .1 .1 .1), (in-table .0, in-table .2, in-table .3 ∙ c .before .before .if1 .taken)))
+
+-- src/lib.rt:585:9
+same-length : tie.Need-same-length
+same-length c = search needs
+
+-- src/lib.rt:585:9
+same-length-2 : tie.Need-same-length-2
+same-length-2 c = search needs
+
+-- src/lib.rt:585:9
+returns : tie.Need-returns
+returns c = subst (λ (a : Interned). Told (c .before .before .before .before .before .before .before .before .before .before .before .before .before .before .args .work .now) (c .before .before .before .before .before .before .before .before .before .before .before .before .before .before .args .strs .now) (c .before .before .before .before .before .before .before .before .before .before .before .before .before .before .args .st) (c .before .before .before .before .table-alloc .last .0) (c .before .before .before .before .table-alloc .last .1 .0) (c .before .before .before .before .table-alloc .result) a) (call-alloc (c .before .before .before .before .before .before .before .before .before .before .before .before .before .before .args .work .now) (c .before .before .before .before .before .before .before .before .before .before .before .before .before .before .args .strs .now) (c .before .before .before .before .before .before .before .before .before .before .before .before .before .before .args .st) (c .before .before .before .before .before .before .before .before .before .before .before .before .before .before .pre .0) (c .before .before .before .before .before .before .before .before .before .before .before .before .before .before .args .s .now) (c .before .before .before .before .before .before .before .before .before .before .before .before .before .before .args .resized) (probeOf (c .before .before .before .before .before .before .before .before .lookup .result)) (c .before .before .before .before .before .before .before .before .lookup .ensures) (c .before .before .before .before .before .before .before .if1 .taken)) (c .before .before .before .before .table-alloc .ensures)
+
+-- src/lib.rt:596:5
+known-requires : tie.Need-known-requires
+known-requires c κs =
+    let in-table = probe-in (c .before .before .before .before .before .before .before .args .work .now) (c .before .before .before .before .before .before .before .args .strs .now) (c .before .before .before .before .before .before .before .args .st) (c .before .before .before .before .before .before .before .pre .0) (c .before .before .before .before .before .before .before .args .s .now) (c .before .before .before .before .before .before .before .pre .1 .0 .0) (c .before .before .before .before .before .before .before .pre .1 .0 .1) (probeOf (c .before .lookup .result)) (c .before .lookup .ensures) in
+    let ne = c .if1 .left in
+    (omega arith, (c .before .before .before .before .before .before .before .pre .0 .counts, (c .before .before .before .before .before .before .before .pre .1 .1 .0, record { calls = refl; cachehits = lit≤ tt; tablehits = lit≤ tt; allocs = lit≤ tt; longbypass = lit≤ tt; resizes = c .before .before .before .before .before .before .before .pre .1 .1 .1; probesteps = in-table .2 })))
+
+-- src/lib.rt:576:1
+same-length-3 : tie.Need-same-length-3
+same-length-3 c = search needs
+
+-- src/lib.rt:576:1
+same-length-4 : tie.Need-same-length-4
+same-length-4 c = search needs
+
+-- src/lib.rt:576:1
+returns-2 : tie.Need-returns-2
+returns-2 c =
+    let in-table = probe-in (c .before .before .before .before .before .before .before .before .args .work .now) (c .before .before .before .before .before .before .before .before .args .strs .now) (c .before .before .before .before .before .before .before .before .args .st) (c .before .before .before .before .before .before .before .before .pre .0) (c .before .before .before .before .before .before .before .before .args .s .now) (c .before .before .before .before .before .before .before .before .pre .1 .0 .0) (c .before .before .before .before .before .before .before .before .pre .1 .0 .1) (probeOf (c .before .before .lookup .result)) (c .before .before .lookup .ensures) in
+    hit-told (c .before .before .before .before .before .before .before .before .args .work .now) (c .before .before .before .before .before .before .before .before .args .strs .now) (c .before .before .before .before .before .before .before .before .args .st) (c .before .before .before .before .before .before .before .before .pre .0) (c .before .before .before .before .before .before .before .before .args .s .now) (c .before .before .before .before .before .before .before .before .args .resized) (probeOf (c .before .before .lookup .result)) (c .before .before .lookup .ensures) _ _ (c .before .if1 .left) (in-table .1) (c .known .ensures) refl
+
+pub table-call-spec : {M : Type 1} → statement M
+table-call-spec =
+    tie.close
+    (tie.spec
+    lookup-requires
+    table-alloc-requires
+    same-length
+    same-length-2
+    returns
+    known-requires
+    same-length-3
+    same-length-4
+    returns-2)

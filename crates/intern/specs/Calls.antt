@@ -1,0 +1,107 @@
+-- Laws of model's interner that every call keeps: section 2's sum of the counts, one call counted, and strings that only grow.
+use mathlib.Core.Path.{_≡_, refl, sym, ap, _∙_, subst}
+use mathlib.Core.Bool.{Bool, true, false, cond, _&&_, false≢true}
+use mathlib.Core.Logic.{_⊎_, inl, inr, ⊎-elim}
+use mathlib.Core.List.{List, [], _∷_, _++_, append-nil, append-assoc, flatten}
+use Prim.Native.Nat.{ℕ, _+_, _%_, _≤_}
+use native.Mathlib.Omega.{arith}
+use borrow.Author.Tests.{le-leb, leb-true}
+use lib.Dec.{eqb, leb, ltb}
+use lib.ListN.{length, take, length-append}
+use lib.Seq.{take-take}
+use Rattle.model.specs.Limits.{internLengthLimit, maxNewStrings}
+use Rattle.model.specs.Intern.{InternStats, StrInterner, Interned, Probe, freshInterner, fxHash, plusStats, holds, probe, grows, tableFor, cacheHit, bypass, tableHit, tableAlloc, tableCall, intern, internAll}
+use Rattle.intern.specs.declared.StrInterner.{StrInterner as Interner}
+use Rattle.intern.specs.declared.Answer.{Answer}
+use Rattle.intern.specs.State.{stateOf, Good, hasRoom, Answered}
+
+by-cond : (P : Interned → Type 0) (b : Bool) (x y : Interned) → P x → P y → P (cond b x y)
+by-cond P true x y hx hy = hx
+by-cond P false x y hx hy = hy
+
+-- what holds of the four ways of a call holds of the call
+pub each-way : (P : Interned → Type 0) (t : StrInterner) (s : List ℕ) → P (cacheHit t) → P (bypass t s)
+    → ((table : List ℕ) (resized : ℕ) (p : Probe) → P (tableAlloc t table resized p s)) → ((table : List ℕ) (resized : ℕ) (p : Probe) → P (tableHit t table resized p)) → P (intern t s)
+unfolding intern tableCall
+each-way P t s cached long new old =
+    let table = tableFor t in
+    let p = probe (length table) (t .strings) table s (fxHash s % length table) 0 in
+    by-cond P (holds (t .strings) (t .last) s) _ _ cached
+    (by-cond P (ltb internLengthLimit (length s)) _ _ long
+    (by-cond P (eqb (p .slot) 0) _ _ (new table (cond (grows t) 1 0) p) (old table (cond (grows t) 1 0) p)))
+
+-- ---- Section 2. calls = cache hits + table hits + allocs.
+pub record Balanced (c : InternStats) : Type 0 where
+  pub sum : c .calls ≡ c .cacheHits + c .tableHits + c .allocs
+
+pub balanced-call : (t : StrInterner) (s : List ℕ) → Balanced (t .stats) → Balanced (intern t s .state .stats)
+unfolding cacheHit bypass tableAlloc tableHit plusStats
+balanced-call t s h =
+    each-way (λ (a : Interned). Balanced (a .state .stats)) t s
+    (record { sum = omega (arith, h .sum) })
+    (record { sum = omega (arith, h .sum) })
+    (λ table resized p. record { sum = omega (arith, h .sum) })
+    (λ table resized p. record { sum = omega (arith, h .sum) })
+
+balanced-all : (ss : List (List ℕ)) (t : StrInterner) → Balanced (t .stats) → Balanced (internAll t ss .stats)
+unfolding internAll
+balanced-all [] t h = h
+balanced-all (s ∷ ss) t h = balanced-all ss (intern t s .state) (balanced-call t s h)
+
+-- every list of calls on a fresh interner
+pub calls-sum : (ss : List (List ℕ)) → internAll freshInterner ss .stats .calls ≡ internAll freshInterner ss .stats .cacheHits + internAll freshInterner ss .stats .tableHits + internAll freshInterner ss .stats .allocs
+calls-sum ss = balanced-all ss freshInterner (record { sum = refl }) .sum
+
+-- ---- a call counts itself
+pub calls-one : (t : StrInterner) (s : List ℕ) → intern t s .state .stats .calls ≡ t .stats .calls + 1
+unfolding cacheHit bypass tableAlloc tableHit plusStats
+calls-one t s = each-way (λ (a : Interned). a .state .stats .calls ≡ t .stats .calls + 1) t s refl refl (λ table resized p. refl) (λ table resized p. refl)
+
+-- so a caller knows how many calls it has left
+pub answered-calls : (work strs : List ℕ) (st : Interner) (s : List ℕ) (work′ strs′ : List ℕ) (r : Answer) → Answered work strs st work′ strs′ r (intern (stateOf work strs st) s) → r .state .stats .calls ≡ st .stats .calls + 1
+answered-calls work strs st s work′ strs′ r a = ap (λ (t : StrInterner). t .stats .calls) (a .state) ∙ calls-one (stateOf work strs st) s
+
+-- ---- the bytes before the layer's strings stay as they are
+pub answered-base : (work strs : List ℕ) (st : Interner) (work′ strs′ : List ℕ) (r : Answer) (a : Interned) → Good work strs st → Answered work strs st work′ strs′ r a → take (r .state .base) strs′ ≡ take (st .base) strs
+answered-base work strs st work′ strs′ r a g h =
+    ap (λ (n : ℕ). take n strs′) (h .base)
+    ∙ sym (take-take (st .base) (st .used) strs′ (g .begins))
+    ∙ ap (λ (l : List ℕ). take (st .base) l) (h .kept)
+    ∙ take-take (st .base) (st .used) strs (g .begins)
+
+-- ---- strings only grow
+pub strings-grow : (t : StrInterner) (s : List ℕ) → (intern t s .state .strings ≡ t .strings) ⊎ (intern t s .state .strings ≡ t .strings ++ (s ∷ []))
+unfolding cacheHit bypass tableAlloc tableHit
+strings-grow t s = each-way (λ (a : Interned). (a .state .strings ≡ t .strings) ⊎ (a .state .strings ≡ t .strings ++ (s ∷ []))) t s (inl refl) (inr refl) (λ table resized p. inr refl) (λ table resized p. inl refl)
+
+pub flatten-snoc : (l : List (List ℕ)) (s : List ℕ) → flatten (l ++ (s ∷ [])) ≡ flatten l ++ s
+unfolding flatten
+flatten-snoc [] s = append-nil s
+flatten-snoc (x ∷ xs) s = ap (λ (l : List ℕ). x ++ l) (flatten-snoc xs s) ∙ sym (append-assoc x (flatten xs) s)
+
+pub and-true : (a b : Bool) → (a && b) ≡ true → (a ≡ true) × (b ≡ true)
+and-true true b e = (refl, e)
+and-true false b e = absurd (false≢true e)
+
+less-room : (size base : ℕ) (ss : List (List ℕ)) (s : List ℕ) → (leb (length (ss ++ (s ∷ []))) maxNewStrings && leb (base + length (flatten (ss ++ (s ∷ [])))) size) ≡ true → (leb (length ss) maxNewStrings && leb (base + length (flatten ss)) size) ≡ true
+less-room size base ss s e =
+    let p = and-true (leb (length (ss ++ (s ∷ []))) maxNewStrings) (leb (base + length (flatten (ss ++ (s ∷ [])))) size) e in
+    let few = leb-true (length (ss ++ (s ∷ []))) maxNewStrings (p .0) in
+    let fits = leb-true (base + length (flatten (ss ++ (s ∷ [])))) size (p .1) in
+    let more = length-append ss (s ∷ []) in
+    let longer = ap length (flatten-snoc ss s) ∙ length-append (flatten ss) s in
+    rw (le-leb (length ss) maxNewStrings (omega (arith, few, more)), le-leb (base + length (flatten ss)) size (omega (arith, fits, longer))) refl
+
+-- a state that has room had it before the call, and before all calls: so a refused call is a refusal of the whole
+pub room-before : (size base : ℕ) (t : StrInterner) (s : List ℕ) → hasRoom size base (intern t s .state) ≡ true → hasRoom size base t ≡ true
+unfolding hasRoom
+room-before size base t s e =
+    ⊎-elim
+    (λ q. subst (λ (ss : List (List ℕ)). (leb (length ss) maxNewStrings && leb (base + length (flatten ss)) size) ≡ true) q e)
+    (λ q. less-room size base (t .strings) s (subst (λ (ss : List (List ℕ)). (leb (length ss) maxNewStrings && leb (base + length (flatten ss)) size) ≡ true) q e))
+    (strings-grow t s)
+
+pub room-before-all : (size base : ℕ) (ss : List (List ℕ)) (t : StrInterner) → hasRoom size base (internAll t ss) ≡ true → hasRoom size base t ≡ true
+unfolding internAll
+room-before-all size base [] t e = e
+room-before-all size base (s ∷ ss) t e = room-before size base t s (room-before-all size base ss (intern t s .state) e)

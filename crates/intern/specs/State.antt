@@ -1,0 +1,174 @@
+-- The state that the code's numbers, words and bytes stand for, and what a call of the code has to do with it.
+use mathlib.Core.Path.{_≡_, refl}
+use mathlib.Core.Bool.{Bool, true, false, cond, _&&_, not}
+use mathlib.Core.List.{List, [], _∷_, _++_, flatten}
+use Prim.Native.Nat.{ℕ, zero, suc, _+_, _-_, _*_, _%_, _^_, _<_, _≤_}
+use lib.Dec.{eqb, leb}
+use lib.ListN.{length, getD, take, drop, set}
+use Rattle.model.specs.Intern.{InternStats, StrInterner, Interned, Probe, fxHash, probe, grows, tableFor, tableHit, tableAlloc, plusStats, freshInterner}
+use Rattle.model.specs.Limits.{maxNewStrings, loadFactorNumerator, loadFactorDenominator}
+use Rattle.intern.specs.declared.InternStats.{InternStats as Counters}
+use Rattle.intern.specs.declared.StrInterner.{StrInterner as Interner}
+use Rattle.intern.specs.declared.Answer.{Answer}
+use Rattle.intern.specs.Layout.{tableOf, startsOf, stringsUpTo, Work, Entries, taken}
+
+-- ---- the counts
+
+abbrev pub statsOf : Counters → InternStats
+statsOf c = record {
+  calls = c .calls;
+  cacheHits = c .cachehits;
+  tableHits = c .tablehits;
+  allocs = c .allocs;
+  longBypass = c .longbypass;
+  resizes = c .resizes;
+  probeSteps = c .probesteps;
+}
+
+-- No count passes the calls, and a call inspects 4096 slots at most. So no sum of 64 bits wraps while the calls are below 2 ^ 32.
+pub record Counted (c : Counters) : Type 0 where
+  pub cachehits : c .cachehits ≤ c .calls
+  pub tablehits : c .tablehits ≤ c .calls
+  pub allocs : c .allocs ≤ c .calls
+  pub longbypass : c .longbypass ≤ c .calls
+  pub resizes : c .resizes ≤ c .calls
+  pub probesteps : c .probesteps ≤ 4096 * c .calls
+
+-- what one call adds
+pub record OneCall (c : Counters) : Type 0 where
+  pub calls : c .calls ≡ 1
+  pub cachehits : c .cachehits ≤ 1
+  pub tablehits : c .tablehits ≤ 1
+  pub allocs : c .allocs ≤ 1
+  pub longbypass : c .longbypass ≤ 1
+  pub resizes : c .resizes ≤ 1
+  pub probesteps : c .probesteps ≤ 4096
+
+-- ---- the state
+
+abbrev pub stateOf : List ℕ → List ℕ → Interner → StrInterner
+stateOf work strs st = record {
+  strings = stringsUpTo (st .count) (startsOf (st .count) work) strs;
+  table = tableOf (st .slots) work;
+  occupied = st .occupied;
+  last = st .last;
+  stats = statsOf (st .stats);
+}
+
+-- how many slots a table has
+pub data Size : ℕ → Type 0 where
+  none : Size 0
+  size256 : Size 256
+  size512 : Size 512
+  size1024 : Size 1024
+  size2048 : Size 2048
+  size4096 : Size 4096
+
+-- What holds between calls. `laid`: the strings stand one behind the other from `base` up to `used`.
+pub record Good (work strs : List ℕ) (st : Interner) : Type 0 where
+  pub words : Work work (length strs) (st .count)
+  pub small : length strs < 2 ^ 32
+  pub size : Size (st .slots)
+  pub entries : Entries (tableOf (st .slots) work) (st .count + 1)
+  pub number : taken (tableOf (st .slots) work) ≡ st .occupied
+  pub most : st .occupied ≤ st .count
+  pub known : st .last ≤ st .count
+  pub end : getD (startsOf (st .count) work) (st .count) 0 ≡ st .used
+  pub fits : st .used ≤ length strs
+  pub begins : st .base ≤ st .used
+  pub laid : take (st .used) strs ≡ take (st .base) strs ++ flatten (stringsUpTo (st .count) (startsOf (st .count) work) strs)
+  pub counts : Counted (st .stats)
+
+-- ---- the answer
+
+-- Number 18's part: at most 3583 strings, whose bytes end within a buffer of `size` bytes.
+unfoldable pub hasRoom : ℕ → ℕ → StrInterner → Bool
+hasRoom size base t = leb (length (t .strings)) maxNewStrings && leb (base + length (flatten (t .strings))) size
+
+-- The code's answer r is the defined answer a. Of the buffers nothing is changed below `used`, nor from word 11776 on.
+pub record Answered (work strs : List ℕ) (st : Interner) (work′ strs′ : List ℕ) (r : Answer) (a : Interned) : Type 0 where
+  pub good : Good work′ strs′ (r .state)
+  pub state : stateOf work′ strs′ (r .state) ≡ a .state
+  pub id : r .id ≡ a .id
+  pub base : r .state .base ≡ st .base
+  pub kept : take (st .used) strs′ ≡ take (st .used) strs
+  pub free : drop 11776 work′ ≡ drop 11776 work
+
+-- the same interner over a table of n slots
+abbrev pub withSlots : Interner → ℕ → Interner
+withSlots st n = record { slots = n; occupied = st .occupied; count = st .count; base = st .base; used = st .used; last = st .last; stats = st .stats }
+
+-- A refusal leaves the interner as it was, but for a table that may have grown.
+pub record Refused (st : Interner) (r : Answer) : Type 0 where
+  pub id : r .id ≡ 0
+  pub state : r .state ≡ withSlots st (r .state .slots)
+
+-- Every answer: it is a refusal exactly where the defined state has no room.
+pub record Told (work strs : List ℕ) (st : Interner) (work′ strs′ : List ℕ) (r : Answer) (a : Interned) : Type 0 where
+  pub ok : r .ok ≡ hasRoom (length strs) (st .base) (a .state)
+  pub answered : r .ok ≡ true → Answered work strs st work′ strs′ r a
+  pub refused : r .ok ≡ false → Refused st r
+
+-- A new layer: no strings, from `base` on; one word is written.
+pub record Fresh (work strs : List ℕ) (base : ℕ) (work′ : List ℕ) (r : Interner) : Type 0 where
+  pub good : Good work′ strs r
+  pub state : stateOf work′ strs r ≡ freshInterner
+  pub begins : r .base ≡ base
+  pub words : work′ ≡ set work 8192 base
+
+-- ---- the steps of a call
+
+abbrev pub withTable : StrInterner → List ℕ → StrInterner
+withTable t table = record { strings = t .strings; table = table; occupied = t .occupied; last = t .last; stats = t .stats }
+
+-- the table that a call probes is in its place, with room
+pub record Ready (work strs : List ℕ) (st : Interner) (work′ : List ℕ) (r : Interner) : Type 0 where
+  pub good : Good work′ strs r
+  pub is : r ≡ withSlots st (r .slots)
+  pub state : stateOf work′ strs r ≡ withTable (stateOf work strs st) (tableFor (stateOf work strs st))
+  pub some : 0 < r .slots
+  pub roomy : r .occupied * 8 < r .slots * 7
+  pub high : drop 8192 work′ ≡ drop 8192 work
+
+-- is a table of so many slots, of which so many are taken, to double?
+abbrev pub isDue : ℕ → ℕ → Bool
+isDue slots occupied = not (eqb slots 0) && leb (slots * loadFactorNumerator) (occupied * loadFactorDenominator)
+
+-- the probe of a state's own table
+unfoldable pub firstProbe : StrInterner → List ℕ → Probe
+firstProbe t s = probe (length (t .table)) (t .strings) (t .table) s (fxHash s % length (t .table)) 0
+
+-- model's `tableCall` of a state that has its table already
+unfoldable pub probedCall : StrInterner → ℕ → List ℕ → Interned
+probedCall t resized s =
+    cond (eqb (firstProbe t s .slot) 0) (tableAlloc t (t .table) resized (firstProbe t s) s) (tableHit t (t .table) resized (firstProbe t s))
+
+abbrev pub withLast : Interner → ℕ → Counters → Interner
+withLast st last c = record { slots = st .slots; occupied = st .occupied; count = st .count; base = st .base; used = st .used; last = last; stats = c }
+
+-- the answer for a string that is there, one less than `slot`; `by` is counted
+pub record Known (st : Interner) (slot : ℕ) (by : Counters) (r : Answer) : Type 0 where
+  pub ok : r .ok ≡ true
+  pub id : r .id ≡ slot - 1
+  pub state : r .state ≡ withLast st slot (r .state .stats)
+  pub stats : statsOf (r .state .stats) ≡ plusStats (statsOf (st .stats)) (statsOf by)
+  pub counts : Counted (r .state .stats)
+
+-- a new string, and the counts behind it
+abbrev pub allocated : StrInterner → List ℕ → InternStats → StrInterner
+allocated t s c = record { strings = t .strings ++ (s ∷ []); table = t .table; occupied = t .occupied; last = suc (length (t .strings)); stats = c }
+
+-- the code's new string stands behind the others, and nothing else is changed
+pub record Alloced (work strs : List ℕ) (st : Interner) (s : List ℕ) (c : Counters) (work′ strs′ : List ℕ) (r : Interner) : Type 0 where
+  pub good : Good work′ strs′ r
+  pub state : stateOf work′ strs′ r ≡ allocated (stateOf work strs st) s (statsOf c)
+  pub slots : r .slots ≡ st .slots
+  pub occupied : r .occupied ≡ st .occupied
+  pub count : r .count ≡ st .count + 1
+  pub base : r .base ≡ st .base
+  pub kept : take (st .used) strs′ ≡ take (st .used) strs
+  pub table : tableOf (st .slots) work′ ≡ tableOf (st .slots) work
+  pub free : drop 11776 work′ ≡ drop 11776 work
+
+abbrev pub withEntry : Interner → Interner
+withEntry st = record { slots = st .slots; occupied = st .occupied + 1; count = st .count; base = st .base; used = st .used; last = st .last; stats = st .stats }

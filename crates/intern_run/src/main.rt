@@ -1,0 +1,161 @@
+// Runs document 01's cases of section 2 and prints them: P1, P2, growth at 224 entries, 64 against 65 bytes, and the refusal of
+// string 3584. The numbers in `stdout` are those of the Rust: intern.rs with main below it, rustc -O, the same calls; the Rust
+// has no limit of 3583 strings, so its last line was taken after that string.
+use intern::Answer;
+use intern::StrInterner;
+use libc::STDOUT_FILENO;
+ghost use mathlib.Core.Path.{_≡_};
+ghost use mathlib.Core.Bool.{true};
+ghost use Prim.Native.Nat.{_≤_, _<_};
+ghost use lib.ListN.{length};
+ghost use Rattle.intern.specs.State.{Good};
+
+fn put(label: &[u8], n: u64) {
+    io::write_all(STDOUT_FILENO, label);
+    io::print_decimal(STDOUT_FILENO, n);
+}
+
+fn put_hash(bytes: &[u8]) {
+    io::print_hex(STDOUT_FILENO, intern::fx_hash(bytes), 16);
+    io::write_all(STDOUT_FILENO, b"\n");
+}
+
+// The state behind a call, or that the call was refused.
+fn show(label: &[u8], a: Answer) {
+    let st = a.state;
+    let c = st.stats;
+    io::write_all(STDOUT_FILENO, label);
+    if a.ok {
+        io::write_all(STDOUT_FILENO, b" ok");
+    } else {
+        io::write_all(STDOUT_FILENO, b" refused");
+    }
+    put(b" id ", a.id as u64);
+    put(b" slots ", st.slots as u64);
+    put(b" strings ", st.count as u64);
+    put(b" calls ", c.calls);
+    put(b" cache ", c.cachehits);
+    put(b" table ", c.tablehits);
+    put(b" allocs ", c.allocs);
+    put(b" long ", c.longbypass);
+    put(b" resizes ", c.resizes);
+    put(b" probes ", c.probesteps);
+    io::write_all(STDOUT_FILENO, b"\n");
+}
+
+fn begin(work: &mut [u32], strs: &mut [u8]) -> Answer
+    requires { ⌜ (16384 ≤ length (now work)) × (length (now strs) < 4294967296) ⌝ }
+    ensures { λ r. ⌜ (r .ok ≡ true → Good (now (work .exit)) (now (strs .exit)) (r .state)) ⌝ }
+{
+    let st = intern::fresh(work, strs, 0);
+    Answer {
+        ok: true,
+        id: 0,
+        state: st,
+    }
+}
+
+// The call after the answer a; none after a refusal.
+fn call(work: &mut [u32], strs: &mut [u8], a: Answer, s: &[u8]) -> Answer
+    requires { ⌜ (a .ok ≡ true → Good (now work) (now strs) (a .state)) ⌝ }
+    ensures { λ r. ⌜ (r .ok ≡ true → Good (now (work .exit)) (now (strs .exit)) (r .state)) ⌝ }
+{
+    let st = a.state;
+    let c = st.stats;
+    if a.ok {
+        if c.calls < 4294967296 {
+            return intern::intern(work, strs, st, s);
+        }
+    }
+    Answer {
+        ok: false,
+        id: a.id,
+        state: st,
+    }
+}
+
+// The four digits of i, as bytes.
+fn digits(i: u32) -> [u8; 4] {
+    [
+        (48 + i / 1000 % 10) as u8,
+        (48 + i / 100 % 10) as u8,
+        (48 + i / 10 % 10) as u8,
+        (48 + i % 10) as u8,
+    ]
+}
+
+// Calls for the strings "0000", "0001" and so on, n of them.
+fn many(work: &mut [u32], strs: &mut [u8], a: Answer, n: u32) -> Answer
+    requires { ⌜ (a .ok ≡ true → Good (now work) (now strs) (a .state)) ⌝ }
+    ensures { λ r. ⌜ (r .ok ≡ true → Good (now (work .exit)) (now (strs .exit)) (r .state)) ⌝ }
+{
+    let mut b = a;
+    let mut i: u32 = 0;
+    while i < n {
+        let s = digits(i);
+        b = call(work, strs, b, &s);
+        i += 1;
+    }
+    b
+}
+
+fn hashes() {
+    put_hash(b"");
+    put_hash(b"\0");
+    put_hash(b"\x01");
+    put_hash(b"\x02");
+}
+
+fn probes() {
+    let mut work = [0u32; 16384];
+    let mut strs = [0u8; 64];
+    let a = begin(&mut work, &mut strs);
+    let b = call(&mut work, &mut strs, a, b"");
+    let c = call(&mut work, &mut strs, b, b"\0");
+    show(b"P2", c);
+}
+
+// 224 entries of 256 slots; then one that is there, older than the last.
+fn growth() {
+    let mut work = [0u32; 16384];
+    let mut strs = [0u8; 1024];
+    let a = begin(&mut work, &mut strs);
+    let b = many(&mut work, &mut strs, a, 224);
+    show(b"224 entries", b);
+    let c = call(&mut work, &mut strs, b, b"0007");
+    show(b"an older one", c);
+}
+
+// s, another, s, another.
+fn twice(label: &[u8], s: &[u8]) {
+    let mut work = [0u32; 16384];
+    let mut strs = [0u8; 1024];
+    let a = begin(&mut work, &mut strs);
+    let b = call(&mut work, &mut strs, a, s);
+    let c = call(&mut work, &mut strs, b, b"x");
+    let d = call(&mut work, &mut strs, c, s);
+    let e = call(&mut work, &mut strs, d, b"x");
+    show(label, e);
+}
+
+fn limit() {
+    let mut work = [7u32; 16384];
+    let mut strs = [0u8; 16384];
+    let a = begin(&mut work, &mut strs);
+    let b = many(&mut work, &mut strs, a, 3583);
+    show(b"3583 strings", b);
+    let c = call(&mut work, &mut strs, b, b"0007");
+    show(b"an older one", c);
+    let d = call(&mut work, &mut strs, c, b"3583");
+    show(b"one more", d);
+}
+
+fn main() {
+    hashes();
+    probes();
+    growth();
+    let s = [97u8; 65];
+    twice(b"64 bytes", &s[..64]);
+    twice(b"65 bytes", &s);
+    limit();
+}
