@@ -28,7 +28,7 @@ use Rattle.laws.specs.Utf8.{splice-utf8}
 use Rattle.laws.specs.Sort.{all-sort-is}
 use Rattle.laws.specs.Located.{spliced-all}
 use Rattle.laws.specs.Nodes.{container-facts, normal-inside}
-use Rattle.commute.specs.Merged.{Fit, gn, region-rises}
+use Rattle.commute.specs.Merged.{Fit, newNodes, region-rises}
 use Rattle.commute.specs.Places.{places-ok, sizes-ok}
 use Rattle.commute.specs.Grown.{Shapes, shapes-of, shape-is, Grown, grown}
 use Rattle.commute.specs.Step.{Step, fit-of, limits}
@@ -108,7 +108,7 @@ module _ {old : LexOutput} {e : Edit} {r : Span} {reading : RegionOutput} {m : I
       (lt-ltb (n .normalizedOffset + win .normalized .start) 4294967296 (omega (arith, start-small, f .readingSound .normalized))) (u .0))
       (λ n o h. node-refits n (shifted (n .sourceSpan) (win .sourceDelta)) (movedOffset (n .normalizedOffset) (win .normalizedDelta)) (shift-small (n .sourceSpan .start) (win .sourceDelta))
       (shift-small (n .sourceSpan .end) (win .sourceDelta)) (moved-small (n .normalizedOffset) (win .normalizedDelta)) o)
-      (old .sourceNodes) (grafted old reading .0) (fo .sourceNodes) (all-and (recordFits nodeCodec) small (grafted old reading .0) (g .nodeFits) (gn f .small))
+      (old .sourceNodes) (grafted old reading .0) (fo .sourceNodes) (all-and (recordFits nodeCodec) small (grafted old reading .0) (g .nodeFits) (newNodes f .small))
 
   pairs-fit : all (recordFits pairCodec) (new .pairs) ≡ true
   unfolding mergedBook pairLocated

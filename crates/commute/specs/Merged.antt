@@ -163,15 +163,15 @@ module _ {old : LexOutput} {e : Edit} {reading : RegionOutput} {r : Span} (f : F
       List·getD-append (take (e .start) (old .sanitized)) (e .replacement ++ drop (e .end) (old .sanitized)) 0 i (omega arith) ∙ getD-take (e .start) (old .sanitized) i 0 (omega arith)
 
   -- the grafted nodes lie as the reading's
-  pub gn : GraftedNodes old reading
-  gn = grafted-nodes old reading (f .readingSound) (f .balanced)
+  pub newNodes : GraftedNodes old reading
+  newNodes = grafted-nodes old reading (f .readingSound) (f .balanced)
 
   nodes-before : (o : ℕ) → o ≤ r .start → nodesAllowCut (mergedOf old e reading r .sourceNodes) o ≡ nodesAllowCut (old .sourceNodes) o
   unfolding nodesAllowCut nodesBefore mergedBook nodeLocated windowOf
   nodes-before o h =
       let inOld = f .oldSound .places .sourceSpans in
-      let x = across-front nodes-carried (old .sourceNodes) (grafted old reading .0) inOld (gn .inside) o h (f .startSafe .nodes) in
-      let y = keep-front nodes-carried (old .sourceNodes) (grafted old reading .0) inOld (gn .inside)
+      let x = across-front nodes-carried (old .sourceNodes) (grafted old reading .0) inOld (newNodes .inside) o h (f .startSafe .nodes) in
+      let y = keep-front nodes-carried (old .sourceNodes) (grafted old reading .0) inOld (newNodes .inside)
       (λ n. ltb (n .sourceSpan .start) o) (λ n. not (acrossNode (r .start) n)) fails ends (any-all (acrossNode (r .start)) (old .sourceNodes) (f .startSafe .nodes)) in
       ap₂ (λ (s : Bool) (ns : List SourceNode). not s && eqb (depth isBlockOpen isBlockClose 0 ns) 0 && eqb (depth isWarichuOpen isWarichuClose 0 ns) 0) x y
     where
@@ -233,7 +233,7 @@ module _ {old : LexOutput} {e : Edit} {reading : RegionOutput} {r : Span} (f : F
         let G = map (nodeLocated .placed w) (grafted old reading .0) in
         let M = map (nodeLocated .moved w) (keep t behind) in
         let new : keep t′ (spliced nodeLocated w (old .sourceNodes) (grafted old reading .0)) ≡ front ++ (G ++ M) =
-        keep-rest nodes-carried (old .sourceNodes) (grafted old reading .0) inOld (gn .inside) t t′
+        keep-rest nodes-carried (old .sourceNodes) (grafted old reading .0) inOld (newNodes .inside) t t′
         (λ n g h. lt-ltb (n .sourceSpan .start) (end′ + suc k) (omega arith)) in-moved in
         let kept : keep t (old .sourceNodes) ≡ until ++ keep t behind =
         ap (keep t) (split (f .oldSound) (f .endSafe)) ∙ keep-append t until behind
@@ -262,9 +262,9 @@ module _ {old : LexOutput} {e : Edit} {reading : RegionOutput} {r : Span} (f : F
   nodes-behind : (k : ℕ) → r .end < length (old .sanitized) → nodesAllowCut (mergedOf old e reading r .sourceNodes) (end′ + suc k) ≡ nodesAllowCut (old .sourceNodes) (r .end + suc k)
   unfolding nodesAllowCut mergedBook nodeLocated windowOf
   nodes-behind k some =
-      let x = across-rest nodes-carried (old .sourceNodes) (grafted old reading .0) (f .oldSound .places .sourceSpans) (gn .inside) k (f .endSafe .nodes) in
-      let y = depth-behind isBlockOpen isBlockClose (λ n. (refl, refl)) (λ n. (refl, refl)) (f .startSafe .blocks (omega arith)) (f .endSafe .blocks some) (gn .blocks) k in
-      let z = depth-behind isWarichuOpen isWarichuClose (λ n. (refl, refl)) (λ n. (refl, refl)) (f .startSafe .warichu (omega arith)) (f .endSafe .warichu some) (gn .warichu) k in
+      let x = across-rest nodes-carried (old .sourceNodes) (grafted old reading .0) (f .oldSound .places .sourceSpans) (newNodes .inside) k (f .endSafe .nodes) in
+      let y = depth-behind isBlockOpen isBlockClose (λ n. (refl, refl)) (λ n. (refl, refl)) (f .startSafe .blocks (omega arith)) (f .endSafe .blocks some) (newNodes .blocks) k in
+      let z = depth-behind isWarichuOpen isWarichuClose (λ n. (refl, refl)) (λ n. (refl, refl)) (f .startSafe .warichu (omega arith)) (f .endSafe .warichu some) (newNodes .warichu) k in
       ap₂ (λ (s : Bool) (d : ℕ). not s && eqb d 0 && eqb (depth isWarichuOpen isWarichuClose 0 (nodesBefore (end′ + suc k) (mergedOf old e reading r .sourceNodes))) 0) x y
       ∙ ap (λ (d : ℕ). not (any (acrossNode (r .end + suc k)) (old .sourceNodes)) && eqb (depth isBlockOpen isBlockClose 0 (nodesBefore (r .end + suc k) (old .sourceNodes))) 0 && eqb d 0) z
 

@@ -21,7 +21,7 @@ use Rattle.laws.specs.Splice.{splice-length}
 use Rattle.laws.specs.Sort.{all-sort-is}
 use Rattle.laws.specs.Located.{spliced-all, keep-front, keep-rest}
 use Rattle.laws.specs.Nodes.{Sound, span-facts, span-ok, pair-facts, pair-ok, container-facts, container-ok, endsBy, startsAt, nodeIn, images-append, spans-append, ordered-keep, ordered-join, normal-sum, offsets-append, split, behind-ordered, offsets-split, normal-at, normal-behind, normal-inside, offsets-behind, offsets-small, NodeShift, shift-spans, shift-images, shift-ordered, shift-offsets}
-use Rattle.commute.specs.Merged.{Fit, gn, p, q, startN, endN, moved-sum, placed-number, length-sum, normal-region-rises, offset-sum, nodes-carried, diagnostics-carried, containers-carried}
+use Rattle.commute.specs.Merged.{Fit, newNodes, p, q, startN, endN, moved-sum, placed-number, length-sum, normal-region-rises, offset-sum, nodes-carried, diagnostics-carried, containers-carried}
 
 module _ {old : LexOutput} {e : Edit} {reading : RegionOutput} {r : Span} (f : Fit old e reading r) where
   abbrev new : LexOutput
@@ -102,14 +102,14 @@ module _ {old : LexOutput} {e : Edit} {reading : RegionOutput} {r : Span} (f : F
   pub normal-before : (c : ℕ) → c ≤ r .start → normalizedOffset (new .sourceNodes) c ≡ normalizedOffset (old .sourceNodes) c
   unfolding normalizedOffset mergedBook nodeLocated windowOf
   normal-before c h =
-      rw (keep-front (nodes-carried f) (old .sourceNodes) (grafted old reading .0) (f .oldSound .places .sourceSpans) (gn f .inside)
+      rw (keep-front (nodes-carried f) (old .sourceNodes) (grafted old reading .0) (f .oldSound .places .sourceSpans) (newNodes f .inside)
       (endsBy c) (λ n. true) (λ n k g. lt-leb (n .sourceSpan .end) c (omega arith)) (λ n k t. let x = leb-true (n .sourceSpan .end) c t in omega arith) (all-true (old .sourceNodes)))
 
   -- behind it
   taken : (c c′ : ℕ) → r .end ≤ c → c′ + qw ≡ c + pw → keep (endsBy c′) (new .sourceNodes) ≡ front ++ (placed ++ map (nodeLocated .moved win) (keep (endsBy c) behind))
   unfolding mergedBook nodeLocated windowOf keptBefore keptBehind
   taken c c′ h g =
-      keep-rest (nodes-carried f) (old .sourceNodes) (grafted old reading .0) (f .oldSound .places .sourceSpans) (gn f .inside)
+      keep-rest (nodes-carried f) (old .sourceNodes) (grafted old reading .0) (f .oldSound .places .sourceSpans) (newNodes f .inside)
       (endsBy c) (endsBy c′) (λ n k l. let z = f .size in le-leb (n .sourceSpan .end) c′ (omega arith))
       (λ n o k. let z = nodes-carried f .movedEnd n o k in same-le (nodeLocated .moved win n .sourceSpan .end) c′ (n .sourceSpan .end) c (omega arith) (omega arith))
 
@@ -122,16 +122,16 @@ module _ {old : LexOutput} {e : Edit} {reading : RegionOutput} {r : Span} (f : F
       rw (taken c c′ h g) at (normal-sum (length (new .sanitized)) (new .sourceNodes) (sound .places .order) (sound .places .sourceSpans) c′) in
       let a₁ = spans-append front (placed ++ M) in
       let a₂ = spans-append placed M in
-      let a₃ = shift-spans placed-shift (grafted old reading .0) (gn f .inside) in
+      let a₃ = shift-spans placed-shift (grafted old reading .0) (newNodes f .inside) in
       let a₄ = shift-spans moved-shift m okM in
       let b₁ = images-append front (placed ++ M) in
       let b₂ = images-append placed M in
-      let b₃ = shift-images placed-shift (grafted old reading .0) (gn f .inside) in
+      let b₃ = shift-images placed-shift (grafted old reading .0) (newNodes f .inside) in
       let b₄ = shift-images moved-shift m okM in
       let y₁ = normal-at (f .oldSound) (f .startSafe) in
       let y₂ = normal-behind (f .oldSound) (f .endSafe) c h in
-      let g₁ = gn f .spans in
-      let g₂ = gn f .images in
+      let g₁ = newNodes f .spans in
+      let g₂ = newNodes f .images in
       omega arith
 
   -- ---- the nodes
@@ -161,14 +161,14 @@ module _ {old : LexOutput} {e : Edit} {reading : RegionOutput} {r : Span} (f : F
       (λ n o. span-ok size (nodeLocated .placed win n .sourceSpan) (omega (arith, c .someRead n o, c .placedStart n o, c .placedEnd n o)) (omega (arith, grown, c .inside n o, c .placedEnd n o)))
       (λ n o h. span-ok size (nodeLocated .moved win n .sourceSpan) (omega (arith, c .some n o, c .movedStart n o h, c .movedEnd n o h))
       (omega (arith, length-sum f, c .movedEnd n o h, span-facts (length (old .sanitized)) (n .sourceSpan) o .1)))
-      (old .sourceNodes) (grafted old reading .0) (f .oldSound .places .sourceSpans) (gn f .inside)
+      (old .sourceNodes) (grafted old reading .0) (f .oldSound .places .sourceSpans) (newNodes f .inside)
 
   placed-ends : all (endsBy newEnd) placed ≡ true
   unfolding nodeLocated windowOf
   placed-ends =
       let c = nodes-carried f in
       all-map-is (endsBy newEnd) (nodeLocated .placed win) (grafted old reading .0)
-      ∙ all-map inRead (λ n. endsBy newEnd (nodeLocated .placed win n)) (λ n o. le-leb (nodeLocated .placed win n .sourceSpan .end) newEnd (omega (arith, c .inside n o, c .placedEnd n o))) (grafted old reading .0) (gn f .inside)
+      ∙ all-map inRead (λ n. endsBy newEnd (nodeLocated .placed win n)) (λ n o. le-leb (nodeLocated .placed win n .sourceSpan .end) newEnd (omega (arith, c .inside n o, c .placedEnd n o))) (grafted old reading .0) (newNodes f .inside)
 
   nodes-ordered : ordered 0 (new .sourceNodes) ≡ true
   nodes-ordered =
@@ -176,14 +176,14 @@ module _ {old : LexOutput} {e : Edit} {reading : RegionOutput} {r : Span} (f : F
       rw parts
       (ordered-join 0 (r .start) front (placed ++ moved) (omega arith) (ordered-keep (length (old .sanitized)) (endsBy (r .start)) 0 (old .sourceNodes) (s .places .sourceSpans) (s .places .order))
       (all-keep-self (endsBy (r .start)) (old .sourceNodes))
-      (ordered-join (r .start) newEnd placed moved (omega arith) (shift-ordered placed-shift 0 (r .start) (omega arith) (grafted old reading .0) (gn f .inside) (gn f .order)) placed-ends
+      (ordered-join (r .start) newEnd placed moved (omega arith) (shift-ordered placed-shift 0 (r .start) (omega arith) (grafted old reading .0) (newNodes f .inside) (newNodes f .order)) placed-ends
       (shift-ordered moved-shift (r .end) newEnd (omega arith) behind all-movable (behind-ordered s (f .endSafe)))))
 
   placed-spans : spans placed ≡ spans (reading .sourceNodes)
-  placed-spans = shift-spans placed-shift (grafted old reading .0) (gn f .inside) ∙ gn f .spans
+  placed-spans = shift-spans placed-shift (grafted old reading .0) (newNodes f .inside) ∙ newNodes f .spans
 
   placed-images : images placed ≡ images (reading .sourceNodes)
-  placed-images = shift-images placed-shift (grafted old reading .0) (gn f .inside) ∙ gn f .images
+  placed-images = shift-images placed-shift (grafted old reading .0) (newNodes f .inside) ∙ newNodes f .images
 
   nodes-offsets : offsetsOk 0 0 (new .sourceNodes) ≡ true
   nodes-offsets =
@@ -193,7 +193,7 @@ module _ {old : LexOutput} {e : Edit} {reading : RegionOutput} {r : Span} (f : F
       let i = placed-images in
       let j = placed-spans in
       let o₂ : offsetsOk (0 + images front) (0 + spans front) placed ≡ true =
-      shift-offsets placed-shift (grafted old reading .0) 0 0 (0 + images front) (0 + spans front) (omega arith) (gn f .inside) (gn f .offsets) in
+      shift-offsets placed-shift (grafted old reading .0) 0 0 (0 + images front) (0 + spans front) (omega arith) (newNodes f .inside) (newNodes f .offsets) in
       let o₃ : offsetsOk (0 + images front + images placed) (0 + spans front + spans placed) moved ≡ true =
       shift-offsets moved-shift behind (images until) (spans until) (0 + images front + images placed) (0 + spans front + spans placed) (omega arith) all-movable (offsets-split s (f .endSafe) .1) in
       rw parts
