@@ -10,3 +10,4 @@ pub mod Shown
 pub mod Orders
 pub mod Demand3
 pub mod Clauses
+pub mod Bytes
