@@ -4,6 +4,7 @@ use mathlib.Core.Path.{_≡_, refl, sym, ap, ap₂, _∙_}
 use Prim.Native.Nat.{ℕ, suc, _+_, _-_, _≤_, _<_}
 use native.Mathlib.Omega.{arith}
 use mathlib.Core.Bool.{Bool, true, false, not, _&&_}
+use mathlib.Core.Option.{some}
 use mathlib.Core.List.{List, _++_, map}
 use lib.ListN.{length, getD, take, drop, List·getD-append}
 use lib.Seq.{length-take-le, getD-take, getD-drop}
@@ -12,7 +13,7 @@ use lib.Dec.{ltb, eqb}
 use borrow.Author.Tests.{leb-true, ltb-true, ltb-false, not-true, le-ltb, lt-ltb}
 use Rattle.model.specs.Lists.{any, keep}
 use Rattle.model.specs.Limits.{maxText}
-use Rattle.model.specs.Offset.{Span, shiftClamp, shifted}
+use Rattle.model.specs.Offset.{Span, shiftClamp, shifted, shiftU32}
 use Rattle.model.specs.Types.{SourceNode, PairLink, Diagnostic, LexOutput, RegionOutput}
 use Rattle.model.specs.WellFormed.{spanOk, pairOk, containerOk}
 use Rattle.model.specs.Region.{Edit, edited, behindEdit, depth, isBlockOpen, isBlockClose, isWarichuOpen, isWarichuClose, nodesBefore, nodesAllowCut, pairsAllowCut}
@@ -20,7 +21,7 @@ use Rattle.model.specs.Merge.{MergeWindow, changeInLength, windowOf, normalized
 use Rattle.laws.specs.Lists.{both}
 use Rattle.laws.specs.Keep.{keep-append, keep-all, all-kept, any-all, same-le}
 use Rattle.laws.specs.Checks.{mergedOf}
-use Rattle.laws.specs.Shift.{shift-up, shift-by, offset-by}
+use Rattle.laws.specs.Shift.{shift-up, shift-by, offset-by, shift-answers}
 use Rattle.laws.specs.Splice.{splice, splice-length, drop-splice-rest}
 use Rattle.laws.specs.Located.{startOf, endOf, Carried, keep-front, keep-rest, across-front, across-rest}
 use Rattle.laws.specs.Nodes.{Sound, span-facts, pair-facts, container-facts, endsBy, startsAt, nodeIn, acrossNode, SafeCut, before-split, split, normal-rises, depth-append, depth-map}
@@ -93,6 +94,13 @@ module _ {old : LexOutput} {e : Edit} {reading : RegionOutput} {r : Span} (f : F
   offset-sum o h k =
       let b = normal-region-rises in
       rw (offset-by o (length (reading .normalized)) (endN - startN) (omega arith) (omega arith)) (omega arith)
+
+  -- `shift_u32` has an answer there
+  pub offset-answers : (o : ℕ) → endN ≤ o → o ≤ 1000000000 → shiftU32 o (w .normalizedDelta) ≡ some (movedOffset o (w .normalizedDelta))
+  unfolding windowOf
+  offset-answers o h k =
+      let b = normal-region-rises in
+      shift-answers o (length (reading .normalized)) (endN - startN) (omega arith) (omega arith)
 
   -- ---- the four kinds
 
@@ -261,10 +269,10 @@ module _ {old : LexOutput} {e : Edit} {reading : RegionOutput} {r : Span} (f : F
 
   nodes-behind : (k : ℕ) → r .end < length (old .sanitized) → nodesAllowCut (mergedOf old e reading r .sourceNodes) (end′ + suc k) ≡ nodesAllowCut (old .sourceNodes) (r .end + suc k)
   unfolding nodesAllowCut mergedBook nodeLocated windowOf
-  nodes-behind k some =
+  nodes-behind k inner =
       let x = across-rest nodes-carried (old .sourceNodes) (grafted old reading .0) (f .oldSound .places .sourceSpans) (newNodes .inside) k (f .endSafe .nodes) in
-      let y = depth-behind isBlockOpen isBlockClose (λ n. (refl, refl)) (λ n. (refl, refl)) (f .startSafe .blocks (omega arith)) (f .endSafe .blocks some) (newNodes .blocks) k in
-      let z = depth-behind isWarichuOpen isWarichuClose (λ n. (refl, refl)) (λ n. (refl, refl)) (f .startSafe .warichu (omega arith)) (f .endSafe .warichu some) (newNodes .warichu) k in
+      let y = depth-behind isBlockOpen isBlockClose (λ n. (refl, refl)) (λ n. (refl, refl)) (f .startSafe .blocks (omega arith)) (f .endSafe .blocks inner) (newNodes .blocks) k in
+      let z = depth-behind isWarichuOpen isWarichuClose (λ n. (refl, refl)) (λ n. (refl, refl)) (f .startSafe .warichu (omega arith)) (f .endSafe .warichu inner) (newNodes .warichu) k in
       ap₂ (λ (s : Bool) (d : ℕ). not s && eqb d 0 && eqb (depth isWarichuOpen isWarichuClose 0 (nodesBefore (end′ + suc k) (mergedOf old e reading r .sourceNodes))) 0) x y
       ∙ ap (λ (d : ℕ). not (any (acrossNode (r .end + suc k)) (old .sourceNodes)) && eqb (depth isBlockOpen isBlockClose 0 (nodesBefore (r .end + suc k) (old .sourceNodes))) 0 && eqb d 0) z
 

@@ -3,14 +3,15 @@
 use mathlib.Core.Path.{_≡_, refl, ap, ap₂, _∙_}
 use Prim.Native.Nat.{ℕ, _+_, _≤_}
 use native.Mathlib.Omega.{arith}
-use mathlib.Core.Bool.{Bool, true, _&&_}
+use mathlib.Core.Bool.{Bool, true, false, _&&_}
+use mathlib.Core.Option.{Option, none, some}
 use mathlib.Core.List.{List, _++_, map}
 use lib.ListN.{length}
 use lib.Dec.{leb, ltb}
 use borrow.Author.Tests.{leb-true, ltb-true, le-leb, lt-leb, eq-eqb}
 use Rattle.model.specs.Lists.{all, keep}
-use Rattle.model.specs.Offset.{Span, shifted}
-use Rattle.model.specs.Types.{SourceNode, PairLink, Diagnostic, LexOutput, RegionOutput}
+use Rattle.model.specs.Offset.{Span, shifted, shiftU32}
+use Rattle.model.specs.Types.{SourceNode, PairLink, ContainerPair, Diagnostic, LexOutput, RegionOutput}
 use Rattle.model.specs.WellFormed.{spanOk, ordered, offsetsOk, standalonePadding, imageLength, pairOk, containerOk, placesOk, images, spans, normalizedLengthOk}
 use Rattle.model.specs.Region.{Edit}
 use Rattle.model.specs.Merge.{MergeWindow, windowOf, normalizedOffset, keptBefore, keptBehind, spliced, nodeLocated, shiftedPair, pairLocated, containerLocated, diagnosticLocated, mergedNormalized, grafted, mergedBook}
@@ -21,7 +22,11 @@ use Rattle.laws.specs.Splice.{splice-length}
 use Rattle.laws.specs.Sort.{all-sort-is}
 use Rattle.laws.specs.Located.{spliced-all, keep-front, keep-rest}
 use Rattle.laws.specs.Nodes.{Sound, span-facts, span-ok, pair-facts, pair-ok, container-facts, container-ok, endsBy, startsAt, nodeIn, images-append, spans-append, ordered-keep, ordered-join, normal-sum, offsets-append, split, behind-ordered, offsets-split, normal-at, normal-behind, normal-inside, offsets-behind, offsets-small, NodeShift, shift-spans, shift-images, shift-ordered, shift-offsets}
-use Rattle.commute.specs.Merged.{Fit, newNodes, p, q, startN, endN, moved-sum, placed-number, length-sum, normal-region-rises, offset-sum, nodes-carried, diagnostics-carried, containers-carried}
+use Rattle.commute.specs.Merged.{Fit, newNodes, p, q, startN, endN, moved-sum, placed-number, length-sum, normal-region-rises, offset-sum, offset-answers, nodes-carried, diagnostics-carried, containers-carried}
+
+abbrev isSome : Option ℕ → Bool
+isSome none = false
+isSome (some n) = true
 
 module _ {old : LexOutput} {e : Edit} {reading : RegionOutput} {r : Span} (f : Fit old e reading r) where
   abbrev new : LexOutput
@@ -95,6 +100,34 @@ module _ {old : LexOutput} {e : Edit} {reading : RegionOutput} {r : Span} (f : F
         offset = offset-sum f (n .normalizedOffset) (leb-true s₁ (n .normalizedOffset) (z .0)) (omega (arith, small, f .oldSound .normalized));
         image = refl;
       }
+
+  -- ---- `shift_u32` has an answer wherever the merge asks: for every node and every container behind the region
+
+  pub nodes-answered : all (λ (n : SourceNode). isSome (shiftU32 (n .normalizedOffset) (win .normalizedDelta))) behind ≡ true
+  nodes-answered = all-map movable (λ n. isSome (shiftU32 (n .normalizedOffset) (win .normalizedDelta))) one behind all-movable
+    where
+      one : (n : SourceNode) → movable n ≡ true → isSome (shiftU32 (n .normalizedOffset) (win .normalizedDelta)) ≡ true
+      one n o =
+          let z = both (leb s₁ (n .normalizedOffset)) (ltb (n .normalizedOffset) (length (old .normalized))) (both (inOld n && startsAt (r .end) n) _ o .1) in
+          let small = ltb-true (n .normalizedOffset) (length (old .normalized)) (z .1) in
+          ap isSome (offset-answers f (n .normalizedOffset) (leb-true s₁ (n .normalizedOffset) (z .0)) (omega (arith, small, f .oldSound .normalized)))
+
+  pub containers-answered : all (λ (c : ContainerPair). isSome (shiftU32 (c .opening) (win .normalizedDelta)) && isSome (shiftU32 (c .closing) (win .normalizedDelta))) (keep (λ (c : ContainerPair). leb s₁ (c .opening)) (old .containerPairs)) ≡ true
+  containers-answered =
+      let ok = containerOk (length (old .normalized)) in
+      let opens : ContainerPair → Bool = λ c. leb s₁ (c .opening) in
+      all-map (λ c. ok c && opens c) (λ c. isSome (shiftU32 (c .opening) (win .normalizedDelta)) && isSome (shiftU32 (c .closing) (win .normalizedDelta))) one (keep opens (old .containerPairs))
+      (all-and ok opens (keep opens (old .containerPairs)) (all-keep ok opens (old .containerPairs) (f .oldSound .places .containerPairs)) (all-keep-self opens (old .containerPairs)))
+    where
+      one : (c : ContainerPair) → containerOk (length (old .normalized)) c && leb s₁ (c .opening) ≡ true
+          → isSome (shiftU32 (c .opening) (win .normalizedDelta)) && isSome (shiftU32 (c .closing) (win .normalizedDelta)) ≡ true
+      one c o =
+          let u = both (containerOk (length (old .normalized)) c) (leb s₁ (c .opening)) o in
+          let g = container-facts (length (old .normalized)) c (u .0) in
+          let h = leb-true s₁ (c .opening) (u .1) in
+          join (isSome (shiftU32 (c .opening) (win .normalizedDelta))) _
+          (ap isSome (offset-answers f (c .opening) h (omega (arith, g .0, g .1, f .oldSound .normalized))))
+          (ap isSome (offset-answers f (c .closing) (omega (arith, g .0, h)) (omega (arith, g .1, f .oldSound .normalized))))
 
   -- ---- where a cut lies in the normalized text
 

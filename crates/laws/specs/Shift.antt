@@ -39,6 +39,11 @@ unfolding movedOffset shiftU32 clampU32
 offset-by o p q h k =
     rw (add-sub o p q h, le-leb (o + p - q) (2 ^ 63 - 1) (omega arith), le-leb 0 (o + p - q) (omega arith), le-leb (o + p - q) 4294967295 k) (omega arith)
 
+-- there is an answer, and it is that number
+pub shift-answers : (o p q : ℕ) → q ≤ o + p → o + p - q ≤ 4294967295 → shiftU32 o (subℕ p q) ≡ some (movedOffset o (subℕ p q))
+unfolding movedOffset shiftU32
+shift-answers o p q h k = rw (add-sub o p q h, le-leb (o + p - q) (2 ^ 63 - 1) (omega arith), le-leb 0 (o + p - q) (omega arith), le-leb (o + p - q) 4294967295 k)
+
 -- ---- a moved number fits a word, clamped or not
 
 clamp-small : (z : ℤ) → isWord (clampU32 z) ≡ true
