@@ -153,8 +153,8 @@ fn four_bytes() {
 // A byte put at each place of a run that is read in blocks.
 fn ascii_with(byte: u8) {
     let mut i = 0;
-    while i < 20 {
-        let mut ascii = [b'a'; 20];
+    while i < 76 {
+        let mut ascii = [b'a'; 76];
         ascii[i] = byte;
         try_bytes(&ascii);
         i += 1;
@@ -187,11 +187,11 @@ fn kana_with(byte: u8) {
 }
 
 fn ascii_blocks() {
-    name(b"7F in twenty ASCII bytes");
+    name(b"7F in 76 ASCII bytes");
     ascii_with(0x7f);
-    name(b"80 in twenty ASCII bytes");
+    name(b"80 in 76 ASCII bytes");
     ascii_with(0x80);
-    name(b"E3 in twenty ASCII bytes");
+    name(b"E3 in 76 ASCII bytes");
     ascii_with(0xe3);
 }
 

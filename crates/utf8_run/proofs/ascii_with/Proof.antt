@@ -9,10 +9,10 @@ use Rattle.utf8_run.proofs.end.Reads as end-reads
 use Rattle.utf8_run.proofs.try_bytes.Reads as try-bytes-reads
 
 abbrev Inv-loop : tie.InvT-loop
-Inv-loop byte i₀ i = i ≤ 20
+Inv-loop byte i₀ i = i ≤ 76
 
 abbrev μ-loop : tie.MeasureT-loop
-μ-loop byte i₀ i = 20 - i
+μ-loop byte i₀ i = 76 - i
 
 -- src/main.rt:143:5
 loop-holds : tie.Need-loop-holds Inv-loop μ-loop
