@@ -13,6 +13,7 @@ pub mod Splice
 pub mod Shift
 pub mod Utf8
 pub mod Sort
+pub mod StableSort
 pub mod Located
 pub mod Nodes
 pub mod Prefix
