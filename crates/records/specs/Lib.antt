@@ -1,1 +1,4 @@
 pub mod Values
+pub mod Table
+pub mod Uses
+pub mod Shapes

@@ -8,6 +8,10 @@ ghost use Prim.Native.Nat.{_+_, _*_, _≤_, _<_};
 ghost use lib.ListN.{length, getD};
 ghost use Rattle.model.specs.Tape.{recordAt, recordsAt, contentCodec, segmentCodec, nodeCodec, pairCodec, containerCodec, diagnosticCodec};
 ghost use Rattle.records.specs.Values.{bodyOf, contentOf, segmentOf, sourceNodeOf, pairLinkOf, containerPairOf, diagnosticOf, bodyAt};
+ghost use Rattle.model.specs.Tape.{tagCounts, unusedZero, bodyShape, contentShape, segmentShape, nodeShape, pairShape, diagnosticShape};
+ghost use Rattle.model.specs.Lists.{all};
+ghost use Rattle.records.specs.Uses.{variantOf, rowOf, wordUse, fieldsFor, wordFits};
+ghost use Rattle.records.specs.Shapes.{segmentHead, nodeHead};
 
 // Section 4. A body: what a `Node` or a text holds.
 pub struct Body {
@@ -156,4 +160,173 @@ pub fn diagnostic_at(tape: &[u8], at: usize) -> Diagnostic
         end: wire::u32_at(tape, at + 10),
         plain: wire::u32_at(tape, at + 14),
     }
+}
+
+// Section 4. How many tags each kind has.
+const TAGS: [u8; 16] = [1, 1, 16, 3, 1, 1, 1, 1, 1, 1, 1, 3, 1, 14, 1, 1];
+
+// What the six words of a body are for, in rows of six digits: 0 unused, 1 a string, 2 a string that may be missing, 3 and 4
+// start and length of contents, 5 and 6 start and length of segments.
+const USES: [u8; 54] = *b"100000343400340000341000120000000000122200122210122256";
+
+// The row of each kind, a digit for each of the four tags that `variant` tells apart.
+const ROWS: [u8; 64] = *b"0000111122330040555555555555555555552222000067860000000022221111";
+
+fn tag_count(kind: u8) -> u8
+    ensures { λ r. ⌜ r ≡ getD tagCounts kind 0 ⌝ }
+{
+    if 16 <= kind {
+        return 0;
+    }
+    let k = kind as usize;
+    TAGS[k]
+}
+
+// Format's tag is origin × 4 + payload, and only the payload matters here; other kinds differ in tags 1 and 2 at most.
+fn variant(kind: u8, tag: u8) -> usize
+    ensures { λ r. ⌜ r ≡ variantOf kind tag ⌝ }
+{
+    if kind == 2 {
+        return (tag % 4) as usize;
+    }
+    if tag < 3 {
+        return tag as usize;
+    }
+    3
+}
+
+fn row_of(kind: u8, tag: u8) -> usize
+    requires { ⌜ kind < 16 ⌝ }
+    ensures { λ r. ⌜ r ≡ rowOf kind tag ⌝ }
+{
+    let n = 4 * (kind as usize) + variant(kind, tag);
+    (ROWS[n] - 48) as usize
+}
+
+// What word i of a body is for, as a digit of `USES`.
+pub fn word_use(kind: u8, tag: u8, i: usize) -> u8
+    requires { ⌜ i < 6 ⌝ }
+    ensures { λ r. ⌜ r ≡ wordUse kind tag i ⌝ }
+{
+    if 16 <= kind {
+        return 0;
+    }
+    let n = 6 * row_of(kind, tag) + i;
+    USES[n] - 48
+}
+
+// Section 4. Unused words are 0; a body that is not `used`, of a node of class 2 or 3, has no words.
+fn word_fits(used: bool, kind: u8, tag: u8, i: usize, w: u32) -> bool
+    requires { ⌜ i < 6 ⌝ }
+    ensures { λ r. ⌜ r ≡ wordFits (fieldsFor used kind tag) i w ⌝ }
+{
+    if w == 0 {
+        return true;
+    }
+    if !used {
+        return false;
+    }
+    word_use(kind, tag, i) != 0
+}
+
+fn words_fit(used: bool, kind: u8, tag: u8, words: [u32; 6]) -> bool
+    ensures { λ r. ⌜ r ≡ unusedZero (fieldsFor used kind tag) 0 words ⌝ }
+{
+    let mut i = 0;
+    while i < 6 {
+        if !word_fits(used, kind, tag, i, words[i]) {
+            return false;
+        }
+        i += 1;
+    }
+    true
+}
+
+pub fn body_shape(b: Body, used: bool) -> bool
+    ensures { λ r. ⌜ r ≡ bodyShape (fieldsFor used (b .kind) (b .tag)) (bodyOf b) ⌝ }
+{
+    if tag_count(b.kind) <= b.tag {
+        return false;
+    }
+    let words = b.words;
+    words_fit(used, b.kind, b.tag, words)
+}
+
+pub fn content_shape(c: Content) -> bool
+    ensures { λ r. ⌜ r ≡ contentShape (contentOf c) ⌝ }
+{
+    if c.tag == 0 {
+        return c.second == 0;
+    }
+    c.tag == 1
+}
+
+// Section 4. Segment tags 0, 1 and 2 carry kinds 0, 3 and 13; tag 3 carries 1..15.
+fn segment_head(tag: u8, kind: u8) -> bool
+    ensures { λ r. ⌜ r ≡ segmentHead tag kind ⌝ }
+{
+    if tag == 0 {
+        return kind == 0;
+    }
+    if tag == 1 {
+        return kind == 3;
+    }
+    if tag == 2 {
+        return kind == 13;
+    }
+    if tag == 3 {
+        return 1 <= kind;
+    }
+    false
+}
+
+pub fn segment_shape(s: Segment) -> bool
+    ensures { λ r. ⌜ r ≡ segmentShape (segmentOf s) ⌝ }
+{
+    let body = s.body;
+    if !segment_head(s.tag, body.kind) {
+        return false;
+    }
+    body_shape(body, true)
+}
+
+// Section 4. Classes 0 and 1 carry 1..15 and inline 0; classes 2 and 3 carry 0, and inline is 0 or 1.
+fn node_head(class: u8, inline: u8, kind: u8) -> bool
+    ensures { λ r. ⌜ r ≡ nodeHead class inline kind ⌝ }
+{
+    if class < 2 {
+        if kind < 1 {
+            return false;
+        }
+        return inline == 0;
+    }
+    if 4 <= class {
+        return false;
+    }
+    if kind != 0 {
+        return false;
+    }
+    inline < 2
+}
+
+pub fn node_shape(n: SourceNode) -> bool
+    ensures { λ r. ⌜ r ≡ nodeShape (sourceNodeOf n) ⌝ }
+{
+    let body = n.body;
+    if !node_head(n.class, n.inline, body.kind) {
+        return false;
+    }
+    body_shape(body, n.class < 2)
+}
+
+pub fn pair_shape(p: PairLink) -> bool
+    ensures { λ r. ⌜ r ≡ pairShape (pairLinkOf p) ⌝ }
+{
+    p.kind < 5
+}
+
+pub fn diagnostic_shape(d: Diagnostic) -> bool
+    ensures { λ r. ⌜ r ≡ diagnosticShape (diagnosticOf d) ⌝ }
+{
+    d.kind < 5
 }
