@@ -2,3 +2,4 @@ pub mod Values
 pub mod Table
 pub mod Uses
 pub mod Shapes
+pub mod Runs

@@ -330,3 +330,110 @@ pub fn diagnostic_shape(d: Diagnostic) -> bool
 {
     d.kind < 5
 }
+
+// Each kind where it stands, and a run of `count` records from `at` on.
+
+pub fn content_shaped(tape: &[u8], at: usize) -> bool
+    requires { ⌜ at + 10 ≤ length (now tape) ⌝ }
+    ensures { λ r. ⌜ r ≡ contentShape (recordAt contentCodec (now (tape .entry)) at) ⌝ }
+{
+    content_shape(content_at(tape, at))
+}
+
+pub fn contents_shaped(tape: &[u8], at: usize, count: usize) -> bool
+    requires { ⌜ at + 10 * count ≤ length (now tape) ⌝ }
+    ensures { λ r. ⌜ r ≡ all contentShape (recordsAt contentCodec (now (tape .entry)) at count) ⌝ }
+{
+    let mut i = 0;
+    while i < count {
+        if !content_shaped(tape, at + 10 * i) {
+            return false;
+        }
+        i += 1;
+    }
+    true
+}
+
+pub fn segment_shaped(tape: &[u8], at: usize) -> bool
+    requires { ⌜ at + 37 ≤ length (now tape) ⌝ }
+    ensures { λ r. ⌜ r ≡ segmentShape (recordAt segmentCodec (now (tape .entry)) at) ⌝ }
+{
+    segment_shape(segment_at(tape, at))
+}
+
+pub fn segments_shaped(tape: &[u8], at: usize, count: usize) -> bool
+    requires { ⌜ at + 37 * count ≤ length (now tape) ⌝ }
+    ensures { λ r. ⌜ r ≡ all segmentShape (recordsAt segmentCodec (now (tape .entry)) at count) ⌝ }
+{
+    let mut i = 0;
+    while i < count {
+        if !segment_shaped(tape, at + 37 * i) {
+            return false;
+        }
+        i += 1;
+    }
+    true
+}
+
+pub fn node_shaped(tape: &[u8], at: usize) -> bool
+    requires { ⌜ at + 49 ≤ length (now tape) ⌝ }
+    ensures { λ r. ⌜ r ≡ nodeShape (recordAt nodeCodec (now (tape .entry)) at) ⌝ }
+{
+    node_shape(node_at(tape, at))
+}
+
+pub fn nodes_shaped(tape: &[u8], at: usize, count: usize) -> bool
+    requires { ⌜ at + 49 * count ≤ length (now tape) ⌝ }
+    ensures { λ r. ⌜ r ≡ all nodeShape (recordsAt nodeCodec (now (tape .entry)) at count) ⌝ }
+{
+    let mut i = 0;
+    while i < count {
+        if !node_shaped(tape, at + 49 * i) {
+            return false;
+        }
+        i += 1;
+    }
+    true
+}
+
+pub fn pair_shaped(tape: &[u8], at: usize) -> bool
+    requires { ⌜ at + 18 ≤ length (now tape) ⌝ }
+    ensures { λ r. ⌜ r ≡ pairShape (recordAt pairCodec (now (tape .entry)) at) ⌝ }
+{
+    tape[at + 1] < 5
+}
+
+pub fn pairs_shaped(tape: &[u8], at: usize, count: usize) -> bool
+    requires { ⌜ at + 18 * count ≤ length (now tape) ⌝ }
+    ensures { λ r. ⌜ r ≡ all pairShape (recordsAt pairCodec (now (tape .entry)) at count) ⌝ }
+{
+    let mut i = 0;
+    while i < count {
+        if !pair_shaped(tape, at + 18 * i) {
+            return false;
+        }
+        i += 1;
+    }
+    true
+}
+
+pub fn diagnostic_shaped(tape: &[u8], at: usize) -> bool
+    requires { ⌜ at + 18 ≤ length (now tape) ⌝ }
+    ensures { λ r. ⌜ r ≡ diagnosticShape (recordAt diagnosticCodec (now (tape .entry)) at) ⌝ }
+{
+    tape[at + 1] < 5
+}
+
+pub fn diagnostics_shaped(tape: &[u8], at: usize, count: usize) -> bool
+    requires { ⌜ at + 18 * count ≤ length (now tape) ⌝ }
+    ensures { λ r. ⌜ r ≡ all diagnosticShape (recordsAt diagnosticCodec (now (tape .entry)) at count) ⌝ }
+{
+    let mut i = 0;
+    while i < count {
+        if !diagnostic_shaped(tape, at + 18 * i) {
+            return false;
+        }
+        i += 1;
+    }
+    true
+}

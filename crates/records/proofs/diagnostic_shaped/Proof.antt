@@ -1,0 +1,27 @@
+use Rattle.model.specs.Tape.{recordAt, operandsAt, diagnosticShape, diagnosticCodec}
+use mathlib.Core.Path.{_≡_, refl, sym, ap, _∙_}
+use mathlib.Core.List.{List, [], _∷_, _++_}
+use Prim.Native.Nat.{ℕ, zero, suc, _+_, _-_, _*_, _%_, _/_, _^_, _≤_, _<_}
+use native.Mathlib.Omega.{arith}
+use lib.ListN.{length, getD, take, drop, set, replicate, length-set, length-take, length-drop, length-append, length-replicate}
+use borrow.Author.Needs.{needs}
+use Rattle.records.proofs.diagnostic_shaped.Statement.{statement}
+use Rattle.records.proofs.diagnostic_shaped.Tie as tie
+use Rattle.records.proofs.diagnostic_shaped.Reads as reads
+use Rattle.records.proofs.diagnostic_shaped.Lts as lts
+
+-- src/lib.rt:424:10
+add-result : tie.Need-add-result
+add-result c = search needs
+
+-- src/lib.rt:424:5
+shared-slice-read-result : tie.Need-shared-slice-read-result
+shared-slice-read-result c = search needs
+
+-- src/lib.rt:420:1
+returns : tie.Need-returns
+unfolding recordAt operandsAt diagnosticShape diagnosticCodec
+returns c = refl
+
+pub diagnostic-shaped-spec : {M : Type 1} → statement M
+diagnostic-shaped-spec = tie.close (tie.spec add-result shared-slice-read-result returns)

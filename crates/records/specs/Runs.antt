@@ -1,0 +1,32 @@
+-- A test of every record of a run, one law for every kind and every test.
+use Prim.Native.Nat.{ℕ, _+_, _*_, _<_}
+use mathlib.Core.Path.{_≡_, refl, sym, ap, _∙_}
+use mathlib.Core.Bool.{Bool, true, false}
+use mathlib.Core.List.{List}
+use Rattle.model.specs.Lists.{all, tabulate}
+use Rattle.model.specs.Tape.{Codec, recordSize, recordAt, recordsAt}
+use Rattle.wire.specs.Loops.{allUpTo, Passed, passed-more, all-passed, all-failed, all-tabulate}
+
+module _ {A : Type 0} (c : Codec A) (p : A → Bool) (t : List ℕ) (at : ℕ) where
+  -- the test of the record numbered i of the run from `at` on
+  unfoldable pub testAt : ℕ → Bool
+  testAt i = p (recordAt c t (at + recordSize c * i))
+
+  whole : (n : ℕ) → all p (recordsAt c t at n) ≡ allUpTo n testAt
+  unfolding recordsAt testAt
+  whole n = sym (all-tabulate p n (λ (i : ℕ). recordAt c t (at + recordSize c * i)))
+
+  -- the code's answer r of the record at its place q
+  module _ (i q : ℕ) (place : q ≡ at + recordSize c * i) (r : Bool) (answer : r ≡ p (recordAt c t q)) where
+    test-here : testAt i ≡ r
+    unfolding testAt
+    test-here = sym (answer ∙ ap (λ (k : ℕ). p (recordAt c t k)) place)
+
+    pub run-more : r ≡ true → Passed testAt i → Passed testAt (i + 1)
+    run-more e passed = passed-more testAt i passed (test-here ∙ e)
+
+    pub run-failed : (n : ℕ) → i < n → r ≡ false → false ≡ all p (recordsAt c t at n)
+    run-failed n h e = sym (whole n ∙ all-failed testAt n i h (test-here ∙ e))
+
+  pub run-passed : (n i : ℕ) → i ≡ n → Passed testAt i → true ≡ all p (recordsAt c t at n)
+  run-passed n i e passed = sym (ap (λ (k : ℕ). all p (recordsAt c t at k)) (sym e) ∙ whole i ∙ all-passed testAt i passed)
