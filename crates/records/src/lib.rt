@@ -125,6 +125,28 @@ pub fn node_at(tape: &[u8], at: usize) -> SourceNode
     }
 }
 
+// Single fields of a node, for the walks over all nodes.
+pub fn node_start(tape: &[u8], at: usize) -> u32
+    requires { ⌜ at + 49 ≤ length (now tape) ⌝ }
+    ensures { λ r. ⌜ r ≡ recordAt nodeCodec (now (tape .entry)) at .sourceSpan .start ⌝ }
+{
+    wire::u32_at(tape, at + 3)
+}
+
+pub fn node_end(tape: &[u8], at: usize) -> u32
+    requires { ⌜ at + 49 ≤ length (now tape) ⌝ }
+    ensures { λ r. ⌜ r ≡ recordAt nodeCodec (now (tape .entry)) at .sourceSpan .end ⌝ }
+{
+    wire::u32_at(tape, at + 7)
+}
+
+pub fn node_offset(tape: &[u8], at: usize) -> u32
+    requires { ⌜ at + 49 ≤ length (now tape) ⌝ }
+    ensures { λ r. ⌜ r ≡ recordAt nodeCodec (now (tape .entry)) at .normalizedOffset ⌝ }
+{
+    wire::u32_at(tape, at + 11)
+}
+
 pub fn pair_at(tape: &[u8], at: usize) -> PairLink
     requires { ⌜ at + 18 ≤ length (now tape) ⌝ }
     ensures { λ r. ⌜ pairLinkOf r ≡ recordAt pairCodec (now (tape .entry)) at ⌝ }

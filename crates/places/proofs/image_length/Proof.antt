@@ -1,0 +1,51 @@
+use borrow.Author.Needs.{needs}
+use Rattle.places.proofs.image_length.Statement.{statement}
+use Rattle.places.proofs.image_length.Tie as tie
+use Rattle.places.proofs.image_length.Reads as reads
+use Rattle.places.proofs.image_length.Lts as lts
+use Rattle.places.proofs.standalone_padding.Reads as standalone-padding-reads
+
+-- src/lib.rt:154:37
+add-standalone-padding : tie.Need-add-standalone-padding
+add-standalone-padding c = search needs
+
+-- src/lib.rt:154:32
+shared-slice-read-standalone-padding : tie.Need-shared-slice-read-standalone-padding
+shared-slice-read-standalone-padding c = search needs
+
+-- src/lib.rt:154:51
+add-standalone-padding-2 : tie.Need-add-standalone-padding-2
+add-standalone-padding-2 c = search needs
+
+-- src/lib.rt:154:46
+shared-slice-read-standalone-padding-2 : tie.Need-shared-slice-read-standalone-padding-2
+shared-slice-read-standalone-padding-2 c = search needs
+
+-- src/lib.rt:154:13
+standalone-padding-requires : tie.Need-standalone-padding-requires
+standalone-padding-requires c κs = search needs
+
+-- src/lib.rt:154:9
+mul-result : tie.Need-mul-result
+mul-result c = ?
+
+-- src/lib.rt:154:5
+add-result : tie.Need-add-result
+add-result c = ?
+
+-- src/lib.rt:150:1
+returns : tie.Need-returns
+returns c = ?
+
+pub image-length-spec : {M : Type 1} → statement M
+image-length-spec =
+    tie.close
+    (tie.spec
+    add-standalone-padding
+    shared-slice-read-standalone-padding
+    add-standalone-padding-2
+    shared-slice-read-standalone-padding-2
+    standalone-padding-requires
+    mul-result
+    add-result
+    returns)

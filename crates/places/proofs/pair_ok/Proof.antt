@@ -1,0 +1,29 @@
+use borrow.Author.Needs.{needs}
+use Rattle.places.proofs.pair_ok.Statement.{statement}
+use Rattle.places.proofs.pair_ok.Tie as tie
+use Rattle.places.proofs.pair_ok.Reads as reads
+use Rattle.places.proofs.pair_ok.Lts as lts
+use Rattle.places.proofs.span_ok.Reads as span-ok-reads
+
+-- src/lib.rt:30:9
+span-ok-requires : tie.Need-span-ok-requires
+span-ok-requires c κs = search needs
+
+-- src/lib.rt:31:9
+returns : tie.Need-returns
+returns c = ?
+
+-- src/lib.rt:33:9
+span-ok-requires-2 : tie.Need-span-ok-requires-2
+span-ok-requires-2 c κs = search needs
+
+-- src/lib.rt:34:9
+returns-2 : tie.Need-returns-2
+returns-2 c = ?
+
+-- src/lib.rt:27:1
+returns-3 : tie.Need-returns-3
+returns-3 c = ?
+
+pub pair-ok-spec : {M : Type 1} → statement M
+pair-ok-spec = tie.close (tie.spec span-ok-requires returns span-ok-requires-2 returns-2 returns-3)

@@ -1,0 +1,15 @@
+use Rattle.places.proofs.span_ok.Statement.{statement}
+use Rattle.places.proofs.span_ok.Tie as tie
+use Rattle.places.proofs.span_ok.Reads as reads
+use Rattle.places.proofs.span_ok.Lts as lts
+
+-- src/lib.rt:22:9
+returns : tie.Need-returns
+returns c = ?
+
+-- src/lib.rt:18:1
+returns-2 : tie.Need-returns-2
+returns-2 c = ?
+
+pub span-ok-spec : {M : Type 1} → statement M
+span-ok-spec = tie.close (tie.spec returns returns-2)
