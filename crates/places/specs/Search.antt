@@ -104,19 +104,19 @@ in-order-sorted t at count q = record { next = ordered-next count (λ (i : ℕ).
 
 kept-count : (p : SourceNode → Bool) (n r : ℕ) (g : ℕ → SourceNode) → r ≤ n → ((k : ℕ) → k < r → p (g k) ≡ true) → ((k : ℕ) → r ≤ k → k < n → p (g k) ≡ false)
     → length (keep p (tabulate n g)) ≡ r
-kept-count p zero r g h yes no = omega arith
-kept-count p (suc n) zero g h yes no =
-    rw (no 0 (omega arith) (omega arith)) (kept-count p n zero (λ k. g (suc k)) (omega arith) (λ k b. absurd (omega arith)) (λ k a b. no (suc k) (omega arith) (omega arith)))
-kept-count p (suc n) (suc r) g h yes no =
-    rw (yes 0 (omega arith))
-    (ap suc (kept-count p n r (λ k. g (suc k)) (omega arith) (λ k b. yes (suc k) (omega arith)) (λ k a b. no (suc k) (omega arith) (omega arith))))
+kept-count p zero r g h below past = omega arith
+kept-count p (suc n) zero g h below past =
+    rw (past 0 (omega arith) (omega arith)) (kept-count p n zero (λ k. g (suc k)) (omega arith) (λ k b. absurd (omega arith)) (λ k a b. past (suc k) (omega arith) (omega arith)))
+kept-count p (suc n) (suc r) g h below past =
+    rw (below 0 (omega arith))
+    (ap suc (kept-count p n r (λ k. g (suc k)) (omega arith) (λ k b. below (suc k) (omega arith)) (λ k a b. past (suc k) (omega arith) (omega arith))))
 
 element-tabulate : (n i : ℕ) (g : ℕ → SourceNode) → i < n → getElem? (tabulate n g) i ≡ some (g i)
 element-tabulate zero i g h = absurd (omega arith)
 element-tabulate (suc n) zero g h = refl
 element-tabulate (suc n) (suc i) g h = element-tabulate n i (λ k. g (suc k)) (omega arith)
 
-module _ {t : List ℕ} {at count o r : ℕ} (l : Split (startOf t at) count o r r) where
+module _ (t : List ℕ) (at : ℕ) {count o r : ℕ} (l : Split (startOf t at) count o r r) where
   met : length (keep (λ (n : SourceNode). leb (n .sourceSpan .start) o) (recordsAt nodeCodec t at count)) ≡ r
   unfolding recordsAt startOf nodeCodec
   met =
@@ -138,8 +138,8 @@ module _ {t : List ℕ} {at count o r : ℕ} (l : Split (startOf t at) count o r
   module _ (i : ℕ) (e : r ≡ suc i) (end : ℕ) (q : end ≡ recordAt nodeCodec t (at + 49 * i) .sourceSpan .end) where
     pub node-there : o < end → At i ≡ foundOf (nodeAtSource (recordsAt nodeCodec t at count) o)
     unfolding foundOf
-    node-there h = sym (ap foundOf (last-one i e ∙ rw (← q, lt-ltb o end h) refl))
+    node-there h = sym (ap foundOf (last-one i e) ∙ rw (← q, lt-ltb o end h) refl)
 
     pub node-past : end ≤ o → Nothing ≡ foundOf (nodeAtSource (recordsAt nodeCodec t at count) o)
     unfolding foundOf
-    node-past h = sym (ap foundOf (last-one i e ∙ rw (← q, le-ltb o end h) refl))
+    node-past h = sym (ap foundOf (last-one i e) ∙ rw (← q, le-ltb o end h) refl)

@@ -15,6 +15,7 @@ use Rattle.model.specs.WellFormed.{spanOk, ordered, standalonePadding, imageLen
 use Rattle.laws.specs.Lists.{both}
 use Rattle.records.specs.Runs.{run-cons, run-none}
 use Rattle.wire.specs.Loops.{by-bool}
+use Rattle.places.specs.Spans.{spanOf}
 use Rattle.places.specs.declared.Drift.{Drift}
 use Rattle.places.specs.declared.Drift.the-variants.{Misplaced, Placed}
 
@@ -45,6 +46,28 @@ inImage start offset image images spans = leb (start + images) (offset + spans) 
 unfoldable pub nodePlaced : ℕ → ℕ → ℕ → ℕ → SourceNode → Bool
 nodePlaced size from images spans n =
     spanOk size (n .sourceSpan) && leb from (n .sourceSpan .start) && inImage (n .sourceSpan .start) (n .normalizedOffset) (imageLength n) images spans
+
+-- the code's answers, with the node's numbers that it has read
+module _ (size from im sp : ℕ) (n : SourceNode) (start : ℕ) (q : start ≡ n .sourceSpan .start) where
+  pub placed-before : start < from → false ≡ nodePlaced size from im sp n
+  unfolding nodePlaced
+  placed-before h = rw (← q, lt-leb from start h, and-false) refl
+
+  module _ (end : ℕ) (q₁ : end ≡ n .sourceSpan .end) (r : Bool) (span : r ≡ spanOk size (spanOf start end)) where
+    span-here : spanOk size (n .sourceSpan) ≡ r
+    span-here = sym (span ∙ ap₂ (λ (a b : ℕ). spanOk size (spanOf a b)) q q₁)
+
+    pub placed-span : r ≡ false → false ≡ nodePlaced size from im sp n
+    unfolding nodePlaced
+    placed-span f = rw (span-here, f) refl
+
+    pub placed-image : from ≤ start → r ≡ true → (offset image : ℕ) → offset ≡ n .normalizedOffset → image ≡ imageLength n
+        → inImage start offset image im sp ≡ nodePlaced size from im sp n
+    unfolding nodePlaced
+    placed-image h f offset image q₂ q₃ =
+        let a : leb from (n .sourceSpan .start) ≡ true = ap (leb from) (sym q) ∙ le-leb from start h in
+        let b : inImage start offset image im sp ≡ inImage (n .sourceSpan .start) (n .normalizedOffset) (imageLength n) im sp = rw (q, q₂, q₃) refl in
+        b ∙ rw (span-here, f, a) refl
 
 -- what a node in place tells of its span
 pub placed-facts : (size from im sp : ℕ) (n : SourceNode) → nodePlaced size from im sp n ≡ true
@@ -79,10 +102,10 @@ walk size from images spans (n ∷ ns) =
     cond (nodePlaced size from images spans n) more Misplaced
 
 -- past a node in place
-walk-on : {size from im sp : ℕ} {n : SourceNode} {ns : List SourceNode} {d : Drift} → nodePlaced size from im sp n ≡ true → walk size from im sp (n ∷ ns) ≡ d
+walk-on : (size from im sp : ℕ) (n : SourceNode) (ns : List SourceNode) {d : Drift} → nodePlaced size from im sp n ≡ true → walk size from im sp (n ∷ ns) ≡ d
     → walk size (n .sourceSpan .end) (im + imageLength n) (sp + spanLength n) ns ≡ d
 unfolding walk
-walk-on e h = rw e at h
+walk-on size from im sp n ns e h = rw e at h
 
 cond-and : (a b : Bool) (x : Drift) → cond (a && b) x Misplaced ≡ cond a (cond b x Misplaced) Misplaced
 cond-and true b x = refl
@@ -177,5 +200,14 @@ module _ {t : List ℕ} {at count size i from im sp : ℕ} (w : Walked t at coun
           imagesSmall = omega (arith, image-small n, w .imagesSmall);
           spansSmall = omega (arith, f .0, f .1, f .2, w .spansSmall);
           fromSmall = b;
-          rest = rw (q₁, q₂, q₃) (walk-on e walk-next);
+          rest = rw (q₁, q₂, q₃) (walk-on size from im sp n _ e walk-next);
         }
+
+-- `Span::len` by the code's two numbers
+module _ (n : SourceNode) (start end : ℕ) (q : start ≡ n .sourceSpan .start) (q₁ : end ≡ n .sourceSpan .end) where
+  pub span-length : end - start ≡ spanLength n
+  unfolding spanLength
+  span-length = ap₂ (λ (a b : ℕ). a - b) q₁ q
+
+  pub span-length-none : end ≤ start → 0 ≡ spanLength n
+  span-length-none h = let e : 0 ≡ end - start = omega arith in e ∙ span-length

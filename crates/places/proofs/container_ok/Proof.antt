@@ -1,3 +1,9 @@
+use Rattle.places.specs.Spans.{container-turned, container-goes-on}
+use mathlib.Core.Path.{_≡_, refl, sym, ap, _∙_}
+use mathlib.Core.List.{List, [], _∷_, _++_}
+use Prim.Native.Nat.{ℕ, zero, suc, _+_, _-_, _*_, _%_, _/_, _^_, _≤_, _<_}
+use native.Mathlib.Omega.{arith}
+use lib.ListN.{length, getD, take, drop, set, replicate, length-set, length-take, length-drop, length-append, length-replicate}
 use borrow.Author.Needs.{needs}
 use Rattle.places.proofs.container_ok.Statement.{statement}
 use Rattle.places.proofs.container_ok.Tie as tie
@@ -6,7 +12,7 @@ use Rattle.places.proofs.container_ok.Lts as lts
 
 -- src/lib.rt:43:9
 returns : tie.Need-returns
-returns c = ?
+returns c = container-turned _ _ (c .if1 .taken)
 
 -- src/lib.rt:45:6
 cast-result : tie.Need-cast-result
@@ -14,7 +20,7 @@ cast-result c = search needs
 
 -- src/lib.rt:39:1
 returns-2 : tie.Need-returns-2
-returns-2 c = ?
+returns-2 c = container-goes-on _ _ (c .before .if1 .left)
 
 pub container-ok-spec : {M : Type 1} → statement M
 container-ok-spec = tie.close (tie.spec returns cast-result returns-2)

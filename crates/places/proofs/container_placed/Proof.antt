@@ -1,3 +1,9 @@
+use Rattle.model.specs.WellFormed.{containerOk}
+use mathlib.Core.Path.{_≡_, refl, sym, ap, _∙_}
+use mathlib.Core.List.{List, [], _∷_, _++_}
+use Prim.Native.Nat.{ℕ, zero, suc, _+_, _-_, _*_, _%_, _/_, _^_, _≤_, _<_}
+use native.Mathlib.Omega.{arith}
+use lib.ListN.{length, getD, take, drop, set, replicate, length-set, length-take, length-drop, length-append, length-replicate}
 use borrow.Author.Needs.{needs}
 use Rattle.places.proofs.container_placed.Statement.{statement}
 use Rattle.places.proofs.container_placed.Tie as tie
@@ -16,7 +22,7 @@ container-ok-requires c κs = search needs
 
 -- src/lib.rt:55:1
 returns : tie.Need-returns
-returns c = ?
+returns c = c .container-ok .ensures ∙ ap (containerOk (c .before .before .before .args .size)) (c .before .container-at .ensures)
 
 pub container-placed-spec : {M : Type 1} → statement M
 container-placed-spec = tie.close (tie.spec container-at-requires container-ok-requires returns)

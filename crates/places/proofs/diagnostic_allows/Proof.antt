@@ -1,3 +1,9 @@
+use Rattle.model.specs.Tape.{recordAt, operandsAt, diagnosticCodec}
+use mathlib.Core.Path.{_≡_, refl, sym, ap, _∙_}
+use mathlib.Core.List.{List, [], _∷_, _++_}
+use Prim.Native.Nat.{ℕ, zero, suc, _+_, _-_, _*_, _%_, _/_, _^_, _≤_, _<_}
+use native.Mathlib.Omega.{arith}
+use lib.ListN.{length, getD, take, drop, set, replicate, length-set, length-take, length-drop, length-append, length-replicate}
 use borrow.Author.Needs.{needs}
 use Rattle.places.proofs.diagnostic_allows.Statement.{statement}
 use Rattle.places.proofs.diagnostic_allows.Tie as tie
@@ -14,7 +20,8 @@ shared-slice-read-result c = search needs
 
 -- src/lib.rt:112:1
 returns : tie.Need-returns
-returns c = ?
+unfolding recordAt operandsAt diagnosticCodec
+returns c = refl
 
 pub diagnostic-allows-spec : {M : Type 1} → statement M
 diagnostic-allows-spec = tie.close (tie.spec add-result shared-slice-read-result returns)

@@ -1,3 +1,11 @@
+use Rattle.places.specs.Spans.{spanOf}
+use Rattle.model.specs.WellFormed.{spanOk}
+use Rattle.model.specs.Tape.{recordAt, operandsAt, diagnosticCodec}
+use mathlib.Core.Path.{_≡_, refl, sym, ap, _∙_}
+use mathlib.Core.List.{List, [], _∷_, _++_}
+use Prim.Native.Nat.{ℕ, zero, suc, _+_, _-_, _*_, _%_, _/_, _^_, _≤_, _<_}
+use native.Mathlib.Omega.{arith}
+use lib.ListN.{length, getD, take, drop, set, replicate, length-set, length-take, length-drop, length-append, length-replicate}
 use borrow.Author.Needs.{needs}
 use Rattle.places.proofs.diagnostic_placed.Statement.{statement}
 use Rattle.places.proofs.diagnostic_placed.Tie as tie
@@ -28,7 +36,8 @@ span-ok-requires c κs = search needs
 
 -- src/lib.rt:62:1
 returns : tie.Need-returns
-returns c = ?
+unfolding recordAt operandsAt diagnosticCodec
+returns c = c .span-ok .ensures ∙ rw (c .before .before .u32-at .ensures, c .before .u32-at2 .ensures) refl
 
 pub diagnostic-placed-spec : {M : Type 1} → statement M
 diagnostic-placed-spec =

@@ -1,3 +1,15 @@
+use Rattle.model.specs.Lookup.{diagnosticsAllowIncremental}
+use Rattle.places.specs.Spans.{allowsIncremental}
+use Rattle.model.specs.Tape.{diagnosticCodec}
+use Rattle.wire.specs.Loops.{Passed, passed-none}
+use Rattle.records.specs.Runs.{testAt, run-more, run-failed, run-passed}
+use borrow.Author.Tests.{not-true, not-false}
+use mathlib.Core.Path.{_≡_, refl, sym, ap, _∙_}
+use mathlib.Core.List.{List, [], _∷_, _++_}
+use Prim.Native.Nat.{ℕ, zero, suc, _+_, _-_, _*_, _%_, _/_, _^_, _≤_, _<_}
+use native.Mathlib.Omega.{arith}
+use borrow.Author.Needs.{needs}
+use lib.ListN.{length, getD, take, drop, set, replicate, length-set, length-take, length-drop, length-append, length-replicate}
 use Rattle.places.proofs.diagnostics_allow_incremental.Statement.{statement}
 use Rattle.places.proofs.diagnostics_allow_incremental.Tie as tie
 use Rattle.places.proofs.diagnostics_allow_incremental.Reads as reads
@@ -5,46 +17,49 @@ use Rattle.places.proofs.diagnostics_allow_incremental.Lts as lts
 use Rattle.places.proofs.diagnostic_allows.Reads as diagnostic-allows-reads
 
 abbrev Inv-loop : tie.InvT-loop
-Inv-loop tape at count i₀ i = ?
+Inv-loop tape at count i₀ i = (i ≤ count) × Passed (testAt diagnosticCodec allowsIncremental tape at) i
 
 abbrev μ-loop : tie.MeasureT-loop
-μ-loop tape at count i₀ i = ?
+μ-loop tape at count i₀ i = count - i
 
 -- src/lib.rt:124:5
 loop-holds : tie.Need-loop-holds Inv-loop μ-loop
-loop-holds c = ?
+loop-holds c = (omega arith, passed-none _)
 
 -- src/lib.rt:125:42
 mul-diagnostic-allows : tie.Need-mul-diagnostic-allows Inv-loop μ-loop
-mul-diagnostic-allows c = ?
+mul-diagnostic-allows c = omega arith
 
 -- src/lib.rt:125:37
 add-diagnostic-allows : tie.Need-add-diagnostic-allows Inv-loop μ-loop
-add-diagnostic-allows c = ?
+add-diagnostic-allows c = omega arith
 
 -- src/lib.rt:125:13
 diagnostic-allows-requires : tie.Need-diagnostic-allows-requires Inv-loop μ-loop
-diagnostic-allows-requires c κs = ?
+diagnostic-allows-requires c κs = omega arith
 
 -- src/lib.rt:126:13
 returns : tie.Need-returns Inv-loop μ-loop
-returns c = ?
+unfolding diagnosticCodec diagnosticsAllowIncremental
+returns c = run-failed diagnosticCodec allowsIncremental (c .before .before .before .before .before .args .tape .now) (c .before .before .before .before .before .args .at) (c .before .before .before .loop .i) _ refl _ (c .before .diagnostic-allows .ensures) _ (c .before .before .loop-test .taken) (not-true _ (c .if1 .taken))
 
 -- src/lib.rt:128:9
 add-i : tie.Need-add-i Inv-loop μ-loop
-add-i c = ?
+add-i c = omega arith
 
 -- src/lib.rt:124:5
 loop-less : tie.Need-loop-less Inv-loop μ-loop
-loop-less c = ?
+loop-less c = omega arith
 
 -- src/lib.rt:124:5
 loop-again : tie.Need-loop-again Inv-loop μ-loop
-loop-again c = ?
+unfolding diagnosticCodec
+loop-again c = (omega arith, run-more diagnosticCodec allowsIncremental (c .before .before .before .before .before .args .tape .now) (c .before .before .before .before .before .args .at) (c .before .before .before .loop .i) _ refl _ (c .before .diagnostic-allows .ensures) (not-false _ (c .if1 .left)) (c .before .before .before .loop .inv .1))
 
 -- src/lib.rt:119:1
 returns-2 : tie.Need-returns-2 Inv-loop μ-loop
-returns-2 c = ?
+unfolding diagnosticsAllowIncremental
+returns-2 c = run-passed diagnosticCodec allowsIncremental (c .before .before .before .args .tape .now) (c .before .before .before .args .at) _ (c .before .loop .i) (omega arith) (c .before .loop .inv .1)
 
 pub diagnostics-allow-incremental-spec : {M : Type 1} → statement M
 diagnostics-allow-incremental-spec =

@@ -1,3 +1,10 @@
+use Rattle.model.specs.Tape.{recordAt, operandsAt, nodeCodec}
+use Rattle.places.specs.Walk.{padding-small, image-of}
+use mathlib.Core.Path.{_≡_, refl, sym, ap, _∙_}
+use mathlib.Core.List.{List, [], _∷_, _++_}
+use Prim.Native.Nat.{ℕ, zero, suc, _+_, _-_, _*_, _%_, _/_, _^_, _≤_, _<_}
+use native.Mathlib.Omega.{arith}
+use lib.ListN.{length, getD, take, drop, set, replicate, length-set, length-take, length-drop, length-append, length-replicate}
 use borrow.Author.Needs.{needs}
 use Rattle.places.proofs.image_length.Statement.{statement}
 use Rattle.places.proofs.image_length.Tie as tie
@@ -27,15 +34,16 @@ standalone-padding-requires c κs = search needs
 
 -- src/lib.rt:154:9
 mul-result : tie.Need-mul-result
-mul-result c = ?
+mul-result c = rw (c .standalone-padding .ensures) (omega (arith, padding-small (getD (c .before .before .before .before .args .tape .now) (c .before .before .before .before .args .at + 1) 0) (getD (c .before .before .before .before .args .tape .now) (c .before .before .before .before .args .at + 2) 0)))
 
 -- src/lib.rt:154:5
 add-result : tie.Need-add-result
-add-result c = ?
+add-result c = rw (c .standalone-padding .ensures) (omega (arith, padding-small (getD (c .before .before .before .before .args .tape .now) (c .before .before .before .before .args .at + 1) 0) (getD (c .before .before .before .before .args .tape .now) (c .before .before .before .before .args .at + 2) 0)))
 
 -- src/lib.rt:150:1
 returns : tie.Need-returns
-returns c = ?
+unfolding recordAt operandsAt nodeCodec
+returns c = rw (c .standalone-padding .ensures) (image-of (recordAt nodeCodec (c .before .before .before .before .args .tape .now) (c .before .before .before .before .args .at)))
 
 pub image-length-spec : {M : Type 1} → statement M
 image-length-spec =

@@ -1,3 +1,10 @@
+use Rattle.places.specs.Walk.{inImage}
+use borrow.Author.Tests.{eq-eqb, ne-eqb, lt-ltb, le-ltb, le-leb, lt-leb, not-true, not-false}
+use mathlib.Core.Path.{_≡_, refl, sym, ap, _∙_}
+use mathlib.Core.List.{List, [], _∷_, _++_}
+use Prim.Native.Nat.{ℕ, zero, suc, _+_, _-_, _*_, _%_, _/_, _^_, _≤_, _<_}
+use native.Mathlib.Omega.{arith}
+use lib.ListN.{length, getD, take, drop, set, replicate, length-set, length-take, length-drop, length-append, length-replicate}
 use borrow.Author.Needs.{needs}
 use Rattle.places.proofs.in_image.Statement.{statement}
 use Rattle.places.proofs.in_image.Tie as tie
@@ -14,7 +21,8 @@ add-begin c = search needs
 
 -- src/lib.rt:177:9
 returns : tie.Need-returns
-returns c = ?
+unfolding inImage
+returns c = simp (lt-leb _ _ (c .if1 .taken))
 
 -- src/lib.rt:179:13
 add-result : tie.Need-add-result
@@ -22,7 +30,8 @@ add-result c = search needs
 
 -- src/lib.rt:170:1
 returns-2 : tie.Need-returns-2
-returns-2 c = ?
+unfolding inImage
+returns-2 c = simp (le-leb _ _ (c .if1 .left))
 
 pub in-image-spec : {M : Type 1} → statement M
 in-image-spec = tie.close (tie.spec add-place add-begin returns add-result returns-2)

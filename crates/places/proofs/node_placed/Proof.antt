@@ -1,3 +1,10 @@
+use Rattle.places.specs.Walk.{placed-before, placed-span, placed-image, image-small}
+use borrow.Author.Tests.{eq-eqb, ne-eqb, lt-ltb, le-ltb, le-leb, lt-leb, not-true, not-false}
+use mathlib.Core.Path.{_≡_, refl, sym, ap, _∙_}
+use mathlib.Core.List.{List, [], _∷_, _++_}
+use Prim.Native.Nat.{ℕ, zero, suc, _+_, _-_, _*_, _%_, _/_, _^_, _≤_, _<_}
+use native.Mathlib.Omega.{arith}
+use lib.ListN.{length, getD, take, drop, set, replicate, length-set, length-take, length-drop, length-append, length-replicate}
 use borrow.Author.Needs.{needs}
 use Rattle.places.proofs.node_placed.Statement.{statement}
 use Rattle.places.proofs.node_placed.Tie as tie
@@ -16,7 +23,7 @@ node-start-requires c κs = search needs
 
 -- src/lib.rt:196:9
 returns : tie.Need-returns
-returns c = ?
+returns c = placed-before _ _ _ _ _ _ (c .before .node-start .ensures) (c .if1 .taken)
 
 -- src/lib.rt:198:24
 node-end-requires : tie.Need-node-end-requires
@@ -28,7 +35,7 @@ span-ok-requires c κs = search needs
 
 -- src/lib.rt:199:9
 returns-2 : tie.Need-returns-2
-returns-2 c = ?
+returns-2 c = placed-span _ _ _ _ _ _ (c .before .before .before .before .node-start .ensures) _ (c .before .before .node-end .ensures) _ (c .before .span-ok .ensures) (not-true _ (c .if2 .taken))
 
 -- src/lib.rt:203:9
 node-offset-requires : tie.Need-node-offset-requires
@@ -40,11 +47,11 @@ image-length-requires c κs = search needs
 
 -- src/lib.rt:201:5
 in-image-requires : tie.Need-in-image-requires
-in-image-requires c κs = ?
+in-image-requires c κs = (rw (c .image-length .ensures) (image-small _), c .before .before .before .before .before .before .before .before .pre .1, c .before .before .before .before .before .before .before .before .pre .2)
 
 -- src/lib.rt:183:1
 returns-3 : tie.Need-returns-3
-returns-3 c = ?
+returns-3 c = c .in-image .ensures ∙ placed-image _ _ _ _ _ _ (c .before .before .before .before .before .before .before .node-start .ensures) _ (c .before .before .before .before .before .node-end .ensures) _ (c .before .before .before .before .span-ok .ensures) (c .before .before .before .before .before .before .if1 .left) (not-false _ (c .before .before .before .if2 .left)) _ _ (c .before .before .node-offset .ensures) (c .before .image-length .ensures)
 
 pub node-placed-spec : {M : Type 1} → statement M
 node-placed-spec =

@@ -1,3 +1,10 @@
+use Rattle.places.specs.Spans.{pair-opening, pair-closing, pair-goes-on}
+use borrow.Author.Tests.{eq-eqb, ne-eqb, lt-ltb, le-ltb, le-leb, lt-leb, not-true, not-false}
+use mathlib.Core.Path.{_≡_, refl, sym, ap, _∙_}
+use mathlib.Core.List.{List, [], _∷_, _++_}
+use Prim.Native.Nat.{ℕ, zero, suc, _+_, _-_, _*_, _%_, _/_, _^_, _≤_, _<_}
+use native.Mathlib.Omega.{arith}
+use lib.ListN.{length, getD, take, drop, set, replicate, length-set, length-take, length-drop, length-append, length-replicate}
 use borrow.Author.Needs.{needs}
 use Rattle.places.proofs.pair_ok.Statement.{statement}
 use Rattle.places.proofs.pair_ok.Tie as tie
@@ -11,7 +18,7 @@ span-ok-requires c κs = search needs
 
 -- src/lib.rt:31:9
 returns : tie.Need-returns
-returns c = ?
+returns c = pair-opening _ _ (sym (c .before .span-ok .ensures) ∙ not-true _ (c .if1 .taken))
 
 -- src/lib.rt:33:9
 span-ok-requires-2 : tie.Need-span-ok-requires-2
@@ -19,11 +26,11 @@ span-ok-requires-2 c κs = search needs
 
 -- src/lib.rt:34:9
 returns-2 : tie.Need-returns-2
-returns-2 c = ?
+returns-2 c = pair-closing _ _ (sym (c .before .span-ok2 .ensures) ∙ not-true _ (c .if2 .taken))
 
 -- src/lib.rt:27:1
 returns-3 : tie.Need-returns-3
-returns-3 c = ?
+returns-3 c = pair-goes-on _ _ (sym (c .before .before .before .before .span-ok .ensures) ∙ not-false _ (c .before .before .before .if1 .left)) (sym (c .before .before .span-ok2 .ensures) ∙ not-false _ (c .before .if2 .left))
 
 pub pair-ok-spec : {M : Type 1} → statement M
 pair-ok-spec = tie.close (tie.spec span-ok-requires returns span-ok-requires-2 returns-2 returns-3)

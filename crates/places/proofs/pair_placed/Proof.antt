@@ -1,3 +1,9 @@
+use Rattle.model.specs.WellFormed.{pairOk}
+use mathlib.Core.Path.{_≡_, refl, sym, ap, _∙_}
+use mathlib.Core.List.{List, [], _∷_, _++_}
+use Prim.Native.Nat.{ℕ, zero, suc, _+_, _-_, _*_, _%_, _/_, _^_, _≤_, _<_}
+use native.Mathlib.Omega.{arith}
+use lib.ListN.{length, getD, take, drop, set, replicate, length-set, length-take, length-drop, length-append, length-replicate}
 use borrow.Author.Needs.{needs}
 use Rattle.places.proofs.pair_placed.Statement.{statement}
 use Rattle.places.proofs.pair_placed.Tie as tie
@@ -16,7 +22,7 @@ pair-ok-requires c κs = search needs
 
 -- src/lib.rt:48:1
 returns : tie.Need-returns
-returns c = ?
+returns c = c .pair-ok .ensures ∙ ap (pairOk (c .before .before .before .args .size)) (c .before .pair-at .ensures)
 
 pub pair-placed-spec : {M : Type 1} → statement M
 pair-placed-spec = tie.close (tie.spec pair-at-requires pair-ok-requires returns)

@@ -1,3 +1,9 @@
+use Rattle.places.specs.Walk.{span-length, span-length-none}
+use mathlib.Core.Path.{_≡_, refl, sym, ap, _∙_}
+use mathlib.Core.List.{List, [], _∷_, _++_}
+use Prim.Native.Nat.{ℕ, zero, suc, _+_, _-_, _*_, _%_, _/_, _^_, _≤_, _<_}
+use native.Mathlib.Omega.{arith}
+use lib.ListN.{length, getD, take, drop, set, replicate, length-set, length-take, length-drop, length-append, length-replicate}
 use borrow.Author.Needs.{needs}
 use Rattle.places.proofs.span_length.Statement.{statement}
 use Rattle.places.proofs.span_length.Tie as tie
@@ -16,7 +22,7 @@ node-end-requires c κs = search needs
 
 -- src/lib.rt:164:9
 returns : tie.Need-returns
-returns c = ?
+returns c = span-length-none _ _ _ (c .before .before .node-start .ensures) (c .before .node-end .ensures) (c .if1 .taken)
 
 -- src/lib.rt:166:6
 sub-result : tie.Need-sub-result
@@ -28,7 +34,7 @@ cast-result c = search needs
 
 -- src/lib.rt:157:1
 returns-2 : tie.Need-returns-2
-returns-2 c = ?
+returns-2 c = span-length _ _ _ (c .before .before .node-start .ensures) (c .before .node-end .ensures)
 
 pub span-length-spec : {M : Type 1} → statement M
 span-length-spec =
