@@ -71,7 +71,7 @@ module _ (size from im sp : ℕ) (n : SourceNode) (start : ℕ) (q : start ≡ n
 
 -- what a node in place tells of its span
 pub placed-facts : (size from im sp : ℕ) (n : SourceNode) → nodePlaced size from im sp n ≡ true
-    → (n .sourceSpan .start < n .sourceSpan .end) × (from ≤ n .sourceSpan .start) × (spanLength n ≡ n .sourceSpan .end - n .sourceSpan .start)
+    → (n .sourceSpan .start < n .sourceSpan .end) × (from ≤ n .sourceSpan .start) × (spanLength n ≡ n .sourceSpan .end - n .sourceSpan .start) × (n .sourceSpan .end ≤ size)
 unfolding nodePlaced spanOk spanLength
 placed-facts size from im sp n e =
     let start = n .sourceSpan .start in
@@ -79,7 +79,7 @@ placed-facts size from im sp n e =
     let a = both (spanOk size (n .sourceSpan) && leb from start) (inImage start (n .normalizedOffset) (imageLength n) im sp) e in
     let b = both (spanOk size (n .sourceSpan)) (leb from start) (a .0) in
     let d = both (ltb start end) (leb end size) (b .0) in
-    (ltb-true start end (d .0), leb-true from start (b .1), refl)
+    (ltb-true start end (d .0), leb-true from start (b .1), refl, leb-true end size (d .1))
 
 -- ---- the walk
 
