@@ -2,4 +2,5 @@ pub mod Values
 pub mod Table
 pub mod Uses
 pub mod Shapes
+pub mod Words
 pub mod Runs

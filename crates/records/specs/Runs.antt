@@ -7,7 +7,8 @@ use mathlib.Core.Bool.{Bool, true, false}
 use mathlib.Core.List.{List, [], _∷_}
 use Rattle.model.specs.Lists.{all, tabulate}
 use Rattle.model.specs.Tape.{Codec, recordSize, recordAt, recordsAt}
-use Rattle.wire.specs.Loops.{allUpTo, Passed, passed-more, all-passed, all-failed, all-tabulate}
+use Rattle.wire.specs.Loops.{allUpTo, Passed, passed-more, all-passed, all-failed, all-at, all-tabulate}
+use lib.ListN.{length}
 
 module _ {A : Type 0} (c : Codec A) (p : A → Bool) (t : List ℕ) (at : ℕ) where
   -- the test of the record numbered i of the run from `at` on
@@ -54,3 +55,16 @@ module _ {A : Type 0} (c : Codec A) (t : List ℕ) where
   pub run-none : (p : ℕ) → recordsAt c t p 0 ≡ []
   unfolding recordsAt
   run-none p = refl
+
+  pub run-length : (p n : ℕ) → length (recordsAt c t p n) ≡ n
+  unfolding recordsAt
+  run-length p n = tabulate-length n (λ (i : ℕ). recordAt c t (p + recordSize c * i))
+    where
+      tabulate-length : (n : ℕ) (f : ℕ → A) → length (tabulate n f) ≡ n
+      tabulate-length zero f = refl
+      tabulate-length (suc n) f = ap suc (tabulate-length n (λ i. f (suc i)))
+
+-- what a passed test says of one record
+pub run-at : {A : Type 0} (c : Codec A) (p : A → Bool) (t : List ℕ) (at n i : ℕ) → all p (recordsAt c t at n) ≡ true → i < n → p (recordAt c t (at + recordSize c * i)) ≡ true
+unfolding testAt
+run-at c p t at n i e h = all-at (testAt c p t at) n i (sym (whole c p t at n) ∙ e) h

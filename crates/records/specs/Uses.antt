@@ -84,7 +84,7 @@ format-fields t = let e : t % 4 % 4 ≡ t % 4 = omega arith in rw e refl
 few : (t n : ℕ) → n < 3 → eqb t n ≡ eqb (cond (ltb t 3) t 3) n
 few t n h = by-bool (ltb t 3) (λ s. rw s refl) (λ s. let b = ltb-false t 3 s in rw (s, ne-eqb t n (λ e. omega arith), ne-eqb 3 n (λ e. omega arith)) refl)
 
-same-fields : (k t : ℕ) → getD (fieldTable t) k [] ≡ getD (fieldTable (variantOf k t)) k []
+pub same-fields : (k t : ℕ) → getD (fieldTable t) k [] ≡ getD (fieldTable (variantOf k t)) k []
 unfolding variantOf
 same-fields k t =
     by-bool (eqb k 2) (λ e. let q : k ≡ 2 = eqb-true k 2 e in rw (e, q) (format-fields t))
