@@ -1,23 +1,23 @@
 -- The node at an offset, by halves.
-use Prim.Native.Nat.{ℕ, zero, suc, _+_, _-_, _*_, _≤_, _<_}
+use Prim.Native.Nat.{ℕ, zero, suc, _+_, _*_, _≤_, _<_}
 use native.Mathlib.Omega.{arith}
-use native.Mathlib.Nat.{le-of-suc-le-suc, eq-or-lt-of-le, le-trans, le-refl, lt-of-lt-of-le}
-use native.Mathlib.Numerals.{add-one}
+use native.Mathlib.Nat.{eq-or-lt-of-le, le-trans, le-refl, lt-of-lt-of-le}
 use mathlib.Core.Logic.{⊎-elim}
 use mathlib.Core.Path.{_≡_, refl, sym, ap, _∙_}
 use mathlib.Core.Bool.{Bool, true, false, cond, _&&_}
 use mathlib.Core.Option.{Option, none, some}
-use mathlib.Core.List.{List, [], _∷_}
+use mathlib.Core.List.{List}
 use lib.ListN.{length, getElem?}
 use lib.Dec.{leb, ltb}
 use borrow.Author.Tests.{le-leb, lt-leb, lt-ltb, le-ltb, leb-true, ltb-true}
 use Rattle.model.specs.Lists.{all, keep, tabulate}
-use Rattle.model.specs.Types.{SourceNode}
+use Rattle.model.specs.Types.{SourceNode, LexOutput}
 use Rattle.model.specs.Tape.{recordAt, recordsAt, nodeCodec}
-use Rattle.model.specs.WellFormed.{spanOk, ordered}
+use Rattle.model.specs.WellFormed.{spanOk, ordered, offsetsOk}
 use Rattle.model.specs.Lookup.{nodeAtSource, lastOf, endsBehind}
 use Rattle.laws.specs.Lists.{both}
-use Rattle.places.specs.Walk.{nodeInside}
+use Rattle.laws.specs.Checks.{PlaceFacts}
+use Rattle.places.specs.Walk.{nodeInside, nodesInPlace}
 use Rattle.places.specs.declared.Found.{Found}
 use Rattle.places.specs.declared.Found.the-variants.{At, Nothing}
 
@@ -143,3 +143,14 @@ module _ (t : List ℕ) (at : ℕ) {count o r : ℕ} (l : Split (startOf t at) c
     pub node-past : end ≤ o → Nothing ≡ foundOf (nodeAtSource (recordsAt nodeCodec t at count) o)
     unfolding foundOf
     node-past h = sym (ap foundOf (last-one i e) ∙ rw (← q, le-ltb o end h) refl)
+
+-- ---- nodes that the walk accepted, or a book that passed number 6, are in order
+
+pub placed-in-order : (size : ℕ) (ns : List SourceNode) → nodesInPlace size ns ≡ true → InOrder ns
+placed-in-order size ns e =
+    let a = both (all (nodeInside size) ns && ordered 0 ns) (offsetsOk 0 0 ns) e in
+    let b = both (all (nodeInside size) ns) (ordered 0 ns) (a .0) in
+    record { size = size; inside = b .0; order = b .1 }
+
+pub book-in-order : (b : LexOutput) → PlaceFacts b → InOrder (b .sourceNodes)
+book-in-order b f = record { size = length (b .sanitized); inside = f .sourceSpans; order = f .order }

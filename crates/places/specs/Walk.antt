@@ -1,14 +1,13 @@
 -- The walk over the nodes, as the code goes, and that it is numbers 6 and 7 of the list.
-use Prim.Native.Nat.{ℕ, zero, suc, _+_, _-_, _*_, _≤_, _<_}
+use Prim.Native.Nat.{ℕ, suc, _+_, _-_, _*_, _≤_, _<_}
 use native.Mathlib.Omega.{arith}
 use native.Mathlib.Nat.{add-zero, add-assoc, zero-add}
 use mathlib.Core.Path.{_≡_, refl, sym, ap, ap₂, _∙_}
 use mathlib.Core.Bool.{Bool, true, false, cond, _&&_, and-false}
 use mathlib.Core.List.{List, [], _∷_}
 use lib.Dec.{leb, ltb, eqb}
-use borrow.Author.Tests.{lt-ltb, le-ltb, le-leb, lt-leb, leb-true, ltb-true}
+use borrow.Author.Tests.{le-leb, lt-leb, leb-true, ltb-true}
 use Rattle.model.specs.Lists.{all}
-use Rattle.model.specs.Limits.{sentinelLength}
 use Rattle.model.specs.Types.{SourceNode}
 use Rattle.model.specs.Tape.{recordAt, recordsAt, nodeCodec}
 use Rattle.model.specs.WellFormed.{spanOk, ordered, standalonePadding, imageLength, spanLength, offsetsOk, images, spans}
@@ -211,3 +210,20 @@ module _ (n : SourceNode) (start end : ℕ) (q : start ≡ n .sourceSpan .start)
 
   pub span-length-none : end ≤ start → 0 ≡ spanLength n
   span-length-none h = let e : 0 ≡ end - start = omega arith in e ∙ span-length
+
+-- ---- what the answer tells
+
+module _ (size : ℕ) (ns : List SourceNode) where
+  not-placed : (im sp : ℕ) → Misplaced ≡ Placed im sp → ⊥
+  not-placed im sp e = let z : _≡_ {A = ℕ} 0 1 = cc in omega arith
+
+  pub drift-placed : (im sp : ℕ) → driftOf size ns ≡ Placed im sp → (nodesInPlace size ns ≡ true) × (images ns ≡ im) × (spans ns ≡ sp)
+  unfolding driftOf
+  drift-placed im sp e =
+      by-bool (nodesInPlace size ns)
+      (λ b. let p : Placed (images ns) (spans ns) ≡ Placed im sp = rw b at e in (b, cc, cc))
+      (λ b. absurd (not-placed im sp (rw b at e)))
+
+  pub drift-misplaced : driftOf size ns ≡ Misplaced → nodesInPlace size ns ≡ false
+  unfolding driftOf
+  drift-misplaced e = by-bool (nodesInPlace size ns) (λ b. absurd (not-placed (images ns) (spans ns) (sym (rw b at e)))) (λ b. b)

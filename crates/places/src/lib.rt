@@ -63,7 +63,11 @@ fn diagnostic_placed(tape: &[u8], at: usize, size: usize) -> bool
     requires { ⌜ at + 18 ≤ length (now tape) ⌝ }
     ensures { λ r. ⌜ r ≡ diagnosticInside size (recordAt diagnosticCodec (now (tape .entry)) at) ⌝ }
 {
-    span_ok(wire::u32_at(tape, at + 6), wire::u32_at(tape, at + 10), size)
+    span_ok(
+        wire::u32_at(tape, at + 6),
+        wire::u32_at(tape, at + 10),
+        size,
+    )
 }
 
 pub fn pairs_placed(tape: &[u8], at: usize, count: usize, size: usize) -> bool
@@ -180,14 +184,7 @@ fn in_image(start: u32, offset: u32, image: u64, images: u64, spans: u64) -> boo
 }
 
 // Number 6 of one node: `from` is the end of the node before, `images` and `spans` are the sums of the nodes before.
-fn node_placed(
-    tape: &[u8],
-    at: usize,
-    size: usize,
-    from: u32,
-    images: u64,
-    spans: u64,
-) -> bool
+fn node_placed(tape: &[u8], at: usize, size: usize, from: u32, images: u64, spans: u64) -> bool
     requires { ⌜ (at + 49 ≤ length (now tape)) × (images < 4611686018427387904) × (spans < 4294967296) ⌝ }
     ensures { λ r. ⌜ r ≡ nodePlaced size from images spans (recordAt nodeCodec (now (tape .entry)) at) ⌝ }
 {

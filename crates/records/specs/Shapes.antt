@@ -2,11 +2,10 @@
 use Prim.Native.Nat.{ℕ, _<_, _≤_}
 use mathlib.Core.List.{List}
 use lib.ListN.{getD}
-use native.Mathlib.Omega.{arith}
-use mathlib.Core.Path.{_≡_, refl, sym, ap, _∙_}
-use mathlib.Core.Bool.{Bool, true, false, cond, _&&_, _||_, or-false, and-false}
+use mathlib.Core.Path.{_≡_, refl, _∙_}
+use mathlib.Core.Bool.{Bool, true, false, cond, _&&_, _||_, or-false}
 use lib.Dec.{leb, ltb, eqb}
-use borrow.Author.Tests.{eq-eqb, ne-eqb, eqb-true, lt-ltb, le-ltb, ltb-true, ltb-false, le-leb, lt-leb}
+use borrow.Author.Tests.{ne-eqb, eqb-true, lt-ltb, le-ltb, ltb-true, ltb-false, le-leb, lt-leb}
 use Rattle.wire.specs.Loops.{by-bool}
 use Rattle.model.specs.Types.{Body, Content, Segment, SourceNode}
 use Rattle.model.specs.Tape.{Field, tagCounts, unusedZero, fieldsOf, nodeFields, bodyShape, contentShape, segmentShape, nodeShape}

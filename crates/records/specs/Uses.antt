@@ -4,12 +4,12 @@ use native.Mathlib.Omega.{arith}
 use native.Mathlib.Numerals.{add-one}
 use mathlib.Core.Path.{_≡_, refl, sym, ap, _∙_}
 use mathlib.Core.Bool.{Bool, true, false, cond, not, _&&_, _||_, or-true, or-false, true≢false}
-use mathlib.Core.List.{List, [], _∷_, _++_}
+use mathlib.Core.List.{List, [], _∷_}
 use lib.ListN.{length, getD, drop, drop-of-length-le, List·getD-eq-default}
 use lib.Seq.{drop-cons}
 use lib.Dec.{leb, ltb, eqb}
-use borrow.Author.Tests.{leb-true, ltb-true, ltb-false, eqb-true, eq-eqb, ne-eqb, lt-ltb, le-ltb}
-use Rattle.model.specs.Lists.{all, any, ascii}
+use borrow.Author.Tests.{leb-true, ltb-true, ltb-false, eqb-true, eq-eqb, ne-eqb}
+use Rattle.model.specs.Lists.{any, ascii}
 use Rattle.model.specs.Tape.{Field, Field.str, Field.optStr, Field.contentRange, Field.segRange, fieldTable, usesWord, unusedZero}
 use Rattle.laws.specs.Lists.{both}
 use Rattle.wire.specs.Loops.{by-bool, allUpTo, all-at}

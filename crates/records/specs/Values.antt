@@ -1,10 +1,9 @@
 -- The structs of this crate as the records of crate model, and where a body's values stand.
 use Prim.Native.Nat.{ℕ, _+_}
 use native.Mathlib.Nat.{add-assoc}
-use mathlib.Core.Path.{_≡_, refl, sym, ap, _∙_}
+use mathlib.Core.Path.{_≡_, _∙_}
 use mathlib.Core.List.{List, [], _∷_}
 use Rattle.model.specs.Bytes.{byteAt, wordAt}
-use Rattle.model.specs.Offset.{Span}
 use Rattle.model.specs.Types.{Body, Content, Segment, SourceNode, PairLink, ContainerPair, Diagnostic}
 use Rattle.model.specs.Tape.{recordAt, operandsAt, segmentCodec, nodeCodec}
 use Rattle.records.specs.declared.Body.{Body as BodyRead}

@@ -1,11 +1,5 @@
-use Rattle.places.specs.Spans.{spanOf}
-use Rattle.model.specs.WellFormed.{spanOk}
 use Rattle.model.specs.Tape.{recordAt, operandsAt, diagnosticCodec}
-use mathlib.Core.Path.{_≡_, refl, sym, ap, _∙_}
-use mathlib.Core.List.{List, [], _∷_, _++_}
-use Prim.Native.Nat.{ℕ, zero, suc, _+_, _-_, _*_, _%_, _/_, _^_, _≤_, _<_}
-use native.Mathlib.Omega.{arith}
-use lib.ListN.{length, getD, take, drop, set, replicate, length-set, length-take, length-drop, length-append, length-replicate}
+use mathlib.Core.Path.{refl, _∙_}
 use borrow.Author.Needs.{needs}
 use Rattle.places.proofs.diagnostic_placed.Statement.{statement}
 use Rattle.places.proofs.diagnostic_placed.Tie as tie

@@ -4,12 +4,9 @@ use Rattle.model.specs.Tape.{diagnosticCodec}
 use Rattle.wire.specs.Loops.{Passed, passed-none}
 use Rattle.records.specs.Runs.{testAt, run-more, run-failed, run-passed}
 use borrow.Author.Tests.{not-true, not-false}
-use mathlib.Core.Path.{_≡_, refl, sym, ap, _∙_}
-use mathlib.Core.List.{List, [], _∷_, _++_}
-use Prim.Native.Nat.{ℕ, zero, suc, _+_, _-_, _*_, _%_, _/_, _^_, _≤_, _<_}
+use mathlib.Core.Path.{refl}
+use Prim.Native.Nat.{_-_, _≤_}
 use native.Mathlib.Omega.{arith}
-use borrow.Author.Needs.{needs}
-use lib.ListN.{length, getD, take, drop, set, replicate, length-set, length-take, length-drop, length-append, length-replicate}
 use Rattle.places.proofs.diagnostics_allow_incremental.Statement.{statement}
 use Rattle.places.proofs.diagnostics_allow_incremental.Tie as tie
 use Rattle.places.proofs.diagnostics_allow_incremental.Reads as reads

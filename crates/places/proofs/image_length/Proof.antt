@@ -1,10 +1,8 @@
 use Rattle.model.specs.Tape.{recordAt, operandsAt, nodeCodec}
 use Rattle.places.specs.Walk.{padding-small, image-of}
-use mathlib.Core.Path.{_≡_, refl, sym, ap, _∙_}
-use mathlib.Core.List.{List, [], _∷_, _++_}
-use Prim.Native.Nat.{ℕ, zero, suc, _+_, _-_, _*_, _%_, _/_, _^_, _≤_, _<_}
+use Prim.Native.Nat.{_+_}
 use native.Mathlib.Omega.{arith}
-use lib.ListN.{length, getD, take, drop, set, replicate, length-set, length-take, length-drop, length-append, length-replicate}
+use lib.ListN.{getD}
 use borrow.Author.Needs.{needs}
 use Rattle.places.proofs.image_length.Statement.{statement}
 use Rattle.places.proofs.image_length.Tie as tie

@@ -1,12 +1,9 @@
 use Rattle.model.specs.Tape.{recordAt, nodeCodec}
-use Rattle.places.specs.Walk.{Walked, walked-none, walked-more, walked-fails, walked-done, nodePlaced, image-small, placed-facts}
-use borrow.Author.Tests.{eq-eqb, ne-eqb, lt-ltb, le-ltb, le-leb, lt-leb, not-true, not-false}
-use mathlib.Core.Path.{_≡_, refl, sym, ap, _∙_}
-use mathlib.Core.List.{List, [], _∷_, _++_}
-use Prim.Native.Nat.{ℕ, zero, suc, _+_, _-_, _*_, _%_, _/_, _^_, _≤_, _<_}
+use Rattle.places.specs.Walk.{Walked, walked-none, walked-more, walked-fails, walked-done, image-small, placed-facts}
+use borrow.Author.Tests.{not-true, not-false}
+use mathlib.Core.Path.{sym, _∙_}
+use Prim.Native.Nat.{_+_, _-_, _*_}
 use native.Mathlib.Omega.{arith}
-use borrow.Author.Needs.{needs}
-use lib.ListN.{length, getD, take, drop, set, replicate, length-set, length-take, length-drop, length-append, length-replicate}
 use Rattle.places.proofs.nodes_placed.Statement.{statement}
 use Rattle.places.proofs.nodes_placed.Tie as tie
 use Rattle.places.proofs.nodes_placed.Reads as reads

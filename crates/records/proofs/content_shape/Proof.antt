@@ -1,13 +1,4 @@
 use Rattle.records.specs.Shapes.{content-plain, content-other}
-use mathlib.Core.Bool.{or-false}
-use Rattle.model.specs.Tape.{contentShape}
-use borrow.Author.Tests.{eq-eqb, ne-eqb, lt-ltb, le-ltb, le-leb, lt-leb}
-use mathlib.Core.Path.{_≡_, refl, sym, ap, _∙_}
-use mathlib.Core.List.{List, [], _∷_, _++_}
-use Prim.Native.Nat.{ℕ, zero, suc, _+_, _-_, _*_, _%_, _/_, _^_, _≤_, _<_}
-use native.Mathlib.Omega.{arith}
-use borrow.Author.Needs.{needs}
-use lib.ListN.{length, getD, take, drop, set, replicate, length-set, length-take, length-drop, length-append, length-replicate}
 use Rattle.records.proofs.content_shape.Statement.{statement}
 use Rattle.records.proofs.content_shape.Tie as tie
 use Rattle.records.proofs.content_shape.Reads as reads

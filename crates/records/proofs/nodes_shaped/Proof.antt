@@ -1,14 +1,10 @@
-use Rattle.model.specs.Tape.{nodeShape}
-use Rattle.model.specs.Tape.{nodeCodec}
+use Rattle.model.specs.Tape.{nodeShape, nodeCodec}
 use Rattle.wire.specs.Loops.{Passed, passed-none}
 use Rattle.records.specs.Runs.{testAt, run-more, run-failed, run-passed}
 use borrow.Author.Tests.{not-true, not-false}
-use mathlib.Core.Path.{_≡_, refl, sym, ap, _∙_}
-use mathlib.Core.List.{List, [], _∷_, _++_}
-use Prim.Native.Nat.{ℕ, zero, suc, _+_, _-_, _*_, _%_, _/_, _^_, _≤_, _<_}
+use mathlib.Core.Path.{refl}
+use Prim.Native.Nat.{_-_, _≤_}
 use native.Mathlib.Omega.{arith}
-use borrow.Author.Needs.{needs}
-use lib.ListN.{length, getD, take, drop, set, replicate, length-set, length-take, length-drop, length-append, length-replicate}
 use Rattle.records.proofs.nodes_shaped.Statement.{statement}
 use Rattle.records.proofs.nodes_shaped.Tie as tie
 use Rattle.records.proofs.nodes_shaped.Reads as reads

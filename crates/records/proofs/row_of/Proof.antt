@@ -1,9 +1,6 @@
-use Rattle.records.specs.Uses.{rows, variantOf, rowOf, variant-small, row-digit, row-below}
-use mathlib.Core.Path.{_≡_, refl, sym, ap, _∙_}
-use mathlib.Core.List.{List, [], _∷_, _++_}
-use Prim.Native.Nat.{ℕ, zero, suc, _+_, _-_, _*_, _%_, _/_, _^_, _≤_, _<_}
+use Rattle.records.specs.Uses.{rowOf, variant-small, row-digit, row-below}
+use mathlib.Core.Path.{refl}
 use native.Mathlib.Omega.{arith}
-use lib.ListN.{length, getD, take, drop, set, replicate, length-set, length-take, length-drop, length-append, length-replicate}
 use borrow.Author.Needs.{needs}
 use Rattle.records.proofs.row_of.Statement.{statement}
 use Rattle.records.proofs.row_of.Tie as tie

@@ -1,10 +1,6 @@
 use lib.ListN.{List·getD-eq-default}
 use Rattle.model.specs.Tape.{tagCounts}
-use mathlib.Core.Path.{_≡_, refl, sym, ap, _∙_}
-use mathlib.Core.List.{List, [], _∷_, _++_}
-use Prim.Native.Nat.{ℕ, zero, suc, _+_, _-_, _*_, _%_, _/_, _^_, _≤_, _<_}
-use native.Mathlib.Omega.{arith}
-use lib.ListN.{length, getD, take, drop, set, replicate, length-set, length-take, length-drop, length-append, length-replicate}
+use mathlib.Core.Path.{refl, sym}
 use borrow.Author.Needs.{needs}
 use Rattle.records.proofs.tag_count.Statement.{statement}
 use Rattle.records.proofs.tag_count.Tie as tie

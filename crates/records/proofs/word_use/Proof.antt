@@ -1,9 +1,6 @@
-use Rattle.records.specs.Uses.{uses, wordUse, rowOf, row-small, use-none, uses-right}
-use mathlib.Core.Path.{_≡_, refl, sym, ap, _∙_}
-use mathlib.Core.List.{List, [], _∷_, _++_}
-use Prim.Native.Nat.{ℕ, zero, suc, _+_, _-_, _*_, _%_, _/_, _^_, _≤_, _<_}
+use Rattle.records.specs.Uses.{row-small, use-none, uses-right}
+use mathlib.Core.Path.{sym}
 use native.Mathlib.Omega.{arith}
-use lib.ListN.{length, getD, take, drop, set, replicate, length-set, length-take, length-drop, length-append, length-replicate}
 use borrow.Author.Needs.{needs}
 use Rattle.records.proofs.word_use.Statement.{statement}
 use Rattle.records.proofs.word_use.Tie as tie

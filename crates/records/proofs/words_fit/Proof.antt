@@ -1,12 +1,11 @@
 use Rattle.model.specs.Tape.{unusedZero}
-use Rattle.records.specs.Uses.{fieldsFor, wordFits, fits-turn, fits-fails, fits-done}
-use borrow.Author.Tests.{eq-eqb, ne-eqb, lt-ltb, le-ltb, le-leb, lt-leb, not-true, not-false}
-use mathlib.Core.Path.{_≡_, refl, sym, ap, _∙_}
-use mathlib.Core.List.{List, [], _∷_, _++_}
-use Prim.Native.Nat.{ℕ, zero, suc, _+_, _-_, _*_, _%_, _/_, _^_, _≤_, _<_}
+use Rattle.records.specs.Uses.{fieldsFor, fits-turn, fits-fails, fits-done}
+use borrow.Author.Tests.{not-true, not-false}
+use mathlib.Core.Path.{_≡_, refl, sym, _∙_}
+use Prim.Native.Nat.{_-_, _≤_}
 use native.Mathlib.Omega.{arith}
 use borrow.Author.Needs.{needs}
-use lib.ListN.{length, getD, take, drop, set, replicate, length-set, length-take, length-drop, length-append, length-replicate}
+use lib.ListN.{length, drop}
 use Rattle.records.proofs.words_fit.Statement.{statement}
 use Rattle.records.proofs.words_fit.Tie as tie
 use Rattle.records.proofs.words_fit.Reads as reads
