@@ -1,10 +1,12 @@
 -- The structs of this crate as the records of crate model, and where a body's values stand.
-use Prim.Native.Nat.{ℕ, _+_}
+use Prim.Native.Nat.{ℕ, zero, suc, _+_, _*_, _<_}
+use native.Mathlib.Omega.{arith}
 use native.Mathlib.Nat.{add-assoc}
-use mathlib.Core.Path.{_≡_, _∙_}
+use mathlib.Core.Path.{_≡_, refl, ap, _∙_}
 use mathlib.Core.List.{List, [], _∷_}
 use Rattle.model.specs.Bytes.{byteAt, wordAt}
 use Rattle.model.specs.Types.{Body, Content, Segment, SourceNode, PairLink, ContainerPair, Diagnostic}
+use Rattle.model.specs.WellFormed.{wordOf}
 use Rattle.model.specs.Tape.{recordAt, operandsAt, segmentCodec, nodeCodec}
 use Rattle.records.specs.declared.Body.{Body as BodyRead}
 use Rattle.records.specs.declared.Content.{Content as ContentRead}
@@ -54,6 +56,20 @@ bodyAt t p = record {
   plain2 = wordAt t (p + 6);
   words = wordAt t (p + 10) ∷ wordAt t (p + 14) ∷ wordAt t (p + 18) ∷ wordAt t (p + 22) ∷ wordAt t (p + 26) ∷ wordAt t (p + 30) ∷ [];
 }
+
+same-place : (p m n : ℕ) → 10 + m ≡ n → p + 10 + m ≡ p + n
+same-place p m n e = omega (arith, e)
+
+-- where its words stand
+pub word-place : (t : List ℕ) (p i : ℕ) → i < 6 → wordAt t (p + 10 + 4 * i) ≡ wordOf (bodyAt t p) i
+unfolding bodyAt
+word-place t p zero h = ap (wordAt t) (same-place p 0 10 refl)
+word-place t p (suc zero) h = ap (wordAt t) (same-place p 4 14 refl)
+word-place t p (suc (suc zero)) h = ap (wordAt t) (same-place p 8 18 refl)
+word-place t p (suc (suc (suc zero))) h = ap (wordAt t) (same-place p 12 22 refl)
+word-place t p (suc (suc (suc (suc zero)))) h = ap (wordAt t) (same-place p 16 26 refl)
+word-place t p (suc (suc (suc (suc (suc zero))))) h = ap (wordAt t) (same-place p 20 30 refl)
+word-place t p (suc (suc (suc (suc (suc (suc i)))))) h = absurd (omega arith)
 
 pub segment-body : (t : List ℕ) (p : ℕ) → bodyAt t (p + 3) ≡ recordAt segmentCodec t p .body
 unfolding bodyAt recordAt operandsAt segmentCodec

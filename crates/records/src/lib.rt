@@ -3,13 +3,15 @@
 // A `requires` says only that the record, or the run, lies inside the tape. A result is an equation with the definition of
 // crate model, over the record that model reads at the place.
 ghost use mathlib.Core.Path.{_≡_};
-ghost use mathlib.Core.List.{[]};
 ghost use Prim.Native.Nat.{_+_, _*_, _≤_, _<_};
 ghost use lib.ListN.{length, getD};
-ghost use Rattle.model.specs.Tape.{recordAt, recordsAt, contentCodec, segmentCodec, nodeCodec, pairCodec, containerCodec, diagnosticCodec};
-ghost use Rattle.records.specs.Values.{bodyOf, contentOf, segmentOf, sourceNodeOf, pairLinkOf, containerPairOf, diagnosticOf, bodyAt};
-ghost use Rattle.model.specs.Tape.{tagCounts, unusedZero, bodyShape, contentShape, segmentShape, nodeShape, pairShape, diagnosticShape};
 ghost use Rattle.model.specs.Lists.{all};
+ghost use Rattle.model.specs.Tape.{recordAt, recordsAt, tagCounts, unusedZero, bodyShape};
+ghost use Rattle.model.specs.Tape.{contentCodec, segmentCodec, nodeCodec, pairCodec, containerCodec, diagnosticCodec};
+ghost use Rattle.model.specs.Tape.{contentShape, segmentShape, nodeShape, pairShape, diagnosticShape};
+ghost use Rattle.model.specs.WellFormed.{wordOf};
+ghost use Rattle.records.specs.Values.{bodyOf, contentOf, segmentOf, sourceNodeOf, pairLinkOf, containerPairOf, diagnosticOf};
+ghost use Rattle.records.specs.Values.{bodyAt};
 ghost use Rattle.records.specs.Uses.{variantOf, rowOf, wordUse, fieldsFor, wordFits};
 ghost use Rattle.records.specs.Shapes.{segmentHead, nodeHead};
 
@@ -85,6 +87,14 @@ pub fn body_at(tape: &[u8], at: usize) -> Body
         plain2: wire::u32_at(tape, at + 6),
         words: words,
     }
+}
+
+// One word of that body.
+pub fn body_word(tape: &[u8], at: usize, i: usize) -> u32
+    requires { ⌜ (at + 34 ≤ length (now tape)) × (i < 6) ⌝ }
+    ensures { λ r. ⌜ r ≡ wordOf (bodyAt (now (tape .entry)) at) i ⌝ }
+{
+    wire::u32_at(tape, at + 10 + 4 * i)
 }
 
 pub fn content_at(tape: &[u8], at: usize) -> Content
