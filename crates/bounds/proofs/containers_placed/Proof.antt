@@ -1,0 +1,73 @@
+use Rattle.model.specs.WellFormed.{containerOk}
+use Rattle.model.specs.Tape.{containerCodec}
+use Rattle.wire.specs.Loops.{Passed, passed-none}
+use Rattle.records.specs.Runs.{testAt, run-more, run-failed, run-passed}
+use borrow.Author.Tests.{not-true, not-false}
+use mathlib.Core.Path.{refl}
+use Prim.Native.Nat.{_-_, _≤_}
+use native.Mathlib.Omega.{arith}
+use Rattle.bounds.proofs.containers_placed.Statement.{statement}
+use Rattle.bounds.proofs.containers_placed.Tie as tie
+use Rattle.bounds.proofs.containers_placed.Reads as reads
+use Rattle.bounds.proofs.containers_placed.Lts as lts
+use Rattle.bounds.proofs.container_placed.Reads as container-placed-reads
+
+abbrev Inv-loop : tie.InvT-loop
+Inv-loop tape at count size i₀ i = (i ≤ count) × Passed (testAt containerCodec (containerOk size) tape at) i
+
+abbrev μ-loop : tie.MeasureT-loop
+μ-loop tape at count size i₀ i = count - i
+
+-- src/lib.rt:89:5
+loop-holds : tie.Need-loop-holds Inv-loop μ-loop
+loop-holds c = (omega arith, passed-none _)
+
+-- src/lib.rt:90:41
+mul-container-placed : tie.Need-mul-container-placed Inv-loop μ-loop
+mul-container-placed c = omega arith
+
+-- src/lib.rt:90:36
+add-container-placed : tie.Need-add-container-placed Inv-loop μ-loop
+add-container-placed c = omega arith
+
+-- src/lib.rt:90:13
+container-placed-requires : tie.Need-container-placed-requires Inv-loop μ-loop
+container-placed-requires c κs = omega arith
+
+-- src/lib.rt:91:13
+returns : tie.Need-returns Inv-loop μ-loop
+unfolding containerCodec
+returns c = run-failed containerCodec (containerOk (c .before .before .before .before .before .args .size)) (c .before .before .before .before .before .args .tape .now) (c .before .before .before .before .before .args .at) (c .before .before .before .loop .i) _ refl _ (c .before .container-placed .ensures) _ (c .before .before .loop-test .taken) (not-true _ (c .if1 .taken))
+
+-- src/lib.rt:93:9
+add-i : tie.Need-add-i Inv-loop μ-loop
+add-i c = omega arith
+
+-- src/lib.rt:89:5
+loop-less : tie.Need-loop-less Inv-loop μ-loop
+loop-less c = omega arith
+
+-- src/lib.rt:89:5
+loop-again : tie.Need-loop-again Inv-loop μ-loop
+unfolding containerCodec
+loop-again c = (omega arith, run-more containerCodec (containerOk (c .before .before .before .before .before .args .size)) (c .before .before .before .before .before .args .tape .now) (c .before .before .before .before .before .args .at) (c .before .before .before .loop .i) _ refl _ (c .before .container-placed .ensures) (not-false _ (c .if1 .left)) (c .before .before .before .loop .inv .1))
+
+-- src/lib.rt:84:1
+returns-2 : tie.Need-returns-2 Inv-loop μ-loop
+returns-2 c = run-passed containerCodec (containerOk (c .before .before .before .args .size)) (c .before .before .before .args .tape .now) (c .before .before .before .args .at) _ (c .before .loop .i) (omega arith) (c .before .loop .inv .1)
+
+pub containers-placed-spec : {M : Type 1} → statement M
+containers-placed-spec =
+    tie.close
+    (tie.spec
+    Inv-loop
+    μ-loop
+    loop-holds
+    mul-container-placed
+    add-container-placed
+    container-placed-requires
+    returns
+    add-i
+    loop-less
+    loop-again
+    returns-2)

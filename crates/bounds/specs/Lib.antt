@@ -1,0 +1,3 @@
+pub mod Spans
+pub mod Walk
+pub mod Search

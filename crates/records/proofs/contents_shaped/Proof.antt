@@ -1,0 +1,72 @@
+use Rattle.model.specs.Tape.{contentShape, contentCodec}
+use Rattle.wire.specs.Loops.{Passed, passed-none}
+use Rattle.records.specs.Runs.{testAt, run-more, run-failed, run-passed}
+use borrow.Author.Tests.{not-true, not-false}
+use mathlib.Core.Path.{refl}
+use Prim.Native.Nat.{_-_, _≤_}
+use native.Mathlib.Omega.{arith}
+use Rattle.records.proofs.contents_shaped.Statement.{statement}
+use Rattle.records.proofs.contents_shaped.Tie as tie
+use Rattle.records.proofs.contents_shaped.Reads as reads
+use Rattle.records.proofs.contents_shaped.Lts as lts
+use Rattle.records.proofs.content_shaped.Reads as content-shaped-reads
+
+abbrev Inv-loop : tie.InvT-loop
+Inv-loop tape at count i₀ i = (i ≤ count) × Passed (testAt contentCodec contentShape tape at) i
+
+abbrev μ-loop : tie.MeasureT-loop
+μ-loop tape at count i₀ i = count - i
+
+-- src/lib.rt:348:5
+loop-holds : tie.Need-loop-holds Inv-loop μ-loop
+loop-holds c = (omega arith, passed-none _)
+
+-- src/lib.rt:349:39
+mul-content-shaped : tie.Need-mul-content-shaped Inv-loop μ-loop
+mul-content-shaped c = omega arith
+
+-- src/lib.rt:349:34
+add-content-shaped : tie.Need-add-content-shaped Inv-loop μ-loop
+add-content-shaped c = omega arith
+
+-- src/lib.rt:349:13
+content-shaped-requires : tie.Need-content-shaped-requires Inv-loop μ-loop
+content-shaped-requires c κs = omega arith
+
+-- src/lib.rt:350:13
+returns : tie.Need-returns Inv-loop μ-loop
+unfolding contentCodec
+returns c = run-failed contentCodec contentShape (c .before .before .before .before .before .args .tape .now) (c .before .before .before .before .before .args .at) (c .before .before .before .loop .i) _ refl _ (c .before .content-shaped .ensures) _ (c .before .before .loop-test .taken) (not-true _ (c .if1 .taken))
+
+-- src/lib.rt:352:9
+add-i : tie.Need-add-i Inv-loop μ-loop
+add-i c = omega arith
+
+-- src/lib.rt:348:5
+loop-less : tie.Need-loop-less Inv-loop μ-loop
+loop-less c = omega arith
+
+-- src/lib.rt:348:5
+loop-again : tie.Need-loop-again Inv-loop μ-loop
+unfolding contentCodec
+loop-again c = (omega arith, run-more contentCodec contentShape (c .before .before .before .before .before .args .tape .now) (c .before .before .before .before .before .args .at) (c .before .before .before .loop .i) _ refl _ (c .before .content-shaped .ensures) (not-false _ (c .if1 .left)) (c .before .before .before .loop .inv .1))
+
+-- src/lib.rt:343:1
+returns-2 : tie.Need-returns-2 Inv-loop μ-loop
+returns-2 c = run-passed contentCodec contentShape (c .before .before .before .args .tape .now) (c .before .before .before .args .at) _ (c .before .loop .i) (omega arith) (c .before .loop .inv .1)
+
+pub contents-shaped-spec : {M : Type 1} → statement M
+contents-shaped-spec =
+    tie.close
+    (tie.spec
+    Inv-loop
+    μ-loop
+    loop-holds
+    mul-content-shaped
+    add-content-shaped
+    content-shaped-requires
+    returns
+    add-i
+    loop-less
+    loop-again
+    returns-2)

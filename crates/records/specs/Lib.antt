@@ -1,0 +1,6 @@
+pub mod Values
+pub mod Table
+pub mod Uses
+pub mod Shapes
+pub mod Words
+pub mod Runs
