@@ -383,3 +383,13 @@ module _ (t d : List ℕ) (s : Tally) (l : ListRuns) (e : s ≡ tallied t (lengt
   pub places-fault : (p : Places) → p ≡ noPlaces → frameHolds t s (l .end) (length d) ≡ false → p ≡ placesOf t d
   unfolding placesOf
   places-fault p g h = rw (sym frame-is ∙ h) g
+
+-- what the walk's parts may ask of each other
+pub walk-near : (t : List ℕ) (room : ℕ) (s : Tally) → s ≡ tallied t room → s .end ≤ length t + 36
+walk-near t room s e = rw e (tallied-near t room)
+
+pub walk-bytes : (t : List ℕ) (room : ℕ) (s : Tally) → s ≡ tallied t room → s .bytes ≤ room + 1
+walk-bytes t room s e = rw e (tallied-bytes t room)
+
+pub walk-lists : (t : List ℕ) (room : ℕ) (s : Tally) (l : ListRuns) → s ≡ tallied t room → l ≡ listRuns t (s .end) → l .end ≤ length t + 48
+walk-lists t room s l e f = rw f (lists-near t (s .end) (walk-near t room s e))

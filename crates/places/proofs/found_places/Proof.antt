@@ -1,3 +1,8 @@
+use mathlib.Core.Path.{_≡_, refl, sym, ap, _∙_}
+use mathlib.Core.List.{List, [], _∷_, _++_}
+use Prim.Native.Nat.{ℕ, zero, suc, _+_, _-_, _*_, _%_, _/_, _^_, _≤_, _<_}
+use native.Mathlib.Omega.{arith}
+use lib.ListN.{length, getD, take, drop, set, replicate, length-set, length-take, length-drop, length-append, length-replicate}
 use borrow.Author.Needs.{needs}
 use Rattle.places.proofs.found_places.Statement.{statement}
 use Rattle.places.proofs.found_places.Tie as tie
@@ -15,7 +20,7 @@ u32-or-zero-requires-2 c κs = search needs
 
 -- src/lib.rt:227:1
 returns : tie.Need-returns
-returns c = ?
+returns c = rw (c .before .u32-or-zero .ensures, c .u32-or-zero2 .ensures) refl
 
 pub found-places-spec : {M : Type 1} → statement M
 found-places-spec = tie.close (tie.spec u32-or-zero-requires u32-or-zero-requires-2 returns)

@@ -1,3 +1,9 @@
+use Rattle.places.specs.Found.{frame-head, frame-tail, frame-behind, frame-layers, frame-bytes}
+use mathlib.Core.Path.{_≡_, refl, sym, ap, _∙_}
+use mathlib.Core.List.{List, [], _∷_, _++_}
+use Prim.Native.Nat.{ℕ, zero, suc, _+_, _-_, _*_, _%_, _/_, _^_, _≤_, _<_}
+use native.Mathlib.Omega.{arith}
+use lib.ListN.{length, getD, take, drop, set, replicate, length-set, length-take, length-drop, length-append, length-replicate}
 use borrow.Author.Needs.{needs}
 use Rattle.places.proofs.frame_holds.Statement.{statement}
 use Rattle.places.proofs.frame_holds.Tie as tie
@@ -12,7 +18,7 @@ byte-at-requires c κs = search needs
 
 -- src/lib.rt:191:9
 returns : tie.Need-returns
-returns c = ?
+returns c = frame-head _ _ _ _ _ (c .before .byte-at .ensures) (c .if1 .taken)
 
 -- src/lib.rt:193:8
 byte-at-requires-2 : tie.Need-byte-at-requires-2
@@ -20,7 +26,7 @@ byte-at-requires-2 c κs = search needs
 
 -- src/lib.rt:194:9
 returns-2 : tie.Need-returns-2
-returns-2 c = ?
+returns-2 c = frame-tail _ _ _ _ _ (c .before .byte-at2 .ensures) (c .if2 .taken)
 
 -- src/lib.rt:196:22
 add-if3 : tie.Need-add-if3
@@ -28,11 +34,11 @@ add-if3 c = search needs
 
 -- src/lib.rt:197:9
 returns-3 : tie.Need-returns-3
-returns-3 c = ?
+returns-3 c = frame-behind _ _ _ _ (c .if3 .taken)
 
 -- src/lib.rt:200:9
 returns-4 : tie.Need-returns-4
-returns-4 c = ?
+returns-4 c = frame-layers _ _ _ _ (c .if4 .taken)
 
 -- src/lib.rt:202:16
 u32-or-zero-requires : tie.Need-u32-or-zero-requires
@@ -60,7 +66,7 @@ add-result-2 c = search needs
 
 -- src/lib.rt:186:1
 returns-5 : tie.Need-returns-5
-returns-5 c = ?
+returns-5 c = frame-bytes _ _ _ _ _ _ _ _ (c .before .before .before .before .before .before .before .before .before .byte-at .ensures) (c .before .before .before .before .before .before .before .before .if1 .left) (c .before .before .before .before .before .before .before .byte-at2 .ensures) (c .before .before .before .before .before .before .if2 .left) (c .before .before .before .before .before .if3 .left) (c .before .before .before .if4 .left) (c .before .before .u32-or-zero .ensures) (c .before .u32-or-zero2 .ensures)
 
 pub frame-holds-spec : {M : Type 1} → statement M
 frame-holds-spec =

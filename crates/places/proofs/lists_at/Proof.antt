@@ -1,3 +1,11 @@
+use Rattle.model.specs.Tape.{countAt, nodeCodec, pairCodec, containerCodec, diagnosticCodec}
+use Rattle.places.specs.Found.{listRuns}
+use Rattle.places.specs.Runs.{reached}
+use mathlib.Core.Path.{_≡_, refl, sym, ap, _∙_}
+use mathlib.Core.List.{List, [], _∷_, _++_}
+use Prim.Native.Nat.{ℕ, zero, suc, _+_, _-_, _*_, _%_, _/_, _^_, _≤_, _<_}
+use native.Mathlib.Omega.{arith}
+use lib.ListN.{length, getD, take, drop, set, replicate, length-set, length-take, length-drop, length-append, length-replicate}
 use borrow.Author.Needs.{needs}
 use Rattle.places.proofs.lists_at.Statement.{statement}
 use Rattle.places.proofs.lists_at.Tie as tie
@@ -11,11 +19,11 @@ count-at-requires c κs = search needs
 
 -- src/lib.rt:170:25
 mul-pairs-at : tie.Need-mul-pairs-at
-mul-pairs-at c = ?
+mul-pairs-at c = let a = reached 6 49 (c .before .before .args .tape .now) (c .before .before .args .at) (length (c .before .before .args .tape .now) + 48) (c .count-at .result) (c .count-at .ensures) (omega arith) (omega arith) (omega arith) in omega arith
 
 -- src/lib.rt:170:20
 add-pairs-at : tie.Need-add-pairs-at
-add-pairs-at c = ?
+add-pairs-at c = let a = reached 6 49 (c .before .before .args .tape .now) (c .before .before .args .at) (length (c .before .before .args .tape .now) + 48) (c .count-at .result) (c .count-at .ensures) (omega arith) (omega arith) (omega arith) in omega arith
 
 -- src/lib.rt:171:9
 count-at-requires-2 : tie.Need-count-at-requires-2
@@ -23,11 +31,11 @@ count-at-requires-2 c κs = search needs
 
 -- src/lib.rt:172:36
 mul-containers-at : tie.Need-mul-containers-at
-mul-containers-at c = ?
+mul-containers-at c = let a = reached 6 49 (c .before .before .before .args .tape .now) (c .before .before .before .args .at) (length (c .before .before .before .args .tape .now) + 48) (c .before .count-at .result) (c .before .count-at .ensures) (omega arith) (omega arith) (omega arith) in let b = reached 7 18 (c .before .before .before .args .tape .now) (c .before .before .before .args .at + 49 * c .before .count-at .result) (length (c .before .before .before .args .tape .now) + 48) (c .count-at2 .result) (c .count-at2 .ensures) (omega arith) a (omega arith) in omega arith
 
 -- src/lib.rt:172:25
 add-containers-at : tie.Need-add-containers-at
-add-containers-at c = ?
+add-containers-at c = let a = reached 6 49 (c .before .before .before .args .tape .now) (c .before .before .before .args .at) (length (c .before .before .before .args .tape .now) + 48) (c .before .count-at .result) (c .before .count-at .ensures) (omega arith) (omega arith) (omega arith) in let b = reached 7 18 (c .before .before .before .args .tape .now) (c .before .before .before .args .at + 49 * c .before .count-at .result) (length (c .before .before .before .args .tape .now) + 48) (c .count-at2 .result) (c .count-at2 .ensures) (omega arith) a (omega arith) in omega arith
 
 -- src/lib.rt:173:9
 count-at-requires-3 : tie.Need-count-at-requires-3
@@ -35,11 +43,11 @@ count-at-requires-3 c κs = search needs
 
 -- src/lib.rt:174:42
 mul-diagnostics-at : tie.Need-mul-diagnostics-at
-mul-diagnostics-at c = ?
+mul-diagnostics-at c = let a = reached 6 49 (c .before .before .before .before .args .tape .now) (c .before .before .before .before .args .at) (length (c .before .before .before .before .args .tape .now) + 48) (c .before .before .count-at .result) (c .before .before .count-at .ensures) (omega arith) (omega arith) (omega arith) in let b = reached 7 18 (c .before .before .before .before .args .tape .now) (c .before .before .before .before .args .at + 49 * c .before .before .count-at .result) (length (c .before .before .before .before .args .tape .now) + 48) (c .before .count-at2 .result) (c .before .count-at2 .ensures) (omega arith) a (omega arith) in let g = reached 8 13 (c .before .before .before .before .args .tape .now) (c .before .before .before .before .args .at + 49 * c .before .before .count-at .result + 18 * c .before .count-at2 .result) (length (c .before .before .before .before .args .tape .now) + 48) (c .count-at3 .result) (c .count-at3 .ensures) (omega arith) b (omega arith) in omega arith
 
 -- src/lib.rt:174:26
 add-diagnostics-at : tie.Need-add-diagnostics-at
-add-diagnostics-at c = ?
+add-diagnostics-at c = let a = reached 6 49 (c .before .before .before .before .args .tape .now) (c .before .before .before .before .args .at) (length (c .before .before .before .before .args .tape .now) + 48) (c .before .before .count-at .result) (c .before .before .count-at .ensures) (omega arith) (omega arith) (omega arith) in let b = reached 7 18 (c .before .before .before .before .args .tape .now) (c .before .before .before .before .args .at + 49 * c .before .before .count-at .result) (length (c .before .before .before .before .args .tape .now) + 48) (c .before .count-at2 .result) (c .before .count-at2 .ensures) (omega arith) a (omega arith) in let g = reached 8 13 (c .before .before .before .before .args .tape .now) (c .before .before .before .before .args .at + 49 * c .before .before .count-at .result + 18 * c .before .count-at2 .result) (length (c .before .before .before .before .args .tape .now) + 48) (c .count-at3 .result) (c .count-at3 .ensures) (omega arith) b (omega arith) in omega arith
 
 -- src/lib.rt:175:9
 count-at-requires-4 : tie.Need-count-at-requires-4
@@ -47,15 +55,16 @@ count-at-requires-4 c κs = search needs
 
 -- src/lib.rt:181:31
 mul-t10 : tie.Need-mul-t10
-mul-t10 c = ?
+mul-t10 c = let a = reached 6 49 (c .before .before .before .before .before .args .tape .now) (c .before .before .before .before .before .args .at) (length (c .before .before .before .before .before .args .tape .now) + 48) (c .before .before .before .count-at .result) (c .before .before .before .count-at .ensures) (omega arith) (omega arith) (omega arith) in let b = reached 7 18 (c .before .before .before .before .before .args .tape .now) (c .before .before .before .before .before .args .at + 49 * c .before .before .before .count-at .result) (length (c .before .before .before .before .before .args .tape .now) + 48) (c .before .before .count-at2 .result) (c .before .before .count-at2 .ensures) (omega arith) a (omega arith) in let g = reached 8 13 (c .before .before .before .before .before .args .tape .now) (c .before .before .before .before .before .args .at + 49 * c .before .before .before .count-at .result + 18 * c .before .before .count-at2 .result) (length (c .before .before .before .before .before .args .tape .now) + 48) (c .before .count-at3 .result) (c .before .count-at3 .ensures) (omega arith) b (omega arith) in let k = reached 9 18 (c .before .before .before .before .before .args .tape .now) (c .before .before .before .before .before .args .at + 49 * c .before .before .before .count-at .result + 18 * c .before .before .count-at2 .result + 13 * c .before .count-at3 .result) (length (c .before .before .before .before .before .args .tape .now) + 48) (c .count-at4 .result) (c .count-at4 .ensures) (omega arith) g (omega arith) in omega arith
 
 -- src/lib.rt:181:14
 add-t15 : tie.Need-add-t15
-add-t15 c = ?
+add-t15 c = let a = reached 6 49 (c .before .before .before .before .before .args .tape .now) (c .before .before .before .before .before .args .at) (length (c .before .before .before .before .before .args .tape .now) + 48) (c .before .before .before .count-at .result) (c .before .before .before .count-at .ensures) (omega arith) (omega arith) (omega arith) in let b = reached 7 18 (c .before .before .before .before .before .args .tape .now) (c .before .before .before .before .before .args .at + 49 * c .before .before .before .count-at .result) (length (c .before .before .before .before .before .args .tape .now) + 48) (c .before .before .count-at2 .result) (c .before .before .count-at2 .ensures) (omega arith) a (omega arith) in let g = reached 8 13 (c .before .before .before .before .before .args .tape .now) (c .before .before .before .before .before .args .at + 49 * c .before .before .before .count-at .result + 18 * c .before .before .count-at2 .result) (length (c .before .before .before .before .before .args .tape .now) + 48) (c .before .count-at3 .result) (c .before .count-at3 .ensures) (omega arith) b (omega arith) in let k = reached 9 18 (c .before .before .before .before .before .args .tape .now) (c .before .before .before .before .before .args .at + 49 * c .before .before .before .count-at .result + 18 * c .before .before .count-at2 .result + 13 * c .before .count-at3 .result) (length (c .before .before .before .before .before .args .tape .now) + 48) (c .count-at4 .result) (c .count-at4 .ensures) (omega arith) g (omega arith) in omega arith
 
 -- src/lib.rt:165:1
 returns : tie.Need-returns
-returns c = ?
+unfolding listRuns countAt nodeCodec pairCodec containerCodec diagnosticCodec
+returns c = rw (c .count-at4 .ensures, c .before .count-at3 .ensures, c .before .before .count-at2 .ensures, c .before .before .before .count-at .ensures) refl
 
 pub lists-at-spec : {M : Type 1} → statement M
 lists-at-spec =
