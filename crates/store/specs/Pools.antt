@@ -49,6 +49,25 @@ module _ (starts : List ℕ) (k i : ℕ) (h : 0 < k) where
   unfolding layerOf
   layer-below e = let q : k ≡ suc (k - 1) = omega arith in ap (λ (n : ℕ). layerOf starts n i) q ∙ rw (lt-leb (getD starts (k - 1) 0) i e) refl
 
+pub layer-none : (starts : List ℕ) (k i : ℕ) → k ≡ 0 → layerOf starts k i ≡ 0
+unfolding layerOf
+layer-none starts k i e = rw e refl
+
+-- ---- the returns of `range_ok`, whose a, b and g are start, len and total
+
+module _ (starts : List ℕ) (layers total start len a b g : ℕ) (e : a ≡ start) (f : b ≡ len) (h : g ≡ total) where
+  pub range-over : g < a + b → false ≡ rangeIn starts layers total start len
+  unfolding rangeIn
+  range-over l = rw (lt-leb (start + len) total (omega (arith, l, e, f, h))) refl
+
+  pub range-empty : a + b ≤ g → len ≡ 0 → true ≡ rangeIn starts layers total start len
+  unfolding rangeIn
+  range-empty l z = rw (le-leb (start + len) total (omega (arith, l, e, f, h)), eq-eqb len 0 z) refl
+
+  pub range-one : (r : Bool) → a + b ≤ g → (len ≡ 0 → ⊥) → r ≡ inOne starts layers total a (a + b) → r ≡ rangeIn starts layers total start len
+  unfolding rangeIn
+  range-one r l z q = rw (le-leb (start + len) total (omega (arith, l, e, f, h)), ne-eqb len 0 z, ← e, ← f) q
+
 -- ---- the counts that starts stand for
 
 -- the starts of layers with these counts, and zeros

@@ -6,7 +6,7 @@ ghost use mathlib.Core.Path.{_≡_};
 ghost use Prim.Native.Nat.{_+_, _^_, _≤_, _<_};
 ghost use lib.Dec.{ltb};
 ghost use Rattle.store.specs.Pools.{startOr, inLayer, inOne, rangeIn, layerOf};
-//ghost use Rattle.store.specs.Stored.{StoreFits, addRuns, storeAt};
+ghost use Rattle.store.specs.Stored.{StoreFits, addRuns, storeAt};
 //ghost use Rattle.store.specs.Standing.{stringPlace, contentPlace, segmentPlace};
 
 // How many strings, contents and segments all layers hold.
@@ -101,4 +101,48 @@ pub fn layer_of(starts: &[u32; 32], layers: usize, i: u32) -> usize
         }
     }
     0
+}
+
+fn with_layer(a: Totals, l: places::LayerRuns) -> Totals
+    requires { ⌜ (a .strings + l .strings .count < 2 ^ 32) × (a .contents + l .contents .count < 2 ^ 32) × (a .segments + l .segments .count < 2 ^ 32) ⌝ }
+    ensures { λ r. ⌜ r ≡ addRuns a l ⌝ }
+{
+    Totals {
+        strings: a.strings + l.strings.count as u32,
+        contents: a.contents + l.contents.count as u32,
+        segments: a.segments + l.segments.count as u32,
+    }
+}
+
+// Section 3. The store of a tape's layers, at most 32.
+pub fn store_of(tape: &[u8], layers: usize) -> Store
+    requires { ⌜ StoreFits (now tape) layers ⌝ }
+    ensures { λ r. ⌜ r ≡ storeAt (now (tape .entry)) ⌝ }
+{
+    let mut strings = [0u32; 32];
+    let mut contents = [0u32; 32];
+    let mut segments = [0u32; 32];
+    let mut totals = Totals {
+        strings: 0,
+        contents: 0,
+        segments: 0,
+    };
+    let mut at = 9;
+    let mut i = 0;
+    while i < layers {
+        let l = places::next_layer(tape, at);
+        strings[i] = totals.strings;
+        contents[i] = totals.contents;
+        segments[i] = totals.segments;
+        totals = with_layer(totals, l);
+        at = l.end;
+        i += 1;
+    }
+    Store {
+        layers: layers,
+        strings: strings,
+        contents: contents,
+        segments: segments,
+        totals: totals,
+    }
 }

@@ -1,3 +1,10 @@
+use Rattle.store.specs.Pools.{inLayer}
+use borrow.Author.Tests.{le-leb, lt-leb}
+use mathlib.Core.Path.{_≡_, refl, sym, ap, _∙_}
+use mathlib.Core.List.{List, [], _∷_, _++_}
+use Prim.Native.Nat.{ℕ, zero, suc, _+_, _-_, _*_, _%_, _/_, _^_, _≤_, _<_}
+use native.Mathlib.Omega.{arith}
+use lib.ListN.{length, getD, take, drop, set, replicate, length-set, length-take, length-drop, length-append, length-replicate}
 use borrow.Author.Needs.{needs}
 use Rattle.store.proofs.in_layer.Statement.{statement}
 use Rattle.store.proofs.in_layer.Tie as tie
@@ -20,7 +27,8 @@ wide-requires c κs = search needs
 
 -- src/lib.rt:50:9
 returns : tie.Need-returns
-returns c = ?
+unfolding inLayer
+returns c = simp (sym (c .before .wide .ensures), lt-leb _ _ (c .if1 .taken))
 
 -- src/lib.rt:52:44
 add-start-or : tie.Need-add-start-or
@@ -32,7 +40,8 @@ start-or-requires c κs = search needs
 
 -- src/lib.rt:45:1
 returns-2 : tie.Need-returns-2
-returns-2 c = ?
+unfolding inLayer
+returns-2 c = simp (sym (c .before .before .wide .ensures), le-leb _ _ (c .before .if1 .left), c .start-or .ensures)
 
 pub in-layer-spec : {M : Type 1} → statement M
 in-layer-spec =
