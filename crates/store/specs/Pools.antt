@@ -49,6 +49,15 @@ module _ (starts : List ℕ) (k i : ℕ) (h : 0 < k) where
   unfolding layerOf
   layer-below e = let q : k ≡ suc (k - 1) = omega arith in ap (λ (n : ℕ). layerOf starts n i) q ∙ rw (lt-leb (getD starts (k - 1) 0) i e) refl
 
+pub layer-few : (starts : List ℕ) (n i : ℕ) → layerOf starts n i ≤ n
+unfolding layerOf
+layer-few starts zero i = omega arith
+layer-few starts (suc n) i = go (layer-few starts n i) (leb (getD starts n 0) i)
+  where
+    go : layerOf starts n i ≤ n → (x : Bool) → cond x n (layerOf starts n i) ≤ suc n
+    go m true = omega arith
+    go m false = omega arith
+
 pub layer-none : (starts : List ℕ) (k i : ℕ) → k ≡ 0 → layerOf starts k i ≡ 0
 unfolding layerOf
 layer-none starts k i e = rw e refl
@@ -91,6 +100,9 @@ before-mono (n ∷ ns) (suc i) (suc j) h = let m = before-mono ns i j (omega ari
 
 pub before-all : (counts : List ℕ) (i : ℕ) → length counts ≤ i → before counts i ≡ sum counts
 before-all counts i h = ap sum (take-all i counts h)
+
+pub before-most : (counts : List ℕ) (i : ℕ) → before counts i ≤ sum counts
+before-most counts i = let m = before-mono counts i (i + length counts) (omega arith) in omega (arith, m, before-all counts (i + length counts) (omega arith))
 
 pub before-next : (counts : List ℕ) (i : ℕ) → before counts (suc i) ≡ before counts i + getD counts i 0
 before-next [] zero = refl

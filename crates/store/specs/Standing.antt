@@ -4,22 +4,23 @@ use Prim.Native.Nat.{ℕ, zero, suc, _+_, _-_, _*_, _≤_, _<_}
 use native.Mathlib.Omega.{arith}
 use native.Mathlib.Numerals.{add-one}
 use native.Mathlib.Nat.{add-zero, zero-add, mul-add, mul-zero, add-assoc}
-use mathlib.Core.Bool.{Bool, true, false, cond, _&&_, _||_}
+use mathlib.Core.Bool.{Bool, true, false, cond, not, _&&_, _||_, false≢true}
 use mathlib.Core.List.{List, [], _∷_, _++_, map, flatten}
 use mathlib.Core.Logic.{⊎-elim}
 use lib.ListN.{length, getD, take, drop, length-append, length-drop, List·getD-map}
 use lib.Seq.{take-append-le, drop-append-le, drop-append-add, getD-take, getD-drop, drop-drop, length-take-le}
 use lib.Dec.{leb, eqb}
 use borrow.Author.Tests.{leb-true, eqb-true}
-use Rattle.model.specs.Lists.{sum, tabulate}
+use Rattle.model.specs.Lists.{sum, tabulate, isEmpty}
+use Rattle.model.specs.Bytes.{byteAt}
 use Rattle.model.specs.Types.{Content, Segment, Layer}
 use Rattle.model.specs.Store.{storeOf, stringCounts, contentCounts, segmentCounts, inOneLayer, rangeOk, resolveContentRange, resolveSegRange}
 use Rattle.model.specs.Tape.{Codec, recordSize, recordAt, recordsAt, countAt, stringCodec, contentCodec, segmentCodec}
-use Rattle.model.specs.Tape.{LayerPlaces, layerPlaces, layersFrom, places, stringLengths, pieces, layerAt, layersAt}
+use Rattle.model.specs.Tape.{LayerPlaces, layerPlaces, layersFrom, layersEnd, places, framed, bytesNeeded, stringLengths, pieces, layerAt, layersAt}
 use Rattle.laws.specs.Lists.{both, either}
 use Rattle.laws.specs.RoundTrip.{layer-end, stringBytes}
-use Rattle.places.specs.Found.{stringsIn, contentsIn, segmentsIn}
-use Rattle.store.specs.Pools.{Pool, Held, startOr, layerOf, before, before-next, before-all, pool-start-or, pool-held, held-one}
+use Rattle.places.specs.Found.{stringsIn, contentsIn, segmentsIn, holds}
+use Rattle.store.specs.Pools.{Pool, Held, startOr, layerOf, before, before-next, before-all, before-most, pool-start-or, pool-held, held-one}
 use Rattle.store.specs.Stored.{storeAt, layers-cons, length-counts}
 use Rattle.store.specs.declared.Store.{Store}
 
@@ -150,3 +151,320 @@ runs-at t k h =
       contents = omega (arith, r .1, s, a);
       segments = omega (arith, r .2, s, c, a, b);
     })
+
+-- ---- a run inside one layer, out of the whole pool
+
+-- what stands from start, len items, lies in layer k
+pub record Spans (counts : List ℕ) (start len k : ℕ) : Type 0 where
+  pub inside : k < length counts
+  pub low : before counts k ≤ start
+  pub high : start + len ≤ before counts (suc k)
+
+tabulate-same : {A : Type 0} (n : ℕ) (f g : ℕ → A) → ((i : ℕ) → f i ≡ g i) → tabulate n f ≡ tabulate n g
+tabulate-same zero f g e = refl
+tabulate-same (suc n) f g e = ap₂ (λ x xs. x ∷ xs) (e zero) (tabulate-same n (λ i. f (suc i)) (λ i. g (suc i)) (λ i. e (suc i)))
+
+part-tabulate : {A : Type 0} (n start len : ℕ) (f : ℕ → A) → start + len ≤ n → take len (drop start (tabulate n f)) ≡ tabulate len (λ (i : ℕ). f (start + i))
+part-tabulate n zero zero f h = refl
+part-tabulate zero zero (suc len) f h = absurd (omega arith)
+part-tabulate (suc n) zero (suc len) f h =
+    ap₂ (λ x xs. x ∷ xs) (ap f (sym (zero-add 0)))
+    (part-tabulate n zero len (λ (i : ℕ). f (suc i)) (omega arith) ∙ tabulate-same len (λ (i : ℕ). f (suc (0 + i))) (λ (i : ℕ). f (0 + suc i)) (λ i. ap f (let e : suc (0 + i) ≡ 0 + suc i = omega arith in e)))
+part-tabulate zero (suc start) len f h = absurd (omega arith)
+part-tabulate (suc n) (suc start) len f h =
+    part-tabulate n start len (λ (i : ℕ). f (suc i)) (omega arith)
+    ∙ tabulate-same len (λ (i : ℕ). f (suc (start + i))) (λ (i : ℕ). f (suc start + i)) (λ i. ap f (let e : suc (start + i) ≡ suc start + i = omega arith in e))
+
+module _ {A : Type 0} (c : Codec A) (t : List ℕ) where
+  -- a part of a run of records is a run of records
+  part-records : (p n start len : ℕ) → start + len ≤ n → take len (drop start (recordsAt c t p n)) ≡ recordsAt c t (p + recordSize c * start) len
+  unfolding recordsAt
+  part-records p n start len h =
+      part-tabulate n start len (λ (i : ℕ). recordAt c t (p + recordSize c * i)) h
+      ∙ tabulate-same len (λ (i : ℕ). recordAt c t (p + recordSize c * (start + i))) (λ (i : ℕ). recordAt c t (p + recordSize c * start + recordSize c * i))
+      (λ i. ap (recordAt c t) (ap (λ (k : ℕ). p + k) (mul-add (recordSize c) start i) ∙ sym (add-assoc p (recordSize c * start) (recordSize c * i))))
+
+  module _ (at count : LayerPlaces → ℕ) where
+    -- the pool of such runs, layer after layer
+    abbrev poolOf : List LayerPlaces → List A
+    poolOf ls = flatten (map (λ (l : LayerPlaces). recordsAt c t (at l) (count l)) ls)
+
+    pool-part : (ls : List LayerPlaces) (k start len : ℕ) → Spans (map count ls) start len k
+        → take len (drop start (poolOf ls)) ≡ recordsAt c t (at (layer ls k) + recordSize c * (start - before (map count ls) k)) len
+    unfolding flatten
+    pool-part [] k start len s = absurd (let h = s .inside in omega (arith, h))
+    pool-part (l ∷ ls) zero start len s =
+        let run = recordsAt c t (at l) (count l) in
+        let n = length-records c t (at l) (count l) in
+        let h : start + len ≤ count l = omega (arith, s .high) in
+        let m = length-drop start run in
+        ap (take len) (drop-append-le start run (poolOf ls) (omega (arith, h, n)))
+        ∙ take-append-le len (drop start run) (poolOf ls) (omega (arith, h, n, m))
+        ∙ part-records (at l) (count l) start len h
+        ∙ ap (λ (x : ℕ). recordsAt c t (at l + recordSize c * x) len) (let e : start ≡ start - 0 = omega arith in e)
+    pool-part (l ∷ ls) (suc k) start len s =
+        let run = recordsAt c t (at l) (count l) in
+        let n = length-records c t (at l) (count l) in
+        let low : count l + before (map count ls) k ≤ start = s .low in
+        let q : start ≡ length run + (start - count l) = omega (arith, n, low) in
+        let inner : Spans (map count ls) (start - count l) len k = record {
+          inside = omega (arith, s .inside);
+          low = omega (arith, low);
+          high = omega (arith, s .high, low);
+        } in
+        let e : start - count l - before (map count ls) k ≡ start - (count l + before (map count ls) k) = omega (arith, low) in
+        ap (λ (x : ℕ). take len (drop x (run ++ poolOf ls))) q
+        ∙ ap (take len) (drop-append-add run (poolOf ls) (start - count l))
+        ∙ pool-part ls k (start - count l) len inner
+        ∙ ap (λ (x : ℕ). recordsAt c t (at (layer ls k) + recordSize c * x) len) e
+
+-- ---- the layer of a range
+
+-- the layer that a run lies in, the first of the layers beginning at `from`
+one-spans : (counts : List ℕ) (from start len : ℕ) → inOneLayer from counts start len ≡ true
+    → (k : ℕ) × (k < length counts) × (from + before counts k ≤ start) × (start + len ≤ from + before counts (suc k))
+unfolding inOneLayer
+one-spans [] from start len e = absurd (false≢true e)
+one-spans (n ∷ ns) from start len e =
+    ⊎-elim
+    (λ x.
+    let b = both (leb from start) (leb (start + len) (from + n)) x in
+    (0, omega arith, omega (arith, leb-true from start (b .0)), omega (arith, leb-true (start + len) (from + n) (b .1))))
+    (λ x.
+    let r = one-spans ns (from + n) start len x in
+    (suc (r .0), omega (arith, r .1), omega (arith, r .2), omega (arith, r .3)))
+    (either (leb from start && leb (start + len) (from + n)) (inOneLayer (from + n) ns start len) e)
+
+module _ {counts starts : List ℕ} {layers total : ℕ} (p : Pool counts starts layers total) where
+  -- an item lies in the layer that `layer_of` finds
+  item-spans : (i : ℕ) → i < total → Spans counts i 1 (layerOf starts layers i)
+  item-spans i h = let a = pool-held p i h in record { inside = a .inside; low = a .low; high = omega (arith, a .high) }
+
+  -- and so does a whole range that is not empty
+  range-spans : (start len : ℕ) → rangeOk counts start (suc len) ≡ true → Spans counts start (suc len) (layerOf starts layers start)
+  unfolding rangeOk
+  range-spans start len e =
+      let b = both (leb (start + suc len) (sum counts)) (eqb (suc len) 0 || inOneLayer 0 counts start (suc len)) e in
+      let one : inOneLayer 0 counts start (suc len) ≡ true = ⊎-elim (λ z. absurd (let y = eqb-true (suc len) 0 z in omega (arith, y))) (λ x. x) (either (eqb (suc len) 0) (inOneLayer 0 counts start (suc len)) (b .1)) in
+      let r = one-spans counts 0 start (suc len) one in
+      let s : Spans counts start (suc len) (r .0) = record { inside = r .1; low = omega (arith, r .2); high = omega (arith, r .3) } in
+      let here : Held counts start (r .0) = record { inside = s .inside; low = s .low; high = omega (arith, s .high) } in
+      let l = leb-true (start + suc len) (sum counts) (b .0) in
+      rw (held-one (pool-held p start (omega (arith, l, p .all))) here) s
+
+-- ---- the three pools of a tape's layers
+
+content-runs : (t : List ℕ) (ls : List LayerPlaces) (b : List ℕ)
+    → storeOf (layersAt t ls b) .contents ≡ poolOf contentCodec t (λ (l : LayerPlaces). l .contentsAt) (λ (l : LayerPlaces). l .contentCount) ls
+unfolding storeOf layersAt layerAt flatten
+content-runs t [] b = refl
+content-runs t (l ∷ ls) b = ap (λ (x : List Content). recordsAt contentCodec t (l .contentsAt) (l .contentCount) ++ x) (content-runs t ls (drop (sum (stringLengths t l)) b))
+
+segment-runs : (t : List ℕ) (ls : List LayerPlaces) (b : List ℕ)
+    → storeOf (layersAt t ls b) .segments ≡ poolOf segmentCodec t (λ (l : LayerPlaces). l .segmentsAt) (λ (l : LayerPlaces). l .segmentCount) ls
+unfolding storeOf layersAt layerAt flatten
+segment-runs t [] b = refl
+segment-runs t (l ∷ ls) b = ap (λ (x : List Segment). recordsAt segmentCodec t (l .segmentsAt) (l .segmentCount) ++ x) (segment-runs t ls (drop (sum (stringLengths t l)) b))
+
+-- the lengths of all strings
+unfoldable pub allLengths : List ℕ → List LayerPlaces → List ℕ
+allLengths t ls = flatten (map (stringLengths t) ls)
+
+length-runs : (t : List ℕ) (ls : List LayerPlaces)
+    → allLengths t ls ≡ poolOf stringCodec t (λ (l : LayerPlaces). l .stringsAt) (λ (l : LayerPlaces). l .stringCount) ls
+unfolding allLengths stringLengths
+length-runs t ls = refl
+
+-- ---- what stands at a place
+
+module _ (t : List ℕ) (st : Store) (e : st ≡ storeAt t) where
+  -- the part of a pool from start on, in the layer that holds start
+  content-part : (start len : ℕ) → Spans (contentsIn (places t .layers)) start len (layerOf (st .contents) (st .layers) start)
+      → (b : List ℕ) → take len (drop start (storeOf (layersAt t (places t .layers) b) .contents)) ≡ recordsAt contentCodec t (contentPlace st start) len
+  unfolding contentPlace contentCodec
+  content-part start len s b =
+      let ls = places t .layers in
+      let k = layerOf (st .contents) (st .layers) start in
+      let r = runs-at t k (omega (arith, s .inside, length-counts (λ (l : LayerPlaces). l .contentCount) ls)) .contents in
+      let x : stringStart st (k + 1) ≡ before (stringsIn ls) (suc k) = pool-start-or (string-pool t st e) (k + 1) ∙ ap (before (stringsIn ls)) (add-one k) in
+      let y : segmentStart st k ≡ before (segmentsIn ls) k = pool-start-or (segment-pool t st e) k in
+      let q : layer ls k .contentsAt + 10 * (start - before (contentsIn ls) k) ≡ 10 + k + 5 * stringStart st (k + 1) + 10 * start + 37 * segmentStart st k = omega (arith, r, x, y, s .low) in
+      ap (λ (l : List Content). take len (drop start l)) (content-runs t ls b)
+      ∙ pool-part contentCodec t (λ (l : LayerPlaces). l .contentsAt) (λ (l : LayerPlaces). l .contentCount) ls k start len s
+      ∙ ap (λ (p : ℕ). recordsAt contentCodec t p len) q
+
+  segment-part : (start len : ℕ) → Spans (segmentsIn (places t .layers)) start len (layerOf (st .segments) (st .layers) start)
+      → (b : List ℕ) → take len (drop start (storeOf (layersAt t (places t .layers) b) .segments)) ≡ recordsAt segmentCodec t (segmentPlace st start) len
+  unfolding segmentPlace segmentCodec
+  segment-part start len s b =
+      let ls = places t .layers in
+      let k = layerOf (st .segments) (st .layers) start in
+      let r = runs-at t k (omega (arith, s .inside, length-counts (λ (l : LayerPlaces). l .segmentCount) ls)) .segments in
+      let x : stringStart st (k + 1) ≡ before (stringsIn ls) (suc k) = pool-start-or (string-pool t st e) (k + 1) ∙ ap (before (stringsIn ls)) (add-one k) in
+      let y : contentStart st (k + 1) ≡ before (contentsIn ls) (suc k) = pool-start-or (content-pool t st e) (k + 1) ∙ ap (before (contentsIn ls)) (add-one k) in
+      let q : layer ls k .segmentsAt + 37 * (start - before (segmentsIn ls) k) ≡ 10 + k + 5 * stringStart st (k + 1) + 10 * contentStart st (k + 1) + 37 * start = omega (arith, r, x, y, s .low) in
+      ap (λ (l : List Segment). take len (drop start l)) (segment-runs t ls b)
+      ∙ pool-part segmentCodec t (λ (l : LayerPlaces). l .segmentsAt) (λ (l : LayerPlaces). l .segmentCount) ls k start len s
+      ∙ ap (λ (p : ℕ). recordsAt segmentCodec t p len) q
+
+  length-part : (start len : ℕ) → Spans (stringsIn (places t .layers)) start len (layerOf (st .strings) (st .layers) start)
+      → take len (drop start (allLengths t (places t .layers))) ≡ recordsAt stringCodec t (stringPlace st start) len
+  unfolding stringPlace stringCodec
+  length-part start len s =
+      let ls = places t .layers in
+      let k = layerOf (st .strings) (st .layers) start in
+      let r = runs-at t k (omega (arith, s .inside, length-counts (λ (l : LayerPlaces). l .stringCount) ls)) .strings in
+      let x : contentStart st k ≡ before (contentsIn ls) k = pool-start-or (content-pool t st e) k in
+      let y : segmentStart st k ≡ before (segmentsIn ls) k = pool-start-or (segment-pool t st e) k in
+      let q : layer ls k .stringsAt + 5 * (start - before (stringsIn ls) k) ≡ 10 + k + 5 * start + 10 * contentStart st k + 37 * segmentStart st k = omega (arith, r, x, y, s .low) in
+      ap (λ (l : List ℕ). take len (drop start l)) (length-runs t ls)
+      ∙ pool-part stringCodec t (λ (l : LayerPlaces). l .stringsAt) (λ (l : LayerPlaces). l .stringCount) ls k start len s
+      ∙ ap (λ (p : ℕ). recordsAt stringCodec t p len) q
+
+-- an item is what its range of length 1 shows
+one-item : {A : Type 0} (pool : List A) (c : Codec A) (t : List ℕ) (i p : ℕ) (default : A) → take 1 (drop i pool) ≡ recordsAt c t p 1 → getD pool i default ≡ recordAt c t p
+unfolding recordsAt
+one-item pool c t i p default e =
+    let q : p + recordSize c * 0 ≡ p = ap (λ (k : ℕ). p + k) (mul-zero (recordSize c)) ∙ add-zero p in
+    ap (λ (k : ℕ). getD pool k default) (sym (add-zero i)) ∙ sym (getD-drop i pool 0 default) ∙ sym (getD-take 1 (drop i pool) 0 default (omega arith))
+    ∙ ap (λ l. getD l 0 default) e ∙ ap (recordAt c t) q
+
+module _ (t : List ℕ) (st : Store) (e : st ≡ storeAt t) (b : List ℕ) where
+  -- The record at `content_place` is the content of that number.
+  pub content-at : (i : ℕ) → i < st .totals .contents → (default : Content)
+      → getD (storeOf (layersAt t (places t .layers) b) .contents) i default ≡ recordAt contentCodec t (contentPlace st i)
+  content-at i h default =
+      one-item (storeOf (layersAt t (places t .layers) b) .contents) contentCodec t i (contentPlace st i) default (content-part t st e i 1 (item-spans (content-pool t st e) i h) b)
+
+  pub segment-at : (i : ℕ) → i < st .totals .segments → (default : Segment)
+      → getD (storeOf (layersAt t (places t .layers) b) .segments) i default ≡ recordAt segmentCodec t (segmentPlace st i)
+  segment-at i h default =
+      one-item (storeOf (layersAt t (places t .layers) b) .segments) segmentCodec t i (segmentPlace st i) default (segment-part t st e i 1 (item-spans (segment-pool t st e) i h) b)
+
+  -- A range that passes number 4 is a run of records from its start's place on.
+  pub content-range : (start len : ℕ) → rangeOk (contentsIn (places t .layers)) start len ≡ true
+      → resolveContentRange (storeOf (layersAt t (places t .layers) b)) start len ≡ recordsAt contentCodec t (contentPlace st start) len
+  unfolding resolveContentRange recordsAt
+  content-range start zero h = refl
+  content-range start (suc len) h = content-part t st e start (suc len) (range-spans (content-pool t st e) start len h) b
+
+  pub segment-range : (start len : ℕ) → rangeOk (segmentsIn (places t .layers)) start len ≡ true
+      → resolveSegRange (storeOf (layersAt t (places t .layers) b)) start len ≡ recordsAt segmentCodec t (segmentPlace st start) len
+  unfolding resolveSegRange recordsAt
+  segment-range start zero h = refl
+  segment-range start (suc len) h = segment-part t st e start (suc len) (range-spans (segment-pool t st e) start len h) b
+
+-- ---- strings
+
+-- the strings of all layers are pieces of one run of bytes, by all their lengths
+pieces-append : (ns ms b : List ℕ) → pieces (ns ++ ms) b ≡ pieces ns b ++ pieces ms (drop (sum ns) b)
+unfolding pieces
+pieces-append [] ms b = refl
+pieces-append (n ∷ ns) ms b =
+    ap (λ (l : List (List ℕ)). take n b ∷ l) (pieces-append ns ms (drop n b) ∙ ap (λ (x : List ℕ). pieces ns (drop n b) ++ pieces ms x) (drop-drop (sum ns) n b))
+
+pub strings-pieces : (t : List ℕ) (ls : List LayerPlaces) (b : List ℕ) → storeOf (layersAt t ls b) .strings ≡ pieces (allLengths t ls) b
+unfolding storeOf layersAt layerAt flatten allLengths pieces
+strings-pieces t [] b = refl
+strings-pieces t (l ∷ ls) b =
+    ap (λ (x : List (List ℕ)). pieces (stringLengths t l) b ++ x) (strings-pieces t ls (drop (sum (stringLengths t l)) b))
+    ∙ sym (pieces-append (stringLengths t l) (flatten (map (stringLengths t) ls)) b)
+
+piece-at : (ns b : List ℕ) (i : ℕ) → i < length ns → getD (pieces ns b) i [] ≡ take (getD ns i 0) (drop (sum (take i ns)) b)
+unfolding pieces
+piece-at [] b i h = absurd (omega arith)
+piece-at (n ∷ ns) b zero h = refl
+piece-at (n ∷ ns) b (suc i) h = piece-at ns (drop n b) i (omega arith) ∙ ap (λ (x : List ℕ). take (getD ns i 0) x) (drop-drop (sum (take i ns)) n b)
+
+length-pools : (t : List ℕ) (ls : List LayerPlaces) → length (allLengths t ls) ≡ sum (stringsIn ls)
+unfolding allLengths flatten stringLengths
+length-pools t [] = refl
+length-pools t (l ∷ ls) =
+    length-append (recordsAt stringCodec t (l .stringsAt) (l .stringCount)) (flatten (map (stringLengths t) ls))
+    ∙ ap₂ (λ (x y : ℕ). x + y) (length-records stringCodec t (l .stringsAt) (l .stringCount)) (length-pools t ls)
+
+module _ (t : List ℕ) (st : Store) (e : st ≡ storeAt t) where
+  -- The record at `string_place` has the length of the string of that number.
+  pub length-at : (i : ℕ) → i < st .totals .strings → getD (allLengths t (places t .layers)) i 0 ≡ recordAt stringCodec t (stringPlace st i)
+  length-at i h = one-item (allLengths t (places t .layers)) stringCodec t i (stringPlace st i) 0 (length-part t st e i 1 (item-spans (string-pool t st e) i h))
+
+  -- A string is that many bytes, behind the bytes of all strings before it.
+  pub string-at : (b : List ℕ) (i : ℕ) → i < st .totals .strings
+      → getD (storeOf (layersAt t (places t .layers) b) .strings) i [] ≡ take (recordAt stringCodec t (stringPlace st i)) (drop (sum (take i (allLengths t (places t .layers)))) b)
+  string-at b i h =
+      let ls = places t .layers in
+      let n = length-pools t ls in
+      ap (λ (l : List (List ℕ)). getD l i []) (strings-pieces t ls b)
+      ∙ piece-at (allLengths t ls) b i (omega (arith, n, string-pool t st e .all, h))
+      ∙ ap (λ (x : ℕ). take x (drop (sum (take i (allLengths t ls))) b)) (length-at i h)
+
+-- ---- inside the tape
+
+abbrev layersSize : List LayerPlaces → ℕ
+layersSize ls = length ls + 5 * sum (stringsIn ls) + 10 * sum (contentsIn ls) + 37 * sum (segmentsIn ls)
+
+layers-size : (t : List ℕ) (n p : ℕ) → layersEnd p (layersFrom n t p) ≡ p + layersSize (layersFrom n t p)
+unfolding layersEnd layersFrom
+layers-size t zero p = omega arith
+layers-size t (suc n) p = go (layers-size t n (layerPlaces t p .endAt)) (eqb (byteAt t p) 2)
+  where
+    rest : List LayerPlaces
+    rest = layersFrom n t (layerPlaces t p .endAt)
+
+    go : layersEnd (layerPlaces t p .endAt) rest ≡ layerPlaces t p .endAt + layersSize rest
+        → (x : Bool) → layersEnd p (cond x (layerPlaces t p ∷ rest) []) ≡ p + layersSize (cond x (layerPlaces t p ∷ rest) [])
+    go m true = let e = layer-end t p in omega (arith, e, m)
+    go m false = omega arith
+
+-- behind the layers come the nodes
+nodes-place : (t : List ℕ) → places t .nodesAt ≡ 9 + layersSize (places t .layers)
+unfolding places
+nodes-place t = layers-size t (length t) 9
+
+-- and they stand inside a tape whose frame holds
+pub nodes-inside : (t d : List ℕ) → holds t d ≡ true → places t .nodesAt < length t
+unfolding holds framed places
+nodes-inside t d h =
+    let p = places t in
+    let a = both (framed t p && not (isEmpty (p .layers))) (eqb (length d) (bytesNeeded t p)) h .0 in
+    let f = both (framed t p) (not (isEmpty (p .layers))) a .0 in
+    let l = eqb-true (length t) (p .endAt + 1) (both (eqb (byteAt t 0) 1 && eqb (byteAt t (p .endAt)) 10) (eqb (length t) (p .endAt + 1)) f .1) in
+    omega (arith, l)
+
+module _ (t : List ℕ) (st : Store) (e : st ≡ storeAt t) where
+  -- the records of a run in a pool stand before the nodes
+  pub content-inside : (start len : ℕ) → start < st .totals .contents → start + len ≤ st .totals .contents → contentPlace st start + 10 * len ≤ places t .nodesAt
+  unfolding contentPlace
+  content-inside start len h l =
+      let ls = places t .layers in
+      let p = content-pool t st e in
+      let k = layerOf (st .contents) (st .layers) start in
+      let a = pool-held p start h in
+      let n = length-counts (λ (x : LayerPlaces). x .contentCount) ls in
+      let x : stringStart st (k + 1) ≡ before (stringsIn ls) (k + 1) = pool-start-or (string-pool t st e) (k + 1) in
+      let y : segmentStart st k ≡ before (segmentsIn ls) k = pool-start-or (segment-pool t st e) k in
+      omega (arith, nodes-place t, a .inside, n, x, y, before-most (stringsIn ls) (k + 1), before-most (segmentsIn ls) k, p .all, l)
+
+  pub segment-inside : (start len : ℕ) → start < st .totals .segments → start + len ≤ st .totals .segments → segmentPlace st start + 37 * len ≤ places t .nodesAt
+  unfolding segmentPlace
+  segment-inside start len h l =
+      let ls = places t .layers in
+      let p = segment-pool t st e in
+      let k = layerOf (st .segments) (st .layers) start in
+      let a = pool-held p start h in
+      let n = length-counts (λ (x : LayerPlaces). x .segmentCount) ls in
+      let x : stringStart st (k + 1) ≡ before (stringsIn ls) (k + 1) = pool-start-or (string-pool t st e) (k + 1) in
+      let y : contentStart st (k + 1) ≡ before (contentsIn ls) (k + 1) = pool-start-or (content-pool t st e) (k + 1) in
+      omega (arith, nodes-place t, a .inside, n, x, y, before-most (stringsIn ls) (k + 1), before-most (contentsIn ls) (k + 1), p .all, l)
+
+  pub string-inside : (start len : ℕ) → start < st .totals .strings → start + len ≤ st .totals .strings → stringPlace st start + 5 * len ≤ places t .nodesAt
+  unfolding stringPlace
+  string-inside start len h l =
+      let ls = places t .layers in
+      let p = string-pool t st e in
+      let k = layerOf (st .strings) (st .layers) start in
+      let a = pool-held p start h in
+      let n = length-counts (λ (x : LayerPlaces). x .stringCount) ls in
+      let x : contentStart st k ≡ before (contentsIn ls) k = pool-start-or (content-pool t st e) k in
+      let y : segmentStart st k ≡ before (segmentsIn ls) k = pool-start-or (segment-pool t st e) k in
+      omega (arith, nodes-place t, a .inside, n, x, y, before-most (contentsIn ls) k, before-most (segmentsIn ls) k, p .all, l)

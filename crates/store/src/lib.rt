@@ -7,7 +7,7 @@ ghost use Prim.Native.Nat.{_+_, _^_, _≤_, _<_};
 ghost use lib.Dec.{ltb};
 ghost use Rattle.store.specs.Pools.{startOr, inLayer, inOne, rangeIn, layerOf};
 ghost use Rattle.store.specs.Stored.{StoreFits, addRuns, storeAt};
-//ghost use Rattle.store.specs.Standing.{stringPlace, contentPlace, segmentPlace};
+ghost use Rattle.store.specs.Standing.{stringPlace, contentPlace, segmentPlace};
 
 // How many strings, contents and segments all layers hold.
 pub struct Totals {
@@ -32,14 +32,14 @@ fn wide(x: u32) -> usize
 }
 
 // Where layer i of a pool begins; past the last layer, where the pool ends.
-pub fn start_or(starts: &[u32; 32], layers: usize, total: u32, i: usize) -> usize
+pub fn start_or(starts: &[u32; 32], layers: usize, total: u32, i: usize) -> u32
     requires { ⌜ layers ≤ 32 ⌝ }
     ensures { λ r. ⌜ r ≡ startOr (now (starts .entry)) layers total i ⌝ }
 {
     if i < layers {
-        return wide(starts[i]);
+        return starts[i];
     }
-    wide(total)
+    total
 }
 
 fn in_layer(starts: &[u32; 32], layers: usize, total: u32, start: usize, end: usize, i: usize) -> bool
@@ -49,7 +49,7 @@ fn in_layer(starts: &[u32; 32], layers: usize, total: u32, start: usize, end: us
     if start < wide(starts[i]) {
         return false;
     }
-    end <= start_or(starts, layers, total, i + 1)
+    end <= wide(start_or(starts, layers, total, i + 1))
 }
 
 fn in_one_layer(starts: &[u32; 32], layers: usize, total: u32, start: usize, end: usize) -> bool
@@ -145,4 +145,44 @@ pub fn store_of(tape: &[u8], layers: usize) -> Store
         segments: segments,
         totals: totals,
     }
+}
+
+// Section 4. Where the string record of that number stands; for contents and segments, the same.
+pub fn string_place(st: Store, i: u32) -> usize
+    requires { ⌜ st .layers ≤ 32 ⌝ }
+    ensures { λ r. ⌜ r ≡ stringPlace st i ⌝ }
+{
+    let strings = st.strings;
+    let contents = st.contents;
+    let segments = st.segments;
+    let k = layer_of(&strings, st.layers, i);
+    let b = wide(start_or(&contents, st.layers, st.totals.contents, k));
+    let g = wide(start_or(&segments, st.layers, st.totals.segments, k));
+    10 + k + 5 * wide(i) + 10 * b + 37 * g
+}
+
+pub fn content_place(st: Store, i: u32) -> usize
+    requires { ⌜ st .layers ≤ 32 ⌝ }
+    ensures { λ r. ⌜ r ≡ contentPlace st i ⌝ }
+{
+    let strings = st.strings;
+    let contents = st.contents;
+    let segments = st.segments;
+    let k = layer_of(&contents, st.layers, i);
+    let a = wide(start_or(&strings, st.layers, st.totals.strings, k + 1));
+    let g = wide(start_or(&segments, st.layers, st.totals.segments, k));
+    10 + k + 5 * a + 10 * wide(i) + 37 * g
+}
+
+pub fn segment_place(st: Store, i: u32) -> usize
+    requires { ⌜ st .layers ≤ 32 ⌝ }
+    ensures { λ r. ⌜ r ≡ segmentPlace st i ⌝ }
+{
+    let strings = st.strings;
+    let contents = st.contents;
+    let segments = st.segments;
+    let k = layer_of(&segments, st.layers, i);
+    let a = wide(start_or(&strings, st.layers, st.totals.strings, k + 1));
+    let b = wide(start_or(&contents, st.layers, st.totals.contents, k + 1));
+    10 + k + 5 * a + 10 * b + 37 * wide(i)
 }

@@ -30,18 +30,22 @@ returns : tie.Need-returns
 unfolding inLayer
 returns c = simp (sym (c .before .wide .ensures), lt-leb _ _ (c .if1 .taken))
 
--- src/lib.rt:52:44
+-- src/lib.rt:52:49
 add-start-or : tie.Need-add-start-or
 add-start-or c = search needs
 
--- src/lib.rt:52:12
+-- src/lib.rt:52:17
 start-or-requires : tie.Need-start-or-requires
 start-or-requires c κs = search needs
+
+-- src/lib.rt:52:12
+wide-requires-2 : tie.Need-wide-requires-2
+wide-requires-2 c κs = search needs
 
 -- src/lib.rt:45:1
 returns-2 : tie.Need-returns-2
 unfolding inLayer
-returns-2 c = simp (sym (c .before .before .wide .ensures), le-leb _ _ (c .before .if1 .left), c .start-or .ensures)
+returns-2 c = simp (sym (c .before .before .before .wide .ensures), le-leb _ _ (c .before .before .if1 .left), c .wide2 .ensures, c .before .start-or .ensures)
 
 pub in-layer-spec : {M : Type 1} → statement M
 in-layer-spec =
@@ -53,4 +57,5 @@ in-layer-spec =
     returns
     add-start-or
     start-or-requires
+    wide-requires-2
     returns-2)
