@@ -376,13 +376,13 @@ module _ (t d : List ℕ) (s : Tally) (l : ListRuns) (e : s ≡ tallied t (lengt
     let g : 0 + sum (segmentsIn ls) ≡ sum (segmentsIn ls) = omega arith in
     rw (c, a, b, g) refl)
 
-  pub places-found : (p : Places) → p ≡ foundBy t s l → frameHolds t s (l .end) (length d) ≡ true → p ≡ placesOf t d
+  pub walk-found : (p : Places) → p ≡ foundBy t s l → frameHolds t s (l .end) (length d) ≡ true → p ≡ placesOf t d
   unfolding placesOf
-  places-found p g h = rw (sym frame-is ∙ h) (g ∙ found-is)
+  walk-found p g h = rw (sym frame-is ∙ h) (g ∙ found-is)
 
-  pub places-fault : (p : Places) → p ≡ noPlaces → frameHolds t s (l .end) (length d) ≡ false → p ≡ placesOf t d
+  pub walk-fault : (p : Places) → p ≡ noPlaces → frameHolds t s (l .end) (length d) ≡ false → p ≡ placesOf t d
   unfolding placesOf
-  places-fault p g h = rw (sym frame-is ∙ h) g
+  walk-fault p g h = rw (sym frame-is ∙ h) g
 
 -- what the walk's parts may ask of each other
 pub walk-near : (t : List ℕ) (room : ℕ) (s : Tally) → s ≡ tallied t room → s .end ≤ length t + 36

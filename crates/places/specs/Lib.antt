@@ -1,2 +1,3 @@
 pub mod Runs
 pub mod Found
+pub mod Again

@@ -4,24 +4,24 @@ use Prim.Native.Nat.{ℕ, zero, suc, _+_, _-_, _*_, _≤_, _<_}
 use native.Mathlib.Omega.{arith}
 use native.Mathlib.Numerals.{add-one}
 use native.Mathlib.Nat.{add-zero, zero-add, mul-add, mul-zero, add-assoc}
-use mathlib.Core.Bool.{Bool, true, false, cond, not, _&&_, _||_, false≢true}
+use mathlib.Core.Bool.{true, _&&_, _||_, false≢true}
 use mathlib.Core.List.{List, [], _∷_, _++_, map, flatten}
 use mathlib.Core.Logic.{⊎-elim}
 use lib.ListN.{length, getD, take, drop, length-append, length-drop, List·getD-map}
 use lib.Seq.{take-append-le, drop-append-le, drop-append-add, getD-take, getD-drop, drop-drop, length-take-le}
-use lib.Dec.{leb, eqb}
+use lib.Dec.{leb, ltb, eqb}
 use borrow.Author.Tests.{leb-true, eqb-true}
-use Rattle.model.specs.Lists.{sum, tabulate, isEmpty}
-use Rattle.model.specs.Bytes.{byteAt}
+use Rattle.model.specs.Lists.{sum, tabulate}
 use Rattle.model.specs.Types.{Content, Segment, Layer}
-use Rattle.model.specs.Store.{storeOf, stringCounts, contentCounts, segmentCounts, inOneLayer, rangeOk, resolveContentRange, resolveSegRange}
+use Rattle.model.specs.Store.{storeOf, stringCounts, contentCounts, segmentCounts, inOneLayer, rangeOk, idOk, resolveContentRange, resolveSegRange}
 use Rattle.model.specs.Tape.{Codec, recordSize, recordAt, recordsAt, countAt, stringCodec, contentCodec, segmentCodec}
-use Rattle.model.specs.Tape.{LayerPlaces, layerPlaces, layersFrom, layersEnd, places, framed, bytesNeeded, stringLengths, pieces, layerAt, layersAt}
+use Rattle.model.specs.Tape.{LayerPlaces, layerPlaces, layersFrom, places, stringLengths, pieces, layerAt, layersAt}
 use Rattle.laws.specs.Lists.{both, either}
 use Rattle.laws.specs.RoundTrip.{layer-end, stringBytes}
-use Rattle.places.specs.Found.{stringsIn, contentsIn, segmentsIn, holds}
-use Rattle.store.specs.Pools.{Pool, Held, startOr, layerOf, before, before-next, before-all, before-most, pool-start-or, pool-held, held-one}
-use Rattle.store.specs.Stored.{storeAt, layers-cons, length-counts}
+use Rattle.places.specs.Found.{stringsIn, contentsIn, segmentsIn}
+use Rattle.places.specs.Again.{layers-cons, length-counts, nodes-place}
+use Rattle.store.specs.Pools.{Pool, Held, startOr, rangeIn, layerOf, before, before-next, before-all, before-most, pool-start-or, pool-id, pool-range, pool-held, held-one}
+use Rattle.store.specs.Stored.{storeAt}
 use Rattle.store.specs.declared.Store.{Store}
 
 -- ---- places
@@ -72,7 +72,7 @@ length-tabulate : {A : Type 0} (n : ℕ) (f : ℕ → A) → length (tabulate n 
 length-tabulate zero f = refl
 length-tabulate (suc n) f = ap suc (length-tabulate n (λ (i : ℕ). f (suc i)))
 
-length-records : {A : Type 0} (c : Codec A) (t : List ℕ) (p n : ℕ) → length (recordsAt c t p n) ≡ n
+pub length-records : {A : Type 0} (c : Codec A) (t : List ℕ) (p n : ℕ) → length (recordsAt c t p n) ≡ n
 unfolding recordsAt
 length-records c t p n = length-tabulate n (λ i. recordAt c t (p + recordSize c * i))
 
@@ -95,6 +95,20 @@ unfolding segmentCounts layersAt layerAt
 segment-counts t [] b = refl
 segment-counts t (l ∷ ls) b =
     ap₂ (λ (x : ℕ) (xs : List ℕ). x ∷ xs) (length-records segmentCodec t (l .segmentsAt) (l .segmentCount)) (segment-counts t ls (drop (sum (stringLengths t l)) b))
+
+-- ---- ids and ranges, as number 4 asks
+
+module _ (t : List ℕ) (st : Store) (e : st ≡ storeAt t) (b : List ℕ) where
+  pub string-id-ok : (id : ℕ) → ltb id (st .totals .strings) ≡ idOk (stringCounts (layersAt t (places t .layers) b)) id
+  string-id-ok id = pool-id (string-pool t st e) id ∙ ap (λ (n : List ℕ). idOk n id) (sym (string-counts t (places t .layers) b))
+
+  pub content-range-ok : (start len : ℕ)
+      → rangeIn (st .contents) (st .layers) (st .totals .contents) start len ≡ rangeOk (contentCounts (layersAt t (places t .layers) b)) start len
+  content-range-ok start len = pool-range (content-pool t st e) start len ∙ ap (λ (n : List ℕ). rangeOk n start len) (sym (content-counts t (places t .layers) b))
+
+  pub segment-range-ok : (start len : ℕ)
+      → rangeIn (st .segments) (st .layers) (st .totals .segments) start len ≡ rangeOk (segmentCounts (layersAt t (places t .layers) b)) start len
+  segment-range-ok start len = pool-range (segment-pool t st e) start len ∙ ap (λ (n : List ℕ). rangeOk n start len) (sym (segment-counts t (places t .layers) b))
 
 -- ---- the k-th layer
 
@@ -342,17 +356,17 @@ module _ (t : List ℕ) (st : Store) (e : st ≡ storeAt t) (b : List ℕ) where
       one-item (storeOf (layersAt t (places t .layers) b) .segments) segmentCodec t i (segmentPlace st i) default (segment-part t st e i 1 (item-spans (segment-pool t st e) i h) b)
 
   -- A range that passes number 4 is a run of records from its start's place on.
-  pub content-range : (start len : ℕ) → rangeOk (contentsIn (places t .layers)) start len ≡ true
+  pub content-range : (start len : ℕ) → rangeIn (st .contents) (st .layers) (st .totals .contents) start len ≡ true
       → resolveContentRange (storeOf (layersAt t (places t .layers) b)) start len ≡ recordsAt contentCodec t (contentPlace st start) len
   unfolding resolveContentRange recordsAt
   content-range start zero h = refl
-  content-range start (suc len) h = content-part t st e start (suc len) (range-spans (content-pool t st e) start len h) b
+  content-range start (suc len) h = content-part t st e start (suc len) (range-spans (content-pool t st e) start len (sym (pool-range (content-pool t st e) start (suc len)) ∙ h)) b
 
-  pub segment-range : (start len : ℕ) → rangeOk (segmentsIn (places t .layers)) start len ≡ true
+  pub segment-range : (start len : ℕ) → rangeIn (st .segments) (st .layers) (st .totals .segments) start len ≡ true
       → resolveSegRange (storeOf (layersAt t (places t .layers) b)) start len ≡ recordsAt segmentCodec t (segmentPlace st start) len
   unfolding resolveSegRange recordsAt
   segment-range start zero h = refl
-  segment-range start (suc len) h = segment-part t st e start (suc len) (range-spans (segment-pool t st e) start len h) b
+  segment-range start (suc len) h = segment-part t st e start (suc len) (range-spans (segment-pool t st e) start len (sym (pool-range (segment-pool t st e) start (suc len)) ∙ h)) b
 
 -- ---- strings
 
@@ -399,37 +413,6 @@ module _ (t : List ℕ) (st : Store) (e : st ≡ storeAt t) where
       ∙ ap (λ (x : ℕ). take x (drop (sum (take i (allLengths t ls))) b)) (length-at i h)
 
 -- ---- inside the tape
-
-abbrev layersSize : List LayerPlaces → ℕ
-layersSize ls = length ls + 5 * sum (stringsIn ls) + 10 * sum (contentsIn ls) + 37 * sum (segmentsIn ls)
-
-layers-size : (t : List ℕ) (n p : ℕ) → layersEnd p (layersFrom n t p) ≡ p + layersSize (layersFrom n t p)
-unfolding layersEnd layersFrom
-layers-size t zero p = omega arith
-layers-size t (suc n) p = go (layers-size t n (layerPlaces t p .endAt)) (eqb (byteAt t p) 2)
-  where
-    rest : List LayerPlaces
-    rest = layersFrom n t (layerPlaces t p .endAt)
-
-    go : layersEnd (layerPlaces t p .endAt) rest ≡ layerPlaces t p .endAt + layersSize rest
-        → (x : Bool) → layersEnd p (cond x (layerPlaces t p ∷ rest) []) ≡ p + layersSize (cond x (layerPlaces t p ∷ rest) [])
-    go m true = let e = layer-end t p in omega (arith, e, m)
-    go m false = omega arith
-
--- behind the layers come the nodes
-nodes-place : (t : List ℕ) → places t .nodesAt ≡ 9 + layersSize (places t .layers)
-unfolding places
-nodes-place t = layers-size t (length t) 9
-
--- and they stand inside a tape whose frame holds
-pub nodes-inside : (t d : List ℕ) → holds t d ≡ true → places t .nodesAt < length t
-unfolding holds framed places
-nodes-inside t d h =
-    let p = places t in
-    let a = both (framed t p && not (isEmpty (p .layers))) (eqb (length d) (bytesNeeded t p)) h .0 in
-    let f = both (framed t p) (not (isEmpty (p .layers))) a .0 in
-    let l = eqb-true (length t) (p .endAt + 1) (both (eqb (byteAt t 0) 1 && eqb (byteAt t (p .endAt)) 10) (eqb (length t) (p .endAt + 1)) f .1) in
-    omega (arith, l)
 
 module _ (t : List ℕ) (st : Store) (e : st ≡ storeAt t) where
   -- the records of a run in a pool stand before the nodes

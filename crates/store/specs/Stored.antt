@@ -1,25 +1,21 @@
 -- Section 3: the store of a tape's layers, and the loop that fills it.
-use mathlib.Core.Path.{_≡_, refl, sym, ap, ap₂, _∙_}
-use Prim.Native.Nat.{ℕ, zero, suc, _+_, _-_, _*_, _≤_, _<_, _^_}
+use mathlib.Core.Path.{_≡_, refl, sym, ap, _∙_}
+use Prim.Native.Nat.{ℕ, suc, _+_, _≤_, _<_, _^_}
 use native.Mathlib.Omega.{arith}
 use native.Mathlib.Numerals.{add-one}
-use native.Mathlib.Nat.{add-zero, zero-add, sub-zero}
-use mathlib.Core.Bool.{Bool, true, false, cond, true≢false}
-use mathlib.Core.List.{List, [], _∷_, _++_, map}
-use lib.ListN.{length, getD, take, drop, set, length-append, length-drop, length-replicate}
-use lib.Seq.{take-suc, take-all, length-take-le, drop-cons}
-use lib.Dec.{eqb}
-use borrow.Author.Tests.{eq-eqb, ne-eqb, eqb-true, eqb-false}
+use native.Mathlib.Nat.{zero-add}
+use mathlib.Core.List.{List, [], _∷_, _++_}
+use lib.ListN.{length, getD, take, set}
+use lib.Seq.{take-suc, take-all, length-take-le}
 use Rattle.model.specs.Lists.{sum}
-use Rattle.model.specs.Bytes.{byteAt}
 use Rattle.model.specs.Store.{layerStarts}
-use Rattle.model.specs.Tape.{LayerPlaces, layerPlaces, layersFrom, places}
-use Rattle.wire.specs.Overwrite.{overwrite, zeros, padded, overwrite-push, overwrite-nil, overwrite-zeros}
-use Rattle.wire.specs.Loops.{by-bool}
+use Rattle.model.specs.Tape.{LayerPlaces, layerPlaces, places}
+use Rattle.wire.specs.Overwrite.{overwrite, zeros, overwrite-push, overwrite-nil, overwrite-zeros}
 use Rattle.places.specs.declared.LayerRuns.{LayerRuns}
 use Rattle.places.specs.declared.Places.{Places}
-use Rattle.places.specs.Found.{layerRuns, stringsIn, contentsIn, segmentsIn, two-inside, holds, found, noPlaces, placesOf}
-use Rattle.store.specs.Pools.{Pool, startsOf, before, before-mono, before-all, before-next, length-starts, start-at}
+use Rattle.places.specs.Found.{layerRuns, stringsIn, contentsIn, segmentsIn, found}
+use Rattle.places.specs.Again.{AtLayer, at-first, at-inside, at-count, at-next, length-counts}
+use Rattle.store.specs.Pools.{startsOf, before, before-mono, before-all, before-next, length-starts, start-at}
 use Rattle.store.specs.declared.Totals.{Totals}
 use Rattle.store.specs.declared.Store.{Store}
 
@@ -53,21 +49,6 @@ abbrev pub addRuns : Totals → LayerRuns → Totals
 addRuns a l = record { strings = a .strings + l .strings .count; contents = a .contents + l .contents .count; segments = a .segments + l .segments .count }
 
 -- ---- from the places that were found
-
-found-numbers : (t d : List ℕ) (p : Places) → p ≡ placesOf t d → p .fault ≡ false → (holds t d ≡ true) × (p ≡ found t)
-unfolding placesOf noPlaces
-found-numbers t d p e f =
-    by-bool (holds t d)
-    (λ b. (b, e ∙ rw b refl))
-    (λ b. let q : p ≡ noPlaces = e ∙ rw b refl in absurd (true≢false (sym (ap (λ (x : Places). x .fault) q) ∙ f)))
-
--- the frame holds
-pub places-hold : (t d : List ℕ) (p : Places) → p ≡ placesOf t d → p .fault ≡ false → holds t d ≡ true
-places-hold t d p e f = found-numbers t d p e f .0
-
--- the numbers are the tape's
-pub places-found : (t d : List ℕ) (p : Places) → p ≡ placesOf t d → p .fault ≡ false → p ≡ found t
-places-found t d p e f = found-numbers t d p e f .1
 
 pub found-fits : (t : List ℕ) (p : Places) → p ≡ found t → p .layers ≤ 32 → p .strings < 2 ^ 32 → p .contents < 2 ^ 32 → p .segments < 2 ^ 32 → StoreFits t (p .layers)
 unfolding found
@@ -113,65 +94,26 @@ filled-all {counts} {i} f e = (
 -- ---- all three, and the next layer's place
 
 pub record Filling (t : List ℕ) (i at : ℕ) (strings contents segments : List ℕ) (totals : Totals) : Type 0 where
-  pub rest : drop i (places t .layers) ≡ layersFrom (length t - i) t at
+  pub place : AtLayer t i at
   pub first : Filled (stringsIn (places t .layers)) i strings (totals .strings)
   pub second : Filled (contentsIn (places t .layers)) i contents (totals .contents)
   pub third : Filled (segmentsIn (places t .layers)) i segments (totals .segments)
 
 pub filling-none : (t : List ℕ) → Filling t 0 9 (zeros 32) (zeros 32) (zeros 32) (record { strings = 0; contents = 0; segments = 0 })
-unfolding places
 filling-none t = record {
-  rest = ap (λ (n : ℕ). layersFrom n t 9) (sym (sub-zero (length t)));
+  place = at-first t;
   first = filled-none _;
   second = filled-none _;
   third = filled-none _;
 }
 
--- layers that are not at their end begin with a 2
-pub layers-cons : (t : List ℕ) (n p : ℕ) → 0 < length (layersFrom n t p)
-    → (byteAt t p ≡ 2) × (0 < n) × (layersFrom n t p ≡ layerPlaces t p ∷ layersFrom (n - 1) t (layerPlaces t p .endAt))
-unfolding layersFrom
-layers-cons t zero p h = absurd (omega arith)
-layers-cons t (suc n) p h =
-    let r = go (eqb (byteAt t p) 2) refl h in
-    let m : n ≡ suc n - 1 = omega arith in
-    (r .0, r .1, r .2 ∙ ap (λ (k : ℕ). layerPlaces t p ∷ layersFrom k t (layerPlaces t p .endAt)) m)
-  where
-    go : (x : Bool) → eqb (byteAt t p) 2 ≡ x → 0 < length (cond x (layerPlaces t p ∷ layersFrom n t (layerPlaces t p .endAt)) [])
-        → (byteAt t p ≡ 2) × (0 < suc n) × (cond x (layerPlaces t p ∷ layersFrom n t (layerPlaces t p .endAt)) [] ≡ layerPlaces t p ∷ layersFrom n t (layerPlaces t p .endAt))
-    go true e l = (eqb-true (byteAt t p) 2 e, omega arith, refl)
-    go false e l = absurd (omega arith)
-
--- the first of what is left
-map-at : (f : LayerPlaces → ℕ) (i : ℕ) (ls : List LayerPlaces) (x : LayerPlaces) (xs : List LayerPlaces) → drop i ls ≡ x ∷ xs → getD (map f ls) i 0 ≡ f x
-map-at f zero ls x xs e = ap (λ (l : List LayerPlaces). getD (map f l) 0 0) e
-map-at f (suc i) [] x xs e = absurd (let z = ap length e in omega (arith, z))
-map-at f (suc i) (y ∷ ys) x xs e = map-at f i ys x xs e
-
-drop-more : (i : ℕ) (ls : List LayerPlaces) (x : LayerPlaces) (xs : List LayerPlaces) → drop i ls ≡ x ∷ xs → drop (suc i) ls ≡ xs
-drop-more zero ls x xs e = ap (λ (l : List LayerPlaces). drop 1 l) e
-drop-more (suc i) [] x xs e = absurd (let z = ap length e in omega (arith, z))
-drop-more (suc i) (y ∷ ys) x xs e = drop-more i ys x xs e
-
-pub length-counts : (f : LayerPlaces → ℕ) (ls : List LayerPlaces) → length (map f ls) ≡ length ls
-length-counts f [] = refl
-length-counts f (l ∷ ls) = ap suc (length-counts f ls)
-
 module _ {t : List ℕ} {i at : ℕ} {strings contents segments : List ℕ} {totals : Totals} (f : Filling t i at strings contents segments totals)
     {layers : ℕ} (fits : StoreFits t layers) (h : i < layers) where
-  left : 0 < length (layersFrom (length t - i) t at)
-  left =
-      let a = ap length (sym (f .rest)) ∙ length-drop i (places t .layers) in
-      omega (arith, a, fits .count, h)
+  inside : i < length (places t .layers)
+  inside = omega (arith, fits .count, h)
 
   pub filling-inside : at < length t
-  filling-inside = two-inside t at (layers-cons t (length t - i) at left .0)
-
-  here : drop i (places t .layers) ≡ layerPlaces t at ∷ layersFrom (length t - i - 1) t (layerPlaces t at .endAt)
-  here = f .rest ∙ layers-cons t (length t - i) at left .2
-
-  count-at : (g : LayerPlaces → ℕ) → g (layerPlaces t at) ≡ getD (map g (places t .layers)) i 0
-  count-at g = sym (map-at g i (places t .layers) (layerPlaces t at) _ here)
+  filling-inside = at-inside (f .place) inside
 
   fits-one : (counts : List ℕ) (total n : ℕ) → total ≡ before counts i → n ≡ getD counts i 0 → sum counts < 2 ^ 32 → total + n < 2 ^ 32
   fits-one counts total n e q l =
@@ -182,13 +124,13 @@ module _ {t : List ℕ} {i at : ℕ} {strings contents segments : List ℕ} {tot
 
   module _ {l : LayerRuns} (e : l ≡ layerRuns (layerPlaces t at)) where
     strings-at : l .strings .count ≡ getD (stringsIn (places t .layers)) i 0
-    strings-at = ap (λ (x : LayerRuns). x .strings .count) e ∙ count-at (λ (x : LayerPlaces). x .stringCount)
+    strings-at = ap (λ (x : LayerRuns). x .strings .count) e ∙ at-count (f .place) inside (λ (x : LayerPlaces). x .stringCount)
 
     contents-at : l .contents .count ≡ getD (contentsIn (places t .layers)) i 0
-    contents-at = ap (λ (x : LayerRuns). x .contents .count) e ∙ count-at (λ (x : LayerPlaces). x .contentCount)
+    contents-at = ap (λ (x : LayerRuns). x .contents .count) e ∙ at-count (f .place) inside (λ (x : LayerPlaces). x .contentCount)
 
     segments-at : l .segments .count ≡ getD (segmentsIn (places t .layers)) i 0
-    segments-at = ap (λ (x : LayerRuns). x .segments .count) e ∙ count-at (λ (x : LayerPlaces). x .segmentCount)
+    segments-at = ap (λ (x : LayerRuns). x .segments .count) e ∙ at-count (f .place) inside (λ (x : LayerPlaces). x .segmentCount)
 
     pub filling-fits : (totals .strings + l .strings .count < 2 ^ 32) × (totals .contents + l .contents .count < 2 ^ 32) × (totals .segments + l .segments .count < 2 ^ 32)
     filling-fits = (
@@ -201,13 +143,8 @@ module _ {t : List ℕ} {i at : ℕ} {strings contents segments : List ℕ} {tot
         → Filling t (i + 1) (l .end) (set strings i (totals .strings)) (set contents i (totals .contents)) (set segments i (totals .segments)) r
     filling-more {r} q =
         let few : i < 32 = omega (arith, fits .few, h) in
-        let inside : i < length (places t .layers) = omega (arith, fits .count, h) in
-        let next : length t - i - 1 ≡ length t - (i + 1) = omega arith in
-        let to = ap (λ (x : LayerRuns). x .end) e in
         rw q (record {
-          rest =
-              ap (λ (k : ℕ). drop k (places t .layers)) (add-one i) ∙ drop-more i (places t .layers) (layerPlaces t at) _ here
-              ∙ ap₂ (λ (n p : ℕ). layersFrom n t p) next (sym to);
+          place = at-next (f .place) inside e;
           first = filled-more (f .first) (l .strings .count) (omega (arith, length-counts (λ (x : LayerPlaces). x .stringCount) (places t .layers), inside)) few strings-at;
           second = filled-more (f .second) (l .contents .count) (omega (arith, length-counts (λ (x : LayerPlaces). x .contentCount) (places t .layers), inside)) few contents-at;
           third = filled-more (f .third) (l .segments .count) (omega (arith, length-counts (λ (x : LayerPlaces). x .segmentCount) (places t .layers), inside)) few segments-at;

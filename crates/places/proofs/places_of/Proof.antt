@@ -1,4 +1,4 @@
-use Rattle.places.specs.Found.{walk-near, walk-bytes, walk-lists, places-found, places-fault}
+use Rattle.places.specs.Found.{walk-near, walk-bytes, walk-lists, walk-found, walk-fault}
 use mathlib.Core.Path.{_≡_, refl, sym, ap, _∙_}
 use mathlib.Core.List.{List, [], _∷_, _++_}
 use Prim.Native.Nat.{ℕ, zero, suc, _+_, _-_, _*_, _%_, _/_, _^_, _≤_, _<_}
@@ -33,7 +33,7 @@ found-places-requires c κs = search needs
 
 -- src/lib.rt:257:9
 returns : tie.Need-returns
-returns c = places-found _ _ _ _ (c .before .before .before .before .all-layers .ensures) (c .before .before .before .lists-at .ensures) _ (c .found-places .ensures) (sym (c .before .before .frame-holds .ensures) ∙ c .before .if1 .taken)
+returns c = walk-found _ _ _ _ (c .before .before .before .before .all-layers .ensures) (c .before .before .before .lists-at .ensures) _ (c .found-places .ensures) (sym (c .before .before .frame-holds .ensures) ∙ c .before .if1 .taken)
 
 -- src/lib.rt:259:5
 no-places-requires : tie.Need-no-places-requires
@@ -41,7 +41,7 @@ no-places-requires c κs = search needs
 
 -- src/lib.rt:251:1
 returns-2 : tie.Need-returns-2
-returns-2 c = places-fault _ _ _ _ (c .before .before .before .before .all-layers .ensures) (c .before .before .before .lists-at .ensures) _ (c .no-places .ensures) (sym (c .before .before .frame-holds .ensures) ∙ c .before .if1 .left)
+returns-2 c = walk-fault _ _ _ _ (c .before .before .before .before .all-layers .ensures) (c .before .before .before .lists-at .ensures) _ (c .no-places .ensures) (sym (c .before .before .frame-holds .ensures) ∙ c .before .if1 .left)
 
 pub places-of-spec : {M : Type 1} → statement M
 places-of-spec =
