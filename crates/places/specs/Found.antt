@@ -369,12 +369,12 @@ module _ (t d : List ℕ) (s : Tally) (l : ListRuns) (e : s ≡ tallied t (lengt
   found-is : foundBy t s l ≡ found t
   unfolding found totals listRuns places nodeCodec pairCodec containerCodec diagnosticCodec
   found-is = rw (f, e, tallied-totals t (length d)) (
-    let ls = layersFrom (length t) t 9 in
-    let c : 0 + length ls ≡ length ls = omega arith in
-    let a : 0 + sum (stringsIn ls) ≡ sum (stringsIn ls) = omega arith in
-    let b : 0 + sum (contentsIn ls) ≡ sum (contentsIn ls) = omega arith in
-    let g : 0 + sum (segmentsIn ls) ≡ sum (segmentsIn ls) = omega arith in
-    rw (c, a, b, g) refl)
+      let ls = layersFrom (length t) t 9 in
+      let c : 0 + length ls ≡ length ls = omega arith in
+      let a : 0 + sum (stringsIn ls) ≡ sum (stringsIn ls) = omega arith in
+      let b : 0 + sum (contentsIn ls) ≡ sum (contentsIn ls) = omega arith in
+      let g : 0 + sum (segmentsIn ls) ≡ sum (segmentsIn ls) = omega arith in
+      rw (c, a, b, g) refl)
 
   pub walk-found : (p : Places) → p ≡ foundBy t s l → frameHolds t s (l .end) (length d) ≡ true → p ≡ placesOf t d
   unfolding placesOf

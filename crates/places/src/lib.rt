@@ -106,9 +106,18 @@ pub fn next_layer(tape: &[u8], at: usize) -> LayerRuns
     let segments_at = contents_at + 10 * contents;
     let segments = count_at(tape, segments_at, 5, 37);
     LayerRuns {
-        strings: Run { at: at + 1, count: strings },
-        contents: Run { at: contents_at, count: contents },
-        segments: Run { at: segments_at, count: segments },
+        strings: Run {
+            at: at + 1,
+            count: strings,
+        },
+        contents: Run {
+            at: contents_at,
+            count: contents,
+        },
+        segments: Run {
+            at: segments_at,
+            count: segments,
+        },
         end: segments_at + 37 * segments,
     }
 }
@@ -174,10 +183,22 @@ pub fn lists_at(tape: &[u8], at: usize) -> ListRuns
     let diagnostics_at = containers_at + 13 * containers;
     let diagnostics = count_at(tape, diagnostics_at, 9, 18);
     ListRuns {
-        nodes: Run { at: at, count: nodes },
-        pairs: Run { at: pairs_at, count: pairs },
-        containers: Run { at: containers_at, count: containers },
-        diagnostics: Run { at: diagnostics_at, count: diagnostics },
+        nodes: Run {
+            at: at,
+            count: nodes,
+        },
+        pairs: Run {
+            at: pairs_at,
+            count: pairs,
+        },
+        containers: Run {
+            at: containers_at,
+            count: containers,
+        },
+        diagnostics: Run {
+            at: diagnostics_at,
+            count: diagnostics,
+        },
         end: diagnostics_at + 18 * diagnostics,
     }
 }

@@ -129,8 +129,8 @@ layer-begins t n p (suc k) h =
     let ls = layersFrom (n - 1) t (layerPlaces t p .endAt) in
     let more = layer-begins t (n - 1) (layerPlaces t p .endAt) k (omega (arith, l, h)) in
     let q : layerPlaces t p .endAt + k + 5 * before (stringsIn ls) k + 10 * before (contentsIn ls) k + 37 * before (segmentsIn ls) k
-        ≡ p + suc k + 5 * (layerPlaces t p .stringCount + before (stringsIn ls) k) + 10 * (layerPlaces t p .contentCount + before (contentsIn ls) k)
-        + 37 * (layerPlaces t p .segmentCount + before (segmentsIn ls) k) = omega (arith, e) in
+    ≡ p + suc k + 5 * (layerPlaces t p .stringCount + before (stringsIn ls) k) + 10 * (layerPlaces t p .contentCount + before (contentsIn ls) k)
+    + 37 * (layerPlaces t p .segmentCount + before (segmentsIn ls) k) = omega (arith, e) in
     rw (c .2) (more ∙ ap (layerPlaces t) q)
 
 count-in : (f : LayerPlaces → ℕ) (ls : List LayerPlaces) (k : ℕ) → k < length ls → getD (map f ls) k 0 ≡ f (layer ls k)

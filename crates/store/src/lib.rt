@@ -42,7 +42,14 @@ pub fn start_or(starts: &[u32; 32], layers: usize, total: u32, i: usize) -> u32
     total
 }
 
-fn in_layer(starts: &[u32; 32], layers: usize, total: u32, start: usize, end: usize, i: usize) -> bool
+fn in_layer(
+    starts: &[u32; 32],
+    layers: usize,
+    total: u32,
+    start: usize,
+    end: usize,
+    i: usize,
+) -> bool
     requires { ⌜ (layers ≤ 32) × (i < layers) ⌝ }
     ensures { λ r. ⌜ r ≡ inLayer (now (starts .entry)) layers total start end i ⌝ }
 {
