@@ -57,7 +57,7 @@ found-fits t p e few a b g =
     let s = ap (λ (x : Places). x .strings) e in
     let u = ap (λ (x : Places). x .contents) e in
     let v = ap (λ (x : Places). x .segments) e in
-    record { count = n; few = few; strings = omega (arith, s, a); contents = omega (arith, u, b); segments = omega (arith, v, g) }
+    record { count = n; few = omega (arith, few); strings = omega (arith, s, a); contents = omega (arith, u, b); segments = omega (arith, v, g) }
 
 -- ---- one pool, after i layers
 
