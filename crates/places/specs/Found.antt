@@ -1,10 +1,10 @@
 -- What `places_of` finds, in the model's terms.
 use mathlib.Core.Path.{_≡_, refl, sym, ap, _∙_}
-use Prim.Native.Nat.{ℕ, zero, suc, _+_, _-_, _*_, _≤_, _<_, min}
+use Prim.Native.Nat.{ℕ, zero, suc, _+_, _-_, _*_, _≤_, _<_}
 use native.Mathlib.Omega.{arith}
 use mathlib.Core.Bool.{Bool, true, false, cond, not, _&&_, and-false}
 use mathlib.Core.List.{List, [], _∷_, map}
-use lib.ListN.{length, drop, List·getD-eq-default}
+use lib.ListN.{length, List·getD-eq-default}
 use native.Mathlib.Decide.{decLe}
 use native.Mathlib.Nat.{lt-of-not-le, sub-zero}
 use borrow.Author.Tests.{eq-eqb, ne-eqb, eqb-true, leb-true, leb-false}
@@ -12,7 +12,7 @@ use Rattle.wire.specs.Loops.{by-bool}
 use lib.Dec.{eqb, leb}
 use Rattle.model.specs.Lists.{sum, isEmpty}
 use Rattle.model.specs.Bytes.{byteAt, wordAt}
-use Rattle.model.specs.Tape.{recordsIn, recordsAt, countAt, stringCodec, contentCodec, segmentCodec, nodeCodec, pairCodec, containerCodec, diagnosticCodec}
+use Rattle.model.specs.Tape.{recordsAt, countAt, stringCodec, contentCodec, segmentCodec, nodeCodec, pairCodec, containerCodec, diagnosticCodec}
 use Rattle.model.specs.Tape.{LayerPlaces, layerPlaces, layersFrom, layersEnd, places, framed, stringLengths, bytesNeeded}
 use Rattle.laws.specs.RoundTrip.{layer-end, stringBytes}
 use Rattle.places.specs.Runs.{capped, run-reach}

@@ -1,19 +1,18 @@
 -- Laws of runs of records: `recordsIn` one record further, how far a run reaches, and the sum of a run of strings.
-use mathlib.Core.Path.{_≡_, refl, sym, ap, _∙_}
+use mathlib.Core.Path.{_≡_, refl, sym, ap}
 use Prim.Native.Nat.{ℕ, zero, suc, _+_, _-_, _*_, _≤_, _<_, min}
 use native.Mathlib.Omega.{arith}
 use native.Mathlib.Nat.{mul-suc, mul-zero}
-use native.Mathlib.Numerals.{add-one}
 use mathlib.Core.Bool.{Bool, true, false, cond}
 use mathlib.Core.List.{List, [], _∷_}
 use lib.ListN.{length, drop, drop-of-length-le, length-drop}
 use lib.Seq.{drop-cons, drop-drop}
 use lib.Dec.{eqb}
 use borrow.Author.Tests.{eq-eqb, ne-eqb}
-use Rattle.model.specs.Lists.{sum, tabulate}
+use Rattle.model.specs.Lists.{sum}
 use Rattle.model.specs.Bytes.{byteAt, wordAt}
 use Rattle.model.specs.Tape.{recordsIn, recordsAt, recordAt, operandsAt, stringCodec}
-use Rattle.wire.specs.Loops.{sumTo, sum-mono, sum-more, sum-tabulate}
+use Rattle.wire.specs.Loops.{sumTo, sum-mono, sum-tabulate}
 
 -- a sum that is known only up to room: over, it is room + 1
 abbrev pub capped : ℕ → ℕ → ℕ

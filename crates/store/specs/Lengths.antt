@@ -1,5 +1,5 @@
 -- How long the texts and lists of a tape's book are, by the numbers that `places_of` found: what number 3 is tested on.
-use mathlib.Core.Path.{_≡_, refl, sym, ap, _∙_}
+use mathlib.Core.Path.{_≡_, refl, ap}
 use Prim.Native.Nat.{ℕ, suc, _+_}
 use native.Mathlib.Omega.{arith}
 use mathlib.Core.List.{List, [], _∷_}

@@ -1,17 +1,16 @@
 -- Section 3: one pool by the starts of its layers. What the code computes from the array, and that for the counts which the
 -- starts stand for it is the model's `rangeOk`, `idOk`, and the layer that holds an item.
 use mathlib.Core.Path.{_≡_, refl, sym, ap, ap₂, _∙_}
-use Prim.Native.Nat.{ℕ, zero, suc, _+_, _-_, _*_, _≤_, _<_}
+use Prim.Native.Nat.{ℕ, zero, suc, _+_, _-_, _≤_, _<_}
 use native.Mathlib.Omega.{arith}
 use native.Mathlib.Numerals.{add-one}
-use native.Mathlib.Nat.{add-zero, zero-add, add-assoc, le-of-suc-le-suc, eq-or-lt-of-le}
-use mathlib.Core.Logic.{⊎-elim}
-use mathlib.Core.Bool.{Bool, true, false, cond, _&&_, _||_, and-false}
-use mathlib.Core.List.{List, [], _∷_, _++_}
-use lib.ListN.{length, getD, take, drop, List·getD-append}
+use native.Mathlib.Nat.{add-zero, zero-add, add-assoc}
+use mathlib.Core.Bool.{Bool, true, false, cond, _&&_, _||_}
+use mathlib.Core.List.{List, [], _∷_}
+use lib.ListN.{length, getD, take, List·getD-append}
 use lib.Seq.{take-all}
 use lib.Dec.{leb, ltb, eqb}
-use borrow.Author.Tests.{le-leb, lt-leb, lt-ltb, le-ltb, eq-eqb, ne-eqb, leb-true, leb-false, ltb-true, ltb-false}
+use borrow.Author.Tests.{le-leb, lt-leb, eq-eqb, ne-eqb, leb-true, leb-false, ltb-true, ltb-false}
 use Rattle.model.specs.Lists.{sum, any, tabulate}
 use Rattle.model.specs.Store.{layerStarts, inOneLayer, rangeOk, idOk}
 use Rattle.wire.specs.Overwrite.{zeros, padded}

@@ -7,20 +7,20 @@ use native.Mathlib.Nat.{add-zero, zero-add, mul-add, mul-zero, add-assoc}
 use mathlib.Core.Bool.{true, _&&_, _||_, false≢true}
 use mathlib.Core.List.{List, [], _∷_, _++_, map, flatten}
 use mathlib.Core.Logic.{⊎-elim}
-use lib.ListN.{length, getD, take, drop, length-append, length-drop, List·getD-map}
-use lib.Seq.{take-append-le, drop-append-le, drop-append-add, getD-take, getD-drop, drop-drop, length-take-le}
+use lib.ListN.{length, getD, take, drop, length-append, length-drop}
+use lib.Seq.{take-append-le, drop-append-le, drop-append-add, getD-take, getD-drop, drop-drop}
 use lib.Dec.{leb, ltb, eqb}
 use borrow.Author.Tests.{leb-true, eqb-true}
 use Rattle.model.specs.Lists.{sum, tabulate}
-use Rattle.model.specs.Types.{Content, Segment, Layer}
+use Rattle.model.specs.Types.{Content, Segment}
 use Rattle.model.specs.Store.{storeOf, stringCounts, contentCounts, segmentCounts, inOneLayer, rangeOk, idOk, resolveContentRange, resolveSegRange}
-use Rattle.model.specs.Tape.{Codec, recordSize, recordAt, recordsAt, countAt, stringCodec, contentCodec, segmentCodec}
+use Rattle.model.specs.Tape.{Codec, recordSize, recordAt, recordsAt, stringCodec, contentCodec, segmentCodec}
 use Rattle.model.specs.Tape.{LayerPlaces, layerPlaces, layersFrom, places, stringLengths, pieces, layerAt, layersAt}
 use Rattle.laws.specs.Lists.{both, either}
-use Rattle.laws.specs.RoundTrip.{layer-end, stringBytes}
+use Rattle.laws.specs.RoundTrip.{layer-end}
 use Rattle.places.specs.Found.{stringsIn, contentsIn, segmentsIn}
 use Rattle.places.specs.Again.{layers-cons, length-counts, nodes-place}
-use Rattle.store.specs.Pools.{Pool, Held, startOr, rangeIn, layerOf, before, before-next, before-all, before-most, pool-start-or, pool-id, pool-range, pool-held, held-one}
+use Rattle.store.specs.Pools.{Pool, Held, startOr, rangeIn, layerOf, before, before-next, before-most, pool-start-or, pool-id, pool-range, pool-held, held-one}
 use Rattle.store.specs.Stored.{storeAt}
 use Rattle.store.specs.declared.Store.{Store}
 

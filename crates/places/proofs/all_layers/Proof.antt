@@ -1,10 +1,8 @@
 use Rattle.places.specs.Found.{Walked, walked-none, walked-more, walked-all, walked-rises, two-inside}
-use mathlib.Core.Path.{_≡_, refl, sym, ap, _∙_}
-use mathlib.Core.List.{List, [], _∷_, _++_}
-use Prim.Native.Nat.{ℕ, zero, suc, _+_, _-_, _*_, _%_, _/_, _^_, _≤_, _<_}
+use mathlib.Core.Path.{sym, _∙_}
+use Prim.Native.Nat.{_-_}
 use native.Mathlib.Omega.{arith}
-use borrow.Author.Needs.{needs}
-use lib.ListN.{length, getD, take, drop, set, replicate, length-set, length-take, length-drop, length-append, length-replicate}
+use lib.ListN.{length}
 use Rattle.places.proofs.all_layers.Statement.{statement}
 use Rattle.places.proofs.all_layers.Tie as tie
 use Rattle.places.proofs.all_layers.Reads as reads

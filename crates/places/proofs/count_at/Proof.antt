@@ -1,10 +1,7 @@
 use Rattle.places.specs.Runs.{Counted, counted-none, counted-more, counted-other, counted-past}
-use mathlib.Core.Path.{_≡_, refl, sym, ap, _∙_}
-use mathlib.Core.List.{List, [], _∷_, _++_}
-use Prim.Native.Nat.{ℕ, zero, suc, _+_, _-_, _*_, _%_, _/_, _^_, _≤_, _<_}
+use Prim.Native.Nat.{_-_}
 use native.Mathlib.Omega.{arith}
-use borrow.Author.Needs.{needs}
-use lib.ListN.{length, getD, take, drop, set, replicate, length-set, length-take, length-drop, length-append, length-replicate}
+use lib.ListN.{length}
 use Rattle.places.proofs.count_at.Statement.{statement}
 use Rattle.places.proofs.count_at.Tie as tie
 use Rattle.places.proofs.count_at.Reads as reads

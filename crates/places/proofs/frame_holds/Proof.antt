@@ -1,9 +1,4 @@
 use Rattle.places.specs.Found.{frame-head, frame-tail, frame-behind, frame-layers, frame-bytes}
-use mathlib.Core.Path.{_≡_, refl, sym, ap, _∙_}
-use mathlib.Core.List.{List, [], _∷_, _++_}
-use Prim.Native.Nat.{ℕ, zero, suc, _+_, _-_, _*_, _%_, _/_, _^_, _≤_, _<_}
-use native.Mathlib.Omega.{arith}
-use lib.ListN.{length, getD, take, drop, set, replicate, length-set, length-take, length-drop, length-append, length-replicate}
 use borrow.Author.Needs.{needs}
 use Rattle.places.proofs.frame_holds.Statement.{statement}
 use Rattle.places.proofs.frame_holds.Tie as tie

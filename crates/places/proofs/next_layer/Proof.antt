@@ -1,10 +1,9 @@
 use Rattle.model.specs.Tape.{layerPlaces, countAt, stringCodec, contentCodec, segmentCodec}
 use Rattle.places.specs.Runs.{reached}
-use mathlib.Core.Path.{_≡_, refl, sym, ap, _∙_}
-use mathlib.Core.List.{List, [], _∷_, _++_}
-use Prim.Native.Nat.{ℕ, zero, suc, _+_, _-_, _*_, _%_, _/_, _^_, _≤_, _<_}
+use mathlib.Core.Path.{refl}
+use Prim.Native.Nat.{_+_, _*_}
 use native.Mathlib.Omega.{arith}
-use lib.ListN.{length, getD, take, drop, set, replicate, length-set, length-take, length-drop, length-append, length-replicate}
+use lib.ListN.{length}
 use borrow.Author.Needs.{needs}
 use Rattle.places.proofs.next_layer.Statement.{statement}
 use Rattle.places.proofs.next_layer.Tie as tie

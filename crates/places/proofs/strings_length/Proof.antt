@@ -1,11 +1,8 @@
 use Rattle.wire.specs.Loops.{sumTo, sum-more}
 use Rattle.places.specs.Runs.{lengthAt, lengths-over, lengths-in}
-use mathlib.Core.Path.{_≡_, refl, sym, ap, _∙_}
-use mathlib.Core.List.{List, [], _∷_, _++_}
-use Prim.Native.Nat.{ℕ, zero, suc, _+_, _-_, _*_, _%_, _/_, _^_, _≤_, _<_}
+use mathlib.Core.Path.{_≡_, refl}
+use Prim.Native.Nat.{_-_, _≤_}
 use native.Mathlib.Omega.{arith}
-use borrow.Author.Needs.{needs}
-use lib.ListN.{length, getD, take, drop, set, replicate, length-set, length-take, length-drop, length-append, length-replicate}
 use Rattle.places.proofs.strings_length.Statement.{statement}
 use Rattle.places.proofs.strings_length.Tie as tie
 use Rattle.places.proofs.strings_length.Reads as reads

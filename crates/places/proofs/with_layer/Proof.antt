@@ -1,9 +1,5 @@
-use Rattle.places.specs.Found.{LayerSmall, layer-small, layer-added}
-use mathlib.Core.Path.{_≡_, refl, sym, ap, _∙_}
-use mathlib.Core.List.{List, [], _∷_, _++_}
-use Prim.Native.Nat.{ℕ, zero, suc, _+_, _-_, _*_, _%_, _/_, _^_, _≤_, _<_}
+use Rattle.places.specs.Found.{layer-small, layer-added}
 use native.Mathlib.Omega.{arith}
-use lib.ListN.{length, getD, take, drop, set, replicate, length-set, length-take, length-drop, length-append, length-replicate}
 use borrow.Author.Needs.{needs}
 use Rattle.places.proofs.with_layer.Statement.{statement}
 use Rattle.places.proofs.with_layer.Tie as tie

@@ -1,11 +1,8 @@
 use Rattle.store.specs.Pools.{inLayer, inOne}
 use Rattle.wire.specs.Loops.{Missed, missed-none, missed-more, any-missed, any-found}
-use mathlib.Core.Path.{_≡_, refl, sym, ap, _∙_}
-use mathlib.Core.List.{List, [], _∷_, _++_}
-use Prim.Native.Nat.{ℕ, zero, suc, _+_, _-_, _*_, _%_, _/_, _^_, _≤_, _<_}
+use mathlib.Core.Path.{_≡_, sym, _∙_}
+use Prim.Native.Nat.{_-_, _≤_}
 use native.Mathlib.Omega.{arith}
-use borrow.Author.Needs.{needs}
-use lib.ListN.{length, getD, take, drop, set, replicate, length-set, length-take, length-drop, length-append, length-replicate}
 use Rattle.store.proofs.in_one_layer.Statement.{statement}
 use Rattle.store.proofs.in_one_layer.Tie as tie
 use Rattle.store.proofs.in_one_layer.Reads as reads

@@ -1,10 +1,7 @@
 use Rattle.store.specs.Pools.{layerOf, layer-here, layer-below, layer-none}
-use mathlib.Core.Path.{_≡_, refl, sym, ap, _∙_}
-use mathlib.Core.List.{List, [], _∷_, _++_}
-use Prim.Native.Nat.{ℕ, zero, suc, _+_, _-_, _*_, _%_, _/_, _^_, _≤_, _<_}
+use mathlib.Core.Path.{_≡_, refl, sym, _∙_}
+use Prim.Native.Nat.{_≤_}
 use native.Mathlib.Omega.{arith}
-use borrow.Author.Needs.{needs}
-use lib.ListN.{length, getD, take, drop, set, replicate, length-set, length-take, length-drop, length-append, length-replicate}
 use Rattle.store.proofs.layer_of.Statement.{statement}
 use Rattle.store.proofs.layer_of.Tie as tie
 use Rattle.store.proofs.layer_of.Reads as reads

@@ -1,10 +1,7 @@
 use Rattle.store.specs.Standing.{segmentPlace}
 use Rattle.store.specs.Pools.{layer-few}
-use mathlib.Core.Path.{_≡_, refl, sym, ap, _∙_}
-use mathlib.Core.List.{List, [], _∷_, _++_}
-use Prim.Native.Nat.{ℕ, zero, suc, _+_, _-_, _*_, _%_, _/_, _^_, _≤_, _<_}
+use mathlib.Core.Path.{refl}
 use native.Mathlib.Omega.{arith}
-use lib.ListN.{length, getD, take, drop, set, replicate, length-set, length-take, length-drop, length-append, length-replicate}
 use borrow.Author.Needs.{needs}
 use Rattle.store.proofs.segment_place.Statement.{statement}
 use Rattle.store.proofs.segment_place.Tie as tie
