@@ -15,7 +15,8 @@ use Rattle.model.specs.Bytes.{byteAt, wordAt}
 use Rattle.model.specs.Tape.{recordsAt, countAt, stringCodec, contentCodec, segmentCodec, nodeCodec, pairCodec, containerCodec, diagnosticCodec}
 use Rattle.model.specs.Tape.{LayerPlaces, layerPlaces, layersFrom, layersEnd, places, framed, stringLengths, bytesNeeded}
 use Rattle.laws.specs.RoundTrip.{layer-end, stringBytes}
-use Rattle.places.specs.Runs.{capped, run-reach}
+use Rattle.places.specs.Runs.{capped}
+use Rattle.places.specs.Ends.{segments-end, diagnostics-end}
 use Rattle.places.specs.declared.Run.{Run}
 use Rattle.places.specs.declared.LayerRuns.{LayerRuns}
 use Rattle.places.specs.declared.ListRuns.{ListRuns}
@@ -166,10 +167,7 @@ two-inside t p e = byte-inside t p (λ z. absurd (omega (arith, e, z)))
 module _ (t : List ℕ) (p : ℕ) (h : p < length t) where
   layer-near : layerPlaces t p .endAt ≤ length t + 36
   unfolding layerPlaces countAt stringCodec contentCodec segmentCodec
-  layer-near =
-      let a : p + 1 + 5 * countAt stringCodec t (p + 1) ≤ length t + 36 = run-reach 3 5 t (p + 1) (length t + 36) (omega arith) (omega arith) (omega arith) in
-      let b = run-reach 4 10 t (p + 1 + 5 * countAt stringCodec t (p + 1)) (length t + 36) (omega arith) a (omega arith) in
-      run-reach 5 37 t _ (length t + 36) (omega arith) b (omega arith)
+  layer-near = segments-end t p _ h refl _ refl _ refl
 
 -- ---- the loop over the layers
 
@@ -314,11 +312,7 @@ tallied-near t room = rw (tallied-totals t room) (layers-near t (length t) 9 (om
 
 pub lists-near : (t : List ℕ) (at : ℕ) → at ≤ length t + 36 → listRuns t at .end ≤ length t + 48
 unfolding listRuns countAt nodeCodec pairCodec containerCodec diagnosticCodec
-lists-near t at h =
-    let a : at + 49 * countAt nodeCodec t at ≤ length t + 48 = run-reach 6 49 t at (length t + 48) (omega arith) (omega arith) (omega arith) in
-    let b = run-reach 7 18 t (at + 49 * countAt nodeCodec t at) (length t + 48) (omega arith) a (omega arith) in
-    let g = run-reach 8 13 t _ (length t + 48) (omega arith) b (omega arith) in
-    run-reach 9 18 t _ (length t + 48) (omega arith) g (omega arith)
+lists-near t at h = diagnostics-end t at _ h refl _ refl _ refl _ refl
 
 -- ---- the frame, test by test
 

@@ -1,3 +1,4 @@
 pub mod Runs
+pub mod Ends
 pub mod Found
 pub mod Again

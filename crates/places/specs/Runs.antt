@@ -66,10 +66,6 @@ module _ (command size : ℕ) where
       go zero e = rw (records-past t p (omega arith), mul-zero) (omega arith)
       go (suc m) e = let l = length-drop p t in omega (arith, reach, l)
 
-  -- the same, of the count that the code has
-  pub reached : (t : List ℕ) (p q r : ℕ) → r ≡ recordsIn command size 0 (drop p t) → 1 ≤ size → p ≤ q → length t + (size - 1) ≤ q → p + size * r ≤ q
-  reached t p q r e z h g = rw e (run-reach t p q z h g)
-
 -- ---- the loop of `count_at`: n records passed, the next at `place`
 
 pub record Counted (command size : ℕ) (t : List ℕ) (at n place : ℕ) : Type 0 where

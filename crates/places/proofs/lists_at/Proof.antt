@@ -1,10 +1,8 @@
 use Rattle.model.specs.Tape.{countAt, nodeCodec, pairCodec, containerCodec, diagnosticCodec}
 use Rattle.places.specs.Found.{listRuns}
-use Rattle.places.specs.Runs.{reached}
+use Rattle.places.specs.Ends.{nodes-end, pairs-end, containers-end, diagnostics-end}
 use mathlib.Core.Path.{refl}
-use Prim.Native.Nat.{_+_, _*_}
 use native.Mathlib.Omega.{arith}
-use lib.ListN.{length}
 use borrow.Author.Needs.{needs}
 use Rattle.places.proofs.lists_at.Statement.{statement}
 use Rattle.places.proofs.lists_at.Tie as tie
@@ -18,11 +16,11 @@ count-at-requires c κs = search needs
 
 -- src/lib.rt:170:25
 mul-pairs-at : tie.Need-mul-pairs-at
-mul-pairs-at c = let a = reached 6 49 (c .before .before .args .tape .now) (c .before .before .args .at) (length (c .before .before .args .tape .now) + 48) (c .count-at .result) (c .count-at .ensures) (omega arith) (omega arith) (omega arith) in omega arith
+mul-pairs-at c = omega (arith, nodes-end _ _ _ (c .before .before .pre) (c .count-at .ensures))
 
 -- src/lib.rt:170:20
 add-pairs-at : tie.Need-add-pairs-at
-add-pairs-at c = let a = reached 6 49 (c .before .before .args .tape .now) (c .before .before .args .at) (length (c .before .before .args .tape .now) + 48) (c .count-at .result) (c .count-at .ensures) (omega arith) (omega arith) (omega arith) in omega arith
+add-pairs-at c = omega (arith, nodes-end _ _ _ (c .before .before .pre) (c .count-at .ensures))
 
 -- src/lib.rt:171:9
 count-at-requires-2 : tie.Need-count-at-requires-2
@@ -30,11 +28,11 @@ count-at-requires-2 c κs = search needs
 
 -- src/lib.rt:172:36
 mul-containers-at : tie.Need-mul-containers-at
-mul-containers-at c = let a = reached 6 49 (c .before .before .before .args .tape .now) (c .before .before .before .args .at) (length (c .before .before .before .args .tape .now) + 48) (c .before .count-at .result) (c .before .count-at .ensures) (omega arith) (omega arith) (omega arith) in let b = reached 7 18 (c .before .before .before .args .tape .now) (c .before .before .before .args .at + 49 * c .before .count-at .result) (length (c .before .before .before .args .tape .now) + 48) (c .count-at2 .result) (c .count-at2 .ensures) (omega arith) a (omega arith) in omega arith
+mul-containers-at c = omega (arith, pairs-end _ _ _ (c .before .before .before .pre) (c .before .count-at .ensures) _ (c .count-at2 .ensures))
 
 -- src/lib.rt:172:25
 add-containers-at : tie.Need-add-containers-at
-add-containers-at c = let a = reached 6 49 (c .before .before .before .args .tape .now) (c .before .before .before .args .at) (length (c .before .before .before .args .tape .now) + 48) (c .before .count-at .result) (c .before .count-at .ensures) (omega arith) (omega arith) (omega arith) in let b = reached 7 18 (c .before .before .before .args .tape .now) (c .before .before .before .args .at + 49 * c .before .count-at .result) (length (c .before .before .before .args .tape .now) + 48) (c .count-at2 .result) (c .count-at2 .ensures) (omega arith) a (omega arith) in omega arith
+add-containers-at c = omega (arith, pairs-end _ _ _ (c .before .before .before .pre) (c .before .count-at .ensures) _ (c .count-at2 .ensures))
 
 -- src/lib.rt:173:9
 count-at-requires-3 : tie.Need-count-at-requires-3
@@ -42,11 +40,11 @@ count-at-requires-3 c κs = search needs
 
 -- src/lib.rt:174:42
 mul-diagnostics-at : tie.Need-mul-diagnostics-at
-mul-diagnostics-at c = let a = reached 6 49 (c .before .before .before .before .args .tape .now) (c .before .before .before .before .args .at) (length (c .before .before .before .before .args .tape .now) + 48) (c .before .before .count-at .result) (c .before .before .count-at .ensures) (omega arith) (omega arith) (omega arith) in let b = reached 7 18 (c .before .before .before .before .args .tape .now) (c .before .before .before .before .args .at + 49 * c .before .before .count-at .result) (length (c .before .before .before .before .args .tape .now) + 48) (c .before .count-at2 .result) (c .before .count-at2 .ensures) (omega arith) a (omega arith) in let g = reached 8 13 (c .before .before .before .before .args .tape .now) (c .before .before .before .before .args .at + 49 * c .before .before .count-at .result + 18 * c .before .count-at2 .result) (length (c .before .before .before .before .args .tape .now) + 48) (c .count-at3 .result) (c .count-at3 .ensures) (omega arith) b (omega arith) in omega arith
+mul-diagnostics-at c = omega (arith, containers-end _ _ _ (c .before .before .before .before .pre) (c .before .before .count-at .ensures) _ (c .before .count-at2 .ensures) _ (c .count-at3 .ensures))
 
 -- src/lib.rt:174:26
 add-diagnostics-at : tie.Need-add-diagnostics-at
-add-diagnostics-at c = let a = reached 6 49 (c .before .before .before .before .args .tape .now) (c .before .before .before .before .args .at) (length (c .before .before .before .before .args .tape .now) + 48) (c .before .before .count-at .result) (c .before .before .count-at .ensures) (omega arith) (omega arith) (omega arith) in let b = reached 7 18 (c .before .before .before .before .args .tape .now) (c .before .before .before .before .args .at + 49 * c .before .before .count-at .result) (length (c .before .before .before .before .args .tape .now) + 48) (c .before .count-at2 .result) (c .before .count-at2 .ensures) (omega arith) a (omega arith) in let g = reached 8 13 (c .before .before .before .before .args .tape .now) (c .before .before .before .before .args .at + 49 * c .before .before .count-at .result + 18 * c .before .count-at2 .result) (length (c .before .before .before .before .args .tape .now) + 48) (c .count-at3 .result) (c .count-at3 .ensures) (omega arith) b (omega arith) in omega arith
+add-diagnostics-at c = omega (arith, containers-end _ _ _ (c .before .before .before .before .pre) (c .before .before .count-at .ensures) _ (c .before .count-at2 .ensures) _ (c .count-at3 .ensures))
 
 -- src/lib.rt:175:9
 count-at-requires-4 : tie.Need-count-at-requires-4
@@ -54,11 +52,11 @@ count-at-requires-4 c κs = search needs
 
 -- src/lib.rt:181:31
 mul-t10 : tie.Need-mul-t10
-mul-t10 c = let a = reached 6 49 (c .before .before .before .before .before .args .tape .now) (c .before .before .before .before .before .args .at) (length (c .before .before .before .before .before .args .tape .now) + 48) (c .before .before .before .count-at .result) (c .before .before .before .count-at .ensures) (omega arith) (omega arith) (omega arith) in let b = reached 7 18 (c .before .before .before .before .before .args .tape .now) (c .before .before .before .before .before .args .at + 49 * c .before .before .before .count-at .result) (length (c .before .before .before .before .before .args .tape .now) + 48) (c .before .before .count-at2 .result) (c .before .before .count-at2 .ensures) (omega arith) a (omega arith) in let g = reached 8 13 (c .before .before .before .before .before .args .tape .now) (c .before .before .before .before .before .args .at + 49 * c .before .before .before .count-at .result + 18 * c .before .before .count-at2 .result) (length (c .before .before .before .before .before .args .tape .now) + 48) (c .before .count-at3 .result) (c .before .count-at3 .ensures) (omega arith) b (omega arith) in let k = reached 9 18 (c .before .before .before .before .before .args .tape .now) (c .before .before .before .before .before .args .at + 49 * c .before .before .before .count-at .result + 18 * c .before .before .count-at2 .result + 13 * c .before .count-at3 .result) (length (c .before .before .before .before .before .args .tape .now) + 48) (c .count-at4 .result) (c .count-at4 .ensures) (omega arith) g (omega arith) in omega arith
+mul-t10 c = omega (arith, diagnostics-end _ _ _ (c .before .before .before .before .before .pre) (c .before .before .before .count-at .ensures) _ (c .before .before .count-at2 .ensures) _ (c .before .count-at3 .ensures) _ (c .count-at4 .ensures))
 
 -- src/lib.rt:181:14
 add-t15 : tie.Need-add-t15
-add-t15 c = let a = reached 6 49 (c .before .before .before .before .before .args .tape .now) (c .before .before .before .before .before .args .at) (length (c .before .before .before .before .before .args .tape .now) + 48) (c .before .before .before .count-at .result) (c .before .before .before .count-at .ensures) (omega arith) (omega arith) (omega arith) in let b = reached 7 18 (c .before .before .before .before .before .args .tape .now) (c .before .before .before .before .before .args .at + 49 * c .before .before .before .count-at .result) (length (c .before .before .before .before .before .args .tape .now) + 48) (c .before .before .count-at2 .result) (c .before .before .count-at2 .ensures) (omega arith) a (omega arith) in let g = reached 8 13 (c .before .before .before .before .before .args .tape .now) (c .before .before .before .before .before .args .at + 49 * c .before .before .before .count-at .result + 18 * c .before .before .count-at2 .result) (length (c .before .before .before .before .before .args .tape .now) + 48) (c .before .count-at3 .result) (c .before .count-at3 .ensures) (omega arith) b (omega arith) in let k = reached 9 18 (c .before .before .before .before .before .args .tape .now) (c .before .before .before .before .before .args .at + 49 * c .before .before .before .count-at .result + 18 * c .before .before .count-at2 .result + 13 * c .before .count-at3 .result) (length (c .before .before .before .before .before .args .tape .now) + 48) (c .count-at4 .result) (c .count-at4 .ensures) (omega arith) g (omega arith) in omega arith
+add-t15 c = omega (arith, diagnostics-end _ _ _ (c .before .before .before .before .before .pre) (c .before .before .before .count-at .ensures) _ (c .before .before .count-at2 .ensures) _ (c .before .count-at3 .ensures) _ (c .count-at4 .ensures))
 
 -- src/lib.rt:165:1
 returns : tie.Need-returns

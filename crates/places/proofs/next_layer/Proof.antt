@@ -1,9 +1,7 @@
 use Rattle.model.specs.Tape.{layerPlaces, countAt, stringCodec, contentCodec, segmentCodec}
-use Rattle.places.specs.Runs.{reached}
+use Rattle.places.specs.Ends.{strings-end, contents-end, segments-end}
 use mathlib.Core.Path.{refl}
-use Prim.Native.Nat.{_+_, _*_}
 use native.Mathlib.Omega.{arith}
-use lib.ListN.{length}
 use borrow.Author.Needs.{needs}
 use Rattle.places.proofs.next_layer.Statement.{statement}
 use Rattle.places.proofs.next_layer.Tie as tie
@@ -25,11 +23,11 @@ add-contents-at c = search needs
 
 -- src/lib.rt:104:32
 mul-contents-at : tie.Need-mul-contents-at
-mul-contents-at c = let a = reached 3 5 (c .before .before .args .tape .now) (c .before .before .args .at + 1) (length (c .before .before .args .tape .now) + 36) (c .count-at .result) (c .count-at .ensures) (omega arith) (omega arith) (omega arith) in omega arith
+mul-contents-at c = omega (arith, strings-end _ _ _ (c .before .before .pre) (c .count-at .ensures))
 
 -- src/lib.rt:104:23
 add-contents-at-2 : tie.Need-add-contents-at-2
-add-contents-at-2 c = let a = reached 3 5 (c .before .before .args .tape .now) (c .before .before .args .at + 1) (length (c .before .before .args .tape .now) + 36) (c .count-at .result) (c .count-at .ensures) (omega arith) (omega arith) (omega arith) in omega arith
+add-contents-at-2 c = omega (arith, strings-end _ _ _ (c .before .before .pre) (c .count-at .ensures))
 
 -- src/lib.rt:105:9
 count-at-requires-2 : tie.Need-count-at-requires-2
@@ -37,11 +35,11 @@ count-at-requires-2 c κs = search needs
 
 -- src/lib.rt:106:37
 mul-segments-at : tie.Need-mul-segments-at
-mul-segments-at c = let a = reached 3 5 (c .before .before .before .args .tape .now) (c .before .before .before .args .at + 1) (length (c .before .before .before .args .tape .now) + 36) (c .before .count-at .result) (c .before .count-at .ensures) (omega arith) (omega arith) (omega arith) in let b = reached 4 10 (c .before .before .before .args .tape .now) (c .before .before .before .args .at + 1 + 5 * c .before .count-at .result) (length (c .before .before .before .args .tape .now) + 36) (c .count-at2 .result) (c .count-at2 .ensures) (omega arith) a (omega arith) in omega arith
+mul-segments-at c = omega (arith, contents-end _ _ _ (c .before .before .before .pre) (c .before .count-at .ensures) _ (c .count-at2 .ensures))
 
 -- src/lib.rt:106:23
 add-segments-at : tie.Need-add-segments-at
-add-segments-at c = let a = reached 3 5 (c .before .before .before .args .tape .now) (c .before .before .before .args .at + 1) (length (c .before .before .before .args .tape .now) + 36) (c .before .count-at .result) (c .before .count-at .ensures) (omega arith) (omega arith) (omega arith) in let b = reached 4 10 (c .before .before .before .args .tape .now) (c .before .before .before .args .at + 1 + 5 * c .before .count-at .result) (length (c .before .before .before .args .tape .now) + 36) (c .count-at2 .result) (c .count-at2 .ensures) (omega arith) a (omega arith) in omega arith
+add-segments-at c = omega (arith, contents-end _ _ _ (c .before .before .before .pre) (c .before .count-at .ensures) _ (c .count-at2 .ensures))
 
 -- src/lib.rt:107:9
 count-at-requires-3 : tie.Need-count-at-requires-3
@@ -53,11 +51,11 @@ add-t9 c = search needs
 
 -- src/lib.rt:112:28
 mul-t8 : tie.Need-mul-t8
-mul-t8 c = let a = reached 3 5 (c .before .before .before .before .args .tape .now) (c .before .before .before .before .args .at + 1) (length (c .before .before .before .before .args .tape .now) + 36) (c .before .before .count-at .result) (c .before .before .count-at .ensures) (omega arith) (omega arith) (omega arith) in let b = reached 4 10 (c .before .before .before .before .args .tape .now) (c .before .before .before .before .args .at + 1 + 5 * c .before .before .count-at .result) (length (c .before .before .before .before .args .tape .now) + 36) (c .before .count-at2 .result) (c .before .count-at2 .ensures) (omega arith) a (omega arith) in let g = reached 5 37 (c .before .before .before .before .args .tape .now) (c .before .before .before .before .args .at + 1 + 5 * c .before .before .count-at .result + 10 * c .before .count-at2 .result) (length (c .before .before .before .before .args .tape .now) + 36) (c .count-at3 .result) (c .count-at3 .ensures) (omega arith) b (omega arith) in omega arith
+mul-t8 c = omega (arith, segments-end _ _ _ (c .before .before .before .before .pre) (c .before .before .count-at .ensures) _ (c .before .count-at2 .ensures) _ (c .count-at3 .ensures))
 
 -- src/lib.rt:112:14
 add-t13 : tie.Need-add-t13
-add-t13 c = let a = reached 3 5 (c .before .before .before .before .args .tape .now) (c .before .before .before .before .args .at + 1) (length (c .before .before .before .before .args .tape .now) + 36) (c .before .before .count-at .result) (c .before .before .count-at .ensures) (omega arith) (omega arith) (omega arith) in let b = reached 4 10 (c .before .before .before .before .args .tape .now) (c .before .before .before .before .args .at + 1 + 5 * c .before .before .count-at .result) (length (c .before .before .before .before .args .tape .now) + 36) (c .before .count-at2 .result) (c .before .count-at2 .ensures) (omega arith) a (omega arith) in let g = reached 5 37 (c .before .before .before .before .args .tape .now) (c .before .before .before .before .args .at + 1 + 5 * c .before .before .count-at .result + 10 * c .before .count-at2 .result) (length (c .before .before .before .before .args .tape .now) + 36) (c .count-at3 .result) (c .count-at3 .ensures) (omega arith) b (omega arith) in omega arith
+add-t13 c = omega (arith, segments-end _ _ _ (c .before .before .before .before .pre) (c .before .before .count-at .ensures) _ (c .before .count-at2 .ensures) _ (c .count-at3 .ensures))
 
 -- src/lib.rt:99:1
 returns : tie.Need-returns
