@@ -2,3 +2,4 @@ pub mod Runs
 pub mod Ends
 pub mod Found
 pub mod Again
+pub mod Examples
