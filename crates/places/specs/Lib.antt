@@ -1,0 +1,5 @@
+pub mod Runs
+pub mod Ends
+pub mod Found
+pub mod Again
+pub mod Examples

@@ -1,0 +1,4 @@
+pub mod Pools
+pub mod Stored
+pub mod Standing
+pub mod Lengths
