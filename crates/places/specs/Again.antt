@@ -185,6 +185,9 @@ pub lists-inside : (t : List ℕ) → ListsInside t
 unfolding places nodeCodec pairCodec containerCodec diagnosticCodec
 lists-inside t = record { nodes = refl; pairs = refl; containers = refl; diagnostics = refl }
 
+pub nodes-inside : (t d : List ℕ) → Frame t d → places t .nodesAt < length t
+nodes-inside t d f = let l = lists-inside t in omega (arith, f .size, l .nodes, l .pairs, l .containers, l .diagnostics)
+
 -- ---- what `parse` makes of it
 
 pub record Parsed (t d : List ℕ) (p : Places) : Type 0 where
