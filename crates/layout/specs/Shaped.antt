@@ -3,7 +3,7 @@ use mathlib.Core.Path.{_≡_, refl, sym, ap, _∙_}
 use Prim.Native.Nat.{ℕ, zero, suc, _+_, _*_, _≤_, _<_}
 use native.Mathlib.Omega.{arith}
 use native.Mathlib.Numerals.{add-one}
-use mathlib.Core.Bool.{Bool, true, false, cond, _&&_}
+use mathlib.Core.Bool.{Bool, true, false, cond, _&&_, true≢false}
 use mathlib.Core.Option.{Option, none, some}
 use mathlib.Core.List.{List, [], _∷_}
 use lib.ListN.{length, getD, drop}
@@ -14,7 +14,8 @@ use Rattle.model.specs.Tape.{LayerPlaces, layerPlaces, places, recordsAt, conte
 use Rattle.model.specs.Tape.{contentShape, segmentShape, nodeShape, pairShape, diagnosticShape, layerShape, bookShape, stringLengths, layerAt, layersAt, bookAt, ifShaped, parse}
 use Rattle.places.specs.declared.LayerRuns.{LayerRuns}
 use Rattle.places.specs.declared.Places.{Places}
-use Rattle.places.specs.Found.{layerRuns, found, noPlaces, placesOf}
+use Rattle.wire.specs.Loops.{by-bool}
+use Rattle.places.specs.Found.{layerRuns, holds, found, noPlaces, placesOf}
 use Rattle.places.specs.Again.{AtLayer, at-first, at-inside, at-here, at-next, at-before, Frame, frame, lists-inside, nodes-inside, Parsed, places-fault, places-parsed}
 
 -- ---- definitions
@@ -220,3 +221,55 @@ module _ (t d : List ℕ) {p : Places} (e : p ≡ placesOf t d) where
         pub layout-book : b ≡ true → p ≡ layoutOf t d
         unfolding layoutOf
         layout-book m = rw (book, ← g, h, ← k, m) (parsed .is)
+
+-- ---- what the answer says
+
+-- a book, and its places
+pub record Laid (t d : List ℕ) (p : Places) : Type 0 where
+  pub is : p ≡ found t
+  pub framing : Frame t d
+  pub book : parse t d ≡ some (bookAt t (places t) d)
+
+module _ (t d : List ℕ) where
+  parse-some : holds t d ≡ true → bookShape (bookAt t (places t) d) ≡ true → parse t d ≡ some (bookAt t (places t) d)
+  unfolding holds parse ifShaped
+  parse-some h s = rw (h, s) refl
+
+  parse-misshapen : holds t d ≡ true → bookShape (bookAt t (places t) d) ≡ false → parse t d ≡ none
+  unfolding holds parse ifShaped
+  parse-misshapen h s = rw (h, s) refl
+
+  parse-unframed : holds t d ≡ false → parse t d ≡ none
+  unfolding holds parse
+  parse-unframed h = rw h refl
+
+  module _ {p : Places} (e : p ≡ layoutOf t d) where
+    none-fault : parse t d ≡ none → p .fault ≡ true
+    unfolding layoutOf noPlaces
+    none-fault n = ap (λ (x : Places). x .fault) (e ∙ ap (placesIf t) n)
+
+    some-found : (b : LexOutput) → parse t d ≡ some b → p ≡ found t
+    unfolding layoutOf
+    some-found b n = e ∙ ap (placesIf t) n
+
+    some-sound : (b : LexOutput) → parse t d ≡ some b → p .fault ≡ false
+    unfolding found
+    some-sound b n = ap (λ (x : Places). x .fault) (some-found b n)
+
+    pub layout-laid : p .fault ≡ false → Laid t d p
+    layout-laid f =
+        by-bool (holds t d)
+        (λ h.
+        by-bool (bookShape (bookAt t (places t) d))
+        (λ s. let b = parse-some h s in record { is = some-found (bookAt t (places t) d) b; framing = frame t d h; book = b })
+        (λ s. absurd (true≢false (sym (none-fault (parse-misshapen h s)) ∙ f))))
+        (λ h. absurd (true≢false (sym (none-fault (parse-unframed h)) ∙ f)))
+
+    pub layout-refused : p .fault ≡ true → parse t d ≡ none
+    layout-refused f =
+        by-bool (holds t d)
+        (λ h.
+        by-bool (bookShape (bookAt t (places t) d))
+        (λ s. absurd (true≢false (sym f ∙ some-sound (bookAt t (places t) d) (parse-some h s))))
+        (parse-misshapen h))
+        parse-unframed
