@@ -225,7 +225,7 @@ fn frame_holds(tape: &[u8], s: Tally, end: usize, room: usize) -> bool
     room == text + normalized + s.bytes
 }
 
-fn no_places() -> Places
+pub fn no_places() -> Places
     ensures { λ r. ⌜ r ≡ noPlaces ⌝ }
 {
     let none = Run { at: 0, count: 0 };
