@@ -2,11 +2,19 @@
 // itself, so that no character lies across two strings; the strings are walked layer by layer, as their bytes stand one behind
 // the other. Number 3: no text, pool, list or number of layers is over its limit, by the counts that `places_of` found.
 ghost use mathlib.Core.Path.{_≡_};
+ghost use Prim.Native.Nat.{_+_, _*_, _≤_};
+ghost use lib.ListN.{length, take, drop};
+ghost use Rattle.model.specs.Lists.{all, sum};
+ghost use Rattle.model.specs.Utf8.{utf8};
+ghost use Rattle.model.specs.Tape.{recordsAt, stringCodec, pieces};
 ghost use Rattle.texts.specs.Limits.{fewEnough};
 
 const MAX_TEXT: u32 = 16777215;
+
 const MAX_POOL: usize = 1048575;
+
 const MAX_LIST: usize = 262143;
+
 const MAX_LAYERS: usize = 32;
 
 // Number 3. By `few-within` it is `withinLimits` of the tape's book.
@@ -23,4 +31,30 @@ pub fn within_limits(p: places::Places) -> bool
         & (p.containers.count <= MAX_LIST)
         & (p.diagnostics.count <= MAX_LIST)
         & (p.layers <= MAX_LAYERS)
+}
+
+fn part_utf8(bytes: &[u8], at: usize, len: usize) -> bool
+    requires { ⌜ at + len ≤ length (now bytes) ⌝ }
+    ensures { λ r. ⌜ r ≡ utf8 (take len (drop at (now (bytes .entry)))) ⌝ }
+{
+    utf8::is_utf8(&bytes[at..at + len])
+}
+
+// Number 2, one layer: its string records stand at `at`, the bytes of its strings at `from`.
+pub fn strings_utf8(tape: &[u8], at: usize, count: usize, bytes: &[u8], from: usize) -> bool
+    requires { ⌜ at + 5 * count ≤ length (now tape) ⌝ }
+    requires { ⌜ from + sum (recordsAt stringCodec (now tape) at count) ≤ length (now bytes) ⌝ }
+    ensures { λ r. ⌜ r ≡ all utf8 (pieces (recordsAt stringCodec (now (tape .entry)) at count) (drop from (now (bytes .entry)))) ⌝ }
+{
+    let mut place = from;
+    let mut i = 0;
+    while i < count {
+        let n = wire::u32_at(tape, at + 5 * i + 1) as usize;
+        if !part_utf8(bytes, place, n) {
+            return false;
+        }
+        place += n;
+        i += 1;
+    }
+    true
 }
