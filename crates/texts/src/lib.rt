@@ -6,8 +6,9 @@ ghost use Prim.Native.Nat.{_+_, _*_, _≤_};
 ghost use lib.ListN.{length, take, drop};
 ghost use Rattle.model.specs.Lists.{all, sum};
 ghost use Rattle.model.specs.Utf8.{utf8};
-ghost use Rattle.model.specs.Tape.{recordsAt, stringCodec, pieces};
+ghost use Rattle.model.specs.Tape.{recordsAt, stringCodec, pieces, places as placesIn, layersAt};
 ghost use Rattle.texts.specs.Limits.{fewEnough};
+ghost use Rattle.texts.specs.Layers.{layerUtf8, LayersFit};
 
 const MAX_TEXT: u32 = 16777215;
 
@@ -54,6 +55,26 @@ pub fn strings_utf8(tape: &[u8], at: usize, count: usize, bytes: &[u8], from: us
             return false;
         }
         place += n;
+        i += 1;
+    }
+    true
+}
+
+// Number 2, all layers: the first stands at 9, the bytes of their strings at `from`.
+pub fn layers_utf8(tape: &[u8], bytes: &[u8], layers: usize, from: usize) -> bool
+    requires { ⌜ LayersFit (now tape) (now bytes) layers from ⌝ }
+    ensures { λ r. ⌜ r ≡ all layerUtf8 (layersAt (now (tape .entry)) (placesIn (now (tape .entry)) .layers) (drop from (now (bytes .entry)))) ⌝ }
+{
+    let mut at = 9;
+    let mut place = from;
+    let mut i = 0;
+    while i < layers {
+        let l = places::next_layer(tape, at);
+        if !strings_utf8(tape, l.strings.at, l.strings.count, bytes, place) {
+            return false;
+        }
+        place += places::strings_length(tape, l.strings.at, l.strings.count, bytes.len());
+        at = l.end;
         i += 1;
     }
     true
