@@ -2,11 +2,14 @@
 // itself, so that no character lies across two strings; the strings are walked layer by layer, as their bytes stand one behind
 // the other. Number 3: no text, pool, list or number of layers is over its limit, by the counts that `places_of` found.
 ghost use mathlib.Core.Path.{_≡_};
+ghost use mathlib.Core.Bool.{true};
 ghost use Prim.Native.Nat.{_+_, _*_, _≤_};
 ghost use lib.ListN.{length, take, drop};
 ghost use Rattle.model.specs.Lists.{all, sum};
 ghost use Rattle.model.specs.Utf8.{utf8};
-ghost use Rattle.model.specs.Tape.{recordsAt, stringCodec, pieces, places as placesIn, layersAt};
+ghost use Rattle.model.specs.Tape.{recordsAt, stringCodec, pieces, places as placesIn, layersAt, bookAt};
+ghost use Rattle.model.specs.WellFormed.{textsAreUtf8};
+ghost use Rattle.places.specs.Found.{holds, found};
 ghost use Rattle.texts.specs.Limits.{fewEnough};
 ghost use Rattle.texts.specs.Layers.{layerUtf8, LayersFit};
 
@@ -78,4 +81,20 @@ pub fn layers_utf8(tape: &[u8], bytes: &[u8], layers: usize, from: usize) -> boo
         i += 1;
     }
     true
+}
+
+// Number 2. The text, the normalized text, and each string by itself.
+pub fn texts_utf8(tape: &[u8], bytes: &[u8], p: places::Places) -> bool
+    requires { ⌜ (p ≡ found (now tape)) × (holds (now tape) (now bytes) ≡ true) ⌝ }
+    ensures { λ r. ⌜ r ≡ textsAreUtf8 (bookAt (now (tape .entry)) (placesIn (now (tape .entry))) (now (bytes .entry))) ⌝ }
+{
+    let text = p.text as usize;
+    let normalized = p.normalized as usize;
+    if !part_utf8(bytes, 0, text) {
+        return false;
+    }
+    if !part_utf8(bytes, text, normalized) {
+        return false;
+    }
+    layers_utf8(tape, bytes, p.layers, text + normalized)
 }
