@@ -1,14 +1,13 @@
 -- Number 2, the strings of one layer: what a loop over them knows before string i, whose bytes stand at `place`.
 use mathlib.Core.Path.{_≡_, refl, sym, ap, _∙_}
-use Prim.Native.Nat.{ℕ, zero, suc, _+_, _-_, _*_, _≤_, _<_}
+use Prim.Native.Nat.{ℕ, zero, suc, _+_, _≤_, _<_}
 use native.Mathlib.Omega.{arith}
 use native.Mathlib.Numerals.{add-one}
 use mathlib.Core.Bool.{Bool, true, false, _&&_}
-use mathlib.Core.List.{List, [], _∷_}
+use mathlib.Core.List.{List, _∷_}
 use lib.ListN.{length, getD, take, drop, drop-of-length-le}
 use lib.Seq.{drop-cons, drop-drop}
 use Rattle.model.specs.Lists.{all, sum, tabulate}
-use Rattle.model.specs.Bytes.{wordAt}
 use Rattle.model.specs.Utf8.{utf8}
 use Rattle.model.specs.Tape.{recordsAt, recordAt, operandsAt, stringCodec, pieces}
 use Rattle.places.specs.Runs.{lengthAt}

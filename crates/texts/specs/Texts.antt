@@ -10,7 +10,6 @@ use Rattle.model.specs.Bytes.{wordAt}
 use Rattle.model.specs.Utf8.{utf8}
 use Rattle.model.specs.Tape.{places, bytesNeeded, bookAt, layersAt}
 use Rattle.model.specs.WellFormed.{textsAreUtf8}
-use Rattle.laws.specs.RoundTrip.{stringBytes}
 use Rattle.places.specs.declared.Places.{Places}
 use Rattle.places.specs.Found.{holds, found}
 use Rattle.places.specs.Again.{frame, nodes-inside}
