@@ -1,0 +1,4 @@
+pub mod Limits
+pub mod Strings
+pub mod Layers
+pub mod Texts
