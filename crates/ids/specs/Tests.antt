@@ -109,3 +109,32 @@ module _ (st : Store) (b : Body) where
 
   pub body-failed : (i : ℕ) → i < 6 → wordIn st b i ≡ false → false ≡ bodyIn st b
   body-failed i h f = sym (body-words ∙ all-failed (wordIn st b) 6 i h f)
+
+-- ---- the code's answers of single records
+
+module _ (st : Store) where
+  pub content-plain : (c : Content) (r : Bool) → c .tag ≡ 0 → r ≡ stringIn st (c .first) → r ≡ contentIn st c
+  unfolding contentIn
+  content-plain c r e a = rw e a
+
+  pub content-segments : (c : Content) (r : Bool) → (c .tag ≡ 0 → ⊥) → r ≡ segmentsIn st (c .first) (c .second) → r ≡ contentIn st c
+  unfolding contentIn
+  content-segments c r n a = rw (ne-eqb (c .tag) 0 n) a
+
+  module _ (t : List ℕ) (p : ℕ) where
+    pub segment-answer : (r : Bool) → r ≡ bodyIn st (bodyAt t (p + 3)) → r ≡ segmentIn st (recordAt segmentCodec t p)
+    unfolding segmentIn
+    segment-answer r a = a ∙ ap (bodyIn st) (segment-body t p)
+
+    node-class : byteAt t (p + 1) ≡ recordAt nodeCodec t p .class
+    unfolding recordAt operandsAt nodeCodec
+    node-class = refl
+
+    -- classes 2 and 3 have no words
+    pub node-bare : 2 ≤ byteAt t (p + 1) → true ≡ nodeIn st (recordAt nodeCodec t p)
+    unfolding nodeIn nodeFields
+    node-bare h = rw (← node-class, le-ltb (byteAt t (p + 1)) 2 h) refl
+
+    pub node-answer : (r : Bool) → byteAt t (p + 1) < 2 → r ≡ bodyIn st (bodyAt t (p + 15)) → r ≡ nodeIn st (recordAt nodeCodec t p)
+    unfolding nodeIn nodeFields bodyIn
+    node-answer r h a = rw (← node-class, lt-ltb (byteAt t (p + 1)) 2 h) (a ∙ ap (bodyIn st) (node-body t p))

@@ -7,7 +7,9 @@ ghost use Prim.Native.Nat.{_+_, _*_, _≤_, _<_};
 ghost use lib.ListN.{length};
 ghost use Rattle.model.specs.WellFormed.{wordOf};
 ghost use Rattle.records.specs.Values.{bodyAt};
-ghost use Rattle.ids.specs.Tests.{contentsIn, segmentsIn, usedWell, wordIn, bodyIn};
+ghost use Rattle.model.specs.Lists.{all};
+ghost use Rattle.model.specs.Tape.{recordAt, recordsAt, contentCodec, segmentCodec, nodeCodec};
+ghost use Rattle.ids.specs.Tests.{contentsIn, segmentsIn, usedWell, wordIn, bodyIn, contentIn, segmentIn, nodeIn};
 
 fn contents_in(st: store::Store, start: u32, len: u32) -> bool
     requires { ⌜ st .layers ≤ 32 ⌝ }
@@ -78,6 +80,78 @@ pub fn body_ids_ok(tape: &[u8], st: store::Store, at: usize) -> bool
     let mut i = 0;
     while i < 6 {
         if !word_ok(tape, st, at, i) {
+            return false;
+        }
+        i += 1;
+    }
+    true
+}
+
+// Number 4. Plain names a string, Segments a range of segments.
+pub fn content_ids_ok(tape: &[u8], st: store::Store, at: usize) -> bool
+    requires { ⌜ (at + 10 ≤ length (now tape)) × (st .layers ≤ 32) ⌝ }
+    ensures { λ r. ⌜ r ≡ contentIn st (recordAt contentCodec (now (tape .entry)) at) ⌝ }
+{
+    let c = records::content_at(tape, at);
+    if c.tag == 0 {
+        return store::id_ok(st.totals.strings, c.first);
+    }
+    segments_in(st, c.first, c.second)
+}
+
+pub fn contents_ids_ok(tape: &[u8], st: store::Store, at: usize, count: usize) -> bool
+    requires { ⌜ (at + 10 * count ≤ length (now tape)) × (st .layers ≤ 32) ⌝ }
+    ensures { λ r. ⌜ r ≡ all (contentIn st) (recordsAt contentCodec (now (tape .entry)) at count) ⌝ }
+{
+    let mut i = 0;
+    while i < count {
+        if !content_ids_ok(tape, st, at + 10 * i) {
+            return false;
+        }
+        i += 1;
+    }
+    true
+}
+
+pub fn segment_ids_ok(tape: &[u8], st: store::Store, at: usize) -> bool
+    requires { ⌜ (at + 37 ≤ length (now tape)) × (st .layers ≤ 32) ⌝ }
+    ensures { λ r. ⌜ r ≡ segmentIn st (recordAt segmentCodec (now (tape .entry)) at) ⌝ }
+{
+    body_ids_ok(tape, st, at + 3)
+}
+
+pub fn segments_ids_ok(tape: &[u8], st: store::Store, at: usize, count: usize) -> bool
+    requires { ⌜ (at + 37 * count ≤ length (now tape)) × (st .layers ≤ 32) ⌝ }
+    ensures { λ r. ⌜ r ≡ all (segmentIn st) (recordsAt segmentCodec (now (tape .entry)) at count) ⌝ }
+{
+    let mut i = 0;
+    while i < count {
+        if !segment_ids_ok(tape, st, at + 37 * i) {
+            return false;
+        }
+        i += 1;
+    }
+    true
+}
+
+// Number 4. A node of class 2 or 3 has no words.
+pub fn node_ids_ok(tape: &[u8], st: store::Store, at: usize) -> bool
+    requires { ⌜ (at + 49 ≤ length (now tape)) × (st .layers ≤ 32) ⌝ }
+    ensures { λ r. ⌜ r ≡ nodeIn st (recordAt nodeCodec (now (tape .entry)) at) ⌝ }
+{
+    if 2 <= tape[at + 1] {
+        return true;
+    }
+    body_ids_ok(tape, st, at + 15)
+}
+
+pub fn nodes_ids_ok(tape: &[u8], st: store::Store, at: usize, count: usize) -> bool
+    requires { ⌜ (at + 49 * count ≤ length (now tape)) × (st .layers ≤ 32) ⌝ }
+    ensures { λ r. ⌜ r ≡ all (nodeIn st) (recordsAt nodeCodec (now (tape .entry)) at count) ⌝ }
+{
+    let mut i = 0;
+    while i < count {
+        if !node_ids_ok(tape, st, at + 49 * i) {
             return false;
         }
         i += 1;
