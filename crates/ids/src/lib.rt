@@ -3,13 +3,15 @@
 // its layers and its nodes, walked once. specs/Tests.antt says what is tested, by the starts that a store remembers, and
 // specs/Whole.antt that for the store of the tape it is the model's `idsOk`.
 ghost use mathlib.Core.Path.{_≡_};
-ghost use Prim.Native.Nat.{_+_, _*_, _≤_, _<_};
+ghost use Prim.Native.Nat.{ℕ, _+_, _*_, _≤_, _<_};
 ghost use lib.ListN.{length};
-ghost use Rattle.model.specs.WellFormed.{wordOf};
+ghost use mathlib.Core.List.{List};
+ghost use Rattle.model.specs.WellFormed.{wordOf, idsOk};
 ghost use Rattle.records.specs.Values.{bodyAt};
 ghost use Rattle.model.specs.Lists.{all};
-ghost use Rattle.model.specs.Tape.{recordAt, recordsAt, contentCodec, segmentCodec, nodeCodec};
+ghost use Rattle.model.specs.Tape.{recordAt, recordsAt, contentCodec, segmentCodec, nodeCodec, places, bookAt};
 ghost use Rattle.ids.specs.Tests.{contentsIn, segmentsIn, usedWell, wordIn, bodyIn, contentIn, segmentIn, nodeIn};
+ghost use Rattle.ids.specs.Whole.{runsIn, layersIn, LayersFit, IdsFit};
 
 fn contents_in(st: store::Store, start: u32, len: u32) -> bool
     requires { ⌜ st .layers ≤ 32 ⌝ }
@@ -157,4 +159,42 @@ pub fn nodes_ids_ok(tape: &[u8], st: store::Store, at: usize, count: usize) -> b
         i += 1;
     }
     true
+}
+
+fn layer_ids_ok(tape: &[u8], st: store::Store, l: places::LayerRuns) -> bool
+    requires { ⌜ (l .contents .at + 10 * l .contents .count ≤ length (now tape)) × (l .segments .at + 37 * l .segments .count ≤ length (now tape)) × (st .layers ≤ 32) ⌝ }
+    ensures { λ r. ⌜ r ≡ runsIn (now (tape .entry)) st l ⌝ }
+{
+    if !contents_ids_ok(tape, st, l.contents.at, l.contents.count) {
+        return false;
+    }
+    segments_ids_ok(tape, st, l.segments.at, l.segments.count)
+}
+
+fn layers_ids_ok(tape: &[u8], st: store::Store, layers: usize) -> bool
+    requires { ⌜ LayersFit (now tape) st layers ⌝ }
+    ensures { λ r. ⌜ r ≡ layersIn (now (tape .entry)) st ⌝ }
+{
+    let mut at = 9;
+    let mut i = 0;
+    while i < layers {
+        let l = places::next_layer(tape, at);
+        if !layer_ids_ok(tape, st, l) {
+            return false;
+        }
+        at = l.end;
+        i += 1;
+    }
+    true
+}
+
+// Number 4, whole: of the tape with these places and this store, whatever the bytes of its texts are.
+pub fn ids_ok(tape: &[u8], st: store::Store, p: places::Places) -> bool
+    requires { ⌜ IdsFit (now tape) st p ⌝ }
+    ensures { λ r. ⌜ ((d : List ℕ) → r ≡ idsOk (bookAt (now (tape .entry)) (places (now (tape .entry))) d)) ⌝ }
+{
+    if !layers_ids_ok(tape, st, p.layers) {
+        return false;
+    }
+    nodes_ids_ok(tape, st, p.nodes.at, p.nodes.count)
 }

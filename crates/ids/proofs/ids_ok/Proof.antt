@@ -1,0 +1,25 @@
+use Rattle.ids.proofs.ids_ok.Statement.{statement}
+use Rattle.ids.proofs.ids_ok.Tie as tie
+use Rattle.ids.proofs.ids_ok.Reads as reads
+use Rattle.ids.proofs.ids_ok.Lts as lts
+use Rattle.ids.proofs.layers_ids_ok.Reads as layers-ids-ok-reads
+use Rattle.ids.proofs.nodes_ids_ok.Reads as nodes-ids-ok-reads
+
+-- src/lib.rt:196:9
+layers-ids-ok-requires : tie.Need-layers-ids-ok-requires
+layers-ids-ok-requires c κs = ?
+
+-- src/lib.rt:197:9
+returns : tie.Need-returns
+returns c = ?
+
+-- src/lib.rt:199:5
+nodes-ids-ok-requires : tie.Need-nodes-ids-ok-requires
+nodes-ids-ok-requires c κs = ?
+
+-- src/lib.rt:192:1
+returns-2 : tie.Need-returns-2
+returns-2 c = ?
+
+pub ids-ok-spec : {M : Type 1} → statement M
+ids-ok-spec = tie.close (tie.spec layers-ids-ok-requires returns nodes-ids-ok-requires returns-2)
