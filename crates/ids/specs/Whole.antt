@@ -18,7 +18,7 @@ use Rattle.model.specs.Tape.{LayerPlaces, layerPlaces, places, stringLengths, l
 use Rattle.places.specs.declared.LayerRuns.{LayerRuns}
 use Rattle.places.specs.declared.Places.{Places}
 use Rattle.places.specs.Found.{layerRuns, found}
-use Rattle.places.specs.Again.{AtLayer, at-first, at-inside, at-here, at-next, at-before, lists-inside}
+use Rattle.places.specs.Again.{AtLayer, at-first, at-inside, at-here, at-next, at-before, lists-inside, Frame}
 use Rattle.store.specs.Stored.{storeAt}
 use Rattle.store.specs.Standing.{string-id-ok, content-range-ok, segment-range-ok}
 use Rattle.store.specs.declared.Store.{Store}
@@ -149,6 +149,14 @@ pub record IdsFit (t : List ℕ) (st : Store) (p : Places) : Type 0 where
   pub stored : st ≡ storeAt t
   pub few : st .layers ≤ 32
   pub inside : places t .pairsAt ≤ length t
+
+pub ids-fit : (t d : List ℕ) (st : Store) (p : Places) → Frame t d → p ≡ found t → st ≡ storeAt t → p .layers ≤ 32 → IdsFit t st p
+unfolding found storeAt
+ids-fit t d st p f e s few =
+    let l = lists-inside t in
+    let n = ap (λ (x : Places). x .layers) e in
+    let m = ap (λ (x : Store). x .layers) s in
+    record { is = e; stored = s; few = omega (arith, n, m, few); inside = omega (arith, f .size, l .pairs, l .containers, l .diagnostics) }
 
 module _ {t : List ℕ} {st : Store} {p : Places} (f : IdsFit t st p) where
   pub ids-layers : LayersFit t st (p .layers)
