@@ -13,7 +13,7 @@ ghost use Rattle.model.specs.Tape.{recordAt, recordsAt, contentCodec, segmentCo
 ghost use Rattle.ids.specs.Tests.{contentsIn, segmentsIn, usedWell, wordIn, bodyIn, contentIn, segmentIn, nodeIn};
 ghost use Rattle.ids.specs.Whole.{runsIn, layersIn, LayersFit, IdsFit};
 
-fn contents_in(st: store::Store, start: u32, len: u32) -> bool
+pub fn contents_in(st: store::Store, start: u32, len: u32) -> bool
     requires { ⌜ st .layers ≤ 32 ⌝ }
     ensures { λ r. ⌜ r ≡ contentsIn st start len ⌝ }
 {
@@ -21,7 +21,7 @@ fn contents_in(st: store::Store, start: u32, len: u32) -> bool
     store::range_ok(&starts, st.layers, st.totals.contents, start, len)
 }
 
-fn segments_in(st: store::Store, start: u32, len: u32) -> bool
+pub fn segments_in(st: store::Store, start: u32, len: u32) -> bool
     requires { ⌜ st .layers ≤ 32 ⌝ }
     ensures { λ r. ⌜ r ≡ segmentsIn st start len ⌝ }
 {
@@ -53,7 +53,7 @@ fn used_well(st: store::Store, usage: u8, w: u32, next: u32) -> bool
 }
 
 // The word behind word i, 0 behind the last.
-fn next_word(tape: &[u8], at: usize, i: usize) -> u32
+pub fn next_word(tape: &[u8], at: usize, i: usize) -> u32
     requires { ⌜ (at + 34 ≤ length (now tape)) × (i < 6) ⌝ }
     ensures { λ r. ⌜ r ≡ wordOf (bodyAt (now (tape .entry)) at) (i + 1) ⌝ }
 {
