@@ -5,9 +5,10 @@ ghost use mathlib.Core.Path.{_≡_};
 ghost use Prim.Native.Nat.{_+_, _*_, _≤_, _<_};
 ghost use lib.ListN.{length};
 ghost use Rattle.model.specs.Lists.{all};
-ghost use Rattle.model.specs.Tape.{recordAt, recordsAt, contentCodec, segmentCodec};
+ghost use Rattle.model.specs.Tape.{recordAt, recordsAt, contentCodec, segmentCodec, places};
 ghost use Rattle.records.specs.Values.{bodyAt};
 ghost use Rattle.levels.specs.Below.{LevelsFit, below, segmentsBelow, contentBelow, contentsBelow, usedBelow, wordBelow, bodyBelow, levelIn};
+ghost use Rattle.levels.specs.Whole.{levelsIn};
 
 fn level_below(tape: &[u8], at: usize, level: u8) -> bool
     requires { ⌜ at + 37 ≤ length (now tape) ⌝ }
@@ -143,4 +144,38 @@ pub fn level_ok(tape: &[u8], st: store::Store, at: usize) -> bool
         return false;
     }
     body_below(tape, st, at + 3, level)
+}
+
+fn run_levels_ok(tape: &[u8], st: store::Store, at: usize, count: usize) -> bool
+    requires { ⌜ LevelsFit (now tape) st ⌝ }
+    requires { ⌜ at + 37 * count ≤ length (now tape) ⌝ }
+    ensures { λ r. ⌜ r ≡ all (levelIn (now (tape .entry)) st) (recordsAt segmentCodec (now (tape .entry)) at count) ⌝ }
+{
+    let mut i = 0;
+    while i < count {
+        if !level_ok(tape, st, at + 37 * i) {
+            return false;
+        }
+        i += 1;
+    }
+    true
+}
+
+// Number 5, whole.
+pub fn levels_ok(tape: &[u8], st: store::Store, layers: usize) -> bool
+    requires { ⌜ LevelsFit (now tape) st ⌝ }
+    requires { ⌜ layers ≡ length (places (now tape) .layers) ⌝ }
+    ensures { λ r. ⌜ r ≡ levelsIn (now (tape .entry)) st ⌝ }
+{
+    let mut at = 9;
+    let mut i = 0;
+    while i < layers {
+        let l = places::next_layer(tape, at);
+        if !run_levels_ok(tape, st, l.segments.at, l.segments.count) {
+            return false;
+        }
+        at = l.end;
+        i += 1;
+    }
+    true
 }
