@@ -19,6 +19,7 @@ use Rattle.wire.specs.Loops.{allUpTo, Passed, all-passed, all-failed, by-bool}
 use Rattle.records.specs.Values.{bodyAt, segment-body}
 use Rattle.records.specs.Uses.{wordUse}
 use Rattle.records.specs.Words.{wordTest, all-by-words}
+use Rattle.places.specs.Again.{Frame, nodes-inside}
 use Rattle.store.specs.Pools.{rangeIn}
 use Rattle.store.specs.Stored.{storeAt}
 use Rattle.store.specs.Standing.{contentPlace, segmentPlace, content-inside, segment-inside}
@@ -30,6 +31,9 @@ pub record LevelsFit (t : List ℕ) (st : Store) : Type 0 where
   pub stored : st ≡ storeAt t
   pub few : st .layers ≤ 32
   pub inside : places t .nodesAt ≤ length t
+
+pub levels-fit : (t d : List ℕ) (st : Store) → Frame t d → st ≡ storeAt t → st .layers ≤ 32 → LevelsFit t st
+levels-fit t d st f e few = let n = nodes-inside t d f in record { stored = e; few = few; inside = omega (arith, n) }
 
 -- ---- definitions
 

@@ -1,6 +1,7 @@
 // Number 5 of document 01's table: the level of every segment is 0 for a text, and for a Node 1..32 and above every level in the
 // runs that its contents or its caption name. A range is looked at again before it is read, so that nothing here asks for
-// number 4. specs/Below.antt says what is tested, by the starts that a store remembers.
+// number 4. specs/Below.antt says what is tested, by the starts that a store remembers, and specs/Number.antt that for the store
+// of the tape it is the model's `levelsOk` wherever number 4 holds.
 ghost use mathlib.Core.Path.{_≡_};
 ghost use Prim.Native.Nat.{_+_, _*_, _≤_, _<_};
 ghost use lib.ListN.{length};
