@@ -1,0 +1,140 @@
+-- Number 4 by the starts that a store remembers: what the code computes for a field, a body and a record, word by word.
+use mathlib.Core.Path.{_≡_, refl, sym, ap, _∙_}
+use Prim.Native.Nat.{ℕ, zero, suc, _+_, _≤_, _<_}
+use native.Mathlib.Omega.{arith}
+use mathlib.Core.Bool.{Bool, true, false, cond, _&&_, _||_}
+use mathlib.Core.List.{List, [], _∷_}
+use lib.ListN.{length, getD}
+use lib.Dec.{leb, ltb, eqb}
+use borrow.Author.Tests.{eq-eqb, ne-eqb, lt-ltb, le-ltb}
+use Rattle.model.specs.Lists.{all}
+use Rattle.model.specs.Bytes.{byteAt, wordAt}
+use Rattle.model.specs.Limits.{noString}
+use Rattle.model.specs.Types.{Body, Content, Segment, SourceNode}
+use Rattle.model.specs.WellFormed.{wordOf}
+use Rattle.model.specs.Tape.{Field, Field.str, Field.optStr, Field.contentRange, Field.segRange, fieldsOf, nodeFields, recordAt, operandsAt, contentCodec, segmentCodec, nodeCodec}
+use Rattle.wire.specs.Loops.{allUpTo, Passed, all-passed, all-failed}
+use Rattle.records.specs.Values.{bodyAt, segment-body, node-body}
+use Rattle.records.specs.Uses.{wordUse}
+use Rattle.records.specs.Words.{wordTest, all-by-words}
+use Rattle.store.specs.Pools.{rangeIn}
+use Rattle.store.specs.declared.Store.{Store}
+
+-- ---- ids and ranges
+
+abbrev pub stringIn : Store → ℕ → Bool
+stringIn st id = ltb id (st .totals .strings)
+
+abbrev pub contentsIn : Store → ℕ → ℕ → Bool
+contentsIn st start len = rangeIn (st .contents) (st .layers) (st .totals .contents) start len
+
+abbrev pub segmentsIn : Store → ℕ → ℕ → Bool
+segmentsIn st start len = rangeIn (st .segments) (st .layers) (st .totals .segments) start len
+
+-- ---- fields, bodies, records
+
+-- Number 4. Only an id that may be missing may be 0xFFFFFFFF.
+unfoldable pub fieldIn : Store → Body → Field → Bool
+fieldIn st b (str i) = stringIn st (wordOf b i)
+fieldIn st b (optStr i) = eqb (wordOf b i) noString || stringIn st (wordOf b i)
+fieldIn st b (contentRange i) = contentsIn st (wordOf b i) (wordOf b (i + 1))
+fieldIn st b (segRange i) = segmentsIn st (wordOf b i) (wordOf b (i + 1))
+
+unfoldable pub bodyIn : Store → Body → Bool
+bodyIn st b = all (fieldIn st b) (fieldsOf b)
+
+unfoldable pub contentIn : Store → Content → Bool
+contentIn st c = cond (eqb (c .tag) 0) (stringIn st (c .first)) (segmentsIn st (c .first) (c .second))
+
+unfoldable pub segmentIn : Store → Segment → Bool
+segmentIn st s = bodyIn st (s .body)
+
+unfoldable pub nodeIn : Store → SourceNode → Bool
+nodeIn st n = all (fieldIn st (n .body)) (nodeFields n)
+
+-- ---- word by word
+
+-- what a word w of that use, and the word behind it, must be
+unfoldable pub usedWell : Store → ℕ → ℕ → ℕ → Bool
+usedWell st u w next =
+    cond (eqb u 1) (stringIn st w) (cond (eqb u 2) (eqb w noString || stringIn st w) (cond (eqb u 3) (contentsIn st w next) (cond (eqb u 5) (segmentsIn st w next) true)))
+
+-- the field that begins at word i of a body
+unfoldable pub wordIn : Store → Body → ℕ → Bool
+wordIn st b i = usedWell st (wordUse (b .kind) (b .tag) i) (wordOf b i) (wordOf b (i + 1))
+
+-- behind the sixth word there is none
+pub no-seventh : (t : List ℕ) (p i : ℕ) → 5 ≤ i → i < 6 → 0 ≡ wordOf (bodyAt t p) (i + 1)
+unfolding bodyAt
+no-seventh t p i h l = let e : i ≡ 5 = omega arith in rw e refl
+
+module _ (st : Store) (u w next : ℕ) where
+  pub used-string : u ≡ 1 → usedWell st u w next ≡ stringIn st w
+  unfolding usedWell
+  used-string e = rw e refl
+
+  pub used-missing : u ≡ 2 → w ≡ noString → usedWell st u w next ≡ true
+  unfolding usedWell
+  used-missing e n = rw (e, eq-eqb w noString n) refl
+
+  pub used-optional : u ≡ 2 → (w ≡ noString → ⊥) → usedWell st u w next ≡ stringIn st w
+  unfolding usedWell
+  used-optional e n = rw (e, ne-eqb w noString n) refl
+
+  pub used-contents : u ≡ 3 → usedWell st u w next ≡ contentsIn st w next
+  unfolding usedWell
+  used-contents e = rw e refl
+
+  pub used-segments : u ≡ 5 → usedWell st u w next ≡ segmentsIn st w next
+  unfolding usedWell
+  used-segments e = rw e refl
+
+  pub used-not : (u ≡ 1 → ⊥) → (u ≡ 2 → ⊥) → (u ≡ 3 → ⊥) → (u ≡ 5 → ⊥) → usedWell st u w next ≡ true
+  unfolding usedWell
+  used-not a b d e = rw (ne-eqb u 1 a, ne-eqb u 2 b, ne-eqb u 3 d, ne-eqb u 5 e) refl
+
+-- what was read of word i
+pub word-read : (st : Store) (t : List ℕ) (p i u w next : ℕ) → u ≡ wordUse (byteAt t p) (byteAt t (p + 1)) i → w ≡ wordOf (bodyAt t p) i → next ≡ wordOf (bodyAt t p) (i + 1)
+    → usedWell st u w next ≡ wordIn st (bodyAt t p) i
+unfolding wordIn bodyAt
+word-read st t p i u w next e f g = rw (e, f, g) refl
+
+module _ (st : Store) (b : Body) where
+  body-words : bodyIn st b ≡ allUpTo 6 (wordIn st b)
+  unfolding bodyIn fieldsOf wordIn usedWell wordTest fieldIn
+  body-words = all-by-words (fieldIn st b) (b .kind) (b .tag)
+
+  pub body-passed : (i : ℕ) → 6 ≤ i → i ≤ 6 → Passed (wordIn st b) i → true ≡ bodyIn st b
+  body-passed i h l p = let e : i ≡ 6 = omega arith in sym (body-words ∙ all-passed (wordIn st b) 6 (rw e at p))
+
+  pub body-failed : (i : ℕ) → i < 6 → wordIn st b i ≡ false → false ≡ bodyIn st b
+  body-failed i h f = sym (body-words ∙ all-failed (wordIn st b) 6 i h f)
+
+-- ---- the code's answers of single records
+
+module _ (st : Store) where
+  pub content-plain : (c : Content) (r : Bool) → c .tag ≡ 0 → r ≡ stringIn st (c .first) → r ≡ contentIn st c
+  unfolding contentIn
+  content-plain c r e a = rw e a
+
+  pub content-segments : (c : Content) (r : Bool) → (c .tag ≡ 0 → ⊥) → r ≡ segmentsIn st (c .first) (c .second) → r ≡ contentIn st c
+  unfolding contentIn
+  content-segments c r n a = rw (ne-eqb (c .tag) 0 n) a
+
+  module _ (t : List ℕ) (p : ℕ) where
+    pub segment-answer : (r : Bool) → r ≡ bodyIn st (bodyAt t (p + 3)) → r ≡ segmentIn st (recordAt segmentCodec t p)
+    unfolding segmentIn
+    segment-answer r a = a ∙ ap (bodyIn st) (segment-body t p)
+
+    node-class : byteAt t (p + 1) ≡ recordAt nodeCodec t p .class
+    unfolding recordAt operandsAt nodeCodec
+    node-class = refl
+
+    -- classes 2 and 3 have no words
+    pub node-bare : 2 ≤ byteAt t (p + 1) → true ≡ nodeIn st (recordAt nodeCodec t p)
+    unfolding nodeIn nodeFields
+    node-bare h = rw (← node-class, le-ltb (byteAt t (p + 1)) 2 h) refl
+
+    pub node-answer : (r : Bool) → byteAt t (p + 1) < 2 → r ≡ bodyIn st (bodyAt t (p + 15)) → r ≡ nodeIn st (recordAt nodeCodec t p)
+    unfolding nodeIn nodeFields bodyIn
+    node-answer r h a = rw (← node-class, lt-ltb (byteAt t (p + 1)) 2 h) (a ∙ ap (bodyIn st) (node-body t p))
