@@ -13,6 +13,7 @@ ghost use Rattle.model.specs.Tape.{recordAt, recordsAt, contentCodec, segmentCo
 ghost use Rattle.ids.specs.Tests.{contentsIn, segmentsIn, usedWell, wordIn, bodyIn, contentIn, segmentIn, nodeIn};
 ghost use Rattle.ids.specs.Whole.{runsIn, layersIn, LayersFit, IdsFit};
 
+// Number 4. A range of contents, and one of segments.
 pub fn contents_in(st: store::Store, start: u32, len: u32) -> bool
     requires { ⌜ st .layers ≤ 32 ⌝ }
     ensures { λ r. ⌜ r ≡ contentsIn st start len ⌝ }
@@ -101,6 +102,7 @@ pub fn content_ids_ok(tape: &[u8], st: store::Store, at: usize) -> bool
     segments_in(st, c.first, c.second)
 }
 
+// Number 4 of a run; for segments and nodes, the same.
 pub fn contents_ids_ok(tape: &[u8], st: store::Store, at: usize, count: usize) -> bool
     requires { ⌜ (at + 10 * count ≤ length (now tape)) × (st .layers ≤ 32) ⌝ }
     ensures { λ r. ⌜ r ≡ all (contentIn st) (recordsAt contentCodec (now (tape .entry)) at count) ⌝ }
@@ -161,6 +163,7 @@ pub fn nodes_ids_ok(tape: &[u8], st: store::Store, at: usize, count: usize) -> b
     true
 }
 
+// Number 4 of one layer, and of all.
 fn layer_ids_ok(tape: &[u8], st: store::Store, l: places::LayerRuns) -> bool
     requires { ⌜ (l .contents .at + 10 * l .contents .count ≤ length (now tape)) × (l .segments .at + 37 * l .segments .count ≤ length (now tape)) × (st .layers ≤ 32) ⌝ }
     ensures { λ r. ⌜ r ≡ runsIn (now (tape .entry)) st l ⌝ }
