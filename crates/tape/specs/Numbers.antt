@@ -1,15 +1,15 @@
 -- The number of an answer by the first condition that holds, for each return of the code.
 use mathlib.Core.Path.{_≡_, refl, sym, ap, _∙_}
-use Prim.Native.Nat.{ℕ, _≤_, _<_, _^_}
+use Prim.Native.Nat.{ℕ, _≤_}
 use native.Mathlib.Omega.{arith}
-use mathlib.Core.Bool.{Bool, true, false, cond, not}
-use mathlib.Core.Option.{Option, none, some}
+use mathlib.Core.Bool.{Bool, true, false, cond}
+use mathlib.Core.Option.{none, some}
 use mathlib.Core.List.{List}
 use lib.ListN.{length}
 use lib.Dec.{eqb}
 use borrow.Author.Tests.{eq-eqb, ne-eqb}
 use Rattle.model.specs.Types.{LexOutput}
-use Rattle.model.specs.Refusal.{Checked, Checked.refused, Checked.accepted, _>>=_, refuse_if_, numberOf}
+use Rattle.model.specs.Refusal.{_>>=_, refuse_if_, numberOf}
 use Rattle.model.specs.Tape.{places, bookAt, parse}
 use Rattle.model.specs.WellFormed.{textsAreUtf8, withinLimits, idsOk, levelsOk, placesOk, normalizedLengthOk, laidOut, wellFormed, checkBook, checkReading}
 use Rattle.laws.specs.Checks.{limit-facts}

@@ -8,7 +8,7 @@ use lib.ListN.{length}
 use lib.Dec.{eqb}
 use borrow.Author.Tests.{eqb-true, eq-eqb, ne-eqb}
 use Rattle.model.specs.Lists.{all}
-use Rattle.model.specs.Types.{LexOutput, SourceNode}
+use Rattle.model.specs.Types.{LexOutput}
 use Rattle.model.specs.Tape.{places, recordsAt, bookAt, nodeCodec, pairCodec, containerCodec, diagnosticCodec}
 use Rattle.model.specs.WellFormed.{pairOk, containerOk, placesOk, images, spans, normalizedLengthOk}
 use Rattle.wire.specs.Loops.{by-bool}
@@ -96,10 +96,6 @@ module _ (text normalized images spans : ℕ) where
 -- ---- the answers of the code
 
 module _ (text normalized : ℕ) (d : Drift) where
-  pub drift-six : d ≡ Misplaced → 6 ≡ driftNumber text normalized d
-  unfolding driftNumber
-  drift-six e = rw e refl
-
   module _ {im sp : ℕ} (e : d ≡ Placed im sp) {x : Bool} (g : x ≡ lengthsAgree text normalized im sp) where
     pub drift-seven : x ≡ false → 7 ≡ driftNumber text normalized d
     unfolding driftNumber

@@ -1,5 +1,5 @@
 use Rattle.tape.specs.Numbers.{book-none, book-some}
-use Rattle.layout.specs.Shaped.{Laid, layout-laid, layout-refused}
+use Rattle.layout.specs.Shaped.{layout-laid, layout-refused}
 use borrow.Author.Needs.{needs}
 use Rattle.tape.proofs.check_book.Statement.{statement}
 use Rattle.tape.proofs.check_book.Tie as tie

@@ -1,5 +1,5 @@
 use Rattle.tape.specs.Numbers.{reading-none, reading-layers, reading-one, laid-one, laid-other}
-use Rattle.layout.specs.Shaped.{Laid, layout-laid, layout-refused}
+use Rattle.layout.specs.Shaped.{layout-laid, layout-refused}
 use borrow.Author.Needs.{needs}
 use Rattle.tape.proofs.check_reading.Statement.{statement}
 use Rattle.tape.proofs.check_reading.Tie as tie

@@ -1,7 +1,6 @@
 use Rattle.tape.specs.Numbers.{pools-ids, pools-levels, levels-pass, pools-four, pools-five, pools-pass}
 use mathlib.Core.Path.{sym, _∙_}
 use borrow.Author.Tests.{not-true, not-false}
-use borrow.Author.Needs.{needs}
 use Rattle.tape.proofs.pools_refusal.Statement.{statement}
 use Rattle.tape.proofs.pools_refusal.Tie as tie
 use Rattle.tape.proofs.pools_refusal.Reads as reads
