@@ -3,9 +3,9 @@ use Prim.Native.Nat.{ℕ}
 use mathlib.Core.Bool.{Bool, true, false}
 
 -- where each number's condition stands:
---    1  Tape.parse, WellFormed.checkedReading      10  Region.hasRubyFormatDependency
---    2  WellFormed.textsAreUtf8, Region.chosen     11  Region.isWhole
---    3  WellFormed.withinLimits, Region.chosen     12  Merge.newRegionText
+--    1  Tape.parse, WellFormed.checkReading        10  Region.hasRubyFormatDependency
+--    2  WellFormed.textsAreUtf8, chosenRegion      11  Region.isWhole
+--    3  WellFormed.withinLimits, chosenRegion      12  Merge.newRegionText
 --    4  WellFormed.idsOk                           13  Merge.balancedNodes
 --    5  WellFormed.levelsOk                        14  Merge.isUnclosed
 --    6  WellFormed.placesOk                        15  Merge.introducesRubyFormatDependency
