@@ -1,2 +1,3 @@
 pub mod Placed
 pub mod Numbers
+pub mod Accepted

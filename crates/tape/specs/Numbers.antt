@@ -164,10 +164,12 @@ levels-pass t st s i h e d = sym (e ∙ levels-are t st s (ids-are t st s d ∙ 
 not-none : (b : LexOutput) → none ≡ some b → ⊥
 not-none b e = let z : _≡_ {A = ℕ} 0 1 = cc in omega arith
 
-laid-holds : {t d : List ℕ} {p : Places} → Laid t d p → holds t d ≡ true
+pub parsed-holds : (t d : List ℕ) (b : LexOutput) → parse t d ≡ some b → holds t d ≡ true
 unfolding holds parse
-laid-holds {t} {d} {p} l =
-    by-bool (holds t d) (λ h. h) (λ h. absurd (not-none (bookAt t (places t) d) (sym (let q : parse t d ≡ none = rw h refl in q) ∙ l .book)))
+parsed-holds t d b e = by-bool (holds t d) (λ h. h) (λ h. absurd (not-none b (sym (let q : parse t d ≡ none = rw h refl in q) ∙ e)))
+
+laid-holds : {t d : List ℕ} {p : Places} → Laid t d p → holds t d ≡ true
+laid-holds {t} {d} l = parsed-holds t d (bookAt t (places t) d) (l .book)
 
 module _ {t d : List ℕ} {p : Places} (l : Laid t d p) where
   pub laid-texts : (p ≡ found t) × (holds t d ≡ true)
