@@ -236,7 +236,7 @@ joined-more {z} {d} {at} {f} {i} {next} {l} j next′ l′ h r e q =
 -- ---- what they are in the model's terms
 
 module _ {A : Type 0} where
-  tabulate-last : (n : ℕ) (f : ℕ → A) → tabulate (suc n) f ≡ tabulate n f ++ (f n ∷ [])
+  pub tabulate-last : (n : ℕ) (f : ℕ → A) → tabulate (suc n) f ≡ tabulate n f ++ (f n ∷ [])
   tabulate-last zero f = refl
   tabulate-last (suc n) f = ap (λ (l : List A). f 0 ∷ l) (tabulate-last n (λ (i : ℕ). f (suc i)))
 
