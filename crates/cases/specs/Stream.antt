@@ -1,0 +1,49 @@
+-- Where the parts of a case stand in the input.
+use mathlib.Core.Path.{_≡_, refl, sym, ap, _∙_}
+use mathlib.Core.List.{List, []}
+use Prim.Native.Nat.{ℕ, _+_, _-_, _≤_, _<_, min}
+use native.Mathlib.Omega.{arith}
+use lib.ListN.{length, take, drop, length-drop, drop-of-length-le}
+use lib.Seq.{take-all, take-nil}
+use Rattle.model.specs.Bytes.{part, wordAt}
+use Rattle.cases.specs.declared.Case.{Case}
+
+-- the place some bytes behind another, or the input's end where that is nearer
+abbrev pub behind : List ℕ → ℕ → ℕ → ℕ
+behind s at n = min (at + n) (length s)
+
+-- six words; then label, tape, bytes, replacement
+unfoldable pub caseAt : List ℕ → ℕ → Case
+caseAt s at =
+    let label = behind s at 24 in
+    let head = part s at (label - at) in
+    let tape = behind s label (wordAt head 0) in
+    let bytes = behind s tape (wordAt head 4) in
+    let replacement = behind s bytes (wordAt head 8) in
+    record {
+      label = label;
+      tape = tape;
+      bytes = bytes;
+      replacement = replacement;
+      next = behind s replacement (wordAt head 20);
+      start = wordAt head 12;
+      end = wordAt head 16;
+    }
+
+-- a case takes a byte at least, where there is one
+pub next-further : (s : List ℕ) (at : ℕ) → at < length s → at < caseAt s at .next
+unfolding caseAt
+next-further s at h = omega arith
+
+module _ (s : List ℕ) (from to : ℕ) where
+  pub part-none : to ≤ from → [] ≡ part s from (to - from)
+  part-none h = let e : to - from ≡ 0 = omega arith in rw e refl
+
+  pub part-past : length s ≤ from → [] ≡ part s from (to - from)
+  part-past h = rw (drop-of-length-le s h) (sym (take-nil (to - from)))
+
+  -- up to the input's end is up to any place behind it
+  pub part-over : length s < to → part s from (length s - from) ≡ part s from (to - from)
+  part-over h =
+      let l = length-drop from s in
+      take-all (length s - from) (drop from s) (omega (arith, l)) ∙ sym (take-all (to - from) (drop from s) (omega (arith, l)))
