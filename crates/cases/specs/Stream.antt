@@ -30,10 +30,10 @@ caseAt s at =
       end = wordAt head 16;
     }
 
--- a case takes a byte at least, where there is one
-pub next-further : (s : List ℕ) (at : ℕ) → at < length s → at < caseAt s at .next
+-- a case takes a byte at least, where there is one: a loop over them ends
+pub next-further : (s : List ℕ) (at : ℕ) (c : Case) → c ≡ caseAt s at → at < length s → at < c .next
 unfolding caseAt
-next-further s at h = omega arith
+next-further s at c e h = let n = ap (λ (x : Case). x .next) e in omega (arith, n)
 
 module _ (s : List ℕ) (from to : ℕ) where
   pub part-none : to ≤ from → [] ≡ part s from (to - from)

@@ -1,0 +1,90 @@
+"""Cases of numbers 8 to 11 and of the region: label, book, edit, replacement, and the answer, a number or the region's start and end."""
+from small import *
+from tape_cases import but
+
+cases = []
+def case(label, b, start, end, replacement, answer): cases.append((label, b, start, end, replacement, answer))
+
+# ---- worked examples
+case('P4', plain(abc), 4, 5, b'x', (4, 8))
+case('P6', plain('aa\n\nbb'), 5, 5, b'x', (4, 6))
+case('P7', plain('aa\n\nbb'), 3, 3, b'\n', (0, 4))
+case('P8', plain('aa\n'), 3, 3, b'x', (3, 3))
+case('P9', plain(''), 0, 0, b'a', 11)
+case('P10', plain('abc'), 0, 1, b'x', 11)
+
+# ---- the old book first: "old book 1 to 7, rising; edit 8; replacement 2, new text 3; 9, 10, 11"
+case('1 before 8', but(plain(''), tail=b'\0'), 1, 0, b'x', 1)
+case('3 of the book before 8', but(plain(''), layers=[Layer() for _ in range(33)]), 1, 0, b'x', 3)
+case('7 before 8', but(plain(''), norm=b'a'), 1, 0, b'x', 7)
+
+# ---- 8: "edit start > end, end > length, or inside a character"
+case('8 start behind the end', plain(abc), 5, 4, b'x', 8)
+case('8 end one past the text', plain(abc), 4, 11, b'x', 8)
+case('8 end 4294967295', plain(abc), 4, NONE, b'x', 8)
+case('8 start inside a character', plain('é\n\nb'), 1, 2, b'x', 8)
+case('8 end inside a character', plain('é\n\nb'), 0, 1, b'x', 8)
+case('8 before 2', plain(abc), 5, 4, b'\xff', 8)
+
+# ---- 2: "replacement isn't UTF-8"
+case('2 replacement', plain(abc), 4, 5, b'\x80', 2)
+case('2 replacement cut short', plain(abc), 4, 5, b'\xc3', 2)
+case('2 before 11', plain('abc'), 0, 1, b'\x80', 2)
+
+# ---- 9: "new text equals old"
+case('9 the same byte', plain(abc), 4, 5, b'b', 9)
+case('9 nothing for nothing', plain(abc), 4, 4, b'', 9)
+case('9 before 11', plain('abc'), 0, 1, b'a', 9)
+case('the same byte twice is another text', plain(abc), 4, 5, b'bb', (4, 8))
+
+# ---- 10: a Format, kind 2, whose origin is Referenced (tag 4) and whose target is the base of an earlier Ruby
+def depend(text='a\n\nb\n\n', at=3, tag=4, base=b'a', target=b'a', first=1):
+    return book(text, [base, target], [P(0), P(1)], [], [inline(0, 1, first, 0, [0, 1, 0, 0]), inline(at, at + 1, 2, tag, [1, 1])])
+case('10', depend(), 3, 3, b'x', 10)
+case('10 by equal strings of two ids', depend(base=b'a', target=b'a'), 3, 4, b'x', 10)
+case('the Format ends at the start of the edit', depend(), 4, 4, b'x', (3, 6))
+case('the Format names another base', depend(target=b'b'), 3, 3, b'x', (3, 6))
+case('the Format is not Referenced', depend(tag=0), 3, 3, b'x', (3, 6))
+case('no Ruby but a MarginNote before the Format', depend(first=15), 3, 3, b'x', (3, 6))
+case('9 before 10', depend(), 3, 4, b'b', 9)
+case('10 before 11', depend('ab', 1), 1, 1, b'x', 10)
+
+# ---- 11: "region would be the whole text"
+case('11 edit across the only cut', plain('aa\n\nbb'), 3, 5, b'x', 11)
+case('11 no blank line', plain('aa\nbb\ncc'), 3, 5, b'x', 11)
+
+# ---- section 6. "End: the first safe offset after a newline at or behind the edit's end": the newline is at or behind
+case('edit 4..4 in the text of P4', plain(abc), 4, 4, b'x', (4, 8))
+case('edit up to the first newline of two', plain(abc), 4, 6, b'x', (4, 8))
+case('edit up to the second newline of two', plain(abc), 4, 7, b'x', (4, 8))
+case('edit up to the cut', plain(abc), 4, 8, b'x', (4, 10))
+# "Start: the last safe offset after a newline, at or before the edit's start, else 0"
+case('edit one before the cut', plain(abc), 3, 4, b'x', (0, 8))
+case('region at the end of the text only, one newline', plain('a\n'), 2, 2, b'x', (2, 2))
+case('region at the end of the text only, two newlines', plain('a\n\n'), 3, 3, b'x', (3, 3))
+case('edit at the end of the text, no newline before it', plain('a\n\nb'), 4, 4, b'x', (3, 4))
+case('three newlines: two cuts', plain('a\n\n\nb'), 3, 3, b'x', (3, 4))
+
+# ---- "elsewhere two newline bytes before it, no node across, depths 0, no pair with open start < offset < close end"
+T = 'a\n\nb\n\nc\n\nd'
+def nodes(*ns): return book(T, ['w'], [], [], ns)
+def pair(*p): return but(plain(T), pairs=[(0,) + p])
+case('node across a cut', nodes(inline(2, 4, 5)), 4, 5, b'x', (0, 6))
+case('node that ends at a cut', nodes(inline(1, 3, 5)), 4, 5, b'x', (3, 6))
+case('node that starts at a cut', nodes(inline(3, 4, 5)), 4, 5, b'x', (3, 6))
+case('pair across a cut', pair(0, 1, 2, 4), 4, 5, b'x', (0, 6))
+case('pair that ends exactly at a cut', pair(0, 1, 2, 3), 4, 5, b'x', (3, 6))
+case('pair that starts exactly at a cut', pair(3, 4, 4, 5), 4, 5, b'x', (3, 6))
+case('pair across the end cut', pair(4, 5, 6, 7), 4, 5, b'x', (3, 9))
+case('pair across all cuts', pair(0, 1, 9, 10), 3, 4, b'x', 11)
+# "block and warichu depths 0 (falls below 0 count as 0)"; warichu: Directives, kind 13, of tags 4 and 5
+def warichu(tag, at, leaf=0): return Node(leaf, 0, at, at + 1, 0, Body(13, tag, (0, 0), [0]))
+case('block depth 1 at two cuts', nodes(block(2, 0, 1), block(3, 6, 7)), 3, 4, b'x', (0, 9))
+case('block opened in another block', nodes(block(2, 0, 1), block(2, 3, 4), block(3, 6, 7)), 9, 9, b'x', 11)
+case('block depth below 0', nodes(block(3, 0, 1), block(2, 3, 4), block(3, 6, 7)), 6, 7, b'x', (3, 9))
+case('warichu depth 1 at two cuts', nodes(warichu(4, 0), warichu(5, 6)), 3, 4, b'x', (0, 9))
+case('warichu depth below 0', nodes(warichu(5, 0), warichu(4, 3), warichu(5, 6)), 6, 7, b'x', (3, 9))
+case('warichu of class BlockLeaf', nodes(warichu(4, 0, 1), warichu(5, 6, 1)), 3, 4, b'x', (0, 9))
+case('block and warichu are two depths', nodes(block(2, 0, 1), warichu(5, 3)), 9, 9, b'x', 11)
+case('directive of another tag', nodes(warichu(6, 0)), 3, 4, b'x', (3, 6))
+case('characters of three bytes', plain('漢字\n\nあ\n\n字'), 8, 11, '漢'.encode(), (8, 13))
