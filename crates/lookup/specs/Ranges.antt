@@ -20,7 +20,7 @@ use Rattle.store.specs.declared.Store.{Store}
 use Rattle.store.specs.Stored.{StoreFits, storeAt}
 use Rattle.store.specs.Pools.{rangeIn}
 use Rattle.store.specs.Standing.{contentPlace, segmentPlace, content-range-ok, segment-range-ok, content-range, segment-range}
-use Rattle.tape.specs.Accepted.{Accepted, accepted-book, accepted-places, accepted-store}
+use Rattle.tape.specs.Accepted.{accepted-book, accepted-places, accepted-store}
 use Rattle.tape.specs.Numbers.{store-few}
 use Rattle.lookup.specs.declared.RangeAt.{RangeAt}
 use Rattle.lookup.specs.declared.RangeAt.the-variants.{Refused, At, Nothing}
@@ -55,21 +55,24 @@ module _ (t d : List ℕ) {A : Type 0} (c : Codec A) (ok : LexOutput → Bool) (
   unfolding rangeShown rangeAtOf
   shown-refused n = refl
 
-  -- if the records stand there
-  shown : (Accepted t d → ok (bookAt t (places t) d) ≡ true → items (bookAt t (places t) d) ≡ recordsAt c t place len)
+  shown : (ok (bookAt t (places t) d) ≡ true → items (bookAt t (places t) d) ≡ recordsAt c t place len)
       → rangeShown c t (rangeAtOf (askBook t d ok) place len) ≡ askBook t d (λ b. cond (ok b) (some (items b)) none)
   unfolding rangeAtOf
   shown h =
       by-bool (eqb (numberOf (checkBook t d)) 0)
       (λ e.
       let a = accepted-book t d (eqb-true (numberOf (checkBook t d)) 0 e) in
-      let b = bookAt t (places t) d in
       ap (λ (x : Checked Bool). rangeShown c t (rangeAtOf x place len)) (sym (ask-accepted a ok))
-      ∙ shown-accepted b (h a) ∙ ask-accepted a (λ (x : LexOutput). cond (ok x) (some (items x)) none))
+      ∙ shown-accepted (bookAt t (places t) d) h ∙ ask-accepted a (λ (b : LexOutput). cond (ok b) (some (items b)) none))
       (λ e.
       let z = eqb-false (numberOf (checkBook t d)) 0 e in
       ap (λ (x : Checked Bool). rangeShown c t (rangeAtOf x place len)) (sym (ask-refused t d refl z ok))
-      ∙ shown-refused (numberOf (checkBook t d)) ∙ ask-refused t d refl z (λ (x : LexOutput). cond (ok x) (some (items x)) none))
+      ∙ shown-refused (numberOf (checkBook t d)) ∙ ask-refused t d refl z (λ (b : LexOutput). cond (ok b) (some (items b)) none))
+
+  -- where the items stand, an answer that is so fixed shows them
+  range-both : (ok (bookAt t (places t) d) ≡ true → items (bookAt t (places t) d) ≡ recordsAt c t place len) → {r : RangeAt} → r ≡ rangeAtOf (askBook t d ok) place len
+      → (r ≡ rangeAtOf (askBook t d ok) place len) × (rangeShown c t r ≡ askBook t d (λ b. cond (ok b) (some (items b)) none))
+  range-both h e = (e, ap (rangeShown c t) e ∙ shown h)
 
 -- ---- contents and segments
 
@@ -103,20 +106,20 @@ module _ (t d : List ℕ) (start len : ℕ) where
   unfolding bookAt
   segments-stand h = segment-range t (storeAt t) refl behind start len (segments-test (storeAt t) refl ∙ h)
 
-  -- The records named are the contents asked for.
-  contents-shown : rangeShown contentCodec t (rangeAtOf (askBook t d (contentsOk start len)) (contentPlace (storeAt t) start) len)
-      ≡ askBook t d (λ b. lookupContents b start len)
+  -- An answer of `lookup_contents` shows the contents asked for.
+  pub contents-both : {r : RangeAt} → r ≡ rangeAtOf (askBook t d (contentsOk start len)) (contentPlace (storeAt t) start) len
+      → (r ≡ rangeAtOf (askBook t d (contentsOk start len)) (contentPlace (storeAt t) start) len)
+      × (rangeShown contentCodec t r ≡ askBook t d (λ b. lookupContents b start len))
   unfolding lookupContents
-  contents-shown =
-      shown t d contentCodec (contentsOk start len) (λ (b : LexOutput). resolveContentRange (storeOf (b .layers)) start len) (contentPlace (storeAt t) start) len
-      (λ a h. contents-stand h)
+  contents-both =
+      range-both t d contentCodec (contentsOk start len) (λ (b : LexOutput). resolveContentRange (storeOf (b .layers)) start len) (contentPlace (storeAt t) start) len contents-stand
 
-  segments-shown : rangeShown segmentCodec t (rangeAtOf (askBook t d (segmentsOk start len)) (segmentPlace (storeAt t) start) len)
-      ≡ askBook t d (λ b. lookupSegments b start len)
+  pub segments-both : {r : RangeAt} → r ≡ rangeAtOf (askBook t d (segmentsOk start len)) (segmentPlace (storeAt t) start) len
+      → (r ≡ rangeAtOf (askBook t d (segmentsOk start len)) (segmentPlace (storeAt t) start) len)
+      × (rangeShown segmentCodec t r ≡ askBook t d (λ b. lookupSegments b start len))
   unfolding lookupSegments
-  segments-shown =
-      shown t d segmentCodec (segmentsOk start len) (λ (b : LexOutput). resolveSegRange (storeOf (b .layers)) start len) (segmentPlace (storeAt t) start) len
-      (λ a h. segments-stand h)
+  segments-both =
+      range-both t d segmentCodec (segmentsOk start len) (λ (b : LexOutput). resolveSegRange (storeOf (b .layers)) start len) (segmentPlace (storeAt t) start) len segments-stand
 
 -- ---- the returns of the code
 
@@ -130,18 +133,7 @@ module _ {x ok : Bool} (e : x ≡ ok) (place len : ℕ) where
   unfolding rangeIf
   range-there f q = rw (← e, f, q) refl
 
--- the entries, where 1 to 7 refuse
-module _ (t d : List ℕ) (start len : ℕ) {r : RangeAt} where
-  pub contents-both : r ≡ rangeAtOf (askBook t d (contentsOk start len)) (contentPlace (storeAt t) start) len
-      → (r ≡ rangeAtOf (askBook t d (contentsOk start len)) (contentPlace (storeAt t) start) len)
-      × (rangeShown contentCodec t r ≡ askBook t d (λ b. lookupContents b start len))
-  contents-both e = (e, ap (rangeShown contentCodec t) e ∙ contents-shown t d start len)
-
-  pub segments-both : r ≡ rangeAtOf (askBook t d (segmentsOk start len)) (segmentPlace (storeAt t) start) len
-      → (r ≡ rangeAtOf (askBook t d (segmentsOk start len)) (segmentPlace (storeAt t) start) len)
-      × (rangeShown segmentCodec t r ≡ askBook t d (λ b. lookupSegments b start len))
-  segments-both e = (e, ap (rangeShown segmentCodec t) e ∙ segments-shown t d start len)
-
+-- the entries
 pub range-refused : (t d : List ℕ) {n : ℕ} → n ≡ numberOf (checkBook t d) → (n ≡ 0 → ⊥) → (ok : LexOutput → Bool) (place len : ℕ)
     → Refused n ≡ rangeAtOf (askBook t d ok) place len
 unfolding rangeAtOf
