@@ -152,9 +152,10 @@ fn copy_padded(out: &mut [u8], s: &[u8])
 
 // A book read and written again, which is the same bytes: both buffers copied, or cleared after a refusal.
 pub fn copy_book(tape: &[u8], bytes: &[u8], outtape: &mut [u8], outbytes: &mut [u8]) -> Copied
-    ensures { λ r. ⌜ (r ≡ copiedOf (copyInto (now (tape .entry)) (now (bytes .entry)) (length (now (outtape .entry))) (length (now (outbytes .entry)))))
-        × (now (outtape .exit) ≡ copiedTape (length (now (outtape .entry))) (copyInto (now (tape .entry)) (now (bytes .entry)) (length (now (outtape .entry))) (length (now (outbytes .entry)))))
-        × (now (outbytes .exit) ≡ copiedBytes (length (now (outbytes .entry))) (copyInto (now (tape .entry)) (now (bytes .entry)) (length (now (outtape .entry))) (length (now (outbytes .entry))))) ⌝ }
+    ensures { λ r. ⌜ (let copy = copyInto (now (tape .entry)) (now (bytes .entry)) (length (now (outtape .entry))) (length (now (outbytes .entry))) in
+        (r ≡ copiedOf copy)
+        × (now (outtape .exit) ≡ copiedTape (length (now (outtape .entry))) copy)
+        × (now (outbytes .exit) ≡ copiedBytes (length (now (outbytes .entry))) copy)) ⌝ }
 {
     let n = copy_refusal(tape, bytes, outtape.len(), outbytes.len());
     if n != 0 {
