@@ -9,6 +9,7 @@ use lib.Seq.{take-add}
 use Rattle.model.specs.Lists.{sum}
 use Rattle.model.specs.Bytes.{wordAt}
 use Rattle.model.specs.Tape.{recordAt, recordsAt, operandsAt, stringCodec, places}
+use Rattle.wire.specs.Loops.{sum-append}
 use Rattle.places.specs.Runs.{capped}
 use Rattle.places.specs.Found.{stringsIn}
 use Rattle.store.specs.declared.Store.{Store}
@@ -43,15 +44,15 @@ pub record Between (st : Store) (from to : ℕ) : Type 0 where
 
 -- ---- sums
 
-sum-append : (xs ys : List ℕ) → sum (xs ++ ys) ≡ sum xs + sum ys
-sum-append [] ys = omega arith
-sum-append (x ∷ xs) ys = rw (sum-append xs ys) (omega arith)
-
 -- a start is another and the strings between
 sum-between : (ns : List ℕ) (i j : ℕ) → i ≤ j → sum (take j ns) ≡ sum (take i ns) + sum (take (j - i) (drop i ns))
 sum-between ns i j h =
     let e : j ≡ i + (j - i) = omega arith in
     ap (λ (k : ℕ). sum (take k ns)) e ∙ ap sum (take-add i (j - i) ns) ∙ sum-append (take i ns) (take (j - i) (drop i ns))
+
+-- how many strings there are
+pub strings-count : {t : List ℕ} {st : Store} → OfTape t st → st .totals .strings ≡ length (lengthsIn t)
+strings-count {t} {st} f = string-pool t st (f .stored) .all ∙ sym (length-pools t (places t .layers))
 
 -- ---- one string
 
