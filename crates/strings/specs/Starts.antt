@@ -8,7 +8,8 @@ use lib.ListN.{length, getD, take, drop}
 use lib.Seq.{take-add}
 use Rattle.model.specs.Lists.{sum}
 use Rattle.model.specs.Bytes.{wordAt}
-use Rattle.model.specs.Tape.{recordAt, recordsAt, operandsAt, stringCodec, places}
+use Rattle.model.specs.Store.{NodeStore, storeOf}
+use Rattle.model.specs.Tape.{recordAt, recordsAt, operandsAt, stringCodec, places, layersAt}
 use Rattle.wire.specs.Loops.{sum-append}
 use Rattle.places.specs.Runs.{capped}
 use Rattle.places.specs.Found.{stringsIn}
@@ -20,6 +21,10 @@ use Rattle.store.specs.Standing.{Spans, stringStart, stringPlace, string-pool, 
 -- the lengths of all strings of a tape
 abbrev pub lengthsIn : List ℕ → List ℕ
 lengthsIn t = allLengths t (places t .layers)
+
+-- the store of a tape, whose strings begin at the head of b
+abbrev pub storeIn : List ℕ → List ℕ → NodeStore
+storeIn t b = storeOf (layersAt t (places t .layers) b)
 
 -- where string i begins among the bytes of the strings
 abbrev pub startIn : List ℕ → ℕ → ℕ
@@ -45,7 +50,7 @@ pub record Between (st : Store) (from to : ℕ) : Type 0 where
 -- ---- sums
 
 -- a start is another and the strings between
-sum-between : (ns : List ℕ) (i j : ℕ) → i ≤ j → sum (take j ns) ≡ sum (take i ns) + sum (take (j - i) (drop i ns))
+pub sum-between : (ns : List ℕ) (i j : ℕ) → i ≤ j → sum (take j ns) ≡ sum (take i ns) + sum (take (j - i) (drop i ns))
 sum-between ns i j h =
     let e : j ≡ i + (j - i) = omega arith in
     ap (λ (k : ℕ). sum (take k ns)) e ∙ ap sum (take-add i (j - i) ns) ∙ sum-append (take i ns) (take (j - i) (drop i ns))

@@ -2,12 +2,24 @@
 // long its strings are and not where they begin, so `index_strings` writes every k-th start into lent words, k as small as the
 // words allow, and `string_start` walks from the last of them. specs/Starts.antt says what a start is.
 ghost use mathlib.Core.Path.{_≡_};
-ghost use Prim.Native.Nat.{_+_, _≤_, _<_, _^_, min};
-ghost use lib.ListN.{length, getD};
-ghost use Rattle.model.specs.Store.{stringSpan};
+ghost use Prim.Native.Nat.{ℕ, _+_, _≤_, _<_, _^_, min};
+ghost use mathlib.Core.Bool.{true};
+ghost use mathlib.Core.List.{List, _∷_, []};
+ghost use lib.ListN.{length, getD, take, drop};
+ghost use Rattle.model.specs.Store.{stringSpan, resolveContentRange, shownPart};
+ghost use Rattle.records.specs.Values.{contentOf};
+ghost use Rattle.store.specs.Pools.{rangeIn};
 ghost use Rattle.wire.specs.Overwrite.{overwrite};
-ghost use Rattle.strings.specs.Starts.{lengthsIn, startIn, OfTape, Readable, Between, runEnd, InLayer};
+ghost use Rattle.strings.specs.Starts.{lengthsIn, storeIn, startIn, OfTape, Readable, Between, runEnd, InLayer};
 ghost use Rattle.strings.specs.Index.{stepOf, stepIn, stringIndex, Indexed};
+ghost use Rattle.strings.specs.PlainContent.{plainOf};
+ghost use Rattle.strings.specs.Shown.{oldStrings, TwoSides, Resolvable, Lies, partOf};
+
+// The id of a Plain content's string.
+pub enum Plain {
+    Id(u32),
+    Nothing,
+}
 
 fn wide(x: u32) -> usize
     ensures { λ r. ⌜ r ≡ x ⌝ }
@@ -142,4 +154,72 @@ pub fn string_start(tape: &[u8], st: store::Store, room: usize, words: &[u32], i
         return start_from(tape, st, room, 0, id, 0);
     }
     start_from(tape, st, room, (q * step) as u32, id, wide(start))
+}
+
+fn plain_of(c: records::Content) -> Plain
+    ensures { λ r. ⌜ r ≡ plainOf (contentOf c ∷ []) ⌝ }
+{
+    if c.tag == 0 {
+        return Plain::Id(c.first);
+    }
+    Plain::Nothing
+}
+
+// Section 6. A range of exactly one Plain content gives its string, all others none.
+pub fn content_range_as_plain(tape: &[u8], st: store::Store, start: u32, len: u32) -> Plain
+    requires { ⌜ OfTape (now tape) st ⌝ }
+    requires { ⌜ rangeIn (st .contents) (st .layers) (st .totals .contents) start len ≡ true ⌝ }
+    ensures { λ r. ⌜ ((b : List ℕ) → r ≡ plainOf (resolveContentRange (storeIn (now (tape .entry)) b) start len)) ⌝ }
+{
+    if len != 1 {
+        return Plain::Nothing;
+    }
+    let at = store::content_place(st, start);
+    plain_of(records::content_at(tape, at))
+}
+
+fn old_strings(st: store::Store) -> u32
+    requires { ⌜ (0 < st .layers) × (st .layers ≤ 32) ⌝ }
+    ensures { λ r. ⌜ r ≡ oldStrings st ⌝ }
+{
+    let strings = st.strings;
+    store::start_or(&strings, st.layers, st.totals.strings, st.layers - 1)
+}
+
+// Section 3. A part of the old string bytes or of the new layer's, chosen by the id: the old strings come first.
+fn resolve<'a>(
+    old: &'a [u8],
+    new: &'a [u8],
+    olds: u32,
+    id: u32,
+    start: usize,
+    len: usize,
+) -> &'a [u8]
+    requires { ⌜ Lies (now old) (now new) olds id start len ⌝ }
+    ensures { λ r. ⌜ now r ≡ partOf (now (old .entry)) (now (new .entry)) olds id start len ⌝ }
+{
+    if id < olds {
+        return &old[start..start + len];
+    }
+    let at = start - old.len();
+    &new[at..at + len]
+}
+
+// Section 3. `resolve_str`. `old` are the bytes of the strings of all layers but the last, `new` those of the last layer's.
+pub fn resolve_str<'a>(
+    tape: &[u8],
+    st: store::Store,
+    words: &[u32],
+    old: &'a [u8],
+    new: &'a [u8],
+    id: u32,
+) -> &'a [u8]
+    requires { ⌜ Resolvable (now tape) st (now words) (now old) (now new) ⌝ }
+    requires { ⌜ id < st .totals .strings ⌝ }
+    ensures { λ r. ⌜ now r ≡ shownPart (take (oldStrings st) (lengthsIn (now (tape .entry)))) (now (old .entry)) (drop (oldStrings st) (lengthsIn (now (tape .entry)))) (now (new .entry)) id ⌝ }
+{
+    let olds = old_strings(st);
+    let start = string_start(tape, st, old.len() + new.len(), words, id);
+    let len = string_length(tape, st, id);
+    resolve(old, new, olds, id, start, len)
 }
