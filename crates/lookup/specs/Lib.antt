@@ -1,0 +1,3 @@
+pub mod Asked
+pub mod Ranges
+pub mod Copying
