@@ -37,17 +37,31 @@ case('9 nothing for nothing', plain(abc), 4, 4, b'', 9)
 case('9 before 11', plain('abc'), 0, 1, b'a', 9)
 case('the same byte twice is another text', plain(abc), 4, 5, b'bb', (4, 8))
 
-# ---- 10: a Format, kind 2, whose origin is Referenced (tag 4) and whose target is the base of an earlier Ruby
-def depend(text='a\n\nb\n\n', at=3, tag=4, base=b'a', target=b'a', first=1):
-    return book(text, [base, target], [P(0), P(1)], [], [inline(0, 1, first, 0, [0, 1, 0, 0]), inline(at, at + 1, 2, tag, [1, 1])])
-case('10', depend(), 3, 3, b'x', 10)
-case('10 by equal strings of two ids', depend(base=b'a', target=b'a'), 3, 4, b'x', 10)
-case('the Format ends at the start of the edit', depend(), 4, 4, b'x', (3, 6))
-case('the Format names another base', depend(target=b'b'), 3, 3, b'x', (3, 6))
-case('the Format is not Referenced', depend(tag=0), 3, 3, b'x', (3, 6))
-case('no Ruby but a MarginNote before the Format', depend(first=15), 3, 3, b'x', (3, 6))
-case('9 before 10', depend(), 3, 4, b'b', 9)
-case('10 before 11', depend('ab', 1), 1, 1, b'x', 10)
+# ---- 10: `has_ruby_format_dependency`: an inline Format, kind 2, whose origin is Referenced (tags 4 to 7), that ends behind the edit's start
+# and whose target is the base of an earlier inline Ruby, kind 1; "a range of exactly one Plain content gives its string, all others none"
+T = 'a\n\nb\n\nc\n\nd'
+def linked(*nodes, text=T):
+    """contents 0 and 1 are "a" by two ids, 2 is "b", 3 is a segment"""
+    return book(text, ['a', 'a', 'b'], [P(0), P(1), P(2), (1, 0, 1)], [Seg(0, 0, Body(0, 0, (0, 0), [0]))], nodes)
+def R(at, base=0, count=1, cls=0): return Node(cls, 0, at, at + 1, 0, Body(1, 0, (0, 0), [base, count, 0, 0]))
+def F(at, target=0, count=1, tag=4, cls=0): return Node(cls, 0, at, at + 1, 0, Body(2, tag, (0, 0), [target, count]))
+case('10', linked(R(0), F(3)), 3, 3, b'x', 10)
+case('10 by equal strings of two ids', linked(R(0), F(3, 1)), 3, 3, b'x', 10)
+case('10 by the second of two Rubies', linked(R(0, 2), R(3), F(6)), 6, 6, b'x', 10)
+case('10 behind the edit', linked(R(3), F(6)), 0, 0, b'x', 10)
+case('10 by tag 7', linked(R(0), F(3, tag=7)), 3, 3, b'x', 10)
+case('the Format ends at the start of the edit', linked(R(0), F(3)), 4, 4, b'x', (3, 6))
+case('the Format has another target', linked(R(0), F(3, 2)), 3, 3, b'x', (3, 6))
+case('the Format is not Referenced, tag 3', linked(R(0), F(3, tag=3)), 3, 3, b'x', (3, 6))
+case('the Format is not Referenced, tag 8', linked(R(0), F(3, tag=8)), 3, 3, b'x', (3, 6))
+case('the Ruby is behind the Format', linked(F(0), R(3)), 0, 0, b'x', (0, 3))
+case('the Ruby is a BlockLeaf', linked(R(0, cls=1), F(3)), 3, 3, b'x', (3, 6))
+case('the Format is a BlockLeaf', linked(R(0), F(3, cls=1)), 3, 3, b'x', (3, 6))
+case('base and target are two contents', linked(R(0, 0, 2), F(3, 0, 2)), 3, 3, b'x', (3, 6))
+case('base and target are empty', linked(R(0, 0, 0), F(3, 0, 0)), 3, 3, b'x', (3, 6))
+case('base and target are segments', linked(R(0, 3), F(3, 3)), 3, 3, b'x', (3, 6))
+case('9 before 10', linked(R(0), F(3)), 3, 4, b'b', 9)
+case('10 before 11', linked(R(0), F(1), text='ab'), 1, 1, b'x', 10)
 
 # ---- 11: "region would be the whole text"
 case('11 edit across the only cut', plain('aa\n\nbb'), 3, 5, b'x', 11)
@@ -63,10 +77,11 @@ case('edit one before the cut', plain(abc), 3, 4, b'x', (0, 8))
 case('region at the end of the text only, one newline', plain('a\n'), 2, 2, b'x', (2, 2))
 case('region at the end of the text only, two newlines', plain('a\n\n'), 3, 3, b'x', (3, 3))
 case('edit at the end of the text, no newline before it', plain('a\n\nb'), 4, 4, b'x', (3, 4))
+case('blank line at the start of the text', plain('\n\nb'), 2, 3, b'x', (2, 3))
+case('one newline at the start of the text', plain('\nb'), 1, 2, b'x', 11)
 case('three newlines: two cuts', plain('a\n\n\nb'), 3, 3, b'x', (3, 4))
 
 # ---- "elsewhere two newline bytes before it, no node across, depths 0, no pair with open start < offset < close end"
-T = 'a\n\nb\n\nc\n\nd'
 def nodes(*ns): return book(T, ['w'], [], [], ns)
 def pair(*p): return but(plain(T), pairs=[(0,) + p])
 case('node across a cut', nodes(inline(2, 4, 5)), 4, 5, b'x', (0, 6))
