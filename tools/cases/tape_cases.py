@@ -137,7 +137,8 @@ case('4 before 5: id of an empty pool, and level 0 of a Node segment', 4, pools(
 # ---- 5: "Level: 0 for segment tags 0..2; a Node segment's is 1..32 and above every level in the segment runs its contents or caption name"
 def nest(levels):
     """AngleQuotes one in another: segment i, of level i, holds segment i - 1; segment 0 is a text"""
-    return book('a', ['x'], [run(i, 1) for i in range(levels + 1)], [text()] + [node(i, 14, 0, [i - 1, 1]) for i in range(1, levels + 1)], [inline(0, 1, 14, 0, [levels, 1])])
+    segments = [text()] + [node(i, 14, 0, [i - 1, 1]) for i in range(1, levels + 1)]
+    return book('a', ['x'], [run(i, 1) for i in range(levels + 1)], segments, [inline(0, 1, 14, 0, [levels, 1])])
 case('5 level 1 of a Text segment', 5, pools([''], [], [Seg(0, 1, Body(0))]))
 case('5 level 1 of a Gaiji segment', 5, pools([''], [], [Seg(1, 1, Body(3))]))
 case('5 level 1 of a Directive segment', 5, pools([''], [], [Seg(2, 1, Body(13))]))

@@ -74,7 +74,25 @@ fn put_records(place: usize, n: u32) {
     }
 }
 
-fn put_range(a: lookup::RangeAt) {
+// A string with the bytes between two places of the byte buffer.
+fn put_string(bytes: &[u8], start: usize, end: usize) {
+    say(b"\"");
+    say(cases::between(bytes, start, end));
+    say(b"\"");
+}
+
+fn put_str(bytes: &[u8], a: lookup::StrAt) {
+    match a {
+        lookup::StrAt::Refused(n) => put(b"refused ", n as u64),
+        lookup::StrAt::At(start, end) => put_string(bytes, start, end),
+        lookup::StrAt::Nothing => say(b"none"),
+    }
+}
+
+fn put_range(start: u32, end: u32, a: lookup::RangeAt) {
+    put(b"", start as u64);
+    put(b" ", end as u64);
+    say(b": ");
     match a {
         lookup::RangeAt::Refused(n) => put(b"refused ", n as u64),
         lookup::RangeAt::At(place, n) => put_records(place, n),
@@ -89,14 +107,13 @@ fn ask(tape: &[u8], bytes: &[u8], start: u32, end: u32) {
     put(b"\n  node at ", start as u64);
     say(b": ");
     put_node(lookup::node_at_source(tape, bytes, start));
-    put(b"\n  contents ", start as u64);
-    put(b" ", end as u64);
+    put(b"\n  string ", start as u64);
     say(b": ");
-    put_range(lookup::lookup_contents(tape, bytes, start, end));
-    put(b"\n  segments ", start as u64);
-    put(b" ", end as u64);
-    say(b": ");
-    put_range(lookup::lookup_segments(tape, bytes, start, end));
+    put_str(bytes, lookup::lookup_str(tape, bytes, start));
+    say(b"\n  contents ");
+    put_range(start, end, lookup::lookup_contents(tape, bytes, start, end));
+    say(b"\n  segments ");
+    put_range(start, end, lookup::lookup_segments(tape, bytes, start, end));
     say(b"\n");
 }
 
