@@ -56,8 +56,8 @@ module _ (t d : List ℕ) {A : Type 0} (c : Codec A) (ok : LexOutput → Bool) (
   range-both h e = (
     e,
     ap (rangeShown c t) e
-    ∙ ask-shown t d (λ (x : Checked Bool). rangeAtOf x place len) (rangeShown c t) ok (λ (b : LexOutput). cond (ok b) (some (items b)) none) (λ n. refl)
-    (λ a. shown-accepted (bookAt t (places t) d) h),
+        ∙ ask-shown t d (λ (x : Checked Bool). rangeAtOf x place len) (rangeShown c t) ok (λ (b : LexOutput). cond (ok b) (some (items b)) none) (λ n. refl)
+        (λ a. shown-accepted (bookAt t (places t) d) h),
   )
 
 -- ---- contents and segments

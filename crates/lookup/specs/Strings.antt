@@ -129,26 +129,27 @@ unfolding strShown strAtOf
 str-both t d id e = (
   e,
   ap (strShown d) e
-  ∙ ask-shown t d strAtOf (strShown d) (λ (b : LexOutput). lookupStrSpan b id) (λ (b : LexOutput). lookupStr b id) (λ n. refl) (λ a. shown-here t d (a .framing) id),
+      ∙ ask-shown t d strAtOf (strShown d) (λ (b : LexOutput). lookupStrSpan b id) (λ (b : LexOutput). lookupStr b id) (λ n. refl) (λ a. shown-here t d (a .framing) id),
 )
 
 -- ---- the returns of `str_in`
 
-module _ {t : List ℕ} {st : Store} {room : ℕ} (f : Readable t st room) (from id : ℕ) where
-  pub str-none : st .totals .strings ≤ id → Nothing ≡ strIf (spanFrom (st .totals .strings) from (lengthsIn t) id)
+module _ (count from : ℕ) (lengths : List ℕ) (id : ℕ) where
+  pub str-none : count ≤ id → Nothing ≡ strIf (spanFrom count from lengths id)
   unfolding strIf spanFrom
-  str-none h = rw (le-ltb id (st .totals .strings) h) refl
+  str-none h = rw (le-ltb id count h) refl
 
-  -- start and length of the string
-  module _ {start len : ℕ} (s : start ≡ startIn t id) (n : len ≡ getD (lengthsIn t) id 0) where
-    pub str-inside : start + len ≤ room
-    str-inside = let m = start-most f (suc id) in let k = before-next (lengthsIn t) id in omega (arith, m, k, s, n)
+  pub str-there : id < count → {start len : ℕ} → start ≡ sum (take id lengths) → len ≡ getD lengths id 0
+      → At (from + start) (from + start + len) ≡ strIf (spanFrom count from lengths id)
+  unfolding strIf spanFrom stringSpan
+  str-there h {start} {len} s n =
+      let q : from + start + len ≡ from + (sum (take id lengths) + getD lengths id 0) = omega (arith, s, n) in
+      rw (lt-ltb id count h) (ap₂ (λ (x y : ℕ). At x y) (ap (λ (x : ℕ). from + x) s) q)
 
-    pub str-there : id < st .totals .strings → At (from + start) (from + start + len) ≡ strIf (spanFrom (st .totals .strings) from (lengthsIn t) id)
-    unfolding strIf spanFrom stringSpan
-    str-there h =
-        let q : from + start + len ≡ from + (startIn t id + getD (lengthsIn t) id 0) = omega (arith, s, n) in
-        rw (lt-ltb id (st .totals .strings) h) (ap₂ (λ (x y : ℕ). At x y) (ap (λ (x : ℕ). from + x) s) q)
+-- no string ends behind the bytes
+pub str-inside : {t : List ℕ} {st : Store} {room : ℕ} → Readable t st room → (id : ℕ) {start len : ℕ} → start ≡ startIn t id → len ≡ getD (lengthsIn t) id 0
+    → start + len ≤ room
+str-inside {t} f id s n = let m = start-most f (suc id) in let k = before-next (lengthsIn t) id in omega (arith, m, k, s, n)
 
 -- ---- the returns of `lookup_str`
 
