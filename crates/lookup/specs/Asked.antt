@@ -57,9 +57,7 @@ module _ (t d : List ℕ) {n : ℕ} (e : n ≡ numberOf (checkBook t d)) where
 
   pub ask-refused : (n ≡ 0 → ⊥) → {A : Type 0} (f : LexOutput → A) → refused n ≡ askBook t d f
   unfolding askBook _>>=_
-  ask-refused h f =
-      let q : checkBook t d ≡ refused n = refusal-of (checkBook t d) (λ z. h (e ∙ z)) ∙ ap {B = Checked LexOutput} refused (sym e) in
-      rw q refl
+  ask-refused h f = rw (refusal-of (checkBook t d) e h) refl
 
 pub ask-accepted : {t d : List ℕ} → Accepted t d → {A : Type 0} (f : LexOutput → A) → accepted (f (bookAt t (places t) d)) ≡ askBook t d f
 unfolding askBook _>>=_

@@ -1,11 +1,11 @@
 -- Where the records of a range stand in the tape, and that what stands there is the model's answer: contents and segments.
-use mathlib.Core.Path.{_≡_, refl, sym, ap, _∙_}
+use mathlib.Core.Path.{_≡_, refl, ap, _∙_}
 use Prim.Native.Nat.{ℕ, _+_, _≤_}
 use mathlib.Core.Bool.{Bool, true, false, cond}
 use mathlib.Core.Option.{Option, none, some}
 use mathlib.Core.List.{List}
 use lib.ListN.{drop}
-use Rattle.model.specs.Types.{LexOutput, Content, Segment}
+use Rattle.model.specs.Types.{LexOutput}
 use Rattle.model.specs.Refusal.{Checked, Checked.refused, Checked.accepted, numberOf}
 use Rattle.model.specs.Bytes.{wordAt}
 use Rattle.model.specs.Tape.{Codec, recordsAt, places, bookAt, contentCodec, segmentCodec}
@@ -98,14 +98,16 @@ module _ (t d : List ℕ) (start len : ℕ) where
       × (rangeShown contentCodec t r ≡ askBook t d (λ b. lookupContents b start len))
   unfolding lookupContents
   contents-both =
-      range-both t d contentCodec (contentsOk start len) (λ (b : LexOutput). resolveContentRange (storeOf (b .layers)) start len) (contentPlace (storeAt t) start) len contents-stand
+      range-both t d contentCodec (contentsOk start len) (λ (b : LexOutput). resolveContentRange (storeOf (b .layers)) start len) (contentPlace (storeAt t) start) len
+      contents-stand
 
   pub segments-both : {r : RangeAt} → r ≡ rangeAtOf (askBook t d (segmentsOk start len)) (segmentPlace (storeAt t) start) len
       → (r ≡ rangeAtOf (askBook t d (segmentsOk start len)) (segmentPlace (storeAt t) start) len)
       × (rangeShown segmentCodec t r ≡ askBook t d (λ b. lookupSegments b start len))
   unfolding lookupSegments
   segments-both =
-      range-both t d segmentCodec (segmentsOk start len) (λ (b : LexOutput). resolveSegRange (storeOf (b .layers)) start len) (segmentPlace (storeAt t) start) len segments-stand
+      range-both t d segmentCodec (segmentsOk start len) (λ (b : LexOutput). resolveSegRange (storeOf (b .layers)) start len) (segmentPlace (storeAt t) start) len
+      segments-stand
 
 -- ---- the returns of the code
 

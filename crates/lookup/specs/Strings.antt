@@ -2,7 +2,7 @@
 use mathlib.Core.Path.{_≡_, refl, sym, ap, ap₂, _∙_}
 use Prim.Native.Nat.{ℕ, zero, suc, _+_, _-_, _≤_, _<_, _^_}
 use native.Mathlib.Omega.{arith}
-use mathlib.Core.Bool.{Bool, true, false, cond}
+use mathlib.Core.Bool.{cond}
 use mathlib.Core.Option.{Option, none, some}
 use mathlib.Core.List.{List, [], _∷_, map}
 use lib.ListN.{length, getD, getElem?, take, drop, length-map}
@@ -28,8 +28,7 @@ use Rattle.store.specs.Stored.{storeAt}
 use Rattle.store.specs.Pools.{before-next}
 use Rattle.store.specs.Standing.{string-pool, length-pools, strings-pieces, length-at, string-at}
 use Rattle.store.specs.Lengths.{book-lengths}
-use Rattle.strings.specs.Starts.{lengthsIn, startIn, Readable, strings-count, string-bytes, readable, start-most}
-use Rattle.tape.specs.Accepted.{Accepted}
+use Rattle.strings.specs.Starts.{lengthsIn, startIn, Readable, string-bytes, readable, start-most}
 use Rattle.lookup.specs.declared.StrAt.{StrAt}
 use Rattle.lookup.specs.declared.StrAt.the-variants.{Refused, At, Nothing}
 use Rattle.lookup.specs.Asked.{Asked, ask-refused, ask-accepted, ask-shown}

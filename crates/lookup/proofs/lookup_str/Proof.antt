@@ -1,5 +1,4 @@
 use mathlib.Core.Path.{refl}
-use native.Mathlib.Omega.{arith}
 use Rattle.lookup.specs.Strings.{asked-readable, str-refused, str-said, str-both}
 use Rattle.lookup.specs.Ranges.{asked-store}
 use Rattle.lookup.specs.Asked.{asked}
