@@ -5,11 +5,14 @@ use Prim.Native.Nat.{ℕ}
 use mathlib.Core.Bool.{Bool, true, false}
 use mathlib.Core.Option.{Option, none, some}
 use mathlib.Core.List.{List}
+use lib.Dec.{eqb}
+use borrow.Author.Tests.{eqb-true, eqb-false}
 use Rattle.model.specs.Types.{LexOutput}
 use Rattle.model.specs.Refusal.{Checked, Checked.refused, Checked.accepted, _>>=_, numberOf}
 use Rattle.model.specs.Tape.{recordsAt, places, bookAt, nodeCodec, diagnosticCodec}
 use Rattle.model.specs.WellFormed.{checkBook}
 use Rattle.model.specs.Lookup.{askBook, diagnosticsAllowIncremental, nodeAtSource}
+use Rattle.wire.specs.Loops.{by-bool}
 use Rattle.places.specs.declared.Places.{Places}
 use Rattle.places.specs.Found.{found, placesOf}
 use Rattle.bounds.specs.declared.Found.{Found}
@@ -54,13 +57,25 @@ module _ (t d : List ℕ) {n : ℕ} (e : n ≡ numberOf (checkBook t d)) where
 
   pub ask-refused : (n ≡ 0 → ⊥) → {A : Type 0} (f : LexOutput → A) → refused n ≡ askBook t d f
   unfolding askBook _>>=_
-  ask-refused h f =
-      let q : checkBook t d ≡ refused n = refusal-of (checkBook t d) (λ z. h (e ∙ z)) ∙ ap {B = Checked LexOutput} refused (sym e) in
-      rw q refl
+  ask-refused h f = rw (refusal-of (checkBook t d) e h) refl
 
 pub ask-accepted : {t d : List ℕ} → Accepted t d → {A : Type 0} (f : LexOutput → A) → accepted (f (bookAt t (places t) d)) ≡ askBook t d f
 unfolding askBook _>>=_
 ask-accepted a f = rw (a .book) refl
+
+-- What an answer shows is what is asked, if it is so of a refusal and of a book that passed.
+pub ask-shown : (t d : List ℕ) {A B R : Type 0} (of : Checked A → R) (show : R → Checked B) (f : LexOutput → A) (g : LexOutput → B)
+    → ((n : ℕ) → show (of (refused n)) ≡ refused n)
+    → (Accepted t d → show (of (accepted (f (bookAt t (places t) d)))) ≡ accepted (g (bookAt t (places t) d)))
+    → show (of (askBook t d f)) ≡ askBook t d g
+ask-shown t d of show f g h k =
+    by-bool (eqb (numberOf (checkBook t d)) 0)
+    (λ e.
+    let a = accepted-book t d (eqb-true (numberOf (checkBook t d)) 0 e) in
+    ap (λ x. show (of x)) (sym (ask-accepted a f)) ∙ k a ∙ ask-accepted a g)
+    (λ e.
+    let z = eqb-false (numberOf (checkBook t d)) 0 e in
+    ap (λ x. show (of x)) (sym (ask-refused t d refl z f)) ∙ h (numberOf (checkBook t d)) ∙ ask-refused t d refl z g)
 
 -- ---- the two entries
 

@@ -3,13 +3,11 @@ use mathlib.Core.Path.{_≡_, refl, sym, ap, _∙_}
 use Prim.Native.Nat.{ℕ, _-_, _≤_, _<_}
 use native.Mathlib.Omega.{arith}
 use native.Mathlib.Nat.{sub-zero}
-use mathlib.Core.Bool.{Bool, true, false, cond, not, _&&_, and-false}
-use mathlib.Core.Option.{some}
+use mathlib.Core.Bool.{not, and-false}
 use mathlib.Core.List.{List}
 use lib.ListN.{length, replicate}
 use lib.Dec.{eqb, leb}
 use borrow.Author.Tests.{eqb-true, eqb-false, le-leb, lt-leb, leb-true, leb-false}
-use Rattle.model.specs.Types.{LexOutput}
 use Rattle.model.specs.Refusal.{Checked, Checked.refused, Checked.accepted, _>>=_, refuse_if_, numberOf}
 use Rattle.model.specs.Bytes.{AreBytes}
 use Rattle.model.specs.Tape.{places, bookAt}
@@ -18,7 +16,7 @@ use Rattle.model.specs.Merge.{Stored, Room, storedBook, fitsRoom, padded}
 use Rattle.model.specs.Lookup.{copyBook, copiedTape, copiedBytes}
 use Rattle.laws.specs.RoundTrip.{read-write}
 use Rattle.wire.specs.Loops.{by-bool}
-use Rattle.wire.specs.Overwrite.{overwrite, zeros, overwrite-all, Wrote, wrote-padded}
+use Rattle.wire.specs.Overwrite.{overwrite, zeros, overwrite-all}
 use Rattle.tape.specs.Accepted.{Accepted, refusal-of, accepted-book}
 use Rattle.lookup.specs.declared.Copied.{Copied}
 use Rattle.lookup.specs.declared.Copied.the-variants as copied
@@ -46,9 +44,7 @@ copyInto t d tape bytes = copyBook (storedAs t d) (roomFor tape bytes)
 module _ (t d : List ℕ) (tape bytes : ℕ) where
   pub copy-refused : {n : ℕ} → n ≡ numberOf (checkBook t d) → (n ≡ 0 → ⊥) → copyInto t d tape bytes ≡ refused n
   unfolding copyInto copyBook _>>=_
-  copy-refused {n} e h =
-      let q : checkBook t d ≡ refused n = refusal-of (checkBook t d) (λ z. h (e ∙ z)) ∙ ap {B = Checked LexOutput} refused (sym e) in
-      rw q refl
+  copy-refused e h = rw (refusal-of (checkBook t d) e h) refl
 
   module _ (are : AreBytes t) (a : Accepted t d) where
     again : storedBook (bookAt t (places t) d) ≡ storedAs t d
@@ -131,12 +127,11 @@ pub copied-refused : (t d a b : List ℕ) {n : ℕ} → n ≡ numberOf (copyInto
     → (copied.Refused n ≡ copiedOf (copyInto t d (length a) (length b)))
     × (x ≡ copiedTape (length a) (copyInto t d (length a) (length b))) × (y ≡ copiedBytes (length b) (copyInto t d (length a) (length b)))
 unfolding copiedOf copiedTape copiedBytes
-copied-refused t d a b {n} e h x y p q =
-    let r : copyInto t d (length a) (length b) ≡ refused n = refusal-of (copyInto t d (length a) (length b)) (λ z. h (e ∙ z)) ∙ ap {B = Checked Stored} refused (sym e) in
-    rw r (refl, cleared a x p, cleared b y q)
+copied-refused t d a b e h x y p q = rw (refusal-of (copyInto t d (length a) (length b)) e h) (refl, cleared a x p, cleared b y q)
 
 pub copied-there : (t d : List ℕ) (tape bytes : ℕ) {n : ℕ} → n ≡ numberOf (copyInto t d tape bytes) → AreBytes t → n ≡ 0
     → (x y : List ℕ) → x ≡ padded tape t → y ≡ padded bytes d
-    → (copied.Copied (length t) (length d) ≡ copiedOf (copyInto t d tape bytes)) × (x ≡ copiedTape tape (copyInto t d tape bytes)) × (y ≡ copiedBytes bytes (copyInto t d tape bytes))
+    → (copied.Copied (length t) (length d) ≡ copiedOf (copyInto t d tape bytes))
+    × (x ≡ copiedTape tape (copyInto t d tape bytes)) × (y ≡ copiedBytes bytes (copyInto t d tape bytes))
 unfolding copiedOf copiedTape copiedBytes
 copied-there t d tape bytes e are z x y p q = rw (copies t d tape bytes are e z .is) (refl, p, q)

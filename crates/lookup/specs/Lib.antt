@@ -1,3 +1,4 @@
 pub mod Asked
 pub mod Ranges
 pub mod Copying
+pub mod Strings

@@ -1,13 +1,11 @@
 -- Where the records of a range stand in the tape, and that what stands there is the model's answer: contents and segments.
-use mathlib.Core.Path.{_≡_, refl, sym, ap, _∙_}
+use mathlib.Core.Path.{_≡_, refl, ap, _∙_}
 use Prim.Native.Nat.{ℕ, _+_, _≤_}
 use mathlib.Core.Bool.{Bool, true, false, cond}
 use mathlib.Core.Option.{Option, none, some}
 use mathlib.Core.List.{List}
 use lib.ListN.{drop}
-use lib.Dec.{eqb}
-use borrow.Author.Tests.{eqb-true, eqb-false}
-use Rattle.model.specs.Types.{LexOutput, Content, Segment}
+use Rattle.model.specs.Types.{LexOutput}
 use Rattle.model.specs.Refusal.{Checked, Checked.refused, Checked.accepted, numberOf}
 use Rattle.model.specs.Bytes.{wordAt}
 use Rattle.model.specs.Tape.{Codec, recordsAt, places, bookAt, contentCodec, segmentCodec}
@@ -20,11 +18,11 @@ use Rattle.store.specs.declared.Store.{Store}
 use Rattle.store.specs.Stored.{StoreFits, storeAt}
 use Rattle.store.specs.Pools.{rangeIn}
 use Rattle.store.specs.Standing.{contentPlace, segmentPlace, content-range-ok, segment-range-ok, content-range, segment-range}
-use Rattle.tape.specs.Accepted.{accepted-book, accepted-places, accepted-store}
+use Rattle.tape.specs.Accepted.{accepted-places, accepted-store}
 use Rattle.tape.specs.Numbers.{store-few}
 use Rattle.lookup.specs.declared.RangeAt.{RangeAt}
 use Rattle.lookup.specs.declared.RangeAt.the-variants.{Refused, At, Nothing}
-use Rattle.lookup.specs.Asked.{Asked, ask-refused, ask-accepted}
+use Rattle.lookup.specs.Asked.{Asked, ask-refused, ask-accepted, ask-shown}
 
 -- ---- answers
 
@@ -51,28 +49,16 @@ module _ (t d : List ℕ) {A : Type 0} (c : Codec A) (ok : LexOutput → Bool) (
   unfolding rangeShown rangeIf
   shown-accepted b h = by-bool (ok b) (λ e. rw (e, h e) refl) (λ e. rw e refl)
 
-  shown-refused : (n : ℕ) → rangeShown c t (rangeAtOf (refused n) place len) ≡ refused n
-  unfolding rangeShown rangeAtOf
-  shown-refused n = refl
-
-  shown : (ok (bookAt t (places t) d) ≡ true → items (bookAt t (places t) d) ≡ recordsAt c t place len)
-      → rangeShown c t (rangeAtOf (askBook t d ok) place len) ≡ askBook t d (λ b. cond (ok b) (some (items b)) none)
-  unfolding rangeAtOf
-  shown h =
-      by-bool (eqb (numberOf (checkBook t d)) 0)
-      (λ e.
-      let a = accepted-book t d (eqb-true (numberOf (checkBook t d)) 0 e) in
-      ap (λ (x : Checked Bool). rangeShown c t (rangeAtOf x place len)) (sym (ask-accepted a ok))
-      ∙ shown-accepted (bookAt t (places t) d) h ∙ ask-accepted a (λ (b : LexOutput). cond (ok b) (some (items b)) none))
-      (λ e.
-      let z = eqb-false (numberOf (checkBook t d)) 0 e in
-      ap (λ (x : Checked Bool). rangeShown c t (rangeAtOf x place len)) (sym (ask-refused t d refl z ok))
-      ∙ shown-refused (numberOf (checkBook t d)) ∙ ask-refused t d refl z (λ (b : LexOutput). cond (ok b) (some (items b)) none))
-
   -- where the items stand, an answer that is so fixed shows them
   range-both : (ok (bookAt t (places t) d) ≡ true → items (bookAt t (places t) d) ≡ recordsAt c t place len) → {r : RangeAt} → r ≡ rangeAtOf (askBook t d ok) place len
       → (r ≡ rangeAtOf (askBook t d ok) place len) × (rangeShown c t r ≡ askBook t d (λ b. cond (ok b) (some (items b)) none))
-  range-both h e = (e, ap (rangeShown c t) e ∙ shown h)
+  unfolding rangeShown rangeAtOf
+  range-both h e = (
+    e,
+    ap (rangeShown c t) e
+        ∙ ask-shown t d (λ (x : Checked Bool). rangeAtOf x place len) (rangeShown c t) ok (λ (b : LexOutput). cond (ok b) (some (items b)) none) (λ n. refl)
+        (λ a. shown-accepted (bookAt t (places t) d) h),
+  )
 
 -- ---- contents and segments
 
@@ -112,14 +98,16 @@ module _ (t d : List ℕ) (start len : ℕ) where
       × (rangeShown contentCodec t r ≡ askBook t d (λ b. lookupContents b start len))
   unfolding lookupContents
   contents-both =
-      range-both t d contentCodec (contentsOk start len) (λ (b : LexOutput). resolveContentRange (storeOf (b .layers)) start len) (contentPlace (storeAt t) start) len contents-stand
+      range-both t d contentCodec (contentsOk start len) (λ (b : LexOutput). resolveContentRange (storeOf (b .layers)) start len) (contentPlace (storeAt t) start) len
+      contents-stand
 
   pub segments-both : {r : RangeAt} → r ≡ rangeAtOf (askBook t d (segmentsOk start len)) (segmentPlace (storeAt t) start) len
       → (r ≡ rangeAtOf (askBook t d (segmentsOk start len)) (segmentPlace (storeAt t) start) len)
       × (rangeShown segmentCodec t r ≡ askBook t d (λ b. lookupSegments b start len))
   unfolding lookupSegments
   segments-both =
-      range-both t d segmentCodec (segmentsOk start len) (λ (b : LexOutput). resolveSegRange (storeOf (b .layers)) start len) (segmentPlace (storeAt t) start) len segments-stand
+      range-both t d segmentCodec (segmentsOk start len) (λ (b : LexOutput). resolveSegRange (storeOf (b .layers)) start len) (segmentPlace (storeAt t) start) len
+      segments-stand
 
 -- ---- the returns of the code
 

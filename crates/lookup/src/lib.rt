@@ -1,17 +1,20 @@
 // Document 01 sections 3 and 7: what is asked of a book. Each entry tests 1 to 7 first and answers their number; a lookup
 // without an answer says none. No entry has a `requires`; specs/ says for each case of an answer which number and values it is.
 ghost use mathlib.Core.Path.{_≡_};
-ghost use Prim.Native.Nat.{_≤_};
+ghost use Prim.Native.Nat.{_≤_, _<_, _^_};
 ghost use lib.ListN.{length};
 ghost use Rattle.model.specs.Refusal.{numberOf};
 ghost use Rattle.model.specs.Merge.{padded};
 ghost use Rattle.model.specs.Tape.{contentCodec, segmentCodec};
-ghost use Rattle.model.specs.Lookup.{askBook, diagnosticsAllowIncremental, nodeAtSource, lookupContents, lookupSegments, copiedTape, copiedBytes};
+ghost use Rattle.model.specs.Lookup.{askBook, diagnosticsAllowIncremental, nodeAtSource, lookupContents, lookupSegments, lookupStr, lookupStrSpan};
+ghost use Rattle.model.specs.Lookup.{copiedTape, copiedBytes};
 ghost use Rattle.store.specs.Stored.{storeAt};
 ghost use Rattle.store.specs.Pools.{rangeIn};
 ghost use Rattle.store.specs.Standing.{contentPlace, segmentPlace};
 ghost use Rattle.lookup.specs.Asked.{allowedOf, nodeAtOf, nodeFound};
 ghost use Rattle.lookup.specs.Ranges.{contentsOk, segmentsOk, rangeIf, rangeAtOf, rangeShown};
+ghost use Rattle.strings.specs.Starts.{lengthsIn, Readable};
+ghost use Rattle.lookup.specs.Strings.{strIf, strAtOf, strShown, spanFrom};
 ghost use Rattle.lookup.specs.Copying.{copiedOf, copyInto};
 
 pub enum Allowed {
@@ -31,6 +34,13 @@ pub enum NodeAt {
 pub enum RangeAt {
     Refused(u32),
     At(usize, u32),
+    Nothing,
+}
+
+// Where a string starts and ends in the byte buffer.
+pub enum StrAt {
+    Refused(u32),
+    At(usize, usize),
     Nothing,
 }
 
@@ -122,6 +132,35 @@ pub fn lookup_segments(tape: &[u8], bytes: &[u8], start: u32, len: u32) -> Range
     }
     let p = places::places_of(tape, bytes);
     segments_in(store::store_of(tape, p.layers), start, len)
+}
+
+// The string of an id, whose pool's bytes begin at `from`.
+fn str_in(tape: &[u8], st: store::Store, room: usize, from: usize, id: u32) -> StrAt
+    requires { ⌜ Readable (now tape) st room ⌝ }
+    requires { ⌜ from < 2 ^ 63 ⌝ }
+    ensures { λ r. ⌜ r ≡ strIf (spanFrom (st .totals .strings) from (lengthsIn (now (tape .entry))) id) ⌝ }
+{
+    if st.totals.strings <= id {
+        return StrAt::Nothing;
+    }
+    let start = strings::start_from(tape, st, room, 0, id, 0);
+    let len = strings::string_length(tape, st, id);
+    StrAt::At(from + start, from + start + len)
+}
+
+// Section 3. The string of an id: where it stands behind both texts, and that this is the string asked for.
+pub fn lookup_str(tape: &[u8], bytes: &[u8], id: u32) -> StrAt
+    ensures { λ r. ⌜ (r ≡ strAtOf (askBook (now (tape .entry)) (now (bytes .entry)) (λ b. lookupStrSpan b id)))
+        × (strShown (now (bytes .entry)) r ≡ askBook (now (tape .entry)) (now (bytes .entry)) (λ b. lookupStr b id)) ⌝ }
+{
+    let n = tape::check_book(tape, bytes);
+    if n != 0 {
+        return StrAt::Refused(n);
+    }
+    let p = places::places_of(tape, bytes);
+    let st = store::store_of(tape, p.layers);
+    let from = p.text as usize + p.normalized as usize;
+    str_in(tape, st, bytes.len(), from, id)
 }
 
 // 1 to 7, then 18 for a short buffer; 0 for neither.

@@ -70,20 +70,24 @@ lengths-bytes t [] = refl
 lengths-bytes t (l ∷ ls) =
     sum-append (stringLengths t l) (flatten (map (stringLengths t) ls)) ∙ ap (λ (n : ℕ). sum (stringLengths t l) + n) (lengths-bytes t ls)
 
-module _ (t d : List ℕ) (st : Store) (f : Frame t d) (e : st ≡ storeAt t) (few : st .layers ≤ 32) where
-  pub of-tape : OfTape t st
-  of-tape = let n = nodes-inside t d f in record { stored = e; few = few; inside = omega (arith, n) }
-
+module _ (t d : List ℕ) (f : Frame t d) where
   -- the strings stand behind both texts
   pub string-bytes : length (drop (wordAt t 1 + wordAt t 5) d) ≡ sum (lengthsIn t)
   unfolding bytesNeeded
   string-bytes = let n = length-drop (wordAt t 1 + wordAt t 5) d in let m = lengths-bytes t (places t .layers) in omega (arith, n, m, f .bytes)
 
-  pub readable : length d < 2 ^ 63 → Readable t st (length d)
-  readable h = let m = string-bytes in let n = length-drop (wordAt t 1 + wordAt t 5) d in record { store = of-tape; bytes = omega (arith, m, n); small = h }
+  module _ (st : Store) (e : st ≡ storeAt t) where
+    pub some-layer : 0 < st .layers
+    some-layer = let n = string-pool t st e .count ∙ length-counts (λ (l : LayerPlaces). l .stringCount) (places t .layers) in omega (arith, n, f .layered)
 
-  pub some-layer : 0 < st .layers
-  some-layer = let n = string-pool t st e .count ∙ length-counts (λ (l : LayerPlaces). l .stringCount) (places t .layers) in omega (arith, n, f .layered)
+    pub of-tape : st .layers ≤ 32 → OfTape t st
+    of-tape few = let n = nodes-inside t d f in record { stored = e; few = few; inside = omega (arith, n) }
+
+    pub readable : st .layers ≤ 32 → length d < 2 ^ 63 → Readable t st (length d)
+    readable few h =
+        let m = string-bytes in
+        let n = length-drop (wordAt t 1 + wordAt t 5) d in
+        record { store = of-tape few; bytes = omega (arith, m, n); small = h }
 
 -- ---- one string
 
