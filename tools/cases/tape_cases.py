@@ -186,6 +186,7 @@ case('7 image of 7 where a BlockOpen with inline 1 has 3', 7, but(one(kind=0, cl
 
 # ---- accepted; a start that is offset, id and start at once, and a length
 case('empty book of one layer', 0, empty())
+case('two layers, 1 as a reading', 0, but(empty(), layers=[Layer(), Layer()]))
 case('32 layers', 0, but(empty(), layers=[Layer() for _ in range(32)]))
 case('32 levels', 0, nest(32), 32, 1)
 case('book of P4', 0, plain(abc), 4, 4)
