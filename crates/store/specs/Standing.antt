@@ -321,7 +321,7 @@ module _ (t : List ℕ) (st : Store) (e : st ≡ storeAt t) where
       ∙ pool-part segmentCodec t (λ (l : LayerPlaces). l .segmentsAt) (λ (l : LayerPlaces). l .segmentCount) ls k start len s
       ∙ ap (λ (p : ℕ). recordsAt segmentCodec t p len) q
 
-  length-part : (start len : ℕ) → Spans (stringsIn (places t .layers)) start len (layerOf (st .strings) (st .layers) start)
+  pub length-part : (start len : ℕ) → Spans (stringsIn (places t .layers)) start len (layerOf (st .strings) (st .layers) start)
       → take len (drop start (allLengths t (places t .layers))) ≡ recordsAt stringCodec t (stringPlace st start) len
   unfolding stringPlace stringCodec
   length-part start len s =
@@ -390,7 +390,7 @@ piece-at [] b i h = absurd (omega arith)
 piece-at (n ∷ ns) b zero h = refl
 piece-at (n ∷ ns) b (suc i) h = piece-at ns (drop n b) i (omega arith) ∙ ap (λ (x : List ℕ). take (getD ns i 0) x) (drop-drop (sum (take i ns)) n b)
 
-length-pools : (t : List ℕ) (ls : List LayerPlaces) → length (allLengths t ls) ≡ sum (stringsIn ls)
+pub length-pools : (t : List ℕ) (ls : List LayerPlaces) → length (allLengths t ls) ≡ sum (stringsIn ls)
 unfolding allLengths flatten stringLengths
 length-pools t [] = refl
 length-pools t (l ∷ ls) =

@@ -264,7 +264,7 @@ module _ {A : Type 0} where
       = ap (any p) (tabulate-last n f) ∙ any-append p (tabulate n f) (f n ∷ []) in
       rw (any-tabulate p n f) (sym (whole ∙ rw or-false refl))
 
-sum-append : (xs ys : List ℕ) → sum (xs ++ ys) ≡ sum xs + sum ys
+pub sum-append : (xs ys : List ℕ) → sum (xs ++ ys) ≡ sum xs + sum ys
 sum-append [] ys = omega arith
 sum-append (x ∷ xs) ys = rw (sum-append xs ys) (omega arith)
 

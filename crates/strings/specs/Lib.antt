@@ -1,0 +1,4 @@
+pub mod Starts
+pub mod Index
+pub mod PlainContent
+pub mod Shown
