@@ -16,7 +16,7 @@ use Rattle.model.specs.Tape.{Field.contentRange, recordAt, recordsAt, nodeCodec
 use Rattle.model.specs.WellFormed.{wordOf, fieldOk, contentOk, nodeOk}
 use Rattle.model.specs.Region.{isRuby, isReferencedFormat, firstPlain}
 use Rattle.laws.specs.Lists.{both, all-take, all-drop}
-use Rattle.records.specs.Runs.{run-at}
+use Rattle.records.specs.Runs.{run-at, run-before}
 use Rattle.records.specs.Values.{bodyAt, node-body}
 use Rattle.store.specs.declared.Store.{Store}
 use Rattle.store.specs.Pools.{rangeIn}
@@ -61,12 +61,9 @@ pub sound-before : {t : List ℕ} {st : Store} {words old new : List ℕ} {at co
 sound-before {t} {st} {words} {old} {new} {at} {count} {i} s h = record {
   strings = s .strings;
   contents = s .contents;
-  nodes = fewer;
+  nodes = run-before nodeCodec (nodeOk (layersIn t (old ++ new))) t at count i (s .nodes) h;
   inside = omega (arith, s .inside, h);
 }
-  where
-    fewer : all (nodeOk (layersIn t (old ++ new))) (recordsAt nodeCodec t at i) ≡ true
-    fewer = run-before nodeCodec (nodeOk (layersIn t (old ++ new))) t at count i (s .nodes) h
 
 -- ---- the first range of a Ruby or a Format
 
