@@ -49,16 +49,21 @@ pub record Lies (old new : List ℕ) (olds id start n : ℕ) : Type 0 where
   pub second : olds ≤ id → length old ≤ start
   pub within : start + n ≤ length old + length new
 
--- ---- the returns of `resolve`
-
 module _ (old new : List ℕ) (olds id start n : ℕ) where
-  pub part-old : id < olds → part old start n ≡ partOf old new olds id start n
+  part-old : id < olds → part old start n ≡ partOf old new olds id start n
   unfolding partOf
   part-old h = rw (lt-ltb id olds h) refl
 
-  pub part-new : olds ≤ id → part new (start - length old) n ≡ partOf old new olds id start n
+  part-new : olds ≤ id → part new (start - length old) n ≡ partOf old new olds id start n
   unfolding partOf
   part-new h = rw (le-ltb id olds h) refl
+
+  -- the returns of `resolve`, whose parts are n long
+  pub cut-old : id < olds → part old start (start + n - start) ≡ partOf old new olds id start n
+  cut-old h = let e : start + n - start ≡ n = omega arith in ap (part old start) e ∙ part-old h
+
+  pub cut-new : olds ≤ id → (at : ℕ) → at ≡ start - length old → part new at (at + n - at) ≡ partOf old new olds id start n
+  cut-new h at q = let e : at + n - at ≡ n = omega arith in ap₂ (λ (x y : ℕ). part new x y) q e ∙ part-new h
 
 -- ---- one part of both
 
@@ -148,6 +153,10 @@ module _ {t : List ℕ} {st : Store} {old new : List ℕ} (s : TwoSides t st old
       ∙ part-joined (string-lies id refl refl refl)
       ∙ ap (λ (n : ℕ). part (old ++ new) (startIn t id) n) (length-at t st (s .store .stored) id h)
       ∙ sym (string-at t st (s .store .stored) (old ++ new) id h)
+
+pub span-of-start : (lengths : List ℕ) (id : ℕ) {r : ℕ} → r ≡ stringSpan lengths id .start → r ≡ sum (take id lengths)
+unfolding stringSpan
+span-of-start lengths id e = e
 
 pub sides-readable : {t : List ℕ} {st : Store} {words old new : List ℕ} → Resolvable t st words old new → Readable t st (length old + length new)
 sides-readable r = record { store = r .sides .store; bytes = omega (arith, r .sides .whole); small = r .small }

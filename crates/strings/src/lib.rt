@@ -52,14 +52,7 @@ fn run_end(st: store::Store, i: u32, to: u32) -> u32
 }
 
 // The start of string `next`, from that of string i of the same layer.
-fn start_after(
-    tape: &[u8],
-    st: store::Store,
-    room: usize,
-    i: u32,
-    next: u32,
-    start: usize,
-) -> usize
+fn start_after(tape: &[u8], st: store::Store, room: usize, i: u32, next: u32, start: usize) -> usize
     requires { ⌜ Readable (now tape) st room ⌝ }
     requires { ⌜ InLayer st i next ⌝ }
     requires { ⌜ start ≡ startIn (now tape) i ⌝ }
