@@ -1,9 +1,9 @@
 -- An index of where strings begin: every k-th start in lent words, k as small as the words allow.
 use mathlib.Core.Path.{_≡_, refl, sym, ap, _∙_}
-use Prim.Native.Nat.{ℕ, zero, suc, _+_, _-_, _*_, _/_, _≤_, _<_, min}
+use Prim.Native.Nat.{ℕ, suc, _+_, _-_, _*_, _/_, _≤_, _<_, min}
 use native.Mathlib.Omega.{arith}
 use native.Mathlib.Numerals.{add-one}
-use native.Mathlib.Nat.{zero-add, suc-mul, zero-mul, lt-mul-div-succ, div-lt-iff-lt-mul, le-div-iff-mul-le, div-le-self}
+use native.Mathlib.Nat.{zero-add, suc-mul, zero-mul, lt-mul-div-succ, div-lt-iff-lt-mul, le-div-iff-mul-le}
 use mathlib.Core.List.{List, [], _∷_, _++_}
 use lib.ListN.{length, getD, take, set}
 use lib.Seq.{getD-take}
@@ -31,8 +31,11 @@ stringIndex lengths k = tabulate (length lengths / k) (entryAt lengths k)
 abbrev pub stepIn : List ℕ → List ℕ → ℕ
 stepIn lengths words = stepOf (length lengths) (length words)
 
+abbrev pub indexIn : List ℕ → List ℕ → List ℕ
+indexIn lengths words = stringIndex lengths (stepIn lengths words)
+
 pub record Indexed (lengths words : List ℕ) : Type 0 where
-  pub is : take (length lengths / stepIn lengths words) words ≡ stringIndex lengths (stepIn lengths words)
+  pub is : take (length lengths / stepIn lengths words) words ≡ indexIn lengths words
 
 -- ---- steps
 
@@ -54,10 +57,6 @@ module _ (count words : ℕ) where
   pub step-is : (a : ℕ) → a ≡ count → a / (words + 1) + 1 ≡ stepOf count words
   unfolding stepOf
   step-is a e = ap (λ (x : ℕ). x / (words + 1) + 1) e
-
-  pub step-most : stepOf count words ≤ count + 1
-  unfolding stepOf
-  step-most = let m = div-le-self count (words + 1) in omega (arith, m)
 
 length-index : (lengths : List ℕ) (k : ℕ) → length (stringIndex lengths k) ≡ length lengths / k
 unfolding stringIndex
@@ -100,7 +99,7 @@ module _ {lengths first : List ℕ} {k j from start : ℕ} {words : List ℕ} (s
   indexing-all e = s .wrote ∙ ap (overwrite first 0) (ap (λ (n : ℕ). listTo n (entryAt lengths k)) e ∙ list-tabulate (length lengths / k) (entryAt lengths k))
 
 -- What `index_strings` leaves is an index.
-pub index-written : (lengths first : List ℕ) {words : List ℕ} → words ≡ overwrite first 0 (stringIndex lengths (stepIn lengths first)) → Indexed lengths words
+pub index-written : (lengths first : List ℕ) {words : List ℕ} → words ≡ overwrite first 0 (indexIn lengths first) → Indexed lengths words
 index-written lengths first {words} e =
     let k = stepIn lengths first in
     let bs = stringIndex lengths k in
@@ -164,7 +163,8 @@ module _ {t : List ℕ} {st : Store} (f : OfTape t st) {count : ℕ} (e : count 
   tape-entries k q = ap (λ (n : ℕ). n / k) (q ∙ all-strings)
 
   -- a turn of `index_strings`
-  module _ {first words : List ℕ} {k j from start a : ℕ} (s : Indexing (lengthsIn t) first k j from start words) (g : k ≡ stepOf count (length first)) (q : a ≡ count) (h : j < a / k) where
+  module _ {first words : List ℕ} {k j from start a : ℕ} (s : Indexing (lengthsIn t) first k j from start words)
+      (g : k ≡ stepOf count (length first)) (q : a ≡ count) (h : j < a / k) where
     pub next-between : Between st from (from + k)
     next-between =
         let m = step-some count (length first) in
@@ -176,8 +176,8 @@ module _ {t : List ℕ} {st : Store} (f : OfTape t st) {count : ℕ} (e : count 
     pub next-word : j < length first
     next-word = let m = step-few count (length first) in let x = ap (λ (n : ℕ). n / k) q in let y = ap (λ (n : ℕ). count / n) g in omega (arith, m, x, y, h)
 
-  pub index-all : {first words : List ℕ} {k j from start a : ℕ} → Indexing (lengthsIn t) first k j from start words → k ≡ stepOf count (length first) → a ≡ count
-      → j ≡ a / k → words ≡ overwrite first 0 (stringIndex (lengthsIn t) (stepIn (lengthsIn t) first))
+  pub index-all : {first words : List ℕ} {k j from start a : ℕ} → Indexing (lengthsIn t) first k j from start words
+      → k ≡ stepOf count (length first) → a ≡ count → j ≡ a / k → words ≡ overwrite first 0 (indexIn (lengthsIn t) first)
   index-all {first} {words} {k} s g q h =
       indexing-all s (h ∙ tape-entries k q) ∙ ap (λ (n : ℕ). overwrite first 0 (stringIndex (lengthsIn t) n)) (tape-step first g)
 

@@ -1,6 +1,6 @@
 -- Section 6. `content_range_as_plain`: a range of exactly one Plain content gives its string, all others none.
 use mathlib.Core.Path.{_≡_, refl, sym, ap, _∙_}
-use Prim.Native.Nat.{ℕ, _+_, _*_, _≤_, _<_}
+use Prim.Native.Nat.{ℕ, _+_, _≤_}
 use native.Mathlib.Omega.{arith}
 use native.Mathlib.Nat.{add-zero}
 use mathlib.Core.Bool.{Bool, true, false, cond, _||_}
@@ -13,7 +13,6 @@ use Rattle.model.specs.Types.{Content}
 use Rattle.model.specs.Store.{NodeStore, resolveStr, resolveContentRange, asPlain, contentRangeAsPlain}
 use Rattle.model.specs.Tape.{recordAt, recordsAt, contentCodec}
 use Rattle.laws.specs.Lists.{both}
-use Rattle.wire.specs.Loops.{by-bool}
 use Rattle.store.specs.declared.Store.{Store}
 use Rattle.store.specs.Pools.{rangeIn, inOne}
 use Rattle.store.specs.Standing.{contentPlace, length-records, content-range, content-inside}
@@ -33,7 +32,8 @@ plainString st (Id id) = some (resolveStr st id)
 plainString st Nothing = none
 
 -- The answer's string is the model's.
-pub plain-string : (st : NodeStore) (start len : ℕ) {r : Plain} → r ≡ plainOf (resolveContentRange st start len) → contentRangeAsPlain st start len ≡ plainString st r
+pub plain-string : (st : NodeStore) (start len : ℕ) {r : Plain} → r ≡ plainOf (resolveContentRange st start len)
+    → contentRangeAsPlain st start len ≡ plainString st r
 unfolding contentRangeAsPlain asPlain plainOf plainString
 plain-string st start len {r} e = go (resolveContentRange st start len) ∙ ap (plainString st) (sym e)
   where
@@ -84,7 +84,8 @@ module _ {t : List ℕ} {st : Store} (f : OfTape t st) (start len : ℕ) (h : ra
         let i = content-inside t st (f .stored) start 1 (omega (arith, m, one)) (omega (arith, m, one)) in
         omega (arith, i, e, f .inside)
 
-    pub range-one : {c : Content} {r : Plain} → c ≡ recordAt contentCodec t p → r ≡ plainOf (c ∷ []) → (b : List ℕ) → r ≡ plainOf (resolveContentRange (storeIn t b) start len)
+    pub range-one : {c : Content} {r : Plain} → c ≡ recordAt contentCodec t p → r ≡ plainOf (c ∷ []) → (b : List ℕ)
+        → r ≡ plainOf (resolveContentRange (storeIn t b) start len)
     range-one {c} {r} g q b =
         q ∙ ap (λ (x : Content). plainOf (x ∷ [])) g
         ∙ ap plainOf (sym (one-record t p) ∙ ap (λ (k : ℕ). recordsAt contentCodec t k 1) e

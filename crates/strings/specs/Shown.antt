@@ -2,7 +2,7 @@
 use mathlib.Core.Path.{_≡_, refl, sym, ap, ap₂, _∙_}
 use Prim.Native.Nat.{ℕ, suc, _+_, _-_, _≤_, _<_, _^_}
 use native.Mathlib.Omega.{arith}
-use mathlib.Core.Bool.{Bool, true, false, cond}
+use mathlib.Core.Bool.{cond}
 use mathlib.Core.List.{List, _++_}
 use lib.ListN.{length, getD, take, drop, length-drop}
 use lib.Seq.{length-take-le, take-take, take-append-le, drop-append-le, drop-append-add, getD-take, getD-drop}
@@ -16,7 +16,7 @@ use Rattle.wire.specs.Loops.{by-bool}
 use Rattle.places.specs.Found.{stringsIn}
 use Rattle.store.specs.declared.Store.{Store}
 use Rattle.store.specs.Pools.{before-mono, before-next, before-most, pool-start-or}
-use Rattle.store.specs.Standing.{stringStart, stringPlace, string-pool, length-at, string-at}
+use Rattle.store.specs.Standing.{stringStart, string-pool, length-at, string-at}
 use Rattle.strings.specs.Starts.{lengthsIn, startIn, storeIn, OfTape, Readable, sum-between, strings-count}
 use Rattle.strings.specs.Index.{Indexed}
 
@@ -38,6 +38,10 @@ pub record Resolvable (t : List ℕ) (st : Store) (words old new : List ℕ) : T
   pub sides : TwoSides t st old new
   pub indexed : Indexed (lengthsIn t) words
   pub small : length old + length new < 2 ^ 63
+
+-- Section 3. The string of a tape's store, shown as a part of one of the two.
+abbrev pub shownIn : List ℕ → Store → List ℕ → List ℕ → ℕ → List ℕ
+shownIn t st old new id = shownPart (take (oldStrings st) (lengthsIn t)) old (drop (oldStrings st) (lengthsIn t)) new id
 
 -- a string of n bytes that begins at `start`, where the new side begins behind the old
 unfoldable pub partOf : List ℕ → List ℕ → ℕ → ℕ → ℕ → ℕ → List ℕ
@@ -122,7 +126,7 @@ module _ {t : List ℕ} {st : Store} {old new : List ℕ} (s : TwoSides t st old
           within = omega (arith, next, most, e, f, s .whole);
         }
 
-    pub string-shown : partOf old new olds id start n ≡ shownPart (take (oldStrings st) (lengthsIn t)) old (drop (oldStrings st) (lengthsIn t)) new id
+    pub string-shown : partOf old new olds id start n ≡ shownIn t st old new id
     string-shown =
         let ns = lengthsIn t in
         let k = oldStrings st in
@@ -145,14 +149,23 @@ module _ {t : List ℕ} {st : Store} {old new : List ℕ} (s : TwoSides t st old
         (f ∙ ap (λ (y : ℕ). getD ns y 0) (sym q) ∙ sym (getD-drop k ns (id - k) 0) ∙ ap (λ (y : ℕ). getD (drop k ns) (id - y) 0) (sym l)))
 
   -- What is shown is the model's string.
-  pub shown-str : {id : ℕ} → id < st .totals .strings
-      → shownPart (take (oldStrings st) (lengthsIn t)) old (drop (oldStrings st) (lengthsIn t)) new id ≡ resolveStr (storeIn t (old ++ new)) id
+  pub shown-str : (id : ℕ) → id < st .totals .strings → shownIn t st old new id ≡ resolveStr (storeIn t (old ++ new)) id
   unfolding resolveStr
-  shown-str {id} h =
+  shown-str id h =
       sym (string-shown id refl refl refl)
       ∙ part-joined (string-lies id refl refl refl)
       ∙ ap (λ (n : ℕ). part (old ++ new) (startIn t id) n) (length-at t st (s .store .stored) id h)
       ∙ sym (string-at t st (s .store .stored) (old ++ new) id h)
+
+-- the bytes of all strings, parted
+pub two-sides : {t : List ℕ} {st : Store} → OfTape t st → 0 < st .layers → (b : List ℕ) → length b ≡ sum (lengthsIn t)
+    → TwoSides t st (take (startIn t (oldStrings st)) b) (drop (startIn t (oldStrings st)) b)
+two-sides {t} {st} f h b e =
+    let n = startIn t (oldStrings st) in
+    let m = before-most (lengthsIn t) (oldStrings st) in
+    let l : length (take n b) ≡ n = length-take-le n b (omega (arith, m, e)) in
+    let r = length-drop n b in
+    record { store = f; layers = h; olds = l; whole = omega (arith, l, r, m, e) }
 
 pub span-of-start : (lengths : List ℕ) (id : ℕ) {r : ℕ} → r ≡ stringSpan lengths id .start → r ≡ sum (take id lengths)
 unfolding stringSpan

@@ -3,20 +3,22 @@ use mathlib.Core.Path.{_≡_, refl, sym, ap, _∙_}
 use Prim.Native.Nat.{ℕ, suc, _+_, _-_, _*_, _≤_, _<_, _^_, min}
 use native.Mathlib.Omega.{arith}
 use native.Mathlib.Numerals.{add-one}
-use mathlib.Core.List.{List, [], _∷_, _++_}
-use lib.ListN.{length, getD, take, drop}
+use mathlib.Core.List.{List, [], _∷_, map, flatten}
+use lib.ListN.{length, getD, take, drop, length-drop}
 use lib.Seq.{take-add}
 use Rattle.model.specs.Lists.{sum}
 use Rattle.model.specs.Bytes.{wordAt}
 use Rattle.model.specs.Store.{NodeStore, storeOf}
-use Rattle.model.specs.Tape.{recordAt, recordsAt, operandsAt, stringCodec, places, layersAt}
+use Rattle.model.specs.Tape.{LayerPlaces, recordAt, recordsAt, operandsAt, stringCodec, places, stringLengths, layersAt, bytesNeeded}
+use Rattle.laws.specs.RoundTrip.{stringBytes}
 use Rattle.wire.specs.Loops.{sum-append}
 use Rattle.places.specs.Runs.{capped}
 use Rattle.places.specs.Found.{stringsIn}
+use Rattle.places.specs.Again.{Frame, nodes-inside, length-counts}
 use Rattle.store.specs.declared.Store.{Store}
-use Rattle.store.specs.Pools.{layerOf, before, before-mono, before-most, pool-start-or, pool-held}
+use Rattle.store.specs.Pools.{layerOf, before, before-most, pool-start-or, pool-held}
 use Rattle.store.specs.Stored.{storeAt}
-use Rattle.store.specs.Standing.{Spans, stringStart, stringPlace, string-pool, allLengths, length-part, length-pools, length-at, string-inside}
+use Rattle.store.specs.Standing.{stringStart, stringPlace, string-pool, allLengths, length-part, length-pools, length-at, string-inside}
 
 -- the lengths of all strings of a tape
 abbrev pub lengthsIn : List ℕ → List ℕ
@@ -59,6 +61,34 @@ sum-between ns i j h =
 pub strings-count : {t : List ℕ} {st : Store} → OfTape t st → st .totals .strings ≡ length (lengthsIn t)
 strings-count {t} {st} f = string-pool t st (f .stored) .all ∙ sym (length-pools t (places t .layers))
 
+-- ---- from a frame that holds
+
+-- the bytes of all strings
+pub lengths-bytes : (t : List ℕ) (ls : List LayerPlaces) → sum (allLengths t ls) ≡ stringBytes t ls
+unfolding allLengths flatten
+lengths-bytes t [] = refl
+lengths-bytes t (l ∷ ls) =
+    sum-append (stringLengths t l) (flatten (map (stringLengths t) ls)) ∙ ap (λ (n : ℕ). sum (stringLengths t l) + n) (lengths-bytes t ls)
+
+module _ (t d : List ℕ) (f : Frame t d) where
+  -- the strings stand behind both texts
+  pub string-bytes : length (drop (wordAt t 1 + wordAt t 5) d) ≡ sum (lengthsIn t)
+  unfolding bytesNeeded
+  string-bytes = let n = length-drop (wordAt t 1 + wordAt t 5) d in let m = lengths-bytes t (places t .layers) in omega (arith, n, m, f .bytes)
+
+  module _ (st : Store) (e : st ≡ storeAt t) where
+    pub some-layer : 0 < st .layers
+    some-layer = let n = string-pool t st e .count ∙ length-counts (λ (l : LayerPlaces). l .stringCount) (places t .layers) in omega (arith, n, f .layered)
+
+    pub of-tape : st .layers ≤ 32 → OfTape t st
+    of-tape few = let n = nodes-inside t d f in record { stored = e; few = few; inside = omega (arith, n) }
+
+    pub readable : st .layers ≤ 32 → length d < 2 ^ 63 → Readable t st (length d)
+    readable few h =
+        let m = string-bytes in
+        let n = length-drop (wordAt t 1 + wordAt t 5) d in
+        record { store = of-tape few; bytes = omega (arith, m, n); small = h }
+
 -- ---- one string
 
 string-word : (t : List ℕ) (p : ℕ) → recordAt stringCodec t p ≡ wordAt t (p + 1)
@@ -72,8 +102,9 @@ module _ {t : List ℕ} {st : Store} (f : OfTape t st) {id : ℕ} (h : id < st .
   pub length-word : {n : ℕ} → n ≡ wordAt t (p + 1) → n ≡ getD (lengthsIn t) id 0
   length-word {n} q = q ∙ sym (string-word t p) ∙ ap (recordAt stringCodec t) e ∙ sym (length-at t st (f .stored) id h)
 
--- ---- the strings of one layer from string i on, up to `to`
+-- ---- the strings of one layer from string i on
 
+-- where they end, or `to` if that comes first
 unfoldable pub runEnd : Store → ℕ → ℕ → ℕ
 runEnd st i to = min to (stringStart st (layerOf (st .strings) (st .layers) i + 1))
 
@@ -100,13 +131,17 @@ pub start-most : {t : List ℕ} {st : Store} {room : ℕ} → Readable t st room
 start-most {t} f i = let m = before-most (lengthsIn t) i in omega (arith, m, f .bytes)
 
 module _ {t : List ℕ} {st : Store} {room : ℕ} (f : Readable t st room) where
+  -- where the layer of string i ends in the pool
+  layer-end : (i : ℕ) → stringStart st (layerOf (st .strings) (st .layers) i + 1) ≡ before (stringsIn (places t .layers)) (suc (layerOf (st .strings) (st .layers) i))
+  layer-end i =
+      let k = layerOf (st .strings) (st .layers) i in
+      pool-start-or (string-pool t st (f .store .stored)) (k + 1) ∙ ap (before (stringsIn (places t .layers))) (add-one k)
+
   pub run-to : {i to next : ℕ} → next ≡ runEnd st i to → i < to → to ≤ st .totals .strings → InLayer st i next × (next ≤ to)
   unfolding runEnd
   run-to {i} {to} {next} e h m =
-      let p = string-pool t st (f .store .stored) in
-      let k = layerOf (st .strings) (st .layers) i in
-      let a = pool-held p i (omega (arith, h, m)) in
-      let x : stringStart st (k + 1) ≡ before (stringsIn (places t .layers)) (suc k) = pool-start-or p (k + 1) ∙ ap (before (stringsIn (places t .layers))) (add-one k) in
+      let a = pool-held (string-pool t st (f .store .stored)) i (omega (arith, h, m)) in
+      let x = layer-end i in
       (record { after = omega (arith, e, x, a .high, h); inside = omega (arith, e, m); one = omega (arith, e) }, omega (arith, e))
 
   module _ {i next : ℕ} (l : InLayer st i next) {p : ℕ} (e : p ≡ stringPlace st i) where
@@ -118,14 +153,13 @@ module _ {t : List ℕ} {st : Store} {room : ℕ} (f : Readable t st room) where
 
     lengths : take (next - i) (drop i (lengthsIn t)) ≡ recordsAt stringCodec t p (next - i)
     lengths =
-        let q = string-pool t st (f .store .stored) in
-        let k = layerOf (st .strings) (st .layers) i in
-        let a = pool-held q i (omega (arith, l .after, l .inside)) in
-        let x : stringStart st (k + 1) ≡ before (stringsIn (places t .layers)) (suc k) = pool-start-or q (k + 1) ∙ ap (before (stringsIn (places t .layers))) (add-one k) in
+        let a = pool-held (string-pool t st (f .store .stored)) i (omega (arith, l .after, l .inside)) in
+        let x = layer-end i in
         length-part t st (f .store .stored) i (next - i) (record { inside = a .inside; low = a .low; high = omega (arith, x, l .one, l .after) })
         ∙ ap (λ (y : ℕ). recordsAt stringCodec t y (next - i)) (sym e)
 
-    pub run-start : {start n count : ℕ} → start ≡ startIn t i → count ≡ next - i → n ≡ capped room (sum (recordsAt stringCodec t p count)) → start + n ≡ startIn t next
+    pub run-start : {start n count : ℕ} → start ≡ startIn t i → count ≡ next - i → n ≡ capped room (sum (recordsAt stringCodec t p count))
+        → start + n ≡ startIn t next
     run-start {start} {n} {count} s c q =
         let g = sum-between (lengthsIn t) i next (omega (arith, l .after)) in
         let w = ap sum lengths in

@@ -2,18 +2,18 @@
 // long its strings are and not where they begin, so `index_strings` writes every k-th start into lent words, k as small as the
 // words allow, and `string_start` walks from the last of them. specs/Starts.antt says what a start is.
 ghost use mathlib.Core.Path.{_≡_};
-ghost use Prim.Native.Nat.{ℕ, _+_, _≤_, _<_, _^_, min};
 ghost use mathlib.Core.Bool.{true};
 ghost use mathlib.Core.List.{List, _∷_, []};
-ghost use lib.ListN.{length, getD, take, drop};
-ghost use Rattle.model.specs.Store.{stringSpan, resolveContentRange, shownPart};
+ghost use Prim.Native.Nat.{ℕ, _≤_, _<_, _^_, min};
+ghost use lib.ListN.{getD};
+ghost use Rattle.model.specs.Store.{stringSpan, resolveContentRange};
 ghost use Rattle.records.specs.Values.{contentOf};
 ghost use Rattle.store.specs.Pools.{rangeIn};
 ghost use Rattle.wire.specs.Overwrite.{overwrite};
 ghost use Rattle.strings.specs.Starts.{lengthsIn, storeIn, startIn, OfTape, Readable, Between, runEnd, InLayer};
-ghost use Rattle.strings.specs.Index.{stepOf, stepIn, stringIndex, Indexed};
+ghost use Rattle.strings.specs.Index.{stepOf, indexIn, Indexed};
 ghost use Rattle.strings.specs.PlainContent.{plainOf};
-ghost use Rattle.strings.specs.Shown.{oldStrings, TwoSides, Resolvable, Lies, partOf};
+ghost use Rattle.strings.specs.Shown.{oldStrings, shownIn, Resolvable, Lies, partOf};
 
 // The id of a Plain content's string.
 pub enum Plain {
@@ -37,7 +37,7 @@ pub fn string_length(tape: &[u8], st: store::Store, id: u32) -> usize
     wide(wire::u32_at(tape, at + 1))
 }
 
-// Where the strings of one layer from string i on end, or `to` before it.
+// Where the layer of string i ends in the pool, or `to` if that comes first.
 fn run_end(st: store::Store, i: u32, to: u32) -> u32
     requires { ⌜ st .layers ≤ 32 ⌝ }
     ensures { λ r. ⌜ r ≡ runEnd st i to ⌝ }
@@ -93,7 +93,7 @@ fn count_of(st: store::Store) -> u32
     st.totals.strings
 }
 
-// Every how many strings a start is stored: all that are stored fit the words.
+// Every how many strings a start is stored, so that the words hold them all.
 fn step_of(count: u32, words: usize) -> usize
     requires { ⌜ words < 2 ^ 63 ⌝ }
     ensures { λ r. ⌜ r ≡ stepOf count words ⌝ }
@@ -111,9 +111,10 @@ fn entry_of(start: usize) -> u32
     4294967295
 }
 
+// Every k-th start, k as small as the words allow; the rest of the words is kept.
 pub fn index_strings(tape: &[u8], st: store::Store, room: usize, words: &mut [u32])
     requires { ⌜ Readable (now tape) st room ⌝ }
-    ensures { λ _. ⌜ now (words .exit) ≡ overwrite (now (words .entry)) 0 (stringIndex (lengthsIn (now (tape .entry))) (stepIn (lengthsIn (now (tape .entry))) (now (words .entry)))) ⌝ }
+    ensures { λ _. ⌜ now (words .exit) ≡ overwrite (now (words .entry)) 0 (indexIn (lengthsIn (now (tape .entry))) (now (words .entry))) ⌝ }
 {
     let count = count_of(st);
     let step = step_of(count, words.len());
@@ -209,7 +210,7 @@ pub fn resolve_str<'a>(
 ) -> &'a [u8]
     requires { ⌜ Resolvable (now tape) st (now words) (now old) (now new) ⌝ }
     requires { ⌜ id < st .totals .strings ⌝ }
-    ensures { λ r. ⌜ now r ≡ shownPart (take (oldStrings st) (lengthsIn (now (tape .entry)))) (now (old .entry)) (drop (oldStrings st) (lengthsIn (now (tape .entry)))) (now (new .entry)) id ⌝ }
+    ensures { λ r. ⌜ now r ≡ shownIn (now (tape .entry)) st (now (old .entry)) (now (new .entry)) id ⌝ }
 {
     let olds = old_strings(st);
     let start = string_start(tape, st, old.len() + new.len(), words, id);

@@ -1,9 +1,9 @@
 use borrow.Author.Needs.{needs}
-use Prim.Native.Nat.{_-_, _/_, _≤_}
+use Prim.Native.Nat.{_-_, _≤_}
 use lib.ListN.{length, length-set}
-use mathlib.Core.Path.{_≡_, refl, ap, _∙_}
+use mathlib.Core.Path.{_≡_, refl, _∙_}
 use native.Mathlib.Omega.{arith}
-use Rattle.strings.specs.Index.{Indexing, indexing-none, indexing-more, indexing-all, step-some, step-most, next-between, next-word, index-all}
+use Rattle.strings.specs.Index.{Indexing, indexing-none, indexing-more, step-some, next-between, next-word, index-all}
 use Rattle.strings.specs.Starts.{lengthsIn}
 use Rattle.strings.proofs.index_strings.Statement.{statement}
 use Rattle.strings.proofs.index_strings.Tie as tie

@@ -1,6 +1,6 @@
 use Rattle.strings.specs.Starts.{lengthsIn}
 use lib.ListN.{length}
-use mathlib.Core.Path.{_≡_, refl, _∙_}
+use mathlib.Core.Path.{refl, _∙_}
 use native.Mathlib.Omega.{arith}
 use Rattle.strings.specs.Index.{step-some, lookup-between, lookup-inside, lookup-start, span-start}
 use borrow.Author.Needs.{needs}
