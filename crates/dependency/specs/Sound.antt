@@ -141,12 +141,12 @@ module _ {t : List ℕ} {st : Store} {words old new : List ℕ} {p : ℕ} (s : S
     unfolding firstContents resolveContentRange idOk
     plain-inside = record {
       inside = λ id q.
-      let st′ = storeIn t (old ++ new) in
-      let from = wordOf (recordAt nodeCodec t p .body) 0 in
-      let n = wordOf (recordAt nodeCodec t p .body) 1 in
-      let ok = all-take (contentOk (layersIn t (old ++ new))) n (drop from (st′ .contents)) (all-drop (contentOk (layersIn t (old ++ new))) from (st′ .contents) (s .contents)) in
-      let i = plain-ok (layersIn t (old ++ new)) (firstContents t p (old ++ new)) id ok (sym q ∙ e (old ++ new)) in
-      ltb-true id (st .totals .strings) (string-id-ok t st (s .strings .sides .store .stored) (old ++ new) id ∙ i);
+          let st′ = storeIn t (old ++ new) in
+          let from = wordOf (recordAt nodeCodec t p .body) 0 in
+          let n = wordOf (recordAt nodeCodec t p .body) 1 in
+          let ok = all-take (contentOk (layersIn t (old ++ new))) n (drop from (st′ .contents)) (all-drop (contentOk (layersIn t (old ++ new))) from (st′ .contents) (s .contents)) in
+          let i = plain-ok (layersIn t (old ++ new)) (firstContents t p (old ++ new)) id ok (sym q ∙ e (old ++ new)) in
+          ltb-true id (st .totals .strings) (string-id-ok t st (s .strings .sides .store .stored) (old ++ new) id ∙ i);
     }
 
 -- the two words that the code reads
@@ -163,3 +163,7 @@ module _ (t : List ℕ) (p : ℕ) {start len : ℕ} (e : start ≡ wordOf (bodyA
   pub words-plain : {r : Plain} → ((b : List ℕ) → r ≡ plainOf (resolveContentRange (storeIn t b) start len)) → (b : List ℕ) → r ≡ plainOf (firstContents t p b)
   unfolding firstContents
   words-plain q b = q b ∙ ap₂ (λ (x y : ℕ). plainOf (resolveContentRange (storeIn t b) x y)) first-start first-length
+
+-- the last node of a run
+pub sound-last : {t : List ℕ} {st : Store} {words old new : List ℕ} {at : ℕ} (i : ℕ) → Sound t st words old new at (i + 1) → SoundNode t st words old new (at + 49 * i)
+sound-last i s = sound-node {i = i} s (omega arith)

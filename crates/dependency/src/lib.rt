@@ -164,7 +164,6 @@ fn is_target_base<'a>(
         }
     }
 }
-
 // Number 10, node i: a Referenced Format that ends behind `from` and whose target is the base of an earlier Ruby.
 fn refers_back<'a>(
     tape: &[u8],

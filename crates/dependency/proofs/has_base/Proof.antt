@@ -20,7 +20,7 @@ returns c = base-other (c .before .before .before .before .before .before .befor
 
 -- src/lib.rt:115:9
 first-plain-requires : tie.Need-first-plain-requires
-first-plain-requires c κs = (c .before .before .before .before .before .before .before .pre .strings .sides .store, c .before .before .before .before .before .before .before .pre .inside, ruby-first (c .before .before .before .before .before .before .before .pre) (c .before .is-ruby .ensures) (not-false _ (c .if1 .left)))
+first-plain-requires c κs = (c .before .before .before .before .before .before .before .pre .strings .sides .store, (c .before .before .before .before .before .before .before .pre .inside, ruby-first (c .before .before .before .before .before .before .before .pre) (c .before .is-ruby .ensures) (not-false _ (c .if1 .left))))
 
 -- src/lib.rt:116:5
 is-plain-requires : tie.Need-is-plain-requires

@@ -24,7 +24,7 @@ enum-told c = search needs
 
 -- src/lib.rt:94:13
 returns-2 : tie.Need-returns-2
-returns-2 c = plain-none _ _ _ (c .p .given .1)
+returns-2 c = plain-none _ _ _ (c .enum-told .given .1)
 
 pub is-plain-spec : {M : Type 1} → statement M
 is-plain-spec = tie.close (tie.spec enum-known-p is-string-requires returns enum-told returns-2)

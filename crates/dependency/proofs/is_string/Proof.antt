@@ -17,7 +17,7 @@ string-length-requires c κs = search needs
 
 -- src/lib.rt:71:9
 returns : tie.Need-returns
-returns c = other-length (c .before .before .before .before .before .before .before .pre .0) _ (c .before .before .before .before .before .before .before .pre .1) _ (c .before .string-length .ensures) (c .if1 .taken)
+returns c = other-length (c .before .before .before .before .before .before .before .pre .0) _ (c .before .before .before .before .before .before .before .pre .1) (c .before .before .before .before .before .before .before .args .s .now) (c .before .string-length .ensures) (c .if1 .taken)
 
 -- src/lib.rt:73:19
 resolve-str-requires : tie.Need-resolve-str-requires
@@ -29,7 +29,7 @@ same-requires c κs = search needs
 
 -- src/lib.rt:57:1
 returns-2 : tie.Need-returns-2
-returns-2 c = c .same .ensures ∙ ap (same _) (c .before .resolve-str .ensures ∙ shown-str (c .before .before .before .before .before .before .before .before .before .pre .0 .sides) (c .before .before .before .before .before .before .before .before .before .pre .1))
+returns-2 c = c .same .ensures ∙ ap (same (c .before .before .before .before .before .before .before .before .before .args .s .now)) (c .before .resolve-str .ensures ∙ shown-str (c .before .before .before .before .before .before .before .before .before .pre .0 .sides) _ (c .before .before .before .before .before .before .before .before .before .pre .1))
 
 pub is-string-spec : {M : Type 1} → statement M
 is-string-spec =
