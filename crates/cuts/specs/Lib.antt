@@ -1,0 +1,4 @@
+pub mod Safe
+pub mod Offsets
+pub mod Pairs
+pub mod Gaps
