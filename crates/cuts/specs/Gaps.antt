@@ -211,3 +211,6 @@ book-nodes b f = record { inside = f .sourceSpans; order = f .order }
 
 pub nodes-in-order : {size : ℕ} {ns : List SourceNode} → NodesIn size ns → InOrder ns
 nodes-in-order {size} h = record { size = size; inside = h .inside; order = h .order }
+
+pub in-order-nodes : {ns : List SourceNode} → (h : InOrder ns) → NodesIn (h .size) ns
+in-order-nodes h = record { inside = h .inside; order = h .order }

@@ -2,3 +2,5 @@ pub mod Safe
 pub mod Offsets
 pub mod Pairs
 pub mod Gaps
+pub mod Search
+pub mod Walks

@@ -71,6 +71,10 @@ module _ (P : ℕ → Bool) where
         passes = f .passes;
       }))))
 
+  pub first-none : (hi : ℕ) → hi ≡ firstIn P 0 hi
+  unfolding firstIn
+  first-none hi = refl
+
   pub first-of : (n : ℕ) {lo hi : ℕ} → lo + n ≡ hi → First P lo hi (firstIn P n hi)
   unfolding firstIn
   first-of zero {lo} {hi} e = record { from = omega arith; to = omega arith; before = refused-none lo hi (omega arith); passes = λ h. absurd (omega arith) }

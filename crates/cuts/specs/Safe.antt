@@ -1,11 +1,12 @@
 -- Section 6 over the three lists of a book that it asks: text, nodes and pairs. A cut and the two ends of a region depend on
 -- nothing else.
 use Prim.Native.Nat.{ℕ, zero, suc, _+_, _-_}
-use mathlib.Core.Path.{_≡_, refl, ap, _∙_}
-use mathlib.Core.Bool.{Bool, cond, _&&_, _||_}
+use mathlib.Core.Path.{_≡_, refl, sym, _∙_}
+use mathlib.Core.Bool.{Bool, true, false, cond, _&&_, _||_, and-false}
 use mathlib.Core.List.{List}
 use lib.ListN.{length}
 use lib.Dec.{eqb}
+use borrow.Author.Tests.{ne-eqb}
 use Rattle.model.specs.Offset.{Span}
 use Rattle.model.specs.Types.{SourceNode, PairLink, LexOutput}
 use Rattle.model.specs.Region.{Edit, newlineAt, blankLineBefore, nodesAllowCut, pairsAllowCut, safeCut, regionStart, regionEnd, balancedRegion}
@@ -35,6 +36,25 @@ regionEndIn text ns ps (suc n) o =
 -- Section 6. `balanced_region` of the edit from `start` to `end`.
 unfoldable pub balancedIn : List ℕ → List SourceNode → List PairLink → ℕ → ℕ → Span
 balancedIn text ns ps start end = record { start = regionStartIn text ns ps start; end = regionEndIn text ns ps (length text - end) end }
+
+-- ---- an offset between 0 and the length, by the code's answers
+
+module _ (text : List ℕ) (ns : List SourceNode) (ps : List PairLink) (o : ℕ) (z : o ≡ 0 → ⊥) (l : o ≡ length text → ⊥) where
+  safe-between : safeCutIn text ns ps o ≡ cutAllowed text ns ps o
+  unfolding safeCutIn
+  safe-between = rw (ne-eqb o 0 z, ne-eqb o (length text) l) refl
+
+  pub safe-no-line : (x : Bool) → x ≡ blankLineBefore text o → x ≡ false → false ≡ safeCutIn text ns ps o
+  unfolding cutAllowed
+  safe-no-line x q e = sym (safe-between ∙ rw (← q, e) refl)
+
+  pub safe-no-nodes : (x : Bool) → x ≡ nodesAllowCut ns o → x ≡ false → false ≡ safeCutIn text ns ps o
+  unfolding cutAllowed
+  safe-no-nodes x q e = sym (safe-between ∙ rw (← q, e, and-false) refl)
+
+  pub safe-pairs : (x : Bool) → x ≡ blankLineBefore text o → x ≡ true → (y : Bool) → y ≡ nodesAllowCut ns o → y ≡ true → (r : Bool) → r ≡ pairsAllowCut ps o → r ≡ safeCutIn text ns ps o
+  unfolding cutAllowed
+  safe-pairs x q e y p f r s = s ∙ sym (safe-between ∙ rw (← q, e, ← p, f) refl)
 
 -- ---- of a book
 

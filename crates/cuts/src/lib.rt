@@ -4,12 +4,17 @@
 // so one walk over the nodes meets all of them, and the pairs are walked only for an offset that text and nodes allow.
 ghost use mathlib.Core.Path.{_≡_};
 ghost use mathlib.Core.Bool.{cond, _&&_};
-ghost use Prim.Native.Nat.{_+_, _-_, _*_, _≤_, _<_};
+ghost use Prim.Native.Nat.{_+_, _-_, _*_, _≤_, _<_, max};
 ghost use lib.ListN.{length};
 ghost use lib.Dec.{eqb};
 ghost use Rattle.model.specs.Tape.{recordAt, nodeCodec, pairCodec};
 ghost use Rattle.model.specs.Region.{blankLineBefore, isBlockOpen, isBlockClose, isDirective, isWarichuOpen, isWarichuClose, depthBehind, across};
 ghost use Rattle.model.specs.Region.{nodesAllowCut, pairsAllowCut};
+ghost use Rattle.bounds.specs.Search.{InOrder};
+ghost use Rattle.cuts.specs.Safe.{safeCutIn, regionStartIn, regionEndIn, balancedIn};
+ghost use Rattle.cuts.specs.Offsets.{firstIn, lastFrom};
+ghost use Rattle.cuts.specs.Gaps.{nodesOf, NodesIn, level};
+ghost use Rattle.cuts.specs.Search.{textPairs, nextTry, gapFirst, lastCut, gapLast, endsHere};
 ghost use Rattle.cuts.specs.Pairs.{pairsOf, acrossOf, isNothing, startOr, endOr};
 
 // Section 6. Two newline bytes before an offset.
@@ -180,4 +185,238 @@ pub fn pairs_allow_cut(tape: &[u8], pairs: places::Run, o: usize) -> bool
     ensures { λ r. ⌜ r ≡ pairsAllowCut (pairsOf (now (tape .entry)) pairs) o ⌝ }
 {
     is_nothing(pair_across(tape, pairs, o))
+}
+
+fn is_level(blocks: usize, warichu: usize) -> bool
+    ensures { λ r. ⌜ r ≡ level blocks warichu ⌝ }
+{
+    if blocks != 0 {
+        return false;
+    }
+    warichu == 0
+}
+
+// Section 6. No node across; block and warichu depths 0 (falls below 0 count as 0).
+pub fn nodes_allow_cut(tape: &[u8], nodes: places::Run, o: usize) -> bool
+    requires { ⌜ nodes .at + 49 * nodes .count ≤ length (now tape) ⌝ }
+    requires { ⌜ InOrder (nodesOf (now tape) nodes) ⌝ }
+    ensures { λ r. ⌜ r ≡ nodesAllowCut (nodesOf (now (tape .entry)) nodes) o ⌝ }
+{
+    let mut blocks: usize = 0;
+    let mut warichu: usize = 0;
+    let mut i = 0;
+    while i < nodes.count {
+        let p = nodes.at + 49 * i;
+        if o <= records::node_start(tape, p) as usize {
+            return is_level(blocks, warichu);
+        }
+        if o < records::node_end(tape, p) as usize {
+            return false;
+        }
+        blocks = block_depth(tape, p, blocks);
+        warichu = warichu_depth(tape, p, warichu);
+        i += 1;
+    }
+    is_level(blocks, warichu)
+}
+
+// Section 6. `safe_cut`: 0 and the length always; elsewhere text, nodes and pairs allow it.
+pub fn safe_cut(tape: &[u8], text: &[u8], nodes: places::Run, pairs: places::Run, o: usize) -> bool
+    requires { ⌜ (nodes .at + 49 * nodes .count ≤ length (now tape)) × (pairs .at + 18 * pairs .count ≤ length (now tape)) × (o ≤ length (now text)) ⌝ }
+    requires { ⌜ InOrder (nodesOf (now tape) nodes) ⌝ }
+    ensures { λ r. ⌜ r ≡ safeCutIn (now (text .entry)) (nodesOf (now (tape .entry)) nodes) (pairsOf (now (tape .entry)) pairs) o ⌝ }
+{
+    if o == 0 {
+        return true;
+    }
+    if o == text.len() {
+        return true;
+    }
+    if !blank_line_before(text, o) {
+        return false;
+    }
+    if !nodes_allow_cut(tape, nodes, o) {
+        return false;
+    }
+    pairs_allow_cut(tape, pairs, o)
+}
+
+// The next offset to try for a cut that text and pairs allow: where a pair lies across, all up to its end are refused.
+fn next_try(tape: &[u8], text: &[u8], pairs: places::Run, o: usize) -> usize
+    requires { ⌜ (pairs .at + 18 * pairs .count ≤ length (now tape)) × (o ≤ length (now text)) ⌝ }
+    ensures { λ r. ⌜ r ≡ nextTry (now (text .entry)) (pairsOf (now (tape .entry)) pairs) o ⌝ }
+{
+    if !blank_line_before(text, o) {
+        return o + 1;
+    }
+    end_or(pair_across(tape, pairs, o), o)
+}
+
+// The first offset from lo on and before hi that text and pairs allow, else hi.
+fn first_cut_in(tape: &[u8], text: &[u8], pairs: places::Run, lo: usize, hi: usize) -> usize
+    requires { ⌜ (pairs .at + 18 * pairs .count ≤ length (now tape)) × (hi ≤ length (now text)) ⌝ }
+    ensures { λ r. ⌜ r ≡ firstIn (textPairs (now (text .entry)) (pairsOf (now (tape .entry)) pairs)) (hi - lo) hi ⌝ }
+{
+    let mut c = lo;
+    while c < hi {
+        let next = next_try(tape, text, pairs, c);
+        if next == c {
+            return c;
+        }
+        c = next;
+    }
+    hi
+}
+
+fn later(a: usize, b: usize) -> usize
+    ensures { λ r. ⌜ r ≡ max a b ⌝ }
+{
+    if a < b {
+        return b;
+    }
+    a
+}
+
+// The same of the gap that begins at `from`, behind `o`, where the nodes before it leave these depths.
+fn gap_first(
+    tape: &[u8],
+    text: &[u8],
+    pairs: places::Run,
+    from: usize,
+    o: usize,
+    hi: usize,
+    blocks: usize,
+    warichu: usize,
+) -> usize
+    requires { ⌜ (pairs .at + 18 * pairs .count ≤ length (now tape)) × (hi ≤ length (now text)) × (o ≤ length (now text)) ⌝ }
+    ensures { λ r. ⌜ r ≡ gapFirst (now (text .entry)) (pairsOf (now (tape .entry)) pairs) blocks warichu (max from (o + 1)) hi ⌝ }
+{
+    if !is_level(blocks, warichu) {
+        return hi;
+    }
+    first_cut_in(tape, text, pairs, later(from, o + 1), hi)
+}
+
+// Section 6. End: the first safe offset after a newline at or behind an offset, else the length.
+pub fn region_end(
+    tape: &[u8],
+    text: &[u8],
+    nodes: places::Run,
+    pairs: places::Run,
+    o: usize,
+) -> usize
+    requires { ⌜ (nodes .at + 49 * nodes .count ≤ length (now tape)) × (pairs .at + 18 * pairs .count ≤ length (now tape)) × (o ≤ length (now text)) ⌝ }
+    requires { ⌜ NodesIn (length (now text)) (nodesOf (now tape) nodes) ⌝ }
+    ensures { λ r. ⌜ r ≡ regionEndIn (now (text .entry)) (nodesOf (now (tape .entry)) nodes) (pairsOf (now (tape .entry)) pairs) (length (now (text .entry)) - o) o ⌝ }
+{
+    let mut from: usize = 0;
+    let mut blocks: usize = 0;
+    let mut warichu: usize = 0;
+    let mut i = 0;
+    while i < nodes.count {
+        let p = nodes.at + 49 * i;
+        let start = records::node_start(tape, p) as usize;
+        let c = gap_first(tape, text, pairs, from, o, start + 1, blocks, warichu);
+        if c <= start {
+            return c;
+        }
+        from = records::node_end(tape, p) as usize;
+        blocks = block_depth(tape, p, blocks);
+        warichu = warichu_depth(tape, p, warichu);
+        i += 1;
+    }
+    gap_first(tape, text, pairs, from, o, text.len(), blocks, warichu)
+}
+
+// The last blank line from lo on and before hi, else d.
+fn last_blank(text: &[u8], lo: usize, hi: usize, d: usize) -> usize
+    requires { ⌜ hi ≤ length (now text) + 1 ⌝ }
+    ensures { λ r. ⌜ r ≡ lastFrom (blankLineBefore (now (text .entry))) (hi - lo) lo d ⌝ }
+{
+    let mut c = hi;
+    while lo < c {
+        if blank_line_before(text, c - 1) {
+            return c - 1;
+        }
+        c -= 1;
+    }
+    d
+}
+
+// The same of a gap where the nodes before it leave these depths.
+fn gap_last(text: &[u8], lo: usize, hi: usize, blocks: usize, warichu: usize, d: usize) -> usize
+    requires { ⌜ hi ≤ length (now text) + 1 ⌝ }
+    ensures { λ r. ⌜ r ≡ gapLast (now (text .entry)) blocks warichu lo hi d ⌝ }
+{
+    if !is_level(blocks, warichu) {
+        return d;
+    }
+    last_blank(text, lo, hi, d)
+}
+
+// The last offset at or before `bound` that text and nodes allow, else 0.
+fn last_cut(tape: &[u8], text: &[u8], nodes: places::Run, bound: usize) -> usize
+    requires { ⌜ (nodes .at + 49 * nodes .count ≤ length (now tape)) × (bound ≤ length (now text)) ⌝ }
+    requires { ⌜ InOrder (nodesOf (now tape) nodes) ⌝ }
+    ensures { λ r. ⌜ r ≡ lastCut (now (text .entry)) (nodesOf (now (tape .entry)) nodes) bound ⌝ }
+{
+    let mut from: usize = 0;
+    let mut blocks: usize = 0;
+    let mut warichu: usize = 0;
+    let mut last: usize = 0;
+    let mut i = 0;
+    while i < nodes.count {
+        let p = nodes.at + 49 * i;
+        let start = records::node_start(tape, p) as usize;
+        if bound <= start {
+            return gap_last(text, from, bound + 1, blocks, warichu, last);
+        }
+        last = gap_last(text, from, start + 1, blocks, warichu, last);
+        from = records::node_end(tape, p) as usize;
+        blocks = block_depth(tape, p, blocks);
+        warichu = warichu_depth(tape, p, warichu);
+        i += 1;
+    }
+    gap_last(text, from, bound + 1, blocks, warichu, last)
+}
+
+// The length behind a newline.
+fn ends_here(text: &[u8], o: usize) -> bool
+    requires { ⌜ o ≤ length (now text) ⌝ }
+    ensures { λ r. ⌜ r ≡ endsHere (now (text .entry)) o ⌝ }
+{
+    if o != text.len() {
+        return false;
+    }
+    if o < 1 {
+        return false;
+    }
+    text[o - 1] == 10
+}
+
+// Section 6. Start: the last safe offset after a newline, at or before an offset, else 0.
+pub fn region_start(
+    tape: &[u8],
+    text: &[u8],
+    nodes: places::Run,
+    pairs: places::Run,
+    o: usize,
+) -> usize
+    requires { ⌜ (nodes .at + 49 * nodes .count ≤ length (now tape)) × (pairs .at + 18 * pairs .count ≤ length (now tape)) × (o ≤ length (now text)) ⌝ }
+    requires { ⌜ InOrder (nodesOf (now tape) nodes) ⌝ }
+    ensures { λ r. ⌜ r ≡ regionStartIn (now (text .entry)) (nodesOf (now (tape .entry)) nodes) (pairsOf (now (tape .entry)) pairs) o ⌝ }
+{
+    if ends_here(text, o) {
+        return o;
+    }
+    let mut bound = o;
+    while 0 < bound {
+        let c = last_cut(tape, text, nodes, bound);
+        let start = start_or(pair_across(tape, pairs, c), c);
+        if start == c {
+            return c;
+        }
+        bound = start;
+    }
+    0
 }
