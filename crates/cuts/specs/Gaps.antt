@@ -1,9 +1,9 @@
 -- The offsets that the nodes allow: they lie in the gaps between nodes in order behind which both depths are 0.
-use Prim.Native.Nat.{ℕ, zero, suc, _+_, _-_, _*_, _≤_, _<_}
+use Prim.Native.Nat.{ℕ, suc, _+_, _-_, _*_, _≤_, _<_}
 use native.Mathlib.Omega.{arith}
 use native.Mathlib.Nat.{le-refl}
-use mathlib.Core.Path.{_≡_, refl, sym, ap, ap₂, _∙_}
-use mathlib.Core.Bool.{Bool, true, false, cond, not, _&&_, _||_}
+use mathlib.Core.Path.{_≡_, refl, sym, ap, _∙_}
+use mathlib.Core.Bool.{Bool, true, false, not, _&&_}
 use mathlib.Core.List.{List, [], _∷_}
 use lib.ListN.{length}
 use lib.Dec.{leb, ltb, eqb}
@@ -48,8 +48,8 @@ nodesAllowFrom blocks warichu ns o =
     && eqb (depth isWarichuOpen isWarichuClose warichu (nodesBefore o ns)) 0
 
 -- both depths are 0
-abbrev pub level : ℕ → ℕ → Bool
-level blocks warichu = eqb blocks 0 && eqb warichu 0
+abbrev pub depthsZero : ℕ → ℕ → Bool
+depthsZero blocks warichu = eqb blocks 0 && eqb warichu 0
 
 -- ---- one node
 
@@ -75,7 +75,8 @@ ordered-none k = refl
 
 module _ (size blocks warichu c : ℕ) where
   -- before the nodes that are left
-  pub allow-before : (k : ℕ) → c ≤ k → (ns : List SourceNode) → ordered k ns ≡ true → all (nodeInside size) ns ≡ true → nodesAllowFrom blocks warichu ns c ≡ level blocks warichu
+  pub allow-before : (k : ℕ) → c ≤ k → (ns : List SourceNode) → ordered k ns ≡ true → all (nodeInside size) ns ≡ true
+      → nodesAllowFrom blocks warichu ns c ≡ depthsZero blocks warichu
   unfolding nodesAllowFrom depth
   allow-before k h ns o i = let s = none-before size k c h ns o i in rw (s .0, s .1) refl
 
@@ -122,13 +123,13 @@ depth-small opens closes d n =
 
 module _ {size : ℕ} {t : List ℕ} {r : Run} {i from blocks warichu : ℕ} (w : Walked size t r i from blocks warichu) where
   -- behind the last node
-  pub walked-rest : r .count ≤ i → (c : ℕ) → from ≤ c → nodesAllowCut (nodesOf t r) c ≡ level blocks warichu
+  pub walked-rest : r .count ≤ i → (c : ℕ) → from ≤ c → nodesAllowCut (nodesOf t r) c ≡ depthsZero blocks warichu
   walked-rest h c g =
       let z : r .count - i ≡ 0 = omega arith in
       let none : nodesFrom t r i ≡ [] = ap (λ (k : ℕ). recordsAt nodeCodec t (r .at + 49 * i) k) z ∙ run-none nodeCodec t (r .at + 49 * i) in
       w .same c g ∙ ap (λ (l : List SourceNode). nodesAllowFrom blocks warichu l c) none ∙ allow-none c
     where
-      allow-none : (c : ℕ) → nodesAllowFrom blocks warichu [] c ≡ level blocks warichu
+      allow-none : (c : ℕ) → nodesAllowFrom blocks warichu [] c ≡ depthsZero blocks warichu
       allow-none c = allow-before size blocks warichu c c (omega arith) [] (ordered-none c) refl
 
   module _ (h : i < r .count) where
@@ -145,7 +146,9 @@ module _ {size : ℕ} {t : List ℕ} {r : Run} {i from blocks warichu : ℕ} (w 
     order-next : (leb from (nodeAt t r i .sourceSpan .start) ≡ true)
         × (ordered (nodeAt t r i .sourceSpan .end) (nodesFrom t r (i + 1)) ≡ true)
     unfolding ordered
-    order-next = both (leb from (nodeAt t r i .sourceSpan .start)) (ordered (nodeAt t r i .sourceSpan .end) (nodesFrom t r (i + 1))) (sym (ap (ordered from) nodes-next) ∙ w .order)
+    order-next =
+        both (leb from (nodeAt t r i .sourceSpan .start)) (ordered (nodeAt t r i .sourceSpan .end) (nodesFrom t r (i + 1)))
+        (sym (ap (ordered from) nodes-next) ∙ w .order)
 
     same-next : (c : ℕ) → from ≤ c
         → nodesAllowCut (nodesOf t r) c ≡ nodesAllowFrom blocks warichu (nodeAt t r i ∷ nodesFrom t r (i + 1)) c
@@ -165,7 +168,7 @@ module _ {size : ℕ} {t : List ℕ} {r : Run} {i from blocks warichu : ℕ} (w 
           (omega arith, omega arith, omega arith)
 
       -- the gap before it
-      pub walked-gap : (c : ℕ) → from ≤ c → c ≤ start → nodesAllowCut (nodesOf t r) c ≡ level blocks warichu
+      pub walked-gap : (c : ℕ) → from ≤ c → c ≤ start → nodesAllowCut (nodesOf t r) c ≡ depthsZero blocks warichu
       unfolding ordered
       walked-gap c g b =
           let n = nodeAt t r i in

@@ -1,15 +1,14 @@
 -- The first pair across an offset, and which offsets it refuses.
-use Prim.Native.Nat.{ℕ, zero, suc, _+_, _-_, _*_, _≤_, _<_}
+use Prim.Native.Nat.{ℕ, suc, _+_, _-_, _*_, _≤_, _<_}
 use native.Mathlib.Omega.{arith}
-use mathlib.Core.Path.{_≡_, refl, sym, ap, _∙_}
-use mathlib.Core.Bool.{Bool, true, false, cond, not, _&&_, _||_, or-true}
+use mathlib.Core.Path.{_≡_, refl, ap, _∙_}
+use mathlib.Core.Bool.{Bool, true, false, cond}
 use mathlib.Core.List.{List, [], _∷_}
-use lib.Dec.{ltb, eqb}
-use borrow.Author.Tests.{lt-ltb, le-ltb, ltb-true}
-use Rattle.model.specs.Lists.{any}
+use lib.Dec.{ltb}
+use borrow.Author.Tests.{lt-ltb, ltb-true}
 use Rattle.model.specs.Types.{PairLink}
 use Rattle.model.specs.Tape.{recordAt, recordsAt, pairCodec}
-use Rattle.model.specs.Region.{across, pairsAllowCut, blankLineBefore}
+use Rattle.model.specs.Region.{across, pairsAllowCut}
 use Rattle.laws.specs.Lists.{both}
 use Rattle.records.specs.Runs.{run-cons, run-none}
 use Rattle.wire.specs.Loops.{by-bool}

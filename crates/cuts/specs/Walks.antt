@@ -1,5 +1,5 @@
 -- The loops of the crate, turn by turn: the three walks over the nodes, and the search for the start.
-use Prim.Native.Nat.{ℕ, suc, _+_, _-_, _*_, _≤_, _<_, max}
+use Prim.Native.Nat.{ℕ, _+_, _-_, _≤_, _<_, max}
 use native.Mathlib.Omega.{arith}
 use mathlib.Core.Path.{_≡_, refl, sym, ap, _∙_}
 use mathlib.Core.Bool.{Bool, false}
@@ -8,14 +8,15 @@ use lib.ListN.{length}
 use Rattle.model.specs.Region.{isBlockOpen, isBlockClose, isWarichuOpen, isWarichuClose, depthBehind, nodesAllowCut}
 use Rattle.bounds.specs.Search.{InOrder}
 use Rattle.places.specs.declared.Run.{Run}
-use Rattle.cuts.specs.Safe.{cutAllowed, regionStartIn, regionEndIn}
+use Rattle.cuts.specs.Safe.{cutAllowed, regionEndIn, regionStartIn}
 use Rattle.cuts.specs.Offsets.{Refused, refused-none, Latest, latest-none}
-use Rattle.cuts.specs.declared.Across.{Across}
 use Rattle.cuts.specs.Pairs.{pairsOf, acrossOf, startOr}
-use Rattle.cuts.specs.Gaps.{nodesOf, nodeAt, NodesIn, in-order-nodes, level}
-use Rattle.cuts.specs.Gaps.{Walked, walked-none, walked-rest, walked-span, walked-gap, walked-across, walked-refused, walked-more}
-use Rattle.cuts.specs.Search.{Searched, gapFirst, gap-searched, refused-on, end-found, end-last, textNodes, gapLast, lastCut, latest-gap, latest-node, latest-cut}
-use Rattle.cuts.specs.Search.{endsHere, start-none, start-found, start-before, start-more}
+use Rattle.cuts.specs.Gaps.{Walked, nodesOf, walked-none, in-order-nodes, depthsZero, walked-rest, nodeAt, walked-gap, walked-across}
+use Rattle.cuts.specs.Gaps.{walked-more, NodesIn, walked-span, walked-refused}
+use Rattle.cuts.specs.EndSearch.{gapFirst, end-last, gap-searched, Searched, end-found, refused-on}
+use Rattle.cuts.specs.StartSearch.{textNodesAllow, gapLast, lastCut, latest-cut, latest-gap, latest-node, endsBehindNewline, start-none}
+use Rattle.cuts.specs.StartSearch.{start-found, start-before, start-more}
+use Rattle.cuts.specs.declared.Across.{Across}
 
 -- ---- `nodes_allow_cut`: every node that was passed ends at or before o
 
@@ -29,11 +30,11 @@ pub upto-none : (t : List ℕ) (r : Run) (o : ℕ) → InOrder (nodesOf t r) →
 upto-none t r o h = record { size = h .size; from = 0; by = omega arith; walked = walked-none (h .size) t r (in-order-nodes h) }
 
 module _ {t : List ℕ} {r : Run} {o i blocks warichu : ℕ} (u : Upto t r o i blocks warichu) where
-  pub upto-rest : r .count ≤ i → (x : Bool) → x ≡ level blocks warichu → x ≡ nodesAllowCut (nodesOf t r) o
+  pub upto-rest : r .count ≤ i → (x : Bool) → x ≡ depthsZero blocks warichu → x ≡ nodesAllowCut (nodesOf t r) o
   upto-rest h x e = e ∙ sym (walked-rest (u .walked) h o (u .by))
 
   module _ (h : i < r .count) (start : ℕ) (q : start ≡ nodeAt t r i .sourceSpan .start) where
-    pub upto-gap : o ≤ start → (x : Bool) → x ≡ level blocks warichu → x ≡ nodesAllowCut (nodesOf t r) o
+    pub upto-gap : o ≤ start → (x : Bool) → x ≡ depthsZero blocks warichu → x ≡ nodesAllowCut (nodesOf t r) o
     upto-gap g x e = e ∙ sym (walked-gap (u .walked) h start (nodeAt t r i .sourceSpan .end) q refl o (u .by) g)
 
     module _ (end : ℕ) (q₁ : end ≡ nodeAt t r i .sourceSpan .end) where
@@ -73,7 +74,8 @@ module _ {text t : List ℕ} {r p : Run} {o i from blocks warichu : ℕ} (w : En
       pub end-walk-found : o ≤ length text → c ≤ start → c ≡ regionEndIn text (nodesOf t r) (pairsOf t p) (length text - o) o
       end-walk-found b l = end-found text (nodesOf t r) (pairsOf t p) o from (start + 1) c b (w .none) searched (omega arith) end-walk-inside
 
-      pub end-walk-more : start < c → (end : ℕ) → end ≡ nodeAt t r i .sourceSpan .end → (blocks′ warichu′ : ℕ) → blocks′ ≡ depthBehind isBlockOpen isBlockClose blocks (nodeAt t r i)
+      pub end-walk-more : start < c → (end : ℕ) → end ≡ nodeAt t r i .sourceSpan .end
+          → (blocks′ warichu′ : ℕ) → blocks′ ≡ depthBehind isBlockOpen isBlockClose blocks (nodeAt t r i)
           → warichu′ ≡ depthBehind isWarichuOpen isWarichuClose warichu (nodeAt t r i) → EndWalk text t r p o (i + 1) end blocks′ warichu′
       end-walk-more l end q₁ blocks′ warichu′ e f = record {
         walked = walked-more (w .walked) h start end q q₁ blocks′ warichu′ e f;
@@ -85,14 +87,14 @@ module _ {text t : List ℕ} {r p : Run} {o i from blocks warichu : ℕ} (w : En
 pub record LastWalk (text t : List ℕ) (r : Run) (bound i from blocks warichu last : ℕ) : Type 0 where
   pub size : ℕ
   pub walked : Walked size t r i from blocks warichu
-  pub latest : Latest (textNodes text (nodesOf t r)) from last
+  pub latest : Latest (textNodesAllow text (nodesOf t r)) from last
   pub below : last ≤ bound
 
 pub last-walk-none : (text t : List ℕ) (r : Run) (bound : ℕ) → InOrder (nodesOf t r) → LastWalk text t r bound 0 0 0 0 0
 last-walk-none text t r bound h = record {
   size = h .size;
   walked = walked-none (h .size) t r (in-order-nodes h);
-  latest = latest-none (textNodes text (nodesOf t r));
+  latest = latest-none (textNodesAllow text (nodesOf t r));
   below = omega arith;
 }
 
@@ -103,7 +105,7 @@ module _ {text t : List ℕ} {r : Run} {bound i from blocks warichu last : ℕ} 
       (latest-gap text (nodesOf t r) blocks warichu from (bound + 1) last (w .latest) (λ k x y. walked-rest (w .walked) h k x) c q bound (w .below) (omega arith))
 
   module _ (h : i < r .count) (start : ℕ) (q : start ≡ nodeAt t r i .sourceSpan .start) where
-    gap : (k : ℕ) → from ≤ k → k ≤ start → nodesAllowCut (nodesOf t r) k ≡ level blocks warichu
+    gap : (k : ℕ) → from ≤ k → k ≤ start → nodesAllowCut (nodesOf t r) k ≡ depthsZero blocks warichu
     gap k x y = walked-gap (w .walked) h start (nodeAt t r i .sourceSpan .end) q refl k x y
 
     pub last-walk-stop : bound ≤ start → (c : ℕ) → c ≡ gapLast text blocks warichu from (bound + 1) last → c ≡ lastCut text (nodesOf t r) bound
@@ -127,11 +129,11 @@ module _ {text t : List ℕ} {r : Run} {bound i from blocks warichu last : ℕ} 
 
 pub record StartWalk (text t : List ℕ) (r p : Run) (o bound : ℕ) : Type 0 where
   pub inside : o ≤ length text
-  pub notEnd : endsHere text o ≡ false
+  pub notEnd : endsBehindNewline text o ≡ false
   pub below : bound ≤ o
   pub none : Refused (cutAllowed text (nodesOf t r) (pairsOf t p)) (bound + 1) (o + 1)
 
-pub start-walk-none : (text t : List ℕ) (r p : Run) (o : ℕ) → o ≤ length text → (x : Bool) → x ≡ endsHere text o → x ≡ false → StartWalk text t r p o o
+pub start-walk-none : (text t : List ℕ) (r p : Run) (o : ℕ) → o ≤ length text → (x : Bool) → x ≡ endsBehindNewline text o → x ≡ false → StartWalk text t r p o o
 start-walk-none text t r p o h x q e = record { inside = h; notEnd = sym q ∙ e; below = omega arith; none = refused-none (o + 1) (o + 1) (omega arith) }
 
 module _ {text t : List ℕ} {r p : Run} {o bound : ℕ} (w : StartWalk text t r p o bound) where

@@ -3,19 +3,19 @@
 // asking it of each newline: an offset that the nodes allow lies in a gap between two of them behind which both depths are 0,
 // so one walk over the nodes meets all of them, and the pairs are walked only for an offset that text and nodes allow.
 ghost use mathlib.Core.Path.{_≡_};
-ghost use mathlib.Core.Bool.{cond, _&&_};
+ghost use mathlib.Core.Bool.{cond};
 ghost use Prim.Native.Nat.{_+_, _-_, _*_, _≤_, _<_, max};
 ghost use lib.ListN.{length};
-ghost use lib.Dec.{eqb};
 ghost use Rattle.model.specs.Tape.{recordAt, nodeCodec, pairCodec};
 ghost use Rattle.model.specs.Region.{blankLineBefore, isBlockOpen, isBlockClose, isDirective, isWarichuOpen, isWarichuClose, depthBehind, across};
 ghost use Rattle.model.specs.Region.{nodesAllowCut, pairsAllowCut};
 ghost use Rattle.bounds.specs.Search.{InOrder};
-ghost use Rattle.cuts.specs.Safe.{safeCutIn, regionStartIn, regionEndIn, balancedIn};
+ghost use Rattle.cuts.specs.Safe.{safeCutIn, regionEndIn, regionStartIn, regionOf, balancedIn};
 ghost use Rattle.cuts.specs.Offsets.{firstIn, lastFrom};
-ghost use Rattle.cuts.specs.Gaps.{nodesOf, NodesIn, level};
-ghost use Rattle.cuts.specs.Search.{textPairs, nextTry, gapFirst, lastCut, gapLast, endsHere};
-ghost use Rattle.cuts.specs.Pairs.{pairsOf, acrossOf, isNothing, startOr, endOr};
+ghost use Rattle.cuts.specs.Pairs.{acrossOf, pairsOf, isNothing, startOr, endOr};
+ghost use Rattle.cuts.specs.Gaps.{depthsZero, nodesOf, NodesIn};
+ghost use Rattle.cuts.specs.EndSearch.{nextTry, textPairsAllow, gapFirst};
+ghost use Rattle.cuts.specs.StartSearch.{gapLast, lastCut, endsBehindNewline};
 
 // Section 6. Two newline bytes before an offset.
 pub fn blank_line_before(text: &[u8], o: usize) -> bool
@@ -187,8 +187,8 @@ pub fn pairs_allow_cut(tape: &[u8], pairs: places::Run, o: usize) -> bool
     is_nothing(pair_across(tape, pairs, o))
 }
 
-fn is_level(blocks: usize, warichu: usize) -> bool
-    ensures { λ r. ⌜ r ≡ level blocks warichu ⌝ }
+fn depths_zero(blocks: usize, warichu: usize) -> bool
+    ensures { λ r. ⌜ r ≡ depthsZero blocks warichu ⌝ }
 {
     if blocks != 0 {
         return false;
@@ -208,7 +208,7 @@ pub fn nodes_allow_cut(tape: &[u8], nodes: places::Run, o: usize) -> bool
     while i < nodes.count {
         let p = nodes.at + 49 * i;
         if o <= records::node_start(tape, p) as usize {
-            return is_level(blocks, warichu);
+            return depths_zero(blocks, warichu);
         }
         if o < records::node_end(tape, p) as usize {
             return false;
@@ -217,7 +217,7 @@ pub fn nodes_allow_cut(tape: &[u8], nodes: places::Run, o: usize) -> bool
         warichu = warichu_depth(tape, p, warichu);
         i += 1;
     }
-    is_level(blocks, warichu)
+    depths_zero(blocks, warichu)
 }
 
 // Section 6. `safe_cut`: 0 and the length always; elsewhere text, nodes and pairs allow it.
@@ -255,7 +255,7 @@ fn next_try(tape: &[u8], text: &[u8], pairs: places::Run, o: usize) -> usize
 // The first offset from lo on and before hi that text and pairs allow, else hi.
 fn first_cut_in(tape: &[u8], text: &[u8], pairs: places::Run, lo: usize, hi: usize) -> usize
     requires { ⌜ (pairs .at + 18 * pairs .count ≤ length (now tape)) × (hi ≤ length (now text)) ⌝ }
-    ensures { λ r. ⌜ r ≡ firstIn (textPairs (now (text .entry)) (pairsOf (now (tape .entry)) pairs)) (hi - lo) hi ⌝ }
+    ensures { λ r. ⌜ r ≡ firstIn (textPairsAllow (now (text .entry)) (pairsOf (now (tape .entry)) pairs)) (hi - lo) hi ⌝ }
 {
     let mut c = lo;
     while c < hi {
@@ -291,7 +291,7 @@ fn gap_first(
     requires { ⌜ (pairs .at + 18 * pairs .count ≤ length (now tape)) × (hi ≤ length (now text)) × (o ≤ length (now text)) ⌝ }
     ensures { λ r. ⌜ r ≡ gapFirst (now (text .entry)) (pairsOf (now (tape .entry)) pairs) blocks warichu (max from (o + 1)) hi ⌝ }
 {
-    if !is_level(blocks, warichu) {
+    if !depths_zero(blocks, warichu) {
         return hi;
     }
     first_cut_in(tape, text, pairs, later(from, o + 1), hi)
@@ -348,7 +348,7 @@ fn gap_last(text: &[u8], lo: usize, hi: usize, blocks: usize, warichu: usize, d:
     requires { ⌜ hi ≤ length (now text) + 1 ⌝ }
     ensures { λ r. ⌜ r ≡ gapLast (now (text .entry)) blocks warichu lo hi d ⌝ }
 {
-    if !is_level(blocks, warichu) {
+    if !depths_zero(blocks, warichu) {
         return d;
     }
     last_blank(text, lo, hi, d)
@@ -381,9 +381,9 @@ fn last_cut(tape: &[u8], text: &[u8], nodes: places::Run, bound: usize) -> usize
 }
 
 // The length behind a newline.
-fn ends_here(text: &[u8], o: usize) -> bool
+fn ends_behind_newline(text: &[u8], o: usize) -> bool
     requires { ⌜ o ≤ length (now text) ⌝ }
-    ensures { λ r. ⌜ r ≡ endsHere (now (text .entry)) o ⌝ }
+    ensures { λ r. ⌜ r ≡ endsBehindNewline (now (text .entry)) o ⌝ }
 {
     if o != text.len() {
         return false;
@@ -406,7 +406,7 @@ pub fn region_start(
     requires { ⌜ InOrder (nodesOf (now tape) nodes) ⌝ }
     ensures { λ r. ⌜ r ≡ regionStartIn (now (text .entry)) (nodesOf (now (tape .entry)) nodes) (pairsOf (now (tape .entry)) pairs) o ⌝ }
 {
-    if ends_here(text, o) {
+    if ends_behind_newline(text, o) {
         return o;
     }
     let mut bound = o;
@@ -419,4 +419,30 @@ pub fn region_start(
         bound = start;
     }
     0
+}
+
+// Offsets of the old text.
+pub struct Region {
+    pub start: usize,
+    pub end: usize,
+}
+
+// Section 6. `balanced_region` of the edit from `start` to `end`.
+pub fn balanced_region(
+    tape: &[u8],
+    text: &[u8],
+    nodes: places::Run,
+    pairs: places::Run,
+    start: usize,
+    end: usize,
+) -> Region
+    requires { ⌜ (nodes .at + 49 * nodes .count ≤ length (now tape)) × (pairs .at + 18 * pairs .count ≤ length (now tape)) ⌝ }
+    requires { ⌜ (start ≤ length (now text)) × (end ≤ length (now text)) ⌝ }
+    requires { ⌜ NodesIn (length (now text)) (nodesOf (now tape) nodes) ⌝ }
+    ensures { λ r. ⌜ regionOf r ≡ balancedIn (now (text .entry)) (nodesOf (now (tape .entry)) nodes) (pairsOf (now (tape .entry)) pairs) start end ⌝ }
+{
+    Region {
+        start: region_start(tape, text, nodes, pairs, start),
+        end: region_end(tape, text, nodes, pairs, end),
+    }
 }

@@ -1,7 +1,7 @@
 use Prim.Native.Nat.{_-_}
 use native.Mathlib.Omega.{arith}
 use Rattle.cuts.specs.Pairs.{pairsOf}
-use Rattle.cuts.specs.Search.{textPairs, try-rises, Tried, tried-start, tried-more, tried-found, tried-none}
+use Rattle.cuts.specs.EndSearch.{Tried, textPairsAllow, tried-start, tried-found, try-rises, tried-more, tried-none}
 use Rattle.cuts.proofs.first_cut_in.Statement.{statement}
 use Rattle.cuts.proofs.first_cut_in.Tie as tie
 use Rattle.cuts.proofs.first_cut_in.Reads as reads
@@ -9,7 +9,7 @@ use Rattle.cuts.proofs.first_cut_in.Lts as lts
 use Rattle.cuts.proofs.next_try.Reads as next-try-reads
 
 abbrev Inv-loop : tie.InvT-loop
-Inv-loop tape text pairs lo hi c₀ c = Tried (textPairs text (pairsOf tape pairs)) lo hi c
+Inv-loop tape text pairs lo hi c₀ c = Tried (textPairsAllow text (pairsOf tape pairs)) lo hi c
 
 abbrev μ-loop : tie.MeasureT-loop
 μ-loop tape text pairs lo hi c₀ c = hi - c

@@ -2,7 +2,7 @@ use mathlib.Core.Path.{_≡_, refl, sym, _∙_}
 use Prim.Native.Nat.{_-_, _≤_}
 use native.Mathlib.Omega.{arith}
 use Rattle.model.specs.Region.{blankLineBefore}
-use Rattle.cuts.specs.Offsets.{lastFrom, last-turn, last-stop, last-done}
+use Rattle.cuts.specs.Offsets.{lastFrom, last-stop, last-turn, last-done}
 use Rattle.cuts.proofs.last_blank.Statement.{statement}
 use Rattle.cuts.proofs.last_blank.Tie as tie
 use Rattle.cuts.proofs.last_blank.Reads as reads

@@ -1,6 +1,6 @@
 use Prim.Native.Nat.{_-_}
 use native.Mathlib.Omega.{arith}
-use Rattle.cuts.specs.Walks.{LastWalk, last-walk-none, last-walk-done, last-walk-stop, last-walk-more}
+use Rattle.cuts.specs.Walks.{LastWalk, last-walk-none, last-walk-stop, last-walk-more, last-walk-done}
 use Rattle.cuts.proofs.last_cut.Statement.{statement}
 use Rattle.cuts.proofs.last_cut.Tie as tie
 use Rattle.cuts.proofs.last_cut.Reads as reads

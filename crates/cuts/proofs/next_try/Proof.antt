@@ -1,6 +1,6 @@
 use mathlib.Core.Path.{_∙_}
 use borrow.Author.Tests.{not-true, not-false}
-use Rattle.cuts.specs.Search.{try-no-line, try-pair}
+use Rattle.cuts.specs.EndSearch.{try-no-line, try-pair}
 use borrow.Author.Needs.{needs}
 use Rattle.cuts.proofs.next_try.Statement.{statement}
 use Rattle.cuts.proofs.next_try.Tie as tie

@@ -1,12 +1,12 @@
 use Prim.Native.Nat.{_-_}
 use native.Mathlib.Omega.{arith}
-use Rattle.cuts.specs.Walks.{Upto, upto-none, upto-rest, upto-gap, upto-across, upto-more}
+use Rattle.cuts.specs.Walks.{Upto, upto-none, upto-gap, upto-across, upto-more, upto-rest}
 use Rattle.cuts.proofs.nodes_allow_cut.Statement.{statement}
 use Rattle.cuts.proofs.nodes_allow_cut.Tie as tie
 use Rattle.cuts.proofs.nodes_allow_cut.Reads as reads
 use Rattle.cuts.proofs.nodes_allow_cut.Lts as lts
 use Rattle.cuts.proofs.block_depth.Reads as block-depth-reads
-use Rattle.cuts.proofs.is_level.Reads as is-level-reads
+use Rattle.cuts.proofs.depths_zero.Reads as depths-zero-reads
 use Rattle.cuts.proofs.warichu_depth.Reads as warichu-depth-reads
 use Rattle.records.proofs.node_end.Reads as node-end-reads
 use Rattle.records.proofs.node_start.Reads as node-start-reads
@@ -38,12 +38,12 @@ cast-if2 : tie.Need-cast-if2 Inv-loop μ-loop
 cast-if2 c = omega arith
 
 -- src/lib.rt:211:13
-is-level-requires : tie.Need-is-level-requires Inv-loop μ-loop
-is-level-requires c κs = omega arith
+depths-zero-requires : tie.Need-depths-zero-requires Inv-loop μ-loop
+depths-zero-requires c κs = omega arith
 
 -- src/lib.rt:211:13
 returns : tie.Need-returns Inv-loop μ-loop
-returns c = upto-gap (c .before .before .before .before .before .before .loop .inv) (c .before .before .before .before .if1 .taken) _ (c .before .before .node-start .ensures) (c .before .if2 .taken) _ (c .is-level .ensures)
+returns c = upto-gap (c .before .before .before .before .before .before .loop .inv) (c .before .before .before .before .if1 .taken) _ (c .before .before .node-start .ensures) (c .before .if2 .taken) _ (c .depths-zero .ensures)
 
 -- src/lib.rt:213:16
 node-end-requires : tie.Need-node-end-requires Inv-loop μ-loop
@@ -78,12 +78,12 @@ loop-again : tie.Need-loop-again Inv-loop μ-loop
 loop-again c = upto-more (c .before .before .before .before .before .before .before .before .before .loop .inv) (c .before .before .before .before .before .before .before .if1 .taken) _ (c .before .before .before .before .before .node-start .ensures) _ (c .before .before .before .node-end .ensures) (c .before .before .if3 .left) _ _ (c .before .block-depth .ensures) (c .warichu-depth .ensures)
 
 -- src/lib.rt:220:5
-is-level-requires-2 : tie.Need-is-level-requires-2 Inv-loop μ-loop
-is-level-requires-2 c κs = omega arith
+depths-zero-requires-2 : tie.Need-depths-zero-requires-2 Inv-loop μ-loop
+depths-zero-requires-2 c κs = omega arith
 
 -- src/lib.rt:200:1
 returns-3 : tie.Need-returns-3 Inv-loop μ-loop
-returns-3 c = upto-rest (c .before .before .before .loop .inv) (c .before .if1 .left) _ (c .is-level2 .ensures)
+returns-3 c = upto-rest (c .before .before .before .loop .inv) (c .before .if1 .left) _ (c .depths-zero2 .ensures)
 
 pub nodes-allow-cut-spec : {M : Type 1} → statement M
 nodes-allow-cut-spec =
@@ -96,7 +96,7 @@ nodes-allow-cut-spec =
     add-p
     node-start-requires
     cast-if2
-    is-level-requires
+    depths-zero-requires
     returns
     node-end-requires
     cast-if3
@@ -106,5 +106,5 @@ nodes-allow-cut-spec =
     add-i
     loop-less
     loop-again
-    is-level-requires-2
+    depths-zero-requires-2
     returns-3)

@@ -2,7 +2,7 @@ use mathlib.Core.Path.{_≡_, sym, _∙_}
 use Prim.Native.Nat.{_+_, _-_, _*_, _≤_}
 use native.Mathlib.Omega.{arith}
 use Rattle.model.specs.Tape.{recordsAt, pairCodec}
-use Rattle.cuts.specs.Pairs.{acrossOf, across-here, across-next, across-first, across-done}
+use Rattle.cuts.specs.Pairs.{acrossOf, across-first, across-here, across-next, across-done}
 use Rattle.cuts.proofs.pair_across.Statement.{statement}
 use Rattle.cuts.proofs.pair_across.Tie as tie
 use Rattle.cuts.proofs.pair_across.Reads as reads

@@ -1,6 +1,6 @@
 use Prim.Native.Nat.{_-_}
 use native.Mathlib.Omega.{arith}
-use Rattle.cuts.specs.Walks.{EndWalk, end-walk-none, end-walk-done, end-walk-inside, end-walk-found, end-walk-more}
+use Rattle.cuts.specs.Walks.{EndWalk, end-walk-none, end-walk-inside, end-walk-found, end-walk-more, end-walk-done}
 use Rattle.cuts.proofs.region_end.Statement.{statement}
 use Rattle.cuts.proofs.region_end.Tie as tie
 use Rattle.cuts.proofs.region_end.Reads as reads

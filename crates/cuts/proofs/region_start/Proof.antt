@@ -1,13 +1,13 @@
 use mathlib.Core.Path.{sym, _∙_}
 use native.Mathlib.Omega.{arith}
 use borrow.Author.Needs.{needs}
-use Rattle.cuts.specs.Search.{start-end}
-use Rattle.cuts.specs.Walks.{StartWalk, start-walk-none, start-walk-done, start-walk-found, start-walk-falls, start-walk-more}
+use Rattle.cuts.specs.StartSearch.{start-end}
+use Rattle.cuts.specs.Walks.{StartWalk, start-walk-none, start-walk-found, start-walk-falls, start-walk-more, start-walk-done}
 use Rattle.cuts.proofs.region_start.Statement.{statement}
 use Rattle.cuts.proofs.region_start.Tie as tie
 use Rattle.cuts.proofs.region_start.Reads as reads
 use Rattle.cuts.proofs.region_start.Lts as lts
-use Rattle.cuts.proofs.ends_here.Reads as ends-here-reads
+use Rattle.cuts.proofs.ends_behind_newline.Reads as ends-behind-newline-reads
 use Rattle.cuts.proofs.last_cut.Reads as last-cut-reads
 use Rattle.cuts.proofs.pair_across.Reads as pair-across-reads
 use Rattle.cuts.proofs.start_or.Reads as start-or-reads
@@ -19,16 +19,16 @@ abbrev μ-loop : tie.MeasureT-loop
 μ-loop tape text nodes pairs o bound₀ bound = bound
 
 -- src/lib.rt:388:8
-ends-here-requires : tie.Need-ends-here-requires Inv-loop μ-loop
-ends-here-requires c κs = omega arith
+ends-behind-newline-requires : tie.Need-ends-behind-newline-requires Inv-loop μ-loop
+ends-behind-newline-requires c κs = omega arith
 
 -- src/lib.rt:389:9
 returns : tie.Need-returns Inv-loop μ-loop
-returns c = start-end _ _ _ _ (sym (c .before .ends-here .ensures) ∙ c .if1 .taken)
+returns c = start-end _ _ _ _ (sym (c .before .ends-behind-newline .ensures) ∙ c .if1 .taken)
 
 -- src/lib.rt:392:5
 loop-holds : tie.Need-loop-holds Inv-loop μ-loop
-loop-holds c = start-walk-none _ _ _ _ _ (c .before .before .before .before .pre .0 .2) _ (c .before .ends-here .ensures) (c .if1 .left)
+loop-holds c = start-walk-none _ _ _ _ _ (c .before .before .before .before .pre .0 .2) _ (c .before .ends-behind-newline .ensures) (c .if1 .left)
 
 -- src/lib.rt:393:13
 last-cut-requires : tie.Need-last-cut-requires Inv-loop μ-loop
@@ -64,7 +64,7 @@ region-start-spec =
     (tie.spec
     Inv-loop
     μ-loop
-    ends-here-requires
+    ends-behind-newline-requires
     returns
     loop-holds
     last-cut-requires
