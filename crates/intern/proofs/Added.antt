@@ -9,12 +9,12 @@ use lib.ListN.{length, getD, take, drop, set, length-set, List·getD-append}
 use lib.Seq.{paste, length-paste, take-paste, length-take-le, getD-take, drop-at, take-at, take-length, take-take, take-append-le, getD-set-same, getD-set-other, drop-set-lt}
 use Rattle.intern.specs.declared.InternStats.{InternStats as Counters}
 use Rattle.intern.specs.declared.StrInterner.{StrInterner as Interner}
-use Rattle.intern.specs.Layout.{taken, part, tableOf, startsOf, stringAt, stringsUpTo, Work, Starts, Entries}
+use Rattle.table.specs.Layout.{taken, part, tableOf, startsOf, stringAt, stringsUpTo, Work, Starts, Entries}
 use Rattle.intern.specs.State.{Counted, statsOf, stateOf, Good, Size, allocated, Alloced}
 use Rattle.intern.specs.Calls.{flatten-snoc}
-use Rattle.intern.proofs.Views.{length-part, getD-part, part-high}
-use Rattle.intern.proofs.Cleared.{part-ext}
-use Rattle.intern.proofs.Strings.{length-strings, strings-ext}
+use Rattle.table.specs.Views.{length-part, getD-part, part-high}
+use Rattle.table.specs.Cleared.{part-ext}
+use Rattle.table.specs.Strings.{length-strings, strings-ext}
 use Rattle.intern.proofs.Tables.{size-hi, starts-length}
 
 -- ---- the bytes

@@ -15,15 +15,15 @@ use Rattle.model.specs.Intern.{StrInterner, InternStats, Interned, Probe, fxHas
 use Rattle.model.specs.Limits.{maxNewStrings}
 use Rattle.intern.specs.declared.InternStats.{InternStats as Counters}
 use Rattle.intern.specs.declared.StrInterner.{StrInterner as Interner}
-use Rattle.intern.specs.declared.Probed.{Probed}
+use Rattle.table.specs.declared.Probed.{Probed}
 use Rattle.intern.specs.declared.Answer.{Answer}
-use Rattle.intern.specs.Layout.{taken, part, tableOf, startsOf, stringAt, stringsUpTo, stringsOf, Work, Starts, Entries, probeOf}
+use Rattle.table.specs.Layout.{taken, part, tableOf, startsOf, stringAt, stringsUpTo, stringsOf, Work, Starts, Entries, probeOf}
 use Rattle.intern.specs.State.{Counted, OneCall, statsOf, stateOf, Good, hasRoom, Answered, Refused, Told, Known, Ready, Alloced, allocated, withTable, withSlots, withLast, withEntry, firstProbe, probedCall}
 use Rattle.intern.specs.Calls.{flatten-snoc, and-true}
-use Rattle.intern.proofs.Views.{part-in}
-use Rattle.intern.proofs.Strings.{length-strings, string-is}
-use Rattle.intern.proofs.Slots.{holds-some}
-use Rattle.intern.proofs.Roomy.{taken-set, set-entries, Inside, inside, never-round}
+use Rattle.table.specs.Views.{part-in}
+use Rattle.table.specs.Strings.{length-strings, string-is}
+use Rattle.table.specs.Slots.{holds-some}
+use Rattle.table.specs.Roomy.{taken-set, set-entries, Inside, inside, never-round}
 use Rattle.intern.proofs.Tables.{size-hi, size-lo, size-length, strings-all, grows-is}
 
 -- ---- room

@@ -7,9 +7,9 @@ use lib.Dec.{lit≤}
 use lib.ListN.{length, getD, take, drop, set, length-set}
 use lib.Seq.{getD-set-same}
 use Rattle.intern.specs.declared.StrInterner.{StrInterner as Interner}
-use Rattle.intern.specs.Layout.{taken, startsOf, stringsUpTo}
+use Rattle.table.specs.Layout.{taken, startsOf, stringsUpTo}
 use Rattle.intern.specs.State.{Fresh, none}
-use Rattle.intern.proofs.Views.{length-part, getD-part}
+use Rattle.table.specs.Views.{length-part, getD-part}
 
 module _ (work strs : List ℕ) (base : ℕ) (room : 16384 ≤ length work) (fits : base ≤ length strs) (small : length strs < 2 ^ 32) where
   abbrev new : List ℕ

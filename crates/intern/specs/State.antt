@@ -6,11 +6,12 @@ use Prim.Native.Nat.{ℕ, zero, suc, _+_, _-_, _*_, _%_, _^_, _<_, _≤_}
 use lib.Dec.{eqb, leb}
 use lib.ListN.{length, getD, take, drop, set}
 use Rattle.model.specs.Intern.{InternStats, StrInterner, Interned, Probe, fxHash, probe, grows, tableFor, tableHit, tableAlloc, plusStats, freshInterner}
-use Rattle.model.specs.Limits.{maxNewStrings, loadFactorNumerator, loadFactorDenominator}
+use Rattle.model.specs.Limits.{maxNewStrings}
 use Rattle.intern.specs.declared.InternStats.{InternStats as Counters}
 use Rattle.intern.specs.declared.StrInterner.{StrInterner as Interner}
 use Rattle.intern.specs.declared.Answer.{Answer}
-use Rattle.intern.specs.Layout.{tableOf, startsOf, stringsUpTo, Work, Entries, taken}
+use Rattle.table.specs.Layout.{tableOf, startsOf, stringsUpTo, Work, Entries, taken}
+use Rattle.table.specs.Sizes.{Size}
 
 -- ---- the counts
 
@@ -54,15 +55,6 @@ stateOf work strs st = record {
   last = st .last;
   stats = statsOf (st .stats);
 }
-
--- how many slots a table has
-pub data Size : ℕ → Type 0 where
-  none : Size 0
-  size256 : Size 256
-  size512 : Size 512
-  size1024 : Size 1024
-  size2048 : Size 2048
-  size4096 : Size 4096
 
 -- What holds between calls. `laid`: the strings stand one behind the other from `base` up to `used`.
 pub record Good (work strs : List ℕ) (st : Interner) : Type 0 where
@@ -129,10 +121,6 @@ pub record Ready (work strs : List ℕ) (st : Interner) (work′ : List ℕ) (r 
   pub some : 0 < r .slots
   pub roomy : r .occupied * 8 < r .slots * 7
   pub high : drop 8192 work′ ≡ drop 8192 work
-
--- is a table of so many slots, of which so many are taken, to double?
-abbrev pub isDue : ℕ → ℕ → Bool
-isDue slots occupied = not (eqb slots 0) && leb (slots * loadFactorNumerator) (occupied * loadFactorDenominator)
 
 -- the probe of a state's own table
 unfoldable pub firstProbe : StrInterner → List ℕ → Probe

@@ -9,7 +9,7 @@ use Rattle.intern.proofs.alloc.Statement.{statement}
 use Rattle.intern.proofs.alloc.Tie as tie
 use Rattle.intern.proofs.alloc.Reads as reads
 use Rattle.intern.proofs.alloc.Lts as lts
-use Rattle.intern.proofs.copy_at.Reads as copy-at-reads
+use Rattle.wire.proofs.copy_at.Reads as copy-at-reads
 
 -- src/lib.rt:419:15
 add-end : tie.Need-add-end

@@ -18,7 +18,7 @@ use Rattle.intern.proofs.intern.Lts as lts
 use Rattle.intern.proofs.bypass.Reads as bypass-reads
 use Rattle.intern.proofs.is_last.Reads as is-last-reads
 use Rattle.intern.proofs.known.Reads as known-reads
-use Rattle.intern.proofs.resizes.Reads as resizes-reads
+use Rattle.table.proofs.resizes.Reads as resizes-reads
 use Rattle.intern.proofs.table_call.Reads as table-call-reads
 use Rattle.intern.proofs.table_for.Reads as table-for-reads
 

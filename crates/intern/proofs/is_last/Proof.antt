@@ -10,7 +10,7 @@ use Rattle.intern.proofs.is_last.Tie as tie
 use Rattle.intern.proofs.is_last.Reads as reads
 use Rattle.intern.proofs.is_last.Lts as lts
 use Rattle.intern.proofs.resolve.Reads as resolve-reads
-use Rattle.intern.proofs.same_bytes.Reads as same-bytes-reads
+use Rattle.wire.proofs.same.Reads as same-reads
 
 -- src/lib.rt:511:9
 returns : tie.Need-returns
@@ -29,14 +29,14 @@ resolve-requires : tie.Need-resolve-requires
 resolve-requires c κs = search needs
 
 -- src/lib.rt:513:5
-same-bytes-requires : tie.Need-same-bytes-requires
-same-bytes-requires c κs = search needs
+same-requires : tie.Need-same-requires
+same-requires c κs = search needs
 
 -- src/lib.rt:505:1
 returns-2 : tie.Need-returns-2
-returns-2 c = last-some (c .before .before .before .before .before .before .args .work .now) (c .before .before .before .before .before .before .args .strs .now) (c .before .before .before .before .before .before .args .st) (c .before .before .before .before .before .before .pre) _ _ _ (c .before .before .if1 .left) (c .before .resolve .ensures) (c .same-bytes .ensures)
+returns-2 c = last-some (c .before .before .before .before .before .before .args .work .now) (c .before .before .before .before .before .before .args .strs .now) (c .before .before .before .before .before .before .args .st) (c .before .before .before .before .before .before .pre) _ _ _ (c .before .before .if1 .left) (c .before .resolve .ensures) (c .same .ensures)
 
 pub is-last-spec : {M : Type 1} → statement M
 is-last-spec =
     tie.close
-    (tie.spec returns sub-resolve cast-resolve resolve-requires same-bytes-requires returns-2)
+    (tie.spec returns sub-resolve cast-resolve resolve-requires same-requires returns-2)

@@ -1,6 +1,6 @@
 use Rattle.intern.proofs.Answers.{lookup-is}
 use Rattle.intern.proofs.Tables.{size-hi, size-lo, size-length, starts-length}
-use Rattle.intern.specs.Layout.{Entries, tableOf}
+use Rattle.table.specs.Layout.{Entries, tableOf}
 use mathlib.Core.Path.{subst}
 use mathlib.Core.Path.{_≡_, refl, sym, ap, _∙_}
 use mathlib.Core.List.{List, [], _∷_, _++_}
@@ -12,9 +12,9 @@ use Rattle.intern.proofs.lookup.Statement.{statement}
 use Rattle.intern.proofs.lookup.Tie as tie
 use Rattle.intern.proofs.lookup.Reads as reads
 use Rattle.intern.proofs.lookup.Lts as lts
-use Rattle.intern.proofs.fx_hash.Reads as fx-hash-reads
-use Rattle.intern.proofs.probe.Reads as probe-reads
-use Rattle.intern.proofs.slot_of.Reads as slot-of-reads
+use Rattle.hash.proofs.fx_hash.Reads as fx-hash-reads
+use Rattle.table.proofs.probe.Reads as probe-reads
+use Rattle.table.proofs.slot_of.Reads as slot-of-reads
 
 -- src/lib.rt:501:15
 sub-off : tie.Need-sub-off

@@ -9,7 +9,7 @@ use Rattle.intern.proofs.resolve.Statement.{statement}
 use Rattle.intern.proofs.resolve.Tie as tie
 use Rattle.intern.proofs.resolve.Reads as reads
 use Rattle.intern.proofs.resolve.Lts as lts
-use Rattle.intern.proofs.string_at.Reads as string-at-reads
+use Rattle.table.proofs.string_at.Reads as string-at-reads
 
 -- src/lib.rt:500:15
 add-end : tie.Need-add-end

@@ -1,6 +1,6 @@
 use Rattle.intern.proofs.Answers.{probe-in, call-alloc, hit-told}
 use Rattle.intern.specs.State.{Told}
-use Rattle.intern.specs.Layout.{probeOf}
+use Rattle.table.specs.Layout.{probeOf}
 use Rattle.model.specs.Intern.{Interned}
 use lib.Dec.{lit≤}
 use mathlib.Core.Path.{subst}

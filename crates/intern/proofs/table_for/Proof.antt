@@ -9,9 +9,9 @@ use Rattle.intern.proofs.table_for.Statement.{statement}
 use Rattle.intern.proofs.table_for.Tie as tie
 use Rattle.intern.proofs.table_for.Reads as reads
 use Rattle.intern.proofs.table_for.Lts as lts
-use Rattle.intern.proofs.clear_part.Reads as clear-part-reads
-use Rattle.intern.proofs.due.Reads as due-reads
-use Rattle.intern.proofs.grow.Reads as grow-reads
+use Rattle.table.proofs.clear_part.Reads as clear-part-reads
+use Rattle.table.proofs.due.Reads as due-reads
+use Rattle.table.proofs.grow.Reads as grow-reads
 use Rattle.intern.proofs.with_slots.Reads as with-slots-reads
 
 -- src/lib.rt:354:9
