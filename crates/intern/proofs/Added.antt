@@ -5,48 +5,37 @@ use Prim.Native.Nat.{ℕ, zero, suc, _+_, _-_, _*_, _%_, _^_, _<_, _≤_}
 use native.Mathlib.Omega.{arith}
 use native.Mathlib.Decide.{ℕ-discrete}
 use native.Mathlib.Numerals.{add-one}
-use lib.ListN.{length, getD, take, drop, set, length-set, List·getD-append}
-use lib.Seq.{paste, length-paste, take-paste, length-take-le, getD-take, drop-at, take-at, take-length, take-take, take-append-le, getD-set-same, getD-set-other, drop-set-lt}
+use lib.ListN.{length, getD, take, drop, set, length-set}
+use lib.Seq.{length-take-le, drop-at, take-at, take-take, take-append-le, getD-set-same, getD-set-other, drop-set-lt}
+use Rattle.wire.specs.Overwrite.{overwrite, length-overwrite, take-overwrite, getD-before}
 use Rattle.intern.specs.declared.InternStats.{InternStats as Counters}
 use Rattle.intern.specs.declared.StrInterner.{StrInterner as Interner}
 use Rattle.table.specs.Layout.{taken, part, tableOf, startsOf, stringAt, stringsUpTo, Work, Starts, Entries}
-use Rattle.intern.specs.State.{Counted, statsOf, stateOf, Good, Size, allocated, Alloced}
+use Rattle.intern.specs.State.{Counted, statsOf, stateOf, Good, allocated, Alloced}
 use Rattle.intern.specs.Calls.{flatten-snoc}
 use Rattle.table.specs.Views.{length-part, getD-part, part-high}
 use Rattle.table.specs.Cleared.{part-ext}
 use Rattle.table.specs.Strings.{length-strings, strings-ext}
-use Rattle.intern.proofs.Tables.{size-hi, starts-length}
+use Rattle.table.specs.Sizes.{size-hi, starts-length}
 
 -- ---- the bytes
 module _ (strs s : List ℕ) (used : ℕ) (fits : used + length s ≤ length strs) where
-  abbrev pasted : List ℕ
-  pasted = paste strs used s (length s)
+  abbrev written : List ℕ
+  written = overwrite strs used s
 
-  pasted-length : length pasted ≡ length strs
-  pasted-length = length-paste strs used s (length s) fits (omega arith)
-
-  pasted-low : (i : ℕ) → i < used → getD pasted i 0 ≡ getD strs i 0
-  pasted-low i lt =
-      ap (λ (l : List ℕ). getD l i 0) (append-assoc (take used strs) (take (length s) s) (drop (used + length s) strs))
-      ∙ List·getD-append (take used strs) (take (length s) s ++ drop (used + length s) strs) 0 i (omega (arith, length-take-le used strs (omega arith)))
-      ∙ getD-take used strs i 0 lt
-
-  pasted-part : take (used + length s - used) (drop used pasted) ≡ s
-  pasted-part =
+  written-part : take (used + length s - used) (drop used written) ≡ s
+  unfolding overwrite
+  written-part =
       let q : used + length s - used ≡ length s = omega arith in
-      ap (λ (k : ℕ). take k (drop used pasted)) q
-      ∙ ap (λ (l : List ℕ). take (length s) (drop used l)) (append-assoc (take used strs) (take (length s) s) (drop (used + length s) strs))
-      ∙ ap (λ (l : List ℕ). take (length s) l) (drop-at (take used strs) (take (length s) s ++ drop (used + length s) strs) used (length-take-le used strs (omega arith)))
-      ∙ take-at (take (length s) s) (drop (used + length s) strs) (length s) (length-take-le (length s) s (omega arith))
-      ∙ take-length s
+      ap (λ (k : ℕ). take k (drop used written)) q
+      ∙ ap (λ (l : List ℕ). take (length s) (drop used l)) (append-assoc (take used strs) s (drop (used + length s) strs))
+      ∙ ap (λ (l : List ℕ). take (length s) l) (drop-at (take used strs) (s ++ drop (used + length s) strs) used (length-take-le used strs (omega arith)))
+      ∙ take-at s (drop (used + length s) strs) (length s) refl
 
-  pasted-front : take (used + length s) pasted ≡ take used strs ++ s
-  pasted-front = take-paste strs used s (length s) (omega arith) (omega arith) ∙ ap (λ (l : List ℕ). take used strs ++ l) (take-length s)
-
-  pasted-kept : (n : ℕ) → n ≤ used → take n pasted ≡ take n strs
-  pasted-kept n le =
-      sym (take-take n (used + length s) pasted (omega arith))
-      ∙ ap (λ (l : List ℕ). take n l) pasted-front
+  written-kept : (n : ℕ) → n ≤ used → take n written ≡ take n strs
+  written-kept n le =
+      sym (take-take n (used + length s) written (omega arith))
+      ∙ ap (λ (l : List ℕ). take n l) (take-overwrite strs used s fits)
       ∙ take-append-le n (take used strs) s (omega (arith, length-take-le used strs (omega arith)))
       ∙ take-take n used strs le
 
@@ -59,7 +48,7 @@ rise starts size h (suc n) k lt =
     let q : k + suc n ≡ k + n + 1 = omega arith in
     subst (λ (j : ℕ). getD starts k 0 ≤ getD starts j 0) (sym q) (omega (arith, rise starts size h n k (omega arith), h (k + n) (omega arith)))
 
-module _ (work strs s : List ℕ) (st : Interner) (g : Good work strs st) (few : st .count < 3583) (fits : st .used + length s ≤ length strs) (v : List ℕ) (is : v ≡ paste strs (st .used) s (length s)) (c : Counters) (counted : Counted c) where
+module _ (work strs s : List ℕ) (st : Interner) (g : Good work strs st) (few : st .count < 3583) (fits : st .used + length s ≤ length strs) (v : List ℕ) (is : v ≡ overwrite strs (st .used) s) (c : Counters) (counted : Counted c) where
   abbrev n : ℕ
   n = st .count
 
@@ -79,7 +68,7 @@ module _ (work strs s : List ℕ) (st : Interner) (g : Good work strs st) (few :
   room = g .words .room
 
   bytes-length : length v ≡ length strs
-  bytes-length = ap length is ∙ pasted-length strs s (st .used) fits
+  bytes-length = ap length is ∙ length-overwrite strs (st .used) s fits
 
   -- the starts: the old ones, and one more
   at-new : (k : ℕ) → k < n + 2 → getD new-starts k 0 ≡ getD new (8192 + k) 0
@@ -132,14 +121,14 @@ module _ (work strs s : List ℕ) (st : Interner) (g : Good work strs st) (few :
       ap (λ (x : ℕ). take (getD new-starts (k + 1) 0 - x) (drop x v)) a
       ∙ ap (λ (x : ℕ). take (x - getD old-starts k 0) (drop (getD old-starts k 0) v)) b
       ∙ part-ext (getD old-starts k 0) (getD old-starts (k + 1) 0) strs v (o .0) (o .1) bytes-length
-      (λ i l u. ap (λ (x : List ℕ). getD x i 0) is ∙ pasted-low strs s (st .used) fits i (omega arith))
+      (λ i l u. ap (λ (x : List ℕ). getD x i 0) is ∙ getD-before strs (st .used) s fits i (omega arith))
 
   string-new : stringAt new-starts v n ≡ s
   string-new =
       ap (λ (x : ℕ). take (getD new-starts (n + 1) 0 - x) (drop x v)) last-start
       ∙ ap (λ (x : ℕ). take (x - st .used) (drop (st .used) v)) added
       ∙ ap (λ (x : List ℕ). take (st .used + length s - st .used) (drop (st .used) x)) is
-      ∙ pasted-part strs s (st .used) fits
+      ∙ written-part strs s (st .used) fits
 
   strings-more : stringsUpTo (n + 1) new-starts v ≡ stringsUpTo n old-starts strs ++ (s ∷ [])
   unfolding stringsUpTo
@@ -148,11 +137,11 @@ module _ (work strs s : List ℕ) (st : Interner) (g : Good work strs st) (few :
   laid-more : take (st .used + length s) v ≡ take (st .base) v ++ flatten (stringsUpTo (n + 1) new-starts v)
   laid-more =
       ap (λ (l : List ℕ). take (st .used + length s) l) is
-      ∙ pasted-front strs s (st .used) fits
+      ∙ take-overwrite strs (st .used) s fits
       ∙ ap (λ (l : List ℕ). l ++ s) (g .laid)
       ∙ append-assoc (take (st .base) strs) (flatten (stringsUpTo n old-starts strs)) s
       ∙ ap (λ (l : List ℕ). take (st .base) strs ++ l) (sym (flatten-snoc (stringsUpTo n old-starts strs) s) ∙ ap flatten (sym strings-more))
-      ∙ ap (λ (l : List ℕ). l ++ flatten (stringsUpTo (n + 1) new-starts v)) (sym (ap (λ (l : List ℕ). take (st .base) l) is ∙ pasted-kept strs s (st .used) fits (st .base) (g .begins)))
+      ∙ ap (λ (l : List ℕ). l ++ flatten (stringsUpTo (n + 1) new-starts v)) (sym (ap (λ (l : List ℕ). take (st .base) l) is ∙ written-kept strs s (st .used) fits (st .base) (g .begins)))
 
   added-good : Good new v st′
   added-good =
@@ -183,7 +172,7 @@ module _ (work strs s : List ℕ) (st : Interner) (g : Good work strs st) (few :
         occupied = refl;
         count = refl;
         base = refl;
-        kept = ap (λ (l : List ℕ). take (st .used) l) is ∙ pasted-kept strs s (st .used) fits (st .used) (omega arith);
+        kept = ap (λ (l : List ℕ). take (st .used) l) is ∙ written-kept strs s (st .used) fits (st .used) (omega arith);
         table = table-same;
         free = drop-set-lt 11776 work (8192 + n + 1) (st .used + length s) (omega arith);
       }

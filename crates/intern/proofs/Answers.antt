@@ -24,7 +24,8 @@ use Rattle.table.specs.Views.{part-in}
 use Rattle.table.specs.Strings.{length-strings, string-is}
 use Rattle.table.specs.Slots.{holds-some}
 use Rattle.table.specs.Roomy.{taken-set, set-entries, Inside, inside, never-round}
-use Rattle.intern.proofs.Tables.{size-hi, size-lo, size-length, strings-all, grows-is}
+use Rattle.table.specs.Sizes.{size-hi, size-lo, size-length, strings-all}
+use Rattle.intern.proofs.Tables.{grows-is}
 
 -- ---- room
 pub room-left : (size used n : ℕ) → used ≤ size → leb n (size - used) ≡ leb (used + n) size

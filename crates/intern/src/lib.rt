@@ -1,23 +1,21 @@
-// The interner of section 2 of document 01: the hash, the table that doubles, and the seven counts. A layer's strings stand in
-// a lent byte buffer, one behind the other from the place `base` on; the table and the places where strings start stand in lent
-// work words; everything else is a `StrInterner` by value. Each call is proved equal to model's `intern`: id, strings, table,
-// last answer and counts. Ids are of the layer alone: the first string is 0.
-//
-// Work words: a table of n slots stands at n - 256, so that the tables of 256 to 4096 slots lie side by side up to 7936; the
-// starts stand from 8192 on, one more than there are strings. The words from 11776 on are free for others.
+// The interner of section 2 of document 01: state, calls and the seven counts. A layer's strings stand in a lent byte buffer, one
+// behind the other from the place `base` on; the table and the places where strings start stand in lent work words, as crate
+// `table` lays them out; everything else is a `StrInterner` by value. Each call is proved equal to model's `intern`: id, strings,
+// table, last answer and counts. Ids are of the layer alone: the first string is 0.
+use table::INITIAL_CAPACITY;
+use table::Probed;
+use table::STARTS;
 ghost use mathlib.Core.Path.{_≡_};
-ghost use mathlib.Core.Bool.{cond, _&&_};
-ghost use mathlib.Core.List.{_++_, []};
-ghost use Prim.Native.Nat.{_+_, _*_, _-_, _/_, _%_, _^_, _<_, _≤_};
+ghost use mathlib.Core.Bool.{_&&_};
+ghost use mathlib.Core.List.{[]};
+ghost use Prim.Native.Nat.{_+_, _*_, _-_, _^_, _<_, _≤_};
 ghost use lib.Dec.{leb};
-ghost use lib.ListN.{length, getD, take, drop, set, replicate};
-ghost use lib.Seq.{paste};
-ghost use Rattle.model.specs.Lists.{same};
-ghost use Rattle.model.specs.Limits.{fxPrime, fxRotateBits, maxNewStrings, minWorkWords};
-ghost use Rattle.model.specs.Intern.{rotateLeft, fxStep, fxHash, plusStats, emptySlot, moveSlots, holds, tableAlloc};
-ghost use Rattle.model.specs.Intern.{probe as probeOfModel, bypass as bypassOfModel, intern as internOfModel};
-ghost use Rattle.intern.specs.Layout.{probeOf, stringsOf, Starts, Entries, Work, tableOf, startsOf, slotFor};
-ghost use Rattle.intern.specs.State.{statsOf, Counted, OneCall, stateOf, Good, Told, Fresh, Known, Ready, isDue, withSlots, withEntry, Alloced, firstProbe, probedCall};
+ghost use lib.ListN.{length, getD, set};
+ghost use Rattle.model.specs.Limits.{maxNewStrings, minWorkWords};
+ghost use Rattle.model.specs.Intern.{plusStats, holds, tableAlloc};
+ghost use Rattle.model.specs.Intern.{bypass as bypassOfModel, intern as internOfModel};
+ghost use Rattle.table.specs.Layout.{probeOf, tableOf};
+ghost use Rattle.intern.specs.State.{statsOf, Counted, OneCall, stateOf, Good, Told, Fresh, Known, Ready, withSlots, withEntry, Alloced, firstProbe, probedCall};
 
 const INTERN_LENGTH_LIMIT: usize = 64;
 

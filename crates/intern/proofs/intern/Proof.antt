@@ -1,8 +1,9 @@
 use mathlib.Core.Bool.{Bool}
-use Rattle.intern.specs.State.{isDue, stateOf}
+use Rattle.intern.specs.State.{stateOf}
+use Rattle.table.specs.Sizes.{isDue, size-hi, one-or-none}
 use Rattle.intern.specs.declared.StrInterner.{StrInterner as Interner}
 use Rattle.intern.proofs.Answers.{last-there, intern-cached, intern-bypass, intern-told}
-use Rattle.intern.proofs.Tables.{size-hi, grows-is, one-or-none}
+use Rattle.intern.proofs.Tables.{grows-is}
 use lib.Dec.{lit≤}
 use mathlib.Core.Bool.{cond}
 use mathlib.Core.Path.{_≡_, refl, sym, ap, _∙_}

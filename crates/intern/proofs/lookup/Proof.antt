@@ -1,5 +1,5 @@
 use Rattle.intern.proofs.Answers.{lookup-is}
-use Rattle.intern.proofs.Tables.{size-hi, size-lo, size-length, starts-length}
+use Rattle.table.specs.Sizes.{size-hi, size-lo, size-length, starts-length}
 use Rattle.table.specs.Layout.{Entries, tableOf}
 use mathlib.Core.Path.{subst}
 use mathlib.Core.Path.{_≡_, refl, sym, ap, _∙_}

@@ -1,4 +1,5 @@
-use Rattle.intern.proofs.Tables.{size-hi, first-ready, stay-ready, grows-lo, grows-hi, grown-ready}
+use Rattle.table.specs.Sizes.{size-hi}
+use Rattle.intern.proofs.Tables.{first-ready, stay-ready, grows-lo, grows-hi, grown-ready}
 use mathlib.Core.Path.{_≡_, refl, sym, ap, _∙_}
 use mathlib.Core.List.{List, [], _∷_, _++_}
 use Prim.Native.Nat.{ℕ, zero, suc, _+_, _-_, _*_, _%_, _/_, _^_, _≤_, _<_}
