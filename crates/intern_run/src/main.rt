@@ -16,7 +16,7 @@ fn put(label: &[u8], n: u64) {
 }
 
 fn put_hash(bytes: &[u8]) {
-    io::print_hex(STDOUT_FILENO, intern::fx_hash(bytes), 16);
+    io::print_hex(STDOUT_FILENO, hash::fx_hash(bytes), 16);
     io::write_all(STDOUT_FILENO, b"\n");
 }
 
