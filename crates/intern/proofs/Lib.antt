@@ -1,4 +1,1 @@
-mod Tables
-mod Added
 mod Answers
-mod Begun

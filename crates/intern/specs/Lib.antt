@@ -1,2 +1,2 @@
-pub mod State
+pub mod Told
 pub mod Calls

@@ -1,48 +1,18 @@
-// The interner of section 2 of document 01: state, calls and the seven counts. A layer's strings stand in a lent byte buffer, one
-// behind the other from the place `base` on; the table and the places where strings start stand in lent work words, as crate
-// `table` lays them out; everything else is a `StrInterner` by value. Each call is proved equal to model's `intern`: id, strings,
-// table, last answer and counts. Ids are of the layer alone: the first string is 0.
-use table::INITIAL_CAPACITY;
+// A call of the interner, section 2 of document 01: each is proved equal to model's `intern`, id, strings, table, last answer and
+// counts. The state is crate `interner`'s.
+use interner::InternStats;
+use interner::StrInterner;
 use table::Probed;
-use table::STARTS;
 ghost use mathlib.Core.Path.{_≡_};
-ghost use mathlib.Core.Bool.{_&&_};
-ghost use mathlib.Core.List.{[]};
-ghost use Prim.Native.Nat.{_+_, _*_, _-_, _^_, _<_, _≤_};
-ghost use lib.Dec.{leb};
-ghost use lib.ListN.{length, getD, set};
-ghost use Rattle.model.specs.Limits.{maxNewStrings, minWorkWords};
-ghost use Rattle.model.specs.Intern.{plusStats, holds, tableAlloc};
+ghost use Prim.Native.Nat.{_+_, _*_, _^_, _<_, _≤_};
+ghost use lib.ListN.{length, getD};
+ghost use Rattle.model.specs.Intern.{tableAlloc};
 ghost use Rattle.model.specs.Intern.{bypass as bypassOfModel, intern as internOfModel};
 ghost use Rattle.table.specs.Layout.{probeOf, tableOf};
-ghost use Rattle.intern.specs.State.{statsOf, Counted, OneCall, stateOf, Good, Told, Fresh, Known, Ready, withSlots, withEntry, Alloced, firstProbe, probedCall};
+ghost use Rattle.interner.specs.State.{Counted, OneCall, stateOf, Good};
+ghost use Rattle.intern.specs.Told.{Told, Known, probedCall};
 
 const INTERN_LENGTH_LIMIT: usize = 64;
-
-const MAX_NEW_STRINGS: usize = 3583;
-
-// `InternStats`: the seven counts, by the Rust's names without their underscores, which a clause would have to quote.
-pub struct InternStats {
-    pub calls: u64,
-    pub cachehits: u64,
-    pub tablehits: u64,
-    pub allocs: u64,
-    pub longbypass: u64,
-    pub resizes: u64,
-    pub probesteps: u64,
-}
-
-// `StrInterner`, beside the words and bytes: slots of the table (0 before its first use) and how many are taken; how many strings
-// there are, where in the buffer they begin and end; one more than the last answer's id (0: none).
-pub struct StrInterner {
-    pub slots: usize,
-    pub occupied: usize,
-    pub count: usize,
-    pub base: usize,
-    pub used: usize,
-    pub last: usize,
-    pub stats: InternStats,
-}
 
 // What a call answers: the string's id and the new state; or, not ok, that a new string has no room.
 pub struct Answer {
@@ -50,126 +20,6 @@ pub struct Answer {
     pub id: u32,
     pub state: StrInterner,
 }
-
-// ---- the table
-
-fn with_slots(st: StrInterner, n: usize) -> StrInterner
-    ensures { λ r. ⌜ r ≡ withSlots st n ⌝ }
-{
-    let stats = st.stats;
-    StrInterner {
-        slots: n,
-        occupied: st.occupied,
-        count: st.count,
-        base: st.base,
-        used: st.used,
-        last: st.last,
-        stats: stats,
-    }
-}
-
-// The table that a call probes: the first, or one of twice as many slots where it is due, or the one there is.
-fn table_for(work: &mut [u32], strs: &[u8], st: StrInterner) -> StrInterner
-    requires { ⌜ Good (now work) (now strs) st ⌝ }
-    ensures { λ r. ⌜ Ready (now (work .entry)) (now (strs .entry)) st (now (work .exit)) r ⌝ }
-{
-    let slots = st.slots;
-    if slots == 0 {
-        table::clear_part(work, 0, INITIAL_CAPACITY);
-        return with_slots(st, INITIAL_CAPACITY);
-    }
-    if table::due(slots, st.occupied) {
-        table::grow(work, strs, st.count, slots);
-        return with_slots(st, slots * 2);
-    }
-    with_slots(st, slots)
-}
-
-// ---- counts
-
-// The counts with those of one call added.
-fn plus_stats(a: InternStats, b: InternStats) -> InternStats
-    requires { ⌜ Counted a ⌝ }
-    requires { ⌜ a .calls < 2 ^ 32 ⌝ }
-    requires { ⌜ OneCall b ⌝ }
-    ensures { λ r. ⌜ statsOf r ≡ plusStats (statsOf a) (statsOf b) ⌝ }
-    ensures { λ r. ⌜ Counted r ⌝ }
-{
-    InternStats {
-        calls: a.calls + b.calls,
-        cachehits: a.cachehits + b.cachehits,
-        tablehits: a.tablehits + b.tablehits,
-        allocs: a.allocs + b.allocs,
-        longbypass: a.longbypass + b.longbypass,
-        resizes: a.resizes + b.resizes,
-        probesteps: a.probesteps + b.probesteps,
-    }
-}
-
-// ---- strings
-
-// Whether there is room for one string more, of n bytes, in a buffer of `size` bytes.
-fn has_room(size: usize, count: usize, used: usize, n: usize) -> bool
-    requires { ⌜ used ≤ size ⌝ }
-    ensures { λ r. ⌜ r ≡ leb (count + 1) maxNewStrings && leb (used + n) size ⌝ }
-{
-    if count >= MAX_NEW_STRINGS {
-        return false;
-    }
-    n <= size - used
-}
-
-// A new string: its bytes behind the others, and its end.
-fn alloc(
-    work: &mut [u32],
-    strs: &mut [u8],
-    st: StrInterner,
-    s: &[u8],
-    stats: InternStats,
-) -> StrInterner
-    requires { ⌜ Good (now work) (now strs) st ⌝ }
-    requires { ⌜ (st .count < 3583) × (st .used + length (now s) ≤ length (now strs)) ⌝ }
-    requires { ⌜ Counted stats ⌝ }
-    ensures { λ r. ⌜ Alloced (now (work .entry)) (now (strs .entry)) st (now (s .entry)) stats (now (work .exit)) (now (strs .exit)) r ⌝ }
-{
-    let used = st.used;
-    let count = st.count;
-    let end = used + s.len();
-    wire::copy_at(strs, used, s);
-    work[STARTS + count + 1] = end as u32;
-    StrInterner {
-        slots: st.slots,
-        occupied: st.occupied,
-        count: count + 1,
-        base: st.base,
-        used: end,
-        last: count + 1,
-        stats: stats,
-    }
-}
-
-// The last string's entry at an empty slot of the table.
-fn enter(work: &mut [u32], st: StrInterner, at: usize) -> StrInterner
-    requires { ⌜ (256 ≤ st .slots) × (st .slots ≤ 4096) × (at < st .slots) × (st .count ≤ 3583) × (st .occupied < st .count) ⌝ }
-    requires { ⌜ minWorkWords ≤ length (now work) ⌝ }
-    ensures { λ r. ⌜ r ≡ withEntry st ⌝ }
-    ensures { λ _. ⌜ now (work .exit) ≡ set (now (work .entry)) (st .slots - 256 + at) (st .count) ⌝ }
-{
-    let off = st.slots - INITIAL_CAPACITY;
-    let stats = st.stats;
-    work[off + at] = st.count as u32;
-    StrInterner {
-        slots: st.slots,
-        occupied: st.occupied + 1,
-        count: st.count,
-        base: st.base,
-        used: st.used,
-        last: st.last,
-        stats: stats,
-    }
-}
-
-// ---- a call
 
 // The answer for a string that is there: its slot's content is one more than its id.
 fn known(st: StrInterner, slot: u32, by: InternStats) -> Answer
@@ -180,7 +30,7 @@ fn known(st: StrInterner, slot: u32, by: InternStats) -> Answer
     ensures { λ r. ⌜ Known st slot by r ⌝ }
 {
     let c = st.stats;
-    let stats = plus_stats(c, by);
+    let stats = interner::plus_stats(c, by);
     Answer {
         ok: true,
         id: slot - 1,
@@ -196,42 +46,6 @@ fn known(st: StrInterner, slot: u32, by: InternStats) -> Answer
     }
 }
 
-// `resolve`: the bytes of string id.
-pub fn resolve<'a>(work: &[u32], strs: &'a [u8], st: StrInterner, id: u32) -> &'a [u8]
-    requires { ⌜ Good (now work) (now strs) st ⌝ }
-    requires { ⌜ id < st .count ⌝ }
-    ensures { λ r. ⌜ now r ≡ getD (stateOf (now (work .entry)) (now (strs .entry)) st .strings) id [] ⌝ }
-{
-    let end = STARTS + st.count + 1;
-    table::string_at(&work[STARTS..end], strs, id)
-}
-
-// Whether the last answer's string is s.
-fn is_last(work: &[u32], strs: &[u8], st: StrInterner, s: &[u8]) -> bool
-    requires { ⌜ Good (now work) (now strs) st ⌝ }
-    ensures { λ r. ⌜ r ≡ holds (stateOf (now (work .entry)) (now (strs .entry)) st .strings) (st .last) (now (s .entry)) ⌝ }
-{
-    let last = st.last;
-    if last == 0 {
-        return false;
-    }
-    wire::same(resolve(work, strs, st, (last - 1) as u32), s)
-}
-
-// Where s is in the table, or where it goes.
-fn lookup(work: &[u32], strs: &[u8], st: StrInterner, s: &[u8]) -> Probed
-    requires { ⌜ Good (now work) (now strs) st ⌝ }
-    requires { ⌜ 0 < st .slots ⌝ }
-    ensures { λ r. ⌜ probeOf r ≡ firstProbe (stateOf (now (work .entry)) (now (strs .entry)) st) (now (s .entry)) ⌝ }
-{
-    let slots = st.slots;
-    let off = slots - INITIAL_CAPACITY;
-    let end = off + slots;
-    let last = STARTS + st.count + 1;
-    let from = table::slot_of(hash::fx_hash(s), slots);
-    table::probe(&work[off..end], &work[STARTS..last], strs, s, from)
-}
-
 // A string over 64 bytes: a new one, and the table is not looked at.
 fn bypass(work: &mut [u32], strs: &mut [u8], st: StrInterner, s: &[u8]) -> Answer
     requires { ⌜ Good (now work) (now strs) st ⌝ }
@@ -240,7 +54,7 @@ fn bypass(work: &mut [u32], strs: &mut [u8], st: StrInterner, s: &[u8]) -> Answe
 {
     let count = st.count;
     let c = st.stats;
-    if has_room(strs.len(), count, st.used, s.len()) {
+    if interner::has_room(strs.len(), count, st.used, s.len()) {
         let by = InternStats {
             calls: 1,
             cachehits: 0,
@@ -250,7 +64,7 @@ fn bypass(work: &mut [u32], strs: &mut [u8], st: StrInterner, s: &[u8]) -> Answe
             resizes: 0,
             probesteps: 0,
         };
-        let t = alloc(work, strs, st, s, plus_stats(c, by));
+        let t = interner::alloc(work, strs, st, s, interner::plus_stats(c, by));
         return Answer {
             ok: true,
             id: count as u32,
@@ -281,7 +95,7 @@ fn table_alloc(
     let count = st.count;
     let c = st.stats;
     let at = p.at;
-    if has_room(strs.len(), count, st.used, s.len()) {
+    if interner::has_room(strs.len(), count, st.used, s.len()) {
         let by = InternStats {
             calls: 1,
             cachehits: 0,
@@ -291,8 +105,8 @@ fn table_alloc(
             resizes: resized,
             probesteps: p.steps,
         };
-        let t = alloc(work, strs, st, s, plus_stats(c, by));
-        let u = enter(work, t, at);
+        let t = interner::alloc(work, strs, st, s, interner::plus_stats(c, by));
+        let u = interner::enter(work, t, at);
         return Answer {
             ok: true,
             id: count as u32,
@@ -313,7 +127,7 @@ fn table_call(work: &mut [u32], strs: &mut [u8], st: StrInterner, s: &[u8], resi
     requires { ⌜ (st .stats .calls < 2 ^ 32) × (resized ≤ 1) ⌝ }
     ensures { λ r. ⌜ Told (now (work .entry)) (now (strs .entry)) st (now (work .exit)) (now (strs .exit)) r (probedCall (stateOf (now (work .entry)) (now (strs .entry)) st) resized (now (s .entry))) ⌝ }
 {
-    let p = lookup(work, strs, st, s);
+    let p = interner::lookup(work, strs, st, s);
     let slot = p.slot;
     if slot == 0 {
         return table_alloc(work, strs, st, s, p, resized);
@@ -338,7 +152,7 @@ pub fn intern(work: &mut [u32], strs: &mut [u8], st: StrInterner, s: &[u8]) -> A
     ensures { λ r. ⌜ Told (now (work .entry)) (now (strs .entry)) st (now (work .exit)) (now (strs .exit)) r (internOfModel (stateOf (now (work .entry)) (now (strs .entry)) st) (now (s .entry))) ⌝ }
 {
     let last = st.last;
-    if is_last(work, strs, st, s) {
+    if interner::is_last(work, strs, st, s) {
         let by = InternStats {
             calls: 1,
             cachehits: 1,
@@ -354,33 +168,6 @@ pub fn intern(work: &mut [u32], strs: &mut [u8], st: StrInterner, s: &[u8]) -> A
         return bypass(work, strs, st, s);
     }
     let resized = table::resizes(st.slots, st.occupied);
-    let t = table_for(work, strs, st);
+    let t = interner::table_for(work, strs, st);
     table_call(work, strs, t, s, resized)
-}
-
-// The interner of a new layer, whose strings are to stand from `base` on. The work words may hold anything: the table is cleared
-// at its first use.
-pub fn fresh(work: &mut [u32], strs: &[u8], base: usize) -> StrInterner
-    requires { ⌜ minWorkWords ≤ length (now work) ⌝ }
-    requires { ⌜ (base ≤ length (now strs)) × (length (now strs) < 2 ^ 32) ⌝ }
-    ensures { λ r. ⌜ Fresh (now (work .entry)) (now (strs .entry)) base (now (work .exit)) r ⌝ }
-{
-    work[STARTS] = base as u32;
-    StrInterner {
-        slots: 0,
-        occupied: 0,
-        count: 0,
-        base: base,
-        used: base,
-        last: 0,
-        stats: InternStats {
-            calls: 0,
-            cachehits: 0,
-            tablehits: 0,
-            allocs: 0,
-            longbypass: 0,
-            resizes: 0,
-            probesteps: 0,
-        },
-    }
 }

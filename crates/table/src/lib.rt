@@ -140,7 +140,10 @@ fn place(work: &mut [u32], strs: &[u8], count: usize, n: usize, e: u32)
     let off = n - INITIAL_CAPACITY;
     let end = off + n;
     let last = STARTS + count + 1;
-    let h = slot_of(hash::fx_hash(string_at(&work[STARTS..last], strs, e - 1)), n);
+    let h = slot_of(
+        hash::fx_hash(string_at(&work[STARTS..last], strs, e - 1)),
+        n,
+    );
     let p = empty_slot(&work[off..end], h);
     work[off + p] = e;
 }

@@ -1,14 +1,14 @@
-use Rattle.intern.proofs.Added.{alloced}
+use Rattle.interner.specs.Added.{alloced}
 use mathlib.Core.Path.{_≡_, refl, sym, ap, _∙_}
 use mathlib.Core.List.{List, [], _∷_, _++_}
 use Prim.Native.Nat.{ℕ, zero, suc, _+_, _-_, _*_, _%_, _/_, _^_, _≤_, _<_}
 use native.Mathlib.Omega.{arith}
 use lib.ListN.{length, getD, take, drop, set, replicate, length-set, length-take, length-drop, length-append, length-replicate}
 use borrow.Author.Needs.{needs}
-use Rattle.intern.proofs.alloc.Statement.{statement}
-use Rattle.intern.proofs.alloc.Tie as tie
-use Rattle.intern.proofs.alloc.Reads as reads
-use Rattle.intern.proofs.alloc.Lts as lts
+use Rattle.interner.proofs.alloc.Statement.{statement}
+use Rattle.interner.proofs.alloc.Tie as tie
+use Rattle.interner.proofs.alloc.Reads as reads
+use Rattle.interner.proofs.alloc.Lts as lts
 use Rattle.wire.proofs.copy_at.Reads as copy-at-reads
 
 -- src/lib.rt:419:15

@@ -1,14 +1,14 @@
-use Rattle.intern.proofs.Begun.{begun}
+use Rattle.interner.specs.Begun.{begun}
 use mathlib.Core.Path.{_≡_, refl, sym, ap, _∙_}
 use mathlib.Core.List.{List, [], _∷_, _++_}
 use Prim.Native.Nat.{ℕ, zero, suc, _+_, _-_, _*_, _%_, _/_, _^_, _≤_, _<_}
 use native.Mathlib.Omega.{arith}
 use lib.ListN.{length, getD, take, drop, set, replicate, length-set, length-take, length-drop, length-append, length-replicate}
 use borrow.Author.Needs.{needs}
-use Rattle.intern.proofs.fresh.Statement.{statement}
-use Rattle.intern.proofs.fresh.Tie as tie
-use Rattle.intern.proofs.fresh.Reads as reads
-use Rattle.intern.proofs.fresh.Lts as lts
+use Rattle.interner.proofs.fresh.Statement.{statement}
+use Rattle.interner.proofs.fresh.Tie as tie
+use Rattle.interner.proofs.fresh.Reads as reads
+use Rattle.interner.proofs.fresh.Lts as lts
 
 -- src/lib.rt:634:18
 cast-work : tie.Need-cast-work

@@ -1,15 +1,15 @@
-use Rattle.intern.proofs.Answers.{last-none, last-some}
+use Rattle.interner.specs.Lookups.{last-none, last-some}
 use mathlib.Core.Path.{_≡_, refl, sym, ap, _∙_}
 use mathlib.Core.List.{List, [], _∷_, _++_}
 use Prim.Native.Nat.{ℕ, zero, suc, _+_, _-_, _*_, _%_, _/_, _^_, _≤_, _<_}
 use native.Mathlib.Omega.{arith}
 use lib.ListN.{length, getD, take, drop, set, replicate, length-set, length-take, length-drop, length-append, length-replicate}
 use borrow.Author.Needs.{needs}
-use Rattle.intern.proofs.is_last.Statement.{statement}
-use Rattle.intern.proofs.is_last.Tie as tie
-use Rattle.intern.proofs.is_last.Reads as reads
-use Rattle.intern.proofs.is_last.Lts as lts
-use Rattle.intern.proofs.resolve.Reads as resolve-reads
+use Rattle.interner.proofs.is_last.Statement.{statement}
+use Rattle.interner.proofs.is_last.Tie as tie
+use Rattle.interner.proofs.is_last.Reads as reads
+use Rattle.interner.proofs.is_last.Lts as lts
+use Rattle.interner.proofs.resolve.Reads as resolve-reads
 use Rattle.wire.proofs.same.Reads as same-reads
 
 -- src/lib.rt:511:9

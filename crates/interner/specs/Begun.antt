@@ -6,9 +6,9 @@ use native.Mathlib.Omega.{arith}
 use lib.Dec.{lit≤}
 use lib.ListN.{length, getD, take, drop, set, length-set}
 use lib.Seq.{getD-set-same}
-use Rattle.intern.specs.declared.StrInterner.{StrInterner as Interner}
+use Rattle.interner.specs.declared.StrInterner.{StrInterner as Interner}
 use Rattle.table.specs.Layout.{taken, startsOf, stringsUpTo}
-use Rattle.intern.specs.State.{Fresh}
+use Rattle.interner.specs.State.{Fresh}
 use Rattle.table.specs.Sizes.{none}
 use Rattle.table.specs.Views.{length-part, getD-part}
 

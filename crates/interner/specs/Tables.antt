@@ -9,9 +9,9 @@ use lib.Dec.{eqb, leb, lit≤, lit<}
 use lib.ListN.{length, getD, take, drop, set, replicate, length-replicate}
 use Rattle.model.specs.Lists.{isEmpty}
 use Rattle.model.specs.Intern.{StrInterner, grows, tableFor, moveSlots}
-use Rattle.intern.specs.declared.StrInterner.{StrInterner as Interner}
+use Rattle.interner.specs.declared.StrInterner.{StrInterner as Interner}
 use Rattle.table.specs.Layout.{taken, part, tableOf, startsOf, stringsUpTo, stringsOf, Work, Starts, Entries}
-use Rattle.intern.specs.State.{stateOf, Good, Ready, withSlots, withTable}
+use Rattle.interner.specs.State.{stateOf, Good, Ready, withSlots, withTable}
 use Rattle.table.specs.Sizes.{Size, size256, isDue, size-lo, size-grows, size-double, size-length, strings-all, is-empty, due-full, due-not}
 use Rattle.table.specs.Cleared.{cleared-length, cleared-part, cleared-high}
 use Rattle.table.specs.Roomy.{taken-le, taken-zeros, taken-all, entries-all, entries-zeros}

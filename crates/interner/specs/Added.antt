@@ -1,6 +1,6 @@
 -- A new string: its bytes behind the others, and its end among the starts. Assumes nothing.
 use mathlib.Core.Path.{_≡_, refl, sym, ap, _∙_, subst}
-use mathlib.Core.List.{List, [], _∷_, _++_, append-assoc, flatten}
+use mathlib.Core.List.{List, [], _∷_, _++_, append-assoc, append-nil, flatten}
 use Prim.Native.Nat.{ℕ, zero, suc, _+_, _-_, _*_, _%_, _^_, _<_, _≤_}
 use native.Mathlib.Omega.{arith}
 use native.Mathlib.Decide.{ℕ-discrete}
@@ -8,17 +8,21 @@ use native.Mathlib.Numerals.{add-one}
 use lib.ListN.{length, getD, take, drop, set, length-set}
 use lib.Seq.{length-take-le, drop-at, take-at, take-take, take-append-le, getD-set-same, getD-set-other, drop-set-lt}
 use Rattle.wire.specs.Overwrite.{overwrite, length-overwrite, take-overwrite, getD-before}
-use Rattle.intern.specs.declared.InternStats.{InternStats as Counters}
-use Rattle.intern.specs.declared.StrInterner.{StrInterner as Interner}
+use Rattle.interner.specs.declared.InternStats.{InternStats as Counters}
+use Rattle.interner.specs.declared.StrInterner.{StrInterner as Interner}
 use Rattle.table.specs.Layout.{taken, part, tableOf, startsOf, stringAt, stringsUpTo, Work, Starts, Entries}
-use Rattle.intern.specs.State.{Counted, statsOf, stateOf, Good, allocated, Alloced}
-use Rattle.intern.specs.Calls.{flatten-snoc}
+use Rattle.interner.specs.State.{Counted, statsOf, stateOf, Good, allocated, Alloced}
 use Rattle.table.specs.Views.{length-part, getD-part, part-high}
 use Rattle.table.specs.Cleared.{part-ext}
 use Rattle.table.specs.Strings.{length-strings, strings-ext}
 use Rattle.table.specs.Sizes.{size-hi, starts-length}
 
 -- ---- the bytes
+pub flatten-snoc : (l : List (List ℕ)) (s : List ℕ) → flatten (l ++ (s ∷ [])) ≡ flatten l ++ s
+unfolding flatten
+flatten-snoc [] s = append-nil s
+flatten-snoc (x ∷ xs) s = ap (λ (l : List ℕ). x ++ l) (flatten-snoc xs s) ∙ sym (append-assoc x (flatten xs) s)
+
 module _ (strs s : List ℕ) (used : ℕ) (fits : used + length s ≤ length strs) where
   abbrev written : List ℕ
   written = overwrite strs used s

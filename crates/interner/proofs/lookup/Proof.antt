@@ -1,4 +1,4 @@
-use Rattle.intern.proofs.Answers.{lookup-is}
+use Rattle.interner.specs.Lookups.{lookup-is}
 use Rattle.table.specs.Sizes.{size-hi, size-lo, size-length, starts-length}
 use Rattle.table.specs.Layout.{Entries, tableOf}
 use mathlib.Core.Path.{subst}
@@ -8,10 +8,10 @@ use Prim.Native.Nat.{ℕ, zero, suc, _+_, _-_, _*_, _%_, _/_, _^_, _≤_, _<_}
 use native.Mathlib.Omega.{arith}
 use lib.ListN.{length, getD, take, drop, set, replicate, length-set, length-take, length-drop, length-append, length-replicate}
 use borrow.Author.Needs.{needs}
-use Rattle.intern.proofs.lookup.Statement.{statement}
-use Rattle.intern.proofs.lookup.Tie as tie
-use Rattle.intern.proofs.lookup.Reads as reads
-use Rattle.intern.proofs.lookup.Lts as lts
+use Rattle.interner.proofs.lookup.Statement.{statement}
+use Rattle.interner.proofs.lookup.Tie as tie
+use Rattle.interner.proofs.lookup.Reads as reads
+use Rattle.interner.proofs.lookup.Lts as lts
 use Rattle.hash.proofs.fx_hash.Reads as fx-hash-reads
 use Rattle.table.proofs.probe.Reads as probe-reads
 use Rattle.table.proofs.slot_of.Reads as slot-of-reads

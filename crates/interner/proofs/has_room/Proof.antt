@@ -1,4 +1,4 @@
-use Rattle.intern.proofs.Answers.{room-left}
+use Rattle.interner.specs.Room.{room-left}
 use borrow.Author.Tests.{le-leb, lt-leb}
 use mathlib.Core.Path.{_≡_, refl, sym, ap, _∙_}
 use mathlib.Core.List.{List, [], _∷_, _++_}
@@ -6,10 +6,10 @@ use Prim.Native.Nat.{ℕ, zero, suc, _+_, _-_, _*_, _%_, _/_, _^_, _≤_, _<_}
 use native.Mathlib.Omega.{arith}
 use lib.ListN.{length, getD, take, drop, set, replicate, length-set, length-take, length-drop, length-append, length-replicate}
 use borrow.Author.Needs.{needs}
-use Rattle.intern.proofs.has_room.Statement.{statement}
-use Rattle.intern.proofs.has_room.Tie as tie
-use Rattle.intern.proofs.has_room.Reads as reads
-use Rattle.intern.proofs.has_room.Lts as lts
+use Rattle.interner.proofs.has_room.Statement.{statement}
+use Rattle.interner.proofs.has_room.Tie as tie
+use Rattle.interner.proofs.has_room.Reads as reads
+use Rattle.interner.proofs.has_room.Lts as lts
 
 -- src/lib.rt:405:9
 returns : tie.Need-returns

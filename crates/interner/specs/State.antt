@@ -1,4 +1,4 @@
--- The state that the code's numbers, words and bytes stand for, and what a call of the code has to do with it.
+-- The state that the code's numbers, words and bytes stand for, and what the steps of a call do with it.
 use mathlib.Core.Path.{_≡_, refl}
 use mathlib.Core.Bool.{Bool, true, false, cond, _&&_, not}
 use mathlib.Core.List.{List, [], _∷_, _++_, flatten}
@@ -7,9 +7,8 @@ use lib.Dec.{eqb, leb}
 use lib.ListN.{length, getD, take, drop, set}
 use Rattle.model.specs.Intern.{InternStats, StrInterner, Interned, Probe, fxHash, probe, grows, tableFor, tableHit, tableAlloc, plusStats, freshInterner}
 use Rattle.model.specs.Limits.{maxNewStrings}
-use Rattle.intern.specs.declared.InternStats.{InternStats as Counters}
-use Rattle.intern.specs.declared.StrInterner.{StrInterner as Interner}
-use Rattle.intern.specs.declared.Answer.{Answer}
+use Rattle.interner.specs.declared.InternStats.{InternStats as Counters}
+use Rattle.interner.specs.declared.StrInterner.{StrInterner as Interner}
 use Rattle.table.specs.Layout.{tableOf, startsOf, stringsUpTo, Work, Entries, taken}
 use Rattle.table.specs.Sizes.{Size}
 
@@ -71,35 +70,15 @@ pub record Good (work strs : List ℕ) (st : Interner) : Type 0 where
   pub laid : take (st .used) strs ≡ take (st .base) strs ++ flatten (stringsUpTo (st .count) (startsOf (st .count) work) strs)
   pub counts : Counted (st .stats)
 
--- ---- the answer
+-- ---- room, and a new layer
 
 -- Number 18's part: at most 3583 strings, whose bytes end within a buffer of `size` bytes.
 unfoldable pub hasRoom : ℕ → ℕ → StrInterner → Bool
 hasRoom size base t = leb (length (t .strings)) maxNewStrings && leb (base + length (flatten (t .strings))) size
 
--- The code's answer r is the defined answer a. Of the buffers nothing is changed below `used`, nor from word 11776 on.
-pub record Answered (work strs : List ℕ) (st : Interner) (work′ strs′ : List ℕ) (r : Answer) (a : Interned) : Type 0 where
-  pub good : Good work′ strs′ (r .state)
-  pub state : stateOf work′ strs′ (r .state) ≡ a .state
-  pub id : r .id ≡ a .id
-  pub base : r .state .base ≡ st .base
-  pub kept : take (st .used) strs′ ≡ take (st .used) strs
-  pub free : drop 11776 work′ ≡ drop 11776 work
-
 -- the same interner over a table of n slots
 abbrev pub withSlots : Interner → ℕ → Interner
 withSlots st n = record { slots = n; occupied = st .occupied; count = st .count; base = st .base; used = st .used; last = st .last; stats = st .stats }
-
--- A refusal leaves the interner as it was, but for a table that may have grown.
-pub record Refused (st : Interner) (r : Answer) : Type 0 where
-  pub id : r .id ≡ 0
-  pub state : r .state ≡ withSlots st (r .state .slots)
-
--- Every answer: it is a refusal exactly where the defined state has no room.
-pub record Told (work strs : List ℕ) (st : Interner) (work′ strs′ : List ℕ) (r : Answer) (a : Interned) : Type 0 where
-  pub ok : r .ok ≡ hasRoom (length strs) (st .base) (a .state)
-  pub answered : r .ok ≡ true → Answered work strs st work′ strs′ r a
-  pub refused : r .ok ≡ false → Refused st r
 
 -- A new layer: no strings, from `base` on; one word is written.
 pub record Fresh (work strs : List ℕ) (base : ℕ) (work′ : List ℕ) (r : Interner) : Type 0 where
@@ -125,22 +104,6 @@ pub record Ready (work strs : List ℕ) (st : Interner) (work′ : List ℕ) (r 
 -- the probe of a state's own table
 unfoldable pub firstProbe : StrInterner → List ℕ → Probe
 firstProbe t s = probe (length (t .table)) (t .strings) (t .table) s (fxHash s % length (t .table)) 0
-
--- model's `tableCall` of a state that has its table already
-unfoldable pub probedCall : StrInterner → ℕ → List ℕ → Interned
-probedCall t resized s =
-    cond (eqb (firstProbe t s .slot) 0) (tableAlloc t (t .table) resized (firstProbe t s) s) (tableHit t (t .table) resized (firstProbe t s))
-
-abbrev pub withLast : Interner → ℕ → Counters → Interner
-withLast st last c = record { slots = st .slots; occupied = st .occupied; count = st .count; base = st .base; used = st .used; last = last; stats = c }
-
--- the answer for a string that is there, one less than `slot`; `by` is counted
-pub record Known (st : Interner) (slot : ℕ) (by : Counters) (r : Answer) : Type 0 where
-  pub ok : r .ok ≡ true
-  pub id : r .id ≡ slot - 1
-  pub state : r .state ≡ withLast st slot (r .state .stats)
-  pub stats : statsOf (r .state .stats) ≡ plusStats (statsOf (st .stats)) (statsOf by)
-  pub counts : Counted (r .state .stats)
 
 -- a new string, and the counts behind it
 abbrev pub allocated : StrInterner → List ℕ → InternStats → StrInterner

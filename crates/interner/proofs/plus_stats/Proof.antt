@@ -5,10 +5,10 @@ use Prim.Native.Nat.{ℕ, zero, suc, _+_, _-_, _*_, _%_, _/_, _^_, _≤_, _<_}
 use native.Mathlib.Omega.{arith}
 use lib.ListN.{length, getD, take, drop, set, replicate, length-set, length-take, length-drop, length-append, length-replicate}
 use borrow.Author.Needs.{needs}
-use Rattle.intern.proofs.plus_stats.Statement.{statement}
-use Rattle.intern.proofs.plus_stats.Tie as tie
-use Rattle.intern.proofs.plus_stats.Reads as reads
-use Rattle.intern.proofs.plus_stats.Lts as lts
+use Rattle.interner.proofs.plus_stats.Statement.{statement}
+use Rattle.interner.proofs.plus_stats.Tie as tie
+use Rattle.interner.proofs.plus_stats.Reads as reads
+use Rattle.interner.proofs.plus_stats.Lts as lts
 
 -- src/lib.rt:375:16
 add-t3 : tie.Need-add-t3

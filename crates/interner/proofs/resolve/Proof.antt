@@ -1,14 +1,14 @@
-use Rattle.intern.proofs.Answers.{resolved}
+use Rattle.interner.specs.Lookups.{resolved}
 use mathlib.Core.Path.{_≡_, refl, sym, ap, _∙_}
 use mathlib.Core.List.{List, [], _∷_, _++_}
 use Prim.Native.Nat.{ℕ, zero, suc, _+_, _-_, _*_, _%_, _/_, _^_, _≤_, _<_}
 use native.Mathlib.Omega.{arith}
 use lib.ListN.{length, getD, take, drop, set, replicate, length-set, length-take, length-drop, length-append, length-replicate}
 use borrow.Author.Needs.{needs}
-use Rattle.intern.proofs.resolve.Statement.{statement}
-use Rattle.intern.proofs.resolve.Tie as tie
-use Rattle.intern.proofs.resolve.Reads as reads
-use Rattle.intern.proofs.resolve.Lts as lts
+use Rattle.interner.proofs.resolve.Statement.{statement}
+use Rattle.interner.proofs.resolve.Tie as tie
+use Rattle.interner.proofs.resolve.Reads as reads
+use Rattle.interner.proofs.resolve.Lts as lts
 use Rattle.table.proofs.string_at.Reads as string-at-reads
 
 -- src/lib.rt:500:15

@@ -1,19 +1,19 @@
 use Rattle.table.specs.Sizes.{size-hi}
-use Rattle.intern.proofs.Tables.{first-ready, stay-ready, grows-lo, grows-hi, grown-ready}
+use Rattle.interner.specs.Tables.{first-ready, stay-ready, grows-lo, grows-hi, grown-ready}
 use mathlib.Core.Path.{_≡_, refl, sym, ap, _∙_}
 use mathlib.Core.List.{List, [], _∷_, _++_}
 use Prim.Native.Nat.{ℕ, zero, suc, _+_, _-_, _*_, _%_, _/_, _^_, _≤_, _<_}
 use native.Mathlib.Omega.{arith}
 use lib.ListN.{length, getD, take, drop, set, replicate, length-set, length-take, length-drop, length-append, length-replicate}
 use borrow.Author.Needs.{needs}
-use Rattle.intern.proofs.table_for.Statement.{statement}
-use Rattle.intern.proofs.table_for.Tie as tie
-use Rattle.intern.proofs.table_for.Reads as reads
-use Rattle.intern.proofs.table_for.Lts as lts
+use Rattle.interner.proofs.table_for.Statement.{statement}
+use Rattle.interner.proofs.table_for.Tie as tie
+use Rattle.interner.proofs.table_for.Reads as reads
+use Rattle.interner.proofs.table_for.Lts as lts
 use Rattle.table.proofs.clear_part.Reads as clear-part-reads
 use Rattle.table.proofs.due.Reads as due-reads
 use Rattle.table.proofs.grow.Reads as grow-reads
-use Rattle.intern.proofs.with_slots.Reads as with-slots-reads
+use Rattle.interner.proofs.with_slots.Reads as with-slots-reads
 
 -- src/lib.rt:354:9
 clear-part-requires : tie.Need-clear-part-requires
