@@ -1,9 +1,9 @@
 -- Laws of model's interner that every call keeps: section 2's sum of the counts, one call counted, and strings that only grow.
 use mathlib.Core.Path.{_≡_, refl, sym, ap, _∙_, subst}
-use mathlib.Core.Bool.{Bool, true, false, cond, _&&_, false≢true}
+use mathlib.Core.Bool.{Bool, true, false, cond, _&&_}
 use mathlib.Core.Logic.{_⊎_, inl, inr, ⊎-elim}
-use mathlib.Core.List.{List, [], _∷_, _++_, append-nil, append-assoc, flatten}
-use Prim.Native.Nat.{ℕ, _+_, _%_, _≤_}
+use mathlib.Core.List.{List, [], _∷_, _++_, flatten}
+use Prim.Native.Nat.{ℕ, _+_, _%_}
 use native.Mathlib.Omega.{arith}
 use borrow.Author.Tests.{le-leb, leb-true}
 use lib.Dec.{eqb, leb, ltb}

@@ -1,16 +1,16 @@
 -- A new string: its bytes behind the others, and its end among the starts. Assumes nothing.
 use mathlib.Core.Path.{_≡_, refl, sym, ap, _∙_, subst}
 use mathlib.Core.List.{List, [], _∷_, _++_, append-assoc, append-nil, flatten}
-use Prim.Native.Nat.{ℕ, zero, suc, _+_, _-_, _*_, _%_, _^_, _<_, _≤_}
+use Prim.Native.Nat.{ℕ, zero, suc, _+_, _-_, _<_, _≤_}
 use native.Mathlib.Omega.{arith}
 use native.Mathlib.Decide.{ℕ-discrete}
 use native.Mathlib.Numerals.{add-one}
 use lib.ListN.{length, getD, take, drop, set, length-set}
-use lib.Seq.{length-take-le, drop-at, take-at, take-take, take-append-le, getD-set-same, getD-set-other, drop-set-lt}
-use Rattle.wire.specs.Overwrite.{overwrite, length-overwrite, take-overwrite, getD-before}
+use lib.Seq.{length-take-le, ext-getD, take-take, take-append-le, getD-set-same, getD-set-other, drop-set-lt}
+use Rattle.wire.specs.Overwrite.{overwrite, length-overwrite, take-overwrite, getD-overwrite, getD-before}
 use Rattle.interner.specs.declared.InternStats.{InternStats as Counters}
 use Rattle.interner.specs.declared.StrInterner.{StrInterner as Interner}
-use Rattle.table.specs.Layout.{taken, part, tableOf, startsOf, stringAt, stringsUpTo, Work, Starts, Entries}
+use Rattle.table.specs.Layout.{taken, part, tableOf, startsOf, stringAt, stringsUpTo, Starts}
 use Rattle.interner.specs.State.{Counted, statsOf, stateOf, Good, allocated, Alloced}
 use Rattle.table.specs.Views.{length-part, getD-part, part-high}
 use Rattle.table.specs.Cleared.{part-ext}
@@ -27,14 +27,15 @@ module _ (strs s : List ℕ) (used : ℕ) (fits : used + length s ≤ length str
   abbrev written : List ℕ
   written = overwrite strs used s
 
-  written-part : take (used + length s - used) (drop used written) ≡ s
-  unfolding overwrite
+  written-length : length (part used (used + length s) written) ≡ length s
+  written-length = length-part used (used + length s) written (omega arith) (omega (arith, length-overwrite strs used s fits)) ∙ omega arith
+
+  written-part : part used (used + length s) written ≡ s
   written-part =
-      let q : used + length s - used ≡ length s = omega arith in
-      ap (λ (k : ℕ). take k (drop used written)) q
-      ∙ ap (λ (l : List ℕ). take (length s) (drop used l)) (append-assoc (take used strs) s (drop (used + length s) strs))
-      ∙ ap (λ (l : List ℕ). take (length s) l) (drop-at (take used strs) (s ++ drop (used + length s) strs) used (length-take-le used strs (omega arith)))
-      ∙ take-at s (drop (used + length s) strs) (length s) refl
+      ext-getD 0 (part used (used + length s) written) s written-length
+      (λ i lt.
+      let small : i < length s = omega (arith, written-length) in
+      getD-part used (used + length s) written i 0 (omega arith) ∙ getD-overwrite strs used s fits i small)
 
   written-kept : (n : ℕ) → n ≤ used → take n written ≡ take n strs
   written-kept n le =

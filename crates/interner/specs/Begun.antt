@@ -1,12 +1,11 @@
 -- The interner of a new layer. Assumes nothing.
-use mathlib.Core.Path.{_≡_, refl, sym, ap, _∙_}
-use mathlib.Core.List.{List, [], _∷_, _++_, append-nil, flatten}
-use Prim.Native.Nat.{ℕ, zero, suc, _+_, _-_, _^_, _<_, _≤_}
+use mathlib.Core.Path.{_≡_, refl, sym, _∙_}
+use mathlib.Core.List.{List, append-nil, flatten}
+use Prim.Native.Nat.{ℕ, _^_, _<_, _≤_}
 use native.Mathlib.Omega.{arith}
 use lib.Dec.{lit≤}
-use lib.ListN.{length, getD, take, drop, set, length-set}
+use lib.ListN.{length, getD, take, set, length-set}
 use lib.Seq.{getD-set-same}
-use Rattle.interner.specs.declared.StrInterner.{StrInterner as Interner}
 use Rattle.table.specs.Layout.{taken, startsOf, stringsUpTo}
 use Rattle.interner.specs.State.{Fresh}
 use Rattle.table.specs.Sizes.{none}

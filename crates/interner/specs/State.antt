@@ -1,11 +1,11 @@
 -- The state that the code's numbers, words and bytes stand for, and what the steps of a call do with it.
-use mathlib.Core.Path.{_≡_, refl}
-use mathlib.Core.Bool.{Bool, true, false, cond, _&&_, not}
+use mathlib.Core.Path.{_≡_}
+use mathlib.Core.Bool.{Bool, _&&_}
 use mathlib.Core.List.{List, [], _∷_, _++_, flatten}
-use Prim.Native.Nat.{ℕ, zero, suc, _+_, _-_, _*_, _%_, _^_, _<_, _≤_}
-use lib.Dec.{eqb, leb}
+use Prim.Native.Nat.{ℕ, suc, _+_, _*_, _%_, _^_, _<_, _≤_}
+use lib.Dec.{leb}
 use lib.ListN.{length, getD, take, drop, set}
-use Rattle.model.specs.Intern.{InternStats, StrInterner, Interned, Probe, fxHash, probe, grows, tableFor, tableHit, tableAlloc, plusStats, freshInterner}
+use Rattle.model.specs.Intern.{InternStats, StrInterner, Probe, fxHash, probe, tableFor, freshInterner}
 use Rattle.model.specs.Limits.{maxNewStrings}
 use Rattle.interner.specs.declared.InternStats.{InternStats as Counters}
 use Rattle.interner.specs.declared.StrInterner.{StrInterner as Interner}

@@ -1,16 +1,16 @@
 -- The three ways to the table that a call probes. Assumes nothing.
 use mathlib.Core.Path.{_≡_, refl, sym, ap, _∙_, subst}
-use mathlib.Core.Bool.{Bool, true, false, cond, not, _&&_, false≢true}
-use mathlib.Core.List.{List, [], _∷_, _++_, flatten}
-use Prim.Native.Nat.{ℕ, zero, suc, _+_, _-_, _*_, _%_, _^_, _<_, _≤_}
+use mathlib.Core.Bool.{Bool, true, false, not, _&&_}
+use mathlib.Core.List.{List, _++_, flatten}
+use Prim.Native.Nat.{ℕ, _+_, _-_, _*_, _≤_}
 use native.Mathlib.Omega.{arith}
-use borrow.Author.Tests.{eq-eqb, ne-eqb, leb-true, leb-false}
+use borrow.Author.Tests.{eq-eqb, ne-eqb}
 use lib.Dec.{eqb, leb, lit≤, lit<}
-use lib.ListN.{length, getD, take, drop, set, replicate, length-replicate}
+use lib.ListN.{length, getD, take, drop, replicate, length-replicate}
 use Rattle.model.specs.Lists.{isEmpty}
-use Rattle.model.specs.Intern.{StrInterner, grows, tableFor, moveSlots}
+use Rattle.model.specs.Intern.{grows, tableFor, moveSlots}
 use Rattle.interner.specs.declared.StrInterner.{StrInterner as Interner}
-use Rattle.table.specs.Layout.{taken, part, tableOf, startsOf, stringsUpTo, stringsOf, Work, Starts, Entries}
+use Rattle.table.specs.Layout.{taken, tableOf, startsOf, stringsUpTo, stringsOf, Starts, Entries}
 use Rattle.interner.specs.State.{stateOf, Good, Ready, withSlots, withTable}
 use Rattle.table.specs.Sizes.{Size, size256, isDue, size-lo, size-grows, size-double, size-length, strings-all, is-empty, due-full, due-not}
 use Rattle.table.specs.Cleared.{cleared-length, cleared-part, cleared-high}

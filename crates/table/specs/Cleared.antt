@@ -1,11 +1,11 @@
 -- A list with the words from a up to e set to 0, and its parts. Assumes nothing.
-use mathlib.Core.Path.{_≡_, refl, sym, ap, _∙_, subst}
-use mathlib.Core.List.{List, [], _∷_, _++_, append-assoc}
-use Prim.Native.Nat.{ℕ, zero, suc, _+_, _-_, _*_, _<_, _≤_}
+use mathlib.Core.Path.{_≡_, sym, ap, _∙_}
+use mathlib.Core.List.{List, _++_, append-assoc}
+use Prim.Native.Nat.{ℕ, _+_, _-_, _*_, _<_, _≤_}
 use native.Mathlib.Omega.{arith}
-use lib.ListN.{length, take, drop, set, getD, replicate, length-append, length-take, length-drop, length-replicate, getD-replicate, List·getD-append}
-use lib.Seq.{length-take-le, getD-take, getD-append-add, drop-at, drop-drop, ext-getD, take-length, take-append-add, take-at, drop-append-seam}
-use Rattle.table.specs.Layout.{part, tableOf, startsOf}
+use lib.ListN.{length, take, drop, getD, replicate, length-append, length-drop, length-replicate, List·getD-append}
+use lib.Seq.{length-take-le, getD-take, drop-at, drop-drop, ext-getD, take-at}
+use Rattle.table.specs.Layout.{part, tableOf}
 use Rattle.table.specs.Views.{length-part, getD-part}
 
 -- two parts are equal if the words are

@@ -1,13 +1,13 @@
 -- The loop that moves a table's entries into one of twice as many slots. Assumes nothing.
 use mathlib.Core.Path.{_≡_, refl, sym, ap, _∙_, subst}
-use mathlib.Core.List.{List, [], _∷_, _++_}
+use mathlib.Core.List.{List, []}
 use Prim.Native.Nat.{ℕ, zero, suc, _+_, _-_, _*_, _%_, _<_, _≤_}
 use native.Mathlib.Omega.{arith}
 use native.Mathlib.Numerals.{add-one}
 use lib.ListN.{length, take, drop, set, getD, replicate, length-set, drop-of-length-le}
 use lib.Seq.{drop-cons, drop-set-lt}
 use Rattle.model.specs.Intern.{fxHash, emptySlot, moveSlots}
-use Rattle.table.specs.Layout.{Work, Starts, stringsOf, part, tableOf, startsOf, slotFor}
+use Rattle.table.specs.Layout.{Work, Starts, stringsOf, tableOf, startsOf, slotFor}
 use Rattle.table.specs.Views.{part-in, part-high, getD-part, table-length}
 
 -- the slot that the code found

@@ -1,8 +1,8 @@
 -- A table with an empty slot: a probe finds an empty slot or the string, and never goes all the way round. Assumes nothing.
 use mathlib.Core.Path.{_≡_, refl, sym, ap, _∙_, subst}
 use mathlib.Core.Bool.{Bool, true, false, cond}
-use mathlib.Core.List.{List, [], _∷_, _++_}
-use Prim.Native.Nat.{ℕ, zero, suc, _+_, _-_, _*_, _%_, _<_, _≤_}
+use mathlib.Core.List.{List, [], _∷_}
+use Prim.Native.Nat.{ℕ, zero, suc, _+_, _-_, _%_, _<_, _≤_}
 use native.Mathlib.Omega.{arith}
 use native.Mathlib.Decide.{ℕ-discrete, decLt}
 use native.Mathlib.Nat.{mod-lt}
@@ -11,7 +11,7 @@ use lib.Dec.{eqb}
 use lib.ListN.{length, getD, set, replicate, length-set, length-replicate, getD-replicate}
 use lib.Seq.{getD-set-same, getD-set-other}
 use Rattle.model.specs.Intern.{Probe, fxHash, holds, probe, emptySlot, moveSlots}
-use Rattle.table.specs.Layout.{Entries, taken, slotFor}
+use Rattle.table.specs.Layout.{Entries, taken}
 use Rattle.table.specs.Slots.{next-round, next-in}
 
 -- ---- counting

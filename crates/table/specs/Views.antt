@@ -1,12 +1,11 @@
 -- The parts of the work words, and what a store does to each. Assumes nothing.
-use mathlib.Core.Path.{_≡_, refl, sym, ap, _∙_}
-use mathlib.Core.List.{List, [], _∷_, _++_}
-use Prim.Native.Nat.{ℕ, zero, suc, _+_, _-_, _*_, _<_, _≤_}
+use mathlib.Core.Path.{_≡_, sym, ap, _∙_}
+use mathlib.Core.List.{List}
+use Prim.Native.Nat.{ℕ, _+_, _-_, _<_, _≤_}
 use native.Mathlib.Omega.{arith}
-use native.Mathlib.Nat.{add-sub-of-le}
 use lib.ListN.{length, take, drop, set, getD, length-drop}
 use lib.Seq.{length-take-le, take-set-lt, take-set-le, drop-set-add, drop-set-lt, getD-take, getD-drop, drop-drop}
-use Rattle.table.specs.Layout.{part, tableOf, startsOf}
+use Rattle.table.specs.Layout.{part, tableOf}
 
 pub length-part : (a e : ℕ) (l : List ℕ) → a ≤ e → e ≤ length l → length (part a e l) ≡ e - a
 length-part a e l h k = length-take-le (e - a) (drop a l) (rw length-drop (omega arith))

@@ -8,8 +8,7 @@ ghost use mathlib.Core.Bool.{cond};
 ghost use mathlib.Core.List.{_++_, []};
 ghost use Prim.Native.Nat.{_+_, _*_, _-_, _%_, _<_, _≤_};
 ghost use lib.ListN.{length, getD, take, drop, set, replicate};
-ghost use Rattle.model.specs.Intern.{emptySlot, moveSlots};
-ghost use Rattle.model.specs.Intern.{probe as probeOfModel};
+ghost use Rattle.model.specs.Intern.{emptySlot, moveSlots, probe as probeOfModel};
 ghost use Rattle.table.specs.Layout.{probeOf, stringsOf, Starts, Entries, Work, tableOf, startsOf, slotFor};
 ghost use Rattle.table.specs.Sizes.{isDue};
 
