@@ -20,7 +20,7 @@ use Rattle.cuts.specs.declared.Across.{Across}
 unfoldable pub textPairsAllow : List ℕ → List PairLink → ℕ → Bool
 textPairsAllow text ps c = blankLineBefore text c && pairsAllowCut ps c
 
--- the next offset to try: c itself if text and pairs allow it; all before it and from c on they refuse
+-- the next offset to try, from c on: c itself if text and pairs allow it; those that are passed over they refuse
 unfoldable pub nextTry : List ℕ → List PairLink → ℕ → ℕ
 nextTry text ps c = cond (blankLineBefore text c) (endOr (acrossOf ps c) c) (c + 1)
 
@@ -56,22 +56,22 @@ module _ (text : List ℕ) (ps : List PairLink) (c : ℕ) where
   try-pair x q e a f = rw (← q, e, f) refl
 
 -- the search in one gap: c is the offset to try next
-pub record Tried (P : ℕ → Bool) (lo hi c : ℕ) : Type 0 where
+pub record Tried (P : ℕ → Bool) (lo c : ℕ) : Type 0 where
   pub from : lo ≤ c
   pub none : Refused P lo c
 
-pub tried-start : (P : ℕ → Bool) (lo hi : ℕ) → Tried P lo hi lo
-tried-start P lo hi = record { from = omega arith; none = refused-none lo lo (omega arith) }
+pub tried-start : (P : ℕ → Bool) (lo : ℕ) → Tried P lo lo
+tried-start P lo = record { from = omega arith; none = refused-none lo lo (omega arith) }
 
-module _ (text : List ℕ) (ps : List PairLink) {lo hi c : ℕ} (t : Tried (textPairsAllow text ps) lo hi c) (r : ℕ) (q : r ≡ nextTry text ps c) where
-  pub tried-more : Tried (textPairsAllow text ps) lo hi r
+module _ (text : List ℕ) (ps : List PairLink) {lo c : ℕ} (t : Tried (textPairsAllow text ps) lo c) (r : ℕ) (q : r ≡ nextTry text ps c) where
+  pub tried-more : Tried (textPairsAllow text ps) lo r
   tried-more = record {
     from = omega (arith, q, try-at-least text ps c, t .from);
     none = rw q (refused-join (t .none) (try-refuses text ps c));
   }
 
-  pub tried-found : c < hi → r ≡ c → c ≡ firstIn (textPairsAllow text ps) (hi - lo) hi
-  tried-found h e =
+  pub tried-found : (hi : ℕ) → c < hi → r ≡ c → c ≡ firstIn (textPairsAllow text ps) (hi - lo) hi
+  tried-found hi h e =
       sym (first-is (textPairsAllow text ps) (hi - lo) {lo = lo} {hi = hi} (omega (arith, t .from)) (record {
         from = t .from;
         to = omega arith;
@@ -79,8 +79,8 @@ module _ (text : List ℕ) (ps : List PairLink) {lo hi c : ℕ} (t : Tried (text
         passes = λ g. try-allows text ps c (sym q ∙ e);
       }))
 
-pub tried-none : {P : ℕ → Bool} {lo hi c : ℕ} → Tried P lo hi c → hi ≤ c → hi ≡ firstIn P (hi - lo) hi
-tried-none {P} {lo} {hi} {c} t h =
+pub tried-none : {P : ℕ → Bool} {lo c : ℕ} → Tried P lo c → (hi : ℕ) → hi ≤ c → hi ≡ firstIn P (hi - lo) hi
+tried-none {P} {lo} {c} t hi h =
     by-bool (leb lo hi)
     (λ e.
     let l = leb-true lo hi e in

@@ -7,11 +7,11 @@ use mathlib.Core.List.{List, [], _∷_}
 use Rattle.model.specs.Lists.{ascii}
 use Rattle.model.specs.Types.{SourceNode, PairLink}
 use Rattle.model.specs.Region.{depthBehind, depth, nodesBefore, nodesAllowCut, pairsAllowCut, blankLineBefore}
-use Rattle.cuts.specs.Safe.{cutAllowed, safeCutIn, regionStartIn, regionEndIn}
+use Rattle.cuts.specs.Safe.{safeCutIn, cutAllowed, regionStartIn, regionEndIn}
 use Rattle.cuts.specs.Offsets.{lastFrom}
 use Rattle.cuts.specs.Pairs.{acrossOf, endOr}
 use Rattle.cuts.specs.EndSearch.{nextTry}
-use Rattle.cuts.specs.StartSearch.{textNodesAllow, lastCut}
+use Rattle.cuts.specs.StartSearch.{lastCut, textNodesAllow}
 
 -- a node of a class with a body's kind and tag
 abbrev nodeOf : ℕ → ℕ → ℕ → ℕ → ℕ → SourceNode

@@ -37,10 +37,6 @@ module _ {P : ℕ → Bool} where
   pub refused-one : (lo hi : ℕ) → hi ≤ lo + 1 → P lo ≡ false → Refused P lo hi
   refused-one lo hi h e = record { fails = λ k a b. let q : k ≡ lo = omega arith in rw q e }
 
-  -- what fails a test fails a stronger one
-  pub refused-by : {Q : ℕ → Bool} {lo hi : ℕ} → ((k : ℕ) → Q k ≡ false → P k ≡ false) → Refused Q lo hi → Refused P lo hi
-  refused-by f r = record { fails = λ k a b. f k (r .fails k a b) }
-
 -- ---- the first
 
 pub record First (P : ℕ → Bool) (lo hi r : ℕ) : Type 0 where
