@@ -1,1 +1,4 @@
 pub mod Bases
+pub mod Kinds
+pub mod Sound
+pub mod Compared

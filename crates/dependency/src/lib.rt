@@ -1,1 +1,214 @@
-// .
+// Number 10, document 01 section 6: a Referenced Format behind the edit's start whose target is the base of an earlier Ruby. A base
+// and a target are compared as plain strings: a string's bytes are found by the index of crate `strings`, and only where its length
+// is the one that is asked for. specs/Bases.antt says what is asked, specs/Sound.antt what number 4 has shown of it.
+use strings::Plain;
+ghost use mathlib.Core.Path.{_≡_};
+ghost use mathlib.Core.List.{List, [], _++_};
+ghost use Prim.Native.Nat.{ℕ, _+_, _≤_, _<_};
+ghost use lib.ListN.{length};
+ghost use Rattle.model.specs.Lists.{any, same as sameBytes};
+ghost use Rattle.model.specs.Tape.{recordAt, recordsAt, nodeCodec};
+ghost use Rattle.model.specs.Store.{resolveStr};
+ghost use Rattle.model.specs.Region.{isRuby, isReferencedFormat, dependsFrom};
+ghost use Rattle.strings.specs.Starts.{OfTape, storeIn};
+ghost use Rattle.strings.specs.Shown.{Resolvable};
+ghost use Rattle.strings.specs.PlainContent.{plainOf, plainString};
+ghost use Rattle.dependency.specs.Bases.{isPlain, hasBase, amongBases, refersAt};
+ghost use Rattle.dependency.specs.Sound.{Sound, SoundNode, FirstRange, PlainIn, firstContents};
+
+// An Inline Ruby.
+pub fn is_ruby(tape: &[u8], at: usize) -> bool
+    requires { ⌜ at + 49 ≤ length (now tape) ⌝ }
+    ensures { λ r. ⌜ r ≡ isRuby (recordAt nodeCodec (now (tape .entry)) at) ⌝ }
+{
+    if tape[at + 1] != 0 {
+        return false;
+    }
+    tape[at + 15] == 1
+}
+
+// An Inline Format whose `ForwardOrigin` is Referenced.
+pub fn is_referenced_format(tape: &[u8], at: usize) -> bool
+    requires { ⌜ at + 49 ≤ length (now tape) ⌝ }
+    ensures { λ r. ⌜ r ≡ isReferencedFormat (recordAt nodeCodec (now (tape .entry)) at) ⌝ }
+{
+    if tape[at + 1] != 0 {
+        return false;
+    }
+    if tape[at + 15] != 2 {
+        return false;
+    }
+    tape[at + 16] / 4 == 1
+}
+
+// The contents of a node's first range, if they are one Plain content: the base of a Ruby, the target of a Format.
+fn first_plain(tape: &[u8], st: store::Store, at: usize) -> Plain
+    requires { ⌜ OfTape (now tape) st ⌝ }
+    requires { ⌜ at + 49 ≤ length (now tape) ⌝ }
+    requires { ⌜ FirstRange (now tape) st at ⌝ }
+    ensures { λ r. ⌜ ((b : List ℕ) → r ≡ plainOf (firstContents (now (tape .entry)) at b)) ⌝ }
+{
+    let start = records::body_word(tape, at + 15, 0);
+    let len = records::body_word(tape, at + 15, 1);
+    strings::content_range_as_plain(tape, st, start, len)
+}
+
+// Is it the string of an id? Lengths first: where they differ, the string is not looked for.
+fn is_string<'a>(
+    tape: &[u8],
+    st: store::Store,
+    words: &[u32],
+    old: &'a [u8],
+    new: &'a [u8],
+    id: u32,
+    s: &[u8],
+) -> bool
+    requires { ⌜ Resolvable (now tape) st (now words) (now old) (now new) ⌝ }
+    requires { ⌜ id < st .totals .strings ⌝ }
+    ensures { λ r. ⌜ r ≡ sameBytes (now (s .entry)) (resolveStr (storeIn (now (tape .entry)) (now (old .entry) ++ now (new .entry))) id) ⌝ }
+{
+    if strings::string_length(tape, st, id) != s.len() {
+        return false;
+    }
+    wire::same(s, strings::resolve_str(tape, st, words, old, new, id))
+}
+
+fn is_plain<'a>(
+    tape: &[u8],
+    st: store::Store,
+    words: &[u32],
+    old: &'a [u8],
+    new: &'a [u8],
+    p: Plain,
+    s: &[u8],
+) -> bool
+    requires { ⌜ Resolvable (now tape) st (now words) (now old) (now new) ⌝ }
+    requires { ⌜ PlainIn st p ⌝ }
+    ensures { λ r. ⌜ r ≡ isPlain (now (s .entry)) (plainString (storeIn (now (tape .entry)) (now (old .entry) ++ now (new .entry))) p) ⌝ }
+{
+    match p {
+        Plain::Id(id) => {
+            return is_string(tape, st, words, old, new, id, s);
+        }
+        Plain::Nothing => {
+            return false;
+        }
+    }
+}
+
+// A Ruby with this plain base.
+fn has_base<'a>(
+    tape: &[u8],
+    st: store::Store,
+    words: &[u32],
+    old: &'a [u8],
+    new: &'a [u8],
+    at: usize,
+    s: &[u8],
+) -> bool
+    requires { ⌜ SoundNode (now tape) st (now words) (now old) (now new) at ⌝ }
+    ensures { λ r. ⌜ r ≡ hasBase (storeIn (now (tape .entry)) (now (old .entry) ++ now (new .entry))) (now (s .entry)) (recordAt nodeCodec (now (tape .entry)) at) ⌝ }
+{
+    if !is_ruby(tape, at) {
+        return false;
+    }
+    let p = first_plain(tape, st, at);
+    is_plain(tape, st, words, old, new, p, s)
+}
+
+// Is it the plain base of a Ruby among these nodes?
+pub fn is_ruby_base<'a>(
+    tape: &[u8],
+    st: store::Store,
+    words: &[u32],
+    old: &'a [u8],
+    new: &'a [u8],
+    at: usize,
+    count: usize,
+    s: &[u8],
+) -> bool
+    requires { ⌜ Sound (now tape) st (now words) (now old) (now new) at count ⌝ }
+    ensures { λ r. ⌜ r ≡ any (hasBase (storeIn (now (tape .entry)) (now (old .entry) ++ now (new .entry))) (now (s .entry))) (recordsAt nodeCodec (now (tape .entry)) at count) ⌝ }
+{
+    let mut i = 0;
+    while i < count {
+        if has_base(tape, st, words, old, new, at + 49 * i, s) {
+            return true;
+        }
+        i += 1;
+    }
+    false
+}
+
+fn is_target_base<'a>(
+    tape: &[u8],
+    st: store::Store,
+    words: &[u32],
+    old: &'a [u8],
+    new: &'a [u8],
+    at: usize,
+    count: usize,
+    p: Plain,
+) -> bool
+    requires { ⌜ Sound (now tape) st (now words) (now old) (now new) at count ⌝ }
+    requires { ⌜ PlainIn st p ⌝ }
+    ensures { λ r. ⌜ r ≡ amongBases (storeIn (now (tape .entry)) (now (old .entry) ++ now (new .entry))) (recordsAt nodeCodec (now (tape .entry)) at count) (plainString (storeIn (now (tape .entry)) (now (old .entry) ++ now (new .entry))) p) ⌝ }
+{
+    match p {
+        Plain::Id(id) => {
+            let s = strings::resolve_str(tape, st, words, old, new, id);
+            return is_ruby_base(tape, st, words, old, new, at, count, s);
+        }
+        Plain::Nothing => {
+            return false;
+        }
+    }
+}
+// Number 10, node i: a Referenced Format that ends behind `from` and whose target is the base of an earlier Ruby.
+fn refers_back<'a>(
+    tape: &[u8],
+    st: store::Store,
+    words: &[u32],
+    old: &'a [u8],
+    new: &'a [u8],
+    at: usize,
+    i: usize,
+    from: u32,
+) -> bool
+    requires { ⌜ Sound (now tape) st (now words) (now old) (now new) at (i + 1) ⌝ }
+    ensures { λ r. ⌜ r ≡ refersAt (storeIn (now (tape .entry)) (now (old .entry) ++ now (new .entry))) from (now (tape .entry)) at i ⌝ }
+{
+    let place = at + 49 * i;
+    if !is_referenced_format(tape, place) {
+        return false;
+    }
+    if records::node_end(tape, place) <= from {
+        return false;
+    }
+    let p = first_plain(tape, st, place);
+    is_target_base(tape, st, words, old, new, at, i, p)
+}
+
+// Number 10. `has_ruby_format_dependency`. One walk over the nodes, and one over those before it for each Format that it asks.
+pub fn has_ruby_format_dependency<'a>(
+    tape: &[u8],
+    st: store::Store,
+    words: &[u32],
+    old: &'a [u8],
+    new: &'a [u8],
+    at: usize,
+    count: usize,
+    from: u32,
+) -> bool
+    requires { ⌜ Sound (now tape) st (now words) (now old) (now new) at count ⌝ }
+    ensures { λ r. ⌜ r ≡ dependsFrom (storeIn (now (tape .entry)) (now (old .entry) ++ now (new .entry))) from [] (recordsAt nodeCodec (now (tape .entry)) at count) ⌝ }
+{
+    let mut i = 0;
+    while i < count {
+        if refers_back(tape, st, words, old, new, at, i, from) {
+            return true;
+        }
+        i += 1;
+    }
+    false
+}

@@ -2,113 +2,29 @@
 use mathlib.Core.Path.{_≡_, refl, sym, ap, _∙_, subst}
 use mathlib.Core.Bool.{Bool, true, false, cond, _&&_, false≢true}
 use mathlib.Core.List.{List, [], _∷_, _++_, flatten}
-use Prim.Native.Nat.{ℕ, zero, suc, _+_, _-_, _*_, _%_, _^_, _<_, _≤_}
+use Prim.Native.Nat.{ℕ, suc, _+_, _-_, _<_, _≤_}
 use native.Mathlib.Omega.{arith}
-use native.Mathlib.Decide.{decLt}
-use native.Mathlib.Nat.{mod-lt}
-use borrow.Author.Tests.{eq-eqb, ne-eqb, lt-ltb, le-ltb, le-leb, lt-leb, leb-true}
-use lib.Dec.{eqb, leb, lit<}
-use lib.ListN.{length, getD, take, drop, set, length-set, length-append, length-take}
-use lib.Seq.{drop-set-lt, drop-drop, length-take-le, take-take}
-use Rattle.model.specs.Lists.{same}
-use Rattle.model.specs.Intern.{StrInterner, InternStats, Interned, Probe, fxHash, holds, probe, grows, tableFor, plusStats, cacheHit, bypass, tableHit, tableAlloc, tableCall, intern}
+use borrow.Author.Tests.{eq-eqb, ne-eqb, lt-ltb, le-ltb}
+use lib.Dec.{leb}
+use lib.ListN.{length, getD, take, drop, set, length-set, length-append}
+use lib.Seq.{drop-set-lt, drop-drop}
+use Rattle.model.specs.Intern.{StrInterner, InternStats, Interned, Probe, holds, grows, tableFor, plusStats, cacheHit, bypass, tableHit, tableAlloc, tableCall, intern}
 use Rattle.model.specs.Limits.{maxNewStrings}
-use Rattle.intern.specs.declared.InternStats.{InternStats as Counters}
-use Rattle.intern.specs.declared.StrInterner.{StrInterner as Interner}
-use Rattle.intern.specs.declared.Probed.{Probed}
+use Rattle.table.specs.Layout.{taken, tableOf, startsOf, stringsUpTo, Starts, Entries}
+use Rattle.table.specs.Views.{part-in}
+use Rattle.table.specs.Strings.{length-strings}
+use Rattle.table.specs.Roomy.{taken-set, set-entries}
+use Rattle.table.specs.Sizes.{size-hi, size-lo, size-length}
+use Rattle.interner.specs.declared.InternStats.{InternStats as Counters}
+use Rattle.interner.specs.declared.StrInterner.{StrInterner as Interner}
+use Rattle.interner.specs.State.{statsOf, stateOf, Good, hasRoom, Ready, Alloced, allocated, withTable, withSlots, withEntry, firstProbe}
+use Rattle.interner.specs.Room.{room-same, room-more, count-is}
 use Rattle.intern.specs.declared.Answer.{Answer}
-use Rattle.intern.specs.Layout.{taken, part, tableOf, startsOf, stringAt, stringsUpTo, stringsOf, Work, Starts, Entries, probeOf}
-use Rattle.intern.specs.State.{Counted, OneCall, statsOf, stateOf, Good, hasRoom, Answered, Refused, Told, Known, Ready, Alloced, allocated, withTable, withSlots, withLast, withEntry, firstProbe, probedCall}
-use Rattle.intern.specs.Calls.{flatten-snoc, and-true}
-use Rattle.intern.proofs.Views.{part-in}
-use Rattle.intern.proofs.Strings.{length-strings, string-is}
-use Rattle.intern.proofs.Slots.{holds-some}
-use Rattle.intern.proofs.Roomy.{taken-set, set-entries, Inside, inside, never-round}
-use Rattle.intern.proofs.Tables.{size-hi, size-lo, size-length, strings-all, grows-is}
-
--- ---- room
-pub room-left : (size used n : ℕ) → used ≤ size → leb n (size - used) ≡ leb (used + n) size
-room-left size used n h =
-    elim (decLt (size - used) n) [
-      | yes lt ↦ lt-leb n (size - used) lt ∙ sym (lt-leb (used + n) size (omega arith))
-      | no ge ↦ le-leb n (size - used) (omega (arith, ge)) ∙ sym (le-leb (used + n) size (omega (arith, ge)))
-    ]
-
-pub room-there : (count used n size : ℕ) → (leb (count + 1) maxNewStrings && leb (used + n) size) ≡ true → (count < 3583) × (used + n ≤ size)
-room-there count used n size e =
-    let p = and-true (leb (count + 1) maxNewStrings) (leb (used + n) size) e in
-    (omega (arith, leb-true (count + 1) maxNewStrings (p .0)), leb-true (used + n) size (p .1))
+use Rattle.intern.specs.Told.{Told, Known, probedCall}
 
 module _ (work strs : List ℕ) (st : Interner) (g : Good work strs st) where
   abbrev strings : List (List ℕ)
   strings = stringsUpTo (st .count) (startsOf (st .count) work) strs
-
-  -- the strings' bytes are those from `base` up to `used`
-  used-is : st .base + length (flatten strings) ≡ st .used
-  used-is =
-      omega (arith, length-take-le (st .used) strs (g .fits), ap length (g .laid), length-append (take (st .base) strs) (flatten strings), length-take-le (st .base) strs (omega (arith, g .fits, g .begins)), g .fits, g .begins)
-
-  count-is : length strings ≡ st .count
-  count-is = length-strings (startsOf (st .count) work) strs (st .count)
-
-  pub room-same : true ≡ hasRoom (length strs) (st .base) (stateOf work strs st)
-  unfolding hasRoom
-  room-same = sym (rw (le-leb (length strings) maxNewStrings (omega (arith, count-is, g .words .few)), le-leb (st .base + length (flatten strings)) (length strs) (omega (arith, used-is, g .fits))) refl)
-
-  pub room-more : (b : Bool) (s : List ℕ) → b ≡ (leb (st .count + 1) maxNewStrings && leb (st .used + length s) (length strs)) → (t : StrInterner) → t .strings ≡ strings ++ (s ∷ []) → b ≡ hasRoom (length strs) (st .base) t
-  unfolding hasRoom
-  room-more b s hb t e =
-      let n : st .count + 1 ≡ length (t .strings) = sym (ap length e ∙ length-append strings (s ∷ []) ∙ omega (arith, count-is)) in
-      let m : st .used + length s ≡ st .base + length (flatten (t .strings)) = omega (arith, used-is, ap length (ap flatten e ∙ flatten-snoc strings s), length-append (flatten strings) s) in
-      hb ∙ (λ i. leb (n i) maxNewStrings && leb (m i) (length strs))
-
-  -- ---- a string
-  pub resolved : (bytes : List ℕ) (id : ℕ) → bytes ≡ getD (stringsOf (startsOf (st .count) work) strs) id [] → bytes ≡ getD strings id []
-  resolved bytes id hb = hb ∙ ap (λ (ss : List (List ℕ)). getD ss id []) (strings-all work strs (length strs) (st .count) (g .words))
-
-  -- ---- the last answer
-  pub last-none : (s : List ℕ) → st .last ≡ 0 → false ≡ holds strings (st .last) s
-  unfolding holds
-  last-none s e = sym (ap (λ (k : ℕ). holds strings k s) e)
-
-  pub last-some : (s bytes : List ℕ) (r : Bool) → (st .last ≡ 0 → ⊥) → bytes ≡ getD strings (st .last - 1) [] → r ≡ same bytes s → r ≡ holds strings (st .last) s
-  last-some s bytes r ne hb hr = hr ∙ ap (λ (l : List ℕ). same l s) hb ∙ sym (holds-some strings (st .last) s ne)
-
-  pub last-there : (s : List ℕ) → holds strings (st .last) s ≡ true → 0 < st .last
-  last-there s e =
-      elim (decLt 0 (st .last)) [
-        | yes lt ↦ lt
-        | no ge ↦ absurd (false≢true (last-none s (omega (arith, ge)) ∙ e))
-      ]
-
-  -- ---- the probe
-  module _ (s : List ℕ) (some : 0 < st .slots) where
-    abbrev table : List ℕ
-    table = tableOf (st .slots) work
-
-    len : length table ≡ st .slots
-    len = size-length work (g .size) (g .words .room)
-
-    pub lookup-is : (p : Probed) (h from : ℕ) → h ≡ fxHash s → from ≡ h % st .slots → probeOf p ≡ probe (length table) (stringsOf (startsOf (st .count) work) strs) table s from 0 → probeOf p ≡ firstProbe (stateOf work strs st) s
-    unfolding firstProbe
-    lookup-is p h from hh hf hp =
-        hp
-        ∙ ap (λ (ss : List (List ℕ)). probe (length table) ss table s from 0) (strings-all work strs (length strs) (st .count) (g .words))
-        ∙ ap (λ (k : ℕ). probe (length table) strings table s k 0) (hf ∙ ap (λ (k : ℕ). k % st .slots) hh ∙ ap (λ (n : ℕ). fxHash s % n) (sym len))
-
-    start-lt : fxHash s % length table < length table
-    start-lt = mod-lt (fxHash s) (omega (arith, len))
-
-    -- a slot of the table, below the number of starts, after 4096 steps at most
-    pub probe-in : (st .occupied * 8 < st .slots * 7) → (p : Probe) → p ≡ firstProbe (stateOf work strs st) s → (p .at < st .slots) × (p .slot ≤ st .count) × (p .steps ≤ 4096) × (getD table (p .at) 0 ≡ p .slot)
-    unfolding firstProbe
-    probe-in roomy p is =
-        let i = subst (Inside table (st .count + 1) (length table + 0)) (sym is) (inside strings s table (st .count + 1) (length table) (fxHash s % length table) 0 (omega arith) (g .entries) start-lt) in (
-          omega (arith, i .at, len),
-          omega (arith, i .slot),
-          omega (arith, i .steps, len, size-hi (g .size)),
-          subst (λ (q : Probe). getD table (q .at) 0 ≡ q .slot) (sym is) (never-round strings s table (fxHash s % length table) 0 start-lt (omega (arith, g .number, len))),
-        )
 
   -- ---- a string that is there
   pub known-told : (slot : ℕ) (by : Counters) (r : Answer) → slot ≤ st .count → Known st slot by r → (c : InternStats) → statsOf by ≡ c
@@ -116,7 +32,7 @@ module _ (work strs : List ℕ) (st : Interner) (g : Good work strs st) where
   unfolding hasRoom
   known-told slot by r le k c hc =
       record {
-        ok = k .ok ∙ room-same;
+        ok = k .ok ∙ room-same work strs st g;
         refused = λ e. absurd (false≢true (sym e ∙ k .ok));
         answered = λ _. record {
           good = subst (Good work strs) (sym (k .state)) (record { words = g .words; small = g .small; size = g .size; entries = g .entries; number = g .number; most = g .most; known = le; end = g .end; fits = g .fits; begins = g .begins; laid = g .laid; counts = k .counts });
@@ -140,11 +56,11 @@ module _ (work strs : List ℕ) (st : Interner) (g : Good work strs st) where
   module _ (s : List ℕ) (b : Bool) (room : b ≡ (leb (st .count + 1) maxNewStrings && leb (st .used + length s) (length strs))) where
     pub bypass-refused : (work′ strs′ : List ℕ) (r : Answer) → b ≡ false → r .ok ≡ false → r .id ≡ 0 → r .state ≡ st → Told work strs st work′ strs′ r (bypass (stateOf work strs st) s)
     unfolding bypass
-    bypass-refused work′ strs′ r hb hr id state = refusal work′ strs′ r _ hr id state (hr ∙ sym hb ∙ room-more b s room _ refl)
+    bypass-refused work′ strs′ r hb hr id state = refusal work′ strs′ r _ hr id state (hr ∙ sym hb ∙ room-more work strs st g b s room _ refl)
 
     pub alloc-refused : (work′ strs′ : List ℕ) (r : Answer) (resized : ℕ) (p : Probe) → b ≡ false → r .ok ≡ false → r .id ≡ 0 → r .state ≡ st → Told work strs st work′ strs′ r (tableAlloc (stateOf work strs st) (tableOf (st .slots) work) resized p s)
     unfolding tableAlloc
-    alloc-refused work′ strs′ r resized p hb hr id state = refusal work′ strs′ r _ hr id state (hr ∙ sym hb ∙ room-more b s room _ refl)
+    alloc-refused work′ strs′ r resized p hb hr id state = refusal work′ strs′ r _ hr id state (hr ∙ sym hb ∙ room-more work strs st g b s room _ refl)
 
     module _ (has : b ≡ true) (work′ strs′ : List ℕ) (c by : Counters) (stats : statsOf c ≡ plusStats (statsOf (st .stats)) (statsOf by)) (t : Interner) (a : Alloced work strs st s c work′ strs′ t) where
       pub bypass-told : (r : Answer) → statsOf by ≡ record { calls = 1; cacheHits = 0; tableHits = 0; allocs = 1; longBypass = 1; resizes = 0; probeSteps = 0 } → r .ok ≡ true → r .id ≡ st .count → r .state ≡ t
@@ -152,12 +68,12 @@ module _ (work strs : List ℕ) (st : Interner) (g : Good work strs st) where
       unfolding bypass
       bypass-told r hby ok id state =
           record {
-            ok = ok ∙ sym has ∙ room-more b s room _ refl;
+            ok = ok ∙ sym has ∙ room-more work strs st g b s room _ refl;
             refused = λ e. absurd (false≢true (sym e ∙ ok));
             answered = λ _. record {
               good = subst (Good work′ strs′) (sym state) (a .good);
               state = ap (stateOf work′ strs′) state ∙ a .state ∙ ap (allocated (stateOf work strs st) s) (stats ∙ ap (plusStats (statsOf (st .stats))) hby);
-              id = id ∙ sym count-is;
+              id = id ∙ sym (count-is work strs st g);
               base = ap (λ (x : Interner). x .base) state ∙ a .base;
               kept = a .kept;
               free = a .free;
@@ -226,14 +142,14 @@ module _ (work strs : List ℕ) (st : Interner) (g : Good work strs st) where
             let more : length (strings ++ (s ∷ [])) ≡ suc (length strings) = length-append strings (s ∷ []) ∙ omega arith in
             subst (λ (w : List ℕ). Told work strs st w strs′ r (tableAlloc (stateOf work strs st) (tableOf (st .slots) work) resized p s)) (sym hw)
             (record {
-              ok = ok ∙ sym has ∙ room-more b s room _ refl;
+              ok = ok ∙ sym has ∙ room-more work strs st g b s room _ refl;
               refused = λ e. absurd (false≢true (sym e ∙ ok));
               answered = λ _. record {
                 good = subst (Good new strs′) (sym state) entered-good;
                 state =
                     ap (stateOf new strs′) state ∙ entered-state ∙ ap entered (a .state)
                     ∙ (λ i. record { strings = strings ++ (s ∷ []); table = set (tableOf (st .slots) work) (sym hat i) (more i); occupied = st .occupied + 1; last = suc (length strings); stats = (stats ∙ ap (plusStats (statsOf (st .stats))) hby) i });
-                id = id ∙ sym count-is;
+                id = id ∙ sym (count-is work strs st g);
                 base = ap (λ (x : Interner). x .base) state ∙ a .base;
                 kept = a .kept;
                 free = drop-set-lt 11776 work′ (t .slots - 256 + at) (t .count) (omega (arith, size-hi (a .good .size), lt-t)) ∙ a .free;

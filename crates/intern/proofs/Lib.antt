@@ -1,12 +1,1 @@
-mod Mod
-mod Bytes
-mod Strings
-mod Slots
-mod Views
-mod Cleared
-mod Moved
-mod Roomy
-mod Tables
-mod Added
 mod Answers
-mod Begun

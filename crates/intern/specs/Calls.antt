@@ -1,9 +1,9 @@
 -- Laws of model's interner that every call keeps: section 2's sum of the counts, one call counted, and strings that only grow.
 use mathlib.Core.Path.{_≡_, refl, sym, ap, _∙_, subst}
-use mathlib.Core.Bool.{Bool, true, false, cond, _&&_, false≢true}
+use mathlib.Core.Bool.{Bool, true, false, cond, _&&_}
 use mathlib.Core.Logic.{_⊎_, inl, inr, ⊎-elim}
-use mathlib.Core.List.{List, [], _∷_, _++_, append-nil, append-assoc, flatten}
-use Prim.Native.Nat.{ℕ, _+_, _%_, _≤_}
+use mathlib.Core.List.{List, [], _∷_, _++_, flatten}
+use Prim.Native.Nat.{ℕ, _+_, _%_}
 use native.Mathlib.Omega.{arith}
 use borrow.Author.Tests.{le-leb, leb-true}
 use lib.Dec.{eqb, leb, ltb}
@@ -11,9 +11,12 @@ use lib.ListN.{length, take, length-append}
 use lib.Seq.{take-take}
 use Rattle.model.specs.Limits.{internLengthLimit, maxNewStrings}
 use Rattle.model.specs.Intern.{InternStats, StrInterner, Interned, Probe, freshInterner, fxHash, plusStats, holds, probe, grows, tableFor, cacheHit, bypass, tableHit, tableAlloc, tableCall, intern, internAll}
-use Rattle.intern.specs.declared.StrInterner.{StrInterner as Interner}
+use Rattle.interner.specs.declared.StrInterner.{StrInterner as Interner}
+use Rattle.interner.specs.State.{stateOf, Good, hasRoom}
+use Rattle.interner.specs.Added.{flatten-snoc}
+use Rattle.interner.specs.Room.{and-true}
 use Rattle.intern.specs.declared.Answer.{Answer}
-use Rattle.intern.specs.State.{stateOf, Good, hasRoom, Answered}
+use Rattle.intern.specs.Told.{Answered}
 
 by-cond : (P : Interned → Type 0) (b : Bool) (x y : Interned) → P x → P y → P (cond b x y)
 by-cond P true x y hx hy = hx
@@ -73,15 +76,6 @@ answered-base work strs st work′ strs′ r a g h =
 pub strings-grow : (t : StrInterner) (s : List ℕ) → (intern t s .state .strings ≡ t .strings) ⊎ (intern t s .state .strings ≡ t .strings ++ (s ∷ []))
 unfolding cacheHit bypass tableAlloc tableHit
 strings-grow t s = each-way (λ (a : Interned). (a .state .strings ≡ t .strings) ⊎ (a .state .strings ≡ t .strings ++ (s ∷ []))) t s (inl refl) (inr refl) (λ table resized p. inr refl) (λ table resized p. inl refl)
-
-pub flatten-snoc : (l : List (List ℕ)) (s : List ℕ) → flatten (l ++ (s ∷ [])) ≡ flatten l ++ s
-unfolding flatten
-flatten-snoc [] s = append-nil s
-flatten-snoc (x ∷ xs) s = ap (λ (l : List ℕ). x ++ l) (flatten-snoc xs s) ∙ sym (append-assoc x (flatten xs) s)
-
-pub and-true : (a b : Bool) → (a && b) ≡ true → (a ≡ true) × (b ≡ true)
-and-true true b e = (refl, e)
-and-true false b e = absurd (false≢true e)
 
 less-room : (size base : ℕ) (ss : List (List ℕ)) (s : List ℕ) → (leb (length (ss ++ (s ∷ []))) maxNewStrings && leb (base + length (flatten (ss ++ (s ∷ [])))) size) ≡ true → (leb (length ss) maxNewStrings && leb (base + length (flatten ss)) size) ≡ true
 less-room size base ss s e =

@@ -1,3 +1,2 @@
-pub mod Layout
-pub mod State
+pub mod Told
 pub mod Calls

@@ -2,13 +2,13 @@
 // string 3584. The numbers in `stdout` are those of the Rust: intern.rs with main below it, rustc -O, the same calls; the Rust
 // has no limit of 3583 strings, so its last line was taken after that string.
 use intern::Answer;
-use intern::StrInterner;
+use interner::StrInterner;
 use libc::STDOUT_FILENO;
 ghost use mathlib.Core.Path.{_≡_};
 ghost use mathlib.Core.Bool.{true};
 ghost use Prim.Native.Nat.{_≤_, _<_};
 ghost use lib.ListN.{length};
-ghost use Rattle.intern.specs.State.{Good};
+ghost use Rattle.interner.specs.State.{Good};
 
 fn put(label: &[u8], n: u64) {
     io::write_all(STDOUT_FILENO, label);
@@ -16,7 +16,7 @@ fn put(label: &[u8], n: u64) {
 }
 
 fn put_hash(bytes: &[u8]) {
-    io::print_hex(STDOUT_FILENO, intern::fx_hash(bytes), 16);
+    io::print_hex(STDOUT_FILENO, hash::fx_hash(bytes), 16);
     io::write_all(STDOUT_FILENO, b"\n");
 }
 
@@ -47,7 +47,7 @@ fn begin(work: &mut [u32], strs: &mut [u8]) -> Answer
     requires { ⌜ (16384 ≤ length (now work)) × (length (now strs) < 4294967296) ⌝ }
     ensures { λ r. ⌜ (r .ok ≡ true → Good (now (work .exit)) (now (strs .exit)) (r .state)) ⌝ }
 {
-    let st = intern::fresh(work, strs, 0);
+    let st = interner::fresh(work, strs, 0);
     Answer {
         ok: true,
         id: 0,

@@ -2,7 +2,7 @@
 use mathlib.Core.Path.{_≡_, refl, sym, ap, _∙_}
 use Prim.Native.Nat.{ℕ}
 use native.Mathlib.Omega.{arith}
-use mathlib.Core.Bool.{Bool, true, false, cond, not}
+use mathlib.Core.Bool.{Bool, true, false, cond, not, _&&_}
 use mathlib.Core.List.{List}
 use lib.ListN.{length}
 use lib.Dec.{leb, eqb}
@@ -16,6 +16,17 @@ use Rattle.model.specs.Refusal.{Checked, Checked.refused, Checked.accepted, _>>
 use Rattle.model.specs.Region.{Edit, edited, balancedRegion, isWhole, hasRubyFormatDependency, chosenRegion}
 use Rattle.wire.specs.Loops.{by-bool}
 use Rattle.edit.specs.Numbers.{within, editNumber, within-ok}
+use Rattle.region.specs.declared.Chosen.{Chosen}
+use Rattle.region.specs.declared.Chosen.the-variants.{Refused, Region}
+
+-- The answer of the code: document 01's number, or the region.
+unfoldable pub chosenOf : Checked Span → Chosen
+chosenOf (refused n) = Refused n
+chosenOf (accepted r) = Region (r .start) (r .end)
+
+-- Number 11, by the text's length.
+unfoldable pub wholeText : ℕ → ℕ → ℕ → Bool
+wholeText size start end = eqb start 0 && eqb end size
 
 -- numbers 10 and 11, or the region
 unfoldable pub regionOr : Bool → Bool → Span → Checked Span
@@ -69,3 +80,14 @@ module _ (b : LexOutput) (e : Edit) where
         pub chosen-region : w ≡ false → chosenRegion b e ≡ accepted (balancedRegion b e)
         unfolding chosenBy regionOr
         chosen-region k = chosen-by ∙ rw (← q, eq-eqb n 0 z, ← f, g, ← h, k) refl
+
+-- ---- number 11
+
+module _ (size start end : ℕ) where
+  pub whole-later : (start ≡ 0 → ⊥) → false ≡ wholeText size start end
+  unfolding wholeText
+  whole-later h = rw (ne-eqb start 0 h) refl
+
+  pub whole-end : start ≡ 0 → eqb end size ≡ wholeText size start end
+  unfolding wholeText
+  whole-end h = rw (eq-eqb start 0 h) refl

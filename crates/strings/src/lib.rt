@@ -172,7 +172,7 @@ pub fn content_range_as_plain(tape: &[u8], st: store::Store, start: u32, len: u3
     plain_of(records::content_at(tape, at))
 }
 
-fn old_strings(st: store::Store) -> u32
+pub fn old_strings(st: store::Store) -> u32
     requires { ⌜ (0 < st .layers) × (st .layers ≤ 32) ⌝ }
     ensures { λ r. ⌜ r ≡ oldStrings st ⌝ }
 {

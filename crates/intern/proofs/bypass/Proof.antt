@@ -1,4 +1,5 @@
-use Rattle.intern.proofs.Answers.{room-there, bypass-told, bypass-refused}
+use Rattle.interner.specs.Room.{room-there}
+use Rattle.intern.proofs.Answers.{bypass-told, bypass-refused}
 use lib.Dec.{lit≤}
 use mathlib.Core.Path.{_≡_, refl, sym, ap, _∙_}
 use mathlib.Core.List.{List, [], _∷_, _++_}
@@ -10,9 +11,9 @@ use Rattle.intern.proofs.bypass.Statement.{statement}
 use Rattle.intern.proofs.bypass.Tie as tie
 use Rattle.intern.proofs.bypass.Reads as reads
 use Rattle.intern.proofs.bypass.Lts as lts
-use Rattle.intern.proofs.alloc.Reads as alloc-reads
-use Rattle.intern.proofs.has_room.Reads as has-room-reads
-use Rattle.intern.proofs.plus_stats.Reads as plus-stats-reads
+use Rattle.interner.proofs.alloc.Reads as alloc-reads
+use Rattle.interner.proofs.has_room.Reads as has-room-reads
+use Rattle.interner.proofs.plus_stats.Reads as plus-stats-reads
 
 -- src/lib.rt:516:8
 has-room-requires : tie.Need-has-room-requires

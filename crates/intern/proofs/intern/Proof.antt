@@ -1,8 +1,10 @@
 use mathlib.Core.Bool.{Bool}
-use Rattle.intern.specs.State.{isDue, stateOf}
-use Rattle.intern.specs.declared.StrInterner.{StrInterner as Interner}
-use Rattle.intern.proofs.Answers.{last-there, intern-cached, intern-bypass, intern-told}
-use Rattle.intern.proofs.Tables.{size-hi, grows-is, one-or-none}
+use Rattle.interner.specs.State.{stateOf}
+use Rattle.table.specs.Sizes.{isDue, size-hi, one-or-none}
+use Rattle.interner.specs.declared.StrInterner.{StrInterner as Interner}
+use Rattle.interner.specs.Lookups.{last-there}
+use Rattle.intern.proofs.Answers.{intern-cached, intern-bypass, intern-told}
+use Rattle.interner.specs.Tables.{grows-is}
 use lib.Dec.{lit≤}
 use mathlib.Core.Bool.{cond}
 use mathlib.Core.Path.{_≡_, refl, sym, ap, _∙_}
@@ -16,11 +18,11 @@ use Rattle.intern.proofs.intern.Tie as tie
 use Rattle.intern.proofs.intern.Reads as reads
 use Rattle.intern.proofs.intern.Lts as lts
 use Rattle.intern.proofs.bypass.Reads as bypass-reads
-use Rattle.intern.proofs.is_last.Reads as is-last-reads
+use Rattle.interner.proofs.is_last.Reads as is-last-reads
 use Rattle.intern.proofs.known.Reads as known-reads
-use Rattle.intern.proofs.resizes.Reads as resizes-reads
+use Rattle.table.proofs.resizes.Reads as resizes-reads
 use Rattle.intern.proofs.table_call.Reads as table-call-reads
-use Rattle.intern.proofs.table_for.Reads as table-for-reads
+use Rattle.interner.proofs.table_for.Reads as table-for-reads
 
 -- src/lib.rt:607:8
 is-last-requires : tie.Need-is-last-requires

@@ -8,8 +8,8 @@ use Rattle.intern.proofs.known.Statement.{statement}
 use Rattle.intern.proofs.known.Tie as tie
 use Rattle.intern.proofs.known.Reads as reads
 use Rattle.intern.proofs.known.Lts as lts
-use Rattle.intern.proofs.plus_stats.Reads as plus-stats-reads
-use Rattle.intern.proofs.wide.Reads as wide-reads
+use Rattle.interner.proofs.plus_stats.Reads as plus-stats-reads
+use Rattle.table.proofs.wide.Reads as wide-reads
 
 -- src/lib.rt:465:9
 plus-stats-requires : tie.Need-plus-stats-requires

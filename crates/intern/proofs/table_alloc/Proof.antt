@@ -1,4 +1,5 @@
-use Rattle.intern.proofs.Answers.{room-there, enter-asks, alloc-told, alloc-refused}
+use Rattle.interner.specs.Room.{room-there}
+use Rattle.intern.proofs.Answers.{enter-asks, alloc-told, alloc-refused}
 use lib.Dec.{lit≤}
 use mathlib.Core.Path.{_≡_, refl, sym, ap, _∙_}
 use mathlib.Core.List.{List, [], _∷_, _++_}
@@ -10,10 +11,10 @@ use Rattle.intern.proofs.table_alloc.Statement.{statement}
 use Rattle.intern.proofs.table_alloc.Tie as tie
 use Rattle.intern.proofs.table_alloc.Reads as reads
 use Rattle.intern.proofs.table_alloc.Lts as lts
-use Rattle.intern.proofs.alloc.Reads as alloc-reads
-use Rattle.intern.proofs.enter.Reads as enter-reads
-use Rattle.intern.proofs.has_room.Reads as has-room-reads
-use Rattle.intern.proofs.plus_stats.Reads as plus-stats-reads
+use Rattle.interner.proofs.alloc.Reads as alloc-reads
+use Rattle.interner.proofs.enter.Reads as enter-reads
+use Rattle.interner.proofs.has_room.Reads as has-room-reads
+use Rattle.interner.proofs.plus_stats.Reads as plus-stats-reads
 
 -- src/lib.rt:550:8
 has-room-requires : tie.Need-has-room-requires

@@ -1,6 +1,7 @@
-use Rattle.intern.proofs.Answers.{probe-in, call-alloc, hit-told}
-use Rattle.intern.specs.State.{Told}
-use Rattle.intern.specs.Layout.{probeOf}
+use Rattle.interner.specs.Lookups.{probe-in}
+use Rattle.intern.proofs.Answers.{call-alloc, hit-told}
+use Rattle.intern.specs.Told.{Told}
+use Rattle.table.specs.Layout.{probeOf}
 use Rattle.model.specs.Intern.{Interned}
 use lib.Dec.{lit≤}
 use mathlib.Core.Path.{subst}
@@ -15,7 +16,7 @@ use Rattle.intern.proofs.table_call.Tie as tie
 use Rattle.intern.proofs.table_call.Reads as reads
 use Rattle.intern.proofs.table_call.Lts as lts
 use Rattle.intern.proofs.known.Reads as known-reads
-use Rattle.intern.proofs.lookup.Reads as lookup-reads
+use Rattle.interner.proofs.lookup.Reads as lookup-reads
 use Rattle.intern.proofs.table_alloc.Reads as table-alloc-reads
 
 -- src/lib.rt:582:9

@@ -1,4 +1,4 @@
-use Rattle.intern.specs.State.{Good}
+use Rattle.interner.specs.State.{Good}
 use mathlib.Core.Bool.{true}
 use mathlib.Core.Path.{_≡_, refl, sym, ap, _∙_}
 use mathlib.Core.List.{List, [], _∷_, _++_}

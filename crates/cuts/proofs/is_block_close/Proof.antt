@@ -1,0 +1,23 @@
+use mathlib.Core.Path.{refl}
+use Rattle.model.specs.Tape.{recordAt, operandsAt, nodeCodec}
+use borrow.Author.Needs.{needs}
+use Rattle.cuts.proofs.is_block_close.Statement.{statement}
+use Rattle.cuts.proofs.is_block_close.Tie as tie
+use Rattle.cuts.proofs.is_block_close.Reads as reads
+use Rattle.cuts.proofs.is_block_close.Lts as lts
+
+-- src/lib.rt:42:10
+add-result : tie.Need-add-result
+add-result c = search needs
+
+-- src/lib.rt:42:5
+shared-slice-read-result : tie.Need-shared-slice-read-result
+shared-slice-read-result c = search needs
+
+-- src/lib.rt:38:1
+returns : tie.Need-returns
+unfolding recordAt operandsAt nodeCodec
+returns c = refl
+
+pub is-block-close-spec : {M : Type 1} → statement M
+is-block-close-spec = tie.close (tie.spec add-result shared-slice-read-result returns)

@@ -1,0 +1,23 @@
+use Rattle.model.specs.Tape.{recordAt, operandsAt, pairCodec}
+use borrow.Author.Needs.{needs}
+use Rattle.cuts.proofs.pair_start.Statement.{statement}
+use Rattle.cuts.proofs.pair_start.Tie as tie
+use Rattle.cuts.proofs.pair_start.Reads as reads
+use Rattle.cuts.proofs.pair_start.Lts as lts
+use Rattle.wire.proofs.u32_at.Reads as u32-at-reads
+
+-- src/lib.rt:121:24
+add-u32-at : tie.Need-add-u32-at
+add-u32-at c = search needs
+
+-- src/lib.rt:121:5
+u32-at-requires : tie.Need-u32-at-requires
+u32-at-requires c κs = search needs
+
+-- src/lib.rt:117:1
+returns : tie.Need-returns
+unfolding recordAt operandsAt pairCodec
+returns c = c .u32-at .ensures
+
+pub pair-start-spec : {M : Type 1} → statement M
+pair-start-spec = tie.close (tie.spec add-u32-at u32-at-requires returns)

@@ -1,0 +1,448 @@
+// Safe cuts and the two ends of a region, document 01 section 6, over the text, the nodes and the pairs of a book's tape.
+// `safe_cut` asks about one offset, by a walk over the nodes and one over the pairs. The ends of a region are not found by
+// asking it of each newline: an offset that the nodes allow lies in a gap between two of them behind which both depths are 0,
+// so one walk over the nodes meets all of them, and the pairs are walked only for an offset that text and nodes allow.
+ghost use mathlib.Core.Path.{_≡_};
+ghost use mathlib.Core.Bool.{cond};
+ghost use Prim.Native.Nat.{_+_, _-_, _*_, _≤_, _<_, max};
+ghost use lib.ListN.{length};
+ghost use Rattle.model.specs.Tape.{recordAt, nodeCodec, pairCodec};
+ghost use Rattle.model.specs.Region.{blankLineBefore, isBlockOpen, isBlockClose, isDirective, isWarichuOpen, isWarichuClose, depthBehind, across};
+ghost use Rattle.model.specs.Region.{nodesAllowCut, pairsAllowCut};
+ghost use Rattle.bounds.specs.Search.{InOrder};
+ghost use Rattle.cuts.specs.Safe.{safeCutIn, regionEndIn, regionStartIn, regionOf, balancedIn};
+ghost use Rattle.cuts.specs.Offsets.{firstIn, lastFrom};
+ghost use Rattle.cuts.specs.Pairs.{acrossOf, pairsOf, isNothing, startOr, endOr};
+ghost use Rattle.cuts.specs.Gaps.{depthsZero, nodesOf, NodesIn};
+ghost use Rattle.cuts.specs.EndSearch.{nextTry, textPairsAllow, gapFirst};
+ghost use Rattle.cuts.specs.StartSearch.{gapLast, lastCut, endsBehindNewline};
+
+// Section 6. Two newline bytes before an offset.
+pub fn blank_line_before(text: &[u8], o: usize) -> bool
+    requires { ⌜ o ≤ length (now text) ⌝ }
+    ensures { λ r. ⌜ r ≡ blankLineBefore (now (text .entry)) o ⌝ }
+{
+    if o < 2 {
+        return false;
+    }
+    if text[o - 2] != 10 {
+        return false;
+    }
+    text[o - 1] == 10
+}
+
+// What a node is, and the depth behind it; a fall below 0 counts as 0.
+
+pub fn is_block_open(tape: &[u8], at: usize) -> bool
+    requires { ⌜ at + 49 ≤ length (now tape) ⌝ }
+    ensures { λ r. ⌜ r ≡ isBlockOpen (recordAt nodeCodec (now (tape .entry)) at) ⌝ }
+{
+    tape[at + 1] == 2
+}
+
+pub fn is_block_close(tape: &[u8], at: usize) -> bool
+    requires { ⌜ at + 49 ≤ length (now tape) ⌝ }
+    ensures { λ r. ⌜ r ≡ isBlockClose (recordAt nodeCodec (now (tape .entry)) at) ⌝ }
+{
+    tape[at + 1] == 3
+}
+
+fn is_directive(tape: &[u8], at: usize, kind: u8) -> bool
+    requires { ⌜ at + 49 ≤ length (now tape) ⌝ }
+    ensures { λ r. ⌜ r ≡ isDirective kind (recordAt nodeCodec (now (tape .entry)) at) ⌝ }
+{
+    if 2 <= tape[at + 1] {
+        return false;
+    }
+    if tape[at + 15] != 13 {
+        return false;
+    }
+    tape[at + 16] == kind
+}
+
+pub fn is_warichu_open(tape: &[u8], at: usize) -> bool
+    requires { ⌜ at + 49 ≤ length (now tape) ⌝ }
+    ensures { λ r. ⌜ r ≡ isWarichuOpen (recordAt nodeCodec (now (tape .entry)) at) ⌝ }
+{
+    is_directive(tape, at, 4)
+}
+
+pub fn is_warichu_close(tape: &[u8], at: usize) -> bool
+    requires { ⌜ at + 49 ≤ length (now tape) ⌝ }
+    ensures { λ r. ⌜ r ≡ isWarichuClose (recordAt nodeCodec (now (tape .entry)) at) ⌝ }
+{
+    is_directive(tape, at, 5)
+}
+
+// The depth behind something that opens or closes.
+fn depth_behind(opens: bool, closes: bool, depth: usize) -> usize
+    requires { ⌜ depth < 9223372036854775808 ⌝ }
+    ensures { λ r. ⌜ r ≡ cond opens (depth + 1) (cond closes (depth - 1) depth) ⌝ }
+{
+    if opens {
+        return depth + 1;
+    }
+    if !closes {
+        return depth;
+    }
+    if depth == 0 {
+        return 0;
+    }
+    depth - 1
+}
+
+pub fn block_depth(tape: &[u8], at: usize, depth: usize) -> usize
+    requires { ⌜ (at + 49 ≤ length (now tape)) × (depth < 9223372036854775808) ⌝ }
+    ensures { λ r. ⌜ r ≡ depthBehind isBlockOpen isBlockClose depth (recordAt nodeCodec (now (tape .entry)) at) ⌝ }
+{
+    depth_behind(is_block_open(tape, at), is_block_close(tape, at), depth)
+}
+
+pub fn warichu_depth(tape: &[u8], at: usize, depth: usize) -> usize
+    requires { ⌜ (at + 49 ≤ length (now tape)) × (depth < 9223372036854775808) ⌝ }
+    ensures { λ r. ⌜ r ≡ depthBehind isWarichuOpen isWarichuClose depth (recordAt nodeCodec (now (tape .entry)) at) ⌝ }
+{
+    depth_behind(is_warichu_open(tape, at), is_warichu_close(tape, at), depth)
+}
+
+// A pair across an offset: where it opens and where it ends.
+pub enum Across {
+    Pair(u32, u32),
+    Nothing,
+}
+
+fn pair_start(tape: &[u8], at: usize) -> u32
+    requires { ⌜ at + 18 ≤ length (now tape) ⌝ }
+    ensures { λ r. ⌜ r ≡ recordAt pairCodec (now (tape .entry)) at .opening .start ⌝ }
+{
+    wire::u32_at(tape, at + 2)
+}
+
+fn pair_end(tape: &[u8], at: usize) -> u32
+    requires { ⌜ at + 18 ≤ length (now tape) ⌝ }
+    ensures { λ r. ⌜ r ≡ recordAt pairCodec (now (tape .entry)) at .closing .end ⌝ }
+{
+    wire::u32_at(tape, at + 14)
+}
+
+fn is_across(start: u32, end: u32, o: usize) -> bool
+    ensures { λ r. ⌜ r ≡ across o start end ⌝ }
+{
+    if o <= start as usize {
+        return false;
+    }
+    o < end as usize
+}
+
+// Section 6. The first pair with open start < offset < close end.
+pub fn pair_across(tape: &[u8], pairs: places::Run, o: usize) -> Across
+    requires { ⌜ pairs .at + 18 * pairs .count ≤ length (now tape) ⌝ }
+    ensures { λ r. ⌜ r ≡ acrossOf (pairsOf (now (tape .entry)) pairs) o ⌝ }
+{
+    let mut i = 0;
+    while i < pairs.count {
+        let p = pairs.at + 18 * i;
+        let start = pair_start(tape, p);
+        let end = pair_end(tape, p);
+        if is_across(start, end, o) {
+            return Across::Pair(start, end);
+        }
+        i += 1;
+    }
+    Across::Nothing
+}
+
+fn is_nothing(a: Across) -> bool
+    ensures { λ r. ⌜ r ≡ isNothing a ⌝ }
+{
+    match a {
+        Across::Pair(_, _) => false,
+        Across::Nothing => true,
+    }
+}
+
+// Where the pair starts, else the offset itself.
+fn start_or(a: Across, o: usize) -> usize
+    ensures { λ r. ⌜ r ≡ startOr a o ⌝ }
+{
+    match a {
+        Across::Pair(start, _) => start as usize,
+        Across::Nothing => o,
+    }
+}
+
+fn end_or(a: Across, o: usize) -> usize
+    ensures { λ r. ⌜ r ≡ endOr a o ⌝ }
+{
+    match a {
+        Across::Pair(_, end) => end as usize,
+        Across::Nothing => o,
+    }
+}
+
+pub fn pairs_allow_cut(tape: &[u8], pairs: places::Run, o: usize) -> bool
+    requires { ⌜ pairs .at + 18 * pairs .count ≤ length (now tape) ⌝ }
+    ensures { λ r. ⌜ r ≡ pairsAllowCut (pairsOf (now (tape .entry)) pairs) o ⌝ }
+{
+    is_nothing(pair_across(tape, pairs, o))
+}
+
+fn depths_zero(blocks: usize, warichu: usize) -> bool
+    ensures { λ r. ⌜ r ≡ depthsZero blocks warichu ⌝ }
+{
+    if blocks != 0 {
+        return false;
+    }
+    warichu == 0
+}
+
+// Section 6. No node across; block and warichu depths 0 (falls below 0 count as 0).
+pub fn nodes_allow_cut(tape: &[u8], nodes: places::Run, o: usize) -> bool
+    requires { ⌜ nodes .at + 49 * nodes .count ≤ length (now tape) ⌝ }
+    requires { ⌜ InOrder (nodesOf (now tape) nodes) ⌝ }
+    ensures { λ r. ⌜ r ≡ nodesAllowCut (nodesOf (now (tape .entry)) nodes) o ⌝ }
+{
+    let mut blocks: usize = 0;
+    let mut warichu: usize = 0;
+    let mut i = 0;
+    while i < nodes.count {
+        let p = nodes.at + 49 * i;
+        if o <= records::node_start(tape, p) as usize {
+            return depths_zero(blocks, warichu);
+        }
+        if o < records::node_end(tape, p) as usize {
+            return false;
+        }
+        blocks = block_depth(tape, p, blocks);
+        warichu = warichu_depth(tape, p, warichu);
+        i += 1;
+    }
+    depths_zero(blocks, warichu)
+}
+
+// Section 6. `safe_cut`: 0 and the length always; elsewhere text, nodes and pairs allow it.
+pub fn safe_cut(tape: &[u8], text: &[u8], nodes: places::Run, pairs: places::Run, o: usize) -> bool
+    requires { ⌜ (nodes .at + 49 * nodes .count ≤ length (now tape)) × (pairs .at + 18 * pairs .count ≤ length (now tape)) × (o ≤ length (now text)) ⌝ }
+    requires { ⌜ InOrder (nodesOf (now tape) nodes) ⌝ }
+    ensures { λ r. ⌜ r ≡ safeCutIn (now (text .entry)) (nodesOf (now (tape .entry)) nodes) (pairsOf (now (tape .entry)) pairs) o ⌝ }
+{
+    if o == 0 {
+        return true;
+    }
+    if o == text.len() {
+        return true;
+    }
+    if !blank_line_before(text, o) {
+        return false;
+    }
+    if !nodes_allow_cut(tape, nodes, o) {
+        return false;
+    }
+    pairs_allow_cut(tape, pairs, o)
+}
+
+// The next offset to try for a cut that text and pairs allow: where a pair lies across, all up to its end are refused.
+fn next_try(tape: &[u8], text: &[u8], pairs: places::Run, o: usize) -> usize
+    requires { ⌜ (pairs .at + 18 * pairs .count ≤ length (now tape)) × (o ≤ length (now text)) ⌝ }
+    ensures { λ r. ⌜ r ≡ nextTry (now (text .entry)) (pairsOf (now (tape .entry)) pairs) o ⌝ }
+{
+    if !blank_line_before(text, o) {
+        return o + 1;
+    }
+    end_or(pair_across(tape, pairs, o), o)
+}
+
+// The first offset from lo on and before hi that text and pairs allow, else hi.
+fn first_cut_in(tape: &[u8], text: &[u8], pairs: places::Run, lo: usize, hi: usize) -> usize
+    requires { ⌜ (pairs .at + 18 * pairs .count ≤ length (now tape)) × (hi ≤ length (now text)) ⌝ }
+    ensures { λ r. ⌜ r ≡ firstIn (textPairsAllow (now (text .entry)) (pairsOf (now (tape .entry)) pairs)) (hi - lo) hi ⌝ }
+{
+    let mut c = lo;
+    while c < hi {
+        let next = next_try(tape, text, pairs, c);
+        if next == c {
+            return c;
+        }
+        c = next;
+    }
+    hi
+}
+
+fn later(a: usize, b: usize) -> usize
+    ensures { λ r. ⌜ r ≡ max a b ⌝ }
+{
+    if a < b {
+        return b;
+    }
+    a
+}
+
+// The same of the gap that begins at `from`, behind `o`, where the nodes before it leave these depths.
+fn gap_first(
+    tape: &[u8],
+    text: &[u8],
+    pairs: places::Run,
+    from: usize,
+    o: usize,
+    hi: usize,
+    blocks: usize,
+    warichu: usize,
+) -> usize
+    requires { ⌜ (pairs .at + 18 * pairs .count ≤ length (now tape)) × (hi ≤ length (now text)) × (o ≤ length (now text)) ⌝ }
+    ensures { λ r. ⌜ r ≡ gapFirst (now (text .entry)) (pairsOf (now (tape .entry)) pairs) blocks warichu (max from (o + 1)) hi ⌝ }
+{
+    if !depths_zero(blocks, warichu) {
+        return hi;
+    }
+    first_cut_in(tape, text, pairs, later(from, o + 1), hi)
+}
+
+// Section 6. End: the first safe offset after a newline at or behind an offset, else the length.
+pub fn region_end(
+    tape: &[u8],
+    text: &[u8],
+    nodes: places::Run,
+    pairs: places::Run,
+    o: usize,
+) -> usize
+    requires { ⌜ (nodes .at + 49 * nodes .count ≤ length (now tape)) × (pairs .at + 18 * pairs .count ≤ length (now tape)) × (o ≤ length (now text)) ⌝ }
+    requires { ⌜ NodesIn (length (now text)) (nodesOf (now tape) nodes) ⌝ }
+    ensures { λ r. ⌜ r ≡ regionEndIn (now (text .entry)) (nodesOf (now (tape .entry)) nodes) (pairsOf (now (tape .entry)) pairs) (length (now (text .entry)) - o) o ⌝ }
+{
+    let mut from: usize = 0;
+    let mut blocks: usize = 0;
+    let mut warichu: usize = 0;
+    let mut i = 0;
+    while i < nodes.count {
+        let p = nodes.at + 49 * i;
+        let start = records::node_start(tape, p) as usize;
+        let c = gap_first(tape, text, pairs, from, o, start + 1, blocks, warichu);
+        if c <= start {
+            return c;
+        }
+        from = records::node_end(tape, p) as usize;
+        blocks = block_depth(tape, p, blocks);
+        warichu = warichu_depth(tape, p, warichu);
+        i += 1;
+    }
+    gap_first(tape, text, pairs, from, o, text.len(), blocks, warichu)
+}
+
+// The last blank line from lo on and before hi, else d.
+fn last_blank(text: &[u8], lo: usize, hi: usize, d: usize) -> usize
+    requires { ⌜ hi ≤ length (now text) + 1 ⌝ }
+    ensures { λ r. ⌜ r ≡ lastFrom (blankLineBefore (now (text .entry))) (hi - lo) lo d ⌝ }
+{
+    let mut c = hi;
+    while lo < c {
+        if blank_line_before(text, c - 1) {
+            return c - 1;
+        }
+        c -= 1;
+    }
+    d
+}
+
+// The same of a gap where the nodes before it leave these depths.
+fn gap_last(text: &[u8], lo: usize, hi: usize, blocks: usize, warichu: usize, d: usize) -> usize
+    requires { ⌜ hi ≤ length (now text) + 1 ⌝ }
+    ensures { λ r. ⌜ r ≡ gapLast (now (text .entry)) blocks warichu lo hi d ⌝ }
+{
+    if !depths_zero(blocks, warichu) {
+        return d;
+    }
+    last_blank(text, lo, hi, d)
+}
+
+// The last offset at or before `bound` that text and nodes allow, else 0.
+fn last_cut(tape: &[u8], text: &[u8], nodes: places::Run, bound: usize) -> usize
+    requires { ⌜ (nodes .at + 49 * nodes .count ≤ length (now tape)) × (bound ≤ length (now text)) ⌝ }
+    requires { ⌜ InOrder (nodesOf (now tape) nodes) ⌝ }
+    ensures { λ r. ⌜ r ≡ lastCut (now (text .entry)) (nodesOf (now (tape .entry)) nodes) bound ⌝ }
+{
+    let mut from: usize = 0;
+    let mut blocks: usize = 0;
+    let mut warichu: usize = 0;
+    let mut last: usize = 0;
+    let mut i = 0;
+    while i < nodes.count {
+        let p = nodes.at + 49 * i;
+        let start = records::node_start(tape, p) as usize;
+        if bound <= start {
+            return gap_last(text, from, bound + 1, blocks, warichu, last);
+        }
+        last = gap_last(text, from, start + 1, blocks, warichu, last);
+        from = records::node_end(tape, p) as usize;
+        blocks = block_depth(tape, p, blocks);
+        warichu = warichu_depth(tape, p, warichu);
+        i += 1;
+    }
+    gap_last(text, from, bound + 1, blocks, warichu, last)
+}
+
+// The length behind a newline.
+fn ends_behind_newline(text: &[u8], o: usize) -> bool
+    requires { ⌜ o ≤ length (now text) ⌝ }
+    ensures { λ r. ⌜ r ≡ endsBehindNewline (now (text .entry)) o ⌝ }
+{
+    if o != text.len() {
+        return false;
+    }
+    if o < 1 {
+        return false;
+    }
+    text[o - 1] == 10
+}
+
+// Section 6. Start: the last safe offset after a newline, at or before an offset, else 0.
+pub fn region_start(
+    tape: &[u8],
+    text: &[u8],
+    nodes: places::Run,
+    pairs: places::Run,
+    o: usize,
+) -> usize
+    requires { ⌜ (nodes .at + 49 * nodes .count ≤ length (now tape)) × (pairs .at + 18 * pairs .count ≤ length (now tape)) × (o ≤ length (now text)) ⌝ }
+    requires { ⌜ InOrder (nodesOf (now tape) nodes) ⌝ }
+    ensures { λ r. ⌜ r ≡ regionStartIn (now (text .entry)) (nodesOf (now (tape .entry)) nodes) (pairsOf (now (tape .entry)) pairs) o ⌝ }
+{
+    if ends_behind_newline(text, o) {
+        return o;
+    }
+    let mut bound = o;
+    while 0 < bound {
+        let c = last_cut(tape, text, nodes, bound);
+        let start = start_or(pair_across(tape, pairs, c), c);
+        if start == c {
+            return c;
+        }
+        bound = start;
+    }
+    0
+}
+
+// Offsets of the old text.
+pub struct Region {
+    pub start: usize,
+    pub end: usize,
+}
+
+// Section 6. `balanced_region` of the edit from `start` to `end`.
+pub fn balanced_region(
+    tape: &[u8],
+    text: &[u8],
+    nodes: places::Run,
+    pairs: places::Run,
+    start: usize,
+    end: usize,
+) -> Region
+    requires { ⌜ (nodes .at + 49 * nodes .count ≤ length (now tape)) × (pairs .at + 18 * pairs .count ≤ length (now tape)) ⌝ }
+    requires { ⌜ (start ≤ length (now text)) × (end ≤ length (now text)) ⌝ }
+    requires { ⌜ NodesIn (length (now text)) (nodesOf (now tape) nodes) ⌝ }
+    ensures { λ r. ⌜ regionOf r ≡ balancedIn (now (text .entry)) (nodesOf (now (tape .entry)) nodes) (pairsOf (now (tape .entry)) pairs) start end ⌝ }
+{
+    Region {
+        start: region_start(tape, text, nodes, pairs, start),
+        end: region_end(tape, text, nodes, pairs, end),
+    }
+}

@@ -1,0 +1,6 @@
+pub mod State
+pub mod Tables
+pub mod Added
+pub mod Room
+pub mod Lookups
+pub mod Begun

@@ -1,0 +1,225 @@
+// `StrInterner`, section 2 of document 01: the interner's state and what a call does with it. A layer's strings stand in a lent
+// byte buffer, one behind the other from the place `base` on; the table and the places where strings start stand in lent work
+// words, as crate `table` lays them out; everything else is a `StrInterner` by value. Ids are of the layer alone: the first
+// string is 0.
+use table::INITIAL_CAPACITY;
+use table::Probed;
+use table::STARTS;
+ghost use mathlib.Core.Path.{_≡_};
+ghost use mathlib.Core.Bool.{_&&_};
+ghost use mathlib.Core.List.{[]};
+ghost use Prim.Native.Nat.{_+_, _-_, _^_, _<_, _≤_};
+ghost use lib.Dec.{leb};
+ghost use lib.ListN.{length, getD, set};
+ghost use Rattle.model.specs.Limits.{maxNewStrings, minWorkWords};
+ghost use Rattle.model.specs.Intern.{plusStats, holds};
+ghost use Rattle.table.specs.Layout.{probeOf};
+ghost use Rattle.interner.specs.State.{statsOf, Counted, OneCall, stateOf, Good, Fresh, Ready, withSlots, withEntry, Alloced, firstProbe};
+
+const MAX_NEW_STRINGS: usize = 3583;
+
+// `InternStats`: the seven counts, by the Rust's names without their underscores, which a clause would have to quote.
+pub struct InternStats {
+    pub calls: u64,
+    pub cachehits: u64,
+    pub tablehits: u64,
+    pub allocs: u64,
+    pub longbypass: u64,
+    pub resizes: u64,
+    pub probesteps: u64,
+}
+
+// `StrInterner`, beside the words and bytes: slots of the table (0 before its first use) and how many are taken; how many strings
+// there are, where in the buffer they begin and end; one more than the last answer's id (0: none).
+pub struct StrInterner {
+    pub slots: usize,
+    pub occupied: usize,
+    pub count: usize,
+    pub base: usize,
+    pub used: usize,
+    pub last: usize,
+    pub stats: InternStats,
+}
+
+// ---- counts
+
+// The counts with those of one call added.
+pub fn plus_stats(a: InternStats, b: InternStats) -> InternStats
+    requires { ⌜ Counted a ⌝ }
+    requires { ⌜ a .calls < 2 ^ 32 ⌝ }
+    requires { ⌜ OneCall b ⌝ }
+    ensures { λ r. ⌜ statsOf r ≡ plusStats (statsOf a) (statsOf b) ⌝ }
+    ensures { λ r. ⌜ Counted r ⌝ }
+{
+    InternStats {
+        calls: a.calls + b.calls,
+        cachehits: a.cachehits + b.cachehits,
+        tablehits: a.tablehits + b.tablehits,
+        allocs: a.allocs + b.allocs,
+        longbypass: a.longbypass + b.longbypass,
+        resizes: a.resizes + b.resizes,
+        probesteps: a.probesteps + b.probesteps,
+    }
+}
+
+// ---- the table
+
+fn with_slots(st: StrInterner, n: usize) -> StrInterner
+    ensures { λ r. ⌜ r ≡ withSlots st n ⌝ }
+{
+    let stats = st.stats;
+    StrInterner {
+        slots: n,
+        occupied: st.occupied,
+        count: st.count,
+        base: st.base,
+        used: st.used,
+        last: st.last,
+        stats: stats,
+    }
+}
+
+// The table that a call probes: the first, or one of twice as many slots where it is due, or the one there is.
+pub fn table_for(work: &mut [u32], strs: &[u8], st: StrInterner) -> StrInterner
+    requires { ⌜ Good (now work) (now strs) st ⌝ }
+    ensures { λ r. ⌜ Ready (now (work .entry)) (now (strs .entry)) st (now (work .exit)) r ⌝ }
+{
+    let slots = st.slots;
+    if slots == 0 {
+        table::clear_part(work, 0, INITIAL_CAPACITY);
+        return with_slots(st, INITIAL_CAPACITY);
+    }
+    if table::due(slots, st.occupied) {
+        table::grow(work, strs, st.count, slots);
+        return with_slots(st, slots * 2);
+    }
+    with_slots(st, slots)
+}
+
+// Where s is in the table, or where it goes.
+pub fn lookup(work: &[u32], strs: &[u8], st: StrInterner, s: &[u8]) -> Probed
+    requires { ⌜ Good (now work) (now strs) st ⌝ }
+    requires { ⌜ 0 < st .slots ⌝ }
+    ensures { λ r. ⌜ probeOf r ≡ firstProbe (stateOf (now (work .entry)) (now (strs .entry)) st) (now (s .entry)) ⌝ }
+{
+    let slots = st.slots;
+    let off = slots - INITIAL_CAPACITY;
+    let end = off + slots;
+    let last = STARTS + st.count + 1;
+    let from = table::slot_of(hash::fx_hash(s), slots);
+    table::probe(&work[off..end], &work[STARTS..last], strs, s, from)
+}
+
+// The last string's entry at an empty slot of the table.
+pub fn enter(work: &mut [u32], st: StrInterner, at: usize) -> StrInterner
+    requires { ⌜ (256 ≤ st .slots) × (st .slots ≤ 4096) × (at < st .slots) × (st .count ≤ 3583) × (st .occupied < st .count) ⌝ }
+    requires { ⌜ minWorkWords ≤ length (now work) ⌝ }
+    ensures { λ r. ⌜ r ≡ withEntry st ⌝ }
+    ensures { λ _. ⌜ now (work .exit) ≡ set (now (work .entry)) (st .slots - 256 + at) (st .count) ⌝ }
+{
+    let off = st.slots - INITIAL_CAPACITY;
+    let stats = st.stats;
+    work[off + at] = st.count as u32;
+    StrInterner {
+        slots: st.slots,
+        occupied: st.occupied + 1,
+        count: st.count,
+        base: st.base,
+        used: st.used,
+        last: st.last,
+        stats: stats,
+    }
+}
+
+// ---- strings
+
+// `resolve`: the bytes of string id.
+pub fn resolve<'a>(work: &[u32], strs: &'a [u8], st: StrInterner, id: u32) -> &'a [u8]
+    requires { ⌜ Good (now work) (now strs) st ⌝ }
+    requires { ⌜ id < st .count ⌝ }
+    ensures { λ r. ⌜ now r ≡ getD (stateOf (now (work .entry)) (now (strs .entry)) st .strings) id [] ⌝ }
+{
+    let end = STARTS + st.count + 1;
+    table::string_at(&work[STARTS..end], strs, id)
+}
+
+// Whether the last answer's string is s.
+pub fn is_last(work: &[u32], strs: &[u8], st: StrInterner, s: &[u8]) -> bool
+    requires { ⌜ Good (now work) (now strs) st ⌝ }
+    ensures { λ r. ⌜ r ≡ holds (stateOf (now (work .entry)) (now (strs .entry)) st .strings) (st .last) (now (s .entry)) ⌝ }
+{
+    let last = st.last;
+    if last == 0 {
+        return false;
+    }
+    wire::same(resolve(work, strs, st, (last - 1) as u32), s)
+}
+
+// Whether there is room for one string more, of n bytes, in a buffer of `size` bytes.
+pub fn has_room(size: usize, count: usize, used: usize, n: usize) -> bool
+    requires { ⌜ used ≤ size ⌝ }
+    ensures { λ r. ⌜ r ≡ leb (count + 1) maxNewStrings && leb (used + n) size ⌝ }
+{
+    if count >= MAX_NEW_STRINGS {
+        return false;
+    }
+    n <= size - used
+}
+
+// A new string: its bytes behind the others, and its end.
+pub fn alloc(
+    work: &mut [u32],
+    strs: &mut [u8],
+    st: StrInterner,
+    s: &[u8],
+    stats: InternStats,
+) -> StrInterner
+    requires { ⌜ Good (now work) (now strs) st ⌝ }
+    requires { ⌜ (st .count < 3583) × (st .used + length (now s) ≤ length (now strs)) ⌝ }
+    requires { ⌜ Counted stats ⌝ }
+    ensures { λ r. ⌜ Alloced (now (work .entry)) (now (strs .entry)) st (now (s .entry)) stats (now (work .exit)) (now (strs .exit)) r ⌝ }
+{
+    let used = st.used;
+    let count = st.count;
+    let end = used + s.len();
+    wire::copy_at(strs, used, s);
+    work[STARTS + count + 1] = end as u32;
+    StrInterner {
+        slots: st.slots,
+        occupied: st.occupied,
+        count: count + 1,
+        base: st.base,
+        used: end,
+        last: count + 1,
+        stats: stats,
+    }
+}
+
+// ---- a new layer
+
+// The interner of a new layer, whose strings are to stand from `base` on. The work words may hold anything: the table is cleared
+// at its first use.
+pub fn fresh(work: &mut [u32], strs: &[u8], base: usize) -> StrInterner
+    requires { ⌜ minWorkWords ≤ length (now work) ⌝ }
+    requires { ⌜ (base ≤ length (now strs)) × (length (now strs) < 2 ^ 32) ⌝ }
+    ensures { λ r. ⌜ Fresh (now (work .entry)) (now (strs .entry)) base (now (work .exit)) r ⌝ }
+{
+    work[STARTS] = base as u32;
+    StrInterner {
+        slots: 0,
+        occupied: 0,
+        count: 0,
+        base: base,
+        used: base,
+        last: 0,
+        stats: InternStats {
+            calls: 0,
+            cachehits: 0,
+            tablehits: 0,
+            allocs: 0,
+            longbypass: 0,
+            resizes: 0,
+            probesteps: 0,
+        },
+    }
+}
