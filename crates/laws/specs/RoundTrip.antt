@@ -58,7 +58,7 @@ parse-laid-out t d b e =
 -- ---- strings
 
 -- the pieces have the lengths that they were cut by
-pieces-lengths : (ns b : List ℕ) → sum ns ≤ length b → map length (pieces ns b) ≡ ns
+pub pieces-lengths : (ns b : List ℕ) → sum ns ≤ length b → map length (pieces ns b) ≡ ns
 unfolding pieces
 pieces-lengths [] b h = refl
 pieces-lengths (n ∷ ns) b h =

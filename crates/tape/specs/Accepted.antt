@@ -30,10 +30,10 @@ unfolding numberOf
 value-of (refused n) h z = absurd (omega (arith, h .0, z))
 value-of (accepted a) h z = (a, refl)
 
-pub refusal-of : {A : Type 0} (x : Checked A) → (numberOf x ≡ 0 → ⊥) → x ≡ refused (numberOf x)
+pub refusal-of : {A : Type 0} (x : Checked A) {n : ℕ} → n ≡ numberOf x → (n ≡ 0 → ⊥) → x ≡ refused n
 unfolding numberOf
-refusal-of (refused n) h = refl
-refusal-of (accepted a) h = absurd (h refl)
+refusal-of (refused m) {n} e h = ap {B = Checked _} refused (sym e)
+refusal-of (accepted a) e h = absurd (h e)
 
 -- ---- a book that passed 1 to 7
 
