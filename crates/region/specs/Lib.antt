@@ -1,3 +1,4 @@
 pub mod Chosen
 pub mod Ready
 pub mod Stage
+pub mod Entry

@@ -39,18 +39,25 @@ pub record Ready (t d : List ℕ) (p : Places) (st : Store) (words : List ℕ) :
   pub stored : st ≡ storeAt t
   pub indexed : Indexed (lengthsIn t) words
 
+-- at most 32 layers
+few-layers : {t d : List ℕ} → Accepted t d → {p : Places} → p ≡ found t → {st : Store} → st ≡ storeAt t → st .layers ≤ 32
+unfolding storeAt
+few-layers a e f = let s = accepted-store a e in let m = ap (λ (x : Store). x .layers) f in omega (arith, m, s .count, s .few)
+
+pub accepted-readable : {t d : List ℕ} → Accepted t d → {p : Places} → p ≡ found t → {st : Store} → st ≡ storeAt t → length d < 2 ^ 63 → Readable t st (length d)
+accepted-readable {t} {d} a e {st} f h = readable t d (a .framing) st f (few-layers a e f) h
+
 module _ {t d : List ℕ} {p : Places} {st : Store} {words : List ℕ} (r : Ready t d p st words) where
   -- ---- the store
 
   few : st .layers ≤ 32
-  unfolding storeAt
-  few = let s = accepted-store (r .accepted) (r .is) in let m = ap (λ (x : Store). x .layers) (r .stored) in omega (arith, m, s .count, s .few)
+  few = few-layers (r .accepted) (r .is) (r .stored)
 
   pub ready-layers : (0 < st .layers) × (st .layers ≤ 32)
   ready-layers = (some-layer t d (r .accepted .framing) st (r .stored), few)
 
   pub ready-readable : length d < 2 ^ 63 → Readable t st (length d)
-  ready-readable h = readable t d (r .accepted .framing) st (r .stored) few h
+  ready-readable h = accepted-readable (r .accepted) (r .is) (r .stored) h
 
   -- ---- both texts
 

@@ -78,14 +78,7 @@ pub fn chosen_region(
     if depends(tape, bytes, p, st, words, start) {
         return Chosen::Refused(10);
     }
-    let r = cuts::balanced_region(
-        tape,
-        text,
-        p.nodes,
-        p.pairs,
-        start as usize,
-        end as usize,
-    );
+    let r = cuts::balanced_region(tape, text, p.nodes, p.pairs, start as usize, end as usize);
     if is_whole(p.text, r) {
         return Chosen::Refused(11);
     }

@@ -1,3 +1,5 @@
+use Rattle.wire.specs.Overwrite.{zeros}
+use mathlib.Core.Path.{ap, _∙_}
 use borrow.Author.Needs.{needs}
 use Rattle.region.proofs.choose_region.Statement.{statement}
 use Rattle.region.proofs.choose_region.Tie as tie
@@ -20,7 +22,7 @@ same-length c = search needs
 
 -- src/lib.rt:117:1
 returns : tie.Need-returns
-returns c = ?
+returns c = (c .before .before .before .before .before .before .region-by-index .ensures .0, c .before .before .zero-words .ensures ∙ ap zeros (c .before .before .before .before .before .before .region-by-index .ensures .1))
 
 pub choose-region-spec : {M : Type 1} → statement M
 choose-region-spec =

@@ -1,3 +1,4 @@
+use Rattle.region.specs.Entry.{part-none, part-behind, part-rest}
 use borrow.Author.Needs.{needs}
 use Rattle.region.proofs.region_text.Statement.{statement}
 use Rattle.region.proofs.region_text.Tie as tie
@@ -18,7 +19,7 @@ part-result-end c = search needs
 
 -- src/lib.rt:139:9
 returns : tie.Need-returns
-returns c = ?
+returns c = part-none _ _ _ (c .before .if1 .taken)
 
 -- src/lib.rt:142:16
 sub-result-2 : tie.Need-sub-result-2
@@ -34,7 +35,7 @@ part-result-end-2 c = search needs
 
 -- src/lib.rt:142:9
 returns-2 : tie.Need-returns-2
-returns-2 c = ?
+returns-2 c = part-behind _ _ _ (c .before .if2 .taken)
 
 -- src/lib.rt:145:16
 sub-result-3 : tie.Need-sub-result-3
@@ -50,7 +51,7 @@ part-result-end-3 c = search needs
 
 -- src/lib.rt:145:9
 returns-3 : tie.Need-returns-3
-returns-3 c = ?
+returns-3 c = part-rest _ _ _ (c .before .if3 .taken)
 
 -- src/lib.rt:147:5
 sub-result-4 : tie.Need-sub-result-4
