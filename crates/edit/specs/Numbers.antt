@@ -13,6 +13,7 @@ use Rattle.model.specs.Utf8.{utf8, isCharBoundary}
 use Rattle.model.specs.Types.{LexOutput}
 use Rattle.model.specs.Region.{Edit, edited, editOk}
 use Rattle.laws.specs.Lists.{both}
+use Rattle.wire.specs.Loops.{by-bool}
 use Rattle.edit.specs.Same.{edited-length}
 
 -- the edit of these numbers and bytes
@@ -115,3 +116,11 @@ module _ (text : List ℕ) (start end : ℕ) (replacement : List ℕ) {a : Bool}
         pub edit-pass : s ≡ false → 0 ≡ editNumber text (editOf start end replacement)
         unfolding editNumber editOf
         edit-pass f = rw (← ea, fa, ← eb, fb, fits, fl, ← es, f) refl
+
+-- an edit without a number is inside the text
+pub edit-inside : (text : List ℕ) (start end : ℕ) (replacement : List ℕ) {n : ℕ} → n ≡ editNumber text (editOf start end replacement) → n ≡ 0 → (start ≤ end) × (end ≤ length text)
+unfolding editNumber editOf
+edit-inside text start end replacement e z =
+    by-bool (within text start end)
+    (λ w. within-facts text start end w)
+    (λ w. let q : 8 ≡ 0 = sym (rw w refl) ∙ sym e ∙ z in absurd (omega (arith, q)))

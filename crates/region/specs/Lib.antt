@@ -1,1 +1,4 @@
 pub mod Chosen
+pub mod Ready
+pub mod Stage
+pub mod Entry

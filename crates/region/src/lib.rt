@@ -3,7 +3,7 @@
 // Number 10 asks strings of the book, by an index in the lent words: any number of them will do, also none.
 ghost use mathlib.Core.Path.{_≡_};
 ghost use mathlib.Core.List.{List};
-ghost use Prim.Native.Nat.{_-_};
+ghost use Prim.Native.Nat.{ℕ, _-_};
 ghost use lib.ListN.{length};
 ghost use Rattle.model.specs.Bytes.{part};
 ghost use Rattle.model.specs.Tape.{places as placesIn, bookAt};
@@ -27,4 +27,115 @@ fn is_whole(text: u32, r: cuts::Region) -> bool
         return false;
     }
     r.end == text as usize
+}
+
+// Number 10. The strings stand behind both texts, those of the last layer behind the others.
+fn depends(
+    tape: &[u8],
+    bytes: &[u8],
+    p: places::Places,
+    st: store::Store,
+    words: &[u32],
+    from: u32,
+) -> bool
+    requires { ⌜ Ready (now tape) (now bytes) p st (now words) ⌝ }
+    ensures { λ r. ⌜ ((end : ℕ) (replacement : List ℕ) → r ≡ hasRubyFormatDependency (bookAt (now (tape .entry)) (placesIn (now (tape .entry))) (now (bytes .entry))) (editOf from end replacement)) ⌝ }
+{
+    let first = p.text as usize + p.normalized as usize;
+    let olds = strings::old_strings(st);
+    let cut = first + strings::start_from(tape, st, bytes.len(), 0, olds, 0);
+    dependency::has_ruby_format_dependency(
+        tape,
+        st,
+        words,
+        &bytes[first..cut],
+        &bytes[cut..bytes.len()],
+        p.nodes.at,
+        p.nodes.count,
+        from,
+    )
+}
+
+// Numbers 8 to 11 of a book that passed 1 to 7.
+pub fn chosen_region(
+    tape: &[u8],
+    bytes: &[u8],
+    p: places::Places,
+    st: store::Store,
+    words: &[u32],
+    start: u32,
+    end: u32,
+    replacement: &[u8],
+) -> Chosen
+    requires { ⌜ Ready (now tape) (now bytes) p st (now words) ⌝ }
+    ensures { λ r. ⌜ r ≡ chosenOf (chosenRegion (bookAt (now (tape .entry)) (placesIn (now (tape .entry))) (now (bytes .entry))) (editOf start end (now (replacement .entry)))) ⌝ }
+{
+    let text = &bytes[0..p.text as usize];
+    let n = edit::edit_refusal(text, start, end, replacement);
+    if n != 0 {
+        return Chosen::Refused(n);
+    }
+    if depends(tape, bytes, p, st, words, start) {
+        return Chosen::Refused(10);
+    }
+    let r = cuts::balanced_region(tape, text, p.nodes, p.pairs, start as usize, end as usize);
+    if is_whole(p.text, r) {
+        return Chosen::Refused(11);
+    }
+    Chosen::Region(r.start as u32, r.end as u32)
+}
+
+// Numbers 1 to 11, with an index of the book's strings left in the words.
+fn region_by_index(
+    tape: &[u8],
+    bytes: &[u8],
+    start: u32,
+    end: u32,
+    replacement: &[u8],
+    words: &mut [u32],
+) -> Chosen
+    ensures { λ r. ⌜ (r ≡ chosenOf (chooseRegion (now (tape .entry)) (now (bytes .entry)) (editOf start end (now (replacement .entry))))) × (length (now (words .exit)) ≡ length (now (words .entry))) ⌝ }
+{
+    let n = tape::check_book(tape, bytes);
+    if n != 0 {
+        return Chosen::Refused(n);
+    }
+    let p = places::places_of(tape, bytes);
+    let st = store::store_of(tape, p.layers);
+    strings::index_strings(tape, st, bytes.len(), words);
+    chosen_region(tape, bytes, p, st, words, start, end, replacement)
+}
+
+// `choose_region`: choosing the region alone runs up to 11. The words come back as zeros.
+pub fn choose_region(
+    tape: &[u8],
+    bytes: &[u8],
+    start: u32,
+    end: u32,
+    replacement: &[u8],
+    words: &mut [u32],
+) -> Chosen
+    ensures { λ r. ⌜ (r ≡ chosenOf (chooseRegion (now (tape .entry)) (now (bytes .entry)) (editOf start end (now (replacement .entry))))) × (now (words .exit) ≡ zeros (length (now (words .entry)))) ⌝ }
+{
+    let r = region_by_index(tape, bytes, start, end, replacement, words);
+    wire::zero_words(words);
+    r
+}
+
+// Section 6. The region is handed on as that part of the text; what lies outside of it is left out.
+pub fn region_text<'a>(text: &'a [u8], start: u32, end: u32) -> &'a [u8]
+    ensures { λ r. ⌜ now r ≡ part (now (text .entry)) start (end - start) ⌝ }
+{
+    let from = start as usize;
+    let to = end as usize;
+    if to <= from {
+        return &text[0..0];
+    }
+    if text.len() <= from {
+        return &text[0..0];
+    }
+    if text.len() < to {
+        return &text[from..text.len()];
+    }
+    &text[from..to]
 }

@@ -98,6 +98,14 @@ module _ {lengths first : List ℕ} {k j from start : ℕ} {words : List ℕ} (s
   unfolding stringIndex
   indexing-all e = s .wrote ∙ ap (overwrite first 0) (ap (λ (n : ℕ). listTo n (entryAt lengths k)) e ∙ list-tabulate (length lengths / k) (entryAt lengths k))
 
+-- what `index_strings` leaves is as long as before
+pub index-length : (lengths first : List ℕ) {words : List ℕ} → words ≡ overwrite first 0 (indexIn lengths first) → length words ≡ length first
+index-length lengths first {words} e =
+    let k = stepIn lengths first in
+    let n = length-index lengths k in
+    let few = step-few (length lengths) (length first) in
+    ap length e ∙ length-overwrite first 0 (stringIndex lengths k) (omega (arith, n, few))
+
 -- What `index_strings` leaves is an index.
 pub index-written : (lengths first : List ℕ) {words : List ℕ} → words ≡ overwrite first 0 (indexIn lengths first) → Indexed lengths words
 index-written lengths first {words} e =
@@ -106,7 +114,7 @@ index-written lengths first {words} e =
     let n = length-index lengths k in
     let few = step-few (length lengths) (length first) in
     let fits : 0 + length bs ≤ length first = omega (arith, n, few) in
-    let same : length words ≡ length first = ap length e ∙ length-overwrite first 0 bs fits in
+    let same = index-length lengths first e in
     let whole : take (length lengths / k) words ≡ bs =
     ap (λ (y : List ℕ). take (length lengths / k) y) e
     ∙ ap (λ (y : ℕ). take y (overwrite first 0 bs)) (sym (zero-add (length bs) ∙ n))
