@@ -30,18 +30,19 @@ fn put_text(s: &[u8]) {
     }
 }
 
-fn put_region(tape: &[u8], bytes: &[u8], start: u32, end: u32) {
+// The text stands first in the byte buffer.
+fn put_region(bytes: &[u8], start: u32, end: u32) {
     put(b"region ", start as u64);
     put(b" ", end as u64);
     say(b" \"");
-    put_text(region::region_text(tape, bytes, start, end));
+    put_text(region::region_text(bytes, start, end));
     say(b"\"");
 }
 
-fn put_chosen(tape: &[u8], bytes: &[u8], a: region::Chosen) {
+fn put_chosen(bytes: &[u8], a: region::Chosen) {
     match a {
         region::Chosen::Refused(n) => put(b"refused ", n as u64),
-        region::Chosen::Region(start, end) => put_region(tape, bytes, start, end),
+        region::Chosen::Region(start, end) => put_region(bytes, start, end),
     }
 }
 
@@ -50,7 +51,6 @@ fn show(label: &[u8], tape: &[u8], bytes: &[u8], start: u32, end: u32, replaceme
     say(label);
     say(b": ");
     put_chosen(
-        tape,
         bytes,
         region::choose_region(tape, bytes, start, end, replacement, &mut words),
     );
