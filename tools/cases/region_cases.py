@@ -81,7 +81,7 @@ case('blank line at the start of the text', plain('\n\nb'), 2, 3, b'x', (2, 3))
 case('one newline at the start of the text', plain('\nb'), 1, 2, b'x', 11)
 case('three newlines: two cuts', plain('a\n\n\nb'), 3, 3, b'x', (3, 4))
 
-# ---- "elsewhere two newline bytes before it, no node across, depths 0, no pair with open start < offset < close end"
+# ---- "elsewhere two newline bytes before it, no node across, block and warichu depths 0 .., no pair with open start < offset < close end"
 def nodes(*ns): return book(T, ['w'], [], [], ns)
 def pair(*p): return but(plain(T), pairs=[(0,) + p])
 case('node across a cut', nodes(inline(2, 4, 5)), 4, 5, b'x', (0, 6))

@@ -36,6 +36,7 @@ def spans(text, *nodes): return fit(book(text, nodes=nodes))
 empty = lambda: plain('')
 
 # ---- 1: "tape or byte buffer breaks section 4's layout; a book without a layer; a reading without exactly one layer"
+# "In this order": 1 "Once", 2 "per layer", .., "10: end". E is the empty book: 1, 0, 0; 2; 10
 E = empty().tape()
 case('1 empty tape', 1, Raw(b''))
 case('1 end alone', 1, Raw(b'\x0a'))
@@ -52,6 +53,7 @@ case('1 segment cut short', 1, Raw(pools([''], [], [text()]).tape()[:-2]))
 case('1 node cut short', 1, Raw(one().tape()[:-2], one().bytes()))
 D = but(plain('a'), diags=[(0, 0, 0, 1, 0)])
 case('1 diagnostic cut short', 1, Raw(D.tape()[:-2], D.bytes()))
+# inside a layer 3, then 4, then 5; behind the layers 6, 7, 8, 9
 S, C = b'\x03' + W(0), b'\x04\0' + W(0) + W(0)
 case('1 string behind a content', 1, Raw(E[:-1] + S + C + S + b'\x0a'))
 case('1 content behind a segment', 1, Raw(E[:-1] + S + text().out() + C + b'\x0a'))
@@ -60,37 +62,46 @@ A = b'\x01' + W(2) + W(4) + b'\x02'
 case('1 layer behind a node', 1, Raw(A + N + b'\x02\x0a', b'aannna'))
 case('1 node behind a pair', 1, Raw(A + L + N + b'\x0a', b'aannna'))
 case('1 pair behind a container', 1, Raw(b'\x01' + W(2) + W(2) + b'\x02' + K + L + b'\x0a', b'aaaa'))
+# "A book is a tape and a byte buffer: text, normalized text, strings, nothing more"
 case('1 byte buffer one short', 1, Raw(plain('a').tape(), b'a'))
 case('1 byte buffer one long', 1, but(plain('a'), extra=b'a'))
 case('1 text past the limit of 3 that is not there', 1, Raw(b'\x01' + W(16777216) + W(16777216) + b'\x02\x0a'))
 case('1 string length 4294967295', 1, Raw(E[:-1] + b'\x03' + W(NONE) + b'\x0a'))
+# "b class (0 Inline, 1 BlockLeaf, 2 BlockOpen, 3 BlockClose)"; "inline is 0 or 1, .. 0 in classes 0 and 1"
 case('1 class 4', 1, one(cls=4))
 case('1 inline 1 in class 0', 1, one(inl=1))
 case('1 inline 1 in class 1', 1, one(cls=1, inl=1))
 case('1 inline 2 in class 2', 1, one(kind=0, cls=2, inl=2))
+# "classes 0 and 1 carry 1..15"; "Kind 0 is text (word 1 the id) or, for classes 2 and 3, no words"
 case('1 kind 0 in class 0', 1, one(kind=0, words=[0], strings=['']))
 case('1 kind 5 in class 2', 1, one(cls=2))
 case('1 kind 16', 1, one(kind=16))
 case('1 word of a BlockOpen', 1, one(kind=0, cls=2, words=[1], strings=['', '']))
+# "Unused words and tags are 0"
 case('1 first word of a PageBreak', 1, one(words=[1]))
 case('1 last word of a PageBreak', 1, one(words=[0, 0, 0, 0, 0, 1]))
 case('1 fifth word of a Ruby', 1, one(1, words=[0, 0, 0, 0, 1]))
 case('1 tag 1 of a PageBreak', 1, one(tag=1))
+# Format: "tag: origin × 4 + payload", four of each; Gaiji and Illustration have three tags, a Directive has 14
 case('1 tag 16 of a Format', 1, one(2, 16))
 case('1 tag 3 of a Gaiji', 1, one(3, 3, strings=['']))
 case('1 tag 3 of an Illustration', 1, one(11, 3, strings=['']))
 case('1 tag 14 of a Directive', 1, one(13, 14, strings=['']))
+# "string only for AccentBody, QuotedTarget", payloads 2 and 3; mencode only with tag 2; "tag 0 no caption, 1 Plain"
 case('1 payload string of payload 1', 1, one(2, 1, [0, 0, 1], ['', '']))
 case('1 mencode with tag 0', 1, one(3, 0, [0, 1], ['', '']))
 case('1 caption with tag 0', 1, one(11, 0, [0, 0, 0, 0, 1], ['', '']))
 case('1 caption length with tag 1', 1, one(11, 1, [0, 0, 0, 0, 0, 1], ['']))
+# "4: b tag (0 Plain: id, 0; 1 Segments: start, length)"
 case('1 content tag 2', 1, pools([''], [(2, 0, 0)]))
 case('1 second word of a Plain content', 1, pools([''], [(0, 0, 1)]))
+# "Segment tags 0, 1 and 2 carry kinds 0, 3 and 13; tag 3 and classes 0 and 1 carry 1..15"
 case('1 segment tag 4', 1, pools([''], [], [Seg(4, 0, Body())]))
 case('1 kind 3 in a Text segment', 1, pools([''], [], [Seg(0, 0, Body(3))]))
 case('1 kind 0 in a Gaiji segment', 1, pools([''], [], [Seg(1, 0, Body(0))]))
 case('1 kind 3 in a Directive segment', 1, pools([''], [], [Seg(2, 0, Body(3))]))
 case('1 kind 0 in a Node segment', 1, pools([''], [], [Seg(3, 1, Body(0))]))
+# "7 pair: b kind 0..4"; "9 diagnostic: b kind (.. 4 other)"
 case('1 pair kind 5', 1, but(plain('aa'), pairs=[(5, 0, 1, 1, 2)]))
 case('1 diagnostic kind 5', 1, but(plain('a'), diags=[(5, 0, 0, 1, 0)]))
 
@@ -114,6 +125,7 @@ case('4 id of an empty pool', 4, pools([], [P(0)]))
 case('4 id one past the pool', 4, pools([''], [P(1)]))
 case('4 id 4294967295 of a content', 4, pools([''], [P(NONE)]))
 case('4 id one past the pool, of a Text segment', 4, pools([''], [], [text(1)]))
+# "Only mencode with tag 2, number, dimensions and description may be missing, written 0xFFFFFFFF"
 case('4 hint of a Gaiji missing', 4, one(3, 0, [NONE], ['']))
 case('4 mencode one past the pool', 4, one(3, 2, [0, 1], ['']))
 case('4 payload of a Format missing', 4, one(2, 2, [0, 0, NONE], ['']))
@@ -122,6 +134,7 @@ case('4 file of an Illustration missing', 4, one(11, 0, [NONE, NONE, NONE, NONE]
 case('4 number of an Illustration one past the pool', 4, one(11, 0, [0, 1, NONE, NONE], ['']))
 case('4 Plain caption missing', 4, one(11, 1, [0, NONE, NONE, NONE, NONE], ['']))
 case('4 raw of a Directive missing', 4, one(13, 0, [NONE], ['']))
+# "A range's start plus length is at most its pool's count; one of length above 0 lies in one layer"
 case('4 range of an empty pool', 4, one(14, 0, [0, 1]))
 case('4 range one past the pool', 4, one(14, 0, [0, 2], [''], [P(0)]))
 case('4 empty range behind the end of the pool', 4, one(14, 0, [1, 0]))
@@ -157,23 +170,29 @@ case('5 before 6: level 0 of a Node segment, and an empty diagnostic', 5, but(pl
 
 # ---- 6: "spans, offsets in images, pairs, containers, diagnostics"; a PageBreak of class 0 has an image of 3 bytes
 def offset(o, cls=0): b = one(cls=cls); b.nodes[0].off = o; return b
+# "node spans non-empty, each end ≤ next start, inside the text"
 case('6 empty span', 6, spans('a', inline(0, 0, 5)))
 case('6 span that ends before it starts', 6, spans('a', inline(1, 0, 5)))
 case('6 span past the text', 6, spans('a', inline(0, 2, 5)))
 case('6 overlapping spans', 6, spans('aa', inline(0, 2, 5), inline(1, 2, 5)))
 case('6 spans out of order', 6, spans('aa', inline(1, 2, 5), inline(0, 1, 5)))
+# "a node's normalized offset lies in its image, which begins at its start plus earlier drift"
 case('6 offset at the end of the image', 6, offset(3))
 case('6 offset at the end of the image of a BlockLeaf', 6, offset(7, 1))
+# two nodes over 0..2 and 2..3: the drift of the first is 1, so the second image is 3..6
 def second(o): b = spans('aab', inline(0, 2, 5), inline(2, 3, 5)); b.nodes[0].off, b.nodes[1].off = 0, o; return b
 case('6 offset one before the begin of the image', 6, second(2))
 case('6 offset at the end of the second image', 6, second(6))
+# "Pairs: open and close non-empty, open end ≤ close start, inside the text"
 case('6 pair with an empty open', 6, but(plain('aa'), pairs=[(0, 0, 0, 1, 2)]))
 case('6 pair with an empty close', 6, but(plain('aa'), pairs=[(0, 0, 1, 2, 2)]))
 case('6 pair whose open ends behind the start of its close', 6, but(plain('aaa'), pairs=[(0, 0, 2, 1, 3)]))
 case('6 pair past the text', 6, but(plain('aa'), pairs=[(0, 0, 1, 1, 3)]))
+# "Containers: open < close < normalized length"
 case('6 container with open = close', 6, but(plain('aa'), containers=[(0, 1, 1)]))
 case('6 container with close = normalized length', 6, but(plain('aa'), containers=[(0, 0, 2)]))
 case('6 container of a longer text, close past the normalized text', 6, but(book('aaaaa', nodes=[inline(0, 5, 5)]), containers=[(0, 0, 4)]))
+# "Diagnostics: non-empty, inside"
 case('6 empty diagnostic', 6, but(plain('a'), diags=[(0, 0, 0, 0, 0)]))
 case('6 diagnostic past the text', 6, but(plain('a'), diags=[(0, 0, 0, 2, 0)]))
 case('6 before 7: empty diagnostic, and a normalized text one too long', 6, but(plain('a'), norm=b'aa', diags=[(0, 0, 0, 0, 0)]))
