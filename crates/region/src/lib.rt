@@ -117,9 +117,9 @@ pub fn choose_region(
 ) -> Chosen
     ensures { λ r. ⌜ (r ≡ chosenOf (chooseRegion (now (tape .entry)) (now (bytes .entry)) (editOf start end (now (replacement .entry))))) × (now (words .exit) ≡ zeros (length (now (words .entry)))) ⌝ }
 {
-    let r = region_by_index(tape, bytes, start, end, replacement, words);
+    let found = region_by_index(tape, bytes, start, end, replacement, words);
     wire::zero_words(words);
-    r
+    found
 }
 
 // Section 6. The region is handed on as that part of the text; what lies outside of it is left out.
