@@ -1,10 +1,9 @@
 -- Where the parts of a case stand in the input.
-use mathlib.Core.Path.{_≡_, refl, sym, ap, _∙_}
-use mathlib.Core.List.{List, []}
-use Prim.Native.Nat.{ℕ, _+_, _-_, _≤_, _<_, min}
+use mathlib.Core.Path.{_≡_, ap}
+use mathlib.Core.List.{List}
+use Prim.Native.Nat.{ℕ, _+_, _-_, _<_, min}
 use native.Mathlib.Omega.{arith}
-use lib.ListN.{length, take, drop, length-drop, drop-of-length-le}
-use lib.Seq.{take-all, take-nil}
+use lib.ListN.{length}
 use Rattle.model.specs.Bytes.{part, wordAt}
 use Rattle.cases.specs.declared.Case.{Case}
 
@@ -34,16 +33,3 @@ caseAt s at =
 pub next-further : (s : List ℕ) (at : ℕ) (c : Case) → c ≡ caseAt s at → at < length s → at < c .next
 unfolding caseAt
 next-further s at c e h = let n = ap (λ (x : Case). x .next) e in omega (arith, n)
-
-module _ (s : List ℕ) (from to : ℕ) where
-  pub part-none : to ≤ from → [] ≡ part s from (to - from)
-  part-none h = let e : to - from ≡ 0 = omega arith in rw e refl
-
-  pub part-past : length s ≤ from → [] ≡ part s from (to - from)
-  part-past h = rw (drop-of-length-le s h) (sym (take-nil (to - from)))
-
-  -- up to the input's end is up to any place behind it
-  pub part-over : length s < to → part s from (length s - from) ≡ part s from (to - from)
-  part-over h =
-      let l = length-drop from s in
-      take-all (length s - from) (drop from s) (omega (arith, l)) ∙ sym (take-all (to - from) (drop from s) (omega (arith, l)))

@@ -2,8 +2,6 @@
 // an end, the length of its replacement; then those four parts. Every place is taken: what the input does not hold of a case is
 // left out of it, and the next one begins at the input's end.
 ghost use mathlib.Core.Path.{_≡_};
-ghost use Prim.Native.Nat.{_-_};
-ghost use Rattle.model.specs.Bytes.{part};
 ghost use Rattle.cases.specs.Stream.{behind as placeBehind, caseAt};
 
 const HEAD: u32 = 24;
@@ -31,27 +29,11 @@ fn behind(input: &[u8], at: usize, len: u32) -> usize
     at + len as usize
 }
 
-// The bytes from one place up to another.
-pub fn between<'a>(input: &'a [u8], from: usize, to: usize) -> &'a [u8]
-    ensures { λ r. ⌜ now r ≡ part (now (input .entry)) from (to - from) ⌝ }
-{
-    if to <= from {
-        return &input[..0];
-    }
-    if input.len() <= from {
-        return &input[..0];
-    }
-    if input.len() < to {
-        return &input[from..];
-    }
-    &input[from..to]
-}
-
 pub fn case_at(input: &[u8], at: usize) -> Case
     ensures { λ r. ⌜ r ≡ caseAt (now (input .entry)) at ⌝ }
 {
     let label = behind(input, at, HEAD);
-    let head = between(input, at, label);
+    let head = wire::between(input, at, label);
     let tape = behind(input, label, wire::u32_or_zero(head, 0));
     let bytes = behind(input, tape, wire::u32_or_zero(head, 4));
     let replacement = behind(input, bytes, wire::u32_or_zero(head, 8));

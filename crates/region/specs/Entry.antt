@@ -1,22 +1,18 @@
--- `choose_region` on any tape and bytes, for each of its returns; and the part of a text between two offsets.
-use mathlib.Core.Path.{_≡_, refl, sym, ap, _∙_}
-use Prim.Native.Nat.{ℕ, _-_, _^_, _≤_, _<_}
-use native.Mathlib.Omega.{arith}
-use mathlib.Core.List.{List, []}
-use lib.ListN.{length, take, drop, length-drop, drop-of-length-le}
-use lib.Seq.{take-all, take-nil}
-use Rattle.model.specs.Bytes.{part}
-use Rattle.model.specs.Refusal.{Checked, Checked.refused, Checked.accepted, _>>=_, numberOf}
+-- `choose_region` on any tape and bytes, for each of its returns.
+use mathlib.Core.Path.{_≡_, refl, sym, _∙_}
+use Prim.Native.Nat.{ℕ, _^_, _<_}
+use mathlib.Core.List.{List}
+use lib.ListN.{length}
+use Rattle.model.specs.Refusal.{_>>=_, numberOf}
 use Rattle.model.specs.Tape.{places, bookAt}
 use Rattle.model.specs.WellFormed.{checkBook}
 use Rattle.model.specs.Region.{Edit, chosenRegion, chooseRegion}
-use Rattle.wire.specs.Overwrite.{overwrite}
 use Rattle.places.specs.declared.Places.{Places}
 use Rattle.places.specs.Found.{placesOf}
 use Rattle.store.specs.declared.Store.{Store}
 use Rattle.store.specs.Stored.{StoreFits, storeAt}
 use Rattle.strings.specs.Starts.{lengthsIn, Readable}
-use Rattle.strings.specs.Index.{Indexed, indexIn, index-written}
+use Rattle.strings.specs.Index.{Indexed}
 use Rattle.tape.specs.Accepted.{Accepted, accepted-book, accepted-found, accepted-store, refusal-of}
 use Rattle.region.specs.declared.Chosen.{Chosen}
 use Rattle.region.specs.declared.Chosen.the-variants.{Refused}
@@ -46,17 +42,3 @@ module _ (t d : List ℕ) {n : ℕ} (q : n ≡ numberOf (checkBook t d)) where
 
         pub choose-readable : length d < 2 ^ 63 → Readable t st (length d)
         choose-readable h = accepted-readable passed (accepted-found passed p e) f h
-
--- ---- the part of a text
-
-module _ (text : List ℕ) (start end : ℕ) where
-  pub part-none : end ≤ start → [] ≡ part text start (end - start)
-  part-none h = let e : end - start ≡ 0 = omega arith in rw e refl
-
-  pub part-behind : length text ≤ start → [] ≡ part text start (end - start)
-  part-behind h = rw (drop-of-length-le text {i = start} h) (sym (take-nil (end - start)))
-
-  pub part-rest : length text < end → take (length text - start) (drop start text) ≡ part text start (end - start)
-  part-rest h =
-      let n = length-drop start text in
-      take-all (length text - start) (drop start text) (omega (arith, n)) ∙ sym (take-all (end - start) (drop start text) (omega (arith, n)))

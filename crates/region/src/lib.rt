@@ -126,16 +126,5 @@ pub fn choose_region(
 pub fn region_text<'a>(text: &'a [u8], start: u32, end: u32) -> &'a [u8]
     ensures { λ r. ⌜ now r ≡ part (now (text .entry)) start (end - start) ⌝ }
 {
-    let from = start as usize;
-    let to = end as usize;
-    if to <= from {
-        return &text[0..0];
-    }
-    if text.len() <= from {
-        return &text[0..0];
-    }
-    if text.len() < to {
-        return &text[from..text.len()];
-    }
-    &text[from..to]
+    wire::between(text, start as usize, end as usize)
 }

@@ -59,12 +59,12 @@ fn show(label: &[u8], tape: &[u8], bytes: &[u8], start: u32, end: u32, replaceme
 
 fn show_case(input: &[u8], c: cases::Case) {
     show(
-        cases::between(input, c.label, c.tape),
-        cases::between(input, c.tape, c.bytes),
-        cases::between(input, c.bytes, c.replacement),
+        wire::between(input, c.label, c.tape),
+        wire::between(input, c.tape, c.bytes),
+        wire::between(input, c.bytes, c.replacement),
         c.start,
         c.end,
-        cases::between(input, c.replacement, c.next),
+        wire::between(input, c.replacement, c.next),
     );
 }
 

@@ -44,9 +44,9 @@ fn copy(tape: &[u8], bytes: &[u8]) {
     say(b"  copy: ");
     put_copied(lookup::copy_book(tape, bytes, &mut outtape, &mut outbytes));
     say(b", ");
-    put_hex(cases::between(&outtape, 0, 16));
+    put_hex(wire::between(&outtape, 0, 16));
     say(b" ");
-    put_hex(cases::between(&outbytes, 0, 16));
+    put_hex(wire::between(&outbytes, 0, 16));
     say(b"\n");
 }
 
@@ -77,7 +77,7 @@ fn put_records(place: usize, n: u32) {
 // A string with the bytes between two places of the byte buffer.
 fn put_string(bytes: &[u8], start: usize, end: usize) {
     say(b"\"");
-    say(cases::between(bytes, start, end));
+    say(wire::between(bytes, start, end));
     say(b"\"");
 }
 
@@ -130,9 +130,9 @@ fn show(label: &[u8], tape: &[u8], bytes: &[u8], start: u32, end: u32) {
 
 fn show_case(input: &[u8], c: cases::Case) {
     show(
-        cases::between(input, c.label, c.tape),
-        cases::between(input, c.tape, c.bytes),
-        cases::between(input, c.bytes, c.replacement),
+        wire::between(input, c.label, c.tape),
+        wire::between(input, c.tape, c.bytes),
+        wire::between(input, c.bytes, c.replacement),
         c.start,
         c.end,
     );

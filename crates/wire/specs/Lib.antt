@@ -3,3 +3,4 @@ pub mod Words
 pub mod Loops
 pub mod Runs
 pub mod Compare
+pub mod Parts

@@ -1,4 +1,4 @@
-// Bytes at a place, document 01 section 4: words little-endian read and written, a copy, zeros to the end, a comparison and a
+// Bytes at a place, document 01 section 4: words little-endian read and written, a part, a copy, zeros to the end, a comparison and a
 // run of records. `byte_at` and `u32_or_zero` take any place and read 0 past the end: they are for a tape of which nothing is
 // known yet. The others ask for their place. A writer's contract is an equation with `overwrite`; specs/ has its laws, and
 // those of loops, for every crate above.
@@ -6,7 +6,7 @@ ghost use mathlib.Core.Path.{_≡_};
 ghost use mathlib.Core.List.{_∷_, []};
 ghost use Prim.Native.Nat.{_+_, _-_, _*_, _≤_, _<_};
 ghost use lib.ListN.{length, drop};
-ghost use Rattle.model.specs.Bytes.{byteAt, wordAt, wordBytes};
+ghost use Rattle.model.specs.Bytes.{byteAt, wordAt, wordBytes, part};
 ghost use Rattle.model.specs.Lists.{same as sameBytes};
 ghost use Rattle.wire.specs.Overwrite.{overwrite, zeros};
 ghost use Rattle.wire.specs.Compare.{same4, same16};
@@ -50,6 +50,22 @@ pub fn u32_or_zero(s: &[u8], at: usize) -> u32
         byte_at(s, at + 2),
         byte_at(s, at + 3),
     )
+}
+
+// The bytes from one place up to another; what lies behind the end is left out.
+pub fn between<'a>(s: &'a [u8], from: usize, to: usize) -> &'a [u8]
+    ensures { λ r. ⌜ now r ≡ part (now (s .entry)) from (to - from) ⌝ }
+{
+    if to <= from {
+        return &s[..0];
+    }
+    if s.len() <= from {
+        return &s[..0];
+    }
+    if s.len() < to {
+        return &s[from..];
+    }
+    &s[from..to]
 }
 
 pub fn put_u8(out: &mut [u8], at: usize, v: u8)

@@ -5,7 +5,7 @@ use Rattle.cases.proofs.case_at.Tie as tie
 use Rattle.cases.proofs.case_at.Reads as reads
 use Rattle.cases.proofs.case_at.Lts as lts
 use Rattle.cases.proofs.behind.Reads as behind-reads
-use Rattle.cases.proofs.between.Reads as between-reads
+use Rattle.wire.proofs.between.Reads as between-reads
 use Rattle.wire.proofs.u32_or_zero.Reads as u32-or-zero-reads
 
 -- src/lib.rt:53:9

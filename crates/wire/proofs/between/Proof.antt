@@ -1,9 +1,9 @@
 use borrow.Author.Needs.{needs}
-use Rattle.cases.specs.Stream.{part-none, part-past, part-over}
-use Rattle.cases.proofs.between.Statement.{statement}
-use Rattle.cases.proofs.between.Tie as tie
-use Rattle.cases.proofs.between.Reads as reads
-use Rattle.cases.proofs.between.Lts as lts
+use Rattle.wire.specs.Parts.{part-none, part-past, part-over}
+use Rattle.wire.proofs.between.Statement.{statement}
+use Rattle.wire.proofs.between.Tie as tie
+use Rattle.wire.proofs.between.Reads as reads
+use Rattle.wire.proofs.between.Lts as lts
 
 -- src/lib.rt:39:9
 slice-aggregate-result : tie.Need-slice-aggregate-result
