@@ -1,2 +1,5 @@
 pub mod Added
 pub mod Trees
+pub mod Order
+pub mod Capped
+pub mod InPlace

@@ -1,1 +1,161 @@
-// Document 01 section 5: how many contents, segments and calls of `intern` grafting adds.
+// Document 01 section 5: how many contents, segments and calls of `intern` grafting adds, read in place. One walk goes node →
+// content run → segment run → node, the segment level falling on each turn. Every sum says 'over' once it passes the room that
+// the caller has left under number 3; a run's length is added before the run is walked, and no walk goes on once it is over: a
+// tape of a few hundred bytes whose runs are shared can stand for 2^32 items.
+ghost use mathlib.Core.Path.{_≡_};
+ghost use Prim.Native.Nat.{_+_, _*_, _≤_, _<_, min};
+ghost use lib.ListN.{length};
+ghost use Rattle.model.specs.WellFormed.{wordOf};
+ghost use Rattle.model.specs.Tape.{recordAt, contentCodec, segmentCodec, nodeCodec};
+ghost use Rattle.records.specs.Values.{bodyAt};
+ghost use Rattle.levels.specs.Below.{LevelsFit};
+ghost use Rattle.sizes.specs.Order.{fieldWord};
+ghost use Rattle.sizes.specs.Capped.{overSizes, noSizes, plus, Kept};
+ghost use Rattle.sizes.specs.InPlace.{contentCount, segmentCount, fieldWords, stringAdds, usedAdds, innerAdds, bodyAdds, contentAdds, contentsAdd, contentRunAdds, segmentsAdd, segmentRunAdds, nodeAdds, nodesAdd};
+
+// How many contents and segments may still be added.
+pub struct Room {
+    pub contents: u32,
+    pub segments: u32,
+}
+
+// What grafting adds; if `over`, more than there is room for, and the numbers are 0. Calls stop at 4294967295.
+pub struct Sizes {
+    pub contents: u32,
+    pub segments: u32,
+    pub calls: u32,
+    pub over: bool,
+}
+
+// The use of a field, the word at which it begins, and the word behind that.
+pub struct FieldWords {
+    pub usage: u8,
+    pub first: u32,
+    pub second: u32,
+}
+
+fn wide(x: u32) -> usize
+    ensures { λ r. ⌜ r ≡ x ⌝ }
+{
+    x as usize
+}
+
+fn calls_sum(a: u32, b: u32) -> u32
+    ensures { λ r. ⌜ r ≡ min (a + b) 4294967295 ⌝ }
+{
+    if b <= 4294967295 - a {
+        return a + b;
+    }
+    4294967295
+}
+
+fn over() -> Sizes
+    ensures { λ r. ⌜ r ≡ overSizes ⌝ }
+{
+    Sizes {
+        contents: 0,
+        segments: 0,
+        calls: 0,
+        over: true,
+    }
+}
+
+// So much more; what is over stays so.
+pub fn with_added(room: Room, t: Sizes, contents: u32, segments: u32, calls: u32) -> Sizes
+    ensures { λ r. ⌜ r ≡ plus room t (record { contents = contents; segments = segments; calls = calls }) ⌝ }
+{
+    if t.over {
+        return t;
+    }
+    let c = wide(t.contents) + wide(contents);
+    let s = wide(t.segments) + wide(segments);
+    if wide(room.contents) < c {
+        return over();
+    }
+    if wide(room.segments) < s {
+        return over();
+    }
+    Sizes {
+        contents: c as u32,
+        segments: s as u32,
+        calls: calls_sum(t.calls, calls),
+        over: false,
+    }
+}
+
+// How many contents a range names, and how many segments; none where it is no range.
+fn content_count(st: store::Store, start: u32, len: u32) -> u32
+    requires { ⌜ st .layers ≤ 32 ⌝ }
+    ensures { λ r. ⌜ r ≡ contentCount st start len ⌝ }
+{
+    if ids::contents_in(st, start, len) {
+        return len;
+    }
+    0
+}
+
+fn segment_count(st: store::Store, start: u32, len: u32) -> u32
+    requires { ⌜ st .layers ≤ 32 ⌝ }
+    ensures { λ r. ⌜ r ≡ segmentCount st start len ⌝ }
+{
+    if ids::segments_in(st, start, len) {
+        return len;
+    }
+    0
+}
+
+// Section 5. Fields go in the Rust's order: which of the six words comes at place j.
+pub fn field_word(kind: u8, j: usize) -> usize
+    requires { ⌜ j < 6 ⌝ }
+    ensures { λ r. ⌜ (r ≡ fieldWord kind j) × (r < 6) ⌝ }
+{
+    if kind == 3 {
+        if j == 0 {
+            return 1;
+        }
+        if j == 1 {
+            return 0;
+        }
+        return j;
+    }
+    if kind == 11 {
+        if j == 3 {
+            return 4;
+        }
+        if j == 4 {
+            return 3;
+        }
+        return j;
+    }
+    j
+}
+
+pub fn field_at(tape: &[u8], at: usize, j: usize) -> FieldWords
+    requires { ⌜ (at + 34 ≤ length (now tape)) × (j < 6) ⌝ }
+    ensures { λ r. ⌜ r ≡ fieldWords (bodyAt (now (tape .entry)) at) j ⌝ }
+{
+    let kind = tape[at];
+    let i = field_word(kind, j);
+    FieldWords {
+        usage: records::word_use(kind, tape[at + 1], i),
+        first: records::body_word(tape, at, i),
+        second: ids::next_word(tape, at, i),
+    }
+}
+
+// A string is one call, a missing one none; so is a word at which no field begins.
+fn string_sizes(room: Room, t: Sizes, usage: u8, w: u32) -> Sizes
+    requires { ⌜ Kept room t ⌝ }
+    ensures { λ r. ⌜ r ≡ plus room t (stringAdds usage w) ⌝ }
+{
+    if usage == 1 {
+        return with_added(room, t, 0, 0, 1);
+    }
+    if usage == 2 {
+        if w == 4294967295 {
+            return t;
+        }
+        return with_added(room, t, 0, 0, 1);
+    }
+    t
+}
