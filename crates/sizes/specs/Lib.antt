@@ -3,3 +3,4 @@ pub mod Trees
 pub mod Order
 pub mod Capped
 pub mod InPlace
+pub mod Answers

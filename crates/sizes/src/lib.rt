@@ -159,3 +159,184 @@ fn string_sizes(room: Room, t: Sizes, usage: u8, w: u32) -> Sizes
     }
     t
 }
+
+// Section 5. What a body of that level adds: its fields in order.
+pub fn body_sizes(
+    tape: &[u8],
+    st: store::Store,
+    room: Room,
+    t: Sizes,
+    at: usize,
+    level: u8,
+) -> Sizes
+    requires { ⌜ LevelsFit (now tape) st ⌝ }
+    requires { ⌜ Kept room t ⌝ }
+    requires { ⌜ at + 34 ≤ length (now tape) ⌝ }
+    ensures { λ r. ⌜ r ≡ plus room t (bodyAdds level (now (tape .entry)) st (bodyAt (now (tape .entry)) at)) ⌝ }
+{
+    let mut u = t;
+    let mut j = 0;
+    while j < 6 {
+        let f = field_at(tape, at, j);
+        u = field_sizes(tape, st, room, u, f, level);
+        if u.over {
+            return u;
+        }
+        j += 1;
+    }
+    u
+}
+
+fn field_sizes(
+    tape: &[u8],
+    st: store::Store,
+    room: Room,
+    t: Sizes,
+    f: FieldWords,
+    level: u8,
+) -> Sizes
+    requires { ⌜ LevelsFit (now tape) st ⌝ }
+    requires { ⌜ Kept room t ⌝ }
+    ensures { λ r. ⌜ r ≡ plus room t (usedAdds (innerAdds level (now (tape .entry)) st) (now (tape .entry)) st f) ⌝ }
+{
+    if f.usage == 3 {
+        return content_run_sizes(tape, st, room, t, f.first, f.second, level);
+    }
+    if f.usage == 5 {
+        return segment_run_sizes(tape, st, room, t, f.first, f.second, level);
+    }
+    string_sizes(room, t, f.usage, f.first)
+}
+
+// Section 5. A run of contents that a body of that level names, with what is pushed before it.
+pub fn content_run_sizes(
+    tape: &[u8],
+    st: store::Store,
+    room: Room,
+    t: Sizes,
+    start: u32,
+    len: u32,
+    level: u8,
+) -> Sizes
+    requires { ⌜ LevelsFit (now tape) st ⌝ }
+    requires { ⌜ Kept room t ⌝ }
+    ensures { λ r. ⌜ r ≡ plus room t (contentRunAdds (innerAdds level (now (tape .entry)) st) (now (tape .entry)) st start len) ⌝ }
+{
+    let n = content_count(st, start, len);
+    let u = with_added(room, t, n, 0, 0);
+    if u.over {
+        return u;
+    }
+    if n == 0 {
+        return u;
+    }
+    let at = store::content_place(st, start);
+    contents_sizes(tape, st, room, u, at, n as usize, level)
+}
+
+// Section 5. What is pushed before a run of contents.
+pub fn contents_sizes(
+    tape: &[u8],
+    st: store::Store,
+    room: Room,
+    t: Sizes,
+    at: usize,
+    count: usize,
+    level: u8,
+) -> Sizes
+    requires { ⌜ LevelsFit (now tape) st ⌝ }
+    requires { ⌜ Kept room t ⌝ }
+    requires { ⌜ at + 10 * count ≤ length (now tape) ⌝ }
+    ensures { λ r. ⌜ r ≡ plus room t (contentsAdd (innerAdds level (now (tape .entry)) st) (now (tape .entry)) st at count) ⌝ }
+{
+    let mut u = t;
+    let mut i = 0;
+    while i < count {
+        u = content_sizes(tape, st, room, u, at + 10 * i, level);
+        if u.over {
+            return u;
+        }
+        i += 1;
+    }
+    u
+}
+
+// Section 5. Plain is a string, Segments a run.
+fn content_sizes(tape: &[u8], st: store::Store, room: Room, t: Sizes, at: usize, level: u8) -> Sizes
+    requires { ⌜ LevelsFit (now tape) st ⌝ }
+    requires { ⌜ Kept room t ⌝ }
+    requires { ⌜ at + 10 ≤ length (now tape) ⌝ }
+    ensures { λ r. ⌜ r ≡ plus room t (contentAdds (innerAdds level (now (tape .entry)) st) (now (tape .entry)) st (recordAt contentCodec (now (tape .entry)) at)) ⌝ }
+{
+    let c = records::content_at(tape, at);
+    if c.tag == 0 {
+        return with_added(room, t, 0, 0, 1);
+    }
+    segment_run_sizes(tape, st, room, t, c.first, c.second, level)
+}
+
+// Section 5. A run of segments that a body of that level names, with what is pushed before it.
+pub fn segment_run_sizes(
+    tape: &[u8],
+    st: store::Store,
+    room: Room,
+    t: Sizes,
+    start: u32,
+    len: u32,
+    level: u8,
+) -> Sizes
+    requires { ⌜ LevelsFit (now tape) st ⌝ }
+    requires { ⌜ Kept room t ⌝ }
+    ensures { λ r. ⌜ r ≡ plus room t (segmentRunAdds (innerAdds level (now (tape .entry)) st) (now (tape .entry)) st start len) ⌝ }
+{
+    let n = segment_count(st, start, len);
+    let u = with_added(room, t, 0, n, 0);
+    if u.over {
+        return u;
+    }
+    if n == 0 {
+        return u;
+    }
+    let at = store::segment_place(st, start);
+    segments_sizes(tape, st, room, u, at, n as usize, level)
+}
+
+// Section 5. What is pushed before a run of segments.
+pub fn segments_sizes(
+    tape: &[u8],
+    st: store::Store,
+    room: Room,
+    t: Sizes,
+    at: usize,
+    count: usize,
+    level: u8,
+) -> Sizes
+    requires { ⌜ LevelsFit (now tape) st ⌝ }
+    requires { ⌜ Kept room t ⌝ }
+    requires { ⌜ at + 37 * count ≤ length (now tape) ⌝ }
+    ensures { λ r. ⌜ r ≡ plus room t (segmentsAdd (innerAdds level (now (tape .entry)) st) (now (tape .entry)) at count) ⌝ }
+{
+    let mut u = t;
+    let mut i = 0;
+    while i < count {
+        u = segment_sizes(tape, st, room, u, at + 37 * i, level);
+        if u.over {
+            return u;
+        }
+        i += 1;
+    }
+    u
+}
+
+// The body of a segment is of the level below; below level 0 there is none.
+fn segment_sizes(tape: &[u8], st: store::Store, room: Room, t: Sizes, at: usize, level: u8) -> Sizes
+    requires { ⌜ LevelsFit (now tape) st ⌝ }
+    requires { ⌜ Kept room t ⌝ }
+    requires { ⌜ at + 37 ≤ length (now tape) ⌝ }
+    ensures { λ r. ⌜ r ≡ plus room t (innerAdds level (now (tape .entry)) st (recordAt segmentCodec (now (tape .entry)) at .body)) ⌝ }
+{
+    if level == 0 {
+        return t;
+    }
+    body_sizes(tape, st, room, t, at + 3, level - 1)
+}
