@@ -4,3 +4,4 @@ pub mod Order
 pub mod Capped
 pub mod InPlace
 pub mod Answers
+pub mod Shown
