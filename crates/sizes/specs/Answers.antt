@@ -110,3 +110,19 @@ module _ (m : Room) (t : Sizes) (tp : List ℕ) (st : Store) (at level : ℕ) wh
       by-zero : (k : ℕ) → (k ≡ 0 → ⊥) → k ≡ suc (k - 1)
       by-zero zero n = absurd (n refl)
       by-zero (suc k) n = omega arith
+
+-- ---- nodes
+
+module _ (m : Room) (t : Sizes) (tp : List ℕ) (st : Store) (at : ℕ) where
+  node-class : byteAt tp (at + 1) ≡ recordAt nodeCodec tp at .class
+  unfolding recordAt operandsAt nodeCodec
+  node-class = refl
+
+  -- classes 2 and 3 have no words
+  pub node-bare : Kept m t → 2 ≤ byteAt tp (at + 1) → t ≡ plus m t (nodeAdds tp st (recordAt nodeCodec tp at))
+  unfolding nodeAdds nodeFields fieldsAdd addAll
+  node-bare k h = rw (← node-class, le-ltb (byteAt tp (at + 1)) 2 h) (sym (k .is))
+
+  pub node-body-read : {r : Sizes} → byteAt tp (at + 1) < 2 → r ≡ plus m t (bodyAdds 33 tp st (bodyAt tp (at + 15))) → r ≡ plus m t (nodeAdds tp st (recordAt nodeCodec tp at))
+  unfolding nodeAdds nodeFields bodyAdds
+  node-body-read h q = rw (← node-class, lt-ltb (byteAt tp (at + 1)) 2 h) (q ∙ ap (λ (b : Body). plus m t (bodyAdds 33 tp st b)) (node-body tp at))

@@ -7,6 +7,7 @@ use mathlib.Core.Bool.{Bool, true, false, cond, _&&_, and-false}
 use lib.Dec.{leb}
 use borrow.Author.Tests.{le-leb, lt-leb, leb-true, leb-false}
 use Rattle.model.specs.Lists.{tabulate}
+use Rattle.laws.specs.Lists.{both}
 use Rattle.wire.specs.Loops.{by-bool}
 use Rattle.sizes.specs.Added.{Added, nothing, add, addAll, add-nothing, nothing-add, add-assoc}
 use Rattle.sizes.specs.declared.Room.{Room}
@@ -22,10 +23,14 @@ noSizes = record { contents = 0; segments = 0; calls = 0; over = false }
 abbrev pub overSizes : Sizes
 overSizes = record { contents = 0; segments = 0; calls = 0; over = true }
 
+-- Number 3. Over exactly if there is not room for so much; else the numbers themselves.
+unfoldable pub sizesIn : Room → Added → Sizes
+sizesIn m a = cond (fits m a) (record { contents = a .contents; segments = a .segments; calls = a .calls; over = false }) overSizes
+
+-- the same with a count of calls that stops
 abbrev pub exactSizes : Added → Sizes
 exactSizes a = record { contents = a .contents; segments = a .segments; calls = min (a .calls) 4294967295; over = false }
 
--- Number 3. Over exactly if there is not room for so much.
 unfoldable pub capped : Room → Added → Sizes
 capped m a = cond (fits m a) (exactSizes a) overSizes
 
@@ -37,6 +42,12 @@ unfoldable pub plus : Room → Sizes → Added → Sizes
 plus m t a = cond (t .over) t (capped m (add (addedOf t) a))
 
 -- ---- sums
+
+pub fits-room : (m : Room) (a : Added) → fits m a ≡ true → (a .contents ≤ m .contents) × (a .segments ≤ m .segments)
+unfolding fits
+fits-room m a h =
+    let b = both (leb (a .contents) (m .contents)) (leb (a .segments) (m .segments)) h in
+    (leb-true (a .contents) (m .contents) (b .0), leb-true (a .segments) (m .segments) (b .1))
 
 both-or : (a b : Bool) → (a && b) ≡ false → (x y : Bool) → (a ≡ false → x ≡ false) → (b ≡ false → y ≡ false) → (x && y) ≡ false
 both-or true b h x y f g = rw (g h, and-false) refl

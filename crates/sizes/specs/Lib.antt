@@ -5,3 +5,4 @@ pub mod Capped
 pub mod InPlace
 pub mod Answers
 pub mod Shown
+pub mod Calls

@@ -3,14 +3,19 @@
 // the caller has left under number 3; a run's length is added before the run is walked, and no walk goes on once it is over: a
 // tape of a few hundred bytes whose runs are shared can stand for 2^32 items.
 ghost use mathlib.Core.Path.{_≡_};
-ghost use Prim.Native.Nat.{_+_, _*_, _≤_, _<_, min};
+ghost use Prim.Native.Nat.{ℕ, _+_, _*_, _≤_, _<_, min};
+ghost use mathlib.Core.Bool.{true};
+ghost use mathlib.Core.List.{List};
 ghost use lib.ListN.{length};
-ghost use Rattle.model.specs.WellFormed.{wordOf};
-ghost use Rattle.model.specs.Tape.{recordAt, contentCodec, segmentCodec, nodeCodec};
+ghost use Rattle.model.specs.Tape.{recordAt, contentCodec, segmentCodec, nodeCodec, places, bookAt};
+ghost use Rattle.model.specs.Tree.{shownNodes};
 ghost use Rattle.records.specs.Values.{bodyAt};
+ghost use Rattle.ids.specs.Whole.{IdsFit, idsIn};
 ghost use Rattle.levels.specs.Below.{LevelsFit};
+ghost use Rattle.sizes.specs.Trees.{nodesSize};
 ghost use Rattle.sizes.specs.Order.{fieldWord};
-ghost use Rattle.sizes.specs.Capped.{overSizes, noSizes, plus, Kept};
+ghost use Rattle.sizes.specs.Capped.{overSizes, noSizes, capped, sizesIn, plus, Kept};
+ghost use Rattle.sizes.specs.Calls.{Limited};
 ghost use Rattle.sizes.specs.InPlace.{contentCount, segmentCount, fieldWords, stringAdds, usedAdds, innerAdds, bodyAdds, contentAdds, contentsAdd, contentRunAdds, segmentsAdd, segmentRunAdds, nodeAdds, nodesAdd};
 
 // How many contents and segments may still be added.
@@ -339,4 +344,56 @@ fn segment_sizes(tape: &[u8], st: store::Store, room: Room, t: Sizes, at: usize,
         return t;
     }
     body_sizes(tape, st, room, t, at + 3, level - 1)
+}
+
+// Section 5. A node of class 2 or 3 has no words; the levels in the runs of another are at most 32.
+pub fn node_sizes(tape: &[u8], st: store::Store, room: Room, t: Sizes, at: usize) -> Sizes
+    requires { ⌜ LevelsFit (now tape) st ⌝ }
+    requires { ⌜ Kept room t ⌝ }
+    requires { ⌜ at + 49 ≤ length (now tape) ⌝ }
+    ensures { λ r. ⌜ r ≡ plus room t (nodeAdds (now (tape .entry)) st (recordAt nodeCodec (now (tape .entry)) at)) ⌝ }
+{
+    if 2 <= tape[at + 1] {
+        return t;
+    }
+    body_sizes(tape, st, room, t, at + 15, 33)
+}
+
+fn none() -> Sizes
+    ensures { λ r. ⌜ r ≡ noSizes ⌝ }
+{
+    Sizes {
+        contents: 0,
+        segments: 0,
+        calls: 0,
+        over: false,
+    }
+}
+
+// Section 5. The nodes that stand from `at` on.
+pub fn nodes_sizes(tape: &[u8], st: store::Store, room: Room, at: usize, count: usize) -> Sizes
+    requires { ⌜ LevelsFit (now tape) st ⌝ }
+    requires { ⌜ at + 49 * count ≤ length (now tape) ⌝ }
+    ensures { λ r. ⌜ r ≡ capped room (nodesAdd (now (tape .entry)) st at count) ⌝ }
+{
+    let mut u = none();
+    let mut i = 0;
+    while i < count {
+        u = node_sizes(tape, st, room, u, at + 49 * i);
+        if u.over {
+            return u;
+        }
+        i += 1;
+    }
+    u
+}
+
+// Section 5. What the nodes of a tape with these places and this store add, whatever the bytes of its texts are.
+pub fn reading_sizes(tape: &[u8], st: store::Store, p: places::Places, room: Room) -> Sizes
+    requires { ⌜ IdsFit (now tape) st p ⌝ }
+    requires { ⌜ idsIn (now tape) st ≡ true ⌝ }
+    requires { ⌜ Limited room (p .nodes .count) ⌝ }
+    ensures { λ r. ⌜ ((d : List ℕ) → r ≡ sizesIn room (nodesSize (shownNodes (bookAt (now (tape .entry)) (places (now (tape .entry))) d)))) ⌝ }
+{
+    nodes_sizes(tape, st, room, p.nodes.at, p.nodes.count)
 }
