@@ -1,14 +1,13 @@
 -- The walk's answers: what each function has read and added, against the definitions in place.
 use mathlib.Core.Path.{_≡_, refl, sym, ap, _∙_}
-use Prim.Native.Nat.{ℕ, zero, suc, _+_, _-_, _*_, _≤_, _<_}
+use Prim.Native.Nat.{ℕ, zero, suc, _+_, _-_, _≤_, _<_}
 use native.Mathlib.Omega.{arith}
-use mathlib.Core.Bool.{Bool, true, false, cond}
-use mathlib.Core.List.{List, [], _∷_}
-use lib.Dec.{ltb, eqb}
+use mathlib.Core.Bool.{true}
+use mathlib.Core.List.{List}
 use borrow.Author.Tests.{eq-eqb, ne-eqb, lt-ltb, le-ltb}
 use Rattle.model.specs.Bytes.{byteAt}
-use Rattle.model.specs.Types.{Body, Content, SourceNode}
-use Rattle.model.specs.Tape.{fieldsOf, nodeFields, recordAt, recordsAt, operandsAt, contentCodec, segmentCodec, nodeCodec}
+use Rattle.model.specs.Types.{Body, Content}
+use Rattle.model.specs.Tape.{nodeFields, recordAt, recordsAt, operandsAt, segmentCodec, nodeCodec}
 use Rattle.records.specs.Values.{bodyAt, segment-body, node-body}
 use Rattle.store.specs.Standing.{contentPlace, segmentPlace}
 use Rattle.store.specs.declared.Store.{Store}

@@ -1,17 +1,15 @@
 -- How often `intern` can be called: at most six times for a body, so that below number 3's limits no count of calls is cut.
-use mathlib.Core.Path.{_≡_, refl, sym, ap, _∙_}
+use mathlib.Core.Path.{_≡_, refl, ap, _∙_}
 use Prim.Native.Nat.{ℕ, zero, suc, _+_, _*_, _≤_, min}
 use native.Mathlib.Omega.{arith}
-use mathlib.Core.Bool.{Bool, true, false, cond, _&&_}
+use mathlib.Core.Bool.{Bool, true, false, cond}
 use mathlib.Core.List.{List, [], _∷_}
 use lib.ListN.{length}
-use lib.Dec.{leb, ltb, eqb}
-use borrow.Author.Tests.{leb-true}
+use lib.Dec.{ltb, eqb}
 use Rattle.model.specs.Limits.{noString, maxPool, maxList}
-use Rattle.model.specs.Types.{Body, Content, Segment, SourceNode, LexOutput}
-use Rattle.model.specs.Tape.{fieldsOf, nodeFields, recordAt, recordsAt, contentCodec, segmentCodec, nodeCodec, places, bookAt}
+use Rattle.model.specs.Types.{Body, Content, Segment, SourceNode}
+use Rattle.model.specs.Tape.{fieldsOf, nodeFields, recordsAt, contentCodec, segmentCodec, nodeCodec, places, bookAt}
 use Rattle.model.specs.Tree.{shownNodes}
-use Rattle.laws.specs.Lists.{both}
 use Rattle.wire.specs.Loops.{by-bool}
 use Rattle.places.specs.declared.Places.{Places}
 use Rattle.places.specs.Found.{found}

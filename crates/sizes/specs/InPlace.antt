@@ -1,32 +1,32 @@
 -- What the graft of a body, of a run of contents and of a run of segments adds, by the starts that a store remembers: what the
 -- code computes. A range that does not pass number 4 stands for no items, so that nothing here asks for number 4.
 use mathlib.Core.Path.{_≡_, refl, sym, ap, ap₂, _∙_}
-use Prim.Native.Nat.{ℕ, zero, suc, _+_, _-_, _*_, _≤_, _<_}
+use Prim.Native.Nat.{ℕ, zero, suc, _+_, _*_, _≤_, _<_}
 use native.Mathlib.Omega.{arith}
 use native.Mathlib.Nat.{zero-add}
 use mathlib.Core.Bool.{Bool, true, false, cond}
-use mathlib.Core.List.{List, [], _∷_, _++_}
-use lib.ListN.{length, getD}
-use lib.Dec.{leb, ltb, eqb}
-use borrow.Author.Tests.{eq-eqb, ne-eqb, lt-ltb, le-ltb, eqb-true, ltb-true, ltb-false}
+use mathlib.Core.List.{List}
+use lib.ListN.{length}
+use lib.Dec.{ltb, eqb}
+use borrow.Author.Tests.{eq-eqb, ne-eqb, eqb-true, ltb-true, ltb-false}
 use Rattle.model.specs.Lists.{tabulate}
 use Rattle.model.specs.Bytes.{byteAt}
 use Rattle.model.specs.Limits.{noString}
 use Rattle.model.specs.Types.{Body, Content, Segment, SourceNode}
 use Rattle.model.specs.WellFormed.{wordOf}
-use Rattle.model.specs.Tape.{Field, Field.str, Field.optStr, Field.contentRange, Field.segRange, fieldTable, fieldsOf, nodeFields}
-use Rattle.model.specs.Tape.{Codec, recordSize, recordAt, recordsAt, operandsAt, contentCodec, segmentCodec, nodeCodec, places}
+use Rattle.model.specs.Tape.{Field, Field.str, Field.optStr, Field.contentRange, Field.segRange, fieldsOf, nodeFields}
+use Rattle.model.specs.Tape.{Codec, recordSize, recordAt, recordsAt, contentCodec, segmentCodec, nodeCodec}
 use Rattle.wire.specs.Loops.{by-bool}
-use Rattle.records.specs.Values.{bodyAt, segment-body, node-body}
+use Rattle.records.specs.Values.{bodyAt}
 use Rattle.records.specs.Uses.{wordUse}
 use Rattle.store.specs.Standing.{contentPlace, segmentPlace, content-inside, segment-inside}
 use Rattle.store.specs.declared.Store.{Store}
 use Rattle.ids.specs.Tests.{contentsIn, segmentsIn}
 use Rattle.levels.specs.Below.{LevelsFit, range-within}
-use Rattle.sizes.specs.Added.{Added, nothing, oneCall, newContents, newSegments, add, addAll, add-nothing, all-append}
+use Rattle.sizes.specs.Added.{Added, nothing, oneCall, add, addAll, add-nothing, all-append}
 use Rattle.sizes.specs.Trees.{runOfContents, runOfSegments}
 use Rattle.sizes.specs.Order.{fieldWord, fieldFrom, placeField, placeFields, fields-in-order}
-use Rattle.sizes.specs.Capped.{plus, Kept, addFrom, added-tabulate, run-over, run-empty, run-then}
+use Rattle.sizes.specs.Capped.{plus, Kept, addFrom, added-tabulate}
 use Rattle.sizes.specs.declared.Room.{Room}
 use Rattle.sizes.specs.declared.Sizes.{Sizes}
 use Rattle.sizes.specs.declared.FieldWords.{FieldWords}

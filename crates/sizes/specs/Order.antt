@@ -1,9 +1,9 @@
 -- Section 5: the fields of a body in the order in which they are grafted, by the words at which they begin. A walk goes over
 -- six places; Gaiji's mencode, word 1, comes before its hint, and Illustration's caption, word 4, before its description.
-use mathlib.Core.Path.{_≡_, refl, sym, ap, _∙_}
+use mathlib.Core.Path.{_≡_, refl}
 use Prim.Native.Nat.{ℕ, zero, suc, _+_, _%_, _<_}
 use native.Mathlib.Omega.{arith}
-use mathlib.Core.Bool.{Bool, true, false, cond}
+use mathlib.Core.Bool.{cond}
 use mathlib.Core.List.{List, [], _∷_, _++_}
 use lib.ListN.{getD}
 use lib.Dec.{leb, eqb}

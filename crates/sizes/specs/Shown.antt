@@ -1,18 +1,18 @@
 -- Where number 4 holds, what is found in place is what the graft of the shown trees adds.
 use mathlib.Core.Path.{_≡_, refl, sym, ap, ap₂, _∙_}
 use Prim.Native.Nat.{ℕ, zero, suc, _+_}
-use mathlib.Core.Bool.{Bool, true, false, cond, _&&_}
+use mathlib.Core.Bool.{true}
 use mathlib.Core.List.{List, [], _∷_, map}
 use lib.ListN.{length, take, drop}
-use lib.Dec.{ltb, eqb}
+use lib.Dec.{eqb}
 use Rattle.model.specs.Lists.{all}
 use Rattle.model.specs.Bytes.{wordAt}
 use Rattle.model.specs.Limits.{noString, maxLevel}
-use Rattle.model.specs.Types.{Body, Content, Segment, SourceNode, LexOutput}
-use Rattle.model.specs.Store.{NodeStore, storeOf, resolveStr, resolveContentRange, resolveSegRange}
-use Rattle.model.specs.WellFormed.{wordOf, idsOk}
+use Rattle.model.specs.Types.{Body, Content, Segment, SourceNode}
+use Rattle.model.specs.Store.{NodeStore, storeOf, resolveContentRange, resolveSegRange}
+use Rattle.model.specs.WellFormed.{wordOf}
 use Rattle.model.specs.Tape.{Field, Field.str, Field.optStr, Field.contentRange, Field.segRange, fieldsOf, nodeFields, recordsAt, contentCodec, segmentCodec, nodeCodec, places, layersAt, bookAt}
-use Rattle.model.specs.Tree.{Tree, Tree.tree, Fields, Fields.done, ShownNode, showSegments, showContents, showFields, showWith, showBody, showNode, shownNode, shownNodes}
+use Rattle.model.specs.Tree.{Tree, Tree.tree, Fields.done, showSegments, showContents, showFields, showWith, showBody, showNode, shownNode, shownNodes}
 use Rattle.laws.specs.Lists.{both, all-take, all-drop}
 use Rattle.laws.specs.Layers.{ids-pools}
 use Rattle.wire.specs.Loops.{by-bool}
@@ -21,7 +21,7 @@ use Rattle.store.specs.Standing.{contentPlace, segmentPlace, content-range, seg
 use Rattle.store.specs.declared.Store.{Store}
 use Rattle.ids.specs.Tests.{contentsIn, segmentsIn, fieldIn, bodyIn, contentIn, segmentIn, nodeIn}
 use Rattle.ids.specs.Whole.{content-ok, segment-ok, ids-are, idsIn, layersIn}
-use Rattle.sizes.specs.Added.{Added, nothing, oneCall, add, addAll, nothing-add}
+use Rattle.sizes.specs.Added.{Added, oneCall, add, addAll, nothing-add}
 use Rattle.sizes.specs.Trees.{treeSize, fieldsSize, contentsSize, segmentsSize, contentsLength, segmentsLength, runOfContents, runOfSegments, contentRunSize, segmentRunSize, nodesSize}
 use Rattle.sizes.specs.InPlace.{contentCount, segmentCount, segmentsAdd, segmentRunAdds, contentAdds, contentsAdd, contentRunAdds, fieldAdds, fieldsAdd, innerAdds, bodyAdds, nodeAdds, nodesAdd}
 

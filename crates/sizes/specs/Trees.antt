@@ -1,13 +1,12 @@
 -- Section 5: how many contents, segments and calls of `intern` the graft of a tree adds, and that it adds exactly these.
-use mathlib.Core.Path.{_≡_, refl, sym, ap, _∙_}
+use mathlib.Core.Path.{_≡_, refl, ap}
 use Prim.Native.Nat.{ℕ, suc, _+_, _%_}
 use native.Mathlib.Omega.{arith}
-use mathlib.Core.Bool.{Bool, true, false, cond}
-use mathlib.Core.List.{List, [], _∷_, _++_}
+use mathlib.Core.List.{List, [], _∷_}
 use lib.ListN.{length, set, replicate, length-append}
 use lib.Dec.{ltb, eqb}
 use Rattle.model.specs.Limits.{noString, internLengthLimit}
-use Rattle.model.specs.Intern.{StrInterner, intern, holds, cacheHit, bypass, tableCall, tableHit, tableAlloc, tableFor, probe, fxHash, grows, plusStats}
+use Rattle.model.specs.Intern.{StrInterner, intern, holds, cacheHit, bypass, tableCall, tableHit, tableAlloc, tableFor, probe, fxHash, plusStats}
 use Rattle.model.specs.Types.{Content, Segment}
 use Rattle.model.specs.Tree.{Tree, Tree.tree, Fields, Fields.done, Fields.text, Fields.absent, Fields.contents, Fields.segments, ShownNode}
 use Rattle.model.specs.Tree.{Contents, Contents.noContent, Contents.plain, Contents.segmented, Segments, Segments.noSegment, Segments.segment}

@@ -1,17 +1,13 @@
 use Rattle.records.specs.Values.{bodyAt, contentOf}
 use Rattle.sizes.specs.Answers.{contents-over, contents-empty, contents-then, segments-over, segments-empty, segments-then, segment-last, segment-below}
 use Rattle.sizes.specs.Answers.{body-sum, place-read, used-contents, used-segments, used-string, content-plain, content-segments}
-use Rattle.sizes.specs.InPlace.{contentAdds, fieldWords}
 use Rattle.sizes.specs.InPlace.{innerAdds, placeAdds, contentFrom, segmentFrom, contents-from, segments-from, contents-inside, segments-inside}
 use Rattle.sizes.specs.Capped.{plus, kept-plus, Adding, adding-none, adding-more, adding-over, adding-all}
 use Rattle.sizes.specs.Added.{newContents, newSegments}
-use mathlib.Core.Path.{_≡_, refl, sym, ap, _∙_}
-use mathlib.Core.List.{List, [], _∷_, _++_}
-use Prim.Native.Nat.{ℕ, zero, suc, _+_, _-_, _*_, _%_, _/_, _^_, _≤_, _<_}
+use mathlib.Core.Path.{ap, _∙_}
+use Prim.Native.Nat.{ℕ, _+_, _-_, _*_, _<_}
 use native.Mathlib.Omega.{arith}
 use borrow.Author.Needs.{needs}
-use lib.ListN.{length, getD, take, drop, set, replicate, length-set, length-take, length-drop, length-append, length-replicate}
-use Prim.Native.Nat.{ℕ, _<_}
 use borrow.Fn.Kinds.{In}
 use borrow.Fn.PlainCycle.{Measures, is, falls, and}
 use Rattle.sizes.proofs.body_sizes.Reads as body-sizes
@@ -187,7 +183,6 @@ body-sizes-Inv-loop tape st room at level u₀ j₀ u j = Adding room u₀ (plac
 abbrev body-sizes-μ-loop : body-sizes-lts.MeasureT-loop
 body-sizes-μ-loop tape st room at level u₀ j₀ u j = 6 - j
 
--- src/lib.rt:172:5
 body-sizes-loop-holds : (t : ℕ) → body-sizes-lts.Need-loop-holds (
   field-at-reads.Asked,
   field-at-reads.Learnt,
@@ -196,7 +191,6 @@ body-sizes-loop-holds : (t : ℕ) → body-sizes-lts.Need-loop-holds (
 ) (body-sizes-at t) body-sizes.Post body-sizes-Inv-loop body-sizes-μ-loop
 body-sizes-loop-holds t c = adding-none (placeAdds (innerAdds (c .before .args .level) (c .before .args .tape .now) (c .before .args .st)) (c .before .args .tape .now) (c .before .args .st) (bodyAt (c .before .args .tape .now) (c .before .args .at))) 6 (c .before .pre .1 .1 .0)
 
--- src/lib.rt:173:13
 body-sizes-field-at-requires : (t : ℕ) → body-sizes-lts.Need-field-at-requires (
   field-at-reads.Asked,
   field-at-reads.Learnt,
@@ -205,7 +199,6 @@ body-sizes-field-at-requires : (t : ℕ) → body-sizes-lts.Need-field-at-requir
 ) (body-sizes-at t) body-sizes.Post body-sizes-Inv-loop body-sizes-μ-loop
 body-sizes-field-at-requires t c κs = (omega (arith, c .before .before .before .pre .1 .1 .1), omega arith)
 
--- src/lib.rt:174:9
 body-sizes-field-sizes-requires : (t : ℕ) → body-sizes-lts.Need-field-sizes-requires (
   field-at-reads.Asked,
   field-at-reads.Learnt,
@@ -214,7 +207,6 @@ body-sizes-field-sizes-requires : (t : ℕ) → body-sizes-lts.Need-field-sizes-
 ) (body-sizes-at t) body-sizes.Post body-sizes-Inv-loop body-sizes-μ-loop
 body-sizes-field-sizes-requires t c κs = (omega arith, ((c .before .before .before .before .pre .1 .0), c .before .before .loop .inv .kept))
 
--- src/lib.rt:176:13
 body-sizes-returns : (t : ℕ) → body-sizes-lts.Need-returns (
   field-at-reads.Asked,
   field-at-reads.Learnt,
@@ -223,7 +215,6 @@ body-sizes-returns : (t : ℕ) → body-sizes-lts.Need-returns (
 ) (body-sizes-at t) body-sizes.Post body-sizes-Inv-loop body-sizes-μ-loop
 body-sizes-returns t c = adding-over (c .before .before .before .before .loop .inv) (c .before .before .before .loop-test .taken) (place-read (c .before .before .before .before .before .before .args .room) (c .before .before .before .before .loop .u) (innerAdds (c .before .before .before .before .before .before .args .level) (c .before .before .before .before .before .before .args .tape .now) (c .before .before .before .before .before .before .args .st)) (c .before .before .before .before .before .before .args .tape .now) (c .before .before .before .before .before .before .args .st) (bodyAt (c .before .before .before .before .before .before .args .tape .now) (c .before .before .before .before .before .before .args .at)) (c .before .before .before .before .loop .j) (c .before .before .field-at .result) (c .before .before .field-at .ensures) (c .before .field-sizes .ensures)) (c .if1 .taken) ∙ ap (plus (c .before .before .before .before .before .before .args .room) (c .before .before .before .before .before .before .args .t)) (body-sum (c .before .before .before .before .before .before .args .level) (c .before .before .before .before .before .before .args .tape .now) (c .before .before .before .before .before .before .args .st) (bodyAt (c .before .before .before .before .before .before .args .tape .now) (c .before .before .before .before .before .before .args .at)))
 
--- src/lib.rt:178:9
 body-sizes-add-j : (t : ℕ) → body-sizes-lts.Need-add-j (
   field-at-reads.Asked,
   field-at-reads.Learnt,
@@ -232,7 +223,6 @@ body-sizes-add-j : (t : ℕ) → body-sizes-lts.Need-add-j (
 ) (body-sizes-at t) body-sizes.Post body-sizes-Inv-loop body-sizes-μ-loop
 body-sizes-add-j t c = omega arith
 
--- src/lib.rt:172:5
 body-sizes-loop-less : (t : ℕ) → body-sizes-lts.Need-loop-less (
   field-at-reads.Asked,
   field-at-reads.Learnt,
@@ -241,7 +231,6 @@ body-sizes-loop-less : (t : ℕ) → body-sizes-lts.Need-loop-less (
 ) (body-sizes-at t) body-sizes.Post body-sizes-Inv-loop body-sizes-μ-loop
 body-sizes-loop-less t c = omega arith
 
--- src/lib.rt:172:5
 body-sizes-loop-again : (t : ℕ) → body-sizes-lts.Need-loop-again (
   field-at-reads.Asked,
   field-at-reads.Learnt,
@@ -250,7 +239,6 @@ body-sizes-loop-again : (t : ℕ) → body-sizes-lts.Need-loop-again (
 ) (body-sizes-at t) body-sizes.Post body-sizes-Inv-loop body-sizes-μ-loop
 body-sizes-loop-again t c = adding-more (c .before .before .before .before .loop .inv) (c .before .before .before .loop-test .taken) (place-read (c .before .before .before .before .before .before .args .room) (c .before .before .before .before .loop .u) (innerAdds (c .before .before .before .before .before .before .args .level) (c .before .before .before .before .before .before .args .tape .now) (c .before .before .before .before .before .before .args .st)) (c .before .before .before .before .before .before .args .tape .now) (c .before .before .before .before .before .before .args .st) (bodyAt (c .before .before .before .before .before .before .args .tape .now) (c .before .before .before .before .before .before .args .at)) (c .before .before .before .before .loop .j) (c .before .before .field-at .result) (c .before .before .field-at .ensures) (c .before .field-sizes .ensures))
 
--- src/lib.rt:164:1
 body-sizes-returns-2 : (t : ℕ) → body-sizes-lts.Need-returns-2 (
   field-at-reads.Asked,
   field-at-reads.Learnt,
@@ -259,7 +247,6 @@ body-sizes-returns-2 : (t : ℕ) → body-sizes-lts.Need-returns-2 (
 ) (body-sizes-at t) body-sizes.Post body-sizes-Inv-loop body-sizes-μ-loop
 body-sizes-returns-2 t c = adding-all (c .before .loop .inv) (c .loop-test .left) ∙ ap (plus (c .before .before .before .args .room) (c .before .before .before .args .t)) (body-sum (c .before .before .before .args .level) (c .before .before .before .args .tape .now) (c .before .before .before .args .st) (bodyAt (c .before .before .before .args .tape .now) (c .before .before .before .args .at)))
 
--- src/lib.rt:203:9
 content-run-sizes-content-count-requires :
     (t : ℕ) → content-run-sizes-lts.Need-content-count-requires (
       content-count-reads.Asked,
@@ -273,7 +260,6 @@ content-run-sizes-content-count-requires :
     ) (content-run-sizes-at t) content-run-sizes.Post
 content-run-sizes-content-count-requires t c κs = (c .before .pre .1 .0) .few
 
--- src/lib.rt:204:9
 content-run-sizes-with-added-requires : (t : ℕ) → content-run-sizes-lts.Need-with-added-requires (
   content-count-reads.Asked,
   content-count-reads.Learnt,
@@ -286,7 +272,6 @@ content-run-sizes-with-added-requires : (t : ℕ) → content-run-sizes-lts.Need
 ) (content-run-sizes-at t) content-run-sizes.Post
 content-run-sizes-with-added-requires t c κs = search needs
 
--- src/lib.rt:206:9
 content-run-sizes-returns : (t : ℕ) → content-run-sizes-lts.Need-returns (
   content-count-reads.Asked,
   content-count-reads.Learnt,
@@ -299,7 +284,6 @@ content-run-sizes-returns : (t : ℕ) → content-run-sizes-lts.Need-returns (
 ) (content-run-sizes-at t) content-run-sizes.Post
 content-run-sizes-returns t c = contents-over (c .before .before .before .before .args .room) (c .before .before .before .before .args .t) (innerAdds (c .before .before .before .before .args .level) (c .before .before .before .before .args .tape .now) (c .before .before .before .before .args .st)) (c .before .before .before .before .args .tape .now) (c .before .before .before .before .args .st) (c .before .before .before .before .args .start) (c .before .before .before .before .args .len) (c .before .before .content-count .result) (c .before .before .content-count .ensures) (c .before .with-added .ensures) (c .if1 .taken)
 
--- src/lib.rt:209:9
 content-run-sizes-returns-2 : (t : ℕ) → content-run-sizes-lts.Need-returns-2 (
   content-count-reads.Asked,
   content-count-reads.Learnt,
@@ -312,7 +296,6 @@ content-run-sizes-returns-2 : (t : ℕ) → content-run-sizes-lts.Need-returns-2
 ) (content-run-sizes-at t) content-run-sizes.Post
 content-run-sizes-returns-2 t c = contents-empty (c .before .before .before .before .before .args .room) (c .before .before .before .before .before .args .t) (innerAdds (c .before .before .before .before .before .args .level) (c .before .before .before .before .before .args .tape .now) (c .before .before .before .before .before .args .st)) (c .before .before .before .before .before .args .tape .now) (c .before .before .before .before .before .args .st) (c .before .before .before .before .before .args .start) (c .before .before .before .before .before .args .len) (c .before .before .before .content-count .result) (c .before .before .before .content-count .ensures) (c .before .before .with-added .ensures) (c .if2 .taken)
 
--- src/lib.rt:211:9
 content-run-sizes-content-place-requires :
     (t : ℕ) → content-run-sizes-lts.Need-content-place-requires (
       content-count-reads.Asked,
@@ -326,7 +309,6 @@ content-run-sizes-content-place-requires :
     ) (content-run-sizes-at t) content-run-sizes.Post
 content-run-sizes-content-place-requires t c κs = (c .before .before .before .before .before .pre .1 .0) .few
 
--- src/lib.rt:212:43
 content-run-sizes-cast-contents-sizes : (t : ℕ) → content-run-sizes-lts.Need-cast-contents-sizes (
   content-count-reads.Asked,
   content-count-reads.Learnt,
@@ -339,7 +321,6 @@ content-run-sizes-cast-contents-sizes : (t : ℕ) → content-run-sizes-lts.Need
 ) (content-run-sizes-at t) content-run-sizes.Post
 content-run-sizes-cast-contents-sizes t c = search needs
 
--- src/lib.rt:212:5
 content-run-sizes-contents-sizes-requires :
     (t : ℕ) → content-run-sizes-lts.Need-contents-sizes-requires (
       content-count-reads.Asked,
@@ -353,7 +334,6 @@ content-run-sizes-contents-sizes-requires :
     ) (content-run-sizes-at t) content-run-sizes.Post
 content-run-sizes-contents-sizes-requires t c κs = (omega arith, ((c .before .before .before .before .before .before .pre .1 .0), (kept-plus (c .before .before .before .before .before .before .args .t) (newContents (c .before .before .before .before .content-count .result)) (c .before .before .before .with-added .ensures), contents-inside (c .before .before .before .before .before .before .args .tape .now) (c .before .before .before .before .before .before .args .st) (c .before .before .before .before .before .before .pre .1 .0) (c .before .before .before .before .before .before .args .start) (c .before .before .before .before .before .before .args .len) _ _ (c .before .if2 .left) (c .before .before .before .before .content-count .ensures) (c .content-place .ensures))))
 
--- src/lib.rt:198:1
 content-run-sizes-returns-3 : (t : ℕ) → content-run-sizes-lts.Need-returns-3 (
   content-count-reads.Asked,
   content-count-reads.Learnt,
@@ -366,7 +346,6 @@ content-run-sizes-returns-3 : (t : ℕ) → content-run-sizes-lts.Need-returns-3
 ) (content-run-sizes-at t) content-run-sizes.Post
 content-run-sizes-returns-3 t c = contents-then (c .before .before .before .before .before .before .before .args .room) (c .before .before .before .before .before .before .before .args .t) (innerAdds (c .before .before .before .before .before .before .before .args .level) (c .before .before .before .before .before .before .before .args .tape .now) (c .before .before .before .before .before .before .before .args .st)) (c .before .before .before .before .before .before .before .args .tape .now) (c .before .before .before .before .before .before .before .args .st) (c .before .before .before .before .before .before .before .args .start) (c .before .before .before .before .before .before .before .args .len) (c .before .before .before .before .before .content-count .result) (c .before .before .before .before .before .content-count .ensures) (c .before .before .before .before .with-added .ensures) _ (c .before .content-place .ensures) (c .contents-sizes .ensures)
 
--- src/lib.rt:241:9
 content-sizes-content-at-requires : (t : ℕ) → content-sizes-lts.Need-content-at-requires (
   content-at-reads.Asked,
   content-at-reads.Learnt,
@@ -377,7 +356,6 @@ content-sizes-content-at-requires : (t : ℕ) → content-sizes-lts.Need-content
 ) (content-sizes-at t) content-sizes.Post
 content-sizes-content-at-requires t c κs = omega (arith, c .before .pre .1 .1 .1)
 
--- src/lib.rt:243:9
 content-sizes-with-added-requires : (t : ℕ) → content-sizes-lts.Need-with-added-requires (
   content-at-reads.Asked,
   content-at-reads.Learnt,
@@ -388,7 +366,6 @@ content-sizes-with-added-requires : (t : ℕ) → content-sizes-lts.Need-with-ad
 ) (content-sizes-at t) content-sizes.Post
 content-sizes-with-added-requires t c κs = search needs
 
--- src/lib.rt:243:9
 content-sizes-returns : (t : ℕ) → content-sizes-lts.Need-returns (
   content-at-reads.Asked,
   content-at-reads.Learnt,
@@ -399,7 +376,6 @@ content-sizes-returns : (t : ℕ) → content-sizes-lts.Need-returns (
 ) (content-sizes-at t) content-sizes.Post
 content-sizes-returns t c = content-plain (c .before .before .before .before .before .args .room) (c .before .before .before .before .before .args .t) (innerAdds (c .before .before .before .before .before .args .level) (c .before .before .before .before .before .args .tape .now) (c .before .before .before .before .before .args .st)) (c .before .before .before .before .before .args .tape .now) (c .before .before .before .before .before .args .st) (contentOf (c .before .before .before .content-at .result)) (c .before .before .before .content-at .ensures) (c .before .if1 .taken) (c .with-added .ensures)
 
--- src/lib.rt:245:5
 content-sizes-segment-run-sizes-requires :
     (t : ℕ) → content-sizes-lts.Need-segment-run-sizes-requires (
       content-at-reads.Asked,
@@ -411,7 +387,6 @@ content-sizes-segment-run-sizes-requires :
     ) (content-sizes-at t) content-sizes.Post
 content-sizes-segment-run-sizes-requires t c κs = (omega arith, ((c .before .before .before .before .pre .1 .0), (c .before .before .before .before .pre .1 .1 .0)))
 
--- src/lib.rt:235:1
 content-sizes-returns-2 : (t : ℕ) → content-sizes-lts.Need-returns-2 (
   content-at-reads.Asked,
   content-at-reads.Learnt,
@@ -428,35 +403,30 @@ contents-sizes-Inv-loop tape st room at count level u₀ i₀ u i = Adding room 
 abbrev contents-sizes-μ-loop : contents-sizes-lts.MeasureT-loop
 contents-sizes-μ-loop tape st room at count level u₀ i₀ u i = count - i
 
--- src/lib.rt:224:5
 contents-sizes-loop-holds : (t : ℕ) → contents-sizes-lts.Need-loop-holds (
   content-sizes-below t,
   content-sizes.Post,
 ) (contents-sizes-at t) contents-sizes.Post contents-sizes-Inv-loop contents-sizes-μ-loop
 contents-sizes-loop-holds t c = adding-none (contentFrom (innerAdds (c .before .args .level) (c .before .args .tape .now) (c .before .args .st)) (c .before .args .tape .now) (c .before .args .st) (c .before .args .at)) (c .before .args .count) (c .before .pre .1 .1 .0)
 
--- src/lib.rt:225:51
 contents-sizes-mul-content-sizes : (t : ℕ) → contents-sizes-lts.Need-mul-content-sizes (
   content-sizes-below t,
   content-sizes.Post,
 ) (contents-sizes-at t) contents-sizes.Post contents-sizes-Inv-loop contents-sizes-μ-loop
 contents-sizes-mul-content-sizes t c = omega (arith, c .before .before .before .pre .1 .1 .1)
 
--- src/lib.rt:225:46
 contents-sizes-add-content-sizes : (t : ℕ) → contents-sizes-lts.Need-add-content-sizes (
   content-sizes-below t,
   content-sizes.Post,
 ) (contents-sizes-at t) contents-sizes.Post contents-sizes-Inv-loop contents-sizes-μ-loop
 contents-sizes-add-content-sizes t c = omega (arith, c .before .before .before .pre .1 .1 .1)
 
--- src/lib.rt:225:9
 contents-sizes-content-sizes-requires : (t : ℕ) → contents-sizes-lts.Need-content-sizes-requires (
   content-sizes-below t,
   content-sizes.Post,
 ) (contents-sizes-at t) contents-sizes.Post contents-sizes-Inv-loop contents-sizes-μ-loop
 contents-sizes-content-sizes-requires t c κs = (omega arith, ((c .before .before .before .pre .1 .0), (c .before .loop .inv .kept, omega (arith, c .before .before .before .pre .1 .1 .1))))
 
--- src/lib.rt:227:13
 contents-sizes-returns : (t : ℕ) → contents-sizes-lts.Need-returns (
   content-sizes-below t,
   content-sizes.Post,
@@ -464,21 +434,18 @@ contents-sizes-returns : (t : ℕ) → contents-sizes-lts.Need-returns (
 unfolding contentFrom
 contents-sizes-returns t c = adding-over (c .before .before .before .loop .inv) (c .before .before .loop-test .taken) (c .before .content-sizes .ensures) (c .if1 .taken) ∙ ap (plus (c .before .before .before .before .before .args .room) (c .before .before .before .before .before .args .t)) (contents-from (c .before .before .before .before .before .args .tape .now) (c .before .before .before .before .before .args .at) (c .before .before .before .before .before .args .count) (innerAdds (c .before .before .before .before .before .args .level) (c .before .before .before .before .before .args .tape .now) (c .before .before .before .before .before .args .st)) (c .before .before .before .before .before .args .st))
 
--- src/lib.rt:229:9
 contents-sizes-add-i : (t : ℕ) → contents-sizes-lts.Need-add-i (
   content-sizes-below t,
   content-sizes.Post,
 ) (contents-sizes-at t) contents-sizes.Post contents-sizes-Inv-loop contents-sizes-μ-loop
 contents-sizes-add-i t c = omega (arith, c .before .before .before .before .before .pre .1 .1 .1)
 
--- src/lib.rt:224:5
 contents-sizes-loop-less : (t : ℕ) → contents-sizes-lts.Need-loop-less (
   content-sizes-below t,
   content-sizes.Post,
 ) (contents-sizes-at t) contents-sizes.Post contents-sizes-Inv-loop contents-sizes-μ-loop
 contents-sizes-loop-less t c = omega arith
 
--- src/lib.rt:224:5
 contents-sizes-loop-again : (t : ℕ) → contents-sizes-lts.Need-loop-again (
   content-sizes-below t,
   content-sizes.Post,
@@ -486,14 +453,12 @@ contents-sizes-loop-again : (t : ℕ) → contents-sizes-lts.Need-loop-again (
 unfolding contentFrom
 contents-sizes-loop-again t c = adding-more (c .before .before .before .loop .inv) (c .before .before .loop-test .taken) (c .before .content-sizes .ensures)
 
--- src/lib.rt:216:1
 contents-sizes-returns-2 : (t : ℕ) → contents-sizes-lts.Need-returns-2 (
   content-sizes-below t,
   content-sizes.Post,
 ) (contents-sizes-at t) contents-sizes.Post contents-sizes-Inv-loop contents-sizes-μ-loop
 contents-sizes-returns-2 t c = adding-all (c .before .loop .inv) (c .loop-test .left) ∙ ap (plus (c .before .before .before .args .room) (c .before .before .before .args .t)) (contents-from (c .before .before .before .args .tape .now) (c .before .before .before .args .at) (c .before .before .before .args .count) (innerAdds (c .before .before .before .args .level) (c .before .before .before .args .tape .now) (c .before .before .before .args .st)) (c .before .before .before .args .st))
 
--- src/lib.rt:189:9
 field-sizes-content-run-sizes-requires : (t : ℕ) → field-sizes-lts.Need-content-run-sizes-requires (
   content-run-sizes-below t,
   content-run-sizes.Post,
@@ -504,7 +469,6 @@ field-sizes-content-run-sizes-requires : (t : ℕ) → field-sizes-lts.Need-cont
 ) (field-sizes-at t) field-sizes.Post
 field-sizes-content-run-sizes-requires t c κs = (omega arith, ((c .before .before .before .pre .1 .0), (c .before .before .before .pre .1 .1)))
 
--- src/lib.rt:189:9
 field-sizes-returns : (t : ℕ) → field-sizes-lts.Need-returns (
   content-run-sizes-below t,
   content-run-sizes.Post,
@@ -515,7 +479,6 @@ field-sizes-returns : (t : ℕ) → field-sizes-lts.Need-returns (
 ) (field-sizes-at t) field-sizes.Post
 field-sizes-returns t c = used-contents (c .before .before .before .before .args .room) (c .before .before .before .before .args .t) (innerAdds (c .before .before .before .before .args .level) (c .before .before .before .before .args .tape .now) (c .before .before .before .before .args .st)) (c .before .before .before .before .args .tape .now) (c .before .before .before .before .args .st) (c .before .before .before .before .args .f) (c .before .if1 .taken) (c .content-run-sizes .ensures)
 
--- src/lib.rt:192:9
 field-sizes-segment-run-sizes-requires : (t : ℕ) → field-sizes-lts.Need-segment-run-sizes-requires (
   content-run-sizes-below t,
   content-run-sizes.Post,
@@ -526,7 +489,6 @@ field-sizes-segment-run-sizes-requires : (t : ℕ) → field-sizes-lts.Need-segm
 ) (field-sizes-at t) field-sizes.Post
 field-sizes-segment-run-sizes-requires t c κs = (omega arith, ((c .before .before .before .before .before .pre .1 .0), (c .before .before .before .before .before .pre .1 .1)))
 
--- src/lib.rt:192:9
 field-sizes-returns-2 : (t : ℕ) → field-sizes-lts.Need-returns-2 (
   content-run-sizes-below t,
   content-run-sizes.Post,
@@ -537,7 +499,6 @@ field-sizes-returns-2 : (t : ℕ) → field-sizes-lts.Need-returns-2 (
 ) (field-sizes-at t) field-sizes.Post
 field-sizes-returns-2 t c = used-segments (c .before .before .before .before .before .before .args .room) (c .before .before .before .before .before .before .args .t) (innerAdds (c .before .before .before .before .before .before .args .level) (c .before .before .before .before .before .before .args .tape .now) (c .before .before .before .before .before .before .args .st)) (c .before .before .before .before .before .before .args .tape .now) (c .before .before .before .before .before .before .args .st) (c .before .before .before .before .before .before .args .f) (c .before .before .before .if1 .left) (c .before .if2 .taken) (c .segment-run-sizes .ensures)
 
--- src/lib.rt:194:5
 field-sizes-string-sizes-requires : (t : ℕ) → field-sizes-lts.Need-string-sizes-requires (
   content-run-sizes-below t,
   content-run-sizes.Post,
@@ -548,7 +509,6 @@ field-sizes-string-sizes-requires : (t : ℕ) → field-sizes-lts.Need-string-si
 ) (field-sizes-at t) field-sizes.Post
 field-sizes-string-sizes-requires t c κs = (c .before .before .before .before .before .pre .1 .1)
 
--- src/lib.rt:183:1
 field-sizes-returns-3 : (t : ℕ) → field-sizes-lts.Need-returns-3 (
   content-run-sizes-below t,
   content-run-sizes.Post,
@@ -559,7 +519,6 @@ field-sizes-returns-3 : (t : ℕ) → field-sizes-lts.Need-returns-3 (
 ) (field-sizes-at t) field-sizes.Post
 field-sizes-returns-3 t c = used-string (c .before .before .before .before .before .before .args .room) (c .before .before .before .before .before .before .args .t) (innerAdds (c .before .before .before .before .before .before .args .level) (c .before .before .before .before .before .before .args .tape .now) (c .before .before .before .before .before .before .args .st)) (c .before .before .before .before .before .before .args .tape .now) (c .before .before .before .before .before .before .args .st) (c .before .before .before .before .before .before .args .f) (c .before .before .before .if1 .left) (c .before .if2 .left) (c .string-sizes .ensures)
 
--- src/lib.rt:254:9
 segment-run-sizes-segment-count-requires :
     (t : ℕ) → segment-run-sizes-lts.Need-segment-count-requires (
       segment-count-reads.Asked,
@@ -573,7 +532,6 @@ segment-run-sizes-segment-count-requires :
     ) (segment-run-sizes-at t) segment-run-sizes.Post
 segment-run-sizes-segment-count-requires t c κs = (c .before .pre .1 .0) .few
 
--- src/lib.rt:255:9
 segment-run-sizes-with-added-requires : (t : ℕ) → segment-run-sizes-lts.Need-with-added-requires (
   segment-count-reads.Asked,
   segment-count-reads.Learnt,
@@ -586,7 +544,6 @@ segment-run-sizes-with-added-requires : (t : ℕ) → segment-run-sizes-lts.Need
 ) (segment-run-sizes-at t) segment-run-sizes.Post
 segment-run-sizes-with-added-requires t c κs = search needs
 
--- src/lib.rt:257:9
 segment-run-sizes-returns : (t : ℕ) → segment-run-sizes-lts.Need-returns (
   segment-count-reads.Asked,
   segment-count-reads.Learnt,
@@ -599,7 +556,6 @@ segment-run-sizes-returns : (t : ℕ) → segment-run-sizes-lts.Need-returns (
 ) (segment-run-sizes-at t) segment-run-sizes.Post
 segment-run-sizes-returns t c = segments-over (c .before .before .before .before .args .room) (c .before .before .before .before .args .t) (innerAdds (c .before .before .before .before .args .level) (c .before .before .before .before .args .tape .now) (c .before .before .before .before .args .st)) (c .before .before .before .before .args .tape .now) (c .before .before .before .before .args .st) (c .before .before .before .before .args .start) (c .before .before .before .before .args .len) (c .before .before .segment-count .result) (c .before .before .segment-count .ensures) (c .before .with-added .ensures) (c .if1 .taken)
 
--- src/lib.rt:260:9
 segment-run-sizes-returns-2 : (t : ℕ) → segment-run-sizes-lts.Need-returns-2 (
   segment-count-reads.Asked,
   segment-count-reads.Learnt,
@@ -612,7 +568,6 @@ segment-run-sizes-returns-2 : (t : ℕ) → segment-run-sizes-lts.Need-returns-2
 ) (segment-run-sizes-at t) segment-run-sizes.Post
 segment-run-sizes-returns-2 t c = segments-empty (c .before .before .before .before .before .args .room) (c .before .before .before .before .before .args .t) (innerAdds (c .before .before .before .before .before .args .level) (c .before .before .before .before .before .args .tape .now) (c .before .before .before .before .before .args .st)) (c .before .before .before .before .before .args .tape .now) (c .before .before .before .before .before .args .st) (c .before .before .before .before .before .args .start) (c .before .before .before .before .before .args .len) (c .before .before .before .segment-count .result) (c .before .before .before .segment-count .ensures) (c .before .before .with-added .ensures) (c .if2 .taken)
 
--- src/lib.rt:262:9
 segment-run-sizes-segment-place-requires :
     (t : ℕ) → segment-run-sizes-lts.Need-segment-place-requires (
       segment-count-reads.Asked,
@@ -626,7 +581,6 @@ segment-run-sizes-segment-place-requires :
     ) (segment-run-sizes-at t) segment-run-sizes.Post
 segment-run-sizes-segment-place-requires t c κs = (c .before .before .before .before .before .pre .1 .0) .few
 
--- src/lib.rt:263:43
 segment-run-sizes-cast-segments-sizes : (t : ℕ) → segment-run-sizes-lts.Need-cast-segments-sizes (
   segment-count-reads.Asked,
   segment-count-reads.Learnt,
@@ -639,7 +593,6 @@ segment-run-sizes-cast-segments-sizes : (t : ℕ) → segment-run-sizes-lts.Need
 ) (segment-run-sizes-at t) segment-run-sizes.Post
 segment-run-sizes-cast-segments-sizes t c = search needs
 
--- src/lib.rt:263:5
 segment-run-sizes-segments-sizes-requires :
     (t : ℕ) → segment-run-sizes-lts.Need-segments-sizes-requires (
       segment-count-reads.Asked,
@@ -653,7 +606,6 @@ segment-run-sizes-segments-sizes-requires :
     ) (segment-run-sizes-at t) segment-run-sizes.Post
 segment-run-sizes-segments-sizes-requires t c κs = (omega arith, ((c .before .before .before .before .before .before .pre .1 .0), (kept-plus (c .before .before .before .before .before .before .args .t) (newSegments (c .before .before .before .before .segment-count .result)) (c .before .before .before .with-added .ensures), segments-inside (c .before .before .before .before .before .before .args .tape .now) (c .before .before .before .before .before .before .args .st) (c .before .before .before .before .before .before .pre .1 .0) (c .before .before .before .before .before .before .args .start) (c .before .before .before .before .before .before .args .len) _ _ (c .before .if2 .left) (c .before .before .before .before .segment-count .ensures) (c .segment-place .ensures))))
 
--- src/lib.rt:249:1
 segment-run-sizes-returns-3 : (t : ℕ) → segment-run-sizes-lts.Need-returns-3 (
   segment-count-reads.Asked,
   segment-count-reads.Learnt,
@@ -666,35 +618,30 @@ segment-run-sizes-returns-3 : (t : ℕ) → segment-run-sizes-lts.Need-returns-3
 ) (segment-run-sizes-at t) segment-run-sizes.Post
 segment-run-sizes-returns-3 t c = segments-then (c .before .before .before .before .before .before .before .args .room) (c .before .before .before .before .before .before .before .args .t) (innerAdds (c .before .before .before .before .before .before .before .args .level) (c .before .before .before .before .before .before .before .args .tape .now) (c .before .before .before .before .before .before .before .args .st)) (c .before .before .before .before .before .before .before .args .tape .now) (c .before .before .before .before .before .before .before .args .st) (c .before .before .before .before .before .before .before .args .start) (c .before .before .before .before .before .before .before .args .len) (c .before .before .before .before .before .segment-count .result) (c .before .before .before .before .before .segment-count .ensures) (c .before .before .before .before .with-added .ensures) _ (c .before .segment-place .ensures) (c .segments-sizes .ensures)
 
--- src/lib.rt:293:9
 segment-sizes-returns : (t : ℕ) → segment-sizes-lts.Need-returns (
   body-sizes-below t,
   body-sizes.Post,
 ) (segment-sizes-at t) segment-sizes.Post
 segment-sizes-returns t c = segment-last (c .before .before .args .room) (c .before .before .args .t) (c .before .before .args .tape .now) (c .before .before .args .st) (c .before .before .args .at) (c .before .before .args .level) (c .before .before .pre .1 .1 .0) (c .if1 .taken)
 
--- src/lib.rt:295:35
 segment-sizes-add-body-sizes : (t : ℕ) → segment-sizes-lts.Need-add-body-sizes (
   body-sizes-below t,
   body-sizes.Post,
 ) (segment-sizes-at t) segment-sizes.Post
 segment-sizes-add-body-sizes t c = omega (arith, c .before .before .pre .1 .1 .1)
 
--- src/lib.rt:295:43
 segment-sizes-sub-body-sizes : (t : ℕ) → segment-sizes-lts.Need-sub-body-sizes (
   body-sizes-below t,
   body-sizes.Post,
 ) (segment-sizes-at t) segment-sizes.Post
 segment-sizes-sub-body-sizes t c = search needs
 
--- src/lib.rt:295:5
 segment-sizes-body-sizes-requires : (t : ℕ) → segment-sizes-lts.Need-body-sizes-requires (
   body-sizes-below t,
   body-sizes.Post,
 ) (segment-sizes-at t) segment-sizes.Post
 segment-sizes-body-sizes-requires t c κs = (omega (arith, c .if1 .left), ((c .before .before .pre .1 .0), ((c .before .before .pre .1 .1 .0), omega (arith, c .before .before .pre .1 .1 .1))))
 
--- src/lib.rt:286:1
 segment-sizes-returns-2 : (t : ℕ) → segment-sizes-lts.Need-returns-2 (
   body-sizes-below t,
   body-sizes.Post,
@@ -707,35 +654,30 @@ segments-sizes-Inv-loop tape st room at count level u₀ i₀ u i = Adding room 
 abbrev segments-sizes-μ-loop : segments-sizes-lts.MeasureT-loop
 segments-sizes-μ-loop tape st room at count level u₀ i₀ u i = count - i
 
--- src/lib.rt:275:5
 segments-sizes-loop-holds : (t : ℕ) → segments-sizes-lts.Need-loop-holds (
   segment-sizes-below t,
   segment-sizes.Post,
 ) (segments-sizes-at t) segments-sizes.Post segments-sizes-Inv-loop segments-sizes-μ-loop
 segments-sizes-loop-holds t c = adding-none (segmentFrom (innerAdds (c .before .args .level) (c .before .args .tape .now) (c .before .args .st)) (c .before .args .tape .now) (c .before .args .at)) (c .before .args .count) (c .before .pre .1 .1 .0)
 
--- src/lib.rt:276:51
 segments-sizes-mul-segment-sizes : (t : ℕ) → segments-sizes-lts.Need-mul-segment-sizes (
   segment-sizes-below t,
   segment-sizes.Post,
 ) (segments-sizes-at t) segments-sizes.Post segments-sizes-Inv-loop segments-sizes-μ-loop
 segments-sizes-mul-segment-sizes t c = omega (arith, c .before .before .before .pre .1 .1 .1)
 
--- src/lib.rt:276:46
 segments-sizes-add-segment-sizes : (t : ℕ) → segments-sizes-lts.Need-add-segment-sizes (
   segment-sizes-below t,
   segment-sizes.Post,
 ) (segments-sizes-at t) segments-sizes.Post segments-sizes-Inv-loop segments-sizes-μ-loop
 segments-sizes-add-segment-sizes t c = omega (arith, c .before .before .before .pre .1 .1 .1)
 
--- src/lib.rt:276:9
 segments-sizes-segment-sizes-requires : (t : ℕ) → segments-sizes-lts.Need-segment-sizes-requires (
   segment-sizes-below t,
   segment-sizes.Post,
 ) (segments-sizes-at t) segments-sizes.Post segments-sizes-Inv-loop segments-sizes-μ-loop
 segments-sizes-segment-sizes-requires t c κs = (omega arith, ((c .before .before .before .pre .1 .0), (c .before .loop .inv .kept, omega (arith, c .before .before .before .pre .1 .1 .1))))
 
--- src/lib.rt:278:13
 segments-sizes-returns : (t : ℕ) → segments-sizes-lts.Need-returns (
   segment-sizes-below t,
   segment-sizes.Post,
@@ -743,21 +685,18 @@ segments-sizes-returns : (t : ℕ) → segments-sizes-lts.Need-returns (
 unfolding segmentFrom
 segments-sizes-returns t c = adding-over (c .before .before .before .loop .inv) (c .before .before .loop-test .taken) (c .before .segment-sizes .ensures) (c .if1 .taken) ∙ ap (plus (c .before .before .before .before .before .args .room) (c .before .before .before .before .before .args .t)) (segments-from (c .before .before .before .before .before .args .tape .now) (c .before .before .before .before .before .args .at) (c .before .before .before .before .before .args .count) (innerAdds (c .before .before .before .before .before .args .level) (c .before .before .before .before .before .args .tape .now) (c .before .before .before .before .before .args .st)))
 
--- src/lib.rt:280:9
 segments-sizes-add-i : (t : ℕ) → segments-sizes-lts.Need-add-i (
   segment-sizes-below t,
   segment-sizes.Post,
 ) (segments-sizes-at t) segments-sizes.Post segments-sizes-Inv-loop segments-sizes-μ-loop
 segments-sizes-add-i t c = omega (arith, c .before .before .before .before .before .pre .1 .1 .1)
 
--- src/lib.rt:275:5
 segments-sizes-loop-less : (t : ℕ) → segments-sizes-lts.Need-loop-less (
   segment-sizes-below t,
   segment-sizes.Post,
 ) (segments-sizes-at t) segments-sizes.Post segments-sizes-Inv-loop segments-sizes-μ-loop
 segments-sizes-loop-less t c = omega arith
 
--- src/lib.rt:275:5
 segments-sizes-loop-again : (t : ℕ) → segments-sizes-lts.Need-loop-again (
   segment-sizes-below t,
   segment-sizes.Post,
@@ -765,7 +704,6 @@ segments-sizes-loop-again : (t : ℕ) → segments-sizes-lts.Need-loop-again (
 unfolding segmentFrom
 segments-sizes-loop-again t c = adding-more (c .before .before .before .loop .inv) (c .before .before .loop-test .taken) (c .before .segment-sizes .ensures)
 
--- src/lib.rt:267:1
 segments-sizes-returns-2 : (t : ℕ) → segments-sizes-lts.Need-returns-2 (
   segment-sizes-below t,
   segment-sizes.Post,

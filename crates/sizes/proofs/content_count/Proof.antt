@@ -1,9 +1,4 @@
 use Rattle.sizes.specs.InPlace.{content-count-in, content-count-out}
-use mathlib.Core.Path.{_≡_, refl, sym, ap, _∙_}
-use mathlib.Core.List.{List, [], _∷_, _++_}
-use Prim.Native.Nat.{ℕ, zero, suc, _+_, _-_, _*_, _%_, _/_, _^_, _≤_, _<_}
-use native.Mathlib.Omega.{arith}
-use lib.ListN.{length, getD, take, drop, set, replicate, length-set, length-take, length-drop, length-append, length-replicate}
 use borrow.Author.Needs.{needs}
 use Rattle.sizes.proofs.content_count.Statement.{statement}
 use Rattle.sizes.proofs.content_count.Tie as tie
@@ -11,15 +6,12 @@ use Rattle.sizes.proofs.content_count.Reads as reads
 use Rattle.sizes.proofs.content_count.Lts as lts
 use Rattle.ids.proofs.contents_in.Reads as contents-in-reads
 
--- src/lib.rt:91:8
 contents-in-requires : tie.Need-contents-in-requires
 contents-in-requires c κs = search needs
 
--- src/lib.rt:92:9
 returns : tie.Need-returns
 returns c = content-count-in (c .before .before .args .st) (c .before .before .args .start) (c .before .before .args .len) (c .before .contents-in .ensures) (c .if1 .taken)
 
--- src/lib.rt:87:1
 returns-2 : tie.Need-returns-2
 returns-2 c = content-count-out (c .before .before .args .st) (c .before .before .args .start) (c .before .before .args .len) (c .before .contents-in .ensures) (c .if1 .left)
 

@@ -1,9 +1,5 @@
 use Rattle.sizes.specs.Answers.{node-bare, node-body-read}
-use mathlib.Core.Path.{_≡_, refl, sym, ap, _∙_}
-use mathlib.Core.List.{List, [], _∷_, _++_}
-use Prim.Native.Nat.{ℕ, zero, suc, _+_, _-_, _*_, _%_, _/_, _^_, _≤_, _<_}
 use native.Mathlib.Omega.{arith}
-use lib.ListN.{length, getD, take, drop, set, replicate, length-set, length-take, length-drop, length-append, length-replicate}
 use borrow.Author.Needs.{needs}
 use Rattle.sizes.proofs.node_sizes.Statement.{statement}
 use Rattle.sizes.proofs.node_sizes.Tie as tie
@@ -11,27 +7,21 @@ use Rattle.sizes.proofs.node_sizes.Reads as reads
 use Rattle.sizes.proofs.node_sizes.Lts as lts
 use Rattle.sizes.proofs.body_sizes.Reads as body-sizes-reads
 
--- src/lib.rt:356:18
 add-if1 : tie.Need-add-if1
 add-if1 c = search needs
 
--- src/lib.rt:356:13
 shared-slice-read-if1 : tie.Need-shared-slice-read-if1
 shared-slice-read-if1 c = search needs
 
--- src/lib.rt:357:9
 returns : tie.Need-returns
 returns c = node-bare (c .before .before .before .args .room) (c .before .before .before .args .t) (c .before .before .before .args .tape .now) (c .before .before .before .args .st) (c .before .before .before .args .at) (c .before .before .before .pre .1 .0) (c .if1 .taken)
 
--- src/lib.rt:359:35
 add-body-sizes : tie.Need-add-body-sizes
 add-body-sizes c = search needs
 
--- src/lib.rt:359:5
 body-sizes-requires : tie.Need-body-sizes-requires
 body-sizes-requires c κs = (c .before .before .before .pre .0, (c .before .before .before .pre .1 .0, omega (arith, c .before .before .before .pre .1 .1)))
 
--- src/lib.rt:350:1
 returns-2 : tie.Need-returns-2
 returns-2 c = node-body-read (c .before .before .before .before .args .room) (c .before .before .before .before .args .t) (c .before .before .before .before .args .tape .now) (c .before .before .before .before .args .st) (c .before .before .before .before .args .at) (c .before .if1 .left) (c .body-sizes .ensures)
 

@@ -1,12 +1,9 @@
-use Rattle.sizes.specs.declared.Sizes.{Sizes}
 use Rattle.sizes.specs.InPlace.{nodeFrom, nodes-from}
-use Rattle.sizes.specs.Capped.{plus, noSizes, Kept, kept-none, Adding, adding-none, adding-more, adding-over, adding-all, plus-none, capped}
-use mathlib.Core.Path.{_≡_, refl, sym, ap, _∙_}
-use mathlib.Core.List.{List, [], _∷_, _++_}
-use Prim.Native.Nat.{ℕ, zero, suc, _+_, _-_, _*_, _%_, _/_, _^_, _≤_, _<_}
+use Rattle.sizes.specs.Capped.{noSizes, kept-none, Adding, adding-none, adding-more, adding-over, adding-all, plus-none, capped}
+use mathlib.Core.Path.{ap, _∙_}
+use Prim.Native.Nat.{_-_}
 use native.Mathlib.Omega.{arith}
 use borrow.Author.Needs.{needs}
-use lib.ListN.{length, getD, take, drop, set, replicate, length-set, length-take, length-drop, length-append, length-replicate}
 use Rattle.sizes.proofs.nodes_sizes.Statement.{statement}
 use Rattle.sizes.proofs.nodes_sizes.Tie as tie
 use Rattle.sizes.proofs.nodes_sizes.Reads as reads
@@ -20,45 +17,35 @@ Inv-loop tape st room at count u₀ i₀ u i = Adding room noSizes (nodeFrom tap
 abbrev μ-loop : tie.MeasureT-loop
 μ-loop tape st room at count u₀ i₀ u i = count - i
 
--- src/lib.rt:379:9
 none-requires : tie.Need-none-requires Inv-loop μ-loop
 none-requires c κs = search needs
 
--- src/lib.rt:381:5
 loop-holds : tie.Need-loop-holds Inv-loop μ-loop
 loop-holds c = rw (c .none .ensures) (adding-none (nodeFrom (c .before .before .args .tape .now) (c .before .before .args .st) (c .before .before .args .at)) (c .before .before .args .count) (kept-none (c .before .before .args .room)))
 
--- src/lib.rt:382:48
 mul-node-sizes : tie.Need-mul-node-sizes Inv-loop μ-loop
 mul-node-sizes c = omega arith
 
--- src/lib.rt:382:43
 add-node-sizes : tie.Need-add-node-sizes Inv-loop μ-loop
 add-node-sizes c = omega arith
 
--- src/lib.rt:382:9
 node-sizes-requires : tie.Need-node-sizes-requires Inv-loop μ-loop
 node-sizes-requires c κs = (c .before .before .before .before .pre .0, (c .before .loop .inv .kept, omega arith))
 
--- src/lib.rt:384:13
 returns : tie.Need-returns Inv-loop μ-loop
 unfolding nodeFrom
 returns c = adding-over (c .before .before .before .loop .inv) (c .before .before .loop-test .taken) (c .before .node-sizes .ensures) (c .if1 .taken) ∙ plus-none (c .before .before .before .before .before .before .args .room) _ ∙ ap (capped (c .before .before .before .before .before .before .args .room)) (nodes-from (c .before .before .before .before .before .before .args .tape .now) (c .before .before .before .before .before .before .args .at) (c .before .before .before .before .before .before .args .count) (c .before .before .before .before .before .before .args .st))
 
--- src/lib.rt:386:9
 add-i : tie.Need-add-i Inv-loop μ-loop
 add-i c = omega arith
 
--- src/lib.rt:381:5
 loop-less : tie.Need-loop-less Inv-loop μ-loop
 loop-less c = omega arith
 
--- src/lib.rt:381:5
 loop-again : tie.Need-loop-again Inv-loop μ-loop
 unfolding nodeFrom
 loop-again c = adding-more (c .before .before .before .loop .inv) (c .before .before .loop-test .taken) (c .before .node-sizes .ensures)
 
--- src/lib.rt:374:1
 returns-2 : tie.Need-returns-2 Inv-loop μ-loop
 returns-2 c = adding-all (c .before .loop .inv) (c .loop-test .left) ∙ plus-none (c .before .before .before .before .args .room) _ ∙ ap (capped (c .before .before .before .before .args .room)) (nodes-from (c .before .before .before .before .args .tape .now) (c .before .before .before .before .args .at) (c .before .before .before .before .args .count) (c .before .before .before .before .args .st))
 

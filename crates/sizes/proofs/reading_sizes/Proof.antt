@@ -1,22 +1,14 @@
 use Rattle.ids.specs.Whole.{ids-nodes}
 use Rattle.sizes.specs.Calls.{reading-levels, reading-answer}
-use mathlib.Core.Path.{_≡_, refl, sym, ap, _∙_}
-use mathlib.Core.List.{List, [], _∷_, _++_}
-use Prim.Native.Nat.{ℕ, zero, suc, _+_, _-_, _*_, _%_, _/_, _^_, _≤_, _<_}
-use native.Mathlib.Omega.{arith}
-use borrow.Author.Needs.{needs}
-use lib.ListN.{length, getD, take, drop, set, replicate, length-set, length-take, length-drop, length-append, length-replicate}
 use Rattle.sizes.proofs.reading_sizes.Statement.{statement}
 use Rattle.sizes.proofs.reading_sizes.Tie as tie
 use Rattle.sizes.proofs.reading_sizes.Reads as reads
 use Rattle.sizes.proofs.reading_sizes.Lts as lts
 use Rattle.sizes.proofs.nodes_sizes.Reads as nodes-sizes-reads
 
--- src/lib.rt:398:5
 nodes-sizes-requires : tie.Need-nodes-sizes-requires
 nodes-sizes-requires c κs = (reading-levels (c .before .pre .0), ids-nodes (c .before .pre .0))
 
--- src/lib.rt:392:1
 returns : tie.Need-returns
 returns c = reading-answer (c .before .before .pre .0) (c .before .before .args .room) (c .before .before .pre .1 .0) (c .before .before .pre .1 .1) (c .nodes-sizes .ensures)
 

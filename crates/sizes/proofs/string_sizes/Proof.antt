@@ -1,9 +1,4 @@
 use Rattle.sizes.specs.InPlace.{string-one, string-missing, string-optional, string-none}
-use mathlib.Core.Path.{_≡_, refl, sym, ap, _∙_}
-use mathlib.Core.List.{List, [], _∷_, _++_}
-use Prim.Native.Nat.{ℕ, zero, suc, _+_, _-_, _*_, _%_, _/_, _^_, _≤_, _<_}
-use native.Mathlib.Omega.{arith}
-use lib.ListN.{length, getD, take, drop, set, replicate, length-set, length-take, length-drop, length-append, length-replicate}
 use borrow.Author.Needs.{needs}
 use Rattle.sizes.proofs.string_sizes.Statement.{statement}
 use Rattle.sizes.proofs.string_sizes.Tie as tie
@@ -11,27 +6,21 @@ use Rattle.sizes.proofs.string_sizes.Reads as reads
 use Rattle.sizes.proofs.string_sizes.Lts as lts
 use Rattle.sizes.proofs.with_added.Reads as with-added-reads
 
--- src/lib.rt:152:9
 with-added-requires : tie.Need-with-added-requires
 with-added-requires c κs = search needs
 
--- src/lib.rt:152:9
 returns : tie.Need-returns
 returns c = string-one (c .before .before .args .room) (c .before .before .args .t) (c .before .before .pre) (c .before .before .args .usage) (c .before .before .args .w) (c .before .if1 .taken) (c .with-added .ensures)
 
--- src/lib.rt:156:13
 returns-2 : tie.Need-returns-2
 returns-2 c = string-missing (c .before .before .before .args .room) (c .before .before .before .args .t) (c .before .before .before .pre) (c .before .before .before .args .usage) (c .before .before .before .args .w) (c .before .if2 .taken) (c .if3 .taken)
 
--- src/lib.rt:158:9
 with-added-requires-2 : tie.Need-with-added-requires-2
 with-added-requires-2 c κs = search needs
 
--- src/lib.rt:158:9
 returns-3 : tie.Need-returns-3
 returns-3 c = string-optional (c .before .before .before .before .args .room) (c .before .before .before .before .args .t) (c .before .before .before .before .pre) (c .before .before .before .before .args .usage) (c .before .before .before .before .args .w) (c .before .before .if2 .taken) (c .before .if3 .left) (c .with-added2 .ensures)
 
--- src/lib.rt:147:1
 returns-4 : tie.Need-returns-4
 returns-4 c = string-none (c .before .before .args .room) (c .before .before .args .t) (c .before .before .pre) (c .before .before .args .usage) (c .before .before .args .w) (c .before .if1 .left) (c .if2 .left)
 

@@ -1,9 +1,6 @@
 use Rattle.sizes.specs.Capped.{plus-over, plus-contents, plus-segments, plus-exact}
-use mathlib.Core.Path.{_≡_, refl, sym, ap, _∙_}
-use mathlib.Core.List.{List, [], _∷_, _++_}
-use Prim.Native.Nat.{ℕ, zero, suc, _+_, _-_, _*_, _%_, _/_, _^_, _≤_, _<_}
+use mathlib.Core.Path.{sym, _∙_}
 use native.Mathlib.Omega.{arith}
-use lib.ListN.{length, getD, take, drop, set, replicate, length-set, length-take, length-drop, length-append, length-replicate}
 use borrow.Author.Needs.{needs}
 use Rattle.sizes.proofs.with_added.Statement.{statement}
 use Rattle.sizes.proofs.with_added.Tie as tie
@@ -13,71 +10,54 @@ use Rattle.sizes.proofs.calls_sum.Reads as calls-sum-reads
 use Rattle.sizes.proofs.over.Reads as over-reads
 use Rattle.sizes.proofs.wide.Reads as wide-reads
 
--- src/lib.rt:68:9
 returns : tie.Need-returns
 returns c = sym (plus-over (c .before .args .room) _ (c .if1 .taken))
 
--- src/lib.rt:70:13
 wide-requires : tie.Need-wide-requires
 wide-requires c κs = search needs
 
--- src/lib.rt:70:32
 wide-requires-2 : tie.Need-wide-requires-2
 wide-requires-2 c κs = search needs
 
--- src/lib.rt:70:13
 add-c : tie.Need-add-c
 add-c c = search needs
 
--- src/lib.rt:71:13
 wide-requires-3 : tie.Need-wide-requires-3
 wide-requires-3 c κs = search needs
 
--- src/lib.rt:71:32
 wide-requires-4 : tie.Need-wide-requires-4
 wide-requires-4 c κs = search needs
 
--- src/lib.rt:71:13
 add-s : tie.Need-add-s
 add-s c = search needs
 
--- src/lib.rt:72:8
 wide-requires-5 : tie.Need-wide-requires-5
 wide-requires-5 c κs = search needs
 
--- src/lib.rt:73:9
 over-requires : tie.Need-over-requires
 over-requires c κs = search needs
 
--- src/lib.rt:73:9
 returns-2 : tie.Need-returns-2
 returns-2 c = c .over .ensures ∙ plus-contents (c .before .before .before .before .before .before .before .before .args .room) (c .before .before .before .before .before .before .before .before .args .t) (record { contents = c .before .before .before .before .before .before .before .before .args .contents; segments = c .before .before .before .before .before .before .before .before .args .segments; calls = c .before .before .before .before .before .before .before .before .args .calls }) (c .before .before .before .before .before .before .before .if1 .left) (omega (arith, c .before .before .before .before .before .before .wide .ensures, c .before .before .before .before .before .wide2 .ensures, c .before .before .wide5 .ensures))
 
--- src/lib.rt:75:8
 wide-requires-6 : tie.Need-wide-requires-6
 wide-requires-6 c κs = search needs
 
--- src/lib.rt:76:9
 over-requires-2 : tie.Need-over-requires-2
 over-requires-2 c κs = search needs
 
--- src/lib.rt:76:9
 returns-3 : tie.Need-returns-3
 returns-3 c = c .over2 .ensures ∙ plus-segments (c .before .before .before .before .before .before .before .before .before .before .args .room) (c .before .before .before .before .before .before .before .before .before .before .args .t) (record { contents = c .before .before .before .before .before .before .before .before .before .before .args .contents; segments = c .before .before .before .before .before .before .before .before .before .before .args .segments; calls = c .before .before .before .before .before .before .before .before .before .before .args .calls }) (c .before .before .before .before .before .before .before .before .before .if1 .left) (omega (arith, c .before .before .before .before .before .before .wide3 .ensures, c .before .before .before .before .before .wide4 .ensures, c .before .before .wide6 .ensures))
 
--- src/lib.rt:79:19
 cast-t11 : tie.Need-cast-t11
 cast-t11 c = search needs
 
--- src/lib.rt:80:19
 cast-t12 : tie.Need-cast-t12
 cast-t12 c = search needs
 
--- src/lib.rt:81:16
 calls-sum-requires : tie.Need-calls-sum-requires
 calls-sum-requires c κs = search needs
 
--- src/lib.rt:64:1
 returns-4 : tie.Need-returns-4
 returns-4 c = plus-exact (c .before .before .before .before .before .before .before .before .before .before .args .room) (c .before .before .before .before .before .before .before .before .before .before .args .t) (record { contents = c .before .before .before .before .before .before .before .before .before .before .args .contents; segments = c .before .before .before .before .before .before .before .before .before .before .args .segments; calls = c .before .before .before .before .before .before .before .before .before .before .args .calls }) (c .before .before .before .before .before .before .before .before .before .if1 .left) _ _ _ (omega (arith, c .before .before .before .before .before .before .before .before .wide .ensures, c .before .before .before .before .before .before .before .wide2 .ensures)) (omega (arith, c .before .before .before .before .wide5 .ensures)) (omega (arith, c .before .before .before .before .before .before .wide3 .ensures, c .before .before .before .before .before .wide4 .ensures)) (omega (arith, c .before .before .wide6 .ensures)) (c .calls-sum .ensures)
 
