@@ -45,6 +45,10 @@ pub add-assoc : (a b d : Added) → add (add a b) d ≡ add a (add b d)
 unfolding add
 add-assoc a b d = same-added (omega arith) (omega arith) (omega arith)
 
+pub add-comm : (a b : Added) → add a b ≡ add b a
+unfolding add
+add-comm a b = same-added (omega arith) (omega arith) (omega arith)
+
 pub all-append : {A : Type 0} (f : A → Added) (xs ys : List A) → addAll f (xs ++ ys) ≡ add (addAll f xs) (addAll f ys)
 unfolding addAll
 all-append f [] ys = sym (nothing-add (addAll f ys))

@@ -104,7 +104,8 @@ module _ (m : Room) (t : Sizes) (tp : List ℕ) (st : Store) (at level : ℕ) wh
   unfolding innerAdds bodyAdds
   segment-below z {r} q =
       let e : level ≡ suc (level - 1) = by-zero level z in
-      q ∙ ap (λ (b : Body). plus m t (innerAdds (suc (level - 1)) tp st b)) (segment-body tp at) ∙ ap (λ (k : ℕ). plus m t (innerAdds k tp st (recordAt segmentCodec tp at .body))) (sym e)
+      q ∙ ap (λ (b : Body). plus m t (innerAdds (suc (level - 1)) tp st b)) (segment-body tp at)
+      ∙ ap (λ (k : ℕ). plus m t (innerAdds k tp st (recordAt segmentCodec tp at .body))) (sym e)
     where
       by-zero : (k : ℕ) → (k ≡ 0 → ⊥) → k ≡ suc (k - 1)
       by-zero zero n = absurd (n refl)

@@ -74,7 +74,8 @@ module _ (inner : Body → Added) (h : (b : Body) → Few 6 (inner b)) (t : List
   unfolding segmentRunAdds segmentsAdd
   segment-run-few start len =
       let n = segmentCount st start len in
-      few-segments n (rw (length-records segmentCodec t (segmentPlace st start) n) at (few-items (λ (s : Segment). inner (s .body)) (λ s. h (s .body)) (recordsAt segmentCodec t (segmentPlace st start) n)))
+      few-segments n (rw (length-records segmentCodec t (segmentPlace st start) n) at
+      (few-items (λ (s : Segment). inner (s .body)) (λ s. h (s .body)) (recordsAt segmentCodec t (segmentPlace st start) n)))
 
   content-few : (c : Content) → Few 6 (contentAdds inner t st c)
   unfolding contentAdds
@@ -84,14 +85,16 @@ module _ (inner : Body → Added) (h : (b : Body) → Few 6 (inner b)) (t : List
   unfolding contentRunAdds contentsAdd
   content-run-few start len =
       let n = contentCount st start len in
-      few-contents n (rw (length-records contentCodec t (contentPlace st start) n) at (few-items (contentAdds inner t st) content-few (recordsAt contentCodec t (contentPlace st start) n)))
+      few-contents n (rw (length-records contentCodec t (contentPlace st start) n) at
+      (few-items (contentAdds inner t st) content-few (recordsAt contentCodec t (contentPlace st start) n)))
 
   used-few : (f : FieldWords) → Few 1 (usedAdds inner t st f)
   unfolding usedAdds stringAdds
   used-few f =
       few-cond (eqb (f .usage) 3) (few-more (omega arith) (content-run-few (f .first) (f .second)))
       (few-cond (eqb (f .usage) 5) (few-more (omega arith) (segment-run-few (f .first) (f .second)))
-      (few-cond (eqb (f .usage) 1) few-call (few-cond (eqb (f .usage) 2) (few-cond (eqb (f .first) noString) (few-more (omega arith) few-none) few-call) (few-more (omega arith) few-none))))
+      (few-cond (eqb (f .usage) 1) few-call
+      (few-cond (eqb (f .usage) 2) (few-cond (eqb (f .first) noString) (few-more (omega arith) few-none) few-call) (few-more (omega arith) few-none))))
 
   body-few : (b : Body) → Few 6 (fieldsAdd inner t st b (fieldsOf b))
   unfolding placeAdds

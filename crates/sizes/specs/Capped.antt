@@ -3,13 +3,13 @@ use mathlib.Core.Path.{_≡_, refl, sym, ap, ap₂, _∙_}
 use Prim.Native.Nat.{ℕ, zero, suc, _+_, _-_, _≤_, _<_, min}
 use native.Mathlib.Omega.{arith}
 use native.Mathlib.Nat.{add-zero}
-use mathlib.Core.Bool.{Bool, true, false, cond, _&&_, and-false}
+use mathlib.Core.Bool.{Bool, true, false, cond, _&&_, and-false, true≢false}
 use lib.Dec.{leb}
 use borrow.Author.Tests.{le-leb, lt-leb, leb-true, leb-false}
 use Rattle.model.specs.Lists.{tabulate}
 use Rattle.laws.specs.Lists.{both}
 use Rattle.wire.specs.Loops.{by-bool}
-use Rattle.sizes.specs.Added.{Added, nothing, add, addAll, add-nothing, nothing-add, add-assoc}
+use Rattle.sizes.specs.Added.{Added, nothing, add, addAll, add-nothing, nothing-add, add-assoc, add-comm}
 use Rattle.sizes.specs.declared.Room.{Room}
 use Rattle.sizes.specs.declared.Sizes.{Sizes}
 
@@ -59,8 +59,16 @@ less-leb n m k h = let l = leb-false n m h in lt-leb (n + k) m (omega (arith, l)
 fits-add : (m : Room) (a b : Added) → fits m a ≡ false → fits m (add a b) ≡ false
 unfolding fits add
 fits-add m a b h =
-    both-or (leb (a .contents) (m .contents)) (leb (a .segments) (m .segments)) h (leb (a .contents + b .contents) (m .contents)) (leb (a .segments + b .segments) (m .segments))
+    both-or (leb (a .contents) (m .contents)) (leb (a .segments) (m .segments)) h
+    (leb (a .contents + b .contents) (m .contents)) (leb (a .segments + b .segments) (m .segments))
     (less-leb (a .contents) (m .contents) (b .contents)) (less-leb (a .segments) (m .segments) (b .segments))
+
+-- where there is room for a sum, there is room for its parts
+pub fits-left : (m : Room) (a b : Added) → fits m (add a b) ≡ true → fits m a ≡ true
+fits-left m a b h = by-bool (fits m a) (λ x. x) (λ x. absurd (true≢false (sym h ∙ fits-add m a b x)))
+
+pub fits-right : (m : Room) (a b : Added) → fits m (add a b) ≡ true → fits m b ≡ true
+fits-right m a b h = fits-left m b a (sym (ap (fits m) (add-comm a b)) ∙ h)
 
 pub capped-exact : (m : Room) (a : Added) → fits m a ≡ true → capped m a ≡ exactSizes a
 unfolding capped
@@ -96,7 +104,8 @@ pub plus-plus : (m : Room) (t : Sizes) (a b : Added) → plus m (plus m t a) b �
 plus-plus m t a b =
     by-bool (t .over)
     (λ e. ap (λ (u : Sizes). plus m u b) (plus-over m a e) ∙ plus-over m b e ∙ sym (plus-over m (add a b) e))
-    (λ e. ap (λ (u : Sizes). plus m u b) (plus-going m t a e) ∙ capped-plus m (add (addedOf t) a) b ∙ ap (capped m) (add-assoc (addedOf t) a b) ∙ sym (plus-going m t (add a b) e))
+    (λ e. ap (λ (u : Sizes). plus m u b) (plus-going m t a e) ∙ capped-plus m (add (addedOf t) a) b
+    ∙ ap (capped m) (add-assoc (addedOf t) a b) ∙ sym (plus-going m t (add a b) e))
 
 -- ---- the code's answers
 
@@ -115,7 +124,8 @@ module _ (m : Room) (t : Sizes) (a : Added) (h : t .over ≡ false) where
   plus-exact x y z e l f n g =
       (λ i. record { contents = e i; segments = f i; calls = g i; over = false })
       ∙ sym (plus-going m t a h
-      ∙ capped-exact m (add (addedOf t) a) (rw (le-leb (t .contents + a .contents) (m .contents) (omega (arith, e, l)), le-leb (t .segments + a .segments) (m .segments) (omega (arith, f, n))) refl))
+      ∙ capped-exact m (add (addedOf t) a)
+      (rw (le-leb (t .contents + a .contents) (m .contents) (omega (arith, e, l)), le-leb (t .segments + a .segments) (m .segments) (omega (arith, f, n))) refl))
 
 -- ---- sizes that there is room for, or over
 

@@ -140,7 +140,8 @@ contentFrom inner t st at i = contentAdds inner t st (recordAt contentCodec t (a
 unfoldable pub nodeFrom : List ℕ → Store → ℕ → ℕ → Added
 nodeFrom t st at i = nodeAdds t st (recordAt nodeCodec t (at + 49 * i))
 
-records-from : {A : Type 0} (k : Codec A) (f : A → Added) (t : List ℕ) (at n : ℕ) → addFrom (λ (i : ℕ). f (recordAt k t (at + recordSize k * i))) n 0 ≡ addAll f (recordsAt k t at n)
+records-from : {A : Type 0} (k : Codec A) (f : A → Added) (t : List ℕ) (at n : ℕ)
+    → addFrom (λ (i : ℕ). f (recordAt k t (at + recordSize k * i))) n 0 ≡ addAll f (recordsAt k t at n)
 unfolding recordsAt
 records-from k f t at n =
     sym (added-tabulate f n 0 (λ (i : ℕ). recordAt k t (at + recordSize k * i)))
@@ -211,7 +212,8 @@ module _ (st : Store) (start len : ℕ) where
   unfolding segmentCount
   segment-count-out e q = rw (sym e ∙ q) refl
 
-pub field-read : (t : List ℕ) (p j i u w next : ℕ) → i ≡ fieldWord (byteAt t p) j → u ≡ wordUse (byteAt t p) (byteAt t (p + 1)) i → w ≡ wordOf (bodyAt t p) i → next ≡ wordOf (bodyAt t p) (i + 1)
+pub field-read : (t : List ℕ) (p j i u w next : ℕ) → i ≡ fieldWord (byteAt t p) j → u ≡ wordUse (byteAt t p) (byteAt t (p + 1)) i
+    → w ≡ wordOf (bodyAt t p) i → next ≡ wordOf (bodyAt t p) (i + 1)
     → _≡_ {A = FieldWords} (record { usage = u; first = w; second = next }) (fieldWords (bodyAt t p) j)
 unfolding bodyAt
 field-read t p j i u w next e f g h = rw (f, g, h, e) refl

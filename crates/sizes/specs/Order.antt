@@ -1,8 +1,7 @@
 -- Section 5: the fields of a body in the order in which they are grafted, by the words at which they begin. A walk goes over
 -- six places; Gaiji's mencode, word 1, comes before its hint, and Illustration's caption, word 4, before its description.
 use mathlib.Core.Path.{_≡_, refl}
-use Prim.Native.Nat.{ℕ, zero, suc, _+_, _%_, _<_}
-use native.Mathlib.Omega.{arith}
+use Prim.Native.Nat.{ℕ, zero, suc, _+_, _%_}
 use mathlib.Core.Bool.{cond}
 use mathlib.Core.List.{List, [], _∷_, _++_}
 use lib.ListN.{getD}
@@ -51,14 +50,3 @@ fields-in-order (suc (suc (suc (suc (suc (suc (suc (suc (suc (suc (suc (suc (suc
 fields-in-order (suc (suc (suc (suc (suc (suc (suc (suc (suc (suc (suc (suc (suc (suc zero)))))))))))))) t = refl
 fields-in-order (suc (suc (suc (suc (suc (suc (suc (suc (suc (suc (suc (suc (suc (suc (suc zero))))))))))))))) t = refl
 fields-in-order (suc (suc (suc (suc (suc (suc (suc (suc (suc (suc (suc (suc (suc (suc (suc (suc k)))))))))))))))) t = refl
-
--- ---- the code's answers
-
-pub word-small : (k j : ℕ) → j < 6 → fieldWord k j < 6
-unfolding fieldWord
-word-small k j h =
-    by-bool (eqb k 3)
-    (λ e. rw e (by-bool (eqb j 0) (λ q. rw q (omega arith)) (λ q. rw q (by-bool (eqb j 1) (λ z. rw z (omega arith)) (λ z. rw z h)))))
-    (λ e. rw e (by-bool (eqb k 11)
-    (λ f. rw f (by-bool (eqb j 3) (λ q. rw q (omega arith)) (λ q. rw q (by-bool (eqb j 4) (λ z. rw z (omega arith)) (λ z. rw z h)))))
-    (λ f. rw f h)))

@@ -11,7 +11,8 @@ use Rattle.model.specs.Limits.{noString, maxLevel}
 use Rattle.model.specs.Types.{Body, Content, Segment, SourceNode}
 use Rattle.model.specs.Store.{NodeStore, storeOf, resolveContentRange, resolveSegRange}
 use Rattle.model.specs.WellFormed.{wordOf}
-use Rattle.model.specs.Tape.{Field, Field.str, Field.optStr, Field.contentRange, Field.segRange, fieldsOf, nodeFields, recordsAt, contentCodec, segmentCodec, nodeCodec, places, layersAt, bookAt}
+use Rattle.model.specs.Tape.{Field, Field.str, Field.optStr, Field.contentRange, Field.segRange, fieldsOf, nodeFields}
+use Rattle.model.specs.Tape.{recordsAt, contentCodec, segmentCodec, nodeCodec, places, layersAt, bookAt}
 use Rattle.model.specs.Tree.{Tree, Tree.tree, Fields.done, showSegments, showContents, showFields, showWith, showBody, showNode, shownNode, shownNodes}
 use Rattle.laws.specs.Lists.{both, all-take, all-drop}
 use Rattle.laws.specs.Layers.{ids-pools}
@@ -22,8 +23,10 @@ use Rattle.store.specs.declared.Store.{Store}
 use Rattle.ids.specs.Tests.{contentsIn, segmentsIn, fieldIn, bodyIn, contentIn, segmentIn, nodeIn}
 use Rattle.ids.specs.Whole.{content-ok, segment-ok, ids-are, idsIn, layersIn}
 use Rattle.sizes.specs.Added.{Added, oneCall, add, addAll, nothing-add}
-use Rattle.sizes.specs.Trees.{treeSize, fieldsSize, contentsSize, segmentsSize, contentsLength, segmentsLength, runOfContents, runOfSegments, contentRunSize, segmentRunSize, nodesSize}
-use Rattle.sizes.specs.InPlace.{contentCount, segmentCount, segmentsAdd, segmentRunAdds, contentAdds, contentsAdd, contentRunAdds, fieldAdds, fieldsAdd, innerAdds, bodyAdds, nodeAdds, nodesAdd}
+use Rattle.sizes.specs.Trees.{treeSize, fieldsSize, contentsSize, segmentsSize, contentsLength, segmentsLength}
+use Rattle.sizes.specs.Trees.{runOfContents, runOfSegments, contentRunSize, segmentRunSize, nodesSize}
+use Rattle.sizes.specs.InPlace.{contentCount, segmentCount, segmentsAdd, segmentRunAdds, contentAdds, contentsAdd, contentRunAdds}
+use Rattle.sizes.specs.InPlace.{fieldAdds, fieldsAdd, innerAdds, bodyAdds, nodeAdds, nodesAdd}
 
 -- ---- how many items are shown
 
@@ -91,9 +94,11 @@ module _ (t : List ℕ) (st : Store) (e : st ≡ storeAt t) (d : List ℕ) where
         content-run-agrees start len h =
             let run = take len (drop start (shownStore .contents)) in
             let is : run ≡ recordsAt contentCodec t (contentPlace st start) len = content-range t st e d start len h in
-            let n : contentsLength (showContents show shownStore run) ≡ len = contents-shown show shownStore run ∙ ap length is ∙ length-records contentCodec t (contentPlace st start) len in
+            let n : contentsLength (showContents show shownStore run) ≡ len =
+            contents-shown show shownStore run ∙ ap length is ∙ length-records contentCodec t (contentPlace st start) len in
             rw h (ap₂ (λ (k : ℕ) (x : Added). runOfContents k x) n
-            (contents-agree run (all-take (contentIn st) len (drop start (shownStore .contents)) (all-drop (contentIn st) start (shownStore .contents) contentsOk)) ∙ ap (addAll (contentAdds inner t st)) is))
+            (contents-agree run (all-take (contentIn st) len (drop start (shownStore .contents)) (all-drop (contentIn st) start (shownStore .contents) contentsOk))
+            ∙ ap (addAll (contentAdds inner t st)) is))
 
         fields-agree : (b : Body) (fs : List Field) → all (fieldIn st b) fs ≡ true → fieldsSize (showFields show shownStore b fs) ≡ fieldsAdd inner t st b fs
         unfolding showFields fieldsSize fieldsAdd addAll fieldAdds fieldIn contentRunSize segmentRunSize
@@ -123,7 +128,8 @@ module _ (t : List ℕ) (st : Store) (e : st ≡ storeAt t) (d : List ℕ) where
     unfolding innerAdds showInner treeSize fieldsSize showBody showWith bodyIn
     inner-agrees zero b h = refl
     inner-agrees (suc zero) b h = sym (fields-agree (λ x. tree 0 0 0 0 done) (innerAdds 0 t st) (λ x g. inner-agrees zero x g) segmentsOk contentsOk b (fieldsOf b) h)
-    inner-agrees (suc (suc l)) b h = sym (fields-agree (λ x. showBody l shownStore x) (innerAdds (suc l) t st) (λ x g. inner-agrees (suc l) x g) segmentsOk contentsOk b (fieldsOf b) h)
+    inner-agrees (suc (suc l)) b h =
+        sym (fields-agree (λ x. showBody l shownStore x) (innerAdds (suc l) t st) (λ x g. inner-agrees (suc l) x g) segmentsOk contentsOk b (fieldsOf b) h)
 
     pub body-agrees : (l : ℕ) (b : Body) → bodyIn st b ≡ true → bodyAdds l t st b ≡ treeSize (showBody l shownStore b)
     unfolding innerAdds bodyAdds showInner
@@ -139,7 +145,8 @@ module _ (t : List ℕ) (st : Store) (e : st ≡ storeAt t) (d : List ℕ) where
     nodes-agree (n ∷ ns) h = let b = both (nodeIn st n) (all (nodeIn st) ns) h in ap₂ (λ (x y : Added). add x y) (node-agrees n (b .0)) (nodes-agree ns (b .1))
 
 -- The nodes of the book that the tape holds, where number 4 holds.
-pub shown-nodes-add : (t : List ℕ) (st : Store) → st ≡ storeAt t → idsIn t st ≡ true → (d : List ℕ) → nodesAdd t st (places t .nodesAt) (places t .nodeCount) ≡ nodesSize (shownNodes (bookAt t (places t) d))
+pub shown-nodes-add : (t : List ℕ) (st : Store) → st ≡ storeAt t → idsIn t st ≡ true → (d : List ℕ)
+    → nodesAdd t st (places t .nodesAt) (places t .nodeCount) ≡ nodesSize (shownNodes (bookAt t (places t) d))
 unfolding nodesAdd shownNodes bookAt idsIn
 shown-nodes-add t st e h d =
     let rest = drop (wordAt t 1 + wordAt t 5) d in

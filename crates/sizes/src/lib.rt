@@ -16,7 +16,8 @@ ghost use Rattle.sizes.specs.Trees.{nodesSize};
 ghost use Rattle.sizes.specs.Order.{fieldWord};
 ghost use Rattle.sizes.specs.Capped.{overSizes, noSizes, capped, sizesIn, plus, Kept};
 ghost use Rattle.sizes.specs.Calls.{Limited};
-ghost use Rattle.sizes.specs.InPlace.{contentCount, segmentCount, fieldWords, stringAdds, usedAdds, innerAdds, bodyAdds, contentAdds, contentsAdd, contentRunAdds, segmentsAdd, segmentRunAdds, nodeAdds, nodesAdd};
+ghost use Rattle.sizes.specs.InPlace.{contentCount, segmentCount, fieldWords, stringAdds, usedAdds, innerAdds, bodyAdds};
+ghost use Rattle.sizes.specs.InPlace.{contentAdds, contentsAdd, contentRunAdds, segmentsAdd, segmentRunAdds, nodeAdds, nodesAdd};
 
 // How many contents and segments may still be added.
 pub struct Room {
