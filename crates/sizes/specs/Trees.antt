@@ -1,17 +1,15 @@
 -- Section 5: how many contents, segments and calls of `intern` the graft of a tree adds, and that it adds exactly these.
 use mathlib.Core.Path.{_≡_, refl, ap}
-use Prim.Native.Nat.{ℕ, suc, _+_, _%_}
+use Prim.Native.Nat.{ℕ, suc, _+_}
 use native.Mathlib.Omega.{arith}
 use mathlib.Core.List.{List, [], _∷_}
 use lib.ListN.{length, set, replicate, length-append}
-use lib.Dec.{ltb, eqb}
-use Rattle.model.specs.Limits.{noString, internLengthLimit}
-use Rattle.model.specs.Intern.{StrInterner, intern, holds, cacheHit, bypass, tableCall, tableHit, tableAlloc, tableFor, probe, fxHash, plusStats}
+use Rattle.model.specs.Limits.{noString}
 use Rattle.model.specs.Types.{Content, Segment}
 use Rattle.model.specs.Tree.{Tree, Tree.tree, Fields, Fields.done, Fields.text, Fields.absent, Fields.contents, Fields.segments, ShownNode}
 use Rattle.model.specs.Tree.{Contents, Contents.noContent, Contents.plain, Contents.segmented, Segments, Segments.noSegment, Segments.segment}
 use Rattle.model.specs.Graft.{NewLayer, graftStr, pushContents, pushSegments, graftNode, graftFields, graftContents, graftSegments, graftNodeRef, graftNodeRefs}
-use Rattle.wire.specs.Loops.{by-bool}
+use Rattle.intern.specs.Calls.{calls-one}
 use Rattle.sizes.specs.Added.{Added, nothing, oneCall, newContents, newSegments, add, addAll}
 
 -- ---- definitions
@@ -96,16 +94,9 @@ grew-behind x y = record {
   calls = omega (arith, x .calls, y .calls);
 }
 
-intern-calls : (t : StrInterner) (s : List ℕ) → intern t s .state .stats .calls ≡ t .stats .calls + 1
-unfolding intern cacheHit bypass tableCall tableHit tableAlloc plusStats
-intern-calls t s =
-    by-bool (holds (t .strings) (t .last) s) (λ e. rw e refl)
-    (λ e. rw e (by-bool (ltb internLengthLimit (length s)) (λ q. rw q refl)
-    (λ q. rw q (by-bool (eqb (probe (length (tableFor t)) (t .strings) (tableFor t) s (fxHash s % length (tableFor t)) 0 .slot) 0) (λ z. rw z refl) (λ z. rw z refl)))))
-
 grew-str : (s : List ℕ) (f : NewLayer) → Grew f (graftStr s f .1) oneCall
 unfolding graftStr
-grew-str s f = record { contents = omega arith; segments = omega arith; calls = intern-calls (f .interner) s }
+grew-str s f = record { contents = omega arith; segments = omega arith; calls = calls-one (f .interner) s }
 
 grew-contents : (cs : List Content) (f : NewLayer) → Grew f (pushContents cs f .1) (newContents (length cs))
 unfolding pushContents
