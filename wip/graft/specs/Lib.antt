@@ -6,3 +6,4 @@ pub mod Widths
 pub mod Walk
 pub mod Strings
 pub mod Turns
+pub mod Written

@@ -20,6 +20,7 @@ ghost use Rattle.sizes.specs.Added.{oneCall};
 ghost use Rattle.sizes.specs.InPlace.{innerAdds, bodyAdds, contentAdds, contentsAdd, contentRunAdds, segmentsAdd, segmentRunAdds};
 ghost use Rattle.graft.specs.Rebased.{contentRun, segmentRun};
 ghost use Rattle.graft.specs.Grafted.{layerFrom};
+ghost use Rattle.graft.specs.Written.{wordsBytes, segmentWith};
 ghost use Rattle.graft.specs.Walk.{sourceStore, Source, showLevel, stringFrom, shownContents, shownSegments, Space, StartTold, strStart, WordsTold, ContentsTold, SegmentsTold};
 
 // Where the new layer's numbers begin, and where its contents and segments are written.
@@ -125,4 +126,57 @@ fn graft_str(
     let state = m.state;
     let a = intern::intern(work, strs, state, &bytes[from..from + len]);
     start_of(m, a, p.strings)
+}
+
+fn put_content(out: &mut [u8], at: usize, tag: u8, first: u32, second: u32)
+    requires { ⌜ at + 10 ≤ length (now out) ⌝ }
+    ensures { λ _. ⌜ now (out .exit) ≡ overwrite (now (out .entry)) at (recordBytes contentCodec (record { tag = tag; first = first; second = second })) ⌝ }
+{
+    wire::put_u8(out, at, 4);
+    wire::put_u8(out, at + 1, tag);
+    wire::put_u32(out, at + 2, first);
+    wire::put_u32(out, at + 6, second);
+}
+
+fn put_words(out: &mut [u8], at: usize, words: [u32; 6])
+    requires { ⌜ at + 24 ≤ length (now out) ⌝ }
+    ensures { λ _. ⌜ now (out .exit) ≡ overwrite (now (out .entry)) at (wordsBytes words) ⌝ }
+{
+    wire::put_u32(out, at, words[0]);
+    wire::put_u32(out, at + 4, words[1]);
+    wire::put_u32(out, at + 8, words[2]);
+    wire::put_u32(out, at + 12, words[3]);
+    wire::put_u32(out, at + 16, words[4]);
+    wire::put_u32(out, at + 20, words[5]);
+}
+
+fn put_head(out: &mut [u8], at: usize, tag: u8, level: u8, kind: u8, variant: u8)
+    requires { ⌜ at + 5 ≤ length (now out) ⌝ }
+    ensures { λ _. ⌜ now (out .exit) ≡ overwrite (now (out .entry)) at (5 ∷ tag ∷ level ∷ kind ∷ variant ∷ []) ⌝ }
+{
+    wire::put_u8(out, at, 5);
+    wire::put_u8(out, at + 1, tag);
+    wire::put_u8(out, at + 2, level);
+    wire::put_u8(out, at + 3, kind);
+    wire::put_u8(out, at + 4, variant);
+}
+
+fn put_segment(
+    out: &mut [u8],
+    at: usize,
+    tag: u8,
+    level: u8,
+    kind: u8,
+    variant: u8,
+    first: u32,
+    second: u32,
+    words: [u32; 6],
+)
+    requires { ⌜ at + 37 ≤ length (now out) ⌝ }
+    ensures { λ _. ⌜ now (out .exit) ≡ overwrite (now (out .entry)) at (recordBytes segmentCodec (segmentWith tag level kind variant first second words)) ⌝ }
+{
+    put_head(out, at, tag, level, kind, variant);
+    wire::put_u32(out, at + 5, first);
+    wire::put_u32(out, at + 9, second);
+    put_words(out, at + 13, words);
 }
