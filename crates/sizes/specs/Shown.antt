@@ -44,6 +44,11 @@ module _ (show : Body → Tree) where
       (λ e. rw e (ap suc (contents-shown st xs)))
       (λ e. rw e (ap suc (contents-shown st xs)))
 
+-- the tree of a segment's body in a run that a body of level l names
+unfoldable pub showInner : ℕ → NodeStore → Body → Tree
+showInner zero s b = tree 0 0 0 0 done
+showInner (suc l) s b = showBody l s b
+
 -- ---- runs and fields, where `inner` is what the tree of a segment's body adds
 
 module _ (t : List ℕ) (st : Store) (e : st ≡ storeAt t) (d : List ℕ) where
@@ -51,7 +56,7 @@ module _ (t : List ℕ) (st : Store) (e : st ≡ storeAt t) (d : List ℕ) where
   shownStore = storeOf (layersAt t (places t .layers) d)
 
   module _ (show : Body → Tree) (inner : Body → Added) (agree : (b : Body) → bodyIn st b ≡ true → inner b ≡ treeSize (show b)) where
-    segments-agree : (ss : List Segment) → all (segmentIn st) ss ≡ true → segmentsSize (showSegments show ss) ≡ addAll (λ (s : Segment). inner (s .body)) ss
+    pub segments-agree : (ss : List Segment) → all (segmentIn st) ss ≡ true → segmentsSize (showSegments show ss) ≡ addAll (λ (s : Segment). inner (s .body)) ss
     unfolding showSegments segmentsSize addAll segmentIn
     segments-agree [] h = refl
     segments-agree (s ∷ ss) h =
@@ -81,7 +86,7 @@ module _ (t : List ℕ) (st : Store) (e : st ≡ storeAt t) (d : List ℕ) where
           let g : segmentsIn st (c .first) (c .second) ≡ true = rw z at h in
           rw z (ap₂ (λ (x y : Added). add x y) (segment-run-agrees (c .first) (c .second) g) more))
 
-      contents-agree : (cs : List Content) → all (contentIn st) cs ≡ true → contentsSize (showContents show shownStore cs) ≡ addAll (contentAdds inner t st) cs
+      pub contents-agree : (cs : List Content) → all (contentIn st) cs ≡ true → contentsSize (showContents show shownStore cs) ≡ addAll (contentAdds inner t st) cs
       unfolding showContents contentsSize addAll
       contents-agree [] h = refl
       contents-agree (c ∷ cs) h = let b = both (contentIn st c) (all (contentIn st) cs) h in content-agrees c cs (b .0) (contents-agree cs (b .1))
@@ -100,7 +105,7 @@ module _ (t : List ℕ) (st : Store) (e : st ≡ storeAt t) (d : List ℕ) where
             (contents-agree run (all-take (contentIn st) len (drop start (shownStore .contents)) (all-drop (contentIn st) start (shownStore .contents) contentsOk))
             ∙ ap (addAll (contentAdds inner t st)) is))
 
-        fields-agree : (b : Body) (fs : List Field) → all (fieldIn st b) fs ≡ true → fieldsSize (showFields show shownStore b fs) ≡ fieldsAdd inner t st b fs
+        pub fields-agree : (b : Body) (fs : List Field) → all (fieldIn st b) fs ≡ true → fieldsSize (showFields show shownStore b fs) ≡ fieldsAdd inner t st b fs
         unfolding showFields fieldsSize fieldsAdd addAll fieldAdds fieldIn contentRunSize segmentRunSize
         fields-agree b [] h = refl
         fields-agree b (str i ∷ fs) h = ap (add oneCall) (fields-agree b fs (both (fieldIn st b (str i)) (all (fieldIn st b) fs) h .1))
@@ -118,13 +123,8 @@ module _ (t : List ℕ) (st : Store) (e : st ≡ storeAt t) (d : List ℕ) where
 
   -- ---- bodies and nodes
 
-  -- the tree of a segment's body in a run that a body of level l names
-  unfoldable pub showInner : ℕ → Body → Tree
-  showInner zero b = tree 0 0 0 0 done
-  showInner (suc l) b = showBody l shownStore b
-
   module _ (segmentsOk : all (segmentIn st) (shownStore .segments) ≡ true) (contentsOk : all (contentIn st) (shownStore .contents) ≡ true) where
-    pub inner-agrees : (l : ℕ) (b : Body) → bodyIn st b ≡ true → innerAdds l t st b ≡ treeSize (showInner l b)
+    pub inner-agrees : (l : ℕ) (b : Body) → bodyIn st b ≡ true → innerAdds l t st b ≡ treeSize (showInner l shownStore b)
     unfolding innerAdds showInner treeSize fieldsSize showBody showWith bodyIn
     inner-agrees zero b h = refl
     inner-agrees (suc zero) b h = sym (fields-agree (λ x. tree 0 0 0 0 done) (innerAdds 0 t st) (λ x g. inner-agrees zero x g) segmentsOk contentsOk b (fieldsOf b) h)
