@@ -1,12 +1,11 @@
 -- What a step of the writing walk does: the defined layer's new items stand in the tape where the step began, the interner is the
 -- defined one; and that steps can follow each other.
 use mathlib.Core.Path.{_≡_, refl, sym, ap, ap₂, _∙_}
-use Prim.Native.Nat.{ℕ, _+_, _*_, _≤_, _<_}
+use Prim.Native.Nat.{ℕ, _+_, _*_, _≤_}
 use native.Mathlib.Omega.{arith}
-use mathlib.Core.Bool.{Bool, true, false, true≢false}
+use mathlib.Core.Bool.{true, false, true≢false}
 use mathlib.Core.List.{List, [], _∷_, _++_, append-assoc, flatten}
 use lib.ListN.{length, take, drop, length-append}
-use Rattle.model.specs.Types.{Content, Segment}
 use Rattle.model.specs.Tape.{Codec, recordBytes, recordsBytes, contentCodec, segmentCodec}
 use Rattle.model.specs.Graft.{NewLayer}
 use Rattle.wire.specs.Loops.{by-bool}

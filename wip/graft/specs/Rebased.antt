@@ -1,19 +1,18 @@
 -- What a graft pushes does not depend on what the layer holds already, but for its counts: from a layer with empty pools whose
 -- numbers begin behind those of f, the same answer and the same items come as from f.
 use mathlib.Core.Path.{_≡_, refl, sym, ap, ap₂, _∙_}
-use Prim.Native.Nat.{ℕ, zero, suc, _+_}
+use Prim.Native.Nat.{ℕ, _+_}
 use native.Mathlib.Omega.{arith}
 use mathlib.Core.Bool.{true}
 use mathlib.Core.List.{List, [], _∷_, _++_, append-assoc, append-nil}
 use lib.ListN.{length, set, replicate, length-append}
 use Rattle.model.specs.Limits.{noString}
-use Rattle.model.specs.Intern.{StrInterner, intern}
-use Rattle.model.specs.Types.{Body, Content, Segment, SourceNode}
-use Rattle.model.specs.Tree.{Tree, Tree.tree, Fields, Fields.done, Fields.text, Fields.absent, Fields.contents, Fields.segments, ShownNode}
+use Rattle.model.specs.Types.{Content, Segment}
+use Rattle.model.specs.Tree.{Tree, Tree.tree, Fields, Fields.done, Fields.text, Fields.absent, Fields.contents, Fields.segments}
 use Rattle.model.specs.Tree.{Contents, Contents.noContent, Contents.plain, Contents.segmented, Segments, Segments.noSegment, Segments.segment}
 use Rattle.intern.specs.State.{hasRoom}
 use Rattle.intern.specs.Calls.{room-before}
-use Rattle.model.specs.Graft.{NewLayer, With, graftStr, pushContents, pushSegments, graftNode, graftFields, graftContents, graftSegments, graftNodeRef, graftNodeRefs}
+use Rattle.model.specs.Graft.{NewLayer, With, graftStr, pushContents, pushSegments, graftNode, graftFields, graftContents, graftSegments}
 
 -- the layer with empty pools, whose numbers begin behind f's
 abbrev pub rebased : NewLayer → NewLayer

@@ -1,18 +1,16 @@
 -- A run while it is walked: its items stand at their final places, behind all that its inner runs push. What the items so far
 -- and the inner runs so far have written, one item more, and the end, where the run is pushed.
 use mathlib.Core.Path.{_≡_, refl, sym, ap, ap₂, _∙_}
-use Prim.Native.Nat.{ℕ, _+_, _*_, _≤_, _<_}
+use Prim.Native.Nat.{ℕ, _+_, _*_, _≤_}
 use native.Mathlib.Omega.{arith}
-use mathlib.Core.Bool.{Bool, true, false}
-use mathlib.Core.List.{List, [], _∷_, _++_}
-use lib.ListN.{length, take, drop, length-append}
+use mathlib.Core.List.{List, _++_}
+use lib.ListN.{length, length-append}
 use Rattle.model.specs.Types.{Content, Segment}
 use Rattle.model.specs.Tape.{recordsBytes, contentCodec, segmentCodec}
 use Rattle.model.specs.Graft.{NewLayer, pushContents, pushSegments}
 use Rattle.wire.specs.Overwrite.{overwrite, overwrite-next}
-use Rattle.intern.specs.State.{stateOf, Good}
 use Rattle.graft.specs.Rebased.{behind}
-use Rattle.graft.specs.Blocks.{blocks, length-blocks, blocks-then, items-first, items-second, push-first, push-second}
+use Rattle.graft.specs.Blocks.{blocks, length-blocks, items-first, items-second, push-first, push-second}
 use Rattle.graft.specs.Grafted.{contentAt, segmentAt, laid, Sized, Roomy, Made, made-then, bytes-append}
 use Rattle.graft.specs.declared.Plan.{Plan}
 use Rattle.graft.specs.declared.Mark.{Mark}

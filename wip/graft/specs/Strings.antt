@@ -1,12 +1,11 @@
 -- Section 3: where a string's bytes stand.
 use mathlib.Core.Path.{_≡_, refl, sym, ap, _∙_}
-use Prim.Native.Nat.{ℕ, zero, suc, _+_, _-_, _*_, _≤_, _<_, _^_}
+use Prim.Native.Nat.{ℕ, _+_, _-_, _≤_, _<_, _^_}
 use native.Mathlib.Omega.{arith}
 use native.Mathlib.Numerals.{add-one}
 use mathlib.Core.List.{List, [], _∷_, _++_, map, flatten}
 use lib.ListN.{length, getD, take, drop}
 use lib.Seq.{drop-drop}
-use mathlib.Core.Bool.{true, false}
 use Rattle.model.specs.Lists.{sum}
 use Rattle.model.specs.Bytes.{wordAt}
 use Rattle.model.specs.Tape.{recordAt, operandsAt, stringCodec, places}

@@ -1,22 +1,20 @@
 -- The walk's loops: a graft of a list that is walked item by item, and one item more.
 use mathlib.Core.Path.{_≡_, refl, sym, ap, ap₂, _∙_}
-use Prim.Native.Nat.{ℕ, zero, suc, _+_, _*_, _≤_, _<_}
-use native.Mathlib.Omega.{arith}
-use mathlib.Core.Bool.{Bool, true, false, cond}
+use Prim.Native.Nat.{ℕ, _+_, _*_, _≤_}
 use mathlib.Core.List.{List, [], _∷_, _++_, flatten}
-use lib.ListN.{length, set, length-append}
+use lib.ListN.{length, set}
 use lib.Dec.{eqb}
 use Rattle.model.specs.Limits.{noString}
 use Rattle.model.specs.Types.{Body, Content, Segment}
 use Rattle.model.specs.Store.{NodeStore, resolveStr, resolveContentRange, resolveSegRange}
 use Rattle.model.specs.WellFormed.{wordOf}
-use Rattle.model.specs.Tape.{Field, Field.str, Field.optStr, Field.contentRange, Field.segRange, recordsBytes, contentCodec, segmentCodec}
-use Rattle.model.specs.Tree.{Tree, Contents, Segments, showSegments, showContents, showFields}
+use Rattle.model.specs.Tape.{Field, Field.str, Field.optStr, Field.contentRange, Field.segRange, recordsBytes}
+use Rattle.model.specs.Tree.{Tree, showSegments, showContents, showFields}
 use Rattle.model.specs.Graft.{NewLayer, With, graftStr, pushContents, pushSegments, graftNode, graftFields, graftContents, graftSegments}
 use Rattle.wire.specs.Loops.{by-bool}
 use Rattle.intern.specs.State.{hasRoom}
-use Rattle.graft.specs.Rebased.{rebased, behind, Steps, steps-each, steps-every}
-use Rattle.graft.specs.Grafted.{layerFrom, Sized, Roomy, Made, next-layer}
+use Rattle.graft.specs.Rebased.{rebased, behind, steps-each, steps-every}
+use Rattle.graft.specs.Grafted.{layerFrom, Sized, Roomy, next-layer}
 use Rattle.graft.specs.Runs.{ContentsSoFar, SegmentsSoFar, contents-then, segments-then}
 use Rattle.graft.specs.Widths.{contents-width, segments-width, contents-sized, segments-sized}
 use Rattle.graft.specs.Walk.{ContentsTold, SegmentsTold}

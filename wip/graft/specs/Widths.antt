@@ -1,13 +1,13 @@
 -- The records that a graft makes have their sizes: 10 bytes a content, 37 a segment, whose body has six words.
-use mathlib.Core.Path.{_≡_, refl, sym, ap, ap₂, _∙_}
-use Prim.Native.Nat.{ℕ, zero, suc, _+_, _*_}
+use mathlib.Core.Path.{_≡_, refl, ap, _∙_}
+use Prim.Native.Nat.{ℕ, _+_, _*_}
 use native.Mathlib.Omega.{arith}
 use mathlib.Core.List.{List, [], _∷_, _++_, flatten}
 use lib.ListN.{length, set, replicate, length-set, length-append}
 use Rattle.model.specs.Limits.{noString}
 use Rattle.model.specs.Bytes.{wordBytes}
 use Rattle.model.specs.Types.{Body, Content, Segment}
-use Rattle.model.specs.Tape.{Codec, recordBytes, recordsBytes, operandBytes, contentCodec, segmentCodec}
+use Rattle.model.specs.Tape.{recordBytes, recordsBytes, operandBytes, contentCodec, segmentCodec}
 use Rattle.model.specs.Tree.{Tree, Tree.tree, Fields, Fields.done, Fields.text, Fields.absent, Fields.contents, Fields.segments}
 use Rattle.model.specs.Tree.{Contents, Contents.noContent, Contents.plain, Contents.segmented, Segments, Segments.noSegment, Segments.segment}
 use Rattle.model.specs.Graft.{NewLayer, graftStr, pushContents, pushSegments, graftNode, graftFields, graftContents, graftSegments}

@@ -1,13 +1,13 @@
 -- Records as they are written, part by part.
 use mathlib.Core.Path.{_≡_, refl, sym, ap, _∙_}
-use Prim.Native.Nat.{ℕ, zero, suc, _+_, _*_, _≤_}
+use Prim.Native.Nat.{ℕ}
 use native.Mathlib.Omega.{arith}
-use mathlib.Core.List.{List, [], _∷_, _++_, append-nil, append-assoc, map, flatten}
-use lib.ListN.{length, getD, length-append}
+use mathlib.Core.List.{List, [], _∷_, _++_, append-nil, append-assoc}
+use lib.ListN.{length, getD}
 use Rattle.model.specs.Bytes.{wordBytes}
-use Rattle.model.specs.Types.{Content, Segment}
+use Rattle.model.specs.Types.{Segment}
 use Rattle.model.specs.Tape.{recordBytes, operandBytes, contentCodec, segmentCodec}
-use Rattle.wire.specs.Overwrite.{overwrite, Wrote, wrote-byte, wrote-next}
+use Rattle.wire.specs.Overwrite.{overwrite, Wrote}
 
 -- the bytes of a body's words
 unfoldable pub wordsBytes : List ℕ → List ℕ

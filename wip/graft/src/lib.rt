@@ -21,7 +21,7 @@ ghost use Rattle.sizes.specs.InPlace.{innerAdds, bodyAdds, contentAdds, content
 ghost use Rattle.graft.specs.Rebased.{contentRun, segmentRun};
 ghost use Rattle.graft.specs.Grafted.{layerFrom};
 ghost use Rattle.graft.specs.Written.{wordsBytes, segmentWith};
-ghost use Rattle.graft.specs.Walk.{sourceStore, Source, showLevel, stringFrom, shownContents, shownSegments, Space, StartTold, strStart, WordsTold, ContentsTold, SegmentsTold};
+ghost use Rattle.graft.specs.Walk.{sourceStore, Source, stringFrom, shownContents, shownSegments, Space, StartTold, strStart, WordsTold, ContentsTold, SegmentsTold};
 
 // Where the new layer's numbers begin, and where its contents and segments are written.
 pub struct Plan {

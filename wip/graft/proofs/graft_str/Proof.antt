@@ -1,9 +1,5 @@
 use Rattle.graft.specs.Strings.{part-inside, part-shows, id-small, str-answer}
-use mathlib.Core.Path.{_≡_, refl, sym, ap, _∙_}
-use mathlib.Core.List.{List, [], _∷_, _++_}
-use Prim.Native.Nat.{ℕ, zero, suc, _+_, _-_, _*_, _%_, _/_, _^_, _≤_, _<_}
 use native.Mathlib.Omega.{arith}
-use lib.ListN.{length, getD, take, drop, set, replicate, length-set, length-take, length-drop, length-append, length-replicate}
 use borrow.Author.Needs.{needs}
 use Rattle.graft.proofs.graft_str.Statement.{statement}
 use Rattle.graft.proofs.graft_str.Tie as tie
@@ -14,47 +10,36 @@ use Rattle.graft.proofs.string_from.Reads as string-from-reads
 use Rattle.graft.proofs.string_length.Reads as string-length-reads
 use Rattle.intern.proofs.intern.Reads as intern-reads
 
--- src/lib.rt:114:9
 string-from-requires : tie.Need-string-from-requires
 string-from-requires c κs = search needs
 
--- src/lib.rt:115:9
 string-length-requires : tie.Need-string-length-requires
 string-length-requires c κs = ((c .before .before .before .before .before .pre .0) .fit, (c .before .before .before .before .before .pre .1 .1 .0))
 
--- src/lib.rt:117:60
 add-intern : tie.Need-add-intern
 add-intern c = omega (arith, part-inside (c .before .before .before .before .before .before .before .before .before .args .tape .now) (c .before .before .before .before .before .before .before .before .before .args .bytes .now) (c .before .before .before .before .before .before .before .before .before .args .st) (c .before .before .before .before .before .before .before .before .before .pre .0) (c .before .before .before .before .before .before .before .before .before .args .id) (c .before .before .before .before .before .before .before .before .before .pre .1 .1 .0) (c .before .before .before .before .string-from .result) (c .before .before .before .string-length .result) (c .before .before .before .before .string-from .ensures) (c .before .before .before .string-length .ensures))
 
--- src/lib.rt:117:47
 sub-intern : tie.Need-sub-intern
 sub-intern c = search needs
 
--- src/lib.rt:117:47
 part-intern-start : tie.Need-part-intern-start
 part-intern-start c = search needs
 
--- src/lib.rt:117:47
 part-intern-end : tie.Need-part-intern-end
 part-intern-end c = omega (arith, part-inside (c .before .before .before .before .before .before .before .before .before .args .tape .now) (c .before .before .before .before .before .before .before .before .before .args .bytes .now) (c .before .before .before .before .before .before .before .before .before .args .st) (c .before .before .before .before .before .before .before .before .before .pre .0) (c .before .before .before .before .before .before .before .before .before .args .id) (c .before .before .before .before .before .before .before .before .before .pre .1 .1 .0) (c .before .before .before .before .string-from .result) (c .before .before .before .string-length .result) (c .before .before .before .before .string-from .ensures) (c .before .before .before .string-length .ensures))
 
--- src/lib.rt:117:9
 intern-requires : tie.Need-intern-requires
 intern-requires c κs = search needs
 
--- src/lib.rt:118:5
 start-of-requires : tie.Need-start-of-requires
 start-of-requires c κs = omega (arith, id-small (c .before .before .before .before .before .before .before .before .before .before .before .before .before .before .before .args .p) (c .before .before .before .before .before .before .before .before .before .before .before .before .before .before .before .args .m) (c .before .before .before .before .before .before .before .before .before .before .before .before .before .before .before .args .work .now) (c .before .before .before .before .before .before .before .before .before .before .before .before .before .before .before .args .strs .now) (c .before .before .before .before .intern .last .0) (c .before .before .before .before .intern .last .1 .0) _ (c .before .before .before .before .intern .result) (c .before .before .before .before .intern .ensures), c .before .before .before .before .before .before .before .before .before .before .before .before .before .before .before .pre .1 .1 .2)
 
--- src/lib.rt:108:1
 same-length : tie.Need-same-length
 same-length c = search needs
 
--- src/lib.rt:108:1
 same-length-2 : tie.Need-same-length-2
 same-length-2 c = search needs
 
--- src/lib.rt:108:1
 returns : tie.Need-returns
 returns c = λ out. str-answer (c .before .before .before .before .before .before .before .before .before .before .before .before .before .before .before .before .args .p) (c .before .before .before .before .before .before .before .before .before .before .before .before .before .before .before .before .args .m) (c .before .before .before .before .before .before .before .before .before .before .before .before .before .before .before .before .args .work .now) (c .before .before .before .before .before .before .before .before .before .before .before .before .before .before .before .before .args .strs .now) (c .before .before .before .before .before .intern .last .0) (c .before .before .before .before .before .intern .last .1 .0) _ (c .before .before .before .before .before .intern .result) (c .before .before .before .before .before .intern .ensures) (c .before .before .before .before .before .before .before .before .before .before .before .before .before .before .before .before .pre .1 .0) (c .before .before .before .before .before .intern .kept .1 .0) out _ (c .start-of .ensures) _ (part-shows (c .before .before .before .before .before .before .before .before .before .before .before .before .before .before .before .before .args .tape .now) (c .before .before .before .before .before .before .before .before .before .before .before .before .before .before .before .before .args .bytes .now) (c .before .before .before .before .before .before .before .before .before .before .before .before .before .before .before .before .args .st) (c .before .before .before .before .before .before .before .before .before .before .before .before .before .before .before .before .pre .0) (c .before .before .before .before .before .before .before .before .before .before .before .before .before .before .before .before .args .id) (c .before .before .before .before .before .before .before .before .before .before .before .before .before .before .before .before .pre .1 .1 .0) (c .before .before .before .before .before .before .before .before .before .before .before .string-from .result) (c .before .before .before .before .before .before .before .before .before .before .string-length .result) (c .before .before .before .before .before .before .before .before .before .before .before .string-from .ensures) (c .before .before .before .before .before .before .before .before .before .before .string-length .ensures))
 

@@ -1,11 +1,9 @@
 use Rattle.model.specs.Bytes.{wordBytes}
 use Rattle.wire.specs.Overwrite.{Wrote, wrote-next}
 use Rattle.graft.specs.Written.{content-written, length-word}
-use mathlib.Core.Path.{_≡_, refl, sym, ap, _∙_}
-use mathlib.Core.List.{List, [], _∷_, _++_}
-use Prim.Native.Nat.{ℕ, zero, suc, _+_, _-_, _*_, _%_, _/_, _^_, _≤_, _<_}
+use mathlib.Core.List.{[], _∷_}
+use Prim.Native.Nat.{_+_}
 use native.Mathlib.Omega.{arith}
-use lib.ListN.{length, getD, take, drop, set, replicate, length-set, length-take, length-drop, length-append, length-replicate}
 use borrow.Author.Needs.{needs}
 use Rattle.graft.proofs.put_content.Statement.{statement}
 use Rattle.graft.proofs.put_content.Tie as tie
@@ -14,39 +12,30 @@ use Rattle.graft.proofs.put_content.Lts as lts
 use Rattle.wire.proofs.put_u32.Reads as put-u32-reads
 use Rattle.wire.proofs.put_u8.Reads as put-u8-reads
 
--- src/lib.rt:135:5
 put-u8-requires : tie.Need-put-u8-requires
 put-u8-requires c κs = search needs
 
--- src/lib.rt:136:23
 add-put-u8 : tie.Need-add-put-u8
 add-put-u8 c = search needs
 
--- src/lib.rt:136:5
 put-u8-requires-2 : tie.Need-put-u8-requires-2
 put-u8-requires-2 c κs = search needs
 
--- src/lib.rt:137:24
 add-put-u32 : tie.Need-add-put-u32
 add-put-u32 c = search needs
 
--- src/lib.rt:137:5
 put-u32-requires : tie.Need-put-u32-requires
 put-u32-requires c κs = search needs
 
--- src/lib.rt:138:24
 add-put-u32-2 : tie.Need-add-put-u32-2
 add-put-u32-2 c = search needs
 
--- src/lib.rt:138:5
 put-u32-requires-2 : tie.Need-put-u32-requires-2
 put-u32-requires-2 c κs = search needs
 
--- src/lib.rt:131:1
 same-length : tie.Need-same-length
 same-length c = search needs
 
--- src/lib.rt:131:1
 returns : tie.Need-returns
 returns c =
     let w1 : Wrote (c .before .before .before .before .before .before .before .before .before .before .before .before .before .before .before .before .before .args .out .now) (c .before .before .before .before .before .before .before .before .before .before .before .before .before .before .before .before .before .args .at) (4 ∷ []) (c .before .before .before .before .before .before .before .before .before .before .before .before .before .before .put-u8 .last .0) = record { is = c .before .before .before .before .before .before .before .before .before .before .before .before .before .before .put-u8 .ensures } in

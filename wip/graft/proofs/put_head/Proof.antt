@@ -1,9 +1,7 @@
 use Rattle.wire.specs.Overwrite.{Wrote, wrote-next}
-use mathlib.Core.Path.{_≡_, refl, sym, ap, _∙_}
-use mathlib.Core.List.{List, [], _∷_, _++_}
-use Prim.Native.Nat.{ℕ, zero, suc, _+_, _-_, _*_, _%_, _/_, _^_, _≤_, _<_}
+use mathlib.Core.List.{[], _∷_}
+use Prim.Native.Nat.{_+_}
 use native.Mathlib.Omega.{arith}
-use lib.ListN.{length, getD, take, drop, set, replicate, length-set, length-take, length-drop, length-append, length-replicate}
 use borrow.Author.Needs.{needs}
 use Rattle.graft.proofs.put_head.Statement.{statement}
 use Rattle.graft.proofs.put_head.Tie as tie
@@ -11,47 +9,36 @@ use Rattle.graft.proofs.put_head.Reads as reads
 use Rattle.graft.proofs.put_head.Lts as lts
 use Rattle.wire.proofs.put_u8.Reads as put-u8-reads
 
--- src/lib.rt:157:5
 put-u8-requires : tie.Need-put-u8-requires
 put-u8-requires c κs = search needs
 
--- src/lib.rt:158:23
 add-put-u8 : tie.Need-add-put-u8
 add-put-u8 c = search needs
 
--- src/lib.rt:158:5
 put-u8-requires-2 : tie.Need-put-u8-requires-2
 put-u8-requires-2 c κs = search needs
 
--- src/lib.rt:159:23
 add-put-u8-2 : tie.Need-add-put-u8-2
 add-put-u8-2 c = search needs
 
--- src/lib.rt:159:5
 put-u8-requires-3 : tie.Need-put-u8-requires-3
 put-u8-requires-3 c κs = search needs
 
--- src/lib.rt:160:23
 add-put-u8-3 : tie.Need-add-put-u8-3
 add-put-u8-3 c = search needs
 
--- src/lib.rt:160:5
 put-u8-requires-4 : tie.Need-put-u8-requires-4
 put-u8-requires-4 c κs = search needs
 
--- src/lib.rt:161:23
 add-put-u8-4 : tie.Need-add-put-u8-4
 add-put-u8-4 c = search needs
 
--- src/lib.rt:161:5
 put-u8-requires-5 : tie.Need-put-u8-requires-5
 put-u8-requires-5 c κs = search needs
 
--- src/lib.rt:153:1
 same-length : tie.Need-same-length
 same-length c = search needs
 
--- src/lib.rt:153:1
 returns : tie.Need-returns
 returns c =
     let w1 : Wrote (c .before .before .before .before .before .before .before .before .before .before .before .before .before .before .before .before .before .before .before .before .before .args .out .now) (c .before .before .before .before .before .before .before .before .before .before .before .before .before .before .before .before .before .before .before .before .before .args .at) (5 ∷ []) (c .before .before .before .before .before .before .before .before .before .before .before .before .before .before .before .before .before .before .put-u8 .last .0) = record { is = c .before .before .before .before .before .before .before .before .before .before .before .before .before .before .before .before .before .before .put-u8 .ensures } in

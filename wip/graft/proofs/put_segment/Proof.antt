@@ -1,11 +1,10 @@
 use Rattle.model.specs.Bytes.{wordBytes}
 use Rattle.wire.specs.Overwrite.{Wrote, wrote-next}
 use Rattle.graft.specs.Written.{segment-written, length-word, length-words, wordsBytes}
-use mathlib.Core.Path.{_≡_, refl, sym, ap, _∙_}
-use mathlib.Core.List.{List, [], _∷_, _++_}
-use Prim.Native.Nat.{ℕ, zero, suc, _+_, _-_, _*_, _%_, _/_, _^_, _≤_, _<_}
+use mathlib.Core.List.{[], _∷_}
+use Prim.Native.Nat.{_+_}
 use native.Mathlib.Omega.{arith}
-use lib.ListN.{length, getD, take, drop, set, replicate, length-set, length-take, length-drop, length-append, length-replicate}
+use lib.ListN.{length-append}
 use borrow.Author.Needs.{needs}
 use Rattle.graft.proofs.put_segment.Statement.{statement}
 use Rattle.graft.proofs.put_segment.Tie as tie
@@ -15,39 +14,30 @@ use Rattle.graft.proofs.put_head.Reads as put-head-reads
 use Rattle.graft.proofs.put_words.Reads as put-words-reads
 use Rattle.wire.proofs.put_u32.Reads as put-u32-reads
 
--- src/lib.rt:178:5
 put-head-requires : tie.Need-put-head-requires
 put-head-requires c κs = search needs
 
--- src/lib.rt:179:24
 add-put-u32 : tie.Need-add-put-u32
 add-put-u32 c = search needs
 
--- src/lib.rt:179:5
 put-u32-requires : tie.Need-put-u32-requires
 put-u32-requires c κs = search needs
 
--- src/lib.rt:180:24
 add-put-u32-2 : tie.Need-add-put-u32-2
 add-put-u32-2 c = search needs
 
--- src/lib.rt:180:5
 put-u32-requires-2 : tie.Need-put-u32-requires-2
 put-u32-requires-2 c κs = search needs
 
--- src/lib.rt:181:20
 add-put-words : tie.Need-add-put-words
 add-put-words c = search needs
 
--- src/lib.rt:181:5
 put-words-requires : tie.Need-put-words-requires
 put-words-requires c κs = search needs
 
--- src/lib.rt:164:1
 same-length : tie.Need-same-length
 same-length c = search needs
 
--- src/lib.rt:164:1
 returns : tie.Need-returns
 returns c =
     let w1 : Wrote (c .before .before .before .before .before .before .before .before .before .before .before .before .before .before .before .before .before .args .out .now) (c .before .before .before .before .before .before .before .before .before .before .before .before .before .before .before .before .before .args .at) (5 ∷ (c .before .before .before .before .before .before .before .before .before .before .before .before .before .before .before .before .before .args .tag) ∷ (c .before .before .before .before .before .before .before .before .before .before .before .before .before .before .before .before .before .args .level) ∷ (c .before .before .before .before .before .before .before .before .before .before .before .before .before .before .before .before .before .args .kind) ∷ (c .before .before .before .before .before .before .before .before .before .before .before .before .before .before .before .before .before .args .variant) ∷ []) (c .before .before .before .before .before .before .before .before .before .before .before .before .before .before .put-head .last .0) = record { is = c .before .before .before .before .before .before .before .before .before .before .before .before .before .before .put-head .ensures } in

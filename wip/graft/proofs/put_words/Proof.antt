@@ -1,11 +1,9 @@
 use Rattle.model.specs.Bytes.{wordBytes}
 use Rattle.wire.specs.Overwrite.{Wrote, wrote-next}
 use Rattle.graft.specs.Written.{words-written, length-word}
-use mathlib.Core.Path.{_≡_, refl, sym, ap, _∙_}
-use mathlib.Core.List.{List, [], _∷_, _++_}
-use Prim.Native.Nat.{ℕ, zero, suc, _+_, _-_, _*_, _%_, _/_, _^_, _≤_, _<_}
+use Prim.Native.Nat.{_+_}
 use native.Mathlib.Omega.{arith}
-use lib.ListN.{length, getD, take, drop, set, replicate, length-set, length-take, length-drop, length-append, length-replicate}
+use lib.ListN.{getD, length-append}
 use borrow.Author.Needs.{needs}
 use Rattle.graft.proofs.put_words.Statement.{statement}
 use Rattle.graft.proofs.put_words.Tie as tie
@@ -13,79 +11,60 @@ use Rattle.graft.proofs.put_words.Reads as reads
 use Rattle.graft.proofs.put_words.Lts as lts
 use Rattle.wire.proofs.put_u32.Reads as put-u32-reads
 
--- src/lib.rt:145:28
 array-read-put-u32 : tie.Need-array-read-put-u32
 array-read-put-u32 c = search needs
 
--- src/lib.rt:145:5
 put-u32-requires : tie.Need-put-u32-requires
 put-u32-requires c κs = search needs
 
--- src/lib.rt:146:24
 add-put-u32 : tie.Need-add-put-u32
 add-put-u32 c = search needs
 
--- src/lib.rt:146:32
 array-read-put-u32-2 : tie.Need-array-read-put-u32-2
 array-read-put-u32-2 c = search needs
 
--- src/lib.rt:146:5
 put-u32-requires-2 : tie.Need-put-u32-requires-2
 put-u32-requires-2 c κs = search needs
 
--- src/lib.rt:147:24
 add-put-u32-2 : tie.Need-add-put-u32-2
 add-put-u32-2 c = search needs
 
--- src/lib.rt:147:32
 array-read-put-u32-3 : tie.Need-array-read-put-u32-3
 array-read-put-u32-3 c = search needs
 
--- src/lib.rt:147:5
 put-u32-requires-3 : tie.Need-put-u32-requires-3
 put-u32-requires-3 c κs = search needs
 
--- src/lib.rt:148:24
 add-put-u32-3 : tie.Need-add-put-u32-3
 add-put-u32-3 c = search needs
 
--- src/lib.rt:148:33
 array-read-put-u32-4 : tie.Need-array-read-put-u32-4
 array-read-put-u32-4 c = search needs
 
--- src/lib.rt:148:5
 put-u32-requires-4 : tie.Need-put-u32-requires-4
 put-u32-requires-4 c κs = search needs
 
--- src/lib.rt:149:24
 add-put-u32-4 : tie.Need-add-put-u32-4
 add-put-u32-4 c = search needs
 
--- src/lib.rt:149:33
 array-read-put-u32-5 : tie.Need-array-read-put-u32-5
 array-read-put-u32-5 c = search needs
 
--- src/lib.rt:149:5
 put-u32-requires-5 : tie.Need-put-u32-requires-5
 put-u32-requires-5 c κs = search needs
 
--- src/lib.rt:150:24
 add-put-u32-5 : tie.Need-add-put-u32-5
 add-put-u32-5 c = search needs
 
--- src/lib.rt:150:33
 array-read-put-u32-6 : tie.Need-array-read-put-u32-6
 array-read-put-u32-6 c = search needs
 
--- src/lib.rt:150:5
 put-u32-requires-6 : tie.Need-put-u32-requires-6
 put-u32-requires-6 c κs = search needs
 
--- src/lib.rt:141:1
 same-length : tie.Need-same-length
 same-length c = search needs
 
--- src/lib.rt:141:1
 returns : tie.Need-returns
 returns c =
     let w1 : Wrote (c .before .before .before .before .before .before .before .before .before .before .before .before .before .before .before .before .before .before .before .before .before .before .before .before .before .args .out .now) (c .before .before .before .before .before .before .before .before .before .before .before .before .before .before .before .before .before .before .before .before .before .before .before .before .before .args .at) (wordBytes (getD (c .before .before .before .before .before .before .before .before .before .before .before .before .before .before .before .before .before .before .before .before .before .before .before .before .before .args .t3) 0 0)) (c .before .before .before .before .before .before .before .before .before .before .before .before .before .before .before .before .before .before .before .before .before .before .put-u32 .last .0) = record { is = c .before .before .before .before .before .before .before .before .before .before .before .before .before .before .before .before .before .before .before .before .before .before .put-u32 .ensures } in

@@ -1,9 +1,5 @@
 use Rattle.graft.specs.Strings.{header-inside, strings-end, from-small}
-use mathlib.Core.Path.{_≡_, refl, sym, ap, _∙_}
-use mathlib.Core.List.{List, [], _∷_, _++_}
-use Prim.Native.Nat.{ℕ, zero, suc, _+_, _-_, _*_, _%_, _/_, _^_, _≤_, _<_}
 use native.Mathlib.Omega.{arith}
-use lib.ListN.{length, getD, take, drop, set, replicate, length-set, length-take, length-drop, length-append, length-replicate}
 use borrow.Author.Needs.{needs}
 use Rattle.graft.proofs.string_from.Statement.{statement}
 use Rattle.graft.proofs.string_from.Tie as tie
@@ -12,35 +8,27 @@ use Rattle.graft.proofs.string_from.Lts as lts
 use Rattle.graft.proofs.string_start.Reads as string-start-reads
 use Rattle.wire.proofs.u32_at.Reads as u32-at-reads
 
--- src/lib.rt:84:9
 string-start-requires : tie.Need-string-start-requires
 string-start-requires c κs = ((c .before .before .pre .0) .fit, (omega (arith, (c .before .before .pre .1)), omega (arith, strings-end (c .before .before .args .tape .now) (c .before .before .args .bytes .now) (c .before .before .args .st) (c .before .before .pre .0))))
 
--- src/lib.rt:85:16
 u32-at-requires : tie.Need-u32-at-requires
 u32-at-requires c κs = omega (arith, header-inside (c .before .before .before .args .tape .now) (c .before .before .before .args .bytes .now) (c .before .before .before .args .st) (c .before .before .before .pre .0))
 
--- src/lib.rt:85:16
 cast-text : tie.Need-cast-text
 cast-text c = search needs
 
--- src/lib.rt:86:22
 u32-at-requires-2 : tie.Need-u32-at-requires-2
 u32-at-requires-2 c κs = omega (arith, header-inside (c .before .before .before .before .args .tape .now) (c .before .before .before .before .args .bytes .now) (c .before .before .before .before .args .st) (c .before .before .before .before .pre .0))
 
--- src/lib.rt:86:22
 cast-normalized : tie.Need-cast-normalized
 cast-normalized c = search needs
 
--- src/lib.rt:87:5
 add-result : tie.Need-add-result
 add-result c = search needs
 
--- src/lib.rt:87:5
 add-result-2 : tie.Need-add-result-2
 add-result-2 c = omega (arith, c .before .u32-at .ensures, c .u32-at2 .ensures, c .before .before .string-start .ensures, from-small (c .before .before .before .before .before .args .tape .now) (c .before .before .before .before .before .args .bytes .now) (c .before .before .before .before .before .args .st) (c .before .before .before .before .before .pre .0) (c .before .before .before .before .before .args .id) (c .before .before .before .before .before .pre .1))
 
--- src/lib.rt:79:1
 returns : tie.Need-returns
 returns c = search needs
 

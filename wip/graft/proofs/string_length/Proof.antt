@@ -1,9 +1,6 @@
 use Rattle.graft.specs.Strings.{string-fits, length-read}
-use mathlib.Core.Path.{_≡_, refl, sym, ap, _∙_}
-use mathlib.Core.List.{List, [], _∷_, _++_}
-use Prim.Native.Nat.{ℕ, zero, suc, _+_, _-_, _*_, _%_, _/_, _^_, _≤_, _<_}
+use mathlib.Core.Path.{_∙_}
 use native.Mathlib.Omega.{arith}
-use lib.ListN.{length, getD, take, drop, set, replicate, length-set, length-take, length-drop, length-append, length-replicate}
 use borrow.Author.Needs.{needs}
 use Rattle.graft.proofs.string_length.Statement.{statement}
 use Rattle.graft.proofs.string_length.Tie as tie
@@ -12,23 +9,18 @@ use Rattle.graft.proofs.string_length.Lts as lts
 use Rattle.store.proofs.string_place.Reads as string-place-reads
 use Rattle.wire.proofs.u32_at.Reads as u32-at-reads
 
--- src/lib.rt:74:9
 string-place-requires : tie.Need-string-place-requires
 string-place-requires c κs = search needs
 
--- src/lib.rt:75:24
 add-u32-at : tie.Need-add-u32-at
 add-u32-at c = omega (arith, string-fits (c .before .before .args .tape .now) (c .before .before .args .st) (c .before .before .pre .0) (c .before .before .args .id) (c .before .before .pre .1) _ (c .string-place .ensures))
 
--- src/lib.rt:75:5
 u32-at-requires : tie.Need-u32-at-requires
 u32-at-requires c κs = omega (arith, string-fits (c .before .before .args .tape .now) (c .before .before .args .st) (c .before .before .pre .0) (c .before .before .args .id) (c .before .before .pre .1) _ (c .string-place .ensures))
 
--- src/lib.rt:75:5
 cast-result : tie.Need-cast-result
 cast-result c = search needs
 
--- src/lib.rt:69:1
 returns : tie.Need-returns
 returns c = c .u32-at .ensures ∙ length-read (c .before .before .before .args .tape .now) (c .before .before .before .args .st) (c .before .before .before .pre .0) (c .before .before .before .args .id) (c .before .before .before .pre .1) _ (c .before .string-place .ensures)
 

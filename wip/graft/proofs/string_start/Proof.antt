@@ -2,12 +2,10 @@ use Rattle.model.specs.Lists.{sum}
 use Rattle.model.specs.Tape.{places}
 use Rattle.store.specs.Standing.{allLengths}
 use Rattle.graft.specs.Strings.{start-more, start-small}
-use mathlib.Core.Path.{_≡_, refl, sym, ap, _∙_}
-use mathlib.Core.List.{List, [], _∷_, _++_}
-use Prim.Native.Nat.{ℕ, zero, suc, _+_, _-_, _*_, _%_, _/_, _^_, _≤_, _<_}
+use mathlib.Core.Path.{_≡_, refl}
+use Prim.Native.Nat.{_-_, _≤_}
 use native.Mathlib.Omega.{arith}
-use borrow.Author.Needs.{needs}
-use lib.ListN.{length, getD, take, drop, set, replicate, length-set, length-take, length-drop, length-append, length-replicate}
+use lib.ListN.{take}
 use Rattle.graft.proofs.string_start.Statement.{statement}
 use Rattle.graft.proofs.string_start.Tie as tie
 use Rattle.graft.proofs.string_start.Reads as reads
@@ -20,31 +18,24 @@ Inv-loop tape st id total₀ i₀ total i = (i ≤ id) × (total ≡ sum (take i
 abbrev μ-loop : tie.MeasureT-loop
 μ-loop tape st id total₀ i₀ total i = id - i
 
--- src/lib.rt:62:5
 loop-holds : tie.Need-loop-holds Inv-loop μ-loop
 loop-holds c = (omega arith, refl)
 
--- src/lib.rt:63:18
 string-length-requires : tie.Need-string-length-requires Inv-loop μ-loop
 string-length-requires c κs = (c .before .before .before .pre .0, omega (arith, c .before .before .before .pre .1 .0))
 
--- src/lib.rt:63:9
 add-total : tie.Need-add-total Inv-loop μ-loop
 add-total c = omega (arith, start-small (allLengths (c .before .before .before .before .args .tape .now) (places (c .before .before .before .before .args .tape .now) .layers)) (c .before .before .loop .i) (c .before .before .loop .total) (c .string-length .result) (c .before .before .loop .inv .1) (c .string-length .ensures), c .before .before .before .before .pre .1 .1)
 
--- src/lib.rt:64:9
 add-i : tie.Need-add-i Inv-loop μ-loop
 add-i c = omega arith
 
--- src/lib.rt:62:5
 loop-less : tie.Need-loop-less Inv-loop μ-loop
 loop-less c = omega arith
 
--- src/lib.rt:62:5
 loop-again : tie.Need-loop-again Inv-loop μ-loop
 loop-again c = (omega arith, start-more (allLengths (c .before .before .before .before .args .tape .now) (places (c .before .before .before .before .args .tape .now) .layers)) (c .before .before .loop .i) (c .before .before .loop .total) (c .string-length .result) (c .before .before .loop .inv .1) (c .string-length .ensures))
 
--- src/lib.rt:55:1
 returns : tie.Need-returns Inv-loop μ-loop
 returns c = let e : c .before .loop .i ≡ c .before .before .before .args .id = omega arith in rw e at (c .before .loop .inv .1)
 
