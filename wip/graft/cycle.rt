@@ -1,3 +1,9 @@
+// To go behind src/lib.rt, with these lines at its top:
+// ghost use Rattle.model.specs.Lists.{sum, all};
+// ghost use Rattle.ids.specs.Tests.{bodyIn, contentIn, segmentIn, contentsIn, segmentsIn, stringIn, usedWell};
+// ghost use Rattle.sizes.specs.InPlace.{placeAdds, usedAdds};
+// ghost use Rattle.graft.specs.Runs.{withContents, withSegments};
+// ghost use Rattle.graft.specs.Walk.{Ready, bodyFrom, placeFrom, contentRunFrom, segmentRunFrom, fieldFrom, wordsWith};
 
 // ---- the walk: nine functions that call each other, the level falling on each turn
 
