@@ -31,12 +31,12 @@ use Rattle.sizes.specs.InPlace.{fieldAdds, fieldsAdd, innerAdds, bodyAdd
 -- ---- how many items are shown
 
 module _ (show : Body → Tree) where
-  segments-shown : (ss : List Segment) → segmentsLength (showSegments show ss) ≡ length ss
+  pub segments-shown : (ss : List Segment) → segmentsLength (showSegments show ss) ≡ length ss
   unfolding showSegments segmentsLength
   segments-shown [] = refl
   segments-shown (s ∷ ss) = ap suc (segments-shown ss)
 
-  contents-shown : (st : NodeStore) (cs : List Content) → contentsLength (showContents show st cs) ≡ length cs
+  pub contents-shown : (st : NodeStore) (cs : List Content) → contentsLength (showContents show st cs) ≡ length cs
   unfolding showContents contentsLength
   contents-shown st [] = refl
   contents-shown st (x ∷ xs) =

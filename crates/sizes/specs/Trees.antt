@@ -74,7 +74,7 @@ pub record Grew (f g : NewLayer) (a : Added) : Type 0 where
   pub segments : length (g .segments) ≡ length (f .segments) + a .segments
   pub calls : g .interner .stats .calls ≡ f .interner .stats .calls + a .calls
 
-grew-none : (f : NewLayer) → Grew f f nothing
+pub grew-none : (f : NewLayer) → Grew f f nothing
 grew-none f = record { contents = omega arith; segments = omega arith; calls = omega arith }
 
 grew-add : {f g h : NewLayer} {a b : Added} → Grew f g a → Grew g h b → Grew f h (add a b)
@@ -94,7 +94,7 @@ grew-behind x y = record {
   calls = omega (arith, x .calls, y .calls);
 }
 
-grew-str : (s : List ℕ) (f : NewLayer) → Grew f (graftStr s f .1) oneCall
+pub grew-str : (s : List ℕ) (f : NewLayer) → Grew f (graftStr s f .1) oneCall
 unfolding graftStr
 grew-str s f = record { contents = omega arith; segments = omega arith; calls = calls-one (f .interner) s }
 
@@ -157,6 +157,15 @@ mutual
   pub segments-grow : (ss : Segments) (f : NewLayer) → Grew f (graftSegments ss f .1) (segmentsSize ss)
   segments-grow noSegment f = grew-none f
   segments-grow (segment tag level t ss) f = grew-add (node-grows t f) (segments-grow ss (graftNode t f .1))
+
+-- a run, pushed
+pub content-run-grows : (cs : Contents) (f : NewLayer) → (let r = graftContents cs f in Grew f (pushContents (r .0) (r .1) .1) (contentRunSize cs))
+unfolding contentRunSize
+content-run-grows cs f = pushed-contents cs f (contents-grow cs f)
+
+pub segment-run-grows : (ss : Segments) (f : NewLayer) → (let r = graftSegments ss f in Grew f (pushSegments (r .0) (r .1) .1) (segmentRunSize ss))
+unfolding segmentRunSize
+segment-run-grows ss f = pushed-segments ss f (segments-grow ss f)
 
 pub node-refs-grow : (ns : List ShownNode) (f : NewLayer) → Grew f (graftNodeRefs ns f .1) (nodesSize ns)
 unfolding graftNodeRefs graftNodeRef nodesSize addAll

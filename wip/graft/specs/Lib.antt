@@ -7,3 +7,5 @@ pub mod Walk
 pub mod Strings
 pub mod Turns
 pub mod Written
+pub mod Rooms
+pub mod Answers

@@ -71,7 +71,7 @@ module _ (show : Body → Tree) (s : NodeStore) where
 
 -- ---- one part more
 
-empty-sized : (p : Plan) (work strs : List ℕ) (m : Mark) → Sized (layerFrom p work strs m)
+pub empty-sized : (p : Plan) (work strs : List ℕ) (m : Mark) → Sized (layerFrom p work strs m)
 unfolding recordsBytes flatten
 empty-sized p work strs m = record { contents = refl; segments = refl }
 

@@ -18,7 +18,7 @@ use Rattle.store.specs.Standing.{allLengths}
 use Rattle.store.specs.declared.Store.{Store}
 use Rattle.ids.specs.Tests.{contentIn, segmentIn}
 use Rattle.levels.specs.Below.{LevelsFit}
-use Rattle.intern.specs.State.{hasRoom, Good}
+use Rattle.intern.specs.State.{hasRoom, Good, stateOf}
 use Rattle.intern.specs.declared.Answer.{Answer}
 use Rattle.sizes.specs.Shown.{showInner}
 use Rattle.sizes.specs.Order.{placeField, placeFields}
@@ -96,6 +96,8 @@ pub record SegmentsTold (p : Plan) (m : Mark) (to : ℕ) (out work strs out′ w
 pub record Ready (t d : List ℕ) (st : Store) (p : Plan) (m : Mark) (out work strs : List ℕ) (a : Added) : Type 0 where
   pub source : Source t d st
   pub good : Good work strs (m .state)
+  pub going : m .ok ≡ true
+  pub has : hasRoom (length strs) (m .state .base) (stateOf work strs (m .state)) ≡ true
   pub space : Space p m (length out) a
 
 -- the fields at the first n places of a body, its words beginning as zeros
