@@ -1,32 +1,30 @@
 -- The walk's answers: what each function has read, grafted and written, against the model's graft of what the source shows.
-use mathlib.Core.Path.{_≡_, refl, sym, ap, ap₂, _∙_}
-use Prim.Native.Nat.{ℕ, zero, suc, _+_, _*_, _≤_, _<_}
+use mathlib.Core.Path.{_≡_, refl, sym, ap, _∙_}
+use Prim.Native.Nat.{ℕ, _+_, _*_}
 use native.Mathlib.Omega.{arith}
-use mathlib.Core.Bool.{Bool, true, false, cond, true≢false}
-use mathlib.Core.List.{List, [], _∷_, _++_, append-nil, flatten}
-use lib.ListN.{length, take, drop, replicate}
-use lib.Dec.{eqb}
+use mathlib.Core.Bool.{true, false, true≢false}
+use mathlib.Core.List.{List, [], _∷_, append-nil, flatten}
+use lib.ListN.{length, drop}
 use borrow.Author.Tests.{eq-eqb, ne-eqb}
 use Rattle.model.specs.Bytes.{wordAt}
-use Rattle.model.specs.Types.{Body, Content, Segment}
+use Rattle.model.specs.Types.{Content, Segment}
 use Rattle.model.specs.Store.{resolveStr, resolveContentRange, resolveSegRange}
-use Rattle.model.specs.Tape.{recordAt, recordsAt, recordBytes, recordsBytes, contentCodec, segmentCodec}
+use Rattle.model.specs.Tape.{recordsAt, recordBytes, recordsBytes, contentCodec, segmentCodec}
 use Rattle.model.specs.Tree.{showContents, showSegments}
 use Rattle.model.specs.Graft.{NewLayer, With, graftStr, graftContents, graftSegments, pushContents, pushSegments}
 use Rattle.wire.specs.Overwrite.{overwrite}
 use Rattle.store.specs.declared.Store.{Store}
 use Rattle.store.specs.Standing.{segment-range, content-range, length-records, segmentPlace, contentPlace}
 use Rattle.ids.specs.Tests.{contentsIn, segmentsIn}
-use Rattle.intern.specs.State.{hasRoom}
 use Rattle.sizes.specs.Added.{Added}
 use Rattle.sizes.specs.Trees.{length-segments, length-contents}
 use Rattle.sizes.specs.Shown.{showInner, segments-shown, contents-shown}
 use Rattle.graft.specs.Rebased.{steps-each, steps-every}
 use Rattle.graft.specs.Blocks.{blocks-none}
-use Rattle.graft.specs.Grafted.{layerFrom, contentAt, segmentAt, Made, Told, Roomy}
+use Rattle.graft.specs.Grafted.{layerFrom, contentAt, segmentAt, Told, Roomy}
 use Rattle.graft.specs.Widths.{contents-width, segments-width, contents-sized, segments-sized}
 use Rattle.graft.specs.Turns.{empty-sized}
-use Rattle.graft.specs.Runs.{ContentsSoFar, SegmentsSoFar, withContents, withSegments, contents-pushed, segments-pushed}
+use Rattle.graft.specs.Runs.{withContents, withSegments, contents-pushed, segments-pushed}
 use Rattle.graft.specs.Walk.{Source, sourceStore, shownContents, shownSegments, Ready, StartTold, ContentsTold, SegmentsTold, contentRunFrom, segmentRunFrom}
 use Rattle.graft.specs.declared.Plan.{Plan}
 use Rattle.graft.specs.declared.Mark.{Mark}

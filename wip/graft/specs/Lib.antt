@@ -9,3 +9,4 @@ pub mod Turns
 pub mod Written
 pub mod Rooms
 pub mod Answers
+pub mod Bodies

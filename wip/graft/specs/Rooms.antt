@@ -1,24 +1,24 @@
 -- Room for a walk, part by part, and how much each graft of the source adds.
-use mathlib.Core.Path.{_≡_, refl, sym, ap, _∙_}
-use Prim.Native.Nat.{ℕ, zero, suc, _+_, _*_, _≤_, _<_, _^_}
+use mathlib.Core.Path.{_≡_, sym, ap, _∙_}
+use Prim.Native.Nat.{ℕ, _+_}
 use native.Mathlib.Omega.{arith}
-use mathlib.Core.Bool.{Bool, true, false}
-use mathlib.Core.List.{List, [], _∷_, _++_}
-use lib.ListN.{length, drop, replicate}
+use mathlib.Core.Bool.{true}
+use mathlib.Core.List.{List}
+use lib.ListN.{length, drop}
 use Rattle.model.specs.Lists.{all}
 use Rattle.model.specs.Bytes.{wordAt}
-use Rattle.model.specs.Types.{Body, Content, Segment}
+use Rattle.model.specs.Types.{Body}
 use Rattle.model.specs.Intern.{StrInterner}
 use Rattle.model.specs.Store.{resolveContentRange, resolveSegRange}
 use Rattle.model.specs.Tape.{Field, recordsAt, contentCodec, segmentCodec}
 use Rattle.model.specs.Tree.{showContents, showSegments, showFields}
-use Rattle.model.specs.Graft.{NewLayer, graftFields, graftContents, graftSegments, pushContents, pushSegments}
+use Rattle.model.specs.Graft.{NewLayer, graftFields}
 use Rattle.intern.specs.State.{hasRoom}
 use Rattle.store.specs.declared.Store.{Store}
-use Rattle.ids.specs.Tests.{fieldIn, bodyIn, contentIn, segmentIn, contentsIn, segmentsIn}
-use Rattle.sizes.specs.Added.{Added, add, addAll}
-use Rattle.sizes.specs.Trees.{Grew, contents-grow, segments-grow, fields-grow, content-run-grows, segment-run-grows, contentRunSize, segmentRunSize, contentsSize, segmentsSize, fieldsSize}
-use Rattle.sizes.specs.InPlace.{innerAdds, contentAdds, contentsAdd, contentRunAdds, segmentsAdd, segmentRunAdds, fieldsAdd}
+use Rattle.ids.specs.Tests.{fieldIn, contentIn, segmentIn, contentsIn, segmentsIn}
+use Rattle.sizes.specs.Added.{Added, add}
+use Rattle.sizes.specs.Trees.{Grew, contents-grow, segments-grow, fields-grow, content-run-grows, segment-run-grows}
+use Rattle.sizes.specs.InPlace.{innerAdds, contentsAdd, contentRunAdds, segmentsAdd, segmentRunAdds, fieldsAdd}
 use Rattle.sizes.specs.Shown.{showInner, segments-agree, contents-agree, fields-agree, segment-run-agrees, content-run-agrees, inner-agrees}
 use Rattle.graft.specs.Grafted.{layerFrom, Roomy, Made}
 use Rattle.graft.specs.Walk.{Source, sourceStore, shownContents, shownSegments, Space, Ready, contentRunFrom, segmentRunFrom}

@@ -3,7 +3,8 @@ ghost use mathlib.Core.Path.{_≡_};
 ghost use mathlib.Core.Bool.{true};
 ghost use mathlib.Core.List.{[], _∷_};
 ghost use Prim.Native.Nat.{ℕ, _+_, _*_, _≤_, _<_, _^_};
-ghost use lib.ListN.{length, replicate, take, drop, getD};
+ghost use lib.ListN.{length, replicate, take, drop, getD, set};
+ghost use Rattle.graft.specs.Walk.{wordsWith};
 ghost use Rattle.model.specs.Lists.{sum};
 ghost use Rattle.store.specs.Standing.{allLengths};
 ghost use Rattle.levels.specs.Below.{LevelsFit};
@@ -44,6 +45,11 @@ pub struct Mark {
 pub struct Start {
     pub mark: Mark,
     pub at: u32,
+}
+
+// Six words.
+pub struct Six {
+    pub words: [u32; 6],
 }
 
 // The words of a grafted body.
@@ -179,4 +185,40 @@ fn put_segment(
     wire::put_u32(out, at + 5, first);
     wire::put_u32(out, at + 9, second);
     put_words(out, at + 13, words);
+}
+
+// A word set; behind the last there is none.
+fn set_word(words: [u32; 6], i: usize, v: u32) -> Six
+    ensures { λ r. ⌜ r .words ≡ set words i v ⌝ }
+{
+    let mut w = words;
+    if i < 6 {
+        w[i] = v;
+        return Six { words: w };
+    }
+    Six { words: w }
+}
+
+// The words with a field's own: its id or start, and a range's length.
+fn with_words(words: [u32; 6], i: usize, f: sizes::FieldWords, v: u32) -> Six
+    requires { ⌜ i < 6 ⌝ }
+    ensures { λ r. ⌜ r .words ≡ wordsWith words i f v ⌝ }
+{
+    if f.usage == 1 {
+        return set_word(words, i, v);
+    }
+    if f.usage == 2 {
+        return set_word(words, i, v);
+    }
+    if f.usage == 3 {
+        let first = set_word(words, i, v);
+        let w = first.words;
+        return set_word(w, i + 1, f.second);
+    }
+    if f.usage == 5 {
+        let first = set_word(words, i, v);
+        let w = first.words;
+        return set_word(w, i + 1, f.second);
+    }
+    Six { words: words }
 }
