@@ -52,11 +52,11 @@ told-none {t} {d} {st} {p} {m} {out} {work} {strs} r = record {
 -- ---- one content
 
 module _ (l : ℕ) (t d : List ℕ) (x : Content) (f : NewLayer) where
-  one-plain : x .tag ≡ 0 → shownContents l t d (x ∷ []) f ≡ (let r = graftStr (resolveStr (sourceStore t d) (x .first)) f in (record { tag = 0; first = r .0; second = 0 } ∷ [], r .1))
+  pub one-plain : x .tag ≡ 0 → shownContents l t d (x ∷ []) f ≡ (let r = graftStr (resolveStr (sourceStore t d) (x .first)) f in (record { tag = 0; first = r .0; second = 0 } ∷ [], r .1))
   unfolding showContents graftContents
   one-plain e = rw (eq-eqb (x .tag) 0 e) refl
 
-  one-segments : (st : Store) → Source t d st → segmentsIn st (x .first) (x .second) ≡ true → (x .tag ≡ 0 → ⊥)
+  pub one-segments : (st : Store) → Source t d st → segmentsIn st (x .first) (x .second) ≡ true → (x .tag ≡ 0 → ⊥)
       → shownContents l t d (x ∷ []) f ≡ (let at = segmentRunFrom l t d (x .first) (x .second) f in (record { tag = 1; first = at .0; second = x .second } ∷ [], at .1))
   unfolding showContents graftContents segmentRunFrom
   one-segments st s h n =
@@ -74,10 +74,10 @@ module _ (p : Plan) (m : Mark) (to : ℕ) (out work strs : List ℕ) {out₁ wor
     pub content-refused : k .ok ≡ false → ContentsTold p m to out work strs out₁ work₁ strs₁ k whole
     content-refused e = rw q (record { ok = a .ok; made = λ o. absurd (true≢false (sym o ∙ e)) })
 
-    pub content-written : (v : ℕ) → v ≡ w → k .ok ≡ true → {out₂ : List ℕ} → out₂ ≡ overwrite out₁ (p .contentsat + 10 * to) (recordBytes contentCodec (record { tag = tag; first = v; second = second }))
+    pub content-made : (v : ℕ) → v ≡ w → k .ok ≡ true → {out₂ : List ℕ} → out₂ ≡ overwrite out₁ (p .contentsat + 10 * to) (recordBytes contentCodec (record { tag = tag; first = v; second = second }))
         → ContentsTold p m to out work strs out₂ work₁ strs₁ k whole
     unfolding recordsBytes flatten
-    content-written v z o {out₂} e =
+    content-made v z o {out₂} e =
         rw q (record {
           ok = a .ok;
           made = λ y. record {
@@ -93,10 +93,10 @@ module _ (p : Plan) (m : Mark) (to : ℕ) (out work strs : List ℕ) {out₁ wor
     pub segment-refused : k .ok ≡ false → SegmentsTold p m to out work strs out₁ work₁ strs₁ k whole
     segment-refused e = rw q (record { ok = a .ok; made = λ o. absurd (true≢false (sym o ∙ e)) })
 
-    pub segment-written : (s : Segment) → s ≡ one → k .ok ≡ true → {out₂ : List ℕ} → out₂ ≡ overwrite out₁ (p .segmentsat + 37 * to) (recordBytes segmentCodec s)
+    pub segment-made : (s : Segment) → s ≡ one → k .ok ≡ true → {out₂ : List ℕ} → out₂ ≡ overwrite out₁ (p .segmentsat + 37 * to) (recordBytes segmentCodec s)
         → SegmentsTold p m to out work strs out₂ work₁ strs₁ k whole
     unfolding recordsBytes flatten
-    segment-written s z o {out₂} e =
+    segment-made s z o {out₂} e =
         rw q (record {
           ok = a .ok;
           made = λ y. record {
