@@ -1,7 +1,9 @@
 // Document 01 section 5: how many contents, segments and calls of `intern` grafting adds, read in place. One walk goes node →
 // content run → segment run → node, the segment level falling on each turn. Every sum says 'over' once it passes the room that
 // the caller has left under number 3; a run's length is added before the run is walked, and no walk goes on once it is over: a
-// tape of a few hundred bytes whose runs are shared can stand for 2^32 items.
+// tape of a few hundred bytes whose runs are shared can stand for 2^32 items. specs/Trees.antt says what the graft of a tree adds,
+// specs/InPlace.antt what is read and specs/Capped.antt how it is summed, and specs/Shown.antt that for the store of the tape it is
+// what the graft of the shown trees adds.
 ghost use mathlib.Core.Path.{_≡_};
 ghost use Prim.Native.Nat.{ℕ, _+_, _*_, _≤_, _<_, min};
 ghost use mathlib.Core.Bool.{true};
