@@ -1,0 +1,402 @@
+// Document 01 section 5: how many contents, segments and calls of `intern` grafting adds, read in place. One walk goes node →
+// content run → segment run → node, the segment level falling on each turn. Every sum says 'over' once it passes the room that
+// the caller has left under number 3; a run's length is added before the run is walked, and no walk goes on once it is over: a
+// tape of a few hundred bytes whose runs are shared can stand for 2^32 items. specs/Trees.antt says what the graft of a tree adds,
+// specs/InPlace.antt what is read and specs/Capped.antt how it is summed, and specs/Shown.antt that for the store of the tape it is
+// what the graft of the shown trees adds.
+ghost use mathlib.Core.Path.{_≡_};
+ghost use Prim.Native.Nat.{ℕ, _+_, _*_, _≤_, _<_, min};
+ghost use mathlib.Core.Bool.{true};
+ghost use mathlib.Core.List.{List};
+ghost use lib.ListN.{length};
+ghost use Rattle.model.specs.Tape.{recordAt, contentCodec, segmentCodec, nodeCodec, places, bookAt};
+ghost use Rattle.model.specs.Tree.{shownNodes};
+ghost use Rattle.records.specs.Values.{bodyAt};
+ghost use Rattle.ids.specs.Whole.{IdsFit, idsIn};
+ghost use Rattle.levels.specs.Below.{LevelsFit};
+ghost use Rattle.sizes.specs.Trees.{nodesSize};
+ghost use Rattle.sizes.specs.Order.{fieldWord};
+ghost use Rattle.sizes.specs.Capped.{overSizes, noSizes, capped, sizesIn, plus, Kept};
+ghost use Rattle.sizes.specs.Calls.{Limited};
+ghost use Rattle.sizes.specs.InPlace.{contentCount, segmentCount, fieldWords, stringAdds, usedAdds, innerAdds, bodyAdds};
+ghost use Rattle.sizes.specs.InPlace.{contentAdds, contentsAdd, contentRunAdds, segmentsAdd, segmentRunAdds, nodeAdds, nodesAdd};
+
+// How many contents and segments may still be added.
+pub struct Room {
+    pub contents: u32,
+    pub segments: u32,
+}
+
+// What grafting adds; if `over`, more than there is room for, and the numbers are 0. Calls stop at 4294967295.
+pub struct Sizes {
+    pub contents: u32,
+    pub segments: u32,
+    pub calls: u32,
+    pub over: bool,
+}
+
+// The use of a field, the word at which it begins, and the word behind that.
+pub struct FieldWords {
+    pub usage: u8,
+    pub first: u32,
+    pub second: u32,
+}
+
+fn wide(x: u32) -> usize
+    ensures { λ r. ⌜ r ≡ x ⌝ }
+{
+    x as usize
+}
+
+fn calls_sum(a: u32, b: u32) -> u32
+    ensures { λ r. ⌜ r ≡ min (a + b) 4294967295 ⌝ }
+{
+    if b <= 4294967295 - a {
+        return a + b;
+    }
+    4294967295
+}
+
+fn over() -> Sizes
+    ensures { λ r. ⌜ r ≡ overSizes ⌝ }
+{
+    Sizes {
+        contents: 0,
+        segments: 0,
+        calls: 0,
+        over: true,
+    }
+}
+
+// So much more; what is over stays so.
+pub fn with_added(room: Room, t: Sizes, contents: u32, segments: u32, calls: u32) -> Sizes
+    ensures { λ r. ⌜ r ≡ plus room t (record { contents = contents; segments = segments; calls = calls }) ⌝ }
+{
+    if t.over {
+        return t;
+    }
+    let c = wide(t.contents) + wide(contents);
+    let s = wide(t.segments) + wide(segments);
+    if wide(room.contents) < c {
+        return over();
+    }
+    if wide(room.segments) < s {
+        return over();
+    }
+    Sizes {
+        contents: c as u32,
+        segments: s as u32,
+        calls: calls_sum(t.calls, calls),
+        over: false,
+    }
+}
+
+// How many contents a range names, and how many segments; none where it is no range.
+fn content_count(st: store::Store, start: u32, len: u32) -> u32
+    requires { ⌜ st .layers ≤ 32 ⌝ }
+    ensures { λ r. ⌜ r ≡ contentCount st start len ⌝ }
+{
+    if ids::contents_in(st, start, len) {
+        return len;
+    }
+    0
+}
+
+fn segment_count(st: store::Store, start: u32, len: u32) -> u32
+    requires { ⌜ st .layers ≤ 32 ⌝ }
+    ensures { λ r. ⌜ r ≡ segmentCount st start len ⌝ }
+{
+    if ids::segments_in(st, start, len) {
+        return len;
+    }
+    0
+}
+
+// Section 5. Fields go in the Rust's order: which of the six words comes at place j.
+pub fn field_word(kind: u8, j: usize) -> usize
+    requires { ⌜ j < 6 ⌝ }
+    ensures { λ r. ⌜ (r ≡ fieldWord kind j) × (r < 6) ⌝ }
+{
+    if kind == 3 {
+        if j == 0 {
+            return 1;
+        }
+        if j == 1 {
+            return 0;
+        }
+        return j;
+    }
+    if kind == 11 {
+        if j == 3 {
+            return 4;
+        }
+        if j == 4 {
+            return 3;
+        }
+        return j;
+    }
+    j
+}
+
+pub fn field_at(tape: &[u8], at: usize, j: usize) -> FieldWords
+    requires { ⌜ (at + 34 ≤ length (now tape)) × (j < 6) ⌝ }
+    ensures { λ r. ⌜ r ≡ fieldWords (bodyAt (now (tape .entry)) at) j ⌝ }
+{
+    let kind = tape[at];
+    let i = field_word(kind, j);
+    FieldWords {
+        usage: records::word_use(kind, tape[at + 1], i),
+        first: records::body_word(tape, at, i),
+        second: ids::next_word(tape, at, i),
+    }
+}
+
+// A string is one call, a missing one none; so is a word at which no field begins.
+fn string_sizes(room: Room, t: Sizes, usage: u8, w: u32) -> Sizes
+    requires { ⌜ Kept room t ⌝ }
+    ensures { λ r. ⌜ r ≡ plus room t (stringAdds usage w) ⌝ }
+{
+    if usage == 1 {
+        return with_added(room, t, 0, 0, 1);
+    }
+    if usage == 2 {
+        if w == 4294967295 {
+            return t;
+        }
+        return with_added(room, t, 0, 0, 1);
+    }
+    t
+}
+
+// Section 5. What a body of that level adds: its fields in order.
+pub fn body_sizes(
+    tape: &[u8],
+    st: store::Store,
+    room: Room,
+    t: Sizes,
+    at: usize,
+    level: u8,
+) -> Sizes
+    requires { ⌜ LevelsFit (now tape) st ⌝ }
+    requires { ⌜ Kept room t ⌝ }
+    requires { ⌜ at + 34 ≤ length (now tape) ⌝ }
+    ensures { λ r. ⌜ r ≡ plus room t (bodyAdds level (now (tape .entry)) st (bodyAt (now (tape .entry)) at)) ⌝ }
+{
+    let mut u = t;
+    let mut j = 0;
+    while j < 6 {
+        let f = field_at(tape, at, j);
+        u = field_sizes(tape, st, room, u, f, level);
+        if u.over {
+            return u;
+        }
+        j += 1;
+    }
+    u
+}
+
+fn field_sizes(
+    tape: &[u8],
+    st: store::Store,
+    room: Room,
+    t: Sizes,
+    f: FieldWords,
+    level: u8,
+) -> Sizes
+    requires { ⌜ LevelsFit (now tape) st ⌝ }
+    requires { ⌜ Kept room t ⌝ }
+    ensures { λ r. ⌜ r ≡ plus room t (usedAdds (innerAdds level (now (tape .entry)) st) (now (tape .entry)) st f) ⌝ }
+{
+    if f.usage == 3 {
+        return content_run_sizes(tape, st, room, t, f.first, f.second, level);
+    }
+    if f.usage == 5 {
+        return segment_run_sizes(tape, st, room, t, f.first, f.second, level);
+    }
+    string_sizes(room, t, f.usage, f.first)
+}
+
+// Section 5. A run of contents that a body of that level names, with what is pushed before it.
+pub fn content_run_sizes(
+    tape: &[u8],
+    st: store::Store,
+    room: Room,
+    t: Sizes,
+    start: u32,
+    len: u32,
+    level: u8,
+) -> Sizes
+    requires { ⌜ LevelsFit (now tape) st ⌝ }
+    requires { ⌜ Kept room t ⌝ }
+    ensures { λ r. ⌜ r ≡ plus room t (contentRunAdds (innerAdds level (now (tape .entry)) st) (now (tape .entry)) st start len) ⌝ }
+{
+    let n = content_count(st, start, len);
+    let u = with_added(room, t, n, 0, 0);
+    if u.over {
+        return u;
+    }
+    if n == 0 {
+        return u;
+    }
+    let at = store::content_place(st, start);
+    contents_sizes(tape, st, room, u, at, n as usize, level)
+}
+
+// Section 5. What is pushed before a run of contents.
+pub fn contents_sizes(
+    tape: &[u8],
+    st: store::Store,
+    room: Room,
+    t: Sizes,
+    at: usize,
+    count: usize,
+    level: u8,
+) -> Sizes
+    requires { ⌜ LevelsFit (now tape) st ⌝ }
+    requires { ⌜ Kept room t ⌝ }
+    requires { ⌜ at + 10 * count ≤ length (now tape) ⌝ }
+    ensures { λ r. ⌜ r ≡ plus room t (contentsAdd (innerAdds level (now (tape .entry)) st) (now (tape .entry)) st at count) ⌝ }
+{
+    let mut u = t;
+    let mut i = 0;
+    while i < count {
+        u = content_sizes(tape, st, room, u, at + 10 * i, level);
+        if u.over {
+            return u;
+        }
+        i += 1;
+    }
+    u
+}
+
+// Section 5. Plain is a string, Segments a run.
+fn content_sizes(tape: &[u8], st: store::Store, room: Room, t: Sizes, at: usize, level: u8) -> Sizes
+    requires { ⌜ LevelsFit (now tape) st ⌝ }
+    requires { ⌜ Kept room t ⌝ }
+    requires { ⌜ at + 10 ≤ length (now tape) ⌝ }
+    ensures { λ r. ⌜ r ≡ plus room t (contentAdds (innerAdds level (now (tape .entry)) st) (now (tape .entry)) st (recordAt contentCodec (now (tape .entry)) at)) ⌝ }
+{
+    let c = records::content_at(tape, at);
+    if c.tag == 0 {
+        return with_added(room, t, 0, 0, 1);
+    }
+    segment_run_sizes(tape, st, room, t, c.first, c.second, level)
+}
+
+// Section 5. A run of segments that a body of that level names, with what is pushed before it.
+pub fn segment_run_sizes(
+    tape: &[u8],
+    st: store::Store,
+    room: Room,
+    t: Sizes,
+    start: u32,
+    len: u32,
+    level: u8,
+) -> Sizes
+    requires { ⌜ LevelsFit (now tape) st ⌝ }
+    requires { ⌜ Kept room t ⌝ }
+    ensures { λ r. ⌜ r ≡ plus room t (segmentRunAdds (innerAdds level (now (tape .entry)) st) (now (tape .entry)) st start len) ⌝ }
+{
+    let n = segment_count(st, start, len);
+    let u = with_added(room, t, 0, n, 0);
+    if u.over {
+        return u;
+    }
+    if n == 0 {
+        return u;
+    }
+    let at = store::segment_place(st, start);
+    segments_sizes(tape, st, room, u, at, n as usize, level)
+}
+
+// Section 5. What is pushed before a run of segments.
+pub fn segments_sizes(
+    tape: &[u8],
+    st: store::Store,
+    room: Room,
+    t: Sizes,
+    at: usize,
+    count: usize,
+    level: u8,
+) -> Sizes
+    requires { ⌜ LevelsFit (now tape) st ⌝ }
+    requires { ⌜ Kept room t ⌝ }
+    requires { ⌜ at + 37 * count ≤ length (now tape) ⌝ }
+    ensures { λ r. ⌜ r ≡ plus room t (segmentsAdd (innerAdds level (now (tape .entry)) st) (now (tape .entry)) at count) ⌝ }
+{
+    let mut u = t;
+    let mut i = 0;
+    while i < count {
+        u = segment_sizes(tape, st, room, u, at + 37 * i, level);
+        if u.over {
+            return u;
+        }
+        i += 1;
+    }
+    u
+}
+
+// The body of a segment is of the level below; below level 0 there is none.
+fn segment_sizes(tape: &[u8], st: store::Store, room: Room, t: Sizes, at: usize, level: u8) -> Sizes
+    requires { ⌜ LevelsFit (now tape) st ⌝ }
+    requires { ⌜ Kept room t ⌝ }
+    requires { ⌜ at + 37 ≤ length (now tape) ⌝ }
+    ensures { λ r. ⌜ r ≡ plus room t (innerAdds level (now (tape .entry)) st (recordAt segmentCodec (now (tape .entry)) at .body)) ⌝ }
+{
+    if level == 0 {
+        return t;
+    }
+    body_sizes(tape, st, room, t, at + 3, level - 1)
+}
+
+// Section 5. A node of class 2 or 3 has no words; the levels in the runs of another are at most 32.
+pub fn node_sizes(tape: &[u8], st: store::Store, room: Room, t: Sizes, at: usize) -> Sizes
+    requires { ⌜ LevelsFit (now tape) st ⌝ }
+    requires { ⌜ Kept room t ⌝ }
+    requires { ⌜ at + 49 ≤ length (now tape) ⌝ }
+    ensures { λ r. ⌜ r ≡ plus room t (nodeAdds (now (tape .entry)) st (recordAt nodeCodec (now (tape .entry)) at)) ⌝ }
+{
+    if 2 <= tape[at + 1] {
+        return t;
+    }
+    body_sizes(tape, st, room, t, at + 15, 33)
+}
+
+fn none() -> Sizes
+    ensures { λ r. ⌜ r ≡ noSizes ⌝ }
+{
+    Sizes {
+        contents: 0,
+        segments: 0,
+        calls: 0,
+        over: false,
+    }
+}
+
+// Section 5. The nodes that stand from `at` on.
+pub fn nodes_sizes(tape: &[u8], st: store::Store, room: Room, at: usize, count: usize) -> Sizes
+    requires { ⌜ LevelsFit (now tape) st ⌝ }
+    requires { ⌜ at + 49 * count ≤ length (now tape) ⌝ }
+    ensures { λ r. ⌜ r ≡ capped room (nodesAdd (now (tape .entry)) st at count) ⌝ }
+{
+    let mut u = none();
+    let mut i = 0;
+    while i < count {
+        u = node_sizes(tape, st, room, u, at + 49 * i);
+        if u.over {
+            return u;
+        }
+        i += 1;
+    }
+    u
+}
+
+// Section 5. What the nodes of a tape with these places and this store add, whatever the bytes of its texts are.
+pub fn reading_sizes(tape: &[u8], st: store::Store, p: places::Places, room: Room) -> Sizes
+    requires { ⌜ IdsFit (now tape) st p ⌝ }
+    requires { ⌜ idsIn (now tape) st ≡ true ⌝ }
+    requires { ⌜ Limited room (p .nodes .count) ⌝ }
+    ensures { λ r. ⌜ ((d : List ℕ) → r ≡ sizesIn room (nodesSize (shownNodes (bookAt (now (tape .entry)) (places (now (tape .entry))) d)))) ⌝ }
+{
+    nodes_sizes(tape, st, room, p.nodes.at, p.nodes.count)
+}

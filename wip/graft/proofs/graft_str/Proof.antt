@@ -1,0 +1,60 @@
+use Rattle.graft.specs.Strings.{part-inside, part-shows, id-small, str-answer}
+use native.Mathlib.Omega.{arith}
+use borrow.Author.Needs.{needs}
+use Rattle.graft.proofs.graft_str.Statement.{statement}
+use Rattle.graft.proofs.graft_str.Tie as tie
+use Rattle.graft.proofs.graft_str.Reads as reads
+use Rattle.graft.proofs.graft_str.Lts as lts
+use Rattle.graft.proofs.start_of.Reads as start-of-reads
+use Rattle.graft.proofs.string_from.Reads as string-from-reads
+use Rattle.graft.proofs.string_length.Reads as string-length-reads
+use Rattle.intern.proofs.intern.Reads as intern-reads
+
+string-from-requires : tie.Need-string-from-requires
+string-from-requires c κs = search needs
+
+string-length-requires : tie.Need-string-length-requires
+string-length-requires c κs = ((c .before .before .before .before .before .pre .0) .fit, (c .before .before .before .before .before .pre .1 .1 .0))
+
+add-intern : tie.Need-add-intern
+add-intern c = omega (arith, part-inside (c .before .before .before .before .before .before .before .before .before .args .tape .now) (c .before .before .before .before .before .before .before .before .before .args .bytes .now) (c .before .before .before .before .before .before .before .before .before .args .st) (c .before .before .before .before .before .before .before .before .before .pre .0) (c .before .before .before .before .before .before .before .before .before .args .id) (c .before .before .before .before .before .before .before .before .before .pre .1 .1 .0) (c .before .before .before .before .string-from .result) (c .before .before .before .string-length .result) (c .before .before .before .before .string-from .ensures) (c .before .before .before .string-length .ensures))
+
+sub-intern : tie.Need-sub-intern
+sub-intern c = search needs
+
+part-intern-start : tie.Need-part-intern-start
+part-intern-start c = search needs
+
+part-intern-end : tie.Need-part-intern-end
+part-intern-end c = omega (arith, part-inside (c .before .before .before .before .before .before .before .before .before .args .tape .now) (c .before .before .before .before .before .before .before .before .before .args .bytes .now) (c .before .before .before .before .before .before .before .before .before .args .st) (c .before .before .before .before .before .before .before .before .before .pre .0) (c .before .before .before .before .before .before .before .before .before .args .id) (c .before .before .before .before .before .before .before .before .before .pre .1 .1 .0) (c .before .before .before .before .string-from .result) (c .before .before .before .string-length .result) (c .before .before .before .before .string-from .ensures) (c .before .before .before .string-length .ensures))
+
+intern-requires : tie.Need-intern-requires
+intern-requires c κs = search needs
+
+start-of-requires : tie.Need-start-of-requires
+start-of-requires c κs = omega (arith, id-small (c .before .before .before .before .before .before .before .before .before .before .before .before .before .before .before .args .p) (c .before .before .before .before .before .before .before .before .before .before .before .before .before .before .before .args .m) (c .before .before .before .before .before .before .before .before .before .before .before .before .before .before .before .args .work .now) (c .before .before .before .before .before .before .before .before .before .before .before .before .before .before .before .args .strs .now) (c .before .before .before .before .intern .last .0) (c .before .before .before .before .intern .last .1 .0) _ (c .before .before .before .before .intern .result) (c .before .before .before .before .intern .ensures), c .before .before .before .before .before .before .before .before .before .before .before .before .before .before .before .pre .1 .1 .2)
+
+same-length : tie.Need-same-length
+same-length c = search needs
+
+same-length-2 : tie.Need-same-length-2
+same-length-2 c = search needs
+
+returns : tie.Need-returns
+returns c = λ out. str-answer (c .before .before .before .before .before .before .before .before .before .before .before .before .before .before .before .before .args .p) (c .before .before .before .before .before .before .before .before .before .before .before .before .before .before .before .before .args .m) (c .before .before .before .before .before .before .before .before .before .before .before .before .before .before .before .before .args .work .now) (c .before .before .before .before .before .before .before .before .before .before .before .before .before .before .before .before .args .strs .now) (c .before .before .before .before .before .intern .last .0) (c .before .before .before .before .before .intern .last .1 .0) _ (c .before .before .before .before .before .intern .result) (c .before .before .before .before .before .intern .ensures) (c .before .before .before .before .before .before .before .before .before .before .before .before .before .before .before .before .pre .1 .0) (c .before .before .before .before .before .intern .kept .1 .0) out _ (c .start-of .ensures) _ (part-shows (c .before .before .before .before .before .before .before .before .before .before .before .before .before .before .before .before .args .tape .now) (c .before .before .before .before .before .before .before .before .before .before .before .before .before .before .before .before .args .bytes .now) (c .before .before .before .before .before .before .before .before .before .before .before .before .before .before .before .before .args .st) (c .before .before .before .before .before .before .before .before .before .before .before .before .before .before .before .before .pre .0) (c .before .before .before .before .before .before .before .before .before .before .before .before .before .before .before .before .args .id) (c .before .before .before .before .before .before .before .before .before .before .before .before .before .before .before .before .pre .1 .1 .0) (c .before .before .before .before .before .before .before .before .before .before .before .string-from .result) (c .before .before .before .before .before .before .before .before .before .before .string-length .result) (c .before .before .before .before .before .before .before .before .before .before .before .string-from .ensures) (c .before .before .before .before .before .before .before .before .before .before .string-length .ensures))
+
+pub graft-str-spec : {M : Type 1} → statement M
+graft-str-spec =
+    tie.close
+    (tie.spec
+    string-from-requires
+    string-length-requires
+    add-intern
+    sub-intern
+    part-intern-start
+    part-intern-end
+    intern-requires
+    start-of-requires
+    same-length
+    same-length-2
+    returns)

@@ -1,0 +1,12 @@
+pub mod Rebased
+pub mod Blocks
+pub mod Grafted
+pub mod Runs
+pub mod Widths
+pub mod Walk
+pub mod Strings
+pub mod Turns
+pub mod Written
+pub mod Rooms
+pub mod Answers
+pub mod Bodies

@@ -1,0 +1,127 @@
+-- Section 3: where a string's bytes stand.
+use mathlib.Core.Path.{_≡_, refl, sym, ap, _∙_}
+use Prim.Native.Nat.{ℕ, _+_, _-_, _≤_, _<_, _^_}
+use native.Mathlib.Omega.{arith}
+use native.Mathlib.Numerals.{add-one}
+use mathlib.Core.List.{List, [], _∷_, _++_, map, flatten}
+use lib.ListN.{length, getD, take, drop}
+use lib.Seq.{drop-drop}
+use Rattle.model.specs.Lists.{sum}
+use Rattle.model.specs.Bytes.{wordAt}
+use Rattle.model.specs.Tape.{recordAt, operandsAt, stringCodec, places}
+use Rattle.model.specs.Tape.{LayerPlaces, stringLengths, bytesNeeded, recordsBytes}
+use Rattle.model.specs.Store.{resolveStr}
+use Rattle.model.specs.Graft.{graftStr}
+use Rattle.model.specs.Intern.{StrInterner, Interned, intern, cacheHit, bypass, tableAlloc, tableHit}
+use Rattle.wire.specs.Loops.{by-bool}
+use Rattle.places.specs.Again.{nodes-place}
+use Rattle.intern.specs.State.{stateOf, Good, Told as InternTold}
+use Rattle.intern.specs.Calls.{each-way, answered-base}
+use Rattle.intern.specs.declared.Answer.{Answer}
+use Rattle.graft.specs.Blocks.{blocks-none}
+use Rattle.graft.specs.Grafted.{layerFrom, contentAt, segmentAt}
+use Rattle.graft.specs.Walk.{Source, sourceStore, stringFrom, StartTold, strStart}
+use Rattle.graft.specs.declared.Plan.{Plan}
+use Rattle.graft.specs.declared.Mark.{Mark}
+use Rattle.graft.specs.declared.Start.{Start}
+use Rattle.store.specs.Pools.{before-next, before-most}
+use Rattle.store.specs.Standing.{allLengths, stringPlace, length-at, string-at, string-inside}
+use Rattle.store.specs.declared.Store.{Store}
+use Rattle.levels.specs.Below.{LevelsFit}
+
+module _ (t : List ℕ) (st : Store) (f : LevelsFit t st) (id : ℕ) (h : id < st .totals .strings) where
+  pub string-fits : (at : ℕ) → at ≡ stringPlace st id → at + 5 ≤ length t
+  string-fits at e = let i = string-inside t st (f .stored) id 1 h (omega (arith, h)) in omega (arith, i, e, f .inside)
+
+  pub length-read : (at : ℕ) → at ≡ stringPlace st id → wordAt t (at + 1) ≡ getD (allLengths t (places t .layers)) id 0
+  unfolding recordAt operandsAt stringCodec
+  length-read at e = ap (λ (k : ℕ). wordAt t (k + 1)) e ∙ sym (length-at t st (f .stored) id h)
+
+-- the sum so far, in a walk over the strings
+pub start-more : (ls : List ℕ) (i total n : ℕ) → total ≡ sum (take i ls) → n ≡ getD ls i 0 → total + n ≡ sum (take (i + 1) ls)
+start-more ls i total n e q = let b = before-next ls i in omega (arith, e, q, b, ap (λ (k : ℕ). sum (take k ls)) (add-one i))
+
+pub start-small : (ls : List ℕ) (i total n : ℕ) → total ≡ sum (take i ls) → n ≡ getD ls i 0 → total + n ≤ sum ls
+start-small ls i total n e q = let m = before-most ls (i + 1) in let s = start-more ls i total n e q in omega (arith, m, s)
+
+-- ---- all strings
+
+sum-append : (xs ys : List ℕ) → sum (xs ++ ys) ≡ sum xs + sum ys
+sum-append [] ys = omega arith
+sum-append (x ∷ xs) ys = let m = sum-append xs ys in omega (arith, m)
+
+strings-sum : (t : List ℕ) (ls : List LayerPlaces) → sum (allLengths t ls) ≡ sum (map (λ (l : LayerPlaces). sum (stringLengths t l)) ls)
+unfolding allLengths flatten
+strings-sum t [] = refl
+strings-sum t (l ∷ ls) = sum-append (stringLengths t l) (flatten (map (stringLengths t) ls)) ∙ ap (λ (n : ℕ). sum (stringLengths t l) + n) (strings-sum t ls)
+
+module _ (t d : List ℕ) (st : Store) (s : Source t d st) where
+  pub header-inside : 9 ≤ length t
+  header-inside = let n = nodes-place t in omega (arith, n, s .fit .inside)
+
+  -- the strings end the bytes
+  pub strings-end : wordAt t 1 + wordAt t 5 + sum (allLengths t (places t .layers)) ≡ length d
+  unfolding bytesNeeded
+  strings-end = let e = strings-sum t (places t .layers) in omega (arith, e, s .framing .bytes)
+
+  module _ (id : ℕ) (h : id < st .totals .strings) where
+    pub from-small : stringFrom t id ≤ length d
+    from-small = let m = before-most (allLengths t (places t .layers)) id in omega (arith, m, strings-end)
+
+    module _ (from len : ℕ) (e : from ≡ stringFrom t id) (b : len ≡ getD (allLengths t (places t .layers)) id 0) where
+      pub part-inside : from + len ≤ length d
+      part-inside = let l = start-small (allLengths t (places t .layers)) id (sum (take id (allLengths t (places t .layers)))) len refl b in omega (arith, l, e, strings-end)
+
+      -- as the code takes it
+      pub part-shows : take (from + len - from) (drop from d) ≡ resolveStr (sourceStore t d) id
+      unfolding resolveStr
+      part-shows =
+          let rest = drop (wordAt t 1 + wordAt t 5) d in
+          let ls = places t .layers in
+          let n : from + len - from ≡ len = omega arith in
+          ap (λ (k : ℕ). take k (drop from d)) n
+          ∙ ap (λ (k : ℕ). take len (drop k d)) e
+          ∙ sym (ap (take len) (drop-drop (sum (take id (allLengths t ls))) (wordAt t 1 + wordAt t 5) d))
+          ∙ ap (λ (k : ℕ). take k (drop (sum (take id (allLengths t ls))) rest)) (b ∙ length-at t st (s .fit .stored) id h)
+          ∙ sym (string-at t st (s .fit .stored) rest id h)
+
+-- ---- a call's answer
+
+id-known : (t : StrInterner) (s : List ℕ) → intern t s .id ≤ intern t s .state .last
+unfolding cacheHit bypass tableAlloc tableHit
+id-known t s = each-way (λ (a : Interned). a .id ≤ a .state .last) t s (omega arith) (omega arith) (λ table resized p. omega arith) (λ table resized p. omega arith)
+
+module _ (p : Plan) (m : Mark) (work strs work′ strs′ s : List ℕ) (a : Answer) (told : InternTold work strs (m .state) work′ strs′ a (intern (stateOf work strs (m .state)) s)) where
+  pub id-small : a .id < 2 ^ 12
+  id-small =
+      by-bool (a .ok)
+      (λ e.
+      let r = told .answered e in
+      let k = id-known (stateOf work strs (m .state)) s in
+      let l = ap (λ (x : StrInterner). x .last) (r .state) in
+      omega (arith, r .id, k, l, r .good .known, r .good .words .few))
+      (λ e. let z = told .refused e .id in omega (arith, z))
+
+  pub str-answer : Good work strs (m .state) → length strs′ ≡ length strs → (out : List ℕ) (r : Start) → r ≡ strStart m a (p .strings) → (x : List ℕ) → s ≡ x
+      → StartTold p m out work strs out work′ strs′ r (graftStr x (layerFrom p work strs m))
+  unfolding graftStr recordsBytes flatten
+  str-answer good long out r e x q =
+      rw (e, ← q) (record {
+        told = record {
+          ok = told .ok;
+          made = λ o.
+              let y = told .answered o in
+              record {
+                good = y .good;
+                state = y .state;
+                contents = omega arith;
+                segments = omega arith;
+                wrote = blocks-none out (contentAt p m) (segmentAt p m);
+                base = y .base;
+                kept = ap (λ (n : ℕ). take n strs′) (sym (y .base)) ∙ answered-base work strs (m .state) work′ strs′ a (intern (stateOf work strs (m .state)) s) good y;
+                free = y .free;
+                long = long;
+              };
+        };
+        start = λ o. ap (λ (n : ℕ). p .strings + n) (told .answered o .id);
+      })
