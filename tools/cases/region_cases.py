@@ -1,6 +1,6 @@
 """Cases of numbers 8 to 11 and of the region: label, book, edit, replacement, and the answer, a number or the region's start and end."""
 from small import *
-from tape_cases import but
+from tape_cases import but, node, offset, pools
 
 cases = []
 def case(label, b, start, end, replacement, answer): cases.append((label, b, start, end, replacement, answer))
@@ -15,7 +15,11 @@ case('P10', plain('abc'), 0, 1, b'x', 11)
 
 # ---- the old book first: "old book 1 to 7, rising; edit 8; replacement 2, new text 3; 9, 10, 11"
 case('1 before 8', but(plain(''), tail=b'\0'), 1, 0, b'x', 1)
+case('2 of the book before 8', plain(b'\x80'), 1, 0, b'x', 2)
 case('3 of the book before 8', but(plain(''), layers=[Layer() for _ in range(33)]), 1, 0, b'x', 3)
+case('4 before 8', pools(contents=[(0, 0, 0)]), 1, 0, b'x', 4)
+case('5 before 8', pools(segments=[node(0)]), 1, 0, b'x', 5)
+case('6 before 8', offset(3), 1, 0, b'x', 6)
 case('7 before 8', but(plain(''), norm=b'a'), 1, 0, b'x', 7)
 
 # ---- 8: "edit start > end, end > length, or inside a character"
