@@ -98,13 +98,15 @@ fn contained(n: usize, open: impl Fn(&mut Book)) -> Book {
     b
 }
 
-// paragraphs in brackets that close behind the blank line
-fn bracketed(n: usize) -> Book {
+// paragraphs in brackets that close behind the blank line, with so many rubies in each
+fn bracketed(n: usize, rubies: usize) -> Book {
     let mut b = Book::default();
     b.put("はじめ\n\n");
     for _ in 0..n {
         let o = b.text.len();
-        b.put("「青空文庫の本\n\nを読む」");
+        b.put("「青空文庫の本");
+        for _ in 0..rubies { b.ruby("人", "ひと"); }
+        b.put("\n\nを読む」");
         let c = b.text.len();
         b.pair((o, o + 3), (c - 3, c));
         b.put("\n");
@@ -151,7 +153,9 @@ fn main() {
         measure(&format!("an unclosed warichu over {n} paragraphs, edit at the end"), &b, b.text.len() - 1);
     }
     for n in [100, 1000, 10000] {
-        let b = bracketed(n);
+        let b = bracketed(n, 0);
         measure(&format!("{n} brackets across blank lines, edit at the end"), &b, b.text.len() - 1);
     }
+    let b = bracketed(5000, 4);
+    measure("5000 brackets across blank lines with 4 rubies in each, edit at the end", &b, b.text.len() - 1);
 }

@@ -114,7 +114,7 @@ pub record Searched (P : ℕ → Bool) (lo hi r : ℕ) : Type 0 where
 
 module _ (text : List ℕ) (ns : List SourceNode) (ps : List PairLink) where
   -- where the nodes are known to allow or to refuse
-  allowed-there : (c : ℕ) → nodesAllowCut ns c ≡ true → cutAllowed text ns ps c ≡ textPairsAllow text ps c
+  pub allowed-there : (c : ℕ) → nodesAllowCut ns c ≡ true → cutAllowed text ns ps c ≡ textPairsAllow text ps c
   unfolding cutAllowed textPairsAllow
   allowed-there c e = rw (e, and-true) refl
 

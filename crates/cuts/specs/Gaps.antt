@@ -116,7 +116,7 @@ walked-none size t r h =
       same = λ c g. rw (e₁, e₂) refl;
     }
 
-depth-small : (opens closes : SourceNode → Bool) (d : ℕ) (n : SourceNode) → depthBehind opens closes d n ≤ d + 1
+pub depth-small : (opens closes : SourceNode → Bool) (d : ℕ) (n : SourceNode) → depthBehind opens closes d n ≤ d + 1
 unfolding depthBehind
 depth-small opens closes d n =
     by-bool (opens n) (λ e. rw e (omega arith)) (λ e. rw e (by-bool (closes n) (λ f. rw f (omega arith)) (λ f. rw f (omega arith))))

@@ -3,6 +3,7 @@ pub mod Offsets
 pub mod Pairs
 pub mod Gaps
 pub mod EndSearch
+pub mod Unmatched
 pub mod StartSearch
 pub mod Walks
 pub mod Examples

@@ -1,22 +1,27 @@
--- The loops of the crate, turn by turn: the three walks over the nodes, and the search for the start.
-use Prim.Native.Nat.{ℕ, _+_, _-_, _≤_, _<_, max}
+-- The loops of the crate, turn by turn: the walks over the nodes, and the search for the start.
+use Prim.Native.Nat.{ℕ, _+_, _-_, _≤_, _<_, max, min}
 use native.Mathlib.Omega.{arith}
 use mathlib.Core.Path.{_≡_, refl, sym, ap, _∙_}
 use mathlib.Core.Bool.{Bool, false}
 use mathlib.Core.List.{List}
 use lib.ListN.{length}
+use lib.Dec.{ltb}
+use borrow.Author.Tests.{ltb-true, ltb-false}
+use Rattle.model.specs.Tape.{recordsAt, nodeCodec}
 use Rattle.model.specs.Region.{isBlockOpen, isBlockClose, isWarichuOpen, isWarichuClose, depthBehind, nodesAllowCut}
 use Rattle.bounds.specs.Search.{InOrder}
 use Rattle.places.specs.declared.Run.{Run}
+use Rattle.wire.specs.Loops.{by-bool}
 use Rattle.cuts.specs.Safe.{cutAllowed, regionEndIn, regionStartIn}
-use Rattle.cuts.specs.Offsets.{Refused, refused-none, Latest, latest-none}
-use Rattle.cuts.specs.Pairs.{pairsOf, acrossOf, startOr}
+use Rattle.cuts.specs.Offsets.{Refused, refused-none}
+use Rattle.cuts.specs.Pairs.{pairsOf}
 use Rattle.cuts.specs.Gaps.{Walked, nodesOf, walked-none, in-order-nodes, depthsZero, walked-rest, nodeAt, walked-gap, walked-across}
 use Rattle.cuts.specs.Gaps.{walked-more, NodesIn, walked-span, walked-refused}
-use Rattle.cuts.specs.EndSearch.{gapFirst, end-last, gap-searched, Searched, end-found, refused-on}
-use Rattle.cuts.specs.StartSearch.{textNodesAllow, gapLast, lastCut, latest-cut, latest-gap, latest-node, endsBehindNewline, start-none}
-use Rattle.cuts.specs.StartSearch.{start-found, start-before, start-more}
-use Rattle.cuts.specs.declared.Across.{Across}
+use Rattle.cuts.specs.EndSearch.{gapFirst, end-last, gap-searched, Searched, end-found, refused-on, allowed-not}
+use Rattle.cuts.specs.Unmatched.{depthsAt, depthsBefore, noDepths, gapFrom, Front, front-of, unmatched-small, blocks-back, warichu-back, GapAt, gap-at, gap-next, gap-rises}
+use Rattle.cuts.specs.StartSearch.{gapLast, lastCut, Down, gap-down, cut-found, cut-none, cut-over, endsBehindNewline, start-none}
+use Rattle.cuts.specs.StartSearch.{start-found, start-more}
+use Rattle.cuts.specs.declared.Depths.{Depths}
 
 -- ---- `nodes_allow_cut`: every node that was passed ends at or before o
 
@@ -82,79 +87,164 @@ module _ {text t : List ℕ} {r p : Run} {o i from blocks warichu : ℕ} (w : En
         none = refused-on text (nodesOf t r) (pairsOf t p) o from start end (w .none) c searched (omega arith) (walked-refused (w .walked) h start end q q₁);
       }
 
--- ---- `last_cut`: `last` is the last offset before `from` that text and nodes allow
+gap-of : (t : List ℕ) (r : Run) (n : InOrder (nodesOf t r)) → (i : ℕ) → i ≤ r .count → GapAt (n .size) t r i
+gap-of t r n = gap-at (n .size) t r (in-order-nodes n)
 
-pub record LastWalk (text t : List ℕ) (r : Run) (bound i from blocks warichu last : ℕ) : Type 0 where
-  pub size : ℕ
-  pub walked : Walked size t r i from blocks warichu
-  pub latest : Latest (textNodesAllow text (nodesOf t r)) from last
-  pub below : last ≤ bound
+-- ---- `last_cut`: i nodes lie before the gap, and no offset behind hi, up to `bound`, is a cut
 
-pub last-walk-none : (text t : List ℕ) (r : Run) (bound : ℕ) → InOrder (nodesOf t r) → LastWalk text t r bound 0 0 0 0 0
-last-walk-none text t r bound h = record {
-  size = h .size;
-  walked = walked-none (h .size) t r (in-order-nodes h);
-  latest = latest-none (textNodesAllow text (nodesOf t r));
-  below = omega arith;
-}
+pub record DownWalk (text t : List ℕ) (r p : Run) (d : Depths) (bound i blocks warichu hi : ℕ) : Type 0 where
+  pub from : d .unmatched ≤ i
+  pub upto : i ≤ d .count
+  pub blocksSmall : blocks ≤ i
+  pub warichuSmall : warichu ≤ i
+  pub blocksAt : blocks ≡ depthsAt t (r .at) i .blocks
+  pub warichuAt : warichu ≡ depthsAt t (r .at) i .warichu
+  pub before : i < r .count → hi ≤ nodeAt t r i .sourceSpan .start
+  pub below : hi ≤ bound
+  pub none : Refused (cutAllowed text (nodesOf t r) (pairsOf t p)) (hi + 1) (bound + 1)
 
-module _ {text t : List ℕ} {r : Run} {bound i from blocks warichu last : ℕ} (w : LastWalk text t r bound i from blocks warichu last) where
-  pub last-walk-done : r .count ≤ i → (c : ℕ) → c ≡ gapLast text blocks warichu from (bound + 1) last → c ≡ lastCut text (nodesOf t r) bound
-  last-walk-done h c q =
-      latest-cut text (nodesOf t r)
-      (latest-gap text (nodesOf t r) blocks warichu from (bound + 1) last (w .latest) (λ k x y. walked-rest (w .walked) h k x) c q bound (w .below) (omega arith))
+module _ {text t : List ℕ} {r p : Run} {d : Depths} {bound : ℕ} (n : InOrder (nodesOf t r)) (f : Front t r bound d) where
+  pub down-none : DownWalk text t r p d bound (d .count) (d .blocks) (d .warichu) bound
+  down-none =
+      let e : d .blocks ≡ depthsAt t (r .at) (d .count) .blocks = ap (λ (x : Depths). x .blocks) (f .is) in
+      let g : d .warichu ≡ depthsAt t (r .at) (d .count) .warichu = ap (λ (x : Depths). x .warichu) (f .is) in
+      let w = gap-of t r n (d .count) (f .within) .walked in
+      record {
+        from = omega (arith, ap (λ (x : Depths). x .unmatched) (f .is), unmatched-small t (r .at) (d .count));
+        upto = omega arith;
+        blocksSmall = omega (arith, e, w .blocksSmall);
+        warichuSmall = omega (arith, g, w .warichuSmall);
+        blocksAt = e;
+        warichuAt = g;
+        before = f .stops;
+        below = omega arith;
+        none = refused-none (bound + 1) (bound + 1) (omega arith);
+      }
 
-  module _ (h : i < r .count) (start : ℕ) (q : start ≡ nodeAt t r i .sourceSpan .start) where
-    gap : (k : ℕ) → from ≤ k → k ≤ start → nodesAllowCut (nodesOf t r) k ≡ depthsZero blocks warichu
-    gap k x y = walked-gap (w .walked) h start (nodeAt t r i .sourceSpan .end) q refl k x y
+  module _ {i blocks warichu hi : ℕ} (w : DownWalk text t r p d bound i blocks warichu hi) (lo : ℕ) (q : lo ≡ gapFrom t r i) where
+    pub down-positive : 1 ≤ lo
+    down-positive = omega (arith, q, gap-of t r n i (omega (arith, w .upto, f .within)) .positive)
 
-    pub last-walk-stop : bound ≤ start → (c : ℕ) → c ≡ gapLast text blocks warichu from (bound + 1) last → c ≡ lastCut text (nodesOf t r) bound
-    last-walk-stop b c e =
-        latest-cut text (nodesOf t r)
-        (latest-gap text (nodesOf t r) blocks warichu from (bound + 1) last (w .latest) (λ k x y. gap k x (omega arith)) c e bound (w .below) (omega arith))
+    down-gap : (k : ℕ) → lo ≤ k → k ≤ hi → nodesAllowCut (nodesOf t r) k ≡ depthsZero blocks warichu
+    down-gap k x y =
+        let g = gap-of t r n i (omega (arith, w .upto, f .within)) in
+        rw (w .blocksAt, w .warichuAt) (by-bool (ltb i (r .count))
+        (λ e. let h = ltb-true i (r .count) e in walked-gap (g .walked) h (nodeAt t r i .sourceSpan .start) (nodeAt t r i .sourceSpan .end) refl refl k (omega (arith, q, g .low)) (omega (arith, w .before h)))
+        (λ e. walked-rest (g .walked) (ltb-false i (r .count) e) k (omega (arith, q, g .low))))
 
-    pub last-walk-more : start < bound → (c : ℕ) → c ≡ gapLast text blocks warichu from (start + 1) last
-        → (end : ℕ) → end ≡ nodeAt t r i .sourceSpan .end → (blocks′ warichu′ : ℕ) → blocks′ ≡ depthBehind isBlockOpen isBlockClose blocks (nodeAt t r i)
-        → warichu′ ≡ depthBehind isWarichuOpen isWarichuClose warichu (nodeAt t r i) → LastWalk text t r bound (i + 1) end blocks′ warichu′ c
-    last-walk-more b c g end q₁ blocks′ warichu′ e f =
-        let l = latest-gap text (nodesOf t r) blocks warichu from (start + 1) last (w .latest) (λ k x y. gap k x (omega arith)) c g bound (w .below) (omega arith) in
-        record {
-          size = w .size;
-          walked = walked-more (w .walked) h start end q q₁ blocks′ warichu′ e f;
-          latest = latest-node text (nodesOf t r) start (l .0) (walked-refused (w .walked) h start end q q₁);
-          below = l .1;
-        }
+    module _ (c : ℕ) (e : c ≡ gapLast text (pairsOf t p) blocks warichu lo hi) where
+      down-here : Down (cutAllowed text (nodesOf t r) (pairsOf t p)) lo hi c
+      down-here = gap-down text (nodesOf t r) (pairsOf t p) blocks warichu lo hi down-positive down-gap c e
 
--- ---- `region_start`: no offset behind `bound`, up to o, is a cut
+      low : gapFrom t r (d .unmatched) ≤ lo
+      low = omega (arith, q, gap-rises (n .size) t r (in-order-nodes n) (i - d .unmatched) (d .unmatched) i (omega (arith, w .from)) (omega (arith, w .upto, f .within)))
 
-pub record StartWalk (text t : List ℕ) (r p : Run) (o bound : ℕ) : Type 0 where
+      low-positive : 1 ≤ gapFrom t r (d .unmatched)
+      low-positive = gap-of t r n (d .unmatched) (omega (arith, w .from, w .upto, f .within)) .positive
+
+      pub down-found : lo ≤ c → c ≡ lastCut text (nodesOf t r) (pairsOf t p) (gapFrom t r (d .unmatched)) bound
+      down-found h = cut-found text (nodesOf t r) (pairsOf t p) (gapFrom t r (d .unmatched)) bound hi low-positive (w .none) (w .below) lo c low down-here h
+
+      pub down-done : i ≤ d .unmatched → c < lo → 0 ≡ lastCut text (nodesOf t r) (pairsOf t p) (gapFrom t r (d .unmatched)) bound
+      down-done z h =
+          let s : i ≡ d .unmatched = omega (arith, w .from) in
+          cut-none text (nodesOf t r) (pairsOf t p) (gapFrom t r (d .unmatched)) bound hi low-positive (w .none) (w .below) lo c low down-here h (q ∙ ap (gapFrom t r) s)
+
+      -- over the node numbered j, before the gap
+      pub down-more : c < lo → (j : ℕ) → j ≡ i - 1 → d .unmatched < i → (start : ℕ) → start ≡ nodeAt t r j .sourceSpan .start → (hi′ : ℕ) → hi′ ≡ min c start
+          → (blocks′ warichu′ : ℕ) → blocks′ ≡ depthBehind isBlockClose isBlockOpen blocks (nodeAt t r j)
+          → warichu′ ≡ depthBehind isWarichuClose isWarichuOpen warichu (nodeAt t r j) → DownWalk text t r p d bound j blocks′ warichu′ hi′
+      down-more h j s u start a hi′ m blocks′ warichu′ x y =
+          let v : i ≡ j + 1 = omega arith in
+          let g = gap-of t r n j (omega (arith, w .upto, f .within)) in
+          let b : depthsAt t (r .at) (d .count) .unmatched ≤ j = omega (arith, ap (λ (z : Depths). z .unmatched) (f .is)) in
+          let e₁ = blocks-back t (r .at) (d .count) j b (omega (arith, w .upto)) blocks blocks′ (w .blocksAt ∙ ap (λ (z : ℕ). depthsAt t (r .at) z .blocks) v) x in
+          let e₂ = warichu-back t (r .at) (d .count) j b (omega (arith, w .upto)) warichu warichu′ (w .warichuAt ∙ ap (λ (z : ℕ). depthsAt t (r .at) z .warichu) v) y in
+          let end : lo ≡ nodeAt t r j .sourceSpan .end = q ∙ ap (gapFrom t r) v ∙ gap-next t r j in
+          let inner = walked-refused (g .walked) (omega (arith, w .upto, f .within)) start lo a end in
+          record {
+            from = omega arith;
+            upto = omega (arith, w .upto);
+            blocksSmall = omega (arith, e₁, g .walked .blocksSmall);
+            warichuSmall = omega (arith, e₂, g .walked .warichuSmall);
+            blocksAt = e₁;
+            warichuAt = e₂;
+            before = λ z. omega (arith, a, m);
+            below = omega (arith, m, down-here .to, w .below);
+            none = rw m (cut-over text (nodesOf t r) (pairsOf t p) (gapFrom t r (d .unmatched)) bound hi low-positive (w .none) (w .below) lo c low down-here start h inner);
+          }
+
+-- ---- `region_start`: no offset behind `bound`, up to o, is a cut, and the nodes from the one numbered `front` on start behind it
+
+pub record StartWalk (text t : List ℕ) (r p : Run) (o bound front : ℕ) : Type 0 where
   pub inside : o ≤ length text
   pub notEnd : endsBehindNewline text o ≡ false
   pub below : bound ≤ o
+  pub within : front ≤ r .count
+  pub before : front < r .count → bound ≤ nodeAt t r front .sourceSpan .start
   pub none : Refused (cutAllowed text (nodesOf t r) (pairsOf t p)) (bound + 1) (o + 1)
 
-pub start-walk-none : (text t : List ℕ) (r p : Run) (o : ℕ) → o ≤ length text → (x : Bool) → x ≡ endsBehindNewline text o → x ≡ false → StartWalk text t r p o o
-start-walk-none text t r p o h x q e = record { inside = h; notEnd = sym q ∙ e; below = omega arith; none = refused-none (o + 1) (o + 1) (omega arith) }
+pub start-walk-none : (text t : List ℕ) (r p : Run) (o : ℕ) → o ≤ length text → (x : Bool) → x ≡ endsBehindNewline text o → x ≡ false → StartWalk text t r p o o (r .count)
+start-walk-none text t r p o h x q e = record {
+  inside = h;
+  notEnd = sym q ∙ e;
+  below = omega arith;
+  within = omega arith;
+  before = λ b. absurd (omega arith);
+  none = refused-none (o + 1) (o + 1) (omega arith);
+}
 
-module _ {text t : List ℕ} {r p : Run} {o bound : ℕ} (w : StartWalk text t r p o bound) where
+module _ {text t : List ℕ} {r p : Run} {o bound front : ℕ} (w : StartWalk text t r p o bound front) where
   pub start-walk-done : bound ≤ 0 → 0 ≡ regionStartIn text (nodesOf t r) (pairsOf t p) o
   start-walk-done z = start-none text (nodesOf t r) (pairsOf t p) o bound (w .none) (w .below) (w .notEnd) (w .inside) (omega arith)
 
-  -- the last offset c that text and nodes allow, and where the first pair across it starts
-  module _ (c : ℕ) (q : c ≡ lastCut text (nodesOf t r) bound) (x : Across) (e : x ≡ acrossOf (pairsOf t p) c) (a : ℕ) (f : a ≡ startOr x c) where
-    start-here : a ≡ startOr (acrossOf (pairsOf t p) c) c
-    start-here = f ∙ ap (λ (y : Across). startOr y c) e
+  module _ (d : Depths) (q : d ≡ depthsBefore bound noDepths (recordsAt nodeCodec t (r .at) front)) where
+    pub start-front : Front t r bound d
+    start-front = front-of t r bound front (w .within) (w .before) d q .0
 
-    pub start-walk-found : a ≡ c → c ≡ regionStartIn text (nodesOf t r) (pairsOf t p) o
-    start-walk-found g = start-found text (nodesOf t r) (pairsOf t p) o bound (w .none) (w .below) c q a start-here (w .notEnd) (w .inside) g
+    pub start-falls : d .unmatched ≤ front
+    start-falls =
+        let f = front-of t r bound front (w .within) (w .before) d q in
+        omega (arith, ap (λ (x : Depths). x .unmatched) (f .0 .is), unmatched-small t (r .at) (d .count), f .1)
 
-    pub start-walk-falls : (a ≡ c → ⊥) → a < bound
-    start-walk-falls g = omega (arith, g, start-before text (nodesOf t r) (pairsOf t p) o bound (w .none) (w .below) c q a start-here)
+    module _ (n : InOrder (nodesOf t r)) (c : ℕ) (e : c ≡ lastCut text (nodesOf t r) (pairsOf t p) (gapFrom t r (d .unmatched)) bound) where
+      gap-here : GapAt (n .size) t r (d .unmatched)
+      gap-here = gap-of t r n (d .unmatched) (omega (arith, start-falls, w .within))
 
-    pub start-walk-more : (a ≡ c → ⊥) → StartWalk text t r p o a
-    start-walk-more g = record {
-      inside = w .inside;
-      notEnd = w .notEnd;
-      below = omega (arith, start-walk-falls g, w .below);
-      none = start-more text (nodesOf t r) (pairsOf t p) o bound (w .none) (w .below) c q a start-here;
-    }
+      pub start-walk-found : 0 < c → c ≡ regionStartIn text (nodesOf t r) (pairsOf t p) o
+      start-walk-found h = start-found text (nodesOf t r) (pairsOf t p) o bound (w .none) (w .below) (gapFrom t r (d .unmatched)) c (gap-here .positive) e h (w .notEnd) (w .inside)
+
+      behind-gap : c ≤ 0 → Refused (cutAllowed text (nodesOf t r) (pairsOf t p)) (gapFrom t r (d .unmatched)) (o + 1)
+      behind-gap z = start-more text (nodesOf t r) (pairsOf t p) o bound (w .none) (w .below) (gapFrom t r (d .unmatched)) c (gap-here .positive) e z
+
+      pub start-walk-first : c ≤ 0 → d .unmatched ≡ 0 → 0 ≡ regionStartIn text (nodesOf t r) (pairsOf t p) o
+      unfolding gapFrom
+      start-walk-first z h =
+          let f : Refused (cutAllowed text (nodesOf t r) (pairsOf t p)) (0 + 1) (o + 1) = rw h at (behind-gap z) in
+          start-none text (nodesOf t r) (pairsOf t p) o 0 f (omega arith) (w .notEnd) (w .inside) refl
+
+      -- from the last unmatched close on, downwards
+      pub start-walk-more : c ≤ 0 → (d .unmatched ≡ 0 → ⊥) → (front′ : ℕ) → front′ ≡ d .unmatched - 1
+          → (start : ℕ) → start ≡ nodeAt t r front′ .sourceSpan .start → (bound′ : ℕ) → bound′ ≡ min bound start → StartWalk text t r p o bound′ front′
+      start-walk-more z h front′ s start a bound′ m =
+          let v : d .unmatched ≡ front′ + 1 = omega (arith, h) in
+          let l : front′ < r .count = omega (arith, start-falls, w .within) in
+          let g = gap-of t r n front′ (omega arith) in
+          let end : gapFrom t r (d .unmatched) ≡ nodeAt t r front′ .sourceSpan .end = ap (gapFrom t r) v ∙ gap-next t r front′ in
+          let inner = walked-refused (g .walked) l start (nodeAt t r front′ .sourceSpan .end) a refl in
+          let all = behind-gap z in
+          record {
+            inside = w .inside;
+            notEnd = w .notEnd;
+            below = omega (arith, m, w .below);
+            within = omega arith;
+            before = λ b. omega (arith, a, m);
+            none = record {
+              fails = λ k x y.
+                  by-bool (ltb k (bound + 1))
+                  (λ u. by-bool (ltb k (gapFrom t r (d .unmatched)))
+                  (λ i. allowed-not text (nodesOf t r) (pairsOf t p) k (inner .fails k (omega (arith, m, ltb-true k (bound + 1) u)) (omega (arith, end, ltb-true k (gapFrom t r (d .unmatched)) i))))
+                  (λ i. all .fails k (ltb-false k (gapFrom t r (d .unmatched)) i) y))
+                  (λ u. w .none .fails k (ltb-false k (bound + 1) u) y);
+            };
+          }

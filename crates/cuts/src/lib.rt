@@ -4,18 +4,19 @@
 // so one walk over the nodes meets all of them, and the pairs are walked only for an offset that text and nodes allow.
 ghost use mathlib.Core.Path.{_≡_};
 ghost use mathlib.Core.Bool.{cond};
-ghost use Prim.Native.Nat.{_+_, _-_, _*_, _≤_, _<_, max};
+ghost use Prim.Native.Nat.{_+_, _-_, _*_, _≤_, _<_, max, min};
 ghost use lib.ListN.{length};
 ghost use Rattle.model.specs.Tape.{recordAt, nodeCodec, pairCodec};
 ghost use Rattle.model.specs.Region.{blankLineBefore, isBlockOpen, isBlockClose, isDirective, isWarichuOpen, isWarichuClose, depthBehind, across};
 ghost use Rattle.model.specs.Region.{nodesAllowCut, pairsAllowCut};
 ghost use Rattle.bounds.specs.Search.{InOrder};
 ghost use Rattle.cuts.specs.Safe.{safeCutIn, regionEndIn, regionStartIn, regionOf, balancedIn};
-ghost use Rattle.cuts.specs.Offsets.{firstIn, lastFrom};
+ghost use Rattle.cuts.specs.Offsets.{firstIn};
 ghost use Rattle.cuts.specs.Pairs.{acrossOf, pairsOf, isNothing, startOr, endOr};
 ghost use Rattle.cuts.specs.Gaps.{depthsZero, nodesOf, NodesIn};
 ghost use Rattle.cuts.specs.EndSearch.{nextTry, textPairsAllow, gapFirst};
-ghost use Rattle.cuts.specs.StartSearch.{gapLast, lastCut, endsBehindNewline};
+ghost use Rattle.cuts.specs.Unmatched.{closesNothing, isUnmatched, lastUnmatched, depthsPast, depthsBefore, noDepths, gapFrom, Front};
+ghost use Rattle.cuts.specs.StartSearch.{earlierTry, lastTry, gapLast, lastCut, endsBehindNewline};
 
 // Section 6. Two newline bytes before an offset.
 pub fn blank_line_before(text: &[u8], o: usize) -> bool
@@ -328,56 +329,195 @@ pub fn region_end(
     gap_first(tape, text, pairs, from, o, text.len(), blocks, warichu)
 }
 
-// The last blank line from lo on and before hi, else d.
-fn last_blank(text: &[u8], lo: usize, hi: usize, d: usize) -> usize
-    requires { ⌜ hi ≤ length (now text) + 1 ⌝ }
-    ensures { λ r. ⌜ r ≡ lastFrom (blankLineBefore (now (text .entry))) (hi - lo) lo d ⌝ }
+// The depths counted backwards: the same over a node with open and close exchanged, unless the node closes at depth 0.
+fn block_before(tape: &[u8], at: usize, depth: usize) -> usize
+    requires { ⌜ (at + 49 ≤ length (now tape)) × (depth < 9223372036854775808) ⌝ }
+    ensures { λ r. ⌜ r ≡ depthBehind isBlockClose isBlockOpen depth (recordAt nodeCodec (now (tape .entry)) at) ⌝ }
 {
-    let mut c = hi;
-    while lo < c {
-        if blank_line_before(text, c - 1) {
-            return c - 1;
+    depth_behind(is_block_close(tape, at), is_block_open(tape, at), depth)
+}
+
+fn warichu_before(tape: &[u8], at: usize, depth: usize) -> usize
+    requires { ⌜ (at + 49 ≤ length (now tape)) × (depth < 9223372036854775808) ⌝ }
+    ensures { λ r. ⌜ r ≡ depthBehind isWarichuClose isWarichuOpen depth (recordAt nodeCodec (now (tape .entry)) at) ⌝ }
+{
+    depth_behind(is_warichu_close(tape, at), is_warichu_open(tape, at), depth)
+}
+
+// What a number of nodes leave: both depths, and how many there are up to and with the last that closes at depth 0. Behind that
+// one every close has its open.
+pub struct Depths {
+    pub count: usize,
+    pub blocks: usize,
+    pub warichu: usize,
+    pub unmatched: usize,
+}
+
+fn closes_nothing(closes: bool, depth: usize) -> bool
+    ensures { λ r. ⌜ r ≡ closesNothing closes depth ⌝ }
+{
+    if !closes {
+        return false;
+    }
+    depth == 0
+}
+
+// Is the node a close without an open?
+fn is_unmatched(tape: &[u8], at: usize, d: Depths) -> bool
+    requires { ⌜ at + 49 ≤ length (now tape) ⌝ }
+    ensures { λ r. ⌜ r ≡ isUnmatched d (recordAt nodeCodec (now (tape .entry)) at) ⌝ }
+{
+    if closes_nothing(is_block_close(tape, at), d.blocks) {
+        return true;
+    }
+    closes_nothing(is_warichu_close(tape, at), d.warichu)
+}
+
+fn last_unmatched(tape: &[u8], at: usize, d: Depths) -> usize
+    requires { ⌜ (at + 49 ≤ length (now tape)) × (d .count < 9223372036854775808) ⌝ }
+    ensures { λ r. ⌜ r ≡ lastUnmatched d (recordAt nodeCodec (now (tape .entry)) at) ⌝ }
+{
+    if is_unmatched(tape, at, d) {
+        return d.count + 1;
+    }
+    d.unmatched
+}
+
+fn depths_past(tape: &[u8], at: usize, d: Depths) -> Depths
+    requires { ⌜ (at + 49 ≤ length (now tape)) × (d .count < 9223372036854775808) × (d .blocks < 9223372036854775808) × (d .warichu < 9223372036854775808) ⌝ }
+    ensures { λ r. ⌜ r ≡ depthsPast d (recordAt nodeCodec (now (tape .entry)) at) ⌝ }
+{
+    Depths {
+        count: d.count + 1,
+        blocks: block_depth(tape, at, d.blocks),
+        warichu: warichu_depth(tape, at, d.warichu),
+        unmatched: last_unmatched(tape, at, d),
+    }
+}
+
+// The depths behind the nodes that start before `bound`.
+fn depths_before(tape: &[u8], nodes: places::Run, bound: usize) -> Depths
+    requires { ⌜ nodes .at + 49 * nodes .count ≤ length (now tape) ⌝ }
+    ensures { λ r. ⌜ r ≡ depthsBefore bound noDepths (nodesOf (now (tape .entry)) nodes) ⌝ }
+{
+    let mut d = Depths {
+        count: 0,
+        blocks: 0,
+        warichu: 0,
+        unmatched: 0,
+    };
+    while d.count < nodes.count {
+        let p = nodes.at + 49 * d.count;
+        if bound <= records::node_start(tape, p) as usize {
+            return d;
         }
-        c -= 1;
+        d = depths_past(tape, p, d);
     }
     d
 }
 
-// The same of a gap where the nodes before it leave these depths.
-fn gap_last(text: &[u8], lo: usize, hi: usize, blocks: usize, warichu: usize, d: usize) -> usize
-    requires { ⌜ hi ≤ length (now text) + 1 ⌝ }
-    ensures { λ r. ⌜ r ≡ gapLast (now (text .entry)) blocks warichu lo hi d ⌝ }
+// The next offset to try, downwards, for a cut that text and pairs allow: where a pair lies across, all from its start on are refused.
+fn earlier_try(tape: &[u8], text: &[u8], pairs: places::Run, o: usize) -> usize
+    requires { ⌜ (pairs .at + 18 * pairs .count ≤ length (now tape)) × (o ≤ length (now text)) × (1 ≤ o) ⌝ }
+    ensures { λ r. ⌜ r ≡ earlierTry (now (text .entry)) (pairsOf (now (tape .entry)) pairs) o ⌝ }
 {
-    if !depths_zero(blocks, warichu) {
-        return d;
+    if !blank_line_before(text, o) {
+        return o - 1;
     }
-    last_blank(text, lo, hi, d)
+    start_or(pair_across(tape, pairs, o), o)
 }
 
-// The last offset at or before `bound` that text and nodes allow, else 0.
-fn last_cut(tape: &[u8], text: &[u8], nodes: places::Run, bound: usize) -> usize
-    requires { ⌜ (nodes .at + 49 * nodes .count ≤ length (now tape)) × (bound ≤ length (now text)) ⌝ }
-    requires { ⌜ InOrder (nodesOf (now tape) nodes) ⌝ }
-    ensures { λ r. ⌜ r ≡ lastCut (now (text .entry)) (nodesOf (now (tape .entry)) nodes) bound ⌝ }
+// The tries from `hi` down to the first that text and pairs allow or that lies before lo.
+fn last_try(tape: &[u8], text: &[u8], pairs: places::Run, lo: usize, hi: usize) -> usize
+    requires { ⌜ (pairs .at + 18 * pairs .count ≤ length (now tape)) × (hi ≤ length (now text)) × (1 ≤ lo) ⌝ }
+    ensures { λ r. ⌜ r ≡ lastTry (now (text .entry)) (pairsOf (now (tape .entry)) pairs) lo hi hi ⌝ }
 {
-    let mut from: usize = 0;
-    let mut blocks: usize = 0;
-    let mut warichu: usize = 0;
-    let mut last: usize = 0;
-    let mut i = 0;
-    while i < nodes.count {
-        let p = nodes.at + 49 * i;
-        let start = records::node_start(tape, p) as usize;
-        if bound <= start {
-            return gap_last(text, from, bound + 1, blocks, warichu, last);
+    let mut c = hi;
+    while lo <= c {
+        let next = earlier_try(tape, text, pairs, c);
+        if next == c {
+            return c;
         }
-        last = gap_last(text, from, start + 1, blocks, warichu, last);
-        from = records::node_end(tape, p) as usize;
-        blocks = block_depth(tape, p, blocks);
-        warichu = warichu_depth(tape, p, warichu);
-        i += 1;
+        c = next;
     }
-    gap_last(text, from, bound + 1, blocks, warichu, last)
+    c
+}
+
+fn earlier(a: usize, b: usize) -> usize
+    ensures { λ r. ⌜ r ≡ min a b ⌝ }
+{
+    if a < b {
+        return a;
+    }
+    b
+}
+
+// The same of a gap where the nodes before it leave these depths.
+fn gap_last(
+    tape: &[u8],
+    text: &[u8],
+    pairs: places::Run,
+    lo: usize,
+    hi: usize,
+    blocks: usize,
+    warichu: usize,
+) -> usize
+    requires { ⌜ (pairs .at + 18 * pairs .count ≤ length (now tape)) × (hi ≤ length (now text)) × (1 ≤ lo) ⌝ }
+    ensures { λ r. ⌜ r ≡ gapLast (now (text .entry)) (pairsOf (now (tape .entry)) pairs) blocks warichu lo hi ⌝ }
+{
+    if !depths_zero(blocks, warichu) {
+        return earlier(lo - 1, hi);
+    }
+    last_try(tape, text, pairs, lo, hi)
+}
+
+// Where the gap behind i nodes begins; that before the first node at 1, since 0 needs no search.
+fn gap_from(tape: &[u8], nodes: places::Run, i: usize) -> usize
+    requires { ⌜ (nodes .at + 49 * nodes .count ≤ length (now tape)) × (i ≤ nodes .count) ⌝ }
+    ensures { λ r. ⌜ r ≡ gapFrom (now (tape .entry)) nodes i ⌝ }
+{
+    if i == 0 {
+        return 1;
+    }
+    records::node_end(tape, nodes.at + 49 * (i - 1)) as usize
+}
+
+// The last cut at or before `bound`, behind the last unmatched close, else 0.
+fn last_cut(
+    tape: &[u8],
+    text: &[u8],
+    nodes: places::Run,
+    pairs: places::Run,
+    d: Depths,
+    bound: usize,
+) -> usize
+    requires { ⌜ (nodes .at + 49 * nodes .count ≤ length (now tape)) × (pairs .at + 18 * pairs .count ≤ length (now tape)) × (bound ≤ length (now text)) ⌝ }
+    requires { ⌜ InOrder (nodesOf (now tape) nodes) ⌝ }
+    requires { ⌜ Front (now tape) nodes bound d ⌝ }
+    ensures { λ r. ⌜ r ≡ lastCut (now (text .entry)) (nodesOf (now (tape .entry)) nodes) (pairsOf (now (tape .entry)) pairs) (gapFrom (now (tape .entry)) nodes (d .unmatched)) bound ⌝ }
+{
+    let mut i = d.count;
+    let mut blocks = d.blocks;
+    let mut warichu = d.warichu;
+    let mut hi = bound;
+    while d.unmatched < i {
+        let lo = gap_from(tape, nodes, i);
+        let c = gap_last(tape, text, pairs, lo, hi, blocks, warichu);
+        if lo <= c {
+            return c;
+        }
+        i -= 1;
+        let p = nodes.at + 49 * i;
+        hi = earlier(c, records::node_start(tape, p) as usize);
+        blocks = block_before(tape, p, blocks);
+        warichu = warichu_before(tape, p, warichu);
+    }
+    let lo = gap_from(tape, nodes, i);
+    let c = gap_last(tape, text, pairs, lo, hi, blocks, warichu);
+    if lo <= c {
+        return c;
+    }
+    0
 }
 
 // The length behind a newline.
@@ -410,13 +550,28 @@ pub fn region_start(
         return o;
     }
     let mut bound = o;
+    let mut front = nodes.count;
     while 0 < bound {
-        let c = last_cut(tape, text, nodes, bound);
-        let start = start_or(pair_across(tape, pairs, c), c);
-        if start == c {
+        let d = depths_before(
+            tape,
+            places::Run {
+                at: nodes.at,
+                count: front,
+            },
+            bound,
+        );
+        let c = last_cut(tape, text, nodes, pairs, d, bound);
+        if 0 < c {
             return c;
         }
-        bound = start;
+        if d.unmatched == 0 {
+            return 0;
+        }
+        front = d.unmatched - 1;
+        bound = earlier(
+            bound,
+            records::node_start(tape, nodes.at + 49 * front) as usize,
+        );
     }
     0
 }

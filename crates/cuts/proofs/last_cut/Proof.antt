@@ -1,101 +1,95 @@
-use Prim.Native.Nat.{_-_}
+use Prim.Native.Nat.{_≤_}
 use native.Mathlib.Omega.{arith}
-use Rattle.cuts.specs.Walks.{LastWalk, last-walk-none, last-walk-stop, last-walk-more, last-walk-done}
+use mathlib.Core.Path.{refl}
+use Rattle.cuts.specs.Walks.{DownWalk, down-none, down-positive, down-found, down-more, down-done}
 use Rattle.cuts.proofs.last_cut.Statement.{statement}
 use Rattle.cuts.proofs.last_cut.Tie as tie
 use Rattle.cuts.proofs.last_cut.Reads as reads
 use Rattle.cuts.proofs.last_cut.Lts as lts
-use Rattle.cuts.proofs.block_depth.Reads as block-depth-reads
+use Rattle.cuts.proofs.block_before.Reads as block-before-reads
+use Rattle.cuts.proofs.earlier.Reads as earlier-reads
+use Rattle.cuts.proofs.gap_from.Reads as gap-from-reads
 use Rattle.cuts.proofs.gap_last.Reads as gap-last-reads
-use Rattle.cuts.proofs.warichu_depth.Reads as warichu-depth-reads
-use Rattle.records.proofs.node_end.Reads as node-end-reads
+use Rattle.cuts.proofs.warichu_before.Reads as warichu-before-reads
 use Rattle.records.proofs.node_start.Reads as node-start-reads
 
 abbrev Inv-loop : tie.InvT-loop
-Inv-loop tape text nodes bound from₀ blocks₀ warichu₀ last₀ i₀ from blocks warichu last i = LastWalk text tape nodes bound i from blocks warichu last
+Inv-loop tape text nodes pairs d bound i₀ blocks₀ warichu₀ hi₀ i blocks warichu hi = DownWalk text tape nodes pairs d bound i blocks warichu hi
 
 abbrev μ-loop : tie.MeasureT-loop
-μ-loop tape text nodes bound from₀ blocks₀ warichu₀ last₀ i₀ from blocks warichu last i = nodes .count - i
+μ-loop tape text nodes pairs d bound i₀ blocks₀ warichu₀ hi₀ i blocks warichu hi = i
 
--- src/lib.rt:353:5
+-- src/lib.rt:503:5
 loop-holds : tie.Need-loop-holds Inv-loop μ-loop
-loop-holds c = last-walk-none _ _ _ _ (c .before .before .pre .1)
+loop-holds c = down-none (c .before .before .pre .1 .0) (c .before .before .pre .1 .1)
 
--- src/lib.rt:354:28
+-- src/lib.rt:504:13
+gap-from-requires : tie.Need-gap-from-requires Inv-loop μ-loop
+gap-from-requires c κs = omega arith
+
+-- src/lib.rt:505:13
+gap-last-requires : tie.Need-gap-last-requires Inv-loop μ-loop
+gap-last-requires c κs = (c .before .before .before .before .before .before .pre .0 .1, omega arith, down-positive (c .before .before .before .before .before .before .pre .1 .0) (c .before .before .before .before .before .before .pre .1 .1) (c .before .before .before .loop .inv) _ (c .gap-from .ensures))
+
+-- src/lib.rt:507:13
+returns : tie.Need-returns Inv-loop μ-loop
+returns c = down-found (c .before .before .before .before .before .before .before .before .pre .1 .0) (c .before .before .before .before .before .before .before .before .pre .1 .1) (c .before .before .before .before .before .loop .inv) _ (c .before .before .gap-from .ensures) _ (c .before .gap-last .ensures) (c .if2 .taken)
+
+-- src/lib.rt:509:9
+sub-i : tie.Need-sub-i Inv-loop μ-loop
+sub-i c = omega arith
+
+-- src/lib.rt:510:28
 mul-p : tie.Need-mul-p Inv-loop μ-loop
 mul-p c = omega arith
 
--- src/lib.rt:354:17
+-- src/lib.rt:510:17
 add-p : tie.Need-add-p Inv-loop μ-loop
 add-p c = omega arith
 
--- src/lib.rt:355:21
+-- src/lib.rt:511:25
 node-start-requires : tie.Need-node-start-requires Inv-loop μ-loop
 node-start-requires c κs = omega arith
 
--- src/lib.rt:355:21
-cast-start : tie.Need-cast-start Inv-loop μ-loop
-cast-start c = omega arith
+-- src/lib.rt:511:25
+cast-earlier : tie.Need-cast-earlier Inv-loop μ-loop
+cast-earlier c = omega arith
 
--- src/lib.rt:357:41
-add-gap-last : tie.Need-add-gap-last Inv-loop μ-loop
-add-gap-last c = omega arith
+-- src/lib.rt:511:9
+earlier-requires : tie.Need-earlier-requires Inv-loop μ-loop
+earlier-requires c κs = omega arith
 
--- src/lib.rt:357:13
-gap-last-requires : tie.Need-gap-last-requires Inv-loop μ-loop
-gap-last-requires c κs = omega arith
+-- src/lib.rt:512:9
+block-before-requires : tie.Need-block-before-requires Inv-loop μ-loop
+block-before-requires c κs = omega arith
 
--- src/lib.rt:357:13
-returns : tie.Need-returns Inv-loop μ-loop
-returns c = last-walk-stop (c .before .before .before .before .before .before .loop .inv) (c .before .before .before .before .if1 .taken) _ (c .before .before .node-start .ensures) (c .before .if2 .taken) _ (c .gap-last .ensures)
+-- src/lib.rt:513:9
+warichu-before-requires : tie.Need-warichu-before-requires Inv-loop μ-loop
+warichu-before-requires c κs = omega arith
 
--- src/lib.rt:359:37
-add-gap-last-2 : tie.Need-add-gap-last-2 Inv-loop μ-loop
-add-gap-last-2 c = omega arith
-
--- src/lib.rt:359:9
-gap-last-requires-2 : tie.Need-gap-last-requires-2 Inv-loop μ-loop
-gap-last-requires-2 c κs = omega arith
-
--- src/lib.rt:360:16
-node-end-requires : tie.Need-node-end-requires Inv-loop μ-loop
-node-end-requires c κs = omega arith
-
--- src/lib.rt:360:16
-cast-from : tie.Need-cast-from Inv-loop μ-loop
-cast-from c = omega arith
-
--- src/lib.rt:361:9
-block-depth-requires : tie.Need-block-depth-requires Inv-loop μ-loop
-block-depth-requires c κs = omega arith
-
--- src/lib.rt:362:9
-warichu-depth-requires : tie.Need-warichu-depth-requires Inv-loop μ-loop
-warichu-depth-requires c κs = omega arith
-
--- src/lib.rt:363:9
-add-i : tie.Need-add-i Inv-loop μ-loop
-add-i c = omega arith
-
--- src/lib.rt:353:5
+-- src/lib.rt:503:5
 loop-less : tie.Need-loop-less Inv-loop μ-loop
 loop-less c = omega arith
 
--- src/lib.rt:353:5
+-- src/lib.rt:503:5
 loop-again : tie.Need-loop-again Inv-loop μ-loop
-loop-again c = last-walk-more (c .before .before .before .before .before .before .before .before .before .loop .inv) (c .before .before .before .before .before .before .before .if1 .taken) _ (c .before .before .before .before .before .node-start .ensures) (c .before .before .before .before .if2 .left) _ (c .before .before .before .gap-last2 .ensures) _ (c .before .before .node-end .ensures) _ _ (c .before .block-depth .ensures) (c .warichu-depth .ensures)
+loop-again c = down-more (c .before .before .before .before .before .before .before .before .before .before .before .before .before .pre .1 .0) (c .before .before .before .before .before .before .before .before .before .before .before .before .before .pre .1 .1) (c .before .before .before .before .before .before .before .before .before .before .loop .inv) _ (c .before .before .before .before .before .before .before .gap-from .ensures) _ (c .before .before .before .before .before .before .gap-last .ensures) (c .before .before .before .before .before .if2 .left) _ refl (c .before .before .before .before .before .before .before .before .if1 .taken) _ (c .before .before .before .node-start .ensures) _ (c .before .before .earlier .ensures) _ _ (c .before .block-before .ensures) (c .warichu-before .ensures)
 
--- src/lib.rt:365:26
-add-gap-last-3 : tie.Need-add-gap-last-3 Inv-loop μ-loop
-add-gap-last-3 c = omega arith
+-- src/lib.rt:515:9
+gap-from-requires-2 : tie.Need-gap-from-requires-2 Inv-loop μ-loop
+gap-from-requires-2 c κs = omega arith
 
--- src/lib.rt:365:5
-gap-last-requires-3 : tie.Need-gap-last-requires-3 Inv-loop μ-loop
-gap-last-requires-3 c κs = omega arith
+-- src/lib.rt:516:9
+gap-last-requires-2 : tie.Need-gap-last-requires-2 Inv-loop μ-loop
+gap-last-requires-2 c κs = (c .before .before .before .before .before .before .pre .0 .1, omega arith, down-positive (c .before .before .before .before .before .before .pre .1 .0) (c .before .before .before .before .before .before .pre .1 .1) (c .before .before .before .loop .inv) _ (c .gap-from2 .ensures))
 
--- src/lib.rt:343:1
+-- src/lib.rt:518:9
 returns-2 : tie.Need-returns-2 Inv-loop μ-loop
-returns-2 c = last-walk-done (c .before .before .before .loop .inv) (c .before .if1 .left) _ (c .gap-last3 .ensures)
+returns-2 c = down-found (c .before .before .before .before .before .before .before .before .pre .1 .0) (c .before .before .before .before .before .before .before .before .pre .1 .1) (c .before .before .before .before .before .loop .inv) _ (c .before .before .gap-from2 .ensures) _ (c .before .gap-last2 .ensures) (c .if3 .taken)
+
+-- src/lib.rt:486:1
+returns-3 : tie.Need-returns-3 Inv-loop μ-loop
+returns-3 c = down-done (c .before .before .before .before .before .before .before .before .pre .1 .0) (c .before .before .before .before .before .before .before .before .pre .1 .1) (c .before .before .before .before .before .loop .inv) _ (c .before .before .gap-from2 .ensures) _ (c .before .gap-last2 .ensures) (c .before .before .before .if1 .left) (c .if3 .left)
 
 pub last-cut-spec : {M : Type 1} → statement M
 last-cut-spec =
@@ -104,22 +98,20 @@ last-cut-spec =
     Inv-loop
     μ-loop
     loop-holds
+    gap-from-requires
+    gap-last-requires
+    returns
+    sub-i
     mul-p
     add-p
     node-start-requires
-    cast-start
-    add-gap-last
-    gap-last-requires
-    returns
-    add-gap-last-2
-    gap-last-requires-2
-    node-end-requires
-    cast-from
-    block-depth-requires
-    warichu-depth-requires
-    add-i
+    cast-earlier
+    earlier-requires
+    block-before-requires
+    warichu-before-requires
     loop-less
     loop-again
-    add-gap-last-3
-    gap-last-requires-3
-    returns-2)
+    gap-from-requires-2
+    gap-last-requires-2
+    returns-2
+    returns-3)
