@@ -1,0 +1,49 @@
+// A set of hashes as bits of the words from `base` on: what was marked is always found, and another hash seldom is. The words before
+// `base` are left as they are; where there are none behind it, each hash counts as marked.
+ghost use mathlib.Core.Path.{_≡_};
+ghost use Prim.Native.Nat.{_^_, _≤_, _<_};
+ghost use lib.ListN.{length};
+ghost use Rattle.marks.specs.Marks.{bit, markPlace, isMarked, markedBy};
+
+fn power(k: u32) -> u32
+    requires { ⌜ k < 32 ⌝ }
+    ensures { λ r. ⌜ r ≡ 2 ^ k ⌝ }
+{
+    1 << k
+}
+
+fn bit_at(w: u32, k: u32) -> u32
+    requires { ⌜ k < 32 ⌝ }
+    ensures { λ r. ⌜ r ≡ bit w k ⌝ }
+{
+    (w >> k) % 2
+}
+
+// The word of a hash.
+fn place_of(base: usize, len: usize, h: u64) -> usize
+    requires { ⌜ base < len ⌝ }
+    ensures { λ r. ⌜ r ≡ markPlace base len h ⌝ }
+{
+    base + (h / 32 % ((len - base) as u64)) as usize
+}
+
+pub fn mark(words: &mut [u32], base: usize, h: u64)
+    ensures { λ _. ⌜ now (words .exit) ≡ markedBy (now (words .entry)) base h ⌝ }
+{
+    if words.len() <= base {
+        return;
+    }
+    let i = place_of(base, words.len(), h);
+    let w = words[i];
+    words[i] = w | power((h % 32) as u32);
+}
+
+pub fn is_marked(words: &[u32], base: usize, h: u64) -> bool
+    ensures { λ r. ⌜ r ≡ isMarked (now (words .entry)) base h ⌝ }
+{
+    if words.len() <= base {
+        return true;
+    }
+    let i = place_of(base, words.len(), h);
+    bit_at(words[i], (h % 32) as u32) == 1
+}
