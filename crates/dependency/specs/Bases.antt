@@ -64,7 +64,7 @@ among-bases st ns (some s) = bases-any st s ns
 record Bases (st : NodeStore) (rubies : List (List ℕ)) (passed : List SourceNode) : Type 0 where
   are : (s : List ℕ) → any (same s) rubies ≡ any (hasBase st s) passed
 
-any-snoc : {A : Type 0} (p : A → Bool) (xs : List A) (x : A) → any p (xs ++ (x ∷ [])) ≡ p x || any p xs
+pub any-snoc : {A : Type 0} (p : A → Bool) (xs : List A) (x : A) → any p (xs ++ (x ∷ [])) ≡ p x || any p xs
 any-snoc p [] x = refl
 any-snoc p (y ∷ ys) x = ap (λ (b : Bool). p y || b) (any-snoc p ys x) ∙ swap (p y) (p x) (any p ys)
   where

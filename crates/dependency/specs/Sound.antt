@@ -167,3 +167,7 @@ module _ (t : List ℕ) (p : ℕ) {start len : ℕ} (e : start ≡ wordOf (bodyA
 -- the last node of a run
 pub sound-last : {t : List ℕ} {st : Store} {words old new : List ℕ} {at : ℕ} (i : ℕ) → Sound t st words old new at (i + 1) → SoundNode t st words old new (at + 49 * i)
 sound-last i s = sound-node {i = i} s (omega arith)
+
+-- by another index of the same words
+pub sound-index : {t : List ℕ} {st : Store} {words index old new : List ℕ} {at count : ℕ} → index ≡ words → Sound t st words old new at count → Sound t st index old new at count
+sound-index e s = rw e s

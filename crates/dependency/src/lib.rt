@@ -1,6 +1,7 @@
 // Number 10, document 01 section 6: a Referenced Format behind the edit's start whose target is the base of an earlier Ruby. A base
 // and a target are compared as plain strings: a string's bytes are found by the index of crate `strings`, and only where its length
-// is the one that is asked for. specs/Bases.antt says what is asked, specs/Sound.antt what number 4 has shown of it.
+// is the one that is asked for. The walk marks the hash of each base (crate `marks`), so that a target that is no base seldom has to be
+// compared. specs/Bases.antt says what is asked, specs/Sound.antt what number 4 has shown of it, specs/Noted.antt what the marks say.
 use strings::Plain;
 ghost use mathlib.Core.Path.{_≡_};
 ghost use mathlib.Core.List.{List, [], _++_};
@@ -15,6 +16,7 @@ ghost use Rattle.strings.specs.Shown.{Resolvable};
 ghost use Rattle.strings.specs.PlainContent.{plainOf, plainString};
 ghost use Rattle.dependency.specs.Bases.{isPlain, hasBase, amongBases, refersAt};
 ghost use Rattle.dependency.specs.Sound.{Sound, SoundNode, FirstRange, PlainIn, firstContents};
+ghost use Rattle.dependency.specs.Noted.{firstWords, markedPlain, notedBy, Noted};
 
 // An Inline Ruby.
 pub fn is_ruby(tape: &[u8], at: usize) -> bool
@@ -140,42 +142,73 @@ pub fn is_ruby_base<'a>(
     false
 }
 
+// The same by the marks of these bases, in the words behind those of the index.
+fn is_marked_base<'a>(
+    tape: &[u8],
+    st: store::Store,
+    words: &[u32],
+    base: usize,
+    old: &'a [u8],
+    new: &'a [u8],
+    at: usize,
+    count: usize,
+    s: &[u8],
+) -> bool
+    requires { ⌜ Sound (now tape) st (firstWords base (now words)) (now old) (now new) at count ⌝ }
+    requires { ⌜ base ≤ length (now words) ⌝ }
+    requires { ⌜ Noted (storeIn (now tape) (now old ++ now new)) (recordsAt nodeCodec (now tape) at count) (now words) base ⌝ }
+    ensures { λ r. ⌜ r ≡ any (hasBase (storeIn (now (tape .entry)) (now (old .entry) ++ now (new .entry))) (now (s .entry))) (recordsAt nodeCodec (now (tape .entry)) at count) ⌝ }
+{
+    let h = hash::fx_hash(s);
+    if !marks::is_marked(words, base, h) {
+        return false;
+    }
+    is_ruby_base(tape, st, &words[0..base], old, new, at, count, s)
+}
+
 fn is_target_base<'a>(
     tape: &[u8],
     st: store::Store,
     words: &[u32],
+    base: usize,
     old: &'a [u8],
     new: &'a [u8],
     at: usize,
     count: usize,
     p: Plain,
 ) -> bool
-    requires { ⌜ Sound (now tape) st (now words) (now old) (now new) at count ⌝ }
+    requires { ⌜ Sound (now tape) st (firstWords base (now words)) (now old) (now new) at count ⌝ }
+    requires { ⌜ base ≤ length (now words) ⌝ }
+    requires { ⌜ Noted (storeIn (now tape) (now old ++ now new)) (recordsAt nodeCodec (now tape) at count) (now words) base ⌝ }
     requires { ⌜ PlainIn st p ⌝ }
     ensures { λ r. ⌜ r ≡ amongBases (storeIn (now (tape .entry)) (now (old .entry) ++ now (new .entry))) (recordsAt nodeCodec (now (tape .entry)) at count) (plainString (storeIn (now (tape .entry)) (now (old .entry) ++ now (new .entry))) p) ⌝ }
 {
     match p {
         Plain::Id(id) => {
-            let s = strings::resolve_str(tape, st, words, old, new, id);
-            return is_ruby_base(tape, st, words, old, new, at, count, s);
+            let s = strings::resolve_str(tape, st, &words[0..base], old, new, id);
+            return is_marked_base(tape, st, words, base, old, new, at, count, s);
         }
         Plain::Nothing => {
             return false;
         }
     }
 }
+
 // Number 10, node i: a Referenced Format that ends behind `from` and whose target is the base of an earlier Ruby.
 fn refers_back<'a>(
     tape: &[u8],
     st: store::Store,
     words: &[u32],
+    base: usize,
     old: &'a [u8],
     new: &'a [u8],
     at: usize,
     i: usize,
     from: u32,
 ) -> bool
-    requires { ⌜ Sound (now tape) st (now words) (now old) (now new) at (i + 1) ⌝ }
+    requires { ⌜ Sound (now tape) st (firstWords base (now words)) (now old) (now new) at (i + 1) ⌝ }
+    requires { ⌜ base ≤ length (now words) ⌝ }
+    requires { ⌜ Noted (storeIn (now tape) (now old ++ now new)) (recordsAt nodeCodec (now tape) at i) (now words) base ⌝ }
     ensures { λ r. ⌜ r ≡ refersAt (storeIn (now (tape .entry)) (now (old .entry) ++ now (new .entry))) from (now (tape .entry)) at i ⌝ }
 {
     let place = at + 49 * i;
@@ -186,28 +219,81 @@ fn refers_back<'a>(
         return false;
     }
     let p = first_plain(tape, st, place);
-    is_target_base(tape, st, words, old, new, at, i, p)
+    is_target_base(tape, st, words, base, old, new, at, i, p)
 }
 
-// Number 10. `has_ruby_format_dependency`. One walk over the nodes, and one over those before it for each Format that it asks.
+// The string of an answer marked.
+fn mark_plain<'a>(
+    tape: &[u8],
+    st: store::Store,
+    words: &mut [u32],
+    base: usize,
+    old: &'a [u8],
+    new: &'a [u8],
+    p: Plain,
+)
+    requires { ⌜ Resolvable (now tape) st (firstWords base (now words)) (now old) (now new) ⌝ }
+    requires { ⌜ base ≤ length (now words) ⌝ }
+    requires { ⌜ PlainIn st p ⌝ }
+    ensures { λ _. ⌜ now (words .exit) ≡ markedPlain (now (words .entry)) base (plainString (storeIn (now (tape .entry)) (now (old .entry) ++ now (new .entry))) p) ⌝ }
+{
+    match p {
+        Plain::Id(id) => {
+            let s = strings::resolve_str(tape, st, &words[0..base], old, new, id);
+            let h = hash::fx_hash(s);
+            marks::mark(words, base, h);
+            return;
+        }
+        Plain::Nothing => {
+            return;
+        }
+    }
+}
+
+// The plain base of a Ruby marked.
+fn note_ruby<'a>(
+    tape: &[u8],
+    st: store::Store,
+    words: &mut [u32],
+    base: usize,
+    old: &'a [u8],
+    new: &'a [u8],
+    at: usize,
+)
+    requires { ⌜ SoundNode (now tape) st (firstWords base (now words)) (now old) (now new) at ⌝ }
+    requires { ⌜ base ≤ length (now words) ⌝ }
+    ensures { λ _. ⌜ now (words .exit) ≡ notedBy (storeIn (now (tape .entry)) (now (old .entry) ++ now (new .entry))) (now (words .entry)) base (recordAt nodeCodec (now (tape .entry)) at) ⌝ }
+{
+    if !is_ruby(tape, at) {
+        return;
+    }
+    let p = first_plain(tape, st, at);
+    mark_plain(tape, st, words, base, old, new, p);
+}
+
+// Number 10. `has_ruby_format_dependency`. One walk over the nodes: the words before `base` have the index of the strings, those from
+// `base` on take the marks of the bases. They may hold anything; only where they are zeros is a string that is no base told by its mark.
 pub fn has_ruby_format_dependency<'a>(
     tape: &[u8],
     st: store::Store,
-    words: &[u32],
+    words: &mut [u32],
+    base: usize,
     old: &'a [u8],
     new: &'a [u8],
     at: usize,
     count: usize,
     from: u32,
 ) -> bool
-    requires { ⌜ Sound (now tape) st (now words) (now old) (now new) at count ⌝ }
+    requires { ⌜ Sound (now tape) st (firstWords base (now words)) (now old) (now new) at count ⌝ }
+    requires { ⌜ base ≤ length (now words) ⌝ }
     ensures { λ r. ⌜ r ≡ dependsFrom (storeIn (now (tape .entry)) (now (old .entry) ++ now (new .entry))) from [] (recordsAt nodeCodec (now (tape .entry)) at count) ⌝ }
 {
     let mut i = 0;
     while i < count {
-        if refers_back(tape, st, words, old, new, at, i, from) {
+        if refers_back(tape, st, words, base, old, new, at, i, from) {
             return true;
         }
+        note_ruby(tape, st, words, base, old, new, at + 49 * i);
         i += 1;
     }
     false
