@@ -1,14 +1,13 @@
 -- The bases of the Rubies passed, as marks in the words from `base` on: each base is marked, so that a string without a mark is none.
-use mathlib.Core.Path.{_≡_, refl, sym, ap, _∙_, subst}
-use Prim.Native.Nat.{ℕ, suc, _+_, _-_, _*_, _≤_, _<_}
-use native.Mathlib.Omega.{arith}
+use mathlib.Core.Path.{_≡_, refl, sym, ap, _∙_}
+use Prim.Native.Nat.{ℕ, _+_, _-_, _*_}
 use native.Mathlib.Numerals.{add-one}
 use native.Mathlib.Nat.{sub-zero}
-use mathlib.Core.Bool.{Bool, true, false, cond, _&&_, _||_, false≢true}
+use mathlib.Core.Bool.{Bool, true, false, cond, _||_, false≢true}
 use mathlib.Core.Option.{Option, none, some}
 use mathlib.Core.List.{List, [], _∷_, _++_}
-use lib.ListN.{length, take}
-use Rattle.model.specs.Lists.{any, same}
+use lib.ListN.{take}
+use Rattle.model.specs.Lists.{any}
 use Rattle.model.specs.Types.{SourceNode}
 use Rattle.model.specs.Store.{NodeStore, resolveStr}
 use Rattle.model.specs.Intern.{fxHash}
@@ -22,9 +21,9 @@ use Rattle.strings.specs.Starts.{storeIn}
 use Rattle.strings.specs.PlainContent.{plainOf, plainString}
 use Rattle.strings.specs.declared.Plain.{Plain}
 use Rattle.strings.specs.declared.Plain.the-variants.{Id, Nothing}
-use Rattle.marks.specs.Marks.{isMarked, markedBy, marked-own, marked-kept, marked-length, marked-front}
+use Rattle.marks.specs.Marks.{isMarked, markedBy, marked-own, marked-kept, marked-front}
 use Rattle.dependency.specs.Bases.{isPlain, hasBase, any-snoc}
-use Rattle.dependency.specs.Sound.{Sound, SoundNode, firstContents, plain-first}
+use Rattle.dependency.specs.Sound.{SoundNode, firstContents, plain-first}
 
 -- `&words[0..base]`, which has the index of the strings
 abbrev pub firstWords : ℕ → List ℕ → List ℕ

@@ -1,8 +1,7 @@
 // A set of hashes as bits of the words from `base` on: what was marked is always found, and another hash seldom is. The words before
 // `base` are left as they are; where there are none behind it, each hash counts as marked.
 ghost use mathlib.Core.Path.{_≡_};
-ghost use Prim.Native.Nat.{_^_, _≤_, _<_};
-ghost use lib.ListN.{length};
+ghost use Prim.Native.Nat.{_^_, _<_};
 ghost use Rattle.marks.specs.Marks.{bit, markPlace, isMarked, markedBy};
 
 fn power(k: u32) -> u32
