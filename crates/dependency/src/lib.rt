@@ -5,7 +5,7 @@
 use strings::Plain;
 ghost use mathlib.Core.Path.{_≡_};
 ghost use mathlib.Core.List.{List, [], _++_};
-ghost use Prim.Native.Nat.{ℕ, _+_, _≤_, _<_};
+ghost use Prim.Native.Nat.{ℕ, _+_, _*_, _≤_, _<_};
 ghost use lib.ListN.{length};
 ghost use Rattle.model.specs.Lists.{any, same as sameBytes};
 ghost use Rattle.model.specs.Tape.{recordAt, recordsAt, nodeCodec};
@@ -14,7 +14,8 @@ ghost use Rattle.model.specs.Region.{isRuby, isReferencedFormat, dependsFrom};
 ghost use Rattle.strings.specs.Starts.{OfTape, storeIn};
 ghost use Rattle.strings.specs.Shown.{Resolvable};
 ghost use Rattle.strings.specs.PlainContent.{plainOf, plainString};
-ghost use Rattle.dependency.specs.Bases.{isPlain, hasBase, amongBases, refersAt};
+ghost use Rattle.dependency.specs.Bases.{isPlain, hasBase, amongBases, asksTarget, refersAt};
+ghost use Rattle.dependency.specs.Asked.{asksAt, countToLast};
 ghost use Rattle.dependency.specs.Sound.{Sound, SoundNode, FirstRange, PlainIn, firstContents};
 ghost use Rattle.dependency.specs.Noted.{firstWords, markedPlain, notedBy, Noted};
 
@@ -41,6 +42,32 @@ pub fn is_referenced_format(tape: &[u8], at: usize) -> bool
         return false;
     }
     tape[at + 16] / 4 == 1
+}
+
+// Number 10 asks for its target: a Referenced Format that ends behind `from`.
+fn asks_target(tape: &[u8], at: usize, from: u32) -> bool
+    requires { ⌜ at + 49 ≤ length (now tape) ⌝ }
+    ensures { λ r. ⌜ r ≡ asksTarget from (recordAt nodeCodec (now (tape .entry)) at) ⌝ }
+{
+    if !is_referenced_format(tape, at) {
+        return false;
+    }
+    from < records::node_end(tape, at)
+}
+
+// How many nodes there are up to the last whose target is asked for: the others need no marks.
+fn asked_nodes(tape: &[u8], at: usize, count: usize, from: u32) -> usize
+    requires { ⌜ at + 49 * count ≤ length (now tape) ⌝ }
+    ensures { λ r. ⌜ r ≡ countToLast count (asksAt from (now (tape .entry)) at) ⌝ }
+{
+    let mut n = count;
+    while 0 < n {
+        if asks_target(tape, at + 49 * (n - 1), from) {
+            return n;
+        }
+        n -= 1;
+    }
+    0
 }
 
 // The contents of a node's first range, if they are one Plain content: the base of a Ruby, the target of a Format.
@@ -212,10 +239,7 @@ fn refers_back<'a>(
     ensures { λ r. ⌜ r ≡ refersAt (storeIn (now (tape .entry)) (now (old .entry) ++ now (new .entry))) from (now (tape .entry)) at i ⌝ }
 {
     let place = at + 49 * i;
-    if !is_referenced_format(tape, place) {
-        return false;
-    }
-    if records::node_end(tape, place) <= from {
+    if !asks_target(tape, place, from) {
         return false;
     }
     let p = first_plain(tape, st, place);
@@ -271,9 +295,8 @@ fn note_ruby<'a>(
     mark_plain(tape, st, words, base, old, new, p);
 }
 
-// Number 10. `has_ruby_format_dependency`. One walk over the nodes: the words before `base` have the index of the strings, those from
-// `base` on take the marks of the bases. They may hold anything; only where they are zeros is a string that is no base told by its mark.
-pub fn has_ruby_format_dependency<'a>(
+// One walk over the nodes, with a mark for each base that it passes.
+fn any_refers_back<'a>(
     tape: &[u8],
     st: store::Store,
     words: &mut [u32],
@@ -297,4 +320,25 @@ pub fn has_ruby_format_dependency<'a>(
         i += 1;
     }
     false
+}
+
+// Number 10. `has_ruby_format_dependency`. The words before `base` have the index of the strings, those from `base` on take the marks of
+// the bases. They may hold anything; only where they are zeros is a string that is no base told by its mark.
+pub fn has_ruby_format_dependency<'a>(
+    tape: &[u8],
+    st: store::Store,
+    words: &mut [u32],
+    base: usize,
+    old: &'a [u8],
+    new: &'a [u8],
+    at: usize,
+    count: usize,
+    from: u32,
+) -> bool
+    requires { ⌜ Sound (now tape) st (firstWords base (now words)) (now old) (now new) at count ⌝ }
+    requires { ⌜ base ≤ length (now words) ⌝ }
+    ensures { λ r. ⌜ r ≡ dependsFrom (storeIn (now (tape .entry)) (now (old .entry) ++ now (new .entry))) from [] (recordsAt nodeCodec (now (tape .entry)) at count) ⌝ }
+{
+    let n = asked_nodes(tape, at, count, from);
+    any_refers_back(tape, st, words, base, old, new, at, n, from)
 }
