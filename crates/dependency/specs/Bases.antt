@@ -29,9 +29,13 @@ unfoldable pub amongBases : NodeStore → List SourceNode → Option (List ℕ) 
 amongBases st ns none = false
 amongBases st ns (some s) = any (hasBase st s) ns
 
+-- Number 10 asks for the target of this node: a Referenced Format that ends behind `from`.
+unfoldable pub asksTarget : ℕ → SourceNode → Bool
+asksTarget from n = isReferencedFormat n && ltb from (n .sourceSpan .end)
+
 -- Number 10, one node: a Referenced Format that ends behind `from` and whose target is the base of an earlier Ruby.
 unfoldable pub refersBack : NodeStore → ℕ → List SourceNode → SourceNode → Bool
-refersBack st from earlier n = isReferencedFormat n && ltb from (n .sourceSpan .end) && amongBases st earlier (firstPlain st n)
+refersBack st from earlier n = asksTarget from n && amongBases st earlier (firstPlain st n)
 
 -- ---- the bases of some nodes, in any order
 
@@ -64,7 +68,7 @@ among-bases st ns (some s) = bases-any st s ns
 record Bases (st : NodeStore) (rubies : List (List ℕ)) (passed : List SourceNode) : Type 0 where
   are : (s : List ℕ) → any (same s) rubies ≡ any (hasBase st s) passed
 
-any-snoc : {A : Type 0} (p : A → Bool) (xs : List A) (x : A) → any p (xs ++ (x ∷ [])) ≡ p x || any p xs
+pub any-snoc : {A : Type 0} (p : A → Bool) (xs : List A) (x : A) → any p (xs ++ (x ∷ [])) ≡ p x || any p xs
 any-snoc p [] x = refl
 any-snoc p (y ∷ ys) x = ap (λ (b : Bool). p y || b) (any-snoc p ys x) ∙ swap (p y) (p x) (any p ys)
   where
@@ -93,7 +97,7 @@ anyRefers st from passed (n ∷ ns) = refersBack st from passed n || anyRefers s
 
 depends-any : (st : NodeStore) (from : ℕ) (rubies : List (List ℕ)) (passed ns : List SourceNode) → Bases st rubies passed
     → dependsFrom st from rubies ns ≡ anyRefers st from passed ns
-unfolding dependsFrom anyRefers refersBack
+unfolding dependsFrom anyRefers refersBack asksTarget
 depends-any st from rubies passed [] b = refl
 depends-any st from rubies passed (n ∷ ns) b =
     ap₂ (λ (x y : Bool). x || y)

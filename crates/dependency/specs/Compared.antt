@@ -1,18 +1,16 @@
 -- A string of the store compared with other bytes, lengths first; and each return of the code above it.
 use mathlib.Core.Path.{_≡_, refl, sym, ap, _∙_}
-use Prim.Native.Nat.{ℕ, suc, _+_, _*_, _≤_, _<_}
+use Prim.Native.Nat.{ℕ, suc, _+_, _*_, _<_}
 use native.Mathlib.Omega.{arith}
 use mathlib.Core.Bool.{Bool, true, false, _&&_}
 use mathlib.Core.Option.{none, some}
 use mathlib.Core.List.{List, _++_}
 use lib.ListN.{length, getD, take, drop, length-append, length-drop}
 use lib.Seq.{length-take-le}
-use lib.Dec.{ltb}
-use borrow.Author.Tests.{lt-ltb, le-ltb}
 use Rattle.model.specs.Lists.{any, same}
 use Rattle.model.specs.Store.{resolveStr}
 use Rattle.model.specs.Tape.{recordAt, recordsAt, nodeCodec, stringCodec}
-use Rattle.model.specs.Region.{isRuby, isReferencedFormat, firstPlain}
+use Rattle.model.specs.Region.{isRuby, firstPlain}
 use Rattle.laws.specs.Checks.{same-eq}
 use Rattle.wire.specs.Loops.{by-bool}
 use Rattle.store.specs.declared.Store.{Store}
@@ -23,7 +21,7 @@ use Rattle.strings.specs.Shown.{TwoSides, Resolvable}
 use Rattle.strings.specs.PlainContent.{plainOf, plainString}
 use Rattle.strings.specs.declared.Plain.{Plain}
 use Rattle.strings.specs.declared.Plain.the-variants.{Id, Nothing}
-use Rattle.dependency.specs.Bases.{isPlain, hasBase, amongBases, refersBack, refersAt}
+use Rattle.dependency.specs.Bases.{isPlain, hasBase, amongBases, asksTarget, refersBack, refersAt}
 use Rattle.dependency.specs.Sound.{SoundNode, firstContents, plain-first}
 
 -- ---- a string and bytes
@@ -85,7 +83,7 @@ module _ (t : List ℕ) (b : List ℕ) (at count : ℕ) where
   target-none e = rw e refl
 
 module _ {t : List ℕ} {st : Store} {words old new : List ℕ} (at i from : ℕ) {p : ℕ} (place : p ≡ at + 49 * i) (n : SoundNode t st words old new p)
-    {x : Bool} (e : x ≡ isReferencedFormat (recordAt nodeCodec t p)) where
+    {x : Bool} (e : x ≡ asksTarget from (recordAt nodeCodec t p)) where
   here : refersAt (storeIn t (old ++ new)) from t at i ≡ refersBack (storeIn t (old ++ new)) from (recordsAt nodeCodec t at i) (recordAt nodeCodec t p)
   unfolding refersAt
   here = ap (λ (k : ℕ). refersBack (storeIn t (old ++ new)) from (recordsAt nodeCodec t at i) (recordAt nodeCodec t k)) (sym place)
@@ -94,14 +92,9 @@ module _ {t : List ℕ} {st : Store} {words old new : List ℕ} (at i from : ℕ
   unfolding refersBack
   refers-other h = sym (here ∙ rw (← e, h) refl)
 
-  module _ (h : x ≡ true) {end : ℕ} (g : end ≡ recordAt nodeCodec t p .sourceSpan .end) where
-    pub refers-early : end ≤ from → false ≡ refersAt (storeIn t (old ++ new)) from t at i
-    unfolding refersBack
-    refers-early k = sym (here ∙ rw (← e, h, le-ltb from (recordAt nodeCodec t p .sourceSpan .end) (omega (arith, k, g))) refl)
-
-    pub refers-target : from < end → {r : Plain} → ((b : List ℕ) → r ≡ plainOf (firstContents t p b))
-        → {y : Bool} → y ≡ amongBases (storeIn t (old ++ new)) (recordsAt nodeCodec t at i) (plainString (storeIn t (old ++ new)) r)
-        → y ≡ refersAt (storeIn t (old ++ new)) from t at i
-    unfolding refersBack
-    refers-target k f q =
-        sym (here ∙ rw (← e, h, lt-ltb from (recordAt nodeCodec t p .sourceSpan .end) (omega (arith, k, g))) (ap (amongBases (storeIn t (old ++ new)) (recordsAt nodeCodec t at i)) (plain-first n f) ∙ sym q))
+  pub refers-target : x ≡ true → {r : Plain} → ((b : List ℕ) → r ≡ plainOf (firstContents t p b))
+      → {y : Bool} → y ≡ amongBases (storeIn t (old ++ new)) (recordsAt nodeCodec t at i) (plainString (storeIn t (old ++ new)) r)
+      → y ≡ refersAt (storeIn t (old ++ new)) from t at i
+  unfolding refersBack
+  refers-target h f q =
+      sym (here ∙ rw (← e, h) (ap (amongBases (storeIn t (old ++ new)) (recordsAt nodeCodec t at i)) (plain-first n f) ∙ sym q))

@@ -26,7 +26,7 @@ use Rattle.strings.specs.Shown.{Resolvable}
 use Rattle.strings.specs.PlainContent.{plainOf, plainString, plain-string}
 use Rattle.strings.specs.declared.Plain.{Plain}
 use Rattle.strings.specs.declared.Plain.the-variants.{Id, Nothing}
-use Rattle.dependency.specs.Bases.{isPlain, hasBase, amongBases, refersBack, refersAt}
+use Rattle.dependency.specs.Bases.{asksTarget}
 
 -- the layers of a tape with these string bytes
 abbrev pub layersIn : List ℕ → List ℕ → List Layer
@@ -129,8 +129,11 @@ module _ {t : List ℕ} {st : Store} {words old new : List ℕ} {p : ℕ} (s : S
   pub ruby-first : {x : Bool} → x ≡ isRuby (recordAt nodeCodec t p) → x ≡ true → FirstRange t st p
   ruby-first e h = range-in (ruby-range (layersIn t (old ++ new)) (recordAt nodeCodec t p) (s .node) (sym e ∙ h))
 
-  pub format-first : {x : Bool} → x ≡ isReferencedFormat (recordAt nodeCodec t p) → x ≡ true → FirstRange t st p
-  format-first e h = range-in (format-range (layersIn t (old ++ new)) (recordAt nodeCodec t p) (s .node) (sym e ∙ h))
+  pub format-first : {x : Bool} (from : ℕ) → x ≡ asksTarget from (recordAt nodeCodec t p) → x ≡ true → FirstRange t st p
+  unfolding asksTarget
+  format-first from e h =
+      let b = both (isReferencedFormat (recordAt nodeCodec t p)) (ltb from (recordAt nodeCodec t p .sourceSpan .end)) (sym e ∙ h) in
+      range-in (format-range (layersIn t (old ++ new)) (recordAt nodeCodec t p) (s .node) (b .0))
 
   module _ {r : Plain} (e : (b : List ℕ) → r ≡ plainOf (firstContents t p b)) where
     pub plain-first : firstPlain (storeIn t (old ++ new)) (recordAt nodeCodec t p) ≡ plainString (storeIn t (old ++ new)) r
@@ -167,3 +170,7 @@ module _ (t : List ℕ) (p : ℕ) {start len : ℕ} (e : start ≡ wordOf (bodyA
 -- the last node of a run
 pub sound-last : {t : List ℕ} {st : Store} {words old new : List ℕ} {at : ℕ} (i : ℕ) → Sound t st words old new at (i + 1) → SoundNode t st words old new (at + 49 * i)
 sound-last i s = sound-node {i = i} s (omega arith)
+
+-- by another index of the same words
+pub sound-index : {t : List ℕ} {st : Store} {words index old new : List ℕ} {at count : ℕ} → index ≡ words → Sound t st words old new at count → Sound t st index old new at count
+sound-index e s = rw e s

@@ -1,4 +1,5 @@
 pub mod Chosen
 pub mod Ready
 pub mod Stage
+pub mod Words
 pub mod Entry

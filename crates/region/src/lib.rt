@@ -1,17 +1,21 @@
 // Numbers 8 to 11, document 01 section 6: where a correction's passage begins and ends. `chosen_region` is the stage for a book that
 // passed 1 to 7; `choose_region` is the entry, on any tape and bytes; `region_text` hands the passage on as a part of the text.
-// Number 10 asks strings of the book, by an index in the lent words: any number of them will do, also none.
+// Number 10 asks strings of the book, by an index in the first half of the lent words, and marks bases in the second: any number of
+// words will do, also none.
 ghost use mathlib.Core.Path.{_≡_};
 ghost use mathlib.Core.List.{List};
-ghost use Prim.Native.Nat.{ℕ, _-_};
+ghost use Prim.Native.Nat.{ℕ, _-_, _≤_};
 ghost use lib.ListN.{length};
 ghost use Rattle.model.specs.Bytes.{part};
 ghost use Rattle.model.specs.Tape.{places as placesIn, bookAt};
 ghost use Rattle.model.specs.Region.{chosenRegion, chooseRegion, hasRubyFormatDependency};
 ghost use Rattle.wire.specs.Overwrite.{zeros};
+ghost use Rattle.strings.specs.Starts.{lengthsIn, Readable};
+ghost use Rattle.dependency.specs.Noted.{firstWords};
 ghost use Rattle.edit.specs.Numbers.{editOf};
 ghost use Rattle.region.specs.Chosen.{chosenOf, wholeText};
 ghost use Rattle.region.specs.Ready.{Ready};
+ghost use Rattle.region.specs.Words.{indexedWords};
 
 // The region in offsets of the old text, or a number up to 11.
 pub enum Chosen {
@@ -35,10 +39,12 @@ fn depends(
     bytes: &[u8],
     p: places::Places,
     st: store::Store,
-    words: &[u32],
+    words: &mut [u32],
+    base: usize,
     from: u32,
 ) -> bool
-    requires { ⌜ Ready (now tape) (now bytes) p st (now words) ⌝ }
+    requires { ⌜ Ready (now tape) (now bytes) p st (firstWords base (now words)) ⌝ }
+    requires { ⌜ base ≤ length (now words) ⌝ }
     ensures { λ r. ⌜ ((end : ℕ) (replacement : List ℕ) → r ≡ hasRubyFormatDependency (bookAt (now (tape .entry)) (placesIn (now (tape .entry))) (now (bytes .entry))) (editOf from end replacement)) ⌝ }
 {
     let first = p.text as usize + p.normalized as usize;
@@ -48,6 +54,7 @@ fn depends(
         tape,
         st,
         words,
+        base,
         &bytes[first..cut],
         &bytes[cut..bytes.len()],
         p.nodes.at,
@@ -56,18 +63,20 @@ fn depends(
     )
 }
 
-// Numbers 8 to 11 of a book that passed 1 to 7.
+// Numbers 8 to 11 of a book that passed 1 to 7: the words before `base` have the index of its strings.
 pub fn chosen_region(
     tape: &[u8],
     bytes: &[u8],
     p: places::Places,
     st: store::Store,
-    words: &[u32],
+    words: &mut [u32],
+    base: usize,
     start: u32,
     end: u32,
     replacement: &[u8],
 ) -> Chosen
-    requires { ⌜ Ready (now tape) (now bytes) p st (now words) ⌝ }
+    requires { ⌜ Ready (now tape) (now bytes) p st (firstWords base (now words)) ⌝ }
+    requires { ⌜ base ≤ length (now words) ⌝ }
     ensures { λ r. ⌜ r ≡ chosenOf (chosenRegion (bookAt (now (tape .entry)) (placesIn (now (tape .entry))) (now (bytes .entry))) (editOf start end (now (replacement .entry)))) ⌝ }
 {
     let text = &bytes[0..p.text as usize];
@@ -75,7 +84,7 @@ pub fn chosen_region(
     if n != 0 {
         return Chosen::Refused(n);
     }
-    if depends(tape, bytes, p, st, words, start) {
+    if depends(tape, bytes, p, st, words, base, start) {
         return Chosen::Refused(10);
     }
     let r = cuts::balanced_region(tape, text, p.nodes, p.pairs, start as usize, end as usize);
@@ -85,7 +94,18 @@ pub fn chosen_region(
     Chosen::Region(r.start as u32, r.end as u32)
 }
 
-// Numbers 1 to 11, with an index of the book's strings left in the words.
+// An index of the book's strings in the words before `base`, zeros in the others.
+fn index_words(tape: &[u8], st: store::Store, room: usize, words: &mut [u32], base: usize)
+    requires { ⌜ Readable (now tape) st room ⌝ }
+    requires { ⌜ base ≤ length (now words) ⌝ }
+    ensures { λ _. ⌜ now (words .exit) ≡ indexedWords (lengthsIn (now (tape .entry))) base (now (words .entry)) ⌝ }
+{
+    let end = words.len();
+    strings::index_strings(tape, st, room, &mut words[0..base]);
+    wire::zero_words(&mut words[base..end]);
+}
+
+// Numbers 1 to 11, with an index of the book's strings and the marks of its bases left in the words.
 fn region_by_index(
     tape: &[u8],
     bytes: &[u8],
@@ -102,8 +122,9 @@ fn region_by_index(
     }
     let p = places::places_of(tape, bytes);
     let st = store::store_of(tape, p.layers);
-    strings::index_strings(tape, st, bytes.len(), words);
-    chosen_region(tape, bytes, p, st, words, start, end, replacement)
+    let base = words.len() / 2;
+    index_words(tape, st, bytes.len(), words, base);
+    chosen_region(tape, bytes, p, st, words, base, start, end, replacement)
 }
 
 // `choose_region`: choosing the region alone runs up to 11. The words come back as zeros.

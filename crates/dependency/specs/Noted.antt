@@ -1,0 +1,134 @@
+-- The bases of the Rubies passed, as marks in the words from `base` on: each base is marked, so that a string without a mark is none.
+use mathlib.Core.Path.{_≡_, refl, sym, ap, _∙_}
+use Prim.Native.Nat.{ℕ, _+_, _-_, _*_}
+use native.Mathlib.Numerals.{add-one}
+use native.Mathlib.Nat.{sub-zero}
+use mathlib.Core.Bool.{Bool, true, false, cond, _||_, false≢true}
+use mathlib.Core.Option.{Option, none, some}
+use mathlib.Core.List.{List, [], _∷_, _++_}
+use lib.ListN.{take}
+use Rattle.model.specs.Lists.{any}
+use Rattle.model.specs.Types.{SourceNode}
+use Rattle.model.specs.Store.{NodeStore, resolveStr}
+use Rattle.model.specs.Intern.{fxHash}
+use Rattle.model.specs.Tape.{recordAt, recordsAt, nodeCodec}
+use Rattle.model.specs.Region.{isRuby, firstPlain}
+use Rattle.laws.specs.Lists.{both}
+use Rattle.laws.specs.Checks.{same-eq}
+use Rattle.wire.specs.Loops.{by-bool, tabulate-last}
+use Rattle.store.specs.declared.Store.{Store}
+use Rattle.strings.specs.Starts.{storeIn}
+use Rattle.strings.specs.PlainContent.{plainOf, plainString}
+use Rattle.strings.specs.declared.Plain.{Plain}
+use Rattle.strings.specs.declared.Plain.the-variants.{Id, Nothing}
+use Rattle.marks.specs.Marks.{isMarked, markedBy, marked-own, marked-kept, marked-front}
+use Rattle.dependency.specs.Bases.{isPlain, hasBase, any-snoc}
+use Rattle.dependency.specs.Sound.{SoundNode, firstContents, plain-first}
+
+-- `&words[0..base]`, which has the index of the strings
+abbrev pub firstWords : ℕ → List ℕ → List ℕ
+firstWords base words = take (base - 0) words
+
+-- the mark of a string; None has none
+unfoldable pub markedPlain : List ℕ → ℕ → Option (List ℕ) → List ℕ
+markedPlain words base none = words
+markedPlain words base (some s) = markedBy words base (fxHash s)
+
+-- the mark of a Ruby's plain base; other nodes have none
+unfoldable pub notedBy : NodeStore → List ℕ → ℕ → SourceNode → List ℕ
+notedBy st words base n = cond (isRuby n) (markedPlain words base (firstPlain st n)) words
+
+-- each plain base of a Ruby among these nodes is marked
+pub record Noted (st : NodeStore) (ns : List SourceNode) (words : List ℕ) (base : ℕ) : Type 0 where
+  pub found : (s : List ℕ) → any (hasBase st s) ns ≡ true → isMarked words base (fxHash s) ≡ true
+
+-- ---- a mark more
+
+plain-own : (words : List ℕ) (base : ℕ) (s : List ℕ) (p : Option (List ℕ)) → isPlain s p ≡ true → isMarked (markedPlain words base p) base (fxHash s) ≡ true
+unfolding isPlain markedPlain
+plain-own words base s none e = absurd (false≢true e)
+plain-own words base s (some x) e =
+    ap (λ (y : List ℕ). isMarked (markedBy words base (fxHash x)) base (fxHash y)) (same-eq s x e) ∙ marked-own words base (fxHash x)
+
+plain-kept : (words : List ℕ) (base h : ℕ) (p : Option (List ℕ)) → isMarked words base h ≡ true → isMarked (markedPlain words base p) base h ≡ true
+unfolding markedPlain
+plain-kept words base h none e = e
+plain-kept words base h (some x) e = marked-kept words base (fxHash x) h e
+
+plain-front : (words : List ℕ) (base : ℕ) (p : Option (List ℕ)) → take base (markedPlain words base p) ≡ take base words
+unfolding markedPlain
+plain-front words base none = refl
+plain-front words base (some x) = marked-front words base (fxHash x)
+
+module _ (st : NodeStore) (words : List ℕ) (base : ℕ) (n : SourceNode) where
+  own : (s : List ℕ) → hasBase st s n ≡ true → isMarked (notedBy st words base n) base (fxHash s) ≡ true
+  unfolding hasBase notedBy
+  own s e = let b = both (isRuby n) (isPlain s (firstPlain st n)) e in rw (b .0) (plain-own words base s (firstPlain st n) (b .1))
+
+  kept : (h : ℕ) → isMarked words base h ≡ true → isMarked (notedBy st words base n) base h ≡ true
+  unfolding notedBy
+  kept h e =
+      by-bool (isRuby n)
+      (λ r. rw r (plain-kept words base h (firstPlain st n) e))
+      (λ r. rw r e)
+
+  front : take base (notedBy st words base n) ≡ take base words
+  unfolding notedBy
+  front =
+      by-bool (isRuby n)
+      (λ r. rw r (plain-front words base (firstPlain st n)))
+      (λ r. rw r refl)
+
+  pub noted-front : {after : List ℕ} → after ≡ notedBy st words base n → firstWords base after ≡ firstWords base words
+  noted-front e = ap (firstWords base) e ∙ rw (sub-zero base) front
+
+  noted-more : {ns : List SourceNode} → Noted st ns words base → Noted st (ns ++ (n ∷ [])) (notedBy st words base n) base
+  noted-more {ns} m = record {
+    found = λ s e.
+        by-bool (hasBase st s n)
+        (λ r. own s r)
+        (λ r. kept (fxHash s) (m .found s (sym (any-snoc (hasBase st s) ns n ∙ ap (λ (b : Bool). b || any (hasBase st s) ns) r) ∙ e)));
+  }
+
+-- ---- over a run of nodes
+
+module _ (st : NodeStore) (t : List ℕ) (at : ℕ) (words : List ℕ) (base : ℕ) where
+  pub noted-none : Noted st (recordsAt nodeCodec t at 0) words base
+  unfolding recordsAt
+  noted-none = record { found = λ s e. absurd (false≢true e) }
+
+  pub noted-next : (i : ℕ) {after : List ℕ} → Noted st (recordsAt nodeCodec t at i) words base → after ≡ notedBy st words base (recordAt nodeCodec t (at + 49 * i))
+      → Noted st (recordsAt nodeCodec t at (i + 1)) after base
+  unfolding recordsAt nodeCodec
+  noted-next i m e =
+      rw (e, add-one i, tabulate-last i (λ (k : ℕ). recordAt nodeCodec t (at + 49 * k))) (noted-more st words base (recordAt nodeCodec t (at + 49 * i)) m)
+
+-- ---- each return of the code
+
+-- a string without a mark
+pub base-unmarked : {st : NodeStore} {ns : List SourceNode} {words : List ℕ} {base : ℕ} → Noted st ns words base → (s : List ℕ) {h : ℕ} → h ≡ fxHash s → {x : Bool}
+    → x ≡ isMarked words base h → x ≡ false → false ≡ any (hasBase st s) ns
+base-unmarked {st} {ns} {words} {base} m s e q f =
+    by-bool (any (hasBase st s) ns)
+    (λ r. sym f ∙ q ∙ ap (isMarked words base) e ∙ m .found s r ∙ sym r)
+    (λ r. sym r)
+
+module _ (st : NodeStore) (words : List ℕ) (base : ℕ) where
+  pub mark-some : (id : ℕ) {r : Plain} → r ≡ Id id → {s : List ℕ} → s ≡ resolveStr st id → {h : ℕ} → h ≡ fxHash s → {after : List ℕ} → after ≡ markedBy words base h
+      → after ≡ markedPlain words base (plainString st r)
+  unfolding markedPlain plainString
+  mark-some id e f g q = rw e (q ∙ ap (markedBy words base) (g ∙ ap fxHash f))
+
+  pub mark-none : {r : Plain} → r ≡ Nothing → words ≡ markedPlain words base (plainString st r)
+  unfolding markedPlain plainString
+  mark-none e = rw e refl
+
+module _ {t : List ℕ} {st : Store} {index old new : List ℕ} (words : List ℕ) (base : ℕ) {p : ℕ} (n : SoundNode t st index old new p) {x : Bool} (e : x ≡ isRuby (recordAt nodeCodec t p)) where
+  pub note-other : x ≡ false → words ≡ notedBy (storeIn t (old ++ new)) words base (recordAt nodeCodec t p)
+  unfolding notedBy
+  note-other h = rw (← e, h) refl
+
+  pub note-ruby : x ≡ true → {r : Plain} → ((b : List ℕ) → r ≡ plainOf (firstContents t p b)) → {after : List ℕ}
+      → after ≡ markedPlain words base (plainString (storeIn t (old ++ new)) r) → after ≡ notedBy (storeIn t (old ++ new)) words base (recordAt nodeCodec t p)
+  unfolding notedBy
+  note-ruby h g q = rw (← e, h) (q ∙ ap (markedPlain words base) (sym (plain-first n g)))

@@ -1,0 +1,17 @@
+use Rattle.marks.specs.Marks.{power-fits}
+use borrow.Author.Needs.{needs}
+use Rattle.marks.proofs.power.Statement.{statement}
+use Rattle.marks.proofs.power.Tie as tie
+use Rattle.marks.proofs.power.Reads as reads
+use Rattle.marks.proofs.power.Lts as lts
+
+-- src/lib.rt:12:5
+shl-result : tie.Need-shl-result
+shl-result c = search needs
+
+-- src/lib.rt:8:1
+returns : tie.Need-returns
+returns c = power-fits _ (c .pre)
+
+pub power-spec : {M : Type 1} → statement M
+power-spec = tie.close (tie.spec shl-result returns)
