@@ -8,7 +8,7 @@ use Rattle.model.specs.Lists.{ascii}
 use Rattle.model.specs.Types.{SourceNode, PairLink}
 use Rattle.model.specs.Region.{depthBehind, depth, nodesBefore, nodesAllowCut, pairsAllowCut, blankLineBefore}
 use Rattle.cuts.specs.Safe.{safeCutIn, cutAllowed, regionStartIn, regionEndIn}
-use Rattle.cuts.specs.Pairs.{acrossOf, startOr, endOr}
+use Rattle.cuts.specs.Pairs.{acrossOf, widened, joined, startOr, endOr}
 use Rattle.cuts.specs.EndSearch.{nextTry}
 use Rattle.cuts.specs.StartSearch.{earlierTry, lastTry}
 
@@ -52,5 +52,5 @@ blocks = (refl, refl, refl, refl)
 -- the search goes on where the pair across the offset ends, and back where it starts
 pairs-across : (nextTry lines (pairOf 3 9 ∷ []) 7 ≡ 9) × (regionEndIn lines [] (pairOf 3 9 ∷ []) 9 3 ≡ 10)
     × (earlierTry lines (pairOf 3 9 ∷ []) 7 ≡ 3) × (lastTry lines (pairOf 3 9 ∷ []) 1 9 9 ≡ 2) × (regionStartIn lines [] (pairOf 3 9 ∷ []) 9 ≡ 2)
-unfolding nextTry acrossOf startOr endOr earlierTry lastTry regionStartIn regionEndIn safeCutIn cutAllowed blankLineBefore nodesAllowCut nodesBefore depth pairsAllowCut
+unfolding nextTry acrossOf widened joined startOr endOr earlierTry lastTry regionStartIn regionEndIn safeCutIn cutAllowed blankLineBefore nodesAllowCut nodesBefore depth pairsAllowCut
 pairs-across = (refl, refl, refl, refl, refl)

@@ -12,7 +12,7 @@ ghost use Rattle.model.specs.Region.{nodesAllowCut, pairsAllowCut};
 ghost use Rattle.bounds.specs.Search.{InOrder};
 ghost use Rattle.cuts.specs.Safe.{safeCutIn, regionEndIn, regionStartIn, regionOf, balancedIn};
 ghost use Rattle.cuts.specs.Offsets.{firstIn};
-ghost use Rattle.cuts.specs.Pairs.{acrossOf, pairsOf, isNothing, startOr, endOr};
+ghost use Rattle.cuts.specs.Pairs.{joined, widened, acrossOf, pairsOf, isNothing, startOr, endOr};
 ghost use Rattle.cuts.specs.Gaps.{depthsZero, nodesOf, NodesIn};
 ghost use Rattle.cuts.specs.EndSearch.{nextTry, textPairsAllow, gapFirst};
 ghost use Rattle.cuts.specs.Unmatched.{closesNothing, isUnmatched, lastUnmatched, depthsPast, depthsBefore, noDepths, gapFrom, Front};
@@ -106,7 +106,7 @@ pub fn warichu_depth(tape: &[u8], at: usize, depth: usize) -> usize
     depth_behind(is_warichu_open(tape, at), is_warichu_close(tape, at), depth)
 }
 
-// A pair across an offset: where it opens and where it ends.
+// The pairs across an offset: where the first opens and where the last ends.
 pub enum Across {
     Pair(u32, u32),
     Nothing,
@@ -135,22 +135,56 @@ fn is_across(start: u32, end: u32, o: usize) -> bool
     o < end as usize
 }
 
-// Section 6. The first pair with open start < offset < close end.
+fn least(a: u32, b: u32) -> u32
+    ensures { λ r. ⌜ r ≡ min a b ⌝ }
+{
+    if a < b {
+        return a;
+    }
+    b
+}
+
+fn greatest(a: u32, b: u32) -> u32
+    ensures { λ r. ⌜ r ≡ max a b ⌝ }
+{
+    if a < b {
+        return b;
+    }
+    a
+}
+
+// From where to where two pairs across an offset reach.
+fn joined(a: Across, start: u32, end: u32) -> Across
+    ensures { λ r. ⌜ r ≡ joined a start end ⌝ }
+{
+    match a {
+        Across::Pair(first, last) => Across::Pair(least(first, start), greatest(last, end)),
+        Across::Nothing => Across::Pair(start, end),
+    }
+}
+
+fn widened(a: Across, start: u32, end: u32, o: usize) -> Across
+    ensures { λ r. ⌜ r ≡ widened a start end o ⌝ }
+{
+    if !is_across(start, end, o) {
+        return a;
+    }
+    joined(a, start, end)
+}
+
+// Section 6. The pairs with open start < offset < close end: from the least start to the greatest end.
 pub fn pair_across(tape: &[u8], pairs: places::Run, o: usize) -> Across
     requires { ⌜ pairs .at + 18 * pairs .count ≤ length (now tape) ⌝ }
     ensures { λ r. ⌜ r ≡ acrossOf (pairsOf (now (tape .entry)) pairs) o ⌝ }
 {
-    let mut i = 0;
-    while i < pairs.count {
+    let mut a = Across::Nothing;
+    let mut i = pairs.count;
+    while 0 < i {
+        i -= 1;
         let p = pairs.at + 18 * i;
-        let start = pair_start(tape, p);
-        let end = pair_end(tape, p);
-        if is_across(start, end, o) {
-            return Across::Pair(start, end);
-        }
-        i += 1;
+        a = widened(a, pair_start(tape, p), pair_end(tape, p), o);
     }
-    Across::Nothing
+    a
 }
 
 fn is_nothing(a: Across) -> bool
@@ -162,7 +196,7 @@ fn is_nothing(a: Across) -> bool
     }
 }
 
-// Where the pair starts, else the offset itself.
+// Where they start, else the offset itself.
 fn start_or(a: Across, o: usize) -> usize
     ensures { λ r. ⌜ r ≡ startOr a o ⌝ }
 {
