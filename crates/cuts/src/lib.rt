@@ -1,7 +1,9 @@
 // Safe cuts and the two ends of a region, document 01 section 6, over the text, the nodes and the pairs of a book's tape.
 // `safe_cut` asks about one offset, by a walk over the nodes and one over the pairs. The ends of a region are not found by
 // asking it of each newline: an offset that the nodes allow lies in a gap between two of them behind which both depths are 0,
-// so one walk over the nodes meets all of them, and the pairs are walked only for an offset that text and nodes allow.
+// so one walk over the nodes meets all of them, and the pairs are walked only for an offset that text and nodes allow. The end is
+// found by one walk. For the start one walk counts the depths and one goes back from gap to gap; depths can be counted backwards
+// only as far as the last close without an open, so there are two walks more for each such close that the search passes.
 ghost use mathlib.Core.Path.{_≡_};
 ghost use mathlib.Core.Bool.{cond};
 ghost use Prim.Native.Nat.{_+_, _-_, _*_, _≤_, _<_, max, min};

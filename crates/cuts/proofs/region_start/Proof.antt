@@ -1,6 +1,5 @@
 use mathlib.Core.Path.{refl, sym, _∙_}
 use native.Mathlib.Omega.{arith}
-use borrow.Author.Needs.{needs}
 use Rattle.cuts.specs.StartSearch.{start-end}
 use Rattle.cuts.specs.Walks.{StartWalk, start-walk-none, start-front, start-falls, start-walk-found, start-walk-first, start-walk-more, start-walk-done}
 use Rattle.cuts.proofs.region_start.Statement.{statement}
