@@ -128,6 +128,14 @@ fn nested(n: usize) -> Book {
     b
 }
 
+// a close without an open in each paragraph
+fn unmatched(n: usize) -> Book {
+    let mut b = Book::default();
+    b.put("はじめ\n\n");
+    for _ in 0..n { b.put("青空文庫の本\n"); b.block("［ここで字下げ終わり］", 3); b.put("\n"); }
+    b
+}
+
 fn measure(label: &str, b: &Book, at: usize) {
     let (t, d) = b.done();
     let mut w = vec![0u32; 16384];
@@ -173,6 +181,10 @@ fn main() {
     for n in [100, 1000, 10000] {
         let b = nested(n);
         measure(&format!("{n} brackets in brackets across blank lines, edit at the end"), &b, b.text.len() - 1);
+    }
+    for n in [1000, 10000, 100000] {
+        let b = unmatched(n);
+        measure(&format!("{n} closes without an open, edit at the end"), &b, b.text.len() - 1);
     }
     let b = bracketed(5000, 4);
     measure("5000 brackets across blank lines with 4 rubies in each, edit at the end", &b, b.text.len() - 1);

@@ -17,6 +17,7 @@ use Rattle.cuts.specs.Offsets.{lastFrom, Latest, last-or, last-is, LastO
 use Rattle.cuts.specs.Pairs.{startOr, acrossOf, start-at-most, around, start-free, start-covers}
 use Rattle.cuts.specs.Gaps.{depthsZero}
 use Rattle.cuts.specs.EndSearch.{textPairsAllow, allowed-there, allowed-not}
+use Rattle.cuts.specs.Blank.{textNodesAllow}
 use Rattle.cuts.specs.declared.Across.{Across}
 
 -- the next offset to try, from c downwards: c itself if text and pairs allow it; those that are passed over they refuse
@@ -156,6 +157,10 @@ module _ (text : List ℕ) (ps : List PairLink) (blocks warichu lo hi : ℕ) (x 
 module _ (text : List ℕ) (ns : List SourceNode) (ps : List PairLink) where
   both-refuse : (k : ℕ) → textPairsAllow text ps k ≡ false → cutAllowed text ns ps k ≡ false
   both-refuse k f = by-bool (nodesAllowCut ns k) (λ e. allowed-there text ns ps k e ∙ f) (λ e. allowed-not text ns ps k e)
+
+  pub refused-text : (k : ℕ) → textNodesAllow text ns k ≡ false → cutAllowed text ns ps k ≡ false
+  unfolding cutAllowed textNodesAllow
+  refused-text k f = rw f refl
 
   pub gap-down : (blocks warichu lo hi : ℕ) → 1 ≤ lo → ((c : ℕ) → lo ≤ c → c ≤ hi → nodesAllowCut ns c ≡ depthsZero blocks warichu)
       → (r : ℕ) → r ≡ gapLast text ps blocks warichu lo hi → Down (cutAllowed text ns ps) lo hi r

@@ -20,7 +20,8 @@ use Rattle.cuts.specs.Gaps.{walked-more, NodesIn, walked-span, walked-re
 use Rattle.cuts.specs.EndSearch.{gapFirst, end-last, gap-searched, Searched, end-found, refused-on, allowed-not}
 use Rattle.cuts.specs.Unmatched.{depthsAt, depthsBefore, noDepths, gapFrom, Front, front-of, unmatched-small, blocks-back, warichu-back}
 use Rattle.cuts.specs.Unmatched.{GapAt, gap-at, gap-next, gap-rises}
-use Rattle.cuts.specs.StartSearch.{gapLast, lastCut, Down, gap-down, cut-found, cut-none, cut-over, endsBehindNewline, start-none}
+use Rattle.cuts.specs.Blank.{lastAllowed, cut-latest}
+use Rattle.cuts.specs.StartSearch.{refused-text, gapLast, lastCut, Down, gap-down, cut-found, cut-none, cut-over, endsBehindNewline, start-none}
 use Rattle.cuts.specs.StartSearch.{start-found, start-more}
 use Rattle.cuts.specs.declared.Depths.{Depths}
 
@@ -233,29 +234,33 @@ module _ {text t : List ℕ} {r p : Run} {o bound front : ℕ} (w : StartWalk te
 
       -- from the last unmatched close on, downwards
       pub start-walk-more : c ≤ 0 → (d .unmatched ≡ 0 → ⊥) → (front′ : ℕ) → front′ ≡ d .unmatched - 1
-          → (start : ℕ) → start ≡ nodeAt t r front′ .sourceSpan .start → (bound′ : ℕ) → bound′ ≡ min bound start → StartWalk text t r p o bound′ front′
-      start-walk-more z h front′ s start a bound′ m =
+          → (start : ℕ) → start ≡ nodeAt t r front′ .sourceSpan .start → (hi : ℕ) → hi ≡ min bound start
+          → (bound′ : ℕ) → bound′ ≡ lastAllowed text (nodesOf t r) hi → StartWalk text t r p o bound′ front′
+      start-walk-more z h front′ s start a hi m bound′ last =
           let v : d .unmatched ≡ front′ + 1 = omega (arith, h) in
           let l : front′ < r .count = omega (arith, start-falls, w .within) in
           let g = gap-of t r n front′ (omega arith) in
           let end : gapFrom t r (d .unmatched) ≡ nodeAt t r front′ .sourceSpan .end = ap (gapFrom t r) v ∙ gap-next t r front′ in
           let inner = walked-refused (g .walked) l start (nodeAt t r front′ .sourceSpan .end) a refl in
           let all = behind-gap z in
+          let latest = cut-latest text (nodesOf t r) hi bound′ last in
           record {
             inside = w .inside;
             notEnd = w .notEnd;
-            below = omega (arith, m, w .below);
+            below = omega (arith, m, latest .1, w .below);
             within = omega arith;
-            before = λ b. omega (arith, a, m);
+            before = λ b. omega (arith, a, m, latest .1);
             none = record {
               fails = λ k x y.
-                  by-bool (ltb k (bound + 1))
+                  by-bool (ltb k (hi + 1))
+                  (λ u. refused-text text (nodesOf t r) (pairsOf t p) k (latest .0 .behind .fails k x (ltb-true k (hi + 1) u)))
+                  (λ v. let z₁ = ltb-false k (hi + 1) v in by-bool (ltb k (bound + 1))
                   (λ u. by-bool (ltb k (gapFrom t r (d .unmatched)))
                   (λ i.
                   let x₁ = ltb-true k (bound + 1) u in
                   let y₁ = ltb-true k (gapFrom t r (d .unmatched)) i in
                   allowed-not text (nodesOf t r) (pairsOf t p) k (inner .fails k (omega (arith, m)) (omega (arith, end))))
                   (λ i. all .fails k (ltb-false k (gapFrom t r (d .unmatched)) i) y))
-                  (λ u. w .none .fails k (ltb-false k (bound + 1) u) y);
+                  (λ u. w .none .fails k (ltb-false k (bound + 1) u) y));
             };
           }

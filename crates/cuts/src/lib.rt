@@ -3,7 +3,8 @@
 // asking it of each newline: an offset that the nodes allow lies in a gap between two of them behind which both depths are 0,
 // so one walk over the nodes meets all of them, and the pairs are walked only for an offset that text and nodes allow. The end is
 // found by one walk. For the start one walk counts the depths and one goes back from gap to gap; depths can be counted backwards
-// only as far as the last close without an open, so there are two walks more for each such close that the search passes.
+// only as far as the last close without an open. Before such a close one walk finds the last offset that text and nodes allow, and
+// the search begins again there: so walks are added only where such a close lies between two offsets that pairs refuse.
 ghost use mathlib.Core.Path.{_≡_};
 ghost use mathlib.Core.Bool.{cond};
 ghost use Prim.Native.Nat.{_+_, _-_, _*_, _≤_, _<_, max, min};
@@ -13,11 +14,12 @@ ghost use Rattle.model.specs.Region.{blankLineBefore, isBlockOpen, isBlockClose
 ghost use Rattle.model.specs.Region.{nodesAllowCut, pairsAllowCut};
 ghost use Rattle.bounds.specs.Search.{InOrder};
 ghost use Rattle.cuts.specs.Safe.{safeCutIn, regionEndIn, regionStartIn, regionOf, balancedIn};
-ghost use Rattle.cuts.specs.Offsets.{firstIn};
+ghost use Rattle.cuts.specs.Offsets.{firstIn, lastFrom};
 ghost use Rattle.cuts.specs.Pairs.{joined, widened, acrossOf, pairsOf, isNothing, startOr, endOr};
 ghost use Rattle.cuts.specs.Gaps.{depthsZero, nodesOf, NodesIn};
 ghost use Rattle.cuts.specs.EndSearch.{nextTry, textPairsAllow, gapFirst};
 ghost use Rattle.cuts.specs.Unmatched.{closesNothing, isUnmatched, lastUnmatched, depthsPast, depthsBefore, noDepths, gapFrom, Front};
+ghost use Rattle.cuts.specs.Blank.{gapBlank, lastAllowed};
 ghost use Rattle.cuts.specs.StartSearch.{earlierTry, lastTry, gapLast, lastCut, endsBehindNewline};
 
 // Section 6. Two newline bytes before an offset.
@@ -556,6 +558,58 @@ fn last_cut(
     0
 }
 
+// The last blank line from lo on and before hi, else d.
+fn last_blank(text: &[u8], lo: usize, hi: usize, d: usize) -> usize
+    requires { ⌜ hi ≤ length (now text) + 1 ⌝ }
+    ensures { λ r. ⌜ r ≡ lastFrom (blankLineBefore (now (text .entry))) (hi - lo) lo d ⌝ }
+{
+    let mut c = hi;
+    while lo < c {
+        if blank_line_before(text, c - 1) {
+            return c - 1;
+        }
+        c -= 1;
+    }
+    d
+}
+
+// The same of a gap where the nodes before it leave these depths.
+fn gap_blank(text: &[u8], lo: usize, hi: usize, blocks: usize, warichu: usize, d: usize) -> usize
+    requires { ⌜ hi ≤ length (now text) + 1 ⌝ }
+    ensures { λ r. ⌜ r ≡ gapBlank (now (text .entry)) blocks warichu lo hi d ⌝ }
+{
+    if !depths_zero(blocks, warichu) {
+        return d;
+    }
+    last_blank(text, lo, hi, d)
+}
+
+// The last offset at or before `bound` that text and nodes allow, else 0.
+fn last_allowed(tape: &[u8], text: &[u8], nodes: places::Run, bound: usize) -> usize
+    requires { ⌜ (nodes .at + 49 * nodes .count ≤ length (now tape)) × (bound ≤ length (now text)) ⌝ }
+    requires { ⌜ InOrder (nodesOf (now tape) nodes) ⌝ }
+    ensures { λ r. ⌜ r ≡ lastAllowed (now (text .entry)) (nodesOf (now (tape .entry)) nodes) bound ⌝ }
+{
+    let mut from: usize = 0;
+    let mut blocks: usize = 0;
+    let mut warichu: usize = 0;
+    let mut last: usize = 0;
+    let mut i = 0;
+    while i < nodes.count {
+        let p = nodes.at + 49 * i;
+        let start = records::node_start(tape, p) as usize;
+        if bound <= start {
+            return gap_blank(text, from, bound + 1, blocks, warichu, last);
+        }
+        last = gap_blank(text, from, start + 1, blocks, warichu, last);
+        from = records::node_end(tape, p) as usize;
+        blocks = block_depth(tape, p, blocks);
+        warichu = warichu_depth(tape, p, warichu);
+        i += 1;
+    }
+    gap_blank(text, from, bound + 1, blocks, warichu, last)
+}
+
 // The length behind a newline.
 fn ends_behind_newline(text: &[u8], o: usize) -> bool
     requires { ⌜ o ≤ length (now text) ⌝ }
@@ -604,10 +658,8 @@ pub fn region_start(
             return 0;
         }
         front = d.unmatched - 1;
-        bound = earlier(
-            bound,
-            records::node_start(tape, nodes.at + 49 * front) as usize,
-        );
+        let start = records::node_start(tape, nodes.at + 49 * front) as usize;
+        bound = last_allowed(tape, text, nodes, earlier(bound, start));
     }
     0
 }
