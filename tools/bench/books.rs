@@ -114,6 +114,28 @@ fn bracketed(n: usize, rubies: usize) -> Book {
     b
 }
 
+// brackets in brackets, each opening behind a blank line, in the order in which they close
+fn nested(n: usize) -> Book {
+    let mut b = Book::default();
+    b.put("はじめ\n\n");
+    let opens: Vec<usize> = (0..n).map(|_| { let o = b.text.len(); b.put("「青空文庫の本\n\n"); o }).collect();
+    for o in opens.into_iter().rev() {
+        let c = b.text.len();
+        b.put("」");
+        b.pair((o, o + 3), (c, c + 3));
+    }
+    b.put("\n");
+    b
+}
+
+// a close without an open in each paragraph
+fn unmatched(n: usize) -> Book {
+    let mut b = Book::default();
+    b.put("はじめ\n\n");
+    for _ in 0..n { b.put("青空文庫の本\n"); b.block("［ここで字下げ終わり］", 3); b.put("\n"); }
+    b
+}
+
 fn measure(label: &str, b: &Book, at: usize) {
     let (t, d) = b.done();
     let mut w = vec![0u32; 16384];
@@ -155,6 +177,14 @@ fn main() {
     for n in [100, 1000, 10000] {
         let b = bracketed(n, 0);
         measure(&format!("{n} brackets across blank lines, edit at the end"), &b, b.text.len() - 1);
+    }
+    for n in [100, 1000, 10000] {
+        let b = nested(n);
+        measure(&format!("{n} brackets in brackets across blank lines, edit at the end"), &b, b.text.len() - 1);
+    }
+    for n in [1000, 10000, 100000] {
+        let b = unmatched(n);
+        measure(&format!("{n} closes without an open, edit at the end"), &b, b.text.len() - 1);
     }
     let b = bracketed(5000, 4);
     measure("5000 brackets across blank lines with 4 rubies in each, edit at the end", &b, b.text.len() - 1);

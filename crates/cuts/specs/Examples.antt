@@ -8,8 +8,9 @@ use Rattle.model.specs.Lists.{ascii}
 use Rattle.model.specs.Types.{SourceNode, PairLink}
 use Rattle.model.specs.Region.{depthBehind, depth, nodesBefore, nodesAllowCut, pairsAllowCut, blankLineBefore}
 use Rattle.cuts.specs.Safe.{safeCutIn, cutAllowed, regionStartIn, regionEndIn}
-use Rattle.cuts.specs.Pairs.{acrossOf, startOr, endOr}
+use Rattle.cuts.specs.Pairs.{acrossOf, widened, joined, startOr, endOr}
 use Rattle.cuts.specs.EndSearch.{nextTry}
+use Rattle.cuts.specs.Unmatched.{depthsBefore, noDepths, depthsPast, lastUnmatched, isUnmatched, closesNothing}
 use Rattle.cuts.specs.StartSearch.{earlierTry, lastTry}
 
 -- a node of a class with a body's kind and tag
@@ -49,8 +50,13 @@ blocks : (regionStartIn lines (nodeOf 2 0 0 2 3 ∷ nodeOf 3 0 0 7 8 ∷ []) [] 
 unfolding regionStartIn regionEndIn safeCutIn cutAllowed blankLineBefore nodesAllowCut nodesBefore depth depthBehind pairsAllowCut
 blocks = (refl, refl, refl, refl)
 
+-- of a close without an open, a block that opens and a node behind the bound: two nodes, the first of them unmatched
+unmatched-close : depthsBefore 8 noDepths (nodeOf 3 0 0 2 3 ∷ nodeOf 2 0 0 4 5 ∷ nodeOf 0 1 0 8 9 ∷ []) ≡ record { count = 2; blocks = 1; warichu = 0; unmatched = 1 }
+unfolding depthsBefore noDepths depthsPast lastUnmatched isUnmatched closesNothing depthBehind
+unmatched-close = refl
+
 -- the search goes on where the pair across the offset ends, and back where it starts
 pairs-across : (nextTry lines (pairOf 3 9 ∷ []) 7 ≡ 9) × (regionEndIn lines [] (pairOf 3 9 ∷ []) 9 3 ≡ 10)
     × (earlierTry lines (pairOf 3 9 ∷ []) 7 ≡ 3) × (lastTry lines (pairOf 3 9 ∷ []) 1 9 9 ≡ 2) × (regionStartIn lines [] (pairOf 3 9 ∷ []) 9 ≡ 2)
-unfolding nextTry acrossOf startOr endOr earlierTry lastTry regionStartIn regionEndIn safeCutIn cutAllowed blankLineBefore nodesAllowCut nodesBefore depth pairsAllowCut
+unfolding nextTry acrossOf widened joined startOr endOr earlierTry lastTry regionStartIn regionEndIn safeCutIn cutAllowed blankLineBefore nodesAllowCut nodesBefore depth pairsAllowCut
 pairs-across = (refl, refl, refl, refl, refl)

@@ -4,6 +4,7 @@ pub mod Pairs
 pub mod Gaps
 pub mod EndSearch
 pub mod Unmatched
+pub mod Blank
 pub mod StartSearch
 pub mod Walks
 pub mod Examples

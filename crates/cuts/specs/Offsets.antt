@@ -120,10 +120,32 @@ module _ (P : ℕ → Bool) where
       let q : P (lo + n) ≡ false = f .fails (lo + n) (omega arith) (omega arith) in
       rw q (last-is n lo d r (inr (e, refused-part f lo (lo + n) (omega arith) (omega arith))))
 
+  -- the scan downwards: c offsets are left
+  pub last-turn : (lo c d : ℕ) → lo < c → P (c - 1) ≡ false → lastFrom P (c - lo) lo d ≡ lastFrom P (c - 1 - lo) lo d
+  unfolding lastFrom
+  last-turn lo c d h e =
+      let q : c - lo ≡ suc (c - 1 - lo) = omega arith in
+      let s : lo + (c - 1 - lo) ≡ c - 1 = omega arith in
+      rw (q, s, e) refl
+
+  pub last-stop : (lo c d : ℕ) → lo < c → P (c - 1) ≡ true → lastFrom P (c - lo) lo d ≡ c - 1
+  unfolding lastFrom
+  last-stop lo c d h e =
+      let q : c - lo ≡ suc (c - 1 - lo) = omega arith in
+      let s : lo + (c - 1 - lo) ≡ c - 1 = omega arith in
+      rw (q, s, e) refl
+
+  pub last-done : (lo c d : ℕ) → c ≤ lo → lastFrom P (c - lo) lo d ≡ d
+  unfolding lastFrom
+  last-done lo c d h = let q : c - lo ≡ 0 = omega arith in rw q refl
+
 -- the last that passes of those before `from`, 0 if none
 pub record Latest (P : ℕ → Bool) (from r : ℕ) : Type 0 where
   pub passes : (r ≡ 0) ⊎ (P r ≡ true)
   pub behind : Refused P (r + 1) from
+
+pub latest-none : (P : ℕ → Bool) → Latest P 0 0
+latest-none P = record { passes = inl refl; behind = refused-none 1 0 (omega arith) }
 
 -- of the offsets 1 to n
 module _ (P : ℕ → Bool) where
@@ -137,3 +159,10 @@ module _ (P : ℕ → Bool) where
       let ne = eqb-false (1 + n) r t in
       let p : P (1 + n) ≡ false = l .behind .fails (1 + n) (omega (arith, ne)) (omega arith) in
       rw p (latest-is n r (omega (arith, ne)) (record { passes = l .passes; behind = refused-part (l .behind) (r + 1) (n + 1) (omega arith) (omega arith) })))
+
+  pub latest-of : (n : ℕ) → Latest P (n + 1) (lastFrom P n 1 0) × (lastFrom P n 1 0 ≤ n)
+  latest-of n = go (last-or P n 1 0)
+    where
+      go : {r : ℕ} → LastOr P 1 (1 + n) 0 r → Latest P (n + 1) r × (r ≤ n)
+      go (inl (a, b, p, f)) = (record { passes = inr p; behind = refused-part f _ (n + 1) (omega arith) (omega arith) }, omega arith)
+      go (inr (e, f)) = (record { passes = inl e; behind = refused-part f _ (n + 1) (omega arith) (omega arith) }, omega arith)

@@ -1,7 +1,7 @@
 -- The search for a region's start, as the code goes: gap by gap, downwards, the last offset that text and pairs allow.
 use Prim.Native.Nat.{ℕ, zero, suc, _+_, _-_, _≤_, _<_, min}
 use native.Mathlib.Omega.{arith}
-use mathlib.Core.Logic.{inl, inr, ⊎-elim}
+use mathlib.Core.Logic.{inl, inr}
 use mathlib.Core.Path.{_≡_, refl, sym, ap, _∙_}
 use mathlib.Core.Bool.{Bool, true, false, cond, _&&_, and-false, true≢false}
 use mathlib.Core.List.{List}
@@ -9,7 +9,7 @@ use lib.ListN.{length}
 use lib.Dec.{leb, ltb, eqb}
 use borrow.Author.Tests.{ltb-true, ltb-false, lt-ltb, le-ltb, eq-eqb, ne-eqb, eqb-true, eqb-false, le-leb}
 use Rattle.model.specs.Types.{SourceNode, PairLink}
-use Rattle.model.specs.Region.{newlineAt, blankLineBefore, nodesAllowCut, pairsAllowCut}
+use Rattle.model.specs.Region.{newlineAt, blankLineBefore, nodesAllowCut}
 use Rattle.laws.specs.Lists.{both}
 use Rattle.wire.specs.Loops.{by-bool}
 use Rattle.cuts.specs.Safe.{regionStartIn, safeCutIn, cutAllowed, safe-test}
@@ -17,6 +17,7 @@ use Rattle.cuts.specs.Offsets.{lastFrom, Latest, last-or, last-is, LastO
 use Rattle.cuts.specs.Pairs.{startOr, acrossOf, start-at-most, around, start-free, start-covers}
 use Rattle.cuts.specs.Gaps.{depthsZero}
 use Rattle.cuts.specs.EndSearch.{textPairsAllow, allowed-there, allowed-not}
+use Rattle.cuts.specs.Blank.{textNodesAllow}
 use Rattle.cuts.specs.declared.Across.{Across}
 
 -- the next offset to try, from c downwards: c itself if text and pairs allow it; those that are passed over they refuse
@@ -89,7 +90,8 @@ module _ (text : List ℕ) (ps : List PairLink) (lo : ℕ) where
   try-turn (suc n) c h l b = let q : suc n - 1 ≡ n = omega arith in rw (q, le-ltb c lo b) refl
 
   last-tried : 1 ≤ lo → (n c : ℕ) → c ≤ n → Down (textPairsAllow text ps) lo c (lastTry text ps lo n c)
-  last-tried l zero c h = rw (try-ends 0 c (omega arith)) (record { to = omega arith; behind = refused-none (c + 1) (c + 1) (omega arith); passes = λ b. absurd (omega arith) })
+  last-tried l zero c h =
+      rw (try-ends 0 c (omega arith)) (record { to = omega arith; behind = refused-none (c + 1) (c + 1) (omega arith); passes = λ b. absurd (omega arith) })
   last-tried l (suc n) c h =
       by-bool (ltb c lo)
       (λ t.
@@ -155,6 +157,10 @@ module _ (text : List ℕ) (ps : List PairLink) (blocks warichu lo hi : ℕ) (x 
 module _ (text : List ℕ) (ns : List SourceNode) (ps : List PairLink) where
   both-refuse : (k : ℕ) → textPairsAllow text ps k ≡ false → cutAllowed text ns ps k ≡ false
   both-refuse k f = by-bool (nodesAllowCut ns k) (λ e. allowed-there text ns ps k e ∙ f) (λ e. allowed-not text ns ps k e)
+
+  pub refused-text : (k : ℕ) → textNodesAllow text ns k ≡ false → cutAllowed text ns ps k ≡ false
+  unfolding cutAllowed textNodesAllow
+  refused-text k f = rw f refl
 
   pub gap-down : (blocks warichu lo hi : ℕ) → 1 ≤ lo → ((c : ℕ) → lo ≤ c → c ≤ hi → nodesAllowCut ns c ≡ depthsZero blocks warichu)
       → (r : ℕ) → r ≡ gapLast text ps blocks warichu lo hi → Down (cutAllowed text ns ps) lo hi r
@@ -254,7 +260,8 @@ module _ (text : List ℕ) (ns : List SourceNode) (ps : List PairLink) where
       start-found p e h = go last-cut
         where
           go : LastOr (cutAllowed text ns ps) lo (lo + (bound + 1 - lo)) 0 c → c ≡ regionStartIn text ns ps o
-          go (inl (x, y, t, u)) = start-is o c e h (omega arith) (record { passes = inr t; behind = refused-join (refused-part u (c + 1) (bound + 1) (omega arith) (omega arith)) f })
+          go (inl (x, y, t, u)) =
+              start-is o c e h (omega arith) (record { passes = inr t; behind = refused-join (refused-part u (c + 1) (bound + 1) (omega arith) (omega arith)) f })
           go (inr (z, u)) = absurd (omega arith)
 
       pub start-more : c ≤ 0 → Refused (cutAllowed text ns ps) lo (o + 1)

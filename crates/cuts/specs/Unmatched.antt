@@ -5,11 +5,11 @@ use native.Mathlib.Omega.{arith}
 use mathlib.Core.Path.{_≡_, refl, sym, ap, _∙_}
 use mathlib.Core.Bool.{Bool, true, false, cond, _&&_, _||_, and-false}
 use mathlib.Core.List.{List, [], _∷_}
-use lib.Dec.{leb, ltb, eqb}
+use lib.Dec.{ltb, eqb}
 use borrow.Author.Tests.{lt-ltb, le-ltb, ltb-false, eqb-true, eqb-false}
 use Rattle.model.specs.Types.{SourceNode}
 use Rattle.model.specs.Tape.{recordAt, recordsAt, nodeCodec}
-use Rattle.model.specs.Region.{isBlockOpen, isBlockClose, isDirective, isWarichuOpen, isWarichuClose, depthBehind}
+use Rattle.model.specs.Region.{isBlockOpen, isBlockClose, isWarichuOpen, isWarichuClose, depthBehind}
 use Rattle.laws.specs.Lists.{both}
 use Rattle.records.specs.Runs.{run-cons, run-none}
 use Rattle.wire.specs.Loops.{by-bool}
@@ -89,7 +89,8 @@ passing-none t r bound =
     let e₂ : r .count - 0 ≡ r .count = omega arith in
     record { within = omega arith; blocksSmall = omega arith; warichuSmall = omega arith; same = rw (e₁, e₂) refl }
 
-nodes-cons : (t : List ℕ) (at i k : ℕ) → recordsAt nodeCodec t (at + 49 * i) (suc k) ≡ (recordAt nodeCodec t (at + 49 * i) ∷ recordsAt nodeCodec t (at + 49 * (i + 1)) k)
+nodes-cons : (t : List ℕ) (at i k : ℕ)
+    → recordsAt nodeCodec t (at + 49 * i) (suc k) ≡ (recordAt nodeCodec t (at + 49 * i) ∷ recordsAt nodeCodec t (at + 49 * (i + 1)) k)
 unfolding nodeCodec
 nodes-cons t at i k = run-cons nodeCodec t k (at + 49 * i) (at + 49 * (i + 1)) (omega arith)
 

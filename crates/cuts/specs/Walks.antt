@@ -18,8 +18,10 @@ use Rattle.cuts.specs.Pairs.{pairsOf}
 use Rattle.cuts.specs.Gaps.{Walked, nodesOf, walked-none, in-order-nodes, depthsZero, walked-rest, nodeAt, walked-gap, walked-across}
 use Rattle.cuts.specs.Gaps.{walked-more, NodesIn, walked-span, walked-refused}
 use Rattle.cuts.specs.EndSearch.{gapFirst, end-last, gap-searched, Searched, end-found, refused-on, allowed-not}
-use Rattle.cuts.specs.Unmatched.{depthsAt, depthsBefore, noDepths, gapFrom, Front, front-of, unmatched-small, blocks-back, warichu-back, GapAt, gap-at, gap-next, gap-rises}
-use Rattle.cuts.specs.StartSearch.{gapLast, lastCut, Down, gap-down, cut-found, cut-none, cut-over, endsBehindNewline, start-none}
+use Rattle.cuts.specs.Unmatched.{depthsAt, depthsBefore, noDepths, gapFrom, Front, front-of, unmatched-small, blocks-back, warichu-back}
+use Rattle.cuts.specs.Unmatched.{GapAt, gap-at, gap-next, gap-rises}
+use Rattle.cuts.specs.Blank.{lastAllowed, cut-latest}
+use Rattle.cuts.specs.StartSearch.{refused-text, gapLast, lastCut, Down, gap-down, cut-found, cut-none, cut-over, endsBehindNewline, start-none}
 use Rattle.cuts.specs.StartSearch.{start-found, start-more}
 use Rattle.cuts.specs.declared.Depths.{Depths}
 
@@ -129,7 +131,10 @@ module _ {text t : List ℕ} {r p : Run} {d : Depths} {bound : ℕ} (n : InOrder
     down-gap k x y =
         let g = gap-of t r n i (omega (arith, w .upto, f .within)) in
         rw (w .blocksAt, w .warichuAt) (by-bool (ltb i (r .count))
-        (λ e. let h = ltb-true i (r .count) e in walked-gap (g .walked) h (nodeAt t r i .sourceSpan .start) (nodeAt t r i .sourceSpan .end) refl refl k (omega (arith, q, g .low)) (omega (arith, w .before h)))
+        (λ e.
+        let h = ltb-true i (r .count) e in
+        let n = nodeAt t r i in
+        walked-gap (g .walked) h (n .sourceSpan .start) (n .sourceSpan .end) refl refl k (omega (arith, q, g .low)) (omega (arith, w .before h)))
         (λ e. walked-rest (g .walked) (ltb-false i (r .count) e) k (omega (arith, q, g .low))))
 
     module _ (c : ℕ) (e : c ≡ gapLast text (pairsOf t p) blocks warichu lo hi) where
@@ -171,7 +176,9 @@ module _ {text t : List ℕ} {r p : Run} {d : Depths} {bound : ℕ} (n : InOrder
             warichuAt = e₂;
             before = λ z. omega (arith, a, m);
             below = omega (arith, m, down-here .to, w .below);
-            none = rw m (cut-over text (nodesOf t r) (pairsOf t p) (gapFrom t r (d .unmatched)) bound hi low-positive (w .none) (w .below) lo c low down-here start h inner);
+            none =
+                rw m (cut-over text (nodesOf t r) (pairsOf t p) (gapFrom t r (d .unmatched)) bound hi low-positive (w .none) (w .below)
+                lo c low down-here start h inner);
           }
 
 -- ---- `region_start`: no offset behind `bound`, up to o, is a cut, and the nodes from the one numbered `front` on start behind it
@@ -212,7 +219,9 @@ module _ {text t : List ℕ} {r p : Run} {o bound front : ℕ} (w : StartWalk te
       gap-here = gap-of t r n (d .unmatched) (omega (arith, start-falls, w .within))
 
       pub start-walk-found : 0 < c → c ≡ regionStartIn text (nodesOf t r) (pairsOf t p) o
-      start-walk-found h = start-found text (nodesOf t r) (pairsOf t p) o bound (w .none) (w .below) (gapFrom t r (d .unmatched)) c (gap-here .positive) e h (w .notEnd) (w .inside)
+      start-walk-found h =
+          start-found text (nodesOf t r) (pairsOf t p) o bound (w .none) (w .below) (gapFrom t r (d .unmatched)) c (gap-here .positive) e h
+          (w .notEnd) (w .inside)
 
       behind-gap : c ≤ 0 → Refused (cutAllowed text (nodesOf t r) (pairsOf t p)) (gapFrom t r (d .unmatched)) (o + 1)
       behind-gap z = start-more text (nodesOf t r) (pairsOf t p) o bound (w .none) (w .below) (gapFrom t r (d .unmatched)) c (gap-here .positive) e z
@@ -225,26 +234,33 @@ module _ {text t : List ℕ} {r p : Run} {o bound front : ℕ} (w : StartWalk te
 
       -- from the last unmatched close on, downwards
       pub start-walk-more : c ≤ 0 → (d .unmatched ≡ 0 → ⊥) → (front′ : ℕ) → front′ ≡ d .unmatched - 1
-          → (start : ℕ) → start ≡ nodeAt t r front′ .sourceSpan .start → (bound′ : ℕ) → bound′ ≡ min bound start → StartWalk text t r p o bound′ front′
-      start-walk-more z h front′ s start a bound′ m =
+          → (start : ℕ) → start ≡ nodeAt t r front′ .sourceSpan .start → (hi : ℕ) → hi ≡ min bound start
+          → (bound′ : ℕ) → bound′ ≡ lastAllowed text (nodesOf t r) hi → StartWalk text t r p o bound′ front′
+      start-walk-more z h front′ s start a hi m bound′ last =
           let v : d .unmatched ≡ front′ + 1 = omega (arith, h) in
           let l : front′ < r .count = omega (arith, start-falls, w .within) in
           let g = gap-of t r n front′ (omega arith) in
           let end : gapFrom t r (d .unmatched) ≡ nodeAt t r front′ .sourceSpan .end = ap (gapFrom t r) v ∙ gap-next t r front′ in
           let inner = walked-refused (g .walked) l start (nodeAt t r front′ .sourceSpan .end) a refl in
           let all = behind-gap z in
+          let latest = cut-latest text (nodesOf t r) hi bound′ last in
           record {
             inside = w .inside;
             notEnd = w .notEnd;
-            below = omega (arith, m, w .below);
+            below = omega (arith, m, latest .1, w .below);
             within = omega arith;
-            before = λ b. omega (arith, a, m);
+            before = λ b. omega (arith, a, m, latest .1);
             none = record {
               fails = λ k x y.
-                  by-bool (ltb k (bound + 1))
+                  by-bool (ltb k (hi + 1))
+                  (λ u. refused-text text (nodesOf t r) (pairsOf t p) k (latest .0 .behind .fails k x (ltb-true k (hi + 1) u)))
+                  (λ v. let z₁ = ltb-false k (hi + 1) v in by-bool (ltb k (bound + 1))
                   (λ u. by-bool (ltb k (gapFrom t r (d .unmatched)))
-                  (λ i. allowed-not text (nodesOf t r) (pairsOf t p) k (inner .fails k (omega (arith, m, ltb-true k (bound + 1) u)) (omega (arith, end, ltb-true k (gapFrom t r (d .unmatched)) i))))
+                  (λ i.
+                  let x₁ = ltb-true k (bound + 1) u in
+                  let y₁ = ltb-true k (gapFrom t r (d .unmatched)) i in
+                  allowed-not text (nodesOf t r) (pairsOf t p) k (inner .fails k (omega (arith, m)) (omega (arith, end))))
                   (λ i. all .fails k (ltb-false k (gapFrom t r (d .unmatched)) i) y))
-                  (λ u. w .none .fails k (ltb-false k (bound + 1) u) y);
+                  (λ u. w .none .fails k (ltb-false k (bound + 1) u) y));
             };
           }

@@ -1,4 +1,3 @@
-use Prim.Native.Nat.{_≤_}
 use native.Mathlib.Omega.{arith}
 use mathlib.Core.Path.{refl}
 use Rattle.cuts.specs.Walks.{DownWalk, down-none, down-positive, down-found, down-more, down-done}
