@@ -1,4 +1,5 @@
-// Draft.
+// Document 01 section 5: the trees of the reading copied into one new layer of the result. Each string is interned; a run stands
+// behind all that its items push, and each item is written once, at its place.
 ghost use mathlib.Core.Path.{_≡_};
 ghost use mathlib.Core.Bool.{true};
 ghost use mathlib.Core.List.{[], _∷_};
@@ -15,7 +16,7 @@ ghost use Rattle.model.specs.Tree.{showContents, showSegments, showFields};
 ghost use Rattle.model.specs.Graft.{graftStr, graftFields};
 ghost use Rattle.wire.specs.Overwrite.{overwrite};
 ghost use Rattle.records.specs.Values.{bodyAt};
-ghost use Rattle.intern.specs.State.{Good};
+ghost use Rattle.interner.specs.State.{Good};
 ghost use Rattle.ids.specs.Tests.{bodyIn, contentIn, segmentIn, contentsIn, segmentsIn, stringIn};
 ghost use Rattle.sizes.specs.Added.{oneCall};
 ghost use Rattle.sizes.specs.InPlace.{innerAdds, bodyAdds, contentAdds, contentsAdd, contentRunAdds, segmentsAdd, segmentRunAdds};
@@ -38,7 +39,7 @@ pub struct Mark {
     pub ok: bool,
     pub contents: u32,
     pub segments: u32,
-    pub state: intern::StrInterner,
+    pub state: interner::StrInterner,
 }
 
 // A string's id, or where a run starts.

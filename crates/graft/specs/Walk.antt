@@ -18,7 +18,7 @@ use Rattle.store.specs.Standing.{allLengths}
 use Rattle.store.specs.declared.Store.{Store}
 use Rattle.ids.specs.Tests.{contentIn, segmentIn}
 use Rattle.levels.specs.Below.{LevelsFit}
-use Rattle.intern.specs.State.{hasRoom, Good, stateOf}
+use Rattle.interner.specs.State.{hasRoom, Good, stateOf}
 use Rattle.intern.specs.declared.Answer.{Answer}
 use Rattle.sizes.specs.Shown.{showInner}
 use Rattle.sizes.specs.Order.{placeField, placeFields}

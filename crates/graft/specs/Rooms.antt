@@ -13,7 +13,7 @@ use Rattle.model.specs.Store.{resolveContentRange, resolveSegRange}
 use Rattle.model.specs.Tape.{Field, recordsAt, contentCodec, segmentCodec}
 use Rattle.model.specs.Tree.{showContents, showSegments, showFields}
 use Rattle.model.specs.Graft.{NewLayer, graftFields}
-use Rattle.intern.specs.State.{hasRoom}
+use Rattle.interner.specs.State.{hasRoom}
 use Rattle.store.specs.declared.Store.{Store}
 use Rattle.ids.specs.Tests.{fieldIn, contentIn, segmentIn, contentsIn, segmentsIn}
 use Rattle.sizes.specs.Added.{Added, add}
