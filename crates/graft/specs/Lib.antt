@@ -10,3 +10,7 @@ pub mod Written
 pub mod Rooms
 pub mod Answers
 pub mod Bodies
+pub mod Fields
+pub mod Records
+pub mod ContentItems
+pub mod SegmentItems

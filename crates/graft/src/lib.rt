@@ -16,14 +16,14 @@ ghost use Rattle.model.specs.Tree.{showContents, showSegments, showFields};
 ghost use Rattle.model.specs.Graft.{graftStr, graftFields};
 ghost use Rattle.wire.specs.Overwrite.{overwrite};
 ghost use Rattle.records.specs.Values.{bodyAt};
-ghost use Rattle.interner.specs.State.{Good};
-ghost use Rattle.ids.specs.Tests.{bodyIn, contentIn, segmentIn, contentsIn, segmentsIn, stringIn};
+ghost use Rattle.interner.specs.State.{Good, stateOf, hasRoom};
+ghost use Rattle.ids.specs.Tests.{bodyIn, contentIn, segmentIn, contentsIn, segmentsIn, stringIn, usedWell};
 ghost use Rattle.sizes.specs.Added.{oneCall};
 ghost use Rattle.sizes.specs.InPlace.{innerAdds, bodyAdds, contentAdds, contentsAdd, contentRunAdds, segmentsAdd, segmentRunAdds};
 ghost use Rattle.graft.specs.Rebased.{contentRun, segmentRun};
 ghost use Rattle.graft.specs.Grafted.{layerFrom};
 ghost use Rattle.graft.specs.Written.{wordsBytes, segmentWith};
-ghost use Rattle.graft.specs.Walk.{sourceStore, Source, stringFrom, shownContents, shownSegments, Space, StartTold, strStart, WordsTold, ContentsTold, SegmentsTold};
+ghost use Rattle.graft.specs.Walk.{sourceStore, Source, stringFrom, shownContents, shownSegments, Space, StartTold, idFrom, strStart, WordsTold, ContentsTold, SegmentsTold};
 
 // Where the new layer's numbers begin, and where its contents and segments are written.
 pub struct Plan {
@@ -133,6 +133,36 @@ fn graft_str(
     let state = m.state;
     let a = intern::intern(work, strs, state, &bytes[from..from + len]);
     start_of(m, a, p.strings)
+}
+
+// A string that may be missing; where there is no string, 0.
+fn graft_string(
+    tape: &[u8],
+    bytes: &[u8],
+    st: store::Store,
+    work: &mut [u32],
+    strs: &mut [u8],
+    p: Plan,
+    m: Mark,
+    usage: u8,
+    id: u32,
+) -> Start
+    requires { ⌜ Source (now tape) (now bytes) st ⌝ }
+    requires { ⌜ Good (now work) (now strs) (m .state) ⌝ }
+    requires { ⌜ (m .ok ≡ true) × (hasRoom (length (now strs)) (m .state .base) (stateOf (now work) (now strs) (m .state)) ≡ true) ⌝ }
+    requires { ⌜ (usedWell st usage id 0 ≡ true) × (m .state .stats .calls < 2 ^ 32) × (p .strings + 2 ^ 12 < 2 ^ 32) ⌝ }
+    ensures { λ r. ⌜ ((out : List ℕ) → StartTold p m out (now (work .entry)) (now (strs .entry)) out (now (work .exit)) (now (strs .exit)) r (idFrom (now (tape .entry)) (now (bytes .entry)) usage id (layerFrom p (now (work .entry)) (now (strs .entry)) m))) ⌝ }
+{
+    if usage == 1 {
+        return graft_str(tape, bytes, st, work, strs, p, m, id);
+    }
+    if usage == 2 {
+        if id == 4294967295 {
+            return Start { mark: m, at: 4294967295 };
+        }
+        return graft_str(tape, bytes, st, work, strs, p, m, id);
+    }
+    Start { mark: m, at: 0 }
 }
 
 fn put_content(out: &mut [u8], at: usize, tag: u8, first: u32, second: u32)
