@@ -14,3 +14,5 @@ pub mod Fields
 pub mod Records
 pub mod ContentItems
 pub mod SegmentItems
+pub mod Items
+pub mod Inner

@@ -22,6 +22,7 @@ ghost use Rattle.sizes.specs.Added.{oneCall};
 ghost use Rattle.sizes.specs.InPlace.{innerAdds, bodyAdds, contentAdds, contentsAdd, contentRunAdds, segmentsAdd, segmentRunAdds};
 ghost use Rattle.graft.specs.Rebased.{contentRun, segmentRun};
 ghost use Rattle.graft.specs.Grafted.{layerFrom};
+ghost use Rattle.graft.specs.Runs.{withContents, withSegments};
 ghost use Rattle.graft.specs.Written.{wordsBytes, segmentWith};
 ghost use Rattle.graft.specs.Walk.{sourceStore, Source, stringFrom, shownContents, shownSegments, Space, StartTold, idFrom, strStart, WordsTold, ContentsTold, SegmentsTold};
 
@@ -252,4 +253,89 @@ fn with_words(words: [u32; 6], i: usize, f: sizes::FieldWords, v: u32) -> Six
         return set_word(w, i + 1, f.second);
     }
     Six { words: words }
+}
+
+// ---- parts of the walk
+
+fn words_of(mark: Mark, six: Six) -> Words
+    ensures { λ r. ⌜ (r .mark ≡ mark) × (r .words ≡ six .words) ⌝ }
+{
+    let words = six.words;
+    Words { mark: mark, words: words }
+}
+
+// How many contents the items of a run push.
+fn inner_contents(tape: &[u8], st: store::Store, at: usize, count: usize, level: u8) -> u32
+    requires { ⌜ LevelsFit (now tape) st ⌝ }
+    requires { ⌜ at + 10 * count ≤ length (now tape) ⌝ }
+    requires { ⌜ (contentsAdd (innerAdds level (now tape) st) (now tape) st at count .contents < 2 ^ 32) × (contentsAdd (innerAdds level (now tape) st) (now tape) st at count .segments < 2 ^ 32) ⌝ }
+    ensures { λ r. ⌜ r ≡ contentsAdd (innerAdds level (now (tape .entry)) st) (now (tape .entry)) st at count .contents ⌝ }
+{
+    let room = sizes::Room {
+        contents: 4294967295,
+        segments: 4294967295,
+    };
+    let none = sizes::Sizes {
+        contents: 0,
+        segments: 0,
+        calls: 0,
+        over: false,
+    };
+    let inner = sizes::contents_sizes(tape, st, room, none, at, count, level);
+    inner.contents
+}
+
+// How many segments the items of a run push.
+fn inner_segments(tape: &[u8], st: store::Store, at: usize, count: usize, level: u8) -> u32
+    requires { ⌜ LevelsFit (now tape) st ⌝ }
+    requires { ⌜ at + 37 * count ≤ length (now tape) ⌝ }
+    requires { ⌜ (segmentsAdd (innerAdds level (now tape) st) (now tape) at count .contents < 2 ^ 32) × (segmentsAdd (innerAdds level (now tape) st) (now tape) at count .segments < 2 ^ 32) ⌝ }
+    ensures { λ r. ⌜ r ≡ segmentsAdd (innerAdds level (now (tape .entry)) st) (now (tape .entry)) at count .segments ⌝ }
+{
+    let room = sizes::Room {
+        contents: 4294967295,
+        segments: 4294967295,
+    };
+    let none = sizes::Sizes {
+        contents: 0,
+        segments: 0,
+        calls: 0,
+        over: false,
+    };
+    let inner = sizes::segments_sizes(tape, st, room, none, at, count, level);
+    inner.segments
+}
+
+// A run of contents that was pushed, and where it starts.
+fn pushed_contents(p: Plan, r: Mark, to: u32, len: u32) -> Start
+    requires { ⌜ (p .contents + to < 2 ^ 32) × (to + len < 2 ^ 32) ⌝ }
+    ensures { λ s. ⌜ s ≡ record { mark = withContents r (to + len); at = p .contents + to } ⌝ }
+{
+    let state = r.state;
+    Start {
+        mark: Mark {
+            ok: r.ok,
+            contents: to + len,
+            segments: r.segments,
+            state: state,
+        },
+        at: p.contents + to,
+    }
+}
+
+// A run of segments that was pushed, and where it starts.
+fn pushed_segments(p: Plan, r: Mark, to: u32, len: u32) -> Start
+    requires { ⌜ (p .segments + to < 2 ^ 32) × (to + len < 2 ^ 32) ⌝ }
+    ensures { λ s. ⌜ s ≡ record { mark = withSegments r (to + len); at = p .segments + to } ⌝ }
+{
+    let state = r.state;
+    Start {
+        mark: Mark {
+            ok: r.ok,
+            contents: r.contents,
+            segments: to + len,
+            state: state,
+        },
+        at: p.segments + to,
+    }
 }
