@@ -7,6 +7,7 @@ use mathlib.Core.List.{List, [], _∷_, _++_, append-assoc}
 use lib.ListN.{length, replicate}
 use borrow.Author.Tests.{eq-eqb, ne-eqb, ltb-true}
 use Rattle.model.specs.Lists.{all, tabulate}
+use Rattle.model.specs.Bytes.{byteAt}
 use Rattle.model.specs.Limits.{noString}
 use Rattle.model.specs.Types.{Body}
 use Rattle.model.specs.Store.{resolveStr}
@@ -18,6 +19,7 @@ use Rattle.laws.specs.Keep.{all-append-is}
 use Rattle.wire.specs.Loops.{by-bool}
 use Rattle.interner.specs.State.{hasRoom}
 use Rattle.store.specs.declared.Store.{Store}
+use Rattle.records.specs.Values.{bodyAt}
 use Rattle.records.specs.Uses.{wordUse}
 use Rattle.ids.specs.Tests.{bodyIn, fieldIn, wordIn, contentsIn, segmentsIn, usedWell, used-string, used-optional, body-failed}
 use Rattle.sizes.specs.Order.{fieldWord, placeField, placeFields, fields-in-order}
@@ -123,15 +125,24 @@ module _ (l : ℕ) (t d : List ℕ) (p : Plan) (m : Mark) (out work strs : List 
     field-string a b x = rw (ne-eqb (f .usage) 3 a, ne-eqb (f .usage) 5 b) x
 
   module _ (st : Store) (inner : Body → Added) (y : Ready t d st p m out work strs (usedAdds inner t st f)) where
-    pub contents-ready : f .usage ≡ 3 → Ready t d st p m out work strs (contentRunAdds inner t st (f .first) (f .second))
+    pub field-contents-ready : f .usage ≡ 3 → Ready t d st p m out work strs (contentRunAdds inner t st (f .first) (f .second))
     unfolding usedAdds
-    contents-ready e = rw (eq-eqb (f .usage) 3 e) at y
+    field-contents-ready e = rw (eq-eqb (f .usage) 3 e) at y
 
-    pub segments-ready : (f .usage ≡ 3 → ⊥) → f .usage ≡ 5 → Ready t d st p m out work strs (segmentRunAdds inner t st (f .first) (f .second))
+    pub field-segments-ready : (f .usage ≡ 3 → ⊥) → f .usage ≡ 5 → Ready t d st p m out work strs (segmentRunAdds inner t st (f .first) (f .second))
     unfolding usedAdds
-    segments-ready n e = rw (ne-eqb (f .usage) 3 n, eq-eqb (f .usage) 5 e) at y
+    field-segments-ready n e = rw (ne-eqb (f .usage) 3 n, eq-eqb (f .usage) 5 e) at y
 
 -- ---- the field at a place
+
+module _ (t : List ℕ) (at j r : ℕ) (e : r ≡ fieldWord (byteAt t at) j) where
+  pub word-is : r ≡ fieldWord (bodyAt t at .kind) j
+  unfolding bodyAt
+  word-is = e
+
+  pub word-small : r < 6 → fieldWord (bodyAt t at .kind) j < 6
+  unfolding bodyAt
+  word-small h = omega (arith, e, h)
 
 module _ (st : Store) (b : Body) (j : ℕ) where
   pub place-well : bodyIn st b ≡ true → fieldWord (b .kind) j < 6 → (f : FieldWords) → f ≡ fieldWords b j → usedWell st (f .usage) (f .first) (f .second) ≡ true

@@ -38,9 +38,9 @@ module _ (t : List ℕ) (st : Store) (at : ℕ) (c : ContentRead) (e : contentOf
     unfolding contentIn
     plain-known z = let g : contentIn st (contentOf c) ≡ true = rw e h in ltb-true (c .first) (st .totals .strings) (rw (eq-eqb (c .tag) 0 z) at g)
 
-    pub segments-known : (c .tag ≡ 0 → ⊥) → segmentsIn st (c .first) (c .second) ≡ true
+    pub run-known : (c .tag ≡ 0 → ⊥) → segmentsIn st (c .first) (c .second) ≡ true
     unfolding contentIn
-    segments-known z = let g : contentIn st (contentOf c) ≡ true = rw e h in rw (ne-eqb (c .tag) 0 z) at g
+    run-known z = let g : contentIn st (contentOf c) ≡ true = rw e h in rw (ne-eqb (c .tag) 0 z) at g
 
   pub run-ready : {d : List ℕ} {p : Plan} {m : Mark} {out work strs : List ℕ} (inner : Body → Added) → (c .tag ≡ 0 → ⊥)
       → Ready t d st p m out work strs (contentAdds inner t st (recordAt contentCodec t at)) → Ready t d st p m out work strs (segmentRunAdds inner t st (c .first) (c .second))
@@ -60,12 +60,12 @@ module _ (t : List ℕ) (st : Store) (at : ℕ) (c : ContentRead) (e : contentOf
 
     module _ (source : Source t d st) (h : segmentsIn st (c .first) (c .second) ≡ true) (z : c .tag ≡ 0 → ⊥)
         (x : StartTold p m out work strs out₁ work₁ strs₁ s (segmentRunFrom l t d (c .first) (c .second) (layerFrom p work strs m))) where
-      pub segments-refused : s .mark .ok ≡ false → ContentsTold p m to out work strs out₁ work₁ strs₁ (s .mark) (shownContents l t d (recordAt contentCodec t at ∷ []) (layerFrom p work strs m))
-      segments-refused o = rw (← e) (content-refused p m to out work strs (x .told) (one-segments l t d (contentOf c) (layerFrom p work strs m) st source h z) o)
+      pub run-refused : s .mark .ok ≡ false → ContentsTold p m to out work strs out₁ work₁ strs₁ (s .mark) (shownContents l t d (recordAt contentCodec t at ∷ []) (layerFrom p work strs m))
+      run-refused o = rw (← e) (content-refused p m to out work strs (x .told) (one-segments l t d (contentOf c) (layerFrom p work strs m) st source h z) o)
 
-      pub segments-made : s .mark .ok ≡ true → {out₂ : List ℕ} → out₂ ≡ overwrite out₁ (p .contentsat + 10 * to) (recordBytes contentCodec (record { tag = 1; first = s .at; second = c .second }))
+      pub run-made : s .mark .ok ≡ true → {out₂ : List ℕ} → out₂ ≡ overwrite out₁ (p .contentsat + 10 * to) (recordBytes contentCodec (record { tag = 1; first = s .at; second = c .second }))
           → ContentsTold p m to out work strs out₂ work₁ strs₁ (s .mark) (shownContents l t d (recordAt contentCodec t at ∷ []) (layerFrom p work strs m))
-      segments-made o w = rw (← e) (content-made p m to out work strs (x .told) (one-segments l t d (contentOf c) (layerFrom p work strs m) st source h z) (s .at) (x .start o) o w)
+      run-made o w = rw (← e) (content-made p m to out work strs (x .told) (one-segments l t d (contentOf c) (layerFrom p work strs m) st source h z) (s .at) (x .start o) o w)
 
 -- ---- a segment
 
