@@ -95,7 +95,7 @@ module _ (l : ℕ) (t d : List ℕ) (st : Store) (p : Plan) (m : Mark) (at count
       let r = records-parts contentCodec t at i count k in
       let g = graftContents (showContents show s (items i)) f in
       let q : graftContents (showContents show s (items count)) f .1 ≡ graftContents (showContents show s (r .rest)) (g .1) .1
-          = ap (λ (cs : List Content). graftContents (showContents show s cs) f .1) (r .is) ∙ ap (λ x. x .1) (contents-parts show s (items i) (r .rest) f) in
+      = ap (λ (cs : List Content). graftContents (showContents show s cs) f .1) (r .is) ∙ ap (λ x. x .1) (contents-parts show s (items i) (r .rest) f) in
       record {
         ok = by-bool (hasRoom (length strs) (m .state .base) (graftContents (showContents show s (items count)) f .1 .interner))
             (λ x. absurd (true≢false (sym (steps-each (showContents show s (r .rest)) .room (length strs) (m .state .base) (g .1) (rw q at x)) ∙ sym (a .ok) ∙ e)))

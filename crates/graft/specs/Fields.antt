@@ -223,7 +223,7 @@ module _ (l : ℕ) (t d : List ℕ) (st : Store) (p : Plan) (m : Mark) (b : Body
       let r = places-parts (b .kind) (b .tag) i 6 0 k in
       let g = graftFields (showFields show s b (fieldsUpTo b i)) (replicate 6 0) f in
       let q : graftFields (showFields show s b (fieldsUpTo b 6)) (replicate 6 0) f ≡ graftFields (showFields show s b (r .rest)) (g .0) (g .1)
-          = ap (λ (fs : List Field). graftFields (showFields show s b fs) (replicate 6 0) f) (r .is) ∙ fields-then show s b (fieldsUpTo b i) (r .rest) (replicate 6 0) f in
+      = ap (λ (fs : List Field). graftFields (showFields show s b fs) (replicate 6 0) f) (r .is) ∙ fields-then show s b (fieldsUpTo b i) (r .rest) (replicate 6 0) f in
       record {
         told = refused-then p m out work strs (a .told) e (graftFields (showFields show s b (fieldsUpTo b 6)) (replicate 6 0) f .1)
             (λ size base x. steps-fields (showFields show s b (r .rest)) (g .0) .room size base (g .1) (rw q at x));
@@ -238,7 +238,7 @@ module _ (l : ℕ) (t d : List ℕ) (st : Store) (p : Plan) (m : Mark) (b : Body
     unfolding bodyFrom
     body-ready k =
         let q : bodyAdds l t st b ≡ add (add (fieldsAdd inner t st b (fieldsUpTo b j)) (placeAdds inner t st b j)) (fieldsAdd inner t st b (body-fields b (j + 1) (omega arith) .rest))
-            = first-adds (j + 1) (omega arith) ∙ ap (λ (x : Added). add x (fieldsAdd inner t st b (body-fields b (j + 1) (omega arith) .rest))) (place-adds j) in
+        = first-adds (j + 1) (omega arith) ∙ ap (λ (x : Added). add x (fieldsAdd inner t st b (body-fields b (j + 1) (omega arith) .rest))) (place-adds j) in
         ready-item p m out work strs (a .told .told .made (a .going)) (fieldsAdd inner t st b (fieldsUpTo b j))
         (fields-add t d st (y .source) l b (fieldsUpTo b j) (replicate 6 0) (layerFrom p work strs m) (first-in j (omega arith)))
         (placeAdds inner t st b j) (fieldsAdd inner t st b (body-fields b (j + 1) (omega arith) .rest)) (a .told .told .ok) (a .going) (a .long) (rw q at y)
@@ -254,9 +254,9 @@ module _ (l : ℕ) (t d : List ℕ) (st : Store) (p : Plan) (m : Mark) (b : Body
         let e : rebased (g .1) ≡ layerFrom p work′ strs′ (u .mark) = sym (next-layer p m out work strs (a .told .told .made (a .going)) (steps-fields (showFields show s b (fieldsUpTo b j)) (replicate 6 0) .offsets f)) in
         let w : g .0 ≡ u .words = sym (a .told .words (a .going)) in
         let x : graftFields fs (g .0) (g .1) .0 ≡ graftFields fs (u .words) (layerFrom p work′ strs′ (u .mark)) .0
-            = steps-fields fs (g .0) .answer (g .1) ∙ ap₂ (λ (ws : List ℕ) (k : NewLayer). graftFields fs ws k .0) w e in
+        = steps-fields fs (g .0) .answer (g .1) ∙ ap₂ (λ (ws : List ℕ) (k : NewLayer). graftFields fs ws k .0) w e in
         let z : graftFields fs (g .0) (g .1) .1 ≡ behind (g .1) (graftFields fs (u .words) (layerFrom p work′ strs′ (u .mark)) .1)
-            = steps-fields fs (g .0) .layer (g .1) ∙ ap₂ (λ (ws : List ℕ) (k : NewLayer). behind (g .1) (graftFields fs ws k .1)) w e in
+        = steps-fields fs (g .0) .layer (g .1) ∙ ap₂ (λ (ws : List ℕ) (k : NewLayer). behind (g .1) (graftFields fs ws k .1)) w e in
         ap (λ (k : List Field). graftFields (showFields show s b k) (replicate 6 0) f) (places-more (b .kind) (b .tag) j)
         ∙ fields-then show s b (fieldsUpTo b j) (placeField (b .kind) (b .tag) j) (replicate 6 0) f ∙ (λ i. (x i, z i))
 

@@ -107,8 +107,10 @@ module _ (t d : List ℕ) (at : ℕ) where
       ws = bodyFrom (l - 1) t d p work strs m (bodyAt t (at + 3)) 6 .0
 
       below : shownSegments l t d (found ∷ []) (layerFrom p work strs m)
-          ≡ (record { tag = byteAt t (at + 1); level = byteAt t (at + 2); body = record { kind = body .kind; tag = body .tag; plain1 = body .plain1; plain2 = body .plain2; words = ws } } ∷ [],
-          bodyFrom (l - 1) t d p work strs m (bodyAt t (at + 3)) 6 .1)
+          ≡ (
+            record { tag = byteAt t (at + 1); level = byteAt t (at + 2); body = record { kind = body .kind; tag = body .tag; plain1 = body .plain1; plain2 = body .plain2; words = ws } } ∷ [],
+            bodyFrom (l - 1) t d p work strs m (bodyAt t (at + 3)) 6 .1,
+          )
       below =
           ap (λ (s : Segment). shownSegments l t d (s ∷ []) (layerFrom p work strs m)) found-is
           ∙ one-body t d (record { tag = byteAt t (at + 1); level = byteAt t (at + 2); body = bodyAt t (at + 3) }) (layerFrom p work strs m) l z

@@ -38,5 +38,5 @@ module _ {A : Type 0} (k : Codec A) (t : List ℕ) (at : ℕ) where
       let x = recordAt k t (at + recordSize k * i) in
       let r = records-parts (i + 1) n h in
       let q : addAll f (recordsAt k t at (i + 1)) ≡ add (addAll f (recordsAt k t at i)) (f x)
-          = ap (addAll f) (records-more i) ∙ all-append f (recordsAt k t at i) (x ∷ []) ∙ ap (add (addAll f (recordsAt k t at i))) (add-nothing (f x)) in
+      = ap (addAll f) (records-more i) ∙ all-append f (recordsAt k t at i) (x ∷ []) ∙ ap (add (addAll f (recordsAt k t at i))) (add-nothing (f x)) in
       ap (addAll f) (r .is) ∙ all-append f (recordsAt k t at (i + 1)) (r .rest) ∙ ap (λ (y : Added). add y (addAll f (r .rest))) q

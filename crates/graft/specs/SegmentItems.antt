@@ -95,7 +95,7 @@ module _ (l : ℕ) (t d : List ℕ) (st : Store) (p : Plan) (m : Mark) (at count
       let r = records-parts segmentCodec t at i count k in
       let g = graftSegments (showSegments show (items i)) f in
       let q : graftSegments (showSegments show (items count)) f .1 ≡ graftSegments (showSegments show (r .rest)) (g .1) .1
-          = ap (λ (cs : List Segment). graftSegments (showSegments show cs) f .1) (r .is) ∙ ap (λ x. x .1) (segments-parts show s (items i) (r .rest) f) in
+      = ap (λ (cs : List Segment). graftSegments (showSegments show cs) f .1) (r .is) ∙ ap (λ x. x .1) (segments-parts show s (items i) (r .rest) f) in
       record {
         ok = by-bool (hasRoom (length strs) (m .state .base) (graftSegments (showSegments show (items count)) f .1 .interner))
             (λ x. absurd (true≢false (sym (steps-every (showSegments show (r .rest)) .room (length strs) (m .state .base) (g .1) (rw q at x)) ∙ sym (a .ok) ∙ e)))

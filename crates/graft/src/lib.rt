@@ -160,7 +160,10 @@ fn graft_string(
     }
     if usage == 2 {
         if id == 4294967295 {
-            return Start { mark: m, at: 4294967295 };
+            return Start {
+                mark: m,
+                at: 4294967295,
+            };
         }
         return graft_str(tape, bytes, st, work, strs, p, m, id);
     }
@@ -262,7 +265,10 @@ fn words_of(mark: Mark, six: Six) -> Words
     ensures { λ r. ⌜ (r .mark ≡ mark) × (r .words ≡ six .words) ⌝ }
 {
     let words = six.words;
-    Words { mark: mark, words: words }
+    Words {
+        mark: mark,
+        words: words,
+    }
 }
 
 // How many contents the items of a run push.
@@ -344,7 +350,18 @@ fn pushed_segments(p: Plan, r: Mark, to: u32, len: u32) -> Start
 // ---- the walk: nine functions that call each other, the level falling on each turn
 
 // Section 5. `graft_node`: the words of the body at `at`, whose runs are pushed.
-pub fn graft_body(tape: &[u8], bytes: &[u8], st: store::Store, out: &mut [u8], work: &mut [u32], strs: &mut [u8], p: Plan, m: Mark, at: usize, level: u8) -> Words
+pub fn graft_body(
+    tape: &[u8],
+    bytes: &[u8],
+    st: store::Store,
+    out: &mut [u8],
+    work: &mut [u32],
+    strs: &mut [u8],
+    p: Plan,
+    m: Mark,
+    at: usize,
+    level: u8,
+) -> Words
     requires { ⌜ Ready (now tape) (now bytes) st p m (now out) (now work) (now strs) (bodyAdds level (now tape) st (bodyAt (now tape) at)) ⌝ }
     requires { ⌜ (at + 34 ≤ length (now tape)) × (bodyIn st (bodyAt (now tape) at) ≡ true) ⌝ }
     ensures { λ r. ⌜ WordsTold p m (now (out .entry)) (now (work .entry)) (now (strs .entry)) (now (out .exit)) (now (work .exit)) (now (strs .exit)) r (bodyFrom level (now (tape .entry)) (now (bytes .entry)) p (now (work .entry)) (now (strs .entry)) m (bodyAt (now (tape .entry)) at) 6) ⌝ }
@@ -366,7 +383,19 @@ pub fn graft_body(tape: &[u8], bytes: &[u8], st: store::Store, out: &mut [u8], w
 }
 
 // The field at place j: its words set among those so far.
-fn graft_place(tape: &[u8], bytes: &[u8], st: store::Store, out: &mut [u8], work: &mut [u32], strs: &mut [u8], p: Plan, u: Words, at: usize, j: usize, level: u8) -> Words
+fn graft_place(
+    tape: &[u8],
+    bytes: &[u8],
+    st: store::Store,
+    out: &mut [u8],
+    work: &mut [u32],
+    strs: &mut [u8],
+    p: Plan,
+    u: Words,
+    at: usize,
+    j: usize,
+    level: u8,
+) -> Words
     requires { ⌜ Ready (now tape) (now bytes) st p (u .mark) (now out) (now work) (now strs) (placeAdds (innerAdds level (now tape) st) (now tape) st (bodyAt (now tape) at) j) ⌝ }
     requires { ⌜ (at + 34 ≤ length (now tape)) × (bodyIn st (bodyAt (now tape) at) ≡ true) × (j < 6) ⌝ }
     ensures { λ r. ⌜ WordsTold p (u .mark) (now (out .entry)) (now (work .entry)) (now (strs .entry)) (now (out .exit)) (now (work .exit)) (now (strs .exit)) r (placeFrom level (now (tape .entry)) (now (bytes .entry)) (bodyAt (now (tape .entry)) at) j (u .words) (layerFrom p (now (work .entry)) (now (strs .entry)) (u .mark))) ⌝ }
@@ -381,37 +410,113 @@ fn graft_place(tape: &[u8], bytes: &[u8], st: store::Store, out: &mut [u8], work
 }
 
 // An id, noString, or the start of a run.
-fn graft_field(tape: &[u8], bytes: &[u8], st: store::Store, out: &mut [u8], work: &mut [u32], strs: &mut [u8], p: Plan, m: Mark, f: sizes::FieldWords, level: u8) -> Start
+fn graft_field(
+    tape: &[u8],
+    bytes: &[u8],
+    st: store::Store,
+    out: &mut [u8],
+    work: &mut [u32],
+    strs: &mut [u8],
+    p: Plan,
+    m: Mark,
+    f: sizes::FieldWords,
+    level: u8,
+) -> Start
     requires { ⌜ Ready (now tape) (now bytes) st p m (now out) (now work) (now strs) (usedAdds (innerAdds level (now tape) st) (now tape) st f) ⌝ }
     requires { ⌜ usedWell st (f .usage) (f .first) (f .second) ≡ true ⌝ }
     ensures { λ r. ⌜ StartTold p m (now (out .entry)) (now (work .entry)) (now (strs .entry)) (now (out .exit)) (now (work .exit)) (now (strs .exit)) r (fieldFrom level (now (tape .entry)) (now (bytes .entry)) f (layerFrom p (now (work .entry)) (now (strs .entry)) m)) ⌝ }
 {
     if f.usage == 3 {
-        return graft_content_run(tape, bytes, st, out, work, strs, p, m, f.first, f.second, level);
+        return graft_content_run(
+            tape,
+            bytes,
+            st,
+            out,
+            work,
+            strs,
+            p,
+            m,
+            f.first,
+            f.second,
+            level,
+        );
     }
     if f.usage == 5 {
-        return graft_segment_run(tape, bytes, st, out, work, strs, p, m, f.first, f.second, level);
+        return graft_segment_run(
+            tape,
+            bytes,
+            st,
+            out,
+            work,
+            strs,
+            p,
+            m,
+            f.first,
+            f.second,
+            level,
+        );
     }
     graft_string(tape, bytes, st, work, strs, p, m, f.usage, f.first)
 }
 
 // Section 5. A run of contents, behind all that its items push: where it starts.
-fn graft_content_run(tape: &[u8], bytes: &[u8], st: store::Store, out: &mut [u8], work: &mut [u32], strs: &mut [u8], p: Plan, m: Mark, start: u32, len: u32, level: u8) -> Start
+fn graft_content_run(
+    tape: &[u8],
+    bytes: &[u8],
+    st: store::Store,
+    out: &mut [u8],
+    work: &mut [u32],
+    strs: &mut [u8],
+    p: Plan,
+    m: Mark,
+    start: u32,
+    len: u32,
+    level: u8,
+) -> Start
     requires { ⌜ Ready (now tape) (now bytes) st p m (now out) (now work) (now strs) (contentRunAdds (innerAdds level (now tape) st) (now tape) st start len) ⌝ }
     requires { ⌜ contentsIn st start len ≡ true ⌝ }
     ensures { λ r. ⌜ StartTold p m (now (out .entry)) (now (work .entry)) (now (strs .entry)) (now (out .exit)) (now (work .exit)) (now (strs .exit)) r (contentRunFrom level (now (tape .entry)) (now (bytes .entry)) start len (layerFrom p (now (work .entry)) (now (strs .entry)) m)) ⌝ }
 {
     if len == 0 {
-        return Start { mark: m, at: p.contents + m.contents };
+        return Start {
+            mark: m,
+            at: p.contents + m.contents,
+        };
     }
     let at = store::content_place(st, start);
     let to = m.contents + inner_contents(tape, st, at, len as usize, level);
-    let r = graft_contents(tape, bytes, st, out, work, strs, p, m, at, len as usize, to, level);
+    let r = graft_contents(
+        tape,
+        bytes,
+        st,
+        out,
+        work,
+        strs,
+        p,
+        m,
+        at,
+        len as usize,
+        to,
+        level,
+    );
     pushed_contents(p, r, to, len)
 }
 
 // Section 5. The contents of a run, the first at number `to`.
-fn graft_contents(tape: &[u8], bytes: &[u8], st: store::Store, out: &mut [u8], work: &mut [u32], strs: &mut [u8], p: Plan, m: Mark, at: usize, count: usize, to: u32, level: u8) -> Mark
+fn graft_contents(
+    tape: &[u8],
+    bytes: &[u8],
+    st: store::Store,
+    out: &mut [u8],
+    work: &mut [u32],
+    strs: &mut [u8],
+    p: Plan,
+    m: Mark,
+    at: usize,
+    count: usize,
+    to: u32,
+    level: u8,
+) -> Mark
     requires { ⌜ Ready (now tape) (now bytes) st p m (now out) (now work) (now strs) (contentsAdd (innerAdds level (now tape) st) (now tape) st at count) ⌝ }
     requires { ⌜ (at + 10 * count ≤ length (now tape)) × (all (contentIn st) (recordsAt contentCodec (now tape) at count) ≡ true) ⌝ }
     requires { ⌜ (m .contents + contentsAdd (innerAdds level (now tape) st) (now tape) st at count .contents ≤ to) × (p .contentsat + 10 * (to + count) ≤ p .segmentsat) × (to + count < 2 ^ 32) ⌝ }
@@ -420,7 +525,19 @@ fn graft_contents(tape: &[u8], bytes: &[u8], st: store::Store, out: &mut [u8], w
     let mut u = m;
     let mut i = 0;
     while i < count {
-        u = graft_content(tape, bytes, st, out, work, strs, p, u, at + 10 * i, to + i as u32, level);
+        u = graft_content(
+            tape,
+            bytes,
+            st,
+            out,
+            work,
+            strs,
+            p,
+            u,
+            at + 10 * i,
+            to + i as u32,
+            level,
+        );
         if !u.ok {
             return u;
         }
@@ -430,7 +547,19 @@ fn graft_contents(tape: &[u8], bytes: &[u8], st: store::Store, out: &mut [u8], w
 }
 
 // Section 5. `graft_content`, written as content number `to`.
-fn graft_content(tape: &[u8], bytes: &[u8], st: store::Store, out: &mut [u8], work: &mut [u32], strs: &mut [u8], p: Plan, m: Mark, at: usize, to: u32, level: u8) -> Mark
+fn graft_content(
+    tape: &[u8],
+    bytes: &[u8],
+    st: store::Store,
+    out: &mut [u8],
+    work: &mut [u32],
+    strs: &mut [u8],
+    p: Plan,
+    m: Mark,
+    at: usize,
+    to: u32,
+    level: u8,
+) -> Mark
     requires { ⌜ Ready (now tape) (now bytes) st p m (now out) (now work) (now strs) (contentAdds (innerAdds level (now tape) st) (now tape) st (recordAt contentCodec (now tape) at)) ⌝ }
     requires { ⌜ (at + 10 ≤ length (now tape)) × (contentIn st (recordAt contentCodec (now tape) at) ≡ true) ⌝ }
     requires { ⌜ (m .contents + contentAdds (innerAdds level (now tape) st) (now tape) st (recordAt contentCodec (now tape) at) .contents ≤ to) × (p .contentsat + 10 * (to + 1) ≤ p .segmentsat) ⌝ }
@@ -447,7 +576,19 @@ fn graft_content(tape: &[u8], bytes: &[u8], st: store::Store, out: &mut [u8], wo
         put_content(out, place, 0, s.at, 0);
         return k;
     }
-    let s = graft_segment_run(tape, bytes, st, out, work, strs, p, m, c.first, c.second, level);
+    let s = graft_segment_run(
+        tape,
+        bytes,
+        st,
+        out,
+        work,
+        strs,
+        p,
+        m,
+        c.first,
+        c.second,
+        level,
+    );
     let k = s.mark;
     if !k.ok {
         return k;
@@ -457,22 +598,63 @@ fn graft_content(tape: &[u8], bytes: &[u8], st: store::Store, out: &mut [u8], wo
 }
 
 // Section 5. A run of segments, behind all that its items push: where it starts.
-fn graft_segment_run(tape: &[u8], bytes: &[u8], st: store::Store, out: &mut [u8], work: &mut [u32], strs: &mut [u8], p: Plan, m: Mark, start: u32, len: u32, level: u8) -> Start
+fn graft_segment_run(
+    tape: &[u8],
+    bytes: &[u8],
+    st: store::Store,
+    out: &mut [u8],
+    work: &mut [u32],
+    strs: &mut [u8],
+    p: Plan,
+    m: Mark,
+    start: u32,
+    len: u32,
+    level: u8,
+) -> Start
     requires { ⌜ Ready (now tape) (now bytes) st p m (now out) (now work) (now strs) (segmentRunAdds (innerAdds level (now tape) st) (now tape) st start len) ⌝ }
     requires { ⌜ segmentsIn st start len ≡ true ⌝ }
     ensures { λ r. ⌜ StartTold p m (now (out .entry)) (now (work .entry)) (now (strs .entry)) (now (out .exit)) (now (work .exit)) (now (strs .exit)) r (segmentRunFrom level (now (tape .entry)) (now (bytes .entry)) start len (layerFrom p (now (work .entry)) (now (strs .entry)) m)) ⌝ }
 {
     if len == 0 {
-        return Start { mark: m, at: p.segments + m.segments };
+        return Start {
+            mark: m,
+            at: p.segments + m.segments,
+        };
     }
     let at = store::segment_place(st, start);
     let to = m.segments + inner_segments(tape, st, at, len as usize, level);
-    let r = graft_segments(tape, bytes, st, out, work, strs, p, m, at, len as usize, to, level);
+    let r = graft_segments(
+        tape,
+        bytes,
+        st,
+        out,
+        work,
+        strs,
+        p,
+        m,
+        at,
+        len as usize,
+        to,
+        level,
+    );
     pushed_segments(p, r, to, len)
 }
 
 // Section 5. The segments of a run, the first at number `to`.
-fn graft_segments(tape: &[u8], bytes: &[u8], st: store::Store, out: &mut [u8], work: &mut [u32], strs: &mut [u8], p: Plan, m: Mark, at: usize, count: usize, to: u32, level: u8) -> Mark
+fn graft_segments(
+    tape: &[u8],
+    bytes: &[u8],
+    st: store::Store,
+    out: &mut [u8],
+    work: &mut [u32],
+    strs: &mut [u8],
+    p: Plan,
+    m: Mark,
+    at: usize,
+    count: usize,
+    to: u32,
+    level: u8,
+) -> Mark
     requires { ⌜ Ready (now tape) (now bytes) st p m (now out) (now work) (now strs) (segmentsAdd (innerAdds level (now tape) st) (now tape) at count) ⌝ }
     requires { ⌜ (at + 37 * count ≤ length (now tape)) × (all (segmentIn st) (recordsAt segmentCodec (now tape) at count) ≡ true) ⌝ }
     requires { ⌜ (m .segments + segmentsAdd (innerAdds level (now tape) st) (now tape) at count .segments ≤ to) × (p .segmentsat + 37 * (to + count) ≤ length (now out)) × (to + count < 2 ^ 32) ⌝ }
@@ -481,7 +663,19 @@ fn graft_segments(tape: &[u8], bytes: &[u8], st: store::Store, out: &mut [u8], w
     let mut u = m;
     let mut i = 0;
     while i < count {
-        u = graft_segment(tape, bytes, st, out, work, strs, p, u, at + 37 * i, to + i as u32, level);
+        u = graft_segment(
+            tape,
+            bytes,
+            st,
+            out,
+            work,
+            strs,
+            p,
+            u,
+            at + 37 * i,
+            to + i as u32,
+            level,
+        );
         if !u.ok {
             return u;
         }
@@ -491,7 +685,19 @@ fn graft_segments(tape: &[u8], bytes: &[u8], st: store::Store, out: &mut [u8], w
 }
 
 // Section 5. `graft_segment`, written as segment number `to`; levels are copied. Below level 0 a body is all zeros.
-fn graft_segment(tape: &[u8], bytes: &[u8], st: store::Store, out: &mut [u8], work: &mut [u32], strs: &mut [u8], p: Plan, m: Mark, at: usize, to: u32, level: u8) -> Mark
+fn graft_segment(
+    tape: &[u8],
+    bytes: &[u8],
+    st: store::Store,
+    out: &mut [u8],
+    work: &mut [u32],
+    strs: &mut [u8],
+    p: Plan,
+    m: Mark,
+    at: usize,
+    to: u32,
+    level: u8,
+) -> Mark
     requires { ⌜ Ready (now tape) (now bytes) st p m (now out) (now work) (now strs) (innerAdds level (now tape) st (recordAt segmentCodec (now tape) at .body)) ⌝ }
     requires { ⌜ (at + 37 ≤ length (now tape)) × (segmentIn st (recordAt segmentCodec (now tape) at) ≡ true) ⌝ }
     requires { ⌜ (m .segments + innerAdds level (now tape) st (recordAt segmentCodec (now tape) at .body) .segments ≤ to) × (p .segmentsat + 37 * (to + 1) ≤ length (now out)) ⌝ }
@@ -499,7 +705,17 @@ fn graft_segment(tape: &[u8], bytes: &[u8], st: store::Store, out: &mut [u8], wo
 {
     let place = p.segmentsat + 37 * (to as usize);
     if level == 0 {
-        put_segment(out, place, tape[at + 1], tape[at + 2], 0, 0, 0, 0, [0u32; 6]);
+        put_segment(
+            out,
+            place,
+            tape[at + 1],
+            tape[at + 2],
+            0,
+            0,
+            0,
+            0,
+            [0u32; 6],
+        );
         return m;
     }
     let b = graft_body(tape, bytes, st, out, work, strs, p, m, at + 3, level - 1);
@@ -510,6 +726,16 @@ fn graft_segment(tape: &[u8], bytes: &[u8], st: store::Store, out: &mut [u8], wo
     let words = b.words;
     let first = wire::u32_at(tape, at + 5);
     let second = wire::u32_at(tape, at + 9);
-    put_segment(out, place, tape[at + 1], tape[at + 2], tape[at + 3], tape[at + 4], first, second, words);
+    put_segment(
+        out,
+        place,
+        tape[at + 1],
+        tape[at + 2],
+        tape[at + 3],
+        tape[at + 4],
+        first,
+        second,
+        words,
+    );
     k
 }

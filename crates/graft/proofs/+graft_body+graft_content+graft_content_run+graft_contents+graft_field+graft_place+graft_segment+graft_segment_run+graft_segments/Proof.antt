@@ -826,7 +826,7 @@ graft-contents-add-i : (t : ℕ) → graft-contents-lts.Need-add-i (
   graft-content-below t,
   graft-content.Post,
 ) (graft-contents-at t) graft-contents.Post graft-contents-Inv-loop graft-contents-μ-loop
-graft-contents-add-i t c = omega (arith, c .before .before .before .before .before .before .before .before .before .before .before .before .before .before .before .before .before .before .before .pre .1 .1 .0 .0, c .before .before .before .before .before .before .before .before .before .before .before .before .loop-test .taken)
+graft-contents-add-i t c = omega (arith, c .before .before .before .before .before .before .before .before .before .before .before .before .before .before .before .before .before .before .before .pre .1 .1 .1 .2, c .before .before .before .before .before .before .before .before .before .before .before .before .loop-test .taken)
 
 -- src/lib.rt:422:5
 graft-contents-loop-less : (t : ℕ) → graft-contents-lts.Need-loop-less (
@@ -1362,7 +1362,7 @@ graft-segment-add-u32-at : (t : ℕ) → graft-segment-lts.Need-add-u32-at (
   u32-at-reads.Asked,
   u32-at-reads.Learnt,
 ) (graft-segment-at t) graft-segment.Post
-graft-segment-add-u32-at t c = omega (arith, c .before .before .before .before .before .before .before .before .before .before .before .before .before .before .before .before .before .before .before .before .before .pre .1 .1 .0 .0)
+graft-segment-add-u32-at t c = omega (arith, c .before .before .before .before .before .before .before .before .before .before .before .before .before .before .before .before .before .before .before .before .before .pre .1 .1 .0 .0, c .before .before .before .before .before .before .before .before .before .before .before .before .before .before .before .before .before .before .before .before .before .good, c .before .before .before .before .before .before .before .before .before .before .before .before .before .before .before .before .before .before .before .before .before .fits)
 
 -- src/lib.rt:511:9
 graft-segment-u32-at-requires : (t : ℕ) → graft-segment-lts.Need-u32-at-requires (
@@ -1384,7 +1384,7 @@ graft-segment-add-u32-at-2 : (t : ℕ) → graft-segment-lts.Need-add-u32-at-2 (
   u32-at-reads.Asked,
   u32-at-reads.Learnt,
 ) (graft-segment-at t) graft-segment.Post
-graft-segment-add-u32-at-2 t c = omega (arith, c .before .before .before .before .before .before .before .before .before .before .before .before .before .before .before .before .before .before .before .before .before .before .pre .1 .1 .0 .0)
+graft-segment-add-u32-at-2 t c = omega (arith, c .before .before .before .before .before .before .before .before .before .before .before .before .before .before .before .before .before .before .before .before .before .before .pre .1 .1 .0 .0, c .before .before .before .before .before .before .before .before .before .before .before .before .before .before .before .before .before .before .before .before .before .before .good, c .before .before .before .before .before .before .before .before .before .before .before .before .before .before .before .before .before .before .before .before .before .before .fits)
 
 -- src/lib.rt:512:9
 graft-segment-u32-at-requires-2 : (t : ℕ) → graft-segment-lts.Need-u32-at-requires-2 (
@@ -1406,7 +1406,7 @@ graft-segment-add-put-segment-3 : (t : ℕ) → graft-segment-lts.Need-add-put-s
   u32-at-reads.Asked,
   u32-at-reads.Learnt,
 ) (graft-segment-at t) graft-segment.Post
-graft-segment-add-put-segment-3 t c = omega (arith, c .before .before .before .before .before .before .before .before .before .before .before .before .before .before .before .before .before .before .before .before .before .before .before .before .pre .1 .1 .0 .0)
+graft-segment-add-put-segment-3 t c = omega (arith, c .before .before .before .before .before .before .before .before .before .before .before .before .before .before .before .before .before .before .before .before .before .before .before .before .pre .1 .1 .0 .0, c .before .before .before .before .before .before .before .before .before .before .before .before .before .before .before .before .before .before .before .before .before .before .before .before .good, c .before .before .before .before .before .before .before .before .before .before .before .before .before .before .before .before .before .before .before .before .before .before .before .before .fits)
 
 -- src/lib.rt:513:29
 graft-segment-shared-slice-read-put-segment-3 :
@@ -1429,7 +1429,7 @@ graft-segment-add-put-segment-4 : (t : ℕ) → graft-segment-lts.Need-add-put-s
   u32-at-reads.Asked,
   u32-at-reads.Learnt,
 ) (graft-segment-at t) graft-segment.Post
-graft-segment-add-put-segment-4 t c = omega (arith, c .before .before .before .before .before .before .before .before .before .before .before .before .before .before .before .before .before .before .before .before .before .before .before .before .before .pre .1 .1 .0 .0)
+graft-segment-add-put-segment-4 t c = omega (arith, c .before .before .before .before .before .before .before .before .before .before .before .before .before .before .before .before .before .before .before .before .before .before .before .before .before .pre .1 .1 .0 .0, c .before .before .before .before .before .before .before .before .before .before .before .before .before .before .before .before .before .before .before .before .before .before .before .before .before .good, c .before .before .before .before .before .before .before .before .before .before .before .before .before .before .before .before .before .before .before .before .before .before .before .before .before .fits)
 
 -- src/lib.rt:513:43
 graft-segment-shared-slice-read-put-segment-4 :
@@ -1452,7 +1452,7 @@ graft-segment-add-put-segment-5 : (t : ℕ) → graft-segment-lts.Need-add-put-s
   u32-at-reads.Asked,
   u32-at-reads.Learnt,
 ) (graft-segment-at t) graft-segment.Post
-graft-segment-add-put-segment-5 t c = omega (arith, c .before .before .before .before .before .before .before .before .before .before .before .before .before .before .before .before .before .before .before .before .before .before .before .before .before .before .pre .1 .1 .0 .0)
+graft-segment-add-put-segment-5 t c = omega (arith, c .before .before .before .before .before .before .before .before .before .before .before .before .before .before .before .before .before .before .before .before .before .before .before .before .before .before .pre .1 .1 .0 .0, c .before .before .before .before .before .before .before .before .before .before .before .before .before .before .before .before .before .before .before .before .before .before .before .before .before .before .good, c .before .before .before .before .before .before .before .before .before .before .before .before .before .before .before .before .before .before .before .before .before .before .before .before .before .before .fits)
 
 -- src/lib.rt:513:57
 graft-segment-shared-slice-read-put-segment-5 :
@@ -1475,7 +1475,7 @@ graft-segment-add-put-segment-6 : (t : ℕ) → graft-segment-lts.Need-add-put-s
   u32-at-reads.Asked,
   u32-at-reads.Learnt,
 ) (graft-segment-at t) graft-segment.Post
-graft-segment-add-put-segment-6 t c = omega (arith, c .before .before .before .before .before .before .before .before .before .before .before .before .before .before .before .before .before .before .before .before .before .before .before .before .before .before .before .pre .1 .1 .0 .0)
+graft-segment-add-put-segment-6 t c = omega (arith, c .before .before .before .before .before .before .before .before .before .before .before .before .before .before .before .before .before .before .before .before .before .before .before .before .before .before .before .pre .1 .1 .0 .0, c .before .before .before .before .before .before .before .before .before .before .before .before .before .before .before .before .before .before .before .before .before .before .before .before .before .before .before .good, c .before .before .before .before .before .before .before .before .before .before .before .before .before .before .before .before .before .before .before .before .before .before .before .before .before .before .before .fits)
 
 -- src/lib.rt:513:71
 graft-segment-shared-slice-read-put-segment-6 :
@@ -1772,7 +1772,7 @@ graft-segments-add-i : (t : ℕ) → graft-segments-lts.Need-add-i (
   graft-segment-below t,
   graft-segment.Post,
 ) (graft-segments-at t) graft-segments.Post graft-segments-Inv-loop graft-segments-μ-loop
-graft-segments-add-i t c = omega (arith, c .before .before .before .before .before .before .before .before .before .before .before .before .before .before .before .before .before .before .before .pre .1 .1 .0 .0, c .before .before .before .before .before .before .before .before .before .before .before .before .loop-test .taken)
+graft-segments-add-i t c = omega (arith, c .before .before .before .before .before .before .before .before .before .before .before .before .before .before .before .before .before .before .before .pre .1 .1 .1 .2, c .before .before .before .before .before .before .before .before .before .before .before .before .loop-test .taken)
 
 -- src/lib.rt:483:5
 graft-segments-loop-less : (t : ℕ) → graft-segments-lts.Need-loop-less (
