@@ -1098,7 +1098,7 @@ graft-place-with-words-requires : (t : ℕ) → graft-place-lts.Need-with-words-
   words-of-reads.Asked,
   words-of-reads.Learnt,
 ) (graft-place-at t) graft-place.Post
-graft-place-with-words-requires t c κs = c .before .before .before .before .before .before .before .before .before .before .before .before .before .before .field-word .ensures .1
+graft-place-with-words-requires t c κs = omega (arith, c .before .before .before .before .before .before .before .before .before .before .before .before .before .before .field-word .ensures .1, c .before .before .before .before .before .before .before .before .before .before .before .before .before .before .before .before .before .before .before .before .before .pre .1 .1 .2)
 
 -- src/lib.rt:380:5
 graft-place-words-of-requires : (t : ℕ) → graft-place-lts.Need-words-of-requires (
