@@ -109,7 +109,7 @@ unfoldable pub placeAdds : (Body → Added) → List ℕ → Store → Body → 
 placeAdds inner t st b j = usedAdds inner t st (fieldWords b j)
 
 module _ (inner : Body → Added) (t : List ℕ) (st : Store) (b : Body) where
-  from-adds : (u i : ℕ) → addAll (fieldAdds inner t st b) (fieldFrom u i) ≡ usedAdds inner t st (record { usage = u; first = wordOf b i; second = wordOf b (i + 1) })
+  pub from-adds : (u i : ℕ) → addAll (fieldAdds inner t st b) (fieldFrom u i) ≡ usedAdds inner t st (record { usage = u; first = wordOf b i; second = wordOf b (i + 1) })
   unfolding fieldFrom addAll fieldAdds usedAdds stringAdds
   from-adds u i =
       by-bool (eqb u 1) (λ e. let q : u ≡ 1 = eqb-true u 1 e in rw q (add-nothing oneCall))
@@ -118,7 +118,7 @@ module _ (inner : Body → Added) (t : List ℕ) (st : Store) (b : Body) where
       (λ g. rw g (by-bool (eqb u 5) (λ h. rw h (add-nothing (segmentRunAdds inner t st (wordOf b i) (wordOf b (i + 1)))))
       (λ h. rw h refl)))))))
 
-  places-add : (n j : ℕ) → addAll (fieldAdds inner t st b) (placeFields (b .kind) (b .tag) n j) ≡ addFrom (placeAdds inner t st b) n j
+  pub places-add : (n j : ℕ) → addAll (fieldAdds inner t st b) (placeFields (b .kind) (b .tag) n j) ≡ addFrom (placeAdds inner t st b) n j
   unfolding placeFields placeField addFrom placeAdds addAll
   places-add zero j = refl
   places-add (suc n) j =

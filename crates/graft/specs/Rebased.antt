@@ -10,7 +10,7 @@ use Rattle.model.specs.Limits.{noString}
 use Rattle.model.specs.Types.{Content, Segment}
 use Rattle.model.specs.Tree.{Tree, Tree.tree, Fields, Fields.done, Fields.text, Fields.absent, Fields.contents, Fields.segments}
 use Rattle.model.specs.Tree.{Contents, Contents.noContent, Contents.plain, Contents.segmented, Segments, Segments.noSegment, Segments.segment}
-use Rattle.intern.specs.State.{hasRoom}
+use Rattle.interner.specs.State.{hasRoom}
 use Rattle.intern.specs.Calls.{room-before}
 use Rattle.model.specs.Graft.{NewLayer, With, graftStr, pushContents, pushSegments, graftNode, graftFields, graftContents, graftSegments}
 

@@ -13,6 +13,7 @@ use Rattle.model.specs.Tape.{recordsAt, recordBytes, recordsBytes, contentCodec
 use Rattle.model.specs.Tree.{showContents, showSegments}
 use Rattle.model.specs.Graft.{NewLayer, With, graftStr, graftContents, graftSegments, pushContents, pushSegments}
 use Rattle.wire.specs.Overwrite.{overwrite}
+use Rattle.interner.specs.State.{Good, stateOf, hasRoom}
 use Rattle.store.specs.declared.Store.{Store}
 use Rattle.store.specs.Standing.{segment-range, content-range, length-records, segmentPlace, contentPlace}
 use Rattle.ids.specs.Tests.{contentsIn, segmentsIn}
@@ -32,22 +33,26 @@ use Rattle.graft.specs.declared.Start.{Start}
 
 -- ---- nothing is grafted
 
+module _ {p : Plan} {m : Mark} {work strs : List ℕ} (good : Good work strs (m .state)) (going : m .ok ≡ true) (has : hasRoom (length strs) (m .state .base) (stateOf work strs (m .state)) ≡ true) where
+  pub told-nothing : (out : List ℕ) → Told p m out work strs out work strs m (layerFrom p work strs m)
+  unfolding recordsBytes flatten
+  told-nothing out = record {
+    ok = going ∙ sym has;
+    made = λ e. record {
+      good = good;
+      state = refl;
+      contents = omega arith;
+      segments = omega arith;
+      wrote = blocks-none out (contentAt p m) (segmentAt p m);
+      base = refl;
+      kept = refl;
+      free = refl;
+      long = refl;
+    };
+  }
+
 pub told-none : {t d : List ℕ} {st : Store} {p : Plan} {m : Mark} {out work strs : List ℕ} {a : Added} → Ready t d st p m out work strs a → Told p m out work strs out work strs m (layerFrom p work strs m)
-unfolding recordsBytes flatten
-told-none {t} {d} {st} {p} {m} {out} {work} {strs} r = record {
-  ok = r .going ∙ sym (r .has);
-  made = λ e. record {
-    good = r .good;
-    state = refl;
-    contents = omega arith;
-    segments = omega arith;
-    wrote = blocks-none out (contentAt p m) (segmentAt p m);
-    base = refl;
-    kept = refl;
-    free = refl;
-    long = refl;
-  };
-}
+told-none {t} {d} {st} {p} {m} {out} {work} {strs} r = told-nothing (r .good) (r .going) (r .has) out
 
 -- ---- one content
 

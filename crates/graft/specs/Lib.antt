@@ -10,3 +10,9 @@ pub mod Written
 pub mod Rooms
 pub mod Answers
 pub mod Bodies
+pub mod Fields
+pub mod Records
+pub mod ContentItems
+pub mod SegmentItems
+pub mod Items
+pub mod Inner

@@ -9,7 +9,7 @@ use lib.ListN.{length, take, drop, length-append}
 use Rattle.model.specs.Tape.{Codec, recordBytes, recordsBytes, contentCodec, segmentCodec}
 use Rattle.model.specs.Graft.{NewLayer}
 use Rattle.wire.specs.Loops.{by-bool}
-use Rattle.intern.specs.State.{stateOf, Good, hasRoom}
+use Rattle.interner.specs.State.{stateOf, Good, hasRoom}
 use Rattle.graft.specs.Rebased.{rebased, behind, SameOffsets}
 use Rattle.graft.specs.Blocks.{blocks, blocks-then}
 use Rattle.graft.specs.declared.Plan.{Plan}

@@ -12,7 +12,7 @@ use Rattle.model.specs.Tape.{Field, Field.str, Field.optStr, Field.contentRange
 use Rattle.model.specs.Tree.{Tree, showSegments, showContents, showFields}
 use Rattle.model.specs.Graft.{NewLayer, With, graftStr, pushContents, pushSegments, graftNode, graftFields, graftContents, graftSegments}
 use Rattle.wire.specs.Loops.{by-bool}
-use Rattle.intern.specs.State.{hasRoom}
+use Rattle.interner.specs.State.{hasRoom}
 use Rattle.graft.specs.Rebased.{rebased, behind, steps-each, steps-every}
 use Rattle.graft.specs.Grafted.{layerFrom, Sized, Roomy, next-layer}
 use Rattle.graft.specs.Runs.{ContentsSoFar, SegmentsSoFar, contents-then, segments-then}

@@ -15,7 +15,8 @@ use Rattle.model.specs.Graft.{graftStr}
 use Rattle.model.specs.Intern.{StrInterner, Interned, intern, cacheHit, bypass, tableAlloc, tableHit}
 use Rattle.wire.specs.Loops.{by-bool}
 use Rattle.places.specs.Again.{nodes-place}
-use Rattle.intern.specs.State.{stateOf, Good, Told as InternTold}
+use Rattle.interner.specs.State.{stateOf, Good}
+use Rattle.intern.specs.Told.{Told as InternTold}
 use Rattle.intern.specs.Calls.{each-way, answered-base}
 use Rattle.intern.specs.declared.Answer.{Answer}
 use Rattle.graft.specs.Blocks.{blocks-none}

@@ -13,10 +13,10 @@ use Rattle.model.specs.Store.{resolveContentRange, resolveSegRange}
 use Rattle.model.specs.Tape.{Field, recordsAt, contentCodec, segmentCodec}
 use Rattle.model.specs.Tree.{showContents, showSegments, showFields}
 use Rattle.model.specs.Graft.{NewLayer, graftFields}
-use Rattle.intern.specs.State.{hasRoom}
+use Rattle.interner.specs.State.{hasRoom}
 use Rattle.store.specs.declared.Store.{Store}
 use Rattle.ids.specs.Tests.{fieldIn, contentIn, segmentIn, contentsIn, segmentsIn}
-use Rattle.sizes.specs.Added.{Added, add}
+use Rattle.sizes.specs.Added.{Added, add, add-assoc}
 use Rattle.sizes.specs.Trees.{Grew, contents-grow, segments-grow, fields-grow, content-run-grows, segment-run-grows}
 use Rattle.sizes.specs.InPlace.{innerAdds, contentsAdd, contentRunAdds, segmentsAdd, segmentRunAdds, fieldsAdd}
 use Rattle.sizes.specs.Shown.{showInner, segments-agree, contents-agree, fields-agree, segment-run-agrees, content-run-agrees, inner-agrees}
@@ -57,15 +57,20 @@ module _ (p : Plan) (m : Mark) (out work strs : List ℕ) {out′ work′ strs�
     calls = omega (arith, s .calls, calls-on);
   }
 
-  pub ready-next : {t d : List ℕ} {st : Store} (b : Added) → r .ok ≡ hasRoom (length strs) (m .state .base) (g .interner) → r .ok ≡ true → length out′ ≡ length out
-      → Ready t d st p m out work strs (add a b) → Ready t d st p r out′ work′ strs′ b
-  ready-next {t} {d} {st} b o e l y = record {
+  pub ready-next : {t d tape : List ℕ} {st : Store} (b : Added) → r .ok ≡ hasRoom (length strs) (m .state .base) (g .interner) → r .ok ≡ true → length tape ≡ length out
+      → Ready t d st p m out work strs (add a b) → Ready t d st p r tape work′ strs′ b
+  ready-next {t} {d} {tape} {st} b o e l y = record {
     source = y .source;
     good = x .good;
     going = e;
     has = (λ i. hasRoom (x .long i) (x .base i) (x .state i)) ∙ sym o ∙ e;
     space = rw l (space-next b (y .space));
   }
+
+  -- room for the item behind the first part, whatever follows it
+  pub ready-item : {t d tape : List ℕ} {st : Store} (b rest : Added) → r .ok ≡ hasRoom (length strs) (m .state .base) (g .interner) → r .ok ≡ true → length tape ≡ length out
+      → Ready t d st p m out work strs (add (add a b) rest) → Ready t d st p r tape work′ strs′ b
+  ready-item b rest o e l y = ready-left b rest (ready-next (add b rest) o e l (rw (add-assoc a b rest) at y))
 
 pub roomy : {p : Plan} {m : Mark} (out work strs : List ℕ) {g : NewLayer} {a : Added} → Space p m (length out) a → Grew (layerFrom p work strs m) g a → Roomy p m out g
 roomy out work strs s k = record { contents = omega (arith, s .contents, k .contents); segments = omega (arith, s .segments, k .segments) }

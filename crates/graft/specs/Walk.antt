@@ -18,7 +18,7 @@ use Rattle.store.specs.Standing.{allLengths}
 use Rattle.store.specs.declared.Store.{Store}
 use Rattle.ids.specs.Tests.{contentIn, segmentIn}
 use Rattle.levels.specs.Below.{LevelsFit}
-use Rattle.intern.specs.State.{hasRoom, Good, stateOf}
+use Rattle.interner.specs.State.{hasRoom, Good, stateOf}
 use Rattle.intern.specs.declared.Answer.{Answer}
 use Rattle.sizes.specs.Shown.{showInner}
 use Rattle.sizes.specs.Order.{placeField, placeFields}
@@ -116,13 +116,17 @@ contentRunFrom l t d start len f = let r = shownContents l t d (resolveContentRa
 unfoldable pub segmentRunFrom : ℕ → List ℕ → List ℕ → ℕ → ℕ → NewLayer → With ℕ
 segmentRunFrom l t d start len f = let r = shownSegments l t d (resolveSegRange (sourceStore t d) start len) f in pushSegments (r .0) (r .1)
 
+-- a string that may be missing: its id, or noString; 0 where there is none
+unfoldable pub idFrom : List ℕ → List ℕ → ℕ → ℕ → NewLayer → With ℕ
+idFrom t d u w g =
+    cond (eqb u 1) (graftStr (resolveStr (sourceStore t d) w) g)
+    (cond (eqb u 2) (cond (eqb w noString) (noString, g) (graftStr (resolveStr (sourceStore t d) w) g)) (0, g))
+
 -- a field by its use: its id, noString, its run's start, or 0 where none begins
 unfoldable pub fieldFrom : ℕ → List ℕ → List ℕ → FieldWords → NewLayer → With ℕ
 fieldFrom l t d f g =
     cond (eqb (f .usage) 3) (contentRunFrom l t d (f .first) (f .second) g)
-    (cond (eqb (f .usage) 5) (segmentRunFrom l t d (f .first) (f .second) g)
-    (cond (eqb (f .usage) 1) (graftStr (resolveStr (sourceStore t d) (f .first)) g)
-    (cond (eqb (f .usage) 2) (cond (eqb (f .first) noString) (noString, g) (graftStr (resolveStr (sourceStore t d) (f .first)) g)) (0, g))))
+    (cond (eqb (f .usage) 5) (segmentRunFrom l t d (f .first) (f .second) g) (idFrom t d (f .usage) (f .first) g))
 
 -- the words with a field's own at i
 unfoldable pub wordsWith : List ℕ → ℕ → FieldWords → ℕ → List ℕ

@@ -28,7 +28,7 @@ use Rattle.sizes.specs.Trees.{length-segments, length-contents}
 use Rattle.sizes.specs.Shown.{showInner, segments-shown, contents-shown}
 use Rattle.sizes.specs.declared.FieldWords.{FieldWords}
 use Rattle.graft.specs.Grafted.{layerFrom}
-use Rattle.graft.specs.Walk.{Source, sourceStore, shownContents, shownSegments, bodyFrom, placeFrom, contentRunFrom, segmentRunFrom, fieldFrom, wordsWith}
+use Rattle.graft.specs.Walk.{Source, sourceStore, shownContents, shownSegments, bodyFrom, placeFrom, contentRunFrom, segmentRunFrom, fieldFrom, idFrom, wordsWith}
 use Rattle.graft.specs.declared.Plan.{Plan}
 use Rattle.graft.specs.declared.Mark.{Mark}
 
@@ -95,7 +95,7 @@ module _ (l : ℕ) (t d : List ℕ) (st : Store) (source : Source t d st) where
     word-from : (u : ℕ) → usedWell st u (wordOf b i) (wordOf b (i + 1)) ≡ true
         → graftFields (showFields (showInner l (sourceStore t d)) (sourceStore t d) b (fieldAtWord u i)) ws f
         ≡ (wordsWith ws i (fieldOf u) (fieldFrom l t d (fieldOf u) f .0), fieldFrom l t d (fieldOf u) f .1)
-    unfolding fieldAtWord showFields graftFields wordsWith fieldFrom usedWell contentRunFrom segmentRunFrom
+    unfolding fieldAtWord showFields graftFields wordsWith fieldFrom idFrom usedWell contentRunFrom segmentRunFrom
     word-from u h =
         by-bool (eqb u 1) (λ e. let q : u ≡ 1 = eqb-true u 1 e in rw q refl)
         (λ e. by-bool (eqb u 2)
