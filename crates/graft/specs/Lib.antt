@@ -16,3 +16,5 @@ pub mod ContentItems
 pub mod SegmentItems
 pub mod Items
 pub mod Inner
+pub mod Nodes
+pub mod NodeItems
