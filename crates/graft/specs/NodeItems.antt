@@ -1,20 +1,22 @@
 -- The nodes of the reading, one after the other: their records stand behind the new segments, from `nodesat` on.
 use mathlib.Core.Path.{_≡_, refl, sym, ap, ap₂, _∙_}
-use Prim.Native.Nat.{ℕ, _+_, _*_, _≤_}
+use Prim.Native.Nat.{ℕ, suc, _+_, _*_, _≤_}
 use native.Mathlib.Omega.{arith}
 use mathlib.Core.Bool.{true}
-use mathlib.Core.List.{List, [], _∷_, _++_}
+use mathlib.Core.List.{List, [], _∷_, _++_, flatten}
 use lib.ListN.{length, length-append}
 use Rattle.model.specs.Types.{SourceNode}
-use Rattle.model.specs.Tape.{recordsBytes, contentCodec, segmentCodec, nodeCodec}
+use Rattle.model.specs.Bytes.{wordBytes}
+use Rattle.model.specs.Tape.{recordBytes, operandBytes, recordsBytes, contentCodec, segmentCodec, nodeCodec}
 use Rattle.model.specs.Tree.{ShownNode}
 use Rattle.model.specs.Graft.{NewLayer, With, graftNode, graftNodeRef, graftNodeRefs}
 use Rattle.wire.specs.Overwrite.{overwrite, overwrite-next}
 use Rattle.interner.specs.State.{hasRoom}
-use Rattle.graft.specs.Rebased.{Steps, behind, steps-return, steps-then, steps-node}
+use Rattle.graft.specs.Rebased.{Steps, rebased, behind, steps-return, steps-then, steps-node}
 use Rattle.graft.specs.Blocks.{length-blocks, items-second}
-use Rattle.graft.specs.Grafted.{contentAt, segmentAt, laid, Sized, Roomy, Made, made-then, bytes-append}
-use Rattle.graft.specs.Widths.{node-sized}
+use Rattle.graft.specs.Grafted.{layerFrom, next-layer, contentAt, segmentAt, laid, Sized, Roomy, Made, made-then, bytes-append}
+use Rattle.graft.specs.Widths.{SixWords, six-words, node-six, node-sized}
+use Rattle.graft.specs.Turns.{empty-sized}
 use Rattle.graft.specs.declared.Plan.{Plan}
 use Rattle.graft.specs.declared.Mark.{Mark}
 
@@ -44,6 +46,34 @@ pub refs-sized : (ns : List ShownNode) (f : NewLayer) → Sized f → Sized (gra
 unfolding graftNodeRefs graftNodeRef
 refs-sized [] f x = x
 refs-sized (n ∷ ns) f x = refs-sized ns (graftNodeRef n f .1) (node-sized (n .body) f x)
+
+-- ---- 49 bytes a record
+
+node-width : (n : SourceNode) → SixWords (n .body) → length (recordBytes nodeCodec n) ≡ 49
+unfolding recordBytes operandBytes nodeCodec wordBytes
+node-width n w =
+    six-words (n .body .words) (w .is)
+    (λ ws. length (recordBytes nodeCodec (record {
+      class = n .class;
+      inline = n .inline;
+      sourceSpan = n .sourceSpan;
+      normalizedOffset = n .normalizedOffset;
+      body = record { kind = n .body .kind; tag = n .body .tag; plain1 = n .body .plain1; plain2 = n .body .plain2; words = ws };
+    })))
+    49 (λ a b d e f g. refl)
+
+pub refs-width : (ns : List ShownNode) (f : NewLayer) → length (recordsBytes nodeCodec (graftNodeRefs ns f .0)) ≡ 49 * length (graftNodeRefs ns f .0)
+unfolding graftNodeRefs graftNodeRef recordsBytes flatten
+refs-width [] f = refl
+refs-width (n ∷ ns) f =
+    let r = graftNodeRef n f in
+    let rest = graftNodeRefs ns (r .1) in
+    length-append (recordBytes nodeCodec (r .0)) (recordsBytes nodeCodec (rest .0)) ∙ (let x = node-width (r .0) (node-six (n .body) f) in let y = refs-width ns (r .1) in omega (arith, x, y))
+
+pub length-refs : (ns : List ShownNode) (f : NewLayer) → length (graftNodeRefs ns f .0) ≡ length ns
+unfolding graftNodeRefs
+length-refs [] f = refl
+length-refs (n ∷ ns) f = ap suc (length-refs ns (graftNodeRef n f .1))
 
 -- ---- records written behind the segments
 
@@ -90,3 +120,35 @@ module _ (p : Plan) (m : Mark) (nodesat : ℕ) (out work strs : List ℕ) {out�
             (omega (arith, si)) (omega (arith, k, sm, z, high))
             ∙ ap (overwrite mid nodesat) (sym (bytes-append nodeCodec items more));
       }
+
+-- the nodes that are grafted where the walk is at m
+abbrev pub refsFrom : Plan → List ℕ → List ℕ → Mark → List ShownNode → With (List SourceNode)
+refsFrom p work strs m ns = graftNodeRefs ns (layerFrom p work strs m)
+
+module _ (p : Plan) (m : Mark) (nodesat : ℕ) (out work strs : List ℕ) {out₁ work₁ strs₁ : List ℕ} {r₁ : Mark} where
+  module _ (xs ys : List ShownNode) (a : NodesSoFar p m nodesat out work strs out₁ work₁ strs₁ r₁ ((refsFrom p work strs m xs) .0) ((refsFrom p work strs m xs) .1)) where
+    refs-joined : (refsFrom p work strs m (xs ++ ys)) ≡ ((refsFrom p work strs m xs) .0 ++ (refsFrom p work₁ strs₁ r₁ ys) .0, behind ((refsFrom p work strs m xs) .1) ((refsFrom p work₁ strs₁ r₁ ys) .1))
+    refs-joined =
+        let cs = ys in
+        let f = (refsFrom p work strs m xs) .1 in
+        let e : rebased f ≡ layerFrom p work₁ strs₁ r₁ = sym (next-layer p m out work strs (a .made) (steps-refs (xs) .offsets (layerFrom p work strs m))) in
+        let x : graftNodeRefs cs f .0 ≡ (refsFrom p work₁ strs₁ r₁ ys) .0 = steps-refs cs .answer f ∙ ap (λ (l : NewLayer). graftNodeRefs cs l .0) e in
+        let y : graftNodeRefs cs f .1 ≡ behind f ((refsFrom p work₁ strs₁ r₁ ys) .1) = steps-refs cs .layer f ∙ ap (λ (l : NewLayer). behind f (graftNodeRefs cs l .1)) e in
+        refs-parts xs ys (layerFrom p work strs m) ∙ (λ i. ((refsFrom p work strs m xs) .0 ++ x i, y i))
+
+    pub nodes-turn : {out₂ work₂ strs₂ : List ℕ} {r : Mark} (n : ℕ) → n ≡ nodesat + 49 * length ((refsFrom p work strs m xs) .0) → Roomy p m out ((refsFrom p work strs m (xs ++ ys)) .1)
+        → p .segmentsat + 37 * (m .segments + length ((refsFrom p work strs m (xs ++ ys)) .1 .segments)) ≤ nodesat → nodesat + 49 * length ((refsFrom p work strs m (xs ++ ys)) .0) ≤ length out
+        → NodesTold p r₁ n out₁ work₁ strs₁ out₂ work₂ strs₂ r (refsFrom p work₁ strs₁ r₁ ys) → NodesTold p m nodesat out work strs out₂ work₂ strs₂ r (refsFrom p work strs m (xs ++ ys))
+    nodes-turn n e room low high b =
+        let g = (refsFrom p work strs m xs) .1 in
+        let h = (refsFrom p work₁ strs₁ r₁ ys) .1 in
+        let q = refs-joined in
+        let sg = refs-sized (xs) (layerFrom p work strs m) (empty-sized p work strs m) in
+        let sh = refs-sized (ys) (layerFrom p work₁ strs₁ r₁) (empty-sized p work₁ strs₁ r₁) in
+        let room′ : Roomy p m out (behind g h) = rw q at room in
+        let low′ : p .segmentsat + 37 * (m .segments + length (behind g h .segments)) ≤ nodesat = rw q at low in
+        let high′ : nodesat + 49 * length ((refsFrom p work strs m xs) .0 ++ (refsFrom p work₁ strs₁ r₁ ys) .0) ≤ length out = rw q at high in
+        rw q (record {
+          ok = b .ok ∙ ap₂ (λ (k l : ℕ). hasRoom k l (h .interner)) (a .made .long) (a .made .base);
+          made = λ o. nodes-then p m nodesat out work strs sg sh room′ n e low′ high′ (refs-width (xs) (layerFrom p work strs m)) (refs-width (ys) (layerFrom p work₁ strs₁ r₁)) a (b .made o);
+        })
