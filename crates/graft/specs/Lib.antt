@@ -18,3 +18,4 @@ pub mod Items
 pub mod Inner
 pub mod Nodes
 pub mod NodeItems
+pub mod NodeLoop
