@@ -25,7 +25,7 @@ use Rattle.graft.specs.Grafted.{layerFrom, Roomy}
 use Rattle.graft.specs.Walk.{Source, sourceStore, Ready}
 use Rattle.graft.specs.Rooms.{ready-item, space-left, roomy}
 use Rattle.graft.specs.Answers.{told-none}
-use Rattle.graft.specs.Fields.{Parts, all-first}
+use Rattle.graft.specs.Fields.{all-first}
 use Rattle.graft.specs.Records.{records-more, records-parts, records-in, records-add}
 use Rattle.graft.specs.NodeItems.{NodesTold, refsFrom, steps-refs, refs-parts, length-refs, nodes-turn}
 use Rattle.graft.specs.declared.Plan.{Plan}

@@ -4,29 +4,26 @@ ghost use mathlib.Core.Path.{_≡_};
 ghost use mathlib.Core.Bool.{true};
 ghost use mathlib.Core.List.{[], _∷_};
 ghost use Prim.Native.Nat.{ℕ, _+_, _*_, _≤_, _<_, _^_};
-ghost use lib.ListN.{length, replicate, take, drop, getD, set};
+ghost use lib.ListN.{length, take, getD, set};
 ghost use Rattle.graft.specs.Walk.{wordsWith};
 ghost use Rattle.model.specs.Lists.{sum, all};
 ghost use Rattle.store.specs.Standing.{allLengths};
 ghost use Rattle.levels.specs.Below.{LevelsFit};
 ghost use mathlib.Core.List.{List};
-ghost use Rattle.model.specs.Store.{resolveStr, resolveContentRange, resolveSegRange};
-ghost use Rattle.model.specs.Tape.{recordAt, recordsAt, contentCodec, segmentCodec, nodeCodec, fieldsOf, recordBytes, places};
-ghost use Rattle.model.specs.Tree.{showContents, showSegments, showFields};
-ghost use Rattle.model.specs.Graft.{graftStr, graftFields};
+ghost use Rattle.model.specs.Store.{resolveStr};
+ghost use Rattle.model.specs.Tape.{recordAt, recordsAt, contentCodec, segmentCodec, nodeCodec, recordBytes, places};
+ghost use Rattle.model.specs.Graft.{graftStr};
 ghost use Rattle.wire.specs.Overwrite.{overwrite};
 ghost use Rattle.records.specs.Values.{bodyAt};
 ghost use Rattle.interner.specs.State.{Good, stateOf, hasRoom};
-ghost use Rattle.ids.specs.Tests.{bodyIn, nodeIn, contentIn, segmentIn, contentsIn, segmentsIn, stringIn, usedWell};
-ghost use Rattle.sizes.specs.Added.{oneCall};
+ghost use Rattle.ids.specs.Tests.{bodyIn, nodeIn, contentIn, segmentIn, contentsIn, segmentsIn, usedWell};
 ghost use Rattle.sizes.specs.InPlace.{innerAdds, bodyAdds, nodeAdds, placeAdds, usedAdds, contentAdds, contentsAdd, contentRunAdds, segmentsAdd, segmentRunAdds};
-ghost use Rattle.graft.specs.Rebased.{contentRun, segmentRun};
 ghost use Rattle.graft.specs.Grafted.{layerFrom};
 ghost use Rattle.graft.specs.Runs.{withContents, withSegments};
 ghost use Rattle.graft.specs.Written.{wordsBytes, segmentWith, nodeHead, nodeWith};
 ghost use Rattle.graft.specs.Nodes.{nodeWords};
 ghost use Rattle.graft.specs.Walk.{Ready, bodyFrom, placeFrom, contentRunFrom, segmentRunFrom, fieldFrom};
-ghost use Rattle.graft.specs.Walk.{sourceStore, Source, stringFrom, shownContents, shownSegments, Space, StartTold, idFrom, strStart, WordsTold, ContentsTold, SegmentsTold};
+ghost use Rattle.graft.specs.Walk.{sourceStore, Source, stringFrom, shownContents, shownSegments, StartTold, idFrom, strStart, WordsTold, ContentsTold, SegmentsTold};
 
 // Where the new layer's numbers begin, and where its contents and segments are written.
 pub struct Plan {
