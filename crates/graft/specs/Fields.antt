@@ -3,7 +3,7 @@ use mathlib.Core.Path.{_≡_, refl, sym, ap, ap₂, _∙_}
 use Prim.Native.Nat.{ℕ, zero, suc, _+_, _≤_, _<_}
 use native.Mathlib.Omega.{arith}
 use mathlib.Core.Bool.{true, false, true≢false}
-use mathlib.Core.List.{List, [], _∷_, _++_, append-assoc}
+use mathlib.Core.List.{List, _∷_, _++_, append-assoc}
 use lib.ListN.{length, replicate}
 use borrow.Author.Tests.{eq-eqb, ne-eqb, ltb-true}
 use Rattle.model.specs.Lists.{all, tabulate}
@@ -13,18 +13,17 @@ use Rattle.model.specs.Types.{Body}
 use Rattle.model.specs.Store.{resolveStr}
 use Rattle.model.specs.Tape.{Field, fieldsOf}
 use Rattle.model.specs.Tree.{showFields}
-use Rattle.model.specs.Graft.{NewLayer, With, graftStr, graftFields}
+use Rattle.model.specs.Graft.{NewLayer, graftStr, graftFields}
 use Rattle.laws.specs.Lists.{both}
 use Rattle.laws.specs.Keep.{all-append-is}
 use Rattle.wire.specs.Loops.{by-bool}
-use Rattle.interner.specs.State.{hasRoom}
 use Rattle.store.specs.declared.Store.{Store}
 use Rattle.records.specs.Values.{bodyAt}
 use Rattle.records.specs.Uses.{wordUse}
-use Rattle.ids.specs.Tests.{bodyIn, fieldIn, wordIn, contentsIn, segmentsIn, usedWell, used-string, used-optional, body-failed}
+use Rattle.ids.specs.Tests.{bodyIn, fieldIn, wordIn, usedWell, used-string, used-optional, body-failed}
 use Rattle.sizes.specs.Order.{fieldWord, placeField, placeFields, fields-in-order}
 use Rattle.sizes.specs.Added.{Added, add, all-append}
-use Rattle.sizes.specs.InPlace.{innerAdds, bodyAdds, placeAdds, usedAdds, stringAdds, fieldAdds, fieldsAdd, fieldWords, contentRunAdds, segmentRunAdds, from-adds}
+use Rattle.sizes.specs.InPlace.{innerAdds, bodyAdds, placeAdds, usedAdds, fieldAdds, fieldsAdd, fieldWords, contentRunAdds, segmentRunAdds, from-adds}
 use Rattle.sizes.specs.Shown.{showInner}
 use Rattle.sizes.specs.declared.FieldWords.{FieldWords}
 use Rattle.graft.specs.Rebased.{rebased, behind, steps-fields}

@@ -4,12 +4,11 @@ use Prim.Native.Nat.{ℕ, _+_, _*_, _≤_, _<_, _^_}
 use native.Mathlib.Omega.{arith}
 use mathlib.Core.Bool.{true}
 use mathlib.Core.List.{List}
-use lib.ListN.{length, take, drop}
+use lib.ListN.{length, drop}
 use lib.Dec.{leb}
 use borrow.Author.Tests.{le-leb}
 use Rattle.model.specs.Lists.{all}
 use Rattle.model.specs.Bytes.{wordAt}
-use Rattle.model.specs.Types.{Body}
 use Rattle.model.specs.Store.{resolveContentRange, resolveSegRange}
 use Rattle.model.specs.Tape.{recordsAt, contentCodec, segmentCodec}
 use Rattle.model.specs.Graft.{pushContents, pushSegments}
@@ -24,7 +23,7 @@ use Rattle.sizes.specs.declared.Room.{Room}
 use Rattle.sizes.specs.declared.Sizes.{Sizes}
 use Rattle.graft.specs.Grafted.{layerFrom, Roomy}
 use Rattle.graft.specs.Runs.{withContents, withSegments}
-use Rattle.graft.specs.Walk.{Source, sourceStore, shownContents, shownSegments, Ready, StartTold, ContentsTold, SegmentsTold, contentRunFrom, segmentRunFrom}
+use Rattle.graft.specs.Walk.{sourceStore, shownContents, shownSegments, Ready, StartTold, ContentsTold, SegmentsTold, contentRunFrom, segmentRunFrom}
 use Rattle.graft.specs.Rooms.{ready-left, roomy, content-run-adds, segment-run-adds, shown-contents-grow, shown-segments-grow}
 use Rattle.graft.specs.Answers.{content-run-told, segment-run-told}
 use Rattle.graft.specs.declared.Plan.{Plan}

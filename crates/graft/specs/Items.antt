@@ -7,11 +7,11 @@ use mathlib.Core.List.{List, [], _∷_}
 use lib.ListN.{length, replicate}
 use borrow.Author.Tests.{eq-eqb, ne-eqb, ltb-true}
 use Rattle.model.specs.Bytes.{byteAt, wordAt}
-use Rattle.model.specs.Types.{Body, Content, Segment}
+use Rattle.model.specs.Types.{Body, Segment}
 use Rattle.model.specs.Store.{resolveStr}
 use Rattle.model.specs.Tape.{recordAt, operandsAt, recordBytes, contentCodec, segmentCodec}
 use Rattle.model.specs.Tree.{showBody}
-use Rattle.model.specs.Graft.{NewLayer, With, graftStr, graftNode}
+use Rattle.model.specs.Graft.{With, graftStr}
 use Rattle.wire.specs.Overwrite.{overwrite}
 use Rattle.records.specs.Values.{bodyAt, contentOf, segment-body}
 use Rattle.records.specs.declared.Content.{Content as ContentRead}
@@ -23,8 +23,8 @@ use Rattle.graft.specs.Grafted.{layerFrom, Told}
 use Rattle.graft.specs.Widths.{node-six}
 use Rattle.graft.specs.Written.{sixOf, six-of, segmentWith}
 use Rattle.graft.specs.Walk.{Source, sourceStore, shownContents, shownSegments, Ready, StartTold, WordsTold, ContentsTold, SegmentsTold, segmentRunFrom, bodyFrom}
-use Rattle.graft.specs.Answers.{told-none, one-plain, one-segments, content-refused, content-made, segment-refused, segment-made}
-use Rattle.graft.specs.Bodies.{zeroBody, one-zero, one-body, body-from}
+use Rattle.graft.specs.Answers.{one-plain, one-segments, content-refused, content-made, segment-refused, segment-made}
+use Rattle.graft.specs.Bodies.{one-zero, one-body, body-from}
 use Rattle.graft.specs.declared.Plan.{Plan}
 use Rattle.graft.specs.declared.Mark.{Mark}
 use Rattle.graft.specs.declared.Start.{Start}

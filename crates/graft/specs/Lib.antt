@@ -16,3 +16,6 @@ pub mod ContentItems
 pub mod SegmentItems
 pub mod Items
 pub mod Inner
+pub mod Nodes
+pub mod NodeItems
+pub mod NodeLoop

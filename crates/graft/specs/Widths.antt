@@ -27,22 +27,22 @@ contents-width (c ∷ cs) = length-append (recordBytes contentCodec c) (recordsB
 pub record SixWords (b : Body) : Type 0 where
   pub is : length (b .words) ≡ 6
 
-six-words : (ws : List ℕ) → length ws ≡ 6 → (x : List ℕ → ℕ) → ((a b d e f g : ℕ) → x (a ∷ b ∷ d ∷ e ∷ f ∷ g ∷ []) ≡ 37) → x ws ≡ 37
-six-words (a ∷ b ∷ d ∷ e ∷ f ∷ g ∷ []) h x y = y a b d e f g
-six-words [] h x y = absurd (omega arith)
-six-words (a ∷ []) h x y = absurd (omega arith)
-six-words (a ∷ b ∷ []) h x y = absurd (omega arith)
-six-words (a ∷ b ∷ d ∷ []) h x y = absurd (omega arith)
-six-words (a ∷ b ∷ d ∷ e ∷ []) h x y = absurd (omega arith)
-six-words (a ∷ b ∷ d ∷ e ∷ f ∷ []) h x y = absurd (omega arith)
-six-words (a ∷ b ∷ d ∷ e ∷ f ∷ g ∷ k ∷ l) h x y = absurd (omega arith)
+pub six-words : (ws : List ℕ) → length ws ≡ 6 → (x : List ℕ → ℕ) (n : ℕ) → ((a b d e f g : ℕ) → x (a ∷ b ∷ d ∷ e ∷ f ∷ g ∷ []) ≡ n) → x ws ≡ n
+six-words (a ∷ b ∷ d ∷ e ∷ f ∷ g ∷ []) h x n y = y a b d e f g
+six-words [] h x n y = absurd (omega arith)
+six-words (a ∷ []) h x n y = absurd (omega arith)
+six-words (a ∷ b ∷ []) h x n y = absurd (omega arith)
+six-words (a ∷ b ∷ d ∷ []) h x n y = absurd (omega arith)
+six-words (a ∷ b ∷ d ∷ e ∷ []) h x n y = absurd (omega arith)
+six-words (a ∷ b ∷ d ∷ e ∷ f ∷ []) h x n y = absurd (omega arith)
+six-words (a ∷ b ∷ d ∷ e ∷ f ∷ g ∷ k ∷ l) h x n y = absurd (omega arith)
 
 segment-width : (s : Segment) → SixWords (s .body) → length (recordBytes segmentCodec s) ≡ 37
 unfolding recordBytes operandBytes segmentCodec wordBytes
 segment-width s w =
     six-words (s .body .words) (w .is)
     (λ ws. length (recordBytes segmentCodec (record { tag = s .tag; level = s .level; body = record { kind = s .body .kind; tag = s .body .tag; plain1 = s .body .plain1; plain2 = s .body .plain2; words = ws } })))
-    (λ a b d e f g. refl)
+    37 (λ a b d e f g. refl)
 
 -- the grafted words are as many as there were
 fields-six : (fs : Fields) (ws : List ℕ) (f : NewLayer) → length (graftFields fs ws f .0) ≡ length ws

@@ -5,8 +5,8 @@ use native.Mathlib.Omega.{arith}
 use mathlib.Core.List.{List, [], _∷_, _++_, append-nil, append-assoc}
 use lib.ListN.{length, getD}
 use Rattle.model.specs.Bytes.{wordBytes}
-use Rattle.model.specs.Types.{Segment}
-use Rattle.model.specs.Tape.{recordBytes, operandBytes, contentCodec, segmentCodec}
+use Rattle.model.specs.Types.{Segment, SourceNode}
+use Rattle.model.specs.Tape.{recordBytes, operandBytes, contentCodec, segmentCodec, nodeCodec}
 use Rattle.wire.specs.Overwrite.{overwrite, Wrote}
 
 -- the bytes of a body's words
@@ -60,3 +60,32 @@ pub segment-written : (d l : List ℕ) (at tag level kind variant first second :
     → l ≡ overwrite d at (recordBytes segmentCodec (segmentWith tag level kind variant first second ws))
 unfolding recordBytes operandBytes segmentCodec sixOf wordsBytes
 segment-written d l at tag level kind variant first second ws w = w .is ∙ ap (overwrite d at) (simp (append-assoc, append-nil))
+
+-- ---- a node
+
+unfoldable pub nodeHead : ℕ → ℕ → ℕ → ℕ → ℕ → List ℕ
+nodeHead class inline start stop offset = (((((6 ∷ []) ++ (class ∷ [])) ++ (inline ∷ [])) ++ wordBytes start) ++ wordBytes stop) ++ wordBytes offset
+
+pub length-node-head : (class inline start stop offset : ℕ) → length (nodeHead class inline start stop offset) ≡ 15
+unfolding nodeHead wordBytes
+length-node-head class inline start stop offset = refl
+
+pub node-head-written : (d l : List ℕ) (at class inline start stop offset : ℕ)
+    → Wrote d at ((((((6 ∷ []) ++ (class ∷ [])) ++ (inline ∷ [])) ++ wordBytes start) ++ wordBytes stop) ++ wordBytes offset) l → l ≡ overwrite d at (nodeHead class inline start stop offset)
+unfolding nodeHead
+node-head-written d l at class inline start stop offset w = w .is
+
+abbrev pub nodeWith : ℕ → ℕ → ℕ → ℕ → ℕ → ℕ → ℕ → ℕ → ℕ → List ℕ → SourceNode
+nodeWith class inline start stop offset kind variant first second ws = record {
+  class = class;
+  inline = inline;
+  sourceSpan = record { start = start; end = stop };
+  normalizedOffset = offset;
+  body = record { kind = kind; tag = variant; plain1 = first; plain2 = second; words = sixOf ws };
+}
+
+pub node-written : (d l : List ℕ) (at class inline start stop offset kind variant first second : ℕ) (ws : List ℕ)
+    → Wrote d at (((((nodeHead class inline start stop offset ++ (kind ∷ [])) ++ (variant ∷ [])) ++ wordBytes first) ++ wordBytes second) ++ wordsBytes ws) l
+    → l ≡ overwrite d at (recordBytes nodeCodec (nodeWith class inline start stop offset kind variant first second ws))
+unfolding recordBytes operandBytes nodeCodec sixOf wordsBytes nodeHead
+node-written d l at class inline start stop offset kind variant first second ws w = w .is ∙ ap (overwrite d at) (simp (append-assoc, append-nil))

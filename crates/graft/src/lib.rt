@@ -4,28 +4,26 @@ ghost use mathlib.Core.Path.{_≡_};
 ghost use mathlib.Core.Bool.{true};
 ghost use mathlib.Core.List.{[], _∷_};
 ghost use Prim.Native.Nat.{ℕ, _+_, _*_, _≤_, _<_, _^_};
-ghost use lib.ListN.{length, replicate, take, drop, getD, set};
+ghost use lib.ListN.{length, take, getD, set};
 ghost use Rattle.graft.specs.Walk.{wordsWith};
 ghost use Rattle.model.specs.Lists.{sum, all};
 ghost use Rattle.store.specs.Standing.{allLengths};
 ghost use Rattle.levels.specs.Below.{LevelsFit};
 ghost use mathlib.Core.List.{List};
-ghost use Rattle.model.specs.Store.{resolveStr, resolveContentRange, resolveSegRange};
-ghost use Rattle.model.specs.Tape.{recordAt, recordsAt, contentCodec, segmentCodec, fieldsOf, recordBytes, places};
-ghost use Rattle.model.specs.Tree.{showContents, showSegments, showFields};
-ghost use Rattle.model.specs.Graft.{graftStr, graftFields};
+ghost use Rattle.model.specs.Store.{resolveStr};
+ghost use Rattle.model.specs.Tape.{recordAt, recordsAt, contentCodec, segmentCodec, nodeCodec, recordBytes, places};
+ghost use Rattle.model.specs.Graft.{graftStr};
 ghost use Rattle.wire.specs.Overwrite.{overwrite};
 ghost use Rattle.records.specs.Values.{bodyAt};
 ghost use Rattle.interner.specs.State.{Good, stateOf, hasRoom};
-ghost use Rattle.ids.specs.Tests.{bodyIn, contentIn, segmentIn, contentsIn, segmentsIn, stringIn, usedWell};
-ghost use Rattle.sizes.specs.Added.{oneCall};
-ghost use Rattle.sizes.specs.InPlace.{innerAdds, bodyAdds, placeAdds, usedAdds, contentAdds, contentsAdd, contentRunAdds, segmentsAdd, segmentRunAdds};
-ghost use Rattle.graft.specs.Rebased.{contentRun, segmentRun};
+ghost use Rattle.ids.specs.Tests.{bodyIn, nodeIn, contentIn, segmentIn, contentsIn, segmentsIn, usedWell};
+ghost use Rattle.sizes.specs.InPlace.{innerAdds, bodyAdds, nodeAdds, placeAdds, usedAdds, contentAdds, contentsAdd, contentRunAdds, segmentsAdd, segmentRunAdds};
 ghost use Rattle.graft.specs.Grafted.{layerFrom};
 ghost use Rattle.graft.specs.Runs.{withContents, withSegments};
-ghost use Rattle.graft.specs.Written.{wordsBytes, segmentWith};
+ghost use Rattle.graft.specs.Written.{wordsBytes, segmentWith, nodeHead, nodeWith};
+ghost use Rattle.graft.specs.Nodes.{nodeWords};
 ghost use Rattle.graft.specs.Walk.{Ready, bodyFrom, placeFrom, contentRunFrom, segmentRunFrom, fieldFrom};
-ghost use Rattle.graft.specs.Walk.{sourceStore, Source, stringFrom, shownContents, shownSegments, Space, StartTold, idFrom, strStart, WordsTold, ContentsTold, SegmentsTold};
+ghost use Rattle.graft.specs.Walk.{sourceStore, Source, stringFrom, shownContents, shownSegments, StartTold, idFrom, strStart, WordsTold, ContentsTold, SegmentsTold};
 
 // Where the new layer's numbers begin, and where its contents and segments are written.
 pub struct Plan {
@@ -221,6 +219,51 @@ fn put_segment(
     wire::put_u32(out, at + 5, first);
     wire::put_u32(out, at + 9, second);
     put_words(out, at + 13, words);
+}
+
+fn put_node_head(
+    out: &mut [u8],
+    at: usize,
+    class: u8,
+    inline: u8,
+    start: u32,
+    stop: u32,
+    offset: u32,
+)
+    requires { ⌜ at + 15 ≤ length (now out) ⌝ }
+    ensures { λ _. ⌜ now (out .exit) ≡ overwrite (now (out .entry)) at (nodeHead class inline start stop offset) ⌝ }
+{
+    wire::put_u8(out, at, 6);
+    wire::put_u8(out, at + 1, class);
+    wire::put_u8(out, at + 2, inline);
+    wire::put_u32(out, at + 3, start);
+    wire::put_u32(out, at + 7, stop);
+    wire::put_u32(out, at + 11, offset);
+}
+
+pub fn put_node(
+    out: &mut [u8],
+    at: usize,
+    class: u8,
+    inline: u8,
+    start: u32,
+    stop: u32,
+    offset: u32,
+    kind: u8,
+    variant: u8,
+    first: u32,
+    second: u32,
+    words: [u32; 6],
+)
+    requires { ⌜ at + 49 ≤ length (now out) ⌝ }
+    ensures { λ _. ⌜ now (out .exit) ≡ overwrite (now (out .entry)) at (recordBytes nodeCodec (nodeWith class inline start stop offset kind variant first second words)) ⌝ }
+{
+    put_node_head(out, at, class, inline, start, stop, offset);
+    wire::put_u8(out, at + 15, kind);
+    wire::put_u8(out, at + 16, variant);
+    wire::put_u32(out, at + 17, first);
+    wire::put_u32(out, at + 21, second);
+    put_words(out, at + 25, words);
 }
 
 // A word set; behind the last there is none.
@@ -738,4 +781,29 @@ fn graft_segment(
         words,
     );
     k
+}
+
+// Section 5. `graft_node_ref`: the words of the node at `at`. A node of class 2 or 3 has none; the levels in the runs of another are at most 32.
+pub fn graft_node(
+    tape: &[u8],
+    bytes: &[u8],
+    st: store::Store,
+    out: &mut [u8],
+    work: &mut [u32],
+    strs: &mut [u8],
+    p: Plan,
+    m: Mark,
+    at: usize,
+) -> Words
+    requires { ⌜ Ready (now tape) (now bytes) st p m (now out) (now work) (now strs) (nodeAdds (now tape) st (recordAt nodeCodec (now tape) at)) ⌝ }
+    requires { ⌜ (at + 49 ≤ length (now tape)) × (nodeIn st (recordAt nodeCodec (now tape) at) ≡ true) ⌝ }
+    ensures { λ r. ⌜ WordsTold p m (now (out .entry)) (now (work .entry)) (now (strs .entry)) (now (out .exit)) (now (work .exit)) (now (strs .exit)) r (nodeWords (now (tape .entry)) (now (bytes .entry)) (recordAt nodeCodec (now (tape .entry)) at) (layerFrom p (now (work .entry)) (now (strs .entry)) m)) ⌝ }
+{
+    if 2 <= tape[at + 1] {
+        return Words {
+            mark: m,
+            words: [0u32; 6],
+        };
+    }
+    graft_body(tape, bytes, st, out, work, strs, p, m, at + 15, 33)
 }

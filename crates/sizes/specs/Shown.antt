@@ -139,7 +139,7 @@ module _ (t : List ℕ) (st : Store) (e : st ≡ storeAt t) (d : List ℕ) where
     unfolding nodeAdds showNode showWith treeSize nodeIn showInner
     node-agrees n h = sym (fields-agree (λ x. showBody maxLevel shownStore x) (innerAdds 33 t st) (inner-agrees 33) segmentsOk contentsOk (n .body) (nodeFields n) h)
 
-    nodes-agree : (ns : List SourceNode) → all (nodeIn st) ns ≡ true → addAll (nodeAdds t st) ns ≡ nodesSize (map (shownNode shownStore) ns)
+    pub nodes-agree : (ns : List SourceNode) → all (nodeIn st) ns ≡ true → addAll (nodeAdds t st) ns ≡ nodesSize (map (shownNode shownStore) ns)
     unfolding addAll nodesSize shownNode
     nodes-agree [] h = refl
     nodes-agree (n ∷ ns) h = let b = both (nodeIn st n) (all (nodeIn st) ns) h in ap₂ (λ (x y : Added). add x y) (node-agrees n (b .0)) (nodes-agree ns (b .1))
