@@ -56,7 +56,7 @@ impl Book {
     }
 }
 
-// A novel of about `size` bytes: a Ruby in every 61 bytes, a blank line behind every eight, so 262,143 nodes at 16 MB.
+// A novel of about `size` bytes: a Ruby in every 57 bytes, a blank line behind every eight, and text alone behind 262,143 nodes.
 fn novel(size: usize) -> Book {
     let mut b = Book::default();
     let mut i = 0;
@@ -67,6 +67,7 @@ fn novel(size: usize) -> Book {
         b.put("。");
         i += 1;
     }
+    while b.text.len() + 28 <= size { b.put("青空文庫の本を読む\n"); }
     b
 }
 
