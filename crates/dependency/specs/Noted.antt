@@ -1,4 +1,4 @@
--- The bases of the Rubies passed, as marks in the words from `base` on: each base is marked, so that a string without a mark is none.
+-- The bases of the Rubies passed, in a Bloom filter: each base is found in it, so that a string which is not found is no base.
 use mathlib.Core.Path.{_≡_, refl, sym, ap, _∙_}
 use Prim.Native.Nat.{ℕ, _+_, _-_, _*_}
 use native.Mathlib.Numerals.{add-one}
@@ -21,7 +21,7 @@ use Rattle.strings.specs.Starts.{storeIn}
 use Rattle.strings.specs.PlainContent.{plainOf, plainString}
 use Rattle.strings.specs.declared.Plain.{Plain}
 use Rattle.strings.specs.declared.Plain.the-variants.{Id, Nothing}
-use Rattle.marks.specs.Marks.{isMarked, markedBy, marked-own, marked-kept, marked-front}
+use Rattle.bloom.specs.Filter.{mayContain, inserted, inserted-own, inserted-kept, inserted-front}
 use Rattle.dependency.specs.Bases.{isPlain, hasBase, any-snoc}
 use Rattle.dependency.specs.Sound.{SoundNode, firstContents, plain-first}
 
@@ -29,43 +29,43 @@ use Rattle.dependency.specs.Sound.{SoundNode, firstContents, plain-first
 abbrev pub firstWords : ℕ → List ℕ → List ℕ
 firstWords base words = take (base - 0) words
 
--- the mark of a string; None has none
-unfoldable pub markedPlain : List ℕ → ℕ → Option (List ℕ) → List ℕ
-markedPlain words base none = words
-markedPlain words base (some s) = markedBy words base (fxHash s)
+-- a string inserted; None is not
+unfoldable pub insertedPlain : List ℕ → ℕ → Option (List ℕ) → List ℕ
+insertedPlain words base none = words
+insertedPlain words base (some s) = inserted words base (fxHash s)
 
--- the mark of a Ruby's plain base; other nodes have none
+-- a Ruby's plain base inserted; other nodes have none
 unfoldable pub notedBy : NodeStore → List ℕ → ℕ → SourceNode → List ℕ
-notedBy st words base n = cond (isRuby n) (markedPlain words base (firstPlain st n)) words
+notedBy st words base n = cond (isRuby n) (insertedPlain words base (firstPlain st n)) words
 
--- each plain base of a Ruby among these nodes is marked
+-- each plain base of a Ruby among these nodes is found
 pub record Noted (st : NodeStore) (ns : List SourceNode) (words : List ℕ) (base : ℕ) : Type 0 where
-  pub found : (s : List ℕ) → any (hasBase st s) ns ≡ true → isMarked words base (fxHash s) ≡ true
+  pub found : (s : List ℕ) → any (hasBase st s) ns ≡ true → mayContain words base (fxHash s) ≡ true
 
--- ---- a mark more
+-- ---- one base more
 
-plain-own : (words : List ℕ) (base : ℕ) (s : List ℕ) (p : Option (List ℕ)) → isPlain s p ≡ true → isMarked (markedPlain words base p) base (fxHash s) ≡ true
-unfolding isPlain markedPlain
+plain-own : (words : List ℕ) (base : ℕ) (s : List ℕ) (p : Option (List ℕ)) → isPlain s p ≡ true → mayContain (insertedPlain words base p) base (fxHash s) ≡ true
+unfolding isPlain insertedPlain
 plain-own words base s none e = absurd (false≢true e)
 plain-own words base s (some x) e =
-    ap (λ (y : List ℕ). isMarked (markedBy words base (fxHash x)) base (fxHash y)) (same-eq s x e) ∙ marked-own words base (fxHash x)
+    ap (λ (y : List ℕ). mayContain (inserted words base (fxHash x)) base (fxHash y)) (same-eq s x e) ∙ inserted-own words base (fxHash x)
 
-plain-kept : (words : List ℕ) (base h : ℕ) (p : Option (List ℕ)) → isMarked words base h ≡ true → isMarked (markedPlain words base p) base h ≡ true
-unfolding markedPlain
+plain-kept : (words : List ℕ) (base h : ℕ) (p : Option (List ℕ)) → mayContain words base h ≡ true → mayContain (insertedPlain words base p) base h ≡ true
+unfolding insertedPlain
 plain-kept words base h none e = e
-plain-kept words base h (some x) e = marked-kept words base (fxHash x) h e
+plain-kept words base h (some x) e = inserted-kept words base (fxHash x) h e
 
-plain-front : (words : List ℕ) (base : ℕ) (p : Option (List ℕ)) → take base (markedPlain words base p) ≡ take base words
-unfolding markedPlain
+plain-front : (words : List ℕ) (base : ℕ) (p : Option (List ℕ)) → take base (insertedPlain words base p) ≡ take base words
+unfolding insertedPlain
 plain-front words base none = refl
-plain-front words base (some x) = marked-front words base (fxHash x)
+plain-front words base (some x) = inserted-front words base (fxHash x)
 
 module _ (st : NodeStore) (words : List ℕ) (base : ℕ) (n : SourceNode) where
-  own : (s : List ℕ) → hasBase st s n ≡ true → isMarked (notedBy st words base n) base (fxHash s) ≡ true
+  own : (s : List ℕ) → hasBase st s n ≡ true → mayContain (notedBy st words base n) base (fxHash s) ≡ true
   unfolding hasBase notedBy
   own s e = let b = both (isRuby n) (isPlain s (firstPlain st n)) e in rw (b .0) (plain-own words base s (firstPlain st n) (b .1))
 
-  kept : (h : ℕ) → isMarked words base h ≡ true → isMarked (notedBy st words base n) base h ≡ true
+  kept : (h : ℕ) → mayContain words base h ≡ true → mayContain (notedBy st words base n) base h ≡ true
   unfolding notedBy
   kept h e =
       by-bool (isRuby n)
@@ -105,23 +105,23 @@ module _ (st : NodeStore) (t : List ℕ) (at : ℕ) (words : List ℕ) (base : �
 
 -- ---- each return of the code
 
--- a string without a mark
-pub base-unmarked : {st : NodeStore} {ns : List SourceNode} {words : List ℕ} {base : ℕ} → Noted st ns words base → (s : List ℕ) {h : ℕ} → h ≡ fxHash s → {x : Bool}
-    → x ≡ isMarked words base h → x ≡ false → false ≡ any (hasBase st s) ns
-base-unmarked {st} {ns} {words} {base} m s e q f =
+-- a string that is not found
+pub base-absent : {st : NodeStore} {ns : List SourceNode} {words : List ℕ} {base : ℕ} → Noted st ns words base → (s : List ℕ) {h : ℕ} → h ≡ fxHash s → {x : Bool}
+    → x ≡ mayContain words base h → x ≡ false → false ≡ any (hasBase st s) ns
+base-absent {st} {ns} {words} {base} m s e q f =
     by-bool (any (hasBase st s) ns)
-    (λ r. sym f ∙ q ∙ ap (isMarked words base) e ∙ m .found s r ∙ sym r)
+    (λ r. sym f ∙ q ∙ ap (mayContain words base) e ∙ m .found s r ∙ sym r)
     (λ r. sym r)
 
 module _ (st : NodeStore) (words : List ℕ) (base : ℕ) where
-  pub mark-some : (id : ℕ) {r : Plain} → r ≡ Id id → {s : List ℕ} → s ≡ resolveStr st id → {h : ℕ} → h ≡ fxHash s → {after : List ℕ} → after ≡ markedBy words base h
-      → after ≡ markedPlain words base (plainString st r)
-  unfolding markedPlain plainString
-  mark-some id e f g q = rw e (q ∙ ap (markedBy words base) (g ∙ ap fxHash f))
+  pub insert-some : (id : ℕ) {r : Plain} → r ≡ Id id → {s : List ℕ} → s ≡ resolveStr st id → {h : ℕ} → h ≡ fxHash s → {after : List ℕ} → after ≡ inserted words base h
+      → after ≡ insertedPlain words base (plainString st r)
+  unfolding insertedPlain plainString
+  insert-some id e f g q = rw e (q ∙ ap (inserted words base) (g ∙ ap fxHash f))
 
-  pub mark-none : {r : Plain} → r ≡ Nothing → words ≡ markedPlain words base (plainString st r)
-  unfolding markedPlain plainString
-  mark-none e = rw e refl
+  pub insert-none : {r : Plain} → r ≡ Nothing → words ≡ insertedPlain words base (plainString st r)
+  unfolding insertedPlain plainString
+  insert-none e = rw e refl
 
 module _ {t : List ℕ} {st : Store} {index old new : List ℕ} (words : List ℕ) (base : ℕ) {p : ℕ} (n : SoundNode t st index old new p) {x : Bool} (e : x ≡ isRuby (recordAt nodeCodec t p)) where
   pub note-other : x ≡ false → words ≡ notedBy (storeIn t (old ++ new)) words base (recordAt nodeCodec t p)
@@ -129,6 +129,6 @@ module _ {t : List ℕ} {st : Store} {index old new : List ℕ} (words : List �
   note-other h = rw (← e, h) refl
 
   pub note-ruby : x ≡ true → {r : Plain} → ((b : List ℕ) → r ≡ plainOf (firstContents t p b)) → {after : List ℕ}
-      → after ≡ markedPlain words base (plainString (storeIn t (old ++ new)) r) → after ≡ notedBy (storeIn t (old ++ new)) words base (recordAt nodeCodec t p)
+      → after ≡ insertedPlain words base (plainString (storeIn t (old ++ new)) r) → after ≡ notedBy (storeIn t (old ++ new)) words base (recordAt nodeCodec t p)
   unfolding notedBy
-  note-ruby h g q = rw (← e, h) (q ∙ ap (markedPlain words base) (sym (plain-first n g)))
+  note-ruby h g q = rw (← e, h) (q ∙ ap (insertedPlain words base) (sym (plain-first n g)))

@@ -1,7 +1,7 @@
 // Number 10, document 01 section 6: a Referenced Format behind the edit's start whose target is the base of an earlier Ruby. A base
 // and a target are compared as plain strings: a string's bytes are found by the index of crate `strings`, and only where its length
-// is the one that is asked for. The walk marks the hash of each base (crate `marks`), so that a target that is no base seldom has to be
-// compared. specs/Bases.antt says what is asked, specs/Sound.antt what number 4 has shown of it, specs/Noted.antt what the marks say.
+// is the one that is asked for. The walk puts the hash of each base into a Bloom filter, so that a target that is no base seldom has to be
+// compared. specs/Bases.antt says what is asked, specs/Sound.antt what number 4 has shown of it, specs/Noted.antt what the filter says.
 use strings::Plain;
 ghost use mathlib.Core.Path.{_≡_};
 ghost use mathlib.Core.List.{List, [], _++_};
@@ -17,7 +17,7 @@ ghost use Rattle.strings.specs.PlainContent.{plainOf, plainString};
 ghost use Rattle.dependency.specs.Bases.{isPlain, hasBase, amongBases, asksTarget, refersAt};
 ghost use Rattle.dependency.specs.Asked.{asksAt, countToLast};
 ghost use Rattle.dependency.specs.Sound.{Sound, SoundNode, FirstRange, PlainIn, firstContents};
-ghost use Rattle.dependency.specs.Noted.{firstWords, markedPlain, notedBy, Noted};
+ghost use Rattle.dependency.specs.Noted.{firstWords, insertedPlain, notedBy, Noted};
 
 // An Inline Ruby.
 pub fn is_ruby(tape: &[u8], at: usize) -> bool
@@ -55,7 +55,7 @@ fn asks_target(tape: &[u8], at: usize, from: u32) -> bool
     from < records::node_end(tape, at)
 }
 
-// How many nodes there are up to the last whose target is asked for: the others need no marks.
+// How many nodes there are up to the last whose target is asked for: the others need no filter.
 fn asked_nodes(tape: &[u8], at: usize, count: usize, from: u32) -> usize
     requires { ⌜ at + 49 * count ≤ length (now tape) ⌝ }
     ensures { λ r. ⌜ r ≡ countToLast count (asksAt from (now (tape .entry)) at) ⌝ }
@@ -169,8 +169,8 @@ pub fn is_ruby_base<'a>(
     false
 }
 
-// The same by the marks of these bases, in the words behind those of the index.
-fn is_marked_base<'a>(
+// The same, with the filter of these bases asked first.
+fn is_filtered_base<'a>(
     tape: &[u8],
     st: store::Store,
     words: &[u32],
@@ -187,7 +187,7 @@ fn is_marked_base<'a>(
     ensures { λ r. ⌜ r ≡ any (hasBase (storeIn (now (tape .entry)) (now (old .entry) ++ now (new .entry))) (now (s .entry))) (recordsAt nodeCodec (now (tape .entry)) at count) ⌝ }
 {
     let h = hash::fx_hash(s);
-    if !marks::is_marked(words, base, h) {
+    if !bloom::may_contain(words, base, h) {
         return false;
     }
     is_ruby_base(tape, st, &words[0..base], old, new, at, count, s)
@@ -213,7 +213,7 @@ fn is_target_base<'a>(
     match p {
         Plain::Id(id) => {
             let s = strings::resolve_str(tape, st, &words[0..base], old, new, id);
-            return is_marked_base(tape, st, words, base, old, new, at, count, s);
+            return is_filtered_base(tape, st, words, base, old, new, at, count, s);
         }
         Plain::Nothing => {
             return false;
@@ -246,8 +246,8 @@ fn refers_back<'a>(
     is_target_base(tape, st, words, base, old, new, at, i, p)
 }
 
-// The string of an answer marked.
-fn mark_plain<'a>(
+// The string of an answer, inserted.
+fn insert_plain<'a>(
     tape: &[u8],
     st: store::Store,
     words: &mut [u32],
@@ -259,13 +259,13 @@ fn mark_plain<'a>(
     requires { ⌜ Resolvable (now tape) st (firstWords base (now words)) (now old) (now new) ⌝ }
     requires { ⌜ base ≤ length (now words) ⌝ }
     requires { ⌜ PlainIn st p ⌝ }
-    ensures { λ _. ⌜ now (words .exit) ≡ markedPlain (now (words .entry)) base (plainString (storeIn (now (tape .entry)) (now (old .entry) ++ now (new .entry))) p) ⌝ }
+    ensures { λ _. ⌜ now (words .exit) ≡ insertedPlain (now (words .entry)) base (plainString (storeIn (now (tape .entry)) (now (old .entry) ++ now (new .entry))) p) ⌝ }
 {
     match p {
         Plain::Id(id) => {
             let s = strings::resolve_str(tape, st, &words[0..base], old, new, id);
             let h = hash::fx_hash(s);
-            marks::mark(words, base, h);
+            bloom::insert(words, base, h);
             return;
         }
         Plain::Nothing => {
@@ -274,7 +274,7 @@ fn mark_plain<'a>(
     }
 }
 
-// The plain base of a Ruby marked.
+// The plain base of a Ruby, inserted.
 fn note_ruby<'a>(
     tape: &[u8],
     st: store::Store,
@@ -292,10 +292,10 @@ fn note_ruby<'a>(
         return;
     }
     let p = first_plain(tape, st, at);
-    mark_plain(tape, st, words, base, old, new, p);
+    insert_plain(tape, st, words, base, old, new, p);
 }
 
-// One walk over the nodes, with a mark for each base that it passes.
+// One walk over the nodes; each base that it passes is inserted.
 fn any_refers_back<'a>(
     tape: &[u8],
     st: store::Store,
@@ -322,8 +322,8 @@ fn any_refers_back<'a>(
     false
 }
 
-// Number 10. `has_ruby_format_dependency`. The words before `base` have the index of the strings, those from `base` on take the marks of
-// the bases. They may hold anything; only where they are zeros is a string that is no base told by its mark.
+// Number 10. `has_ruby_format_dependency`. The words before `base` have the index of the strings, those from `base` on take the filter
+// of the bases. They may hold anything; a filter that begins as zeros is the one that spares comparisons.
 pub fn has_ruby_format_dependency<'a>(
     tape: &[u8],
     st: store::Store,

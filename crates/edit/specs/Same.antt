@@ -11,11 +11,8 @@ use borrow.Author.Tests.{eq-eqb}
 use Rattle.model.specs.Lists.{same}
 use Rattle.model.specs.Region.{Edit, edited}
 use Rattle.laws.specs.Checks.{same-eq}
+use Rattle.wire.specs.Compare.{same-refl}
 use Rattle.wire.specs.Loops.{by-bool}
-
-same-refl : (a : List ℕ) → same a a ≡ true
-same-refl [] = refl
-same-refl (x ∷ a) = rw (eq-eqb x x refl) (same-refl a)
 
 same-behind : (a b c : List ℕ) → same (a ++ b) (a ++ c) ≡ same b c
 same-behind [] b c = refl

@@ -1,15 +1,13 @@
 -- Section 3: where a string's bytes stand.
 use mathlib.Core.Path.{_≡_, refl, sym, ap, _∙_}
-use Prim.Native.Nat.{ℕ, _+_, _-_, _≤_, _<_, _^_}
+use Prim.Native.Nat.{ℕ, suc, _+_, _-_, _≤_, _<_, _^_}
 use native.Mathlib.Omega.{arith}
-use native.Mathlib.Numerals.{add-one}
-use mathlib.Core.List.{List, [], _∷_, _++_, map, flatten}
+use mathlib.Core.List.{List, flatten}
 use lib.ListN.{length, getD, take, drop}
 use lib.Seq.{drop-drop}
 use Rattle.model.specs.Lists.{sum}
 use Rattle.model.specs.Bytes.{wordAt}
-use Rattle.model.specs.Tape.{recordAt, operandsAt, stringCodec, places}
-use Rattle.model.specs.Tape.{LayerPlaces, stringLengths, bytesNeeded, recordsBytes}
+use Rattle.model.specs.Tape.{places, bytesNeeded, recordsBytes}
 use Rattle.model.specs.Store.{resolveStr}
 use Rattle.model.specs.Graft.{graftStr}
 use Rattle.model.specs.Intern.{StrInterner, Interned, intern, cacheHit, bypass, tableAlloc, tableHit}
@@ -26,35 +24,9 @@ use Rattle.graft.specs.declared.Plan.{Plan}
 use Rattle.graft.specs.declared.Mark.{Mark}
 use Rattle.graft.specs.declared.Start.{Start}
 use Rattle.store.specs.Pools.{before-next, before-most}
-use Rattle.store.specs.Standing.{allLengths, stringPlace, length-at, string-at, string-inside}
+use Rattle.store.specs.Standing.{allLengths, length-at, string-at}
 use Rattle.store.specs.declared.Store.{Store}
-use Rattle.levels.specs.Below.{LevelsFit}
-
-module _ (t : List ℕ) (st : Store) (f : LevelsFit t st) (id : ℕ) (h : id < st .totals .strings) where
-  pub string-fits : (at : ℕ) → at ≡ stringPlace st id → at + 5 ≤ length t
-  string-fits at e = let i = string-inside t st (f .stored) id 1 h (omega (arith, h)) in omega (arith, i, e, f .inside)
-
-  pub length-read : (at : ℕ) → at ≡ stringPlace st id → wordAt t (at + 1) ≡ getD (allLengths t (places t .layers)) id 0
-  unfolding recordAt operandsAt stringCodec
-  length-read at e = ap (λ (k : ℕ). wordAt t (k + 1)) e ∙ sym (length-at t st (f .stored) id h)
-
--- the sum so far, in a walk over the strings
-pub start-more : (ls : List ℕ) (i total n : ℕ) → total ≡ sum (take i ls) → n ≡ getD ls i 0 → total + n ≡ sum (take (i + 1) ls)
-start-more ls i total n e q = let b = before-next ls i in omega (arith, e, q, b, ap (λ (k : ℕ). sum (take k ls)) (add-one i))
-
-pub start-small : (ls : List ℕ) (i total n : ℕ) → total ≡ sum (take i ls) → n ≡ getD ls i 0 → total + n ≤ sum ls
-start-small ls i total n e q = let m = before-most ls (i + 1) in let s = start-more ls i total n e q in omega (arith, m, s)
-
--- ---- all strings
-
-sum-append : (xs ys : List ℕ) → sum (xs ++ ys) ≡ sum xs + sum ys
-sum-append [] ys = omega arith
-sum-append (x ∷ xs) ys = let m = sum-append xs ys in omega (arith, m)
-
-strings-sum : (t : List ℕ) (ls : List LayerPlaces) → sum (allLengths t ls) ≡ sum (map (λ (l : LayerPlaces). sum (stringLengths t l)) ls)
-unfolding allLengths flatten
-strings-sum t [] = refl
-strings-sum t (l ∷ ls) = sum-append (stringLengths t l) (flatten (map (stringLengths t) ls)) ∙ ap (λ (n : ℕ). sum (stringLengths t l) + n) (strings-sum t ls)
+use Rattle.strings.specs.Starts.{OfTape, Readable, Between, lengths-bytes, readable}
 
 module _ (t d : List ℕ) (st : Store) (s : Source t d st) where
   pub header-inside : 9 ≤ length t
@@ -63,7 +35,17 @@ module _ (t d : List ℕ) (st : Store) (s : Source t d st) where
   -- the strings end the bytes
   pub strings-end : wordAt t 1 + wordAt t 5 + sum (allLengths t (places t .layers)) ≡ length d
   unfolding bytesNeeded
-  strings-end = let e = strings-sum t (places t .layers) in omega (arith, e, s .framing .bytes)
+  strings-end = let e = lengths-bytes t (places t .layers) in omega (arith, e, s .framing .bytes)
+
+  -- as crate `strings` asks
+  pub source-tape : OfTape t st
+  source-tape = record { stored = s .fit .stored; few = s .fit .few; inside = s .fit .inside }
+
+  pub source-readable : length d < 2 ^ 63 → Readable t st (length d)
+  source-readable h = readable t d (s .framing) st (s .fit .stored) (s .fit .few) h
+
+  pub source-start : (id : ℕ) → id < st .totals .strings → Between st 0 id
+  source-start id h = record { order = omega arith; inside = omega (arith, h) }
 
   module _ (id : ℕ) (h : id < st .totals .strings) where
     pub from-small : stringFrom t id ≤ length d
@@ -71,7 +53,10 @@ module _ (t d : List ℕ) (st : Store) (s : Source t d st) where
 
     module _ (from len : ℕ) (e : from ≡ stringFrom t id) (b : len ≡ getD (allLengths t (places t .layers)) id 0) where
       pub part-inside : from + len ≤ length d
-      part-inside = let l = start-small (allLengths t (places t .layers)) id (sum (take id (allLengths t (places t .layers)))) len refl b in omega (arith, l, e, strings-end)
+      part-inside =
+          let next = before-next (allLengths t (places t .layers)) id in
+          let most = before-most (allLengths t (places t .layers)) (suc id) in
+          omega (arith, next, most, b, e, strings-end)
 
       -- as the code takes it
       pub part-shows : take (from + len - from) (drop from d) ≡ resolveStr (sourceStore t d) id

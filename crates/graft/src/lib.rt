@@ -4,14 +4,13 @@ ghost use mathlib.Core.Path.{_≡_};
 ghost use mathlib.Core.Bool.{true};
 ghost use mathlib.Core.List.{[], _∷_};
 ghost use Prim.Native.Nat.{ℕ, _+_, _*_, _≤_, _<_, _^_};
-ghost use lib.ListN.{length, take, getD, set};
+ghost use lib.ListN.{length, set};
 ghost use Rattle.graft.specs.Walk.{wordsWith};
-ghost use Rattle.model.specs.Lists.{sum, all};
-ghost use Rattle.store.specs.Standing.{allLengths};
+ghost use Rattle.model.specs.Lists.{all};
 ghost use Rattle.levels.specs.Below.{LevelsFit};
 ghost use mathlib.Core.List.{List};
 ghost use Rattle.model.specs.Store.{resolveStr};
-ghost use Rattle.model.specs.Tape.{recordAt, recordsAt, contentCodec, segmentCodec, nodeCodec, recordBytes, places};
+ghost use Rattle.model.specs.Tape.{recordAt, recordsAt, contentCodec, segmentCodec, nodeCodec, recordBytes};
 ghost use Rattle.model.specs.Graft.{graftStr};
 ghost use Rattle.wire.specs.Overwrite.{overwrite};
 ghost use Rattle.records.specs.Values.{bodyAt};
@@ -59,37 +58,13 @@ pub struct Words {
     pub words: [u32; 6],
 }
 
-// Section 3. Where the string of that number begins among the bytes of all strings.
-fn string_start(tape: &[u8], st: store::Store, id: u32) -> usize
-    requires { ⌜ LevelsFit (now tape) st ⌝ }
-    requires { ⌜ (id ≤ st .totals .strings) × (sum (allLengths (now tape) (places (now tape) .layers)) < 2 ^ 63) ⌝ }
-    ensures { λ r. ⌜ r ≡ sum (take id (allLengths (now (tape .entry)) (places (now (tape .entry)) .layers))) ⌝ }
-{
-    let mut total = 0;
-    let mut i: u32 = 0;
-    while i < id {
-        total += string_length(tape, st, i);
-        i += 1;
-    }
-    total
-}
-
-fn string_length(tape: &[u8], st: store::Store, id: u32) -> usize
-    requires { ⌜ LevelsFit (now tape) st ⌝ }
-    requires { ⌜ id < st .totals .strings ⌝ }
-    ensures { λ r. ⌜ r ≡ getD (allLengths (now (tape .entry)) (places (now (tape .entry)) .layers)) id 0 ⌝ }
-{
-    let at = store::string_place(st, id);
-    wire::u32_at(tape, at + 1) as usize
-}
-
 // Where the bytes of that string begin.
 fn string_from(tape: &[u8], bytes: &[u8], st: store::Store, id: u32) -> usize
     requires { ⌜ Source (now tape) (now bytes) st ⌝ }
     requires { ⌜ id < st .totals .strings ⌝ }
     ensures { λ r. ⌜ r ≡ stringFrom (now (tape .entry)) id ⌝ }
 {
-    let start = string_start(tape, st, id);
+    let start = strings::start_from(tape, st, bytes.len(), 0, id, 0);
     let text = wire::u32_at(tape, 1) as usize;
     let normalized = wire::u32_at(tape, 5) as usize;
     text + normalized + start
@@ -129,7 +104,7 @@ fn graft_str(
     ensures { λ r. ⌜ ((out : List ℕ) → StartTold p m out (now (work .entry)) (now (strs .entry)) out (now (work .exit)) (now (strs .exit)) r (graftStr (resolveStr (sourceStore (now (tape .entry)) (now (bytes .entry))) id) (layerFrom p (now (work .entry)) (now (strs .entry)) m))) ⌝ }
 {
     let from = string_from(tape, bytes, st, id);
-    let len = string_length(tape, st, id);
+    let len = strings::string_length(tape, st, id);
     let state = m.state;
     let a = intern::intern(work, strs, state, &bytes[from..from + len]);
     start_of(m, a, p.strings)

@@ -29,6 +29,7 @@ use Rattle.strings.specs.Starts.{lengthsIn, startIn, storeIn, OfTape, Readable,
 use Rattle.strings.specs.Index.{Indexed}
 use Rattle.strings.specs.Shown.{oldStrings, TwoSides, two-sides}
 use Rattle.tape.specs.Accepted.{Accepted, accepted-store, accepted-places}
+use Rattle.tape.specs.Numbers.{store-few}
 use Rattle.tape.specs.Placed.{fit-nodes, fit-pairs}
 use Rattle.dependency.specs.Sound.{layersIn, Sound}
 use Rattle.cuts.specs.Gaps.{NodesIn, book-nodes}
@@ -39,19 +40,14 @@ pub record Ready (t d : List ℕ) (p : Places) (st : Store) (words : List ℕ) :
   pub stored : st ≡ storeAt t
   pub indexed : Indexed (lengthsIn t) words
 
--- at most 32 layers
-few-layers : {t d : List ℕ} → Accepted t d → {p : Places} → p ≡ found t → {st : Store} → st ≡ storeAt t → st .layers ≤ 32
-unfolding storeAt
-few-layers a e f = let s = accepted-store a e in let m = ap (λ (x : Store). x .layers) f in omega (arith, m, s .count, s .few)
-
 pub accepted-readable : {t d : List ℕ} → Accepted t d → {p : Places} → p ≡ found t → {st : Store} → st ≡ storeAt t → length d < 2 ^ 63 → Readable t st (length d)
-accepted-readable {t} {d} a e {st} f h = readable t d (a .framing) st f (few-layers a e f) h
+accepted-readable {t} {d} a e {st} f h = readable t d (a .framing) st f (store-few (accepted-places a e) (accepted-store a e) f) h
 
 module _ {t d : List ℕ} {p : Places} {st : Store} {words : List ℕ} (r : Ready t d p st words) where
   -- ---- the store
 
   few : st .layers ≤ 32
-  few = few-layers (r .accepted) (r .is) (r .stored)
+  few = store-few (accepted-places (r .accepted) (r .is)) (accepted-store (r .accepted) (r .is)) (r .stored)
 
   pub ready-layers : (0 < st .layers) × (st .layers ≤ 32)
   ready-layers = (some-layer t d (r .accepted .framing) st (r .stored), few)

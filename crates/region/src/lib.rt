@@ -1,6 +1,6 @@
 // Numbers 8 to 11, document 01 section 6: where a correction's passage begins and ends. `chosen_region` is the stage for a book that
 // passed 1 to 7; `choose_region` is the entry, on any tape and bytes; `region_text` hands the passage on as a part of the text.
-// Number 10 asks strings of the book, by an index in the first half of the lent words, and marks bases in the second: any number of
+// Number 10 asks strings of the book, by an index in the first half of the lent words, and a filter of bases in the second: any number of
 // words will do, also none.
 ghost use mathlib.Core.Path.{_≡_};
 ghost use mathlib.Core.List.{List};
@@ -105,7 +105,7 @@ fn index_words(tape: &[u8], st: store::Store, room: usize, words: &mut [u32], ba
     wire::zero_words(&mut words[base..end]);
 }
 
-// Numbers 1 to 11, with an index of the book's strings and the marks of its bases left in the words.
+// Numbers 1 to 11, with an index of the book's strings and a filter of its bases left in the words.
 fn region_by_index(
     tape: &[u8],
     bytes: &[u8],

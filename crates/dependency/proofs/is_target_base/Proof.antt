@@ -6,7 +6,7 @@ use Rattle.dependency.proofs.is_target_base.Statement.{statement}
 use Rattle.dependency.proofs.is_target_base.Tie as tie
 use Rattle.dependency.proofs.is_target_base.Reads as reads
 use Rattle.dependency.proofs.is_target_base.Lts as lts
-use Rattle.dependency.proofs.is_marked_base.Reads as is-marked-base-reads
+use Rattle.dependency.proofs.is_filtered_base.Reads as is-filtered-base-reads
 use Rattle.strings.proofs.resolve_str.Reads as resolve-str-reads
 
 -- src/lib.rt:187:19
@@ -30,12 +30,12 @@ resolve-str-requires : tie.Need-resolve-str-requires
 resolve-str-requires c κs = (c .before .before .before .before .before .before .before .before .pre .0 .strings, (c .before .before .before .before .before .before .before .before .pre .1 .1 .1 .inside _ (c .before .before .p .given .1)))
 
 -- src/lib.rt:189:13
-is-marked-base-requires : tie.Need-is-marked-base-requires
-is-marked-base-requires c κs = search needs
+is-filtered-base-requires : tie.Need-is-filtered-base-requires
+is-filtered-base-requires c κs = search needs
 
 -- src/lib.rt:189:13
 returns : tie.Need-returns
-returns c = target-some _ _ _ _ _ (c .before .before .before .before .p .given .1) (c .before .resolve-str .ensures ∙ shown-str (c .before .before .before .before .before .before .before .before .before .before .pre .0 .strings .sides) _ (c .before .before .before .before .before .before .before .before .before .before .pre .1 .1 .1 .inside _ (c .before .before .before .before .p .given .1))) (c .is-marked-base .ensures)
+returns c = target-some _ _ _ _ _ (c .before .before .before .before .p .given .1) (c .before .resolve-str .ensures ∙ shown-str (c .before .before .before .before .before .before .before .before .before .before .pre .0 .strings .sides) _ (c .before .before .before .before .before .before .before .before .before .before .pre .1 .1 .1 .inside _ (c .before .before .before .before .p .given .1))) (c .is-filtered-base .ensures)
 
 -- src/lib.rt:192:13
 enum-told : tie.Need-enum-told
@@ -54,7 +54,7 @@ is-target-base-spec =
     part-resolve-str-start
     part-resolve-str-end
     resolve-str-requires
-    is-marked-base-requires
+    is-filtered-base-requires
     returns
     enum-told
     returns-2)

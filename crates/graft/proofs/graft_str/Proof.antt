@@ -1,4 +1,4 @@
-use Rattle.graft.specs.Strings.{part-inside, part-shows, id-small, str-answer}
+use Rattle.graft.specs.Strings.{source-tape, part-inside, part-shows, id-small, str-answer}
 use native.Mathlib.Omega.{arith}
 use borrow.Author.Needs.{needs}
 use Rattle.graft.proofs.graft_str.Statement.{statement}
@@ -7,14 +7,14 @@ use Rattle.graft.proofs.graft_str.Reads as reads
 use Rattle.graft.proofs.graft_str.Lts as lts
 use Rattle.graft.proofs.start_of.Reads as start-of-reads
 use Rattle.graft.proofs.string_from.Reads as string-from-reads
-use Rattle.graft.proofs.string_length.Reads as string-length-reads
+use Rattle.strings.proofs.string_length.Reads as string-length-reads
 use Rattle.intern.proofs.intern.Reads as intern-reads
 
 string-from-requires : tie.Need-string-from-requires
 string-from-requires c κs = search needs
 
 string-length-requires : tie.Need-string-length-requires
-string-length-requires c κs = ((c .before .before .before .before .before .pre .0) .fit, (c .before .before .before .before .before .pre .1 .1 .0))
+string-length-requires c κs = (source-tape _ _ _ (c .before .before .before .before .before .pre .0), c .before .before .before .before .before .pre .1 .1 .0)
 
 add-intern : tie.Need-add-intern
 add-intern c = omega (arith, part-inside (c .before .before .before .before .before .before .before .before .before .args .tape .now) (c .before .before .before .before .before .before .before .before .before .args .bytes .now) (c .before .before .before .before .before .before .before .before .before .args .st) (c .before .before .before .before .before .before .before .before .before .pre .0) (c .before .before .before .before .before .before .before .before .before .args .id) (c .before .before .before .before .before .before .before .before .before .pre .1 .1 .0) (c .before .before .before .before .string-from .result) (c .before .before .before .string-length .result) (c .before .before .before .before .string-from .ensures) (c .before .before .before .string-length .ensures))

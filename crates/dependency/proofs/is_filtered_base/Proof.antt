@@ -1,25 +1,25 @@
 use borrow.Author.Tests.{not-true}
-use Rattle.dependency.specs.Noted.{base-unmarked}
+use Rattle.dependency.specs.Noted.{base-absent}
 use borrow.Author.Needs.{needs}
-use Rattle.dependency.proofs.is_marked_base.Statement.{statement}
-use Rattle.dependency.proofs.is_marked_base.Tie as tie
-use Rattle.dependency.proofs.is_marked_base.Reads as reads
-use Rattle.dependency.proofs.is_marked_base.Lts as lts
+use Rattle.dependency.proofs.is_filtered_base.Statement.{statement}
+use Rattle.dependency.proofs.is_filtered_base.Tie as tie
+use Rattle.dependency.proofs.is_filtered_base.Reads as reads
+use Rattle.dependency.proofs.is_filtered_base.Lts as lts
 use Rattle.dependency.proofs.is_ruby_base.Reads as is-ruby-base-reads
 use Rattle.hash.proofs.fx_hash.Reads as fx-hash-reads
-use Rattle.marks.proofs.is_marked.Reads as is-marked-reads
+use Rattle.bloom.proofs.may_contain.Reads as may-contain-reads
 
 -- src/lib.rt:162:9
 fx-hash-requires : tie.Need-fx-hash-requires
 fx-hash-requires c κs = search needs
 
 -- src/lib.rt:163:9
-is-marked-requires : tie.Need-is-marked-requires
-is-marked-requires c κs = search needs
+may-contain-requires : tie.Need-may-contain-requires
+may-contain-requires c κs = search needs
 
 -- src/lib.rt:164:9
 returns : tie.Need-returns
-returns c = base-unmarked (c .before .before .before .before .before .before .before .before .pre .1 .1) _ (c .before .before .fx-hash .ensures) (c .before .is-marked .ensures) (not-true _ (c .if1 .taken))
+returns c = base-absent (c .before .before .before .before .before .before .before .before .pre .1 .1) _ (c .before .before .fx-hash .ensures) (c .before .may-contain .ensures) (not-true _ (c .if1 .taken))
 
 -- src/lib.rt:166:28
 sub-is-ruby-base : tie.Need-sub-is-ruby-base
@@ -41,12 +41,12 @@ is-ruby-base-requires c κs = search needs
 returns-2 : tie.Need-returns-2
 returns-2 c = search needs
 
-pub is-marked-base-spec : {M : Type 1} → statement M
-is-marked-base-spec =
+pub is-filtered-base-spec : {M : Type 1} → statement M
+is-filtered-base-spec =
     tie.close
     (tie.spec
     fx-hash-requires
-    is-marked-requires
+    may-contain-requires
     returns
     sub-is-ruby-base
     part-is-ruby-base-start

@@ -1,13 +1,13 @@
 use mathlib.Core.Path.{_∙_}
 use Rattle.strings.specs.Shown.{shown-str}
-use Rattle.dependency.specs.Noted.{mark-some, mark-none}
+use Rattle.dependency.specs.Noted.{insert-some, insert-none}
 use borrow.Author.Needs.{needs}
-use Rattle.dependency.proofs.mark_plain.Statement.{statement}
-use Rattle.dependency.proofs.mark_plain.Tie as tie
-use Rattle.dependency.proofs.mark_plain.Reads as reads
-use Rattle.dependency.proofs.mark_plain.Lts as lts
+use Rattle.dependency.proofs.insert_plain.Statement.{statement}
+use Rattle.dependency.proofs.insert_plain.Tie as tie
+use Rattle.dependency.proofs.insert_plain.Reads as reads
+use Rattle.dependency.proofs.insert_plain.Lts as lts
 use Rattle.hash.proofs.fx_hash.Reads as fx-hash-reads
-use Rattle.marks.proofs.mark.Reads as mark-reads
+use Rattle.bloom.proofs.insert.Reads as insert-reads
 use Rattle.strings.proofs.resolve_str.Reads as resolve-str-reads
 
 -- src/lib.rt:241:19
@@ -35,8 +35,8 @@ fx-hash-requires : tie.Need-fx-hash-requires
 fx-hash-requires c κs = search needs
 
 -- src/lib.rt:244:13
-mark-requires : tie.Need-mark-requires
-mark-requires c κs = search needs
+insert-requires : tie.Need-insert-requires
+insert-requires c κs = search needs
 
 -- src/lib.rt:245:13
 same-length : tie.Need-same-length
@@ -44,7 +44,7 @@ same-length c = search needs
 
 -- src/lib.rt:245:13
 returns : tie.Need-returns
-returns c = mark-some _ _ _ _ (c .before .before .before .before .before .before .before .before .before .p .given .1) (c .before .before .before .before .before .resolve-str .ensures ∙ shown-str (c .before .before .before .before .before .before .before .before .before .before .before .before .before .before .before .pre .0 .sides) _ (c .before .before .before .before .before .before .before .before .before .before .before .before .before .before .before .pre .1 .1 .inside _ (c .before .before .before .before .before .before .before .before .before .p .given .1))) (c .before .before .before .before .fx-hash .ensures) (c .before .before .mark .ensures)
+returns c = insert-some _ _ _ _ (c .before .before .before .before .before .before .before .before .before .p .given .1) (c .before .before .before .before .before .resolve-str .ensures ∙ shown-str (c .before .before .before .before .before .before .before .before .before .before .before .before .before .before .before .pre .0 .sides) _ (c .before .before .before .before .before .before .before .before .before .before .before .before .before .before .before .pre .1 .1 .inside _ (c .before .before .before .before .before .before .before .before .before .p .given .1))) (c .before .before .before .before .fx-hash .ensures) (c .before .before .insert .ensures)
 
 -- src/lib.rt:248:13
 enum-told : tie.Need-enum-told
@@ -52,10 +52,10 @@ enum-told c = search needs
 
 -- src/lib.rt:248:13
 returns-2 : tie.Need-returns-2
-returns-2 c = mark-none _ _ _ (c .enum-told .given .1)
+returns-2 c = insert-none _ _ _ (c .enum-told .given .1)
 
-pub mark-plain-spec : {M : Type 1} → statement M
-mark-plain-spec =
+pub insert-plain-spec : {M : Type 1} → statement M
+insert-plain-spec =
     tie.close
     (tie.spec
     enum-known-p
@@ -64,7 +64,7 @@ mark-plain-spec =
     part-resolve-str-end
     resolve-str-requires
     fx-hash-requires
-    mark-requires
+    insert-requires
     same-length
     returns
     enum-told

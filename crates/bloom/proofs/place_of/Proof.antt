@@ -1,11 +1,11 @@
 use mathlib.Core.Path.{refl}
 use native.Mathlib.Omega.{arith}
-use Rattle.marks.specs.Marks.{markPlace, place-inside}
+use Rattle.bloom.specs.Filter.{hashPlace, place-inside}
 use borrow.Author.Needs.{needs}
-use Rattle.marks.proofs.place_of.Statement.{statement}
-use Rattle.marks.proofs.place_of.Tie as tie
-use Rattle.marks.proofs.place_of.Reads as reads
-use Rattle.marks.proofs.place_of.Lts as lts
+use Rattle.bloom.proofs.place_of.Statement.{statement}
+use Rattle.bloom.proofs.place_of.Tie as tie
+use Rattle.bloom.proofs.place_of.Reads as reads
+use Rattle.bloom.proofs.place_of.Lts as lts
 
 -- src/lib.rt:27:24
 sub-result : tie.Need-sub-result
@@ -17,12 +17,12 @@ rem-result c = search needs
 
 -- src/lib.rt:27:5
 add-result : tie.Need-add-result
-unfolding markPlace
+unfolding hashPlace
 add-result c = let p = place-inside (c .args .base) (c .args .len) (c .args .h) (c .pre) in omega (arith, p)
 
 -- src/lib.rt:23:1
 returns : tie.Need-returns
-unfolding markPlace
+unfolding hashPlace
 returns c = refl
 
 pub place-of-spec : {M : Type 1} → statement M

@@ -1,13 +1,13 @@
 use mathlib.Core.Path.{sym}
 use native.Mathlib.Omega.{arith}
-use Rattle.marks.specs.Marks.{found-none, found-at, found-inside}
+use Rattle.bloom.specs.Filter.{found-none, found-at, found-inside}
 use borrow.Author.Needs.{needs}
-use Rattle.marks.proofs.is_marked.Statement.{statement}
-use Rattle.marks.proofs.is_marked.Tie as tie
-use Rattle.marks.proofs.is_marked.Reads as reads
-use Rattle.marks.proofs.is_marked.Lts as lts
-use Rattle.marks.proofs.bits_of.Reads as bits-of-reads
-use Rattle.marks.proofs.place_of.Reads as place-of-reads
+use Rattle.bloom.proofs.may_contain.Statement.{statement}
+use Rattle.bloom.proofs.may_contain.Tie as tie
+use Rattle.bloom.proofs.may_contain.Reads as reads
+use Rattle.bloom.proofs.may_contain.Lts as lts
+use Rattle.bloom.proofs.bits_of.Reads as bits-of-reads
+use Rattle.bloom.proofs.place_of.Reads as place-of-reads
 
 -- src/lib.rt:46:9
 returns : tie.Need-returns
@@ -33,7 +33,7 @@ bits-of-requires c κs = search needs
 returns-2 : tie.Need-returns-2
 returns-2 c = found-at _ _ _ (c .before .before .before .if1 .left) (c .before .before .place-of .ensures) (c .bits-of .ensures)
 
-pub is-marked-spec : {M : Type 1} → statement M
-is-marked-spec =
+pub may-contain-spec : {M : Type 1} → statement M
+may-contain-spec =
     tie.close
     (tie.spec returns place-of-requires mul-w shared-slice-read-w bits-of-requires returns-2)

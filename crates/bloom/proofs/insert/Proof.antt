@@ -1,17 +1,17 @@
 use mathlib.Core.Path.{sym}
 use native.Mathlib.Omega.{arith}
-use Rattle.marks.specs.Marks.{marked-none, marked-at, found-inside}
+use Rattle.bloom.specs.Filter.{inserted-none, inserted-at, found-inside}
 use borrow.Author.Needs.{needs}
-use Rattle.marks.proofs.mark.Statement.{statement}
-use Rattle.marks.proofs.mark.Tie as tie
-use Rattle.marks.proofs.mark.Reads as reads
-use Rattle.marks.proofs.mark.Lts as lts
-use Rattle.marks.proofs.bits_of.Reads as bits-of-reads
-use Rattle.marks.proofs.place_of.Reads as place-of-reads
+use Rattle.bloom.proofs.insert.Statement.{statement}
+use Rattle.bloom.proofs.insert.Tie as tie
+use Rattle.bloom.proofs.insert.Reads as reads
+use Rattle.bloom.proofs.insert.Lts as lts
+use Rattle.bloom.proofs.bits_of.Reads as bits-of-reads
+use Rattle.bloom.proofs.place_of.Reads as place-of-reads
 
 -- src/lib.rt:35:9
 returns : tie.Need-returns
-returns c = sym (marked-none _ _ _ (c .if1 .taken))
+returns c = sym (inserted-none _ _ _ (c .if1 .taken))
 
 -- src/lib.rt:37:9
 place-of-requires : tie.Need-place-of-requires
@@ -43,10 +43,10 @@ same-length c = search needs
 
 -- src/lib.rt:31:1
 returns-2 : tie.Need-returns-2
-returns-2 c = marked-at _ _ _ (c .before .before .before .if1 .left) (c .before .before .place-of .ensures) (c .bits-of .ensures)
+returns-2 c = inserted-at _ _ _ (c .before .before .before .if1 .left) (c .before .before .place-of .ensures) (c .bits-of .ensures)
 
-pub mark-spec : {M : Type 1} → statement M
-mark-spec =
+pub insert-spec : {M : Type 1} → statement M
+insert-spec =
     tie.close
     (tie.spec
     returns

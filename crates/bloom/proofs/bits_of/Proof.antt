@@ -1,11 +1,11 @@
 use mathlib.Core.Path.{refl}
-use Rattle.marks.specs.Marks.{markBits}
+use Rattle.bloom.specs.Filter.{hashBits}
 use borrow.Author.Needs.{needs}
-use Rattle.marks.proofs.bits_of.Statement.{statement}
-use Rattle.marks.proofs.bits_of.Tie as tie
-use Rattle.marks.proofs.bits_of.Reads as reads
-use Rattle.marks.proofs.bits_of.Lts as lts
-use Rattle.marks.proofs.power.Reads as power-reads
+use Rattle.bloom.proofs.bits_of.Statement.{statement}
+use Rattle.bloom.proofs.bits_of.Tie as tie
+use Rattle.bloom.proofs.bits_of.Reads as reads
+use Rattle.bloom.proofs.bits_of.Lts as lts
+use Rattle.bloom.proofs.power.Reads as power-reads
 
 -- src/lib.rt:18:19
 cast-power : tie.Need-cast-power
@@ -41,7 +41,7 @@ power-requires-4 c κs = search needs
 
 -- src/lib.rt:15:1
 returns : tie.Need-returns
-unfolding markBits
+unfolding hashBits
 returns c = rw (c .before .before .before .power .ensures, c .before .before .power2 .ensures, c .before .power3 .ensures, c .power4 .ensures) refl
 
 pub bits-of-spec : {M : Type 1} → statement M

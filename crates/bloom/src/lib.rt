@@ -1,8 +1,8 @@
-// A set of hashes as bits of the words from `base` on, at most four in one word for each: what was marked is always found, and another
-// hash seldom is. The words before `base` are left as they are; where there are none behind it, each hash counts as marked.
+// A Bloom filter in lent words, from `base` on: a hash sets at most four bits of one word. What was inserted is always found, and another
+// hash seldom is. The words before `base` are left as they are; where there are none behind it, each hash counts as inserted.
 ghost use mathlib.Core.Path.{_≡_};
 ghost use Prim.Native.Nat.{_^_, _<_};
-ghost use Rattle.marks.specs.Marks.{markPlace, markBits, isMarked, markedBy};
+ghost use Rattle.bloom.specs.Filter.{hashPlace, hashBits, mayContain, inserted};
 
 fn power(k: u32) -> u32
     requires { ⌜ k < 32 ⌝ }
@@ -13,7 +13,7 @@ fn power(k: u32) -> u32
 
 // The bits of a hash.
 fn bits_of(h: u64) -> u32
-    ensures { λ r. ⌜ r ≡ markBits h ⌝ }
+    ensures { λ r. ⌜ r ≡ hashBits h ⌝ }
 {
     let a = power((h % 32) as u32) | power((h / 32 % 32) as u32);
     let b = power((h / 1024 % 32) as u32) | power((h / 32768 % 32) as u32);
@@ -23,13 +23,13 @@ fn bits_of(h: u64) -> u32
 // The word of a hash.
 fn place_of(base: usize, len: usize, h: u64) -> usize
     requires { ⌜ base < len ⌝ }
-    ensures { λ r. ⌜ r ≡ markPlace base len h ⌝ }
+    ensures { λ r. ⌜ r ≡ hashPlace base len h ⌝ }
 {
     base + (h / 4294967296 % ((len - base) as u64)) as usize
 }
 
-pub fn mark(words: &mut [u32], base: usize, h: u64)
-    ensures { λ _. ⌜ now (words .exit) ≡ markedBy (now (words .entry)) base h ⌝ }
+pub fn insert(words: &mut [u32], base: usize, h: u64)
+    ensures { λ _. ⌜ now (words .exit) ≡ inserted (now (words .entry)) base h ⌝ }
 {
     if words.len() <= base {
         return;
@@ -39,8 +39,8 @@ pub fn mark(words: &mut [u32], base: usize, h: u64)
     words[i] = w | bits_of(h);
 }
 
-pub fn is_marked(words: &[u32], base: usize, h: u64) -> bool
-    ensures { λ r. ⌜ r ≡ isMarked (now (words .entry)) base h ⌝ }
+pub fn may_contain(words: &[u32], base: usize, h: u64) -> bool
+    ensures { λ r. ⌜ r ≡ mayContain (now (words .entry)) base h ⌝ }
 {
     if words.len() <= base {
         return true;

@@ -1,9 +1,9 @@
-use Rattle.marks.specs.Marks.{power-fits}
+use Rattle.bloom.specs.Filter.{power-fits}
 use borrow.Author.Needs.{needs}
-use Rattle.marks.proofs.power.Statement.{statement}
-use Rattle.marks.proofs.power.Tie as tie
-use Rattle.marks.proofs.power.Reads as reads
-use Rattle.marks.proofs.power.Lts as lts
+use Rattle.bloom.proofs.power.Statement.{statement}
+use Rattle.bloom.proofs.power.Tie as tie
+use Rattle.bloom.proofs.power.Reads as reads
+use Rattle.bloom.proofs.power.Lts as lts
 
 -- src/lib.rt:12:5
 shl-result : tie.Need-shl-result
