@@ -6,7 +6,8 @@ use interner::StrInterner;
 use libc::STDOUT_FILENO;
 ghost use mathlib.Core.Path.{_≡_};
 ghost use mathlib.Core.Bool.{true};
-ghost use Prim.Native.Nat.{_≤_, _<_};
+ghost use mathlib.Core.List.{_∷_, []};
+ghost use Prim.Native.Nat.{_+_, _/_, _%_, _≤_, _<_};
 ghost use lib.ListN.{length};
 ghost use Rattle.interner.specs.State.{Good};
 
@@ -75,7 +76,9 @@ fn call(work: &mut [u32], strs: &mut [u8], a: Answer, s: &[u8]) -> Answer
 }
 
 // The four digits of i, as bytes.
-fn digits(i: u32) -> [u8; 4] {
+fn digits(i: u32) -> [u8; 4]
+    ensures { λ r. ⌜ r ≡ ((48 + i / 1000 % 10) ∷ (48 + i / 100 % 10) ∷ (48 + i / 10 % 10) ∷ (48 + i % 10) ∷ []) ⌝ }
+{
     [
         (48 + i / 1000 % 10) as u8,
         (48 + i / 100 % 10) as u8,
