@@ -14,6 +14,8 @@ ghost use Rattle.model.specs.Tape.{recordAt, recordsAt, contentCodec, segmentCo
 ghost use Rattle.model.specs.Graft.{graftStr};
 ghost use Rattle.wire.specs.Overwrite.{overwrite};
 ghost use Rattle.records.specs.Values.{bodyAt};
+ghost use Rattle.strings.specs.Starts.{lengthsIn};
+ghost use Rattle.strings.specs.Index.{Indexed};
 ghost use Rattle.interner.specs.State.{Good, stateOf, hasRoom};
 ghost use Rattle.ids.specs.Tests.{bodyIn, nodeIn, contentIn, segmentIn, contentsIn, segmentsIn, usedWell};
 ghost use Rattle.sizes.specs.InPlace.{innerAdds, bodyAdds, nodeAdds, nodesAdd, placeAdds, usedAdds, contentAdds, contentsAdd, contentRunAdds, segmentsAdd, segmentRunAdds};
@@ -24,7 +26,7 @@ ghost use Rattle.graft.specs.Nodes.{nodeWords};
 ghost use Rattle.graft.specs.NodeItems.{NodesTold, refsFrom};
 ghost use Rattle.graft.specs.NodeLoop.{shownOf};
 ghost use Rattle.graft.specs.Walk.{Ready, bodyFrom, placeFrom, contentRunFrom, segmentRunFrom, fieldFrom};
-ghost use Rattle.graft.specs.Walk.{sourceStore, Source, stringFrom, shownContents, shownSegments, StartTold, idFrom, strStart, WordsTold, ContentsTold, SegmentsTold};
+ghost use Rattle.graft.specs.Walk.{sourceStore, Source, indexWords, stringFrom, shownContents, shownSegments, StartTold, idFrom, strStart, WordsTold, ContentsTold, SegmentsTold};
 
 // Where the new layer's numbers begin, and where its contents and segments are written.
 pub struct Plan {
@@ -60,13 +62,14 @@ pub struct Words {
     pub words: [u32; 6],
 }
 
-// Where the bytes of that string begin.
-fn string_from(tape: &[u8], bytes: &[u8], st: store::Store, id: u32) -> usize
+// Where the bytes of that string begin; `words` are the index of the strings.
+fn string_from(tape: &[u8], bytes: &[u8], st: store::Store, words: &[u32], id: u32) -> usize
     requires { ⌜ Source (now tape) (now bytes) st ⌝ }
+    requires { ⌜ Indexed (lengthsIn (now tape)) (now words) ⌝ }
     requires { ⌜ id < st .totals .strings ⌝ }
     ensures { λ r. ⌜ r ≡ stringFrom (now (tape .entry)) id ⌝ }
 {
-    let start = strings::start_from(tape, st, bytes.len(), 0, id, 0);
+    let start = strings::string_start(tape, st, bytes.len(), words, id);
     let text = wire::u32_at(tape, 1) as usize;
     let normalized = wire::u32_at(tape, 5) as usize;
     text + normalized + start
@@ -101,11 +104,12 @@ fn graft_str(
     id: u32,
 ) -> Start
     requires { ⌜ Source (now tape) (now bytes) st ⌝ }
+    requires { ⌜ Indexed (lengthsIn (now tape)) (indexWords (now work)) ⌝ }
     requires { ⌜ Good (now work) (now strs) (m .state) ⌝ }
     requires { ⌜ (id < st .totals .strings) × (m .state .stats .calls < 2 ^ 32) × (p .strings + 2 ^ 12 < 2 ^ 32) ⌝ }
     ensures { λ r. ⌜ ((out : List ℕ) → StartTold p m out (now (work .entry)) (now (strs .entry)) out (now (work .exit)) (now (strs .exit)) r (graftStr (resolveStr (sourceStore (now (tape .entry)) (now (bytes .entry))) id) (layerFrom p (now (work .entry)) (now (strs .entry)) m))) ⌝ }
 {
-    let from = string_from(tape, bytes, st, id);
+    let from = string_from(tape, bytes, st, &work[11776..16384], id);
     let len = strings::string_length(tape, st, id);
     let state = m.state;
     let a = intern::intern(work, strs, state, &bytes[from..from + len]);
@@ -125,6 +129,7 @@ fn graft_string(
     id: u32,
 ) -> Start
     requires { ⌜ Source (now tape) (now bytes) st ⌝ }
+    requires { ⌜ Indexed (lengthsIn (now tape)) (indexWords (now work)) ⌝ }
     requires { ⌜ Good (now work) (now strs) (m .state) ⌝ }
     requires { ⌜ (m .ok ≡ true) × (hasRoom (length (now strs)) (m .state .base) (stateOf (now work) (now strs) (m .state)) ≡ true) ⌝ }
     requires { ⌜ (usedWell st usage id 0 ≡ true) × (m .state .stats .calls < 2 ^ 32) × (p .strings + 2 ^ 12 < 2 ^ 32) ⌝ }
