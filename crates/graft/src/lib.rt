@@ -23,8 +23,7 @@ ghost use Rattle.graft.specs.Grafted.{layerFrom};
 ghost use Rattle.graft.specs.Runs.{withContents, withSegments};
 ghost use Rattle.graft.specs.Written.{wordsBytes, segmentWith, nodeHead, nodeWith};
 ghost use Rattle.graft.specs.Nodes.{nodeWords};
-ghost use Rattle.graft.specs.NodeItems.{NodesTold, refsFrom};
-ghost use Rattle.graft.specs.NodeLoop.{shownOf};
+ghost use Rattle.graft.specs.NodeItems.{shownOf, refsFrom, NodesTold};
 ghost use Rattle.graft.specs.Walk.{Ready, bodyFrom, placeFrom, contentRunFrom, segmentRunFrom, fieldFrom};
 ghost use Rattle.graft.specs.Walk.{sourceStore, Source, indexWords, stringFrom, shownContents, shownSegments, StartTold, idFrom, strStart, WordsTold, ContentsTold, SegmentsTold};
 

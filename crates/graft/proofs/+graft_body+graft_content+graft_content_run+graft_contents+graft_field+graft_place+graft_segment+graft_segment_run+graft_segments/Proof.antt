@@ -8,8 +8,11 @@ use Rattle.ids.specs.Tests.{used-contents, used-segments}
 use Rattle.sizes.specs.InPlace.{innerAdds}
 use Rattle.graft.specs.Fields.{string-well, field-contents, field-segments, field-string, field-contents-ready, field-segments-ready, word-is, word-small, place-well, place-ready, place-told}
 use Rattle.graft.specs.Fields.{BodySoFar, body-first, body-ready, body-turn, body-more, body-refused, body-last}
-use Rattle.graft.specs.ContentItems.{ContentsUpTo, contents-first, content-ready, content-in, content-low, content-turn, contents-more, contents-refused, contents-last}
-use Rattle.graft.specs.SegmentItems.{SegmentsUpTo, segments-first, segment-ready, segment-in, segment-low, segment-turn, segments-more, segments-refused, segments-last}
+use Rattle.model.specs.Tape.{contentCodec, segmentCodec}
+use Rattle.graft.specs.Blocks.{Apart.between, Apart.beyond}
+use Rattle.graft.specs.Walk.{shownContents, shownSegments}
+use Rattle.graft.specs.Loop.{ItemsUpTo, items-first, item-ready, item-known, item-low, item-turn, items-more, items-refused, items-last}
+use Rattle.graft.specs.Kinds.{content-grafts, segment-grafts}
 use Rattle.graft.specs.Inner.{contents-ready, contents-high, contents-numbers, contents-others, contents-within, contents-known, content-run-answer}
 use Rattle.graft.specs.Inner.{segments-ready, segments-high, segments-numbers, segments-others, segments-within, segments-known, segment-run-answer}
 use Rattle.graft.specs.Items.{plain-known, plain-refused, plain-made, run-known, run-ready, run-refused, run-made, body-known, below-ready, segment-zero, below-refused, below-made}
@@ -746,7 +749,7 @@ graft-content-run-returns-2 : (t : ℕ) → graft-content-run-lts.Need-returns-2
 graft-content-run-returns-2 t c = content-run-answer (c .before .before .before .before .before .before .before .before .before .before .before .before .before .before .before .before .before .before .before .before .args .level) (c .before .before .before .before .before .before .before .before .before .before .before .before .before .before .before .before .before .before .before .before .args .start) (c .before .before .before .before .before .before .before .before .before .before .before .before .before .before .before .before .before .before .before .before .args .len) (c .before .before .before .before .before .before .before .before .before .before .before .before .before .before .before .before .before .before .before .before .pre .1 .1) (c .before .before .before .before .before .before .before .before .before .before .before .before .before .before .before .before .before .before .before .before .pre .1 .0) (c .before .before .before .before .before .before .before .before .before .before .before .before .before .content-place .result) (c .before .before .before .before .before .before .before .before .before .before .before .before .before .content-place .ensures) ((c .before .before .before .before .before .before .before .before .before .before .before .before .before .before .before .before .before .before .before .before .args .m) .contents + c .before .before .before .before .before .before .before .before .before .before .before .before .inner-contents .result) (ap (λ (n : ℕ). (c .before .before .before .before .before .before .before .before .before .before .before .before .before .before .before .before .before .before .before .before .args .m) .contents + n) (c .before .before .before .before .before .before .before .before .before .before .before .before .inner-contents .ensures)) (c .before .before .before .before .before .before .before .graft-contents .ensures) (c .pushed-contents .result) (c .pushed-contents .ensures)
 
 abbrev graft-contents-Inv-loop : graft-contents-lts.InvT-loop
-graft-contents-Inv-loop tape bytes st out₀ work₀ strs₀ p at count to level u₀ i₀ out work strs u i = (i ≤ count) × ContentsUpTo level tape bytes p u₀ at to out₀ work₀ strs₀ out work strs u i × (length work ≡ length work₀) × (length strs ≡ length strs₀)
+graft-contents-Inv-loop tape bytes st out₀ work₀ strs₀ p at count to level u₀ i₀ out work strs u i = (i ≤ count) × ItemsUpTo tape contentCodec (shownContents level tape bytes) p u₀ at (p .contentsat + 10 * to) out₀ work₀ strs₀ out work strs u i × (length work ≡ length work₀) × (length strs ≡ length strs₀)
 
 abbrev graft-contents-μ-loop : graft-contents-lts.MeasureT-loop
 graft-contents-μ-loop tape bytes st out₀ work₀ strs₀ p at count to level u₀ i₀ out work strs u i = count - i
@@ -756,7 +759,7 @@ graft-contents-loop-holds : (t : ℕ) → graft-contents-lts.Need-loop-holds (
   graft-content-below t,
   graft-content.Post,
 ) (graft-contents-at t) graft-contents.Post graft-contents-Inv-loop graft-contents-μ-loop
-graft-contents-loop-holds t c = (omega arith, contents-first (c .before .before .before .before .before .args .level) (c .before .before .before .before .before .args .tape .now) (c .before .before .before .before .before .args .bytes .now) (c .before .before .before .before .before .args .st) (c .before .before .before .before .before .args .p) (c .before .before .before .before .before .args .m) (c .before .before .before .before .before .args .at) (c .before .before .before .before .before .args .count) (c .before .before .before .before .before .args .to) (c .before .before .before .before .before .args .out .now) (c .before .before .before .before .before .args .work .now) (c .before .before .before .before .before .args .strs .now) (c .before .before .before .before .before .pre .1 .0) (c .before .before .before .before .before .pre .1 .1 .0 .1), refl, refl)
+graft-contents-loop-holds t c = (omega arith, items-first (content-grafts ((c .before .before .before .before .before .pre .1 .0) .source) (c .before .before .before .before .before .args .level)) (c .before .before .before .before .before .args .at) (c .before .before .before .before .before .args .count) ((c .before .before .before .before .before .args .p) .contentsat + 10 * (c .before .before .before .before .before .args .to)) (c .before .before .before .before .before .pre .1 .0) (c .before .before .before .before .before .pre .1 .1 .0 .1), refl, refl)
 
 -- src/lib.rt:423:72
 graft-contents-mul-graft-content : (t : ℕ) → graft-contents-lts.Need-mul-graft-content (
@@ -791,7 +794,7 @@ graft-contents-graft-content-requires : (t : ℕ) → graft-contents-lts.Need-gr
   graft-content-below t,
   graft-content.Post,
 ) (graft-contents-at t) graft-contents.Post graft-contents-Inv-loop graft-contents-μ-loop
-graft-contents-graft-content-requires t c κs = (omega arith, (content-ready (c .before .before .before .before .before .before .before .before .before .before .args .level) (c .before .before .before .before .before .before .before .before .before .before .args .tape .now) (c .before .before .before .before .before .before .before .before .before .before .args .bytes .now) (c .before .before .before .before .before .before .before .before .before .before .args .st) (c .before .before .before .before .before .before .before .before .before .before .args .p) (c .before .before .before .before .before .before .before .before .before .before .args .m) (c .before .before .before .before .before .before .before .before .before .before .args .at) (c .before .before .before .before .before .before .before .before .before .before .args .count) (c .before .before .before .before .before .before .before .before .before .before .args .to) (c .before .before .before .before .before .before .before .before .before .before .args .out .now) (c .before .before .before .before .before .before .before .before .before .before .args .work .now) (c .before .before .before .before .before .before .before .before .before .before .args .strs .now) (c .before .before .before .before .before .before .before .before .before .before .pre .1 .0) (c .before .before .before .before .before .before .before .before .before .before .pre .1 .1 .0 .1) (c .before .before .before .before .loop .inv .1) (c .before .before .before .loop-test .taken), ((omega (arith, c .before .before .before .before .before .before .before .before .before .before .pre .1 .1 .0 .0, c .before .before .before .loop-test .taken), content-in (c .before .before .before .before .before .before .before .before .before .before .args .level) (c .before .before .before .before .before .before .before .before .before .before .args .tape .now) (c .before .before .before .before .before .before .before .before .before .before .args .bytes .now) (c .before .before .before .before .before .before .before .before .before .before .args .st) (c .before .before .before .before .before .before .before .before .before .before .args .p) (c .before .before .before .before .before .before .before .before .before .before .args .m) (c .before .before .before .before .before .before .before .before .before .before .args .at) (c .before .before .before .before .before .before .before .before .before .before .args .count) (c .before .before .before .before .before .before .before .before .before .before .args .to) (c .before .before .before .before .before .before .before .before .before .before .args .out .now) (c .before .before .before .before .before .before .before .before .before .before .args .work .now) (c .before .before .before .before .before .before .before .before .before .before .args .strs .now) (c .before .before .before .before .before .before .before .before .before .before .pre .1 .0) (c .before .before .before .before .before .before .before .before .before .before .pre .1 .1 .0 .1) (c .before .before .before .before .loop .i) (c .before .before .before .loop-test .taken)), (omega (arith, content-low (c .before .before .before .before .before .before .before .before .before .before .args .level) (c .before .before .before .before .before .before .before .before .before .before .args .tape .now) (c .before .before .before .before .before .before .before .before .before .before .args .bytes .now) (c .before .before .before .before .before .before .before .before .before .before .args .st) (c .before .before .before .before .before .before .before .before .before .before .args .p) (c .before .before .before .before .before .before .before .before .before .before .args .m) (c .before .before .before .before .before .before .before .before .before .before .args .at) (c .before .before .before .before .before .before .before .before .before .before .args .count) (c .before .before .before .before .before .before .before .before .before .before .args .to) (c .before .before .before .before .before .before .before .before .before .before .args .out .now) (c .before .before .before .before .before .before .before .before .before .before .args .work .now) (c .before .before .before .before .before .before .before .before .before .before .args .strs .now) (c .before .before .before .before .before .before .before .before .before .before .pre .1 .0) (c .before .before .before .before .before .before .before .before .before .before .pre .1 .1 .0 .1) (c .before .before .before .before .loop .inv .1) (c .before .before .before .loop-test .taken) (c .before .before .before .before .before .before .before .before .before .before .pre .1 .1 .1 .0)), omega (arith, (c .before .before .before .before .before .before .before .before .before .before .pre .1 .1 .1 .1), c .before .before .before .loop-test .taken)))))
+graft-contents-graft-content-requires t c κs = (omega arith, (item-ready (content-grafts ((c .before .before .before .before .before .before .before .before .before .before .pre .1 .0) .source) (c .before .before .before .before .before .before .before .before .before .before .args .level)) (c .before .before .before .before .before .before .before .before .before .before .args .at) (c .before .before .before .before .before .before .before .before .before .before .args .count) ((c .before .before .before .before .before .before .before .before .before .before .args .p) .contentsat + 10 * (c .before .before .before .before .before .before .before .before .before .before .args .to)) (c .before .before .before .before .before .before .before .before .before .before .pre .1 .0) (c .before .before .before .before .before .before .before .before .before .before .pre .1 .1 .0 .1) (c .before .before .before .before .loop .inv .1) (c .before .before .before .loop-test .taken), ((omega (arith, c .before .before .before .before .before .before .before .before .before .before .pre .1 .1 .0 .0, c .before .before .before .loop-test .taken), item-known (content-grafts ((c .before .before .before .before .before .before .before .before .before .before .pre .1 .0) .source) (c .before .before .before .before .before .before .before .before .before .before .args .level)) (c .before .before .before .before .before .before .before .before .before .before .args .at) (c .before .before .before .before .before .before .before .before .before .before .args .count) ((c .before .before .before .before .before .before .before .before .before .before .args .p) .contentsat + 10 * (c .before .before .before .before .before .before .before .before .before .before .args .to)) (c .before .before .before .before .before .before .before .before .before .before .pre .1 .0) (c .before .before .before .before .before .before .before .before .before .before .pre .1 .1 .0 .1) (c .before .before .before .before .loop .i) (c .before .before .before .loop-test .taken)), (omega (arith, item-low (content-grafts ((c .before .before .before .before .before .before .before .before .before .before .pre .1 .0) .source) (c .before .before .before .before .before .before .before .before .before .before .args .level)) (c .before .before .before .before .before .before .before .before .before .before .args .at) (c .before .before .before .before .before .before .before .before .before .before .args .count) ((c .before .before .before .before .before .before .before .before .before .before .args .p) .contentsat + 10 * (c .before .before .before .before .before .before .before .before .before .before .args .to)) (c .before .before .before .before .before .before .before .before .before .before .pre .1 .0) (c .before .before .before .before .before .before .before .before .before .before .pre .1 .1 .0 .1) (c .before .before .before .before .loop .inv .1) (c .before .before .before .loop-test .taken) .0, c .before .before .before .before .before .before .before .before .before .before .pre .1 .1 .1 .0), omega (arith, c .before .before .before .before .before .before .before .before .before .before .pre .1 .1 .1 .1, c .before .before .before .loop-test .taken)))))
 
 -- src/lib.rt:425:13
 graft-contents-same-length : (t : ℕ) → graft-contents-lts.Need-same-length (
@@ -819,7 +822,7 @@ graft-contents-returns : (t : ℕ) → graft-contents-lts.Need-returns (
   graft-content-below t,
   graft-content.Post,
 ) (graft-contents-at t) graft-contents.Post graft-contents-Inv-loop graft-contents-μ-loop
-graft-contents-returns t c = contents-refused (c .before .before .before .before .before .before .before .before .before .before .before .before .before .before .before .before .before .before .before .args .level) (c .before .before .before .before .before .before .before .before .before .before .before .before .before .before .before .before .before .before .before .args .tape .now) (c .before .before .before .before .before .before .before .before .before .before .before .before .before .before .before .before .before .before .before .args .bytes .now) (c .before .before .before .before .before .before .before .before .before .before .before .before .before .before .before .before .before .before .before .args .st) (c .before .before .before .before .before .before .before .before .before .before .before .before .before .before .before .before .before .before .before .args .p) (c .before .before .before .before .before .before .before .before .before .before .before .before .before .before .before .before .before .before .before .args .m) (c .before .before .before .before .before .before .before .before .before .before .before .before .before .before .before .before .before .before .before .args .at) (c .before .before .before .before .before .before .before .before .before .before .before .before .before .before .before .before .before .before .before .args .count) (c .before .before .before .before .before .before .before .before .before .before .before .before .before .before .before .before .before .before .before .args .to) (c .before .before .before .before .before .before .before .before .before .before .before .before .before .before .before .before .before .before .before .args .out .now) (c .before .before .before .before .before .before .before .before .before .before .before .before .before .before .before .before .before .before .before .args .work .now) (c .before .before .before .before .before .before .before .before .before .before .before .before .before .before .before .before .before .before .before .args .strs .now) (c .before .before .before .before .before .before .before .before .before .before .before .before .before .before .before .before .before .before .before .pre .1 .0) (c .before .before .before .before .before .before .before .before .before .before .before .before .before .before .before .before .before .before .before .pre .1 .1 .0 .1) (c .before .before .before .before .before .before .before .before .before .before .before .before .before .loop .i + 1) (omega (arith, c .before .before .before .before .before .before .before .before .before .before .before .before .loop-test .taken)) (content-turn (c .before .before .before .before .before .before .before .before .before .before .before .before .before .before .before .before .before .before .before .args .level) (c .before .before .before .before .before .before .before .before .before .before .before .before .before .before .before .before .before .before .before .args .tape .now) (c .before .before .before .before .before .before .before .before .before .before .before .before .before .before .before .before .before .before .before .args .bytes .now) (c .before .before .before .before .before .before .before .before .before .before .before .before .before .before .before .before .before .before .before .args .st) (c .before .before .before .before .before .before .before .before .before .before .before .before .before .before .before .before .before .before .before .args .p) (c .before .before .before .before .before .before .before .before .before .before .before .before .before .before .before .before .before .before .before .args .m) (c .before .before .before .before .before .before .before .before .before .before .before .before .before .before .before .before .before .before .before .args .at) (c .before .before .before .before .before .before .before .before .before .before .before .before .before .before .before .before .before .before .before .args .count) (c .before .before .before .before .before .before .before .before .before .before .before .before .before .before .before .before .before .before .before .args .to) (c .before .before .before .before .before .before .before .before .before .before .before .before .before .before .before .before .before .before .before .args .out .now) (c .before .before .before .before .before .before .before .before .before .before .before .before .before .before .before .before .before .before .before .args .work .now) (c .before .before .before .before .before .before .before .before .before .before .before .before .before .before .before .before .before .before .before .args .strs .now) (c .before .before .before .before .before .before .before .before .before .before .before .before .before .before .before .before .before .before .before .pre .1 .0) (c .before .before .before .before .before .before .before .before .before .before .before .before .before .before .before .before .before .before .before .pre .1 .1 .0 .1) (c .before .before .before .before .before .before .before .before .before .before .before .before .before .loop .inv .1) (c .before .before .before .before .before .before .before .before .before .before .before .before .loop-test .taken) (c .before .before .before .before .before .before .before .before .before .before .before .before .before .before .before .before .before .before .before .pre .1 .1 .1 .0) (c .before .before .before .before .before .before .before .before .before .before .before .before .before .before .before .before .before .before .before .pre .1 .1 .1 .1) ((c .before .before .before .before .before .before .before .before .before .before .before .before .before .before .before .before .before .before .before .args .to) + c .before .before .before .before .before .before .before .before .before .before .before .before .before .loop .i) refl (c .before .before .before .before .before .before .before .before .graft-content .ensures)) (not-true _ (c .if1 .taken))
+graft-contents-returns t c = items-refused (content-grafts ((c .before .before .before .before .before .before .before .before .before .before .before .before .before .before .before .before .before .before .before .pre .1 .0) .source) (c .before .before .before .before .before .before .before .before .before .before .before .before .before .before .before .before .before .before .before .args .level)) (c .before .before .before .before .before .before .before .before .before .before .before .before .before .before .before .before .before .before .before .args .at) (c .before .before .before .before .before .before .before .before .before .before .before .before .before .before .before .before .before .before .before .args .count) ((c .before .before .before .before .before .before .before .before .before .before .before .before .before .before .before .before .before .before .before .args .p) .contentsat + 10 * (c .before .before .before .before .before .before .before .before .before .before .before .before .before .before .before .before .before .before .before .args .to)) (c .before .before .before .before .before .before .before .before .before .before .before .before .before .before .before .before .before .before .before .pre .1 .0) (c .before .before .before .before .before .before .before .before .before .before .before .before .before .before .before .before .before .before .before .pre .1 .1 .0 .1) (c .before .before .before .before .before .before .before .before .before .before .before .before .before .loop .i + 1) (omega (arith, c .before .before .before .before .before .before .before .before .before .before .before .before .loop-test .taken)) (item-turn (content-grafts ((c .before .before .before .before .before .before .before .before .before .before .before .before .before .before .before .before .before .before .before .pre .1 .0) .source) (c .before .before .before .before .before .before .before .before .before .before .before .before .before .before .before .before .before .before .before .args .level)) (c .before .before .before .before .before .before .before .before .before .before .before .before .before .before .before .before .before .before .before .args .at) (c .before .before .before .before .before .before .before .before .before .before .before .before .before .before .before .before .before .before .before .args .count) ((c .before .before .before .before .before .before .before .before .before .before .before .before .before .before .before .before .before .before .before .args .p) .contentsat + 10 * (c .before .before .before .before .before .before .before .before .before .before .before .before .before .before .before .before .before .before .before .args .to)) (c .before .before .before .before .before .before .before .before .before .before .before .before .before .before .before .before .before .before .before .pre .1 .0) (c .before .before .before .before .before .before .before .before .before .before .before .before .before .before .before .before .before .before .before .pre .1 .1 .0 .1) (c .before .before .before .before .before .before .before .before .before .before .before .before .before .loop .inv .1) (c .before .before .before .before .before .before .before .before .before .before .before .before .loop-test .taken) (between (omega (arith, c .before .before .before .before .before .before .before .before .before .before .before .before .before .before .before .before .before .before .before .pre .1 .1 .1 .0)) (omega (arith, c .before .before .before .before .before .before .before .before .before .before .before .before .before .before .before .before .before .before .before .pre .1 .1 .1 .1))) ((c .before .before .before .before .before .before .before .before .before .before .before .before .before .before .before .before .before .before .before .args .p) .contentsat + 10 * ((c .before .before .before .before .before .before .before .before .before .before .before .before .before .before .before .before .before .before .before .args .to) + c .before .before .before .before .before .before .before .before .before .before .before .before .before .loop .i)) (omega arith) (c .before .before .before .before .before .before .before .before .graft-content .ensures)) (not-true _ (c .if1 .taken))
 
 -- src/lib.rt:427:9
 graft-contents-add-i : (t : ℕ) → graft-contents-lts.Need-add-i (
@@ -840,7 +843,7 @@ graft-contents-loop-again : (t : ℕ) → graft-contents-lts.Need-loop-again (
   graft-content-below t,
   graft-content.Post,
 ) (graft-contents-at t) graft-contents.Post graft-contents-Inv-loop graft-contents-μ-loop
-graft-contents-loop-again t c = (omega (arith, c .before .before .before .before .before .before .before .before .before .before .before .before .loop-test .taken), contents-more (c .before .before .before .before .before .before .before .before .before .before .before .before .before .before .before .before .before .before .before .args .level) (c .before .before .before .before .before .before .before .before .before .before .before .before .before .before .before .before .before .before .before .args .tape .now) (c .before .before .before .before .before .before .before .before .before .before .before .before .before .before .before .before .before .before .before .args .bytes .now) (c .before .before .before .before .before .before .before .before .before .before .before .before .before .before .before .before .before .before .before .args .st) (c .before .before .before .before .before .before .before .before .before .before .before .before .before .before .before .before .before .before .before .args .p) (c .before .before .before .before .before .before .before .before .before .before .before .before .before .before .before .before .before .before .before .args .m) (c .before .before .before .before .before .before .before .before .before .before .before .before .before .before .before .before .before .before .before .args .at) (c .before .before .before .before .before .before .before .before .before .before .before .before .before .before .before .before .before .before .before .args .count) (c .before .before .before .before .before .before .before .before .before .before .before .before .before .before .before .before .before .before .before .args .to) (c .before .before .before .before .before .before .before .before .before .before .before .before .before .before .before .before .before .before .before .args .out .now) (c .before .before .before .before .before .before .before .before .before .before .before .before .before .before .before .before .before .before .before .args .work .now) (c .before .before .before .before .before .before .before .before .before .before .before .before .before .before .before .before .before .before .before .args .strs .now) (c .before .before .before .before .before .before .before .before .before .before .before .before .before .before .before .before .before .before .before .pre .1 .0) (c .before .before .before .before .before .before .before .before .before .before .before .before .before .before .before .before .before .before .before .pre .1 .1 .0 .1) (c .before .before .before .before .before .before .before .before .before .before .before .before .before .loop .inv .1) (c .before .before .before .before .before .before .before .before .before .before .before .before .loop-test .taken) (c .before .before .before .before .before .before .before .before .before .before .before .before .before .before .before .before .before .before .before .pre .1 .1 .1 .0) (c .before .before .before .before .before .before .before .before .before .before .before .before .before .before .before .before .before .before .before .pre .1 .1 .1 .1) ((c .before .before .before .before .before .before .before .before .before .before .before .before .before .before .before .before .before .before .before .args .to) + c .before .before .before .before .before .before .before .before .before .before .before .before .before .loop .i) refl (c .before .before .before .before .before .before .before .before .graft-content .ensures) (c .before .before .before .before .before .before .before .before .graft-content .kept .1 .1 .1 .0) (not-false _ (c .if1 .left)), c .before .before .before .before .before .before .before .before .graft-content .kept .1 .1 .1 .1 .0 ∙ c .before .before .before .before .before .before .before .before .before .before .before .before .before .loop .inv .2, c .before .before .before .before .before .before .before .before .graft-content .kept .1 .1 .1 .1 .1 .0 ∙ c .before .before .before .before .before .before .before .before .before .before .before .before .before .loop .inv .3)
+graft-contents-loop-again t c = (omega (arith, c .before .before .before .before .before .before .before .before .before .before .before .before .loop-test .taken), items-more (content-grafts ((c .before .before .before .before .before .before .before .before .before .before .before .before .before .before .before .before .before .before .before .pre .1 .0) .source) (c .before .before .before .before .before .before .before .before .before .before .before .before .before .before .before .before .before .before .before .args .level)) (c .before .before .before .before .before .before .before .before .before .before .before .before .before .before .before .before .before .before .before .args .at) (c .before .before .before .before .before .before .before .before .before .before .before .before .before .before .before .before .before .before .before .args .count) ((c .before .before .before .before .before .before .before .before .before .before .before .before .before .before .before .before .before .before .before .args .p) .contentsat + 10 * (c .before .before .before .before .before .before .before .before .before .before .before .before .before .before .before .before .before .before .before .args .to)) (c .before .before .before .before .before .before .before .before .before .before .before .before .before .before .before .before .before .before .before .pre .1 .0) (c .before .before .before .before .before .before .before .before .before .before .before .before .before .before .before .before .before .before .before .pre .1 .1 .0 .1) (c .before .before .before .before .before .before .before .before .before .before .before .before .before .loop .inv .1) (c .before .before .before .before .before .before .before .before .before .before .before .before .loop-test .taken) (between (omega (arith, c .before .before .before .before .before .before .before .before .before .before .before .before .before .before .before .before .before .before .before .pre .1 .1 .1 .0)) (omega (arith, c .before .before .before .before .before .before .before .before .before .before .before .before .before .before .before .before .before .before .before .pre .1 .1 .1 .1))) ((c .before .before .before .before .before .before .before .before .before .before .before .before .before .before .before .before .before .before .before .args .p) .contentsat + 10 * ((c .before .before .before .before .before .before .before .before .before .before .before .before .before .before .before .before .before .before .before .args .to) + c .before .before .before .before .before .before .before .before .before .before .before .before .before .loop .i)) (omega arith) (c .before .before .before .before .before .before .before .before .graft-content .ensures) (c .before .before .before .before .before .before .before .before .graft-content .kept .1 .1 .1 .0) (not-false _ (c .if1 .left)), c .before .before .before .before .before .before .before .before .graft-content .kept .1 .1 .1 .1 .0 ∙ c .before .before .before .before .before .before .before .before .before .before .before .before .before .loop .inv .2, c .before .before .before .before .before .before .before .before .graft-content .kept .1 .1 .1 .1 .1 .0 ∙ c .before .before .before .before .before .before .before .before .before .before .before .before .before .loop .inv .3)
 
 -- src/lib.rt:414:1
 graft-contents-same-length-4 : (t : ℕ) → graft-contents-lts.Need-same-length-4 (
@@ -868,7 +871,7 @@ graft-contents-returns-2 : (t : ℕ) → graft-contents-lts.Need-returns-2 (
   graft-content-below t,
   graft-content.Post,
 ) (graft-contents-at t) graft-contents.Post graft-contents-Inv-loop graft-contents-μ-loop
-graft-contents-returns-2 t c = contents-last (c .before .before .before .before .before .before .before .args .level) (c .before .before .before .before .before .before .before .args .tape .now) (c .before .before .before .before .before .before .before .args .bytes .now) (c .before .before .before .before .before .before .before .args .st) (c .before .before .before .before .before .before .before .args .p) (c .before .before .before .before .before .before .before .args .m) (c .before .before .before .before .before .before .before .args .at) (c .before .before .before .before .before .before .before .args .count) (c .before .before .before .before .before .before .before .args .to) (c .before .before .before .before .before .before .before .args .out .now) (c .before .before .before .before .before .before .before .args .work .now) (c .before .before .before .before .before .before .before .args .strs .now) (c .before .before .before .before .before .before .before .pre .1 .0) (c .before .before .before .before .before .before .before .pre .1 .1 .0 .1) (c .before .loop .inv .1) (omega (arith, c .loop-test .left)) (c .before .loop .inv .0)
+graft-contents-returns-2 t c = items-last (content-grafts ((c .before .before .before .before .before .before .before .pre .1 .0) .source) (c .before .before .before .before .before .before .before .args .level)) (c .before .before .before .before .before .before .before .args .at) (c .before .before .before .before .before .before .before .args .count) ((c .before .before .before .before .before .before .before .args .p) .contentsat + 10 * (c .before .before .before .before .before .before .before .args .to)) (c .before .before .before .before .before .before .before .pre .1 .0) (c .before .before .before .before .before .before .before .pre .1 .1 .0 .1) (c .before .loop .inv .1) (omega (arith, c .loop-test .left)) (c .before .loop .inv .0)
 
 -- src/lib.rt:390:9
 graft-field-graft-content-run-requires : (t : ℕ) → graft-field-lts.Need-graft-content-run-requires (
@@ -1274,7 +1277,7 @@ graft-segment-returns : (t : ℕ) → graft-segment-lts.Need-returns (
   u32-at-reads.Asked,
   u32-at-reads.Learnt,
 ) (graft-segment-at t) graft-segment.Post
-graft-segment-returns t c = segment-zero (c .before .before .before .before .before .before .before .before .before .before .before .before .before .args .tape .now) (c .before .before .before .before .before .before .before .before .before .before .before .before .before .args .bytes .now) (c .before .before .before .before .before .before .before .before .before .before .before .before .before .args .at) (c .before .before .before .before .before .before .before .before .before .before .before .before .before .args .p) (c .before .before .before .before .before .before .before .before .before .before .before .before .before .args .m) (c .before .before .before .before .before .before .before .before .before .before .before .before .before .args .to) (c .before .before .before .before .before .before .before .before .before .before .before .before .before .args .out .now) (c .before .before .before .before .before .before .before .before .before .before .before .before .before .args .work .now) (c .before .before .before .before .before .before .before .before .before .before .before .before .before .args .strs .now) (c .before .before .before .before .before .before .before .before .before .before .before .before .before .args .level) (c .before .before .before .before .before .before .if1 .taken) (told-none (c .before .before .before .before .before .before .before .before .before .before .before .before .before .pre .1 .0)) ((c .before .before .before .before .before .before .before .before .before .before .before .before .before .pre .1 .0) .going) (c .before .before .put-segment .ensures)
+graft-segment-returns t c = segment-zero (c .before .before .before .before .before .before .before .before .before .before .before .before .before .args .tape .now) (c .before .before .before .before .before .before .before .before .before .before .before .before .before .args .bytes .now) (c .before .before .before .before .before .before .before .before .before .before .before .before .before .args .at) (c .before .before .before .before .before .before .before .before .before .before .before .before .before .args .p) (c .before .before .before .before .before .before .before .before .before .before .before .before .before .args .m) (c .before .before .before .before .before .before .before .before .before .before .before .before .before .args .to) (c .before .before .before .before .before .before .before .before .before .before .before .before .before .args .out .now) (c .before .before .before .before .before .before .before .before .before .before .before .before .before .args .work .now) (c .before .before .before .before .before .before .before .before .before .before .before .before .before .args .strs .now) (c .before .before .before .before .before .before .before .before .before .before .before .before .before .args .level) (c .before .before .before .before .before .before .if1 .taken) (told-none (c .before .before .before .before .before .before .before .before .before .before .before .before .before .pre .1 .0)) (c .before .before .put-segment .ensures)
 
 -- src/lib.rt:505:64
 graft-segment-add-graft-body : (t : ℕ) → graft-segment-lts.Need-add-graft-body (
@@ -1692,7 +1695,7 @@ graft-segment-run-returns-2 : (t : ℕ) → graft-segment-run-lts.Need-returns-2
 graft-segment-run-returns-2 t c = segment-run-answer (c .before .before .before .before .before .before .before .before .before .before .before .before .before .before .before .before .before .before .before .before .args .level) (c .before .before .before .before .before .before .before .before .before .before .before .before .before .before .before .before .before .before .before .before .args .start) (c .before .before .before .before .before .before .before .before .before .before .before .before .before .before .before .before .before .before .before .before .args .len) (c .before .before .before .before .before .before .before .before .before .before .before .before .before .before .before .before .before .before .before .before .pre .1 .1) (c .before .before .before .before .before .before .before .before .before .before .before .before .before .before .before .before .before .before .before .before .pre .1 .0) (c .before .before .before .before .before .before .before .before .before .before .before .before .before .segment-place .result) (c .before .before .before .before .before .before .before .before .before .before .before .before .before .segment-place .ensures) ((c .before .before .before .before .before .before .before .before .before .before .before .before .before .before .before .before .before .before .before .before .args .m) .segments + c .before .before .before .before .before .before .before .before .before .before .before .before .inner-segments .result) (ap (λ (n : ℕ). (c .before .before .before .before .before .before .before .before .before .before .before .before .before .before .before .before .before .before .before .before .args .m) .segments + n) (c .before .before .before .before .before .before .before .before .before .before .before .before .inner-segments .ensures)) (c .before .before .before .before .before .before .before .graft-segments .ensures) (c .pushed-segments .result) (c .pushed-segments .ensures)
 
 abbrev graft-segments-Inv-loop : graft-segments-lts.InvT-loop
-graft-segments-Inv-loop tape bytes st out₀ work₀ strs₀ p at count to level u₀ i₀ out work strs u i = (i ≤ count) × SegmentsUpTo level tape bytes p u₀ at to out₀ work₀ strs₀ out work strs u i × (length work ≡ length work₀) × (length strs ≡ length strs₀)
+graft-segments-Inv-loop tape bytes st out₀ work₀ strs₀ p at count to level u₀ i₀ out work strs u i = (i ≤ count) × ItemsUpTo tape segmentCodec (shownSegments level tape bytes) p u₀ at (p .segmentsat + 37 * to) out₀ work₀ strs₀ out work strs u i × (length work ≡ length work₀) × (length strs ≡ length strs₀)
 
 abbrev graft-segments-μ-loop : graft-segments-lts.MeasureT-loop
 graft-segments-μ-loop tape bytes st out₀ work₀ strs₀ p at count to level u₀ i₀ out work strs u i = count - i
@@ -1702,7 +1705,7 @@ graft-segments-loop-holds : (t : ℕ) → graft-segments-lts.Need-loop-holds (
   graft-segment-below t,
   graft-segment.Post,
 ) (graft-segments-at t) graft-segments.Post graft-segments-Inv-loop graft-segments-μ-loop
-graft-segments-loop-holds t c = (omega arith, segments-first (c .before .before .before .before .before .args .level) (c .before .before .before .before .before .args .tape .now) (c .before .before .before .before .before .args .bytes .now) (c .before .before .before .before .before .args .st) (c .before .before .before .before .before .args .p) (c .before .before .before .before .before .args .m) (c .before .before .before .before .before .args .at) (c .before .before .before .before .before .args .count) (c .before .before .before .before .before .args .to) (c .before .before .before .before .before .args .out .now) (c .before .before .before .before .before .args .work .now) (c .before .before .before .before .before .args .strs .now) (c .before .before .before .before .before .pre .1 .0) (c .before .before .before .before .before .pre .1 .1 .0 .1), refl, refl)
+graft-segments-loop-holds t c = (omega arith, items-first (segment-grafts ((c .before .before .before .before .before .pre .1 .0) .source) (c .before .before .before .before .before .args .level)) (c .before .before .before .before .before .args .at) (c .before .before .before .before .before .args .count) ((c .before .before .before .before .before .args .p) .segmentsat + 37 * (c .before .before .before .before .before .args .to)) (c .before .before .before .before .before .pre .1 .0) (c .before .before .before .before .before .pre .1 .1 .0 .1), refl, refl)
 
 -- src/lib.rt:484:72
 graft-segments-mul-graft-segment : (t : ℕ) → graft-segments-lts.Need-mul-graft-segment (
@@ -1737,7 +1740,7 @@ graft-segments-graft-segment-requires : (t : ℕ) → graft-segments-lts.Need-gr
   graft-segment-below t,
   graft-segment.Post,
 ) (graft-segments-at t) graft-segments.Post graft-segments-Inv-loop graft-segments-μ-loop
-graft-segments-graft-segment-requires t c κs = (omega arith, (segment-ready (c .before .before .before .before .before .before .before .before .before .before .args .level) (c .before .before .before .before .before .before .before .before .before .before .args .tape .now) (c .before .before .before .before .before .before .before .before .before .before .args .bytes .now) (c .before .before .before .before .before .before .before .before .before .before .args .st) (c .before .before .before .before .before .before .before .before .before .before .args .p) (c .before .before .before .before .before .before .before .before .before .before .args .m) (c .before .before .before .before .before .before .before .before .before .before .args .at) (c .before .before .before .before .before .before .before .before .before .before .args .count) (c .before .before .before .before .before .before .before .before .before .before .args .to) (c .before .before .before .before .before .before .before .before .before .before .args .out .now) (c .before .before .before .before .before .before .before .before .before .before .args .work .now) (c .before .before .before .before .before .before .before .before .before .before .args .strs .now) (c .before .before .before .before .before .before .before .before .before .before .pre .1 .0) (c .before .before .before .before .before .before .before .before .before .before .pre .1 .1 .0 .1) (c .before .before .before .before .loop .inv .1) (c .before .before .before .loop-test .taken), ((omega (arith, c .before .before .before .before .before .before .before .before .before .before .pre .1 .1 .0 .0, c .before .before .before .loop-test .taken), segment-in (c .before .before .before .before .before .before .before .before .before .before .args .level) (c .before .before .before .before .before .before .before .before .before .before .args .tape .now) (c .before .before .before .before .before .before .before .before .before .before .args .bytes .now) (c .before .before .before .before .before .before .before .before .before .before .args .st) (c .before .before .before .before .before .before .before .before .before .before .args .p) (c .before .before .before .before .before .before .before .before .before .before .args .m) (c .before .before .before .before .before .before .before .before .before .before .args .at) (c .before .before .before .before .before .before .before .before .before .before .args .count) (c .before .before .before .before .before .before .before .before .before .before .args .to) (c .before .before .before .before .before .before .before .before .before .before .args .out .now) (c .before .before .before .before .before .before .before .before .before .before .args .work .now) (c .before .before .before .before .before .before .before .before .before .before .args .strs .now) (c .before .before .before .before .before .before .before .before .before .before .pre .1 .0) (c .before .before .before .before .before .before .before .before .before .before .pre .1 .1 .0 .1) (c .before .before .before .before .loop .i) (c .before .before .before .loop-test .taken)), (omega (arith, segment-low (c .before .before .before .before .before .before .before .before .before .before .args .level) (c .before .before .before .before .before .before .before .before .before .before .args .tape .now) (c .before .before .before .before .before .before .before .before .before .before .args .bytes .now) (c .before .before .before .before .before .before .before .before .before .before .args .st) (c .before .before .before .before .before .before .before .before .before .before .args .p) (c .before .before .before .before .before .before .before .before .before .before .args .m) (c .before .before .before .before .before .before .before .before .before .before .args .at) (c .before .before .before .before .before .before .before .before .before .before .args .count) (c .before .before .before .before .before .before .before .before .before .before .args .to) (c .before .before .before .before .before .before .before .before .before .before .args .out .now) (c .before .before .before .before .before .before .before .before .before .before .args .work .now) (c .before .before .before .before .before .before .before .before .before .before .args .strs .now) (c .before .before .before .before .before .before .before .before .before .before .pre .1 .0) (c .before .before .before .before .before .before .before .before .before .before .pre .1 .1 .0 .1) (c .before .before .before .before .loop .inv .1) (c .before .before .before .loop-test .taken) (c .before .before .before .before .before .before .before .before .before .before .pre .1 .1 .1 .0)), omega (arith, (c .before .before .before .before .before .before .before .before .before .before .pre .1 .1 .1 .1), c .before .before .before .loop-test .taken)))))
+graft-segments-graft-segment-requires t c κs = (omega arith, (item-ready (segment-grafts ((c .before .before .before .before .before .before .before .before .before .before .pre .1 .0) .source) (c .before .before .before .before .before .before .before .before .before .before .args .level)) (c .before .before .before .before .before .before .before .before .before .before .args .at) (c .before .before .before .before .before .before .before .before .before .before .args .count) ((c .before .before .before .before .before .before .before .before .before .before .args .p) .segmentsat + 37 * (c .before .before .before .before .before .before .before .before .before .before .args .to)) (c .before .before .before .before .before .before .before .before .before .before .pre .1 .0) (c .before .before .before .before .before .before .before .before .before .before .pre .1 .1 .0 .1) (c .before .before .before .before .loop .inv .1) (c .before .before .before .loop-test .taken), ((omega (arith, c .before .before .before .before .before .before .before .before .before .before .pre .1 .1 .0 .0, c .before .before .before .loop-test .taken), item-known (segment-grafts ((c .before .before .before .before .before .before .before .before .before .before .pre .1 .0) .source) (c .before .before .before .before .before .before .before .before .before .before .args .level)) (c .before .before .before .before .before .before .before .before .before .before .args .at) (c .before .before .before .before .before .before .before .before .before .before .args .count) ((c .before .before .before .before .before .before .before .before .before .before .args .p) .segmentsat + 37 * (c .before .before .before .before .before .before .before .before .before .before .args .to)) (c .before .before .before .before .before .before .before .before .before .before .pre .1 .0) (c .before .before .before .before .before .before .before .before .before .before .pre .1 .1 .0 .1) (c .before .before .before .before .loop .i) (c .before .before .before .loop-test .taken)), (omega (arith, item-low (segment-grafts ((c .before .before .before .before .before .before .before .before .before .before .pre .1 .0) .source) (c .before .before .before .before .before .before .before .before .before .before .args .level)) (c .before .before .before .before .before .before .before .before .before .before .args .at) (c .before .before .before .before .before .before .before .before .before .before .args .count) ((c .before .before .before .before .before .before .before .before .before .before .args .p) .segmentsat + 37 * (c .before .before .before .before .before .before .before .before .before .before .args .to)) (c .before .before .before .before .before .before .before .before .before .before .pre .1 .0) (c .before .before .before .before .before .before .before .before .before .before .pre .1 .1 .0 .1) (c .before .before .before .before .loop .inv .1) (c .before .before .before .loop-test .taken) .1, c .before .before .before .before .before .before .before .before .before .before .pre .1 .1 .1 .0), omega (arith, c .before .before .before .before .before .before .before .before .before .before .pre .1 .1 .1 .1, c .before .before .before .loop-test .taken)))))
 
 -- src/lib.rt:486:13
 graft-segments-same-length : (t : ℕ) → graft-segments-lts.Need-same-length (
@@ -1765,7 +1768,7 @@ graft-segments-returns : (t : ℕ) → graft-segments-lts.Need-returns (
   graft-segment-below t,
   graft-segment.Post,
 ) (graft-segments-at t) graft-segments.Post graft-segments-Inv-loop graft-segments-μ-loop
-graft-segments-returns t c = segments-refused (c .before .before .before .before .before .before .before .before .before .before .before .before .before .before .before .before .before .before .before .args .level) (c .before .before .before .before .before .before .before .before .before .before .before .before .before .before .before .before .before .before .before .args .tape .now) (c .before .before .before .before .before .before .before .before .before .before .before .before .before .before .before .before .before .before .before .args .bytes .now) (c .before .before .before .before .before .before .before .before .before .before .before .before .before .before .before .before .before .before .before .args .st) (c .before .before .before .before .before .before .before .before .before .before .before .before .before .before .before .before .before .before .before .args .p) (c .before .before .before .before .before .before .before .before .before .before .before .before .before .before .before .before .before .before .before .args .m) (c .before .before .before .before .before .before .before .before .before .before .before .before .before .before .before .before .before .before .before .args .at) (c .before .before .before .before .before .before .before .before .before .before .before .before .before .before .before .before .before .before .before .args .count) (c .before .before .before .before .before .before .before .before .before .before .before .before .before .before .before .before .before .before .before .args .to) (c .before .before .before .before .before .before .before .before .before .before .before .before .before .before .before .before .before .before .before .args .out .now) (c .before .before .before .before .before .before .before .before .before .before .before .before .before .before .before .before .before .before .before .args .work .now) (c .before .before .before .before .before .before .before .before .before .before .before .before .before .before .before .before .before .before .before .args .strs .now) (c .before .before .before .before .before .before .before .before .before .before .before .before .before .before .before .before .before .before .before .pre .1 .0) (c .before .before .before .before .before .before .before .before .before .before .before .before .before .before .before .before .before .before .before .pre .1 .1 .0 .1) (c .before .before .before .before .before .before .before .before .before .before .before .before .before .loop .i + 1) (omega (arith, c .before .before .before .before .before .before .before .before .before .before .before .before .loop-test .taken)) (segment-turn (c .before .before .before .before .before .before .before .before .before .before .before .before .before .before .before .before .before .before .before .args .level) (c .before .before .before .before .before .before .before .before .before .before .before .before .before .before .before .before .before .before .before .args .tape .now) (c .before .before .before .before .before .before .before .before .before .before .before .before .before .before .before .before .before .before .before .args .bytes .now) (c .before .before .before .before .before .before .before .before .before .before .before .before .before .before .before .before .before .before .before .args .st) (c .before .before .before .before .before .before .before .before .before .before .before .before .before .before .before .before .before .before .before .args .p) (c .before .before .before .before .before .before .before .before .before .before .before .before .before .before .before .before .before .before .before .args .m) (c .before .before .before .before .before .before .before .before .before .before .before .before .before .before .before .before .before .before .before .args .at) (c .before .before .before .before .before .before .before .before .before .before .before .before .before .before .before .before .before .before .before .args .count) (c .before .before .before .before .before .before .before .before .before .before .before .before .before .before .before .before .before .before .before .args .to) (c .before .before .before .before .before .before .before .before .before .before .before .before .before .before .before .before .before .before .before .args .out .now) (c .before .before .before .before .before .before .before .before .before .before .before .before .before .before .before .before .before .before .before .args .work .now) (c .before .before .before .before .before .before .before .before .before .before .before .before .before .before .before .before .before .before .before .args .strs .now) (c .before .before .before .before .before .before .before .before .before .before .before .before .before .before .before .before .before .before .before .pre .1 .0) (c .before .before .before .before .before .before .before .before .before .before .before .before .before .before .before .before .before .before .before .pre .1 .1 .0 .1) (c .before .before .before .before .before .before .before .before .before .before .before .before .before .loop .inv .1) (c .before .before .before .before .before .before .before .before .before .before .before .before .loop-test .taken) (c .before .before .before .before .before .before .before .before .before .before .before .before .before .before .before .before .before .before .before .pre .1 .1 .1 .0) (c .before .before .before .before .before .before .before .before .before .before .before .before .before .before .before .before .before .before .before .pre .1 .1 .1 .1) ((c .before .before .before .before .before .before .before .before .before .before .before .before .before .before .before .before .before .before .before .args .to) + c .before .before .before .before .before .before .before .before .before .before .before .before .before .loop .i) refl (c .before .before .before .before .before .before .before .before .graft-segment .ensures)) (not-true _ (c .if1 .taken))
+graft-segments-returns t c = items-refused (segment-grafts ((c .before .before .before .before .before .before .before .before .before .before .before .before .before .before .before .before .before .before .before .pre .1 .0) .source) (c .before .before .before .before .before .before .before .before .before .before .before .before .before .before .before .before .before .before .before .args .level)) (c .before .before .before .before .before .before .before .before .before .before .before .before .before .before .before .before .before .before .before .args .at) (c .before .before .before .before .before .before .before .before .before .before .before .before .before .before .before .before .before .before .before .args .count) ((c .before .before .before .before .before .before .before .before .before .before .before .before .before .before .before .before .before .before .before .args .p) .segmentsat + 37 * (c .before .before .before .before .before .before .before .before .before .before .before .before .before .before .before .before .before .before .before .args .to)) (c .before .before .before .before .before .before .before .before .before .before .before .before .before .before .before .before .before .before .before .pre .1 .0) (c .before .before .before .before .before .before .before .before .before .before .before .before .before .before .before .before .before .before .before .pre .1 .1 .0 .1) (c .before .before .before .before .before .before .before .before .before .before .before .before .before .loop .i + 1) (omega (arith, c .before .before .before .before .before .before .before .before .before .before .before .before .loop-test .taken)) (item-turn (segment-grafts ((c .before .before .before .before .before .before .before .before .before .before .before .before .before .before .before .before .before .before .before .pre .1 .0) .source) (c .before .before .before .before .before .before .before .before .before .before .before .before .before .before .before .before .before .before .before .args .level)) (c .before .before .before .before .before .before .before .before .before .before .before .before .before .before .before .before .before .before .before .args .at) (c .before .before .before .before .before .before .before .before .before .before .before .before .before .before .before .before .before .before .before .args .count) ((c .before .before .before .before .before .before .before .before .before .before .before .before .before .before .before .before .before .before .before .args .p) .segmentsat + 37 * (c .before .before .before .before .before .before .before .before .before .before .before .before .before .before .before .before .before .before .before .args .to)) (c .before .before .before .before .before .before .before .before .before .before .before .before .before .before .before .before .before .before .before .pre .1 .0) (c .before .before .before .before .before .before .before .before .before .before .before .before .before .before .before .before .before .before .before .pre .1 .1 .0 .1) (c .before .before .before .before .before .before .before .before .before .before .before .before .before .loop .inv .1) (c .before .before .before .before .before .before .before .before .before .before .before .before .loop-test .taken) (beyond (omega (arith, c .before .before .before .before .before .before .before .before .before .before .before .before .before .before .before .before .before .before .before .pre .1 .1 .1 .0)) (omega (arith, c .before .before .before .before .before .before .before .before .before .before .before .before .before .before .before .before .before .before .before .pre .1 .1 .1 .1))) ((c .before .before .before .before .before .before .before .before .before .before .before .before .before .before .before .before .before .before .before .args .p) .segmentsat + 37 * ((c .before .before .before .before .before .before .before .before .before .before .before .before .before .before .before .before .before .before .before .args .to) + c .before .before .before .before .before .before .before .before .before .before .before .before .before .loop .i)) (omega arith) (c .before .before .before .before .before .before .before .before .graft-segment .ensures)) (not-true _ (c .if1 .taken))
 
 -- src/lib.rt:488:9
 graft-segments-add-i : (t : ℕ) → graft-segments-lts.Need-add-i (
@@ -1786,7 +1789,7 @@ graft-segments-loop-again : (t : ℕ) → graft-segments-lts.Need-loop-again (
   graft-segment-below t,
   graft-segment.Post,
 ) (graft-segments-at t) graft-segments.Post graft-segments-Inv-loop graft-segments-μ-loop
-graft-segments-loop-again t c = (omega (arith, c .before .before .before .before .before .before .before .before .before .before .before .before .loop-test .taken), segments-more (c .before .before .before .before .before .before .before .before .before .before .before .before .before .before .before .before .before .before .before .args .level) (c .before .before .before .before .before .before .before .before .before .before .before .before .before .before .before .before .before .before .before .args .tape .now) (c .before .before .before .before .before .before .before .before .before .before .before .before .before .before .before .before .before .before .before .args .bytes .now) (c .before .before .before .before .before .before .before .before .before .before .before .before .before .before .before .before .before .before .before .args .st) (c .before .before .before .before .before .before .before .before .before .before .before .before .before .before .before .before .before .before .before .args .p) (c .before .before .before .before .before .before .before .before .before .before .before .before .before .before .before .before .before .before .before .args .m) (c .before .before .before .before .before .before .before .before .before .before .before .before .before .before .before .before .before .before .before .args .at) (c .before .before .before .before .before .before .before .before .before .before .before .before .before .before .before .before .before .before .before .args .count) (c .before .before .before .before .before .before .before .before .before .before .before .before .before .before .before .before .before .before .before .args .to) (c .before .before .before .before .before .before .before .before .before .before .before .before .before .before .before .before .before .before .before .args .out .now) (c .before .before .before .before .before .before .before .before .before .before .before .before .before .before .before .before .before .before .before .args .work .now) (c .before .before .before .before .before .before .before .before .before .before .before .before .before .before .before .before .before .before .before .args .strs .now) (c .before .before .before .before .before .before .before .before .before .before .before .before .before .before .before .before .before .before .before .pre .1 .0) (c .before .before .before .before .before .before .before .before .before .before .before .before .before .before .before .before .before .before .before .pre .1 .1 .0 .1) (c .before .before .before .before .before .before .before .before .before .before .before .before .before .loop .inv .1) (c .before .before .before .before .before .before .before .before .before .before .before .before .loop-test .taken) (c .before .before .before .before .before .before .before .before .before .before .before .before .before .before .before .before .before .before .before .pre .1 .1 .1 .0) (c .before .before .before .before .before .before .before .before .before .before .before .before .before .before .before .before .before .before .before .pre .1 .1 .1 .1) ((c .before .before .before .before .before .before .before .before .before .before .before .before .before .before .before .before .before .before .before .args .to) + c .before .before .before .before .before .before .before .before .before .before .before .before .before .loop .i) refl (c .before .before .before .before .before .before .before .before .graft-segment .ensures) (c .before .before .before .before .before .before .before .before .graft-segment .kept .1 .1 .1 .0) (not-false _ (c .if1 .left)), c .before .before .before .before .before .before .before .before .graft-segment .kept .1 .1 .1 .1 .0 ∙ c .before .before .before .before .before .before .before .before .before .before .before .before .before .loop .inv .2, c .before .before .before .before .before .before .before .before .graft-segment .kept .1 .1 .1 .1 .1 .0 ∙ c .before .before .before .before .before .before .before .before .before .before .before .before .before .loop .inv .3)
+graft-segments-loop-again t c = (omega (arith, c .before .before .before .before .before .before .before .before .before .before .before .before .loop-test .taken), items-more (segment-grafts ((c .before .before .before .before .before .before .before .before .before .before .before .before .before .before .before .before .before .before .before .pre .1 .0) .source) (c .before .before .before .before .before .before .before .before .before .before .before .before .before .before .before .before .before .before .before .args .level)) (c .before .before .before .before .before .before .before .before .before .before .before .before .before .before .before .before .before .before .before .args .at) (c .before .before .before .before .before .before .before .before .before .before .before .before .before .before .before .before .before .before .before .args .count) ((c .before .before .before .before .before .before .before .before .before .before .before .before .before .before .before .before .before .before .before .args .p) .segmentsat + 37 * (c .before .before .before .before .before .before .before .before .before .before .before .before .before .before .before .before .before .before .before .args .to)) (c .before .before .before .before .before .before .before .before .before .before .before .before .before .before .before .before .before .before .before .pre .1 .0) (c .before .before .before .before .before .before .before .before .before .before .before .before .before .before .before .before .before .before .before .pre .1 .1 .0 .1) (c .before .before .before .before .before .before .before .before .before .before .before .before .before .loop .inv .1) (c .before .before .before .before .before .before .before .before .before .before .before .before .loop-test .taken) (beyond (omega (arith, c .before .before .before .before .before .before .before .before .before .before .before .before .before .before .before .before .before .before .before .pre .1 .1 .1 .0)) (omega (arith, c .before .before .before .before .before .before .before .before .before .before .before .before .before .before .before .before .before .before .before .pre .1 .1 .1 .1))) ((c .before .before .before .before .before .before .before .before .before .before .before .before .before .before .before .before .before .before .before .args .p) .segmentsat + 37 * ((c .before .before .before .before .before .before .before .before .before .before .before .before .before .before .before .before .before .before .before .args .to) + c .before .before .before .before .before .before .before .before .before .before .before .before .before .loop .i)) (omega arith) (c .before .before .before .before .before .before .before .before .graft-segment .ensures) (c .before .before .before .before .before .before .before .before .graft-segment .kept .1 .1 .1 .0) (not-false _ (c .if1 .left)), c .before .before .before .before .before .before .before .before .graft-segment .kept .1 .1 .1 .1 .0 ∙ c .before .before .before .before .before .before .before .before .before .before .before .before .before .loop .inv .2, c .before .before .before .before .before .before .before .before .graft-segment .kept .1 .1 .1 .1 .1 .0 ∙ c .before .before .before .before .before .before .before .before .before .before .before .before .before .loop .inv .3)
 
 -- src/lib.rt:475:1
 graft-segments-same-length-4 : (t : ℕ) → graft-segments-lts.Need-same-length-4 (
@@ -1814,7 +1817,7 @@ graft-segments-returns-2 : (t : ℕ) → graft-segments-lts.Need-returns-2 (
   graft-segment-below t,
   graft-segment.Post,
 ) (graft-segments-at t) graft-segments.Post graft-segments-Inv-loop graft-segments-μ-loop
-graft-segments-returns-2 t c = segments-last (c .before .before .before .before .before .before .before .args .level) (c .before .before .before .before .before .before .before .args .tape .now) (c .before .before .before .before .before .before .before .args .bytes .now) (c .before .before .before .before .before .before .before .args .st) (c .before .before .before .before .before .before .before .args .p) (c .before .before .before .before .before .before .before .args .m) (c .before .before .before .before .before .before .before .args .at) (c .before .before .before .before .before .before .before .args .count) (c .before .before .before .before .before .before .before .args .to) (c .before .before .before .before .before .before .before .args .out .now) (c .before .before .before .before .before .before .before .args .work .now) (c .before .before .before .before .before .before .before .args .strs .now) (c .before .before .before .before .before .before .before .pre .1 .0) (c .before .before .before .before .before .before .before .pre .1 .1 .0 .1) (c .before .loop .inv .1) (omega (arith, c .loop-test .left)) (c .before .loop .inv .0)
+graft-segments-returns-2 t c = items-last (segment-grafts ((c .before .before .before .before .before .before .before .pre .1 .0) .source) (c .before .before .before .before .before .before .before .args .level)) (c .before .before .before .before .before .before .before .args .at) (c .before .before .before .before .before .before .before .args .count) ((c .before .before .before .before .before .before .before .args .p) .segmentsat + 37 * (c .before .before .before .before .before .before .before .args .to)) (c .before .before .before .before .before .before .before .pre .1 .0) (c .before .before .before .before .before .before .before .pre .1 .1 .0 .1) (c .before .loop .inv .1) (omega (arith, c .loop-test .left)) (c .before .loop .inv .0)
 
 pub +graft-body+graft-content+graft-content-run+graft-contents+graft-field+graft-place+graft-segment+graft-segment-run+graft-segments-spec :
     {M : Type 1} → statement M
