@@ -602,7 +602,7 @@ graft-content-returns-4 : (t : ℕ) → graft-content-lts.Need-returns-4 (
 graft-content-returns-4 t c = run-made (c .before .before .before .before .before .before .before .before .before .before .before .before .before .before .before .before .before .before .before .before .before .before .before .before .before .before .args .tape .now) (c .before .before .before .before .before .before .before .before .before .before .before .before .before .before .before .before .before .before .before .before .before .before .before .before .before .before .args .st) (c .before .before .before .before .before .before .before .before .before .before .before .before .before .before .before .before .before .before .before .before .before .before .before .before .before .before .args .at) (c .before .before .before .before .before .before .before .before .before .before .before .before .before .before .before .before .before .before .before .before .content-at .result) (c .before .before .before .before .before .before .before .before .before .before .before .before .before .before .before .before .before .before .before .before .content-at .ensures) (c .before .before .before .before .before .before .before .before .before .before .before .before .before .before .before .before .before .before .before .before .before .before .before .before .before .before .args .level) (c .before .before .before .before .before .before .before .before .before .before .before .before .before .before .before .before .before .before .before .before .before .before .before .before .before .before .args .bytes .now) (c .before .before .before .before .before .before .before .before .before .before .before .before .before .before .before .before .before .before .before .before .before .before .before .before .before .before .args .p) (c .before .before .before .before .before .before .before .before .before .before .before .before .before .before .before .before .before .before .before .before .before .before .before .before .before .before .args .m) (c .before .before .before .before .before .before .before .before .before .before .before .before .before .before .before .before .before .before .before .before .before .before .before .before .before .before .args .to) (c .before .before .before .before .before .before .before .before .before .before .before .before .before .before .before .before .before .before .before .before .before .before .before .before .before .before .args .out .now) (c .before .before .before .before .before .before .before .before .before .before .before .before .before .before .before .before .before .before .before .before .before .before .before .before .before .before .args .work .now) (c .before .before .before .before .before .before .before .before .before .before .before .before .before .before .before .before .before .before .before .before .before .before .before .before .before .before .args .strs .now) (c .before .before .before .before .before .before .before .before .before .before .before .before .before .graft-segment-run .result) ((c .before .before .before .before .before .before .before .before .before .before .before .before .before .before .before .before .before .before .before .before .before .before .before .before .before .before .pre .1 .0) .source) (run-known (c .before .before .before .before .before .before .before .before .before .before .before .before .before .before .before .before .before .before .before .before .before .before .before .before .before .before .args .tape .now) (c .before .before .before .before .before .before .before .before .before .before .before .before .before .before .before .before .before .before .before .before .before .before .before .before .before .before .args .st) (c .before .before .before .before .before .before .before .before .before .before .before .before .before .before .before .before .before .before .before .before .before .before .before .before .before .before .args .at) (c .before .before .before .before .before .before .before .before .before .before .before .before .before .before .before .before .before .before .before .before .content-at .result) (c .before .before .before .before .before .before .before .before .before .before .before .before .before .before .before .before .before .before .before .before .content-at .ensures) (c .before .before .before .before .before .before .before .before .before .before .before .before .before .before .before .before .before .before .before .before .before .before .before .before .before .before .pre .1 .1 .0 .1) (c .before .before .before .before .before .before .before .before .before .before .before .before .before .before .before .before .before .if1 .left)) (c .before .before .before .before .before .before .before .before .before .before .before .before .before .before .before .before .before .if1 .left) (c .before .before .before .before .before .before .before .before .before .before .before .before .before .graft-segment-run .ensures) (not-false _ (c .before .before .before .before .if3 .left)) (c .before .before .put-content2 .ensures)
 
 -- src/lib.rt:405:37
-graft-content-run-add-t16 : (t : ℕ) → graft-content-run-lts.Need-add-t16 (
+graft-content-run-add-t17 : (t : ℕ) → graft-content-run-lts.Need-add-t17 (
   content-place-reads.Asked,
   content-place-reads.Learnt,
   inner-contents-reads.Asked,
@@ -612,7 +612,7 @@ graft-content-run-add-t16 : (t : ℕ) → graft-content-run-lts.Need-add-t16 (
   pushed-contents-reads.Asked,
   pushed-contents-reads.Learnt,
 ) (graft-content-run-at t) graft-content-run.Post
-graft-content-run-add-t16 t c = omega (arith, (c .before .before .before .before .before .before .before .before .pre .1 .0) .space .contentNumbers)
+graft-content-run-add-t17 t c = omega (arith, (c .before .before .before .before .before .before .before .before .pre .1 .0) .space .contentNumbers)
 
 -- src/lib.rt:405:9
 graft-content-run-returns : (t : ℕ) → graft-content-run-lts.Need-returns (
@@ -1201,7 +1201,7 @@ graft-segment-add-place : (t : ℕ) → graft-segment-lts.Need-add-place (
 graft-segment-add-place t c = omega (arith, c .before .before .before .before .before .before .pre .1 .1 .1 .1)
 
 -- src/lib.rt:502:38
-graft-segment-add-put-segment : (t : ℕ) → graft-segment-lts.Need-add-put-segment (
+graft-segment-add-tag : (t : ℕ) → graft-segment-lts.Need-add-tag (
   put-segment-reads.Asked,
   put-segment-reads.Learnt,
   graft-body-below t,
@@ -1209,11 +1209,11 @@ graft-segment-add-put-segment : (t : ℕ) → graft-segment-lts.Need-add-put-seg
   u32-at-reads.Asked,
   u32-at-reads.Learnt,
 ) (graft-segment-at t) graft-segment.Post
-graft-segment-add-put-segment t c = omega (arith, c .before .before .before .before .before .before .before .before .pre .1 .1 .0 .0)
+graft-segment-add-tag t c = omega (arith, c .before .before .before .before .before .before .pre .1 .1 .0 .0)
 
 -- src/lib.rt:502:33
-graft-segment-shared-slice-read-put-segment :
-    (t : ℕ) → graft-segment-lts.Need-shared-slice-read-put-segment (
+graft-segment-shared-slice-read-tag :
+    (t : ℕ) → graft-segment-lts.Need-shared-slice-read-tag (
       put-segment-reads.Asked,
       put-segment-reads.Learnt,
       graft-body-below t,
@@ -1221,10 +1221,10 @@ graft-segment-shared-slice-read-put-segment :
       u32-at-reads.Asked,
       u32-at-reads.Learnt,
     ) (graft-segment-at t) graft-segment.Post
-graft-segment-shared-slice-read-put-segment t c = omega (arith, c .before .before .before .before .before .before .before .before .before .pre .1 .1 .0 .0)
+graft-segment-shared-slice-read-tag t c = omega (arith, c .before .before .before .before .before .before .before .pre .1 .1 .0 .0)
 
 -- src/lib.rt:502:52
-graft-segment-add-put-segment-2 : (t : ℕ) → graft-segment-lts.Need-add-put-segment-2 (
+graft-segment-add-own : (t : ℕ) → graft-segment-lts.Need-add-own (
   put-segment-reads.Asked,
   put-segment-reads.Learnt,
   graft-body-below t,
@@ -1232,11 +1232,11 @@ graft-segment-add-put-segment-2 : (t : ℕ) → graft-segment-lts.Need-add-put-s
   u32-at-reads.Asked,
   u32-at-reads.Learnt,
 ) (graft-segment-at t) graft-segment.Post
-graft-segment-add-put-segment-2 t c = omega (arith, c .before .before .before .before .before .before .before .before .before .pre .1 .1 .0 .0)
+graft-segment-add-own t c = omega (arith, c .before .before .before .before .before .before .before .pre .1 .1 .0 .0)
 
 -- src/lib.rt:502:47
-graft-segment-shared-slice-read-put-segment-2 :
-    (t : ℕ) → graft-segment-lts.Need-shared-slice-read-put-segment-2 (
+graft-segment-shared-slice-read-own :
+    (t : ℕ) → graft-segment-lts.Need-shared-slice-read-own (
       put-segment-reads.Asked,
       put-segment-reads.Learnt,
       graft-body-below t,
@@ -1244,7 +1244,7 @@ graft-segment-shared-slice-read-put-segment-2 :
       u32-at-reads.Asked,
       u32-at-reads.Learnt,
     ) (graft-segment-at t) graft-segment.Post
-graft-segment-shared-slice-read-put-segment-2 t c = omega (arith, c .before .before .before .before .before .before .before .before .before .before .pre .1 .1 .0 .0)
+graft-segment-shared-slice-read-own t c = omega (arith, c .before .before .before .before .before .before .before .before .pre .1 .1 .0 .0)
 
 -- src/lib.rt:502:9
 graft-segment-put-segment-requires : (t : ℕ) → graft-segment-lts.Need-put-segment-requires (
@@ -1277,7 +1277,7 @@ graft-segment-returns : (t : ℕ) → graft-segment-lts.Need-returns (
   u32-at-reads.Asked,
   u32-at-reads.Learnt,
 ) (graft-segment-at t) graft-segment.Post
-graft-segment-returns t c = segment-zero (c .before .before .before .before .before .before .before .before .before .before .before .before .before .args .tape .now) (c .before .before .before .before .before .before .before .before .before .before .before .before .before .args .bytes .now) (c .before .before .before .before .before .before .before .before .before .before .before .before .before .args .at) (c .before .before .before .before .before .before .before .before .before .before .before .before .before .args .p) (c .before .before .before .before .before .before .before .before .before .before .before .before .before .args .m) (c .before .before .before .before .before .before .before .before .before .before .before .before .before .args .to) (c .before .before .before .before .before .before .before .before .before .before .before .before .before .args .out .now) (c .before .before .before .before .before .before .before .before .before .before .before .before .before .args .work .now) (c .before .before .before .before .before .before .before .before .before .before .before .before .before .args .strs .now) (c .before .before .before .before .before .before .before .before .before .before .before .before .before .args .level) (c .before .before .before .before .before .before .if1 .taken) (told-none (c .before .before .before .before .before .before .before .before .before .before .before .before .before .pre .1 .0)) (c .before .before .put-segment .ensures)
+graft-segment-returns t c = segment-zero (c .before .before .before .before .before .before .before .before .before .before .before .before .before .args .tape .now) (c .before .before .before .before .before .before .before .before .before .before .before .before .before .args .bytes .now) (c .before .before .before .before .before .before .before .before .before .before .before .before .before .args .at) (c .before .before .before .before .before .before .before .before .before .before .before .before .before .args .p) (c .before .before .before .before .before .before .before .before .before .before .before .before .before .args .m) (c .before .before .before .before .before .before .before .before .before .before .before .before .before .args .to) (c .before .before .before .before .before .before .before .before .before .before .before .before .before .args .out .now) (c .before .before .before .before .before .before .before .before .before .before .before .before .before .args .work .now) (c .before .before .before .before .before .before .before .before .before .before .before .before .before .args .strs .now) (c .before .before .before .before .before .before .before .before .before .before .before .before .before .args .level) (c .before .before .before .before .if1 .taken) (told-none (c .before .before .before .before .before .before .before .before .before .before .before .before .before .pre .1 .0)) (c .before .before .put-segment .ensures)
 
 -- src/lib.rt:505:64
 graft-segment-add-graft-body : (t : ℕ) → graft-segment-lts.Need-add-graft-body (
@@ -1288,7 +1288,7 @@ graft-segment-add-graft-body : (t : ℕ) → graft-segment-lts.Need-add-graft-bo
   u32-at-reads.Asked,
   u32-at-reads.Learnt,
 ) (graft-segment-at t) graft-segment.Post
-graft-segment-add-graft-body t c = omega (arith, c .before .before .before .before .before .before .before .before .before .before .pre .1 .1 .0 .0)
+graft-segment-add-graft-body t c = omega (arith, c .before .before .before .before .before .before .before .before .before .before .before .before .pre .1 .1 .0 .0)
 
 -- src/lib.rt:505:72
 graft-segment-sub-graft-body : (t : ℕ) → graft-segment-lts.Need-sub-graft-body (
@@ -1310,7 +1310,7 @@ graft-segment-graft-body-requires : (t : ℕ) → graft-segment-lts.Need-graft-b
   u32-at-reads.Asked,
   u32-at-reads.Learnt,
 ) (graft-segment-at t) graft-segment.Post
-graft-segment-graft-body-requires t c κs = (omega (arith, c .before .before .before .if1 .left), (below-ready (c .before .before .before .before .before .before .before .before .before .before .args .level) (c .before .before .before .before .before .before .before .before .before .before .args .at) (c .before .before .before .if1 .left) (c .before .before .before .before .before .before .before .before .before .before .pre .1 .0), (omega (arith, c .before .before .before .before .before .before .before .before .before .before .pre .1 .1 .0 .0), body-known (c .before .before .before .before .before .before .before .before .before .before .args .st) (c .before .before .before .before .before .before .before .before .before .before .args .tape .now) (c .before .before .before .before .before .before .before .before .before .before .args .at) (c .before .before .before .before .before .before .before .before .before .before .pre .1 .1 .0 .1))))
+graft-segment-graft-body-requires t c κs = (omega (arith, c .before .before .before .if1 .left), (below-ready (c .before .before .before .before .before .before .before .before .before .before .before .before .args .level) (c .before .before .before .before .before .before .before .before .before .before .before .before .args .at) (c .before .before .before .if1 .left) (c .before .before .before .before .before .before .before .before .before .before .before .before .pre .1 .0), (omega (arith, c .before .before .before .before .before .before .before .before .before .before .before .before .pre .1 .1 .0 .0), body-known (c .before .before .before .before .before .before .before .before .before .before .before .before .args .st) (c .before .before .before .before .before .before .before .before .before .before .before .before .args .tape .now) (c .before .before .before .before .before .before .before .before .before .before .before .before .args .at) (c .before .before .before .before .before .before .before .before .before .before .before .before .pre .1 .1 .0 .1))))
 
 -- src/lib.rt:508:9
 graft-segment-same-length-2 : (t : ℕ) → graft-segment-lts.Need-same-length-2 (
@@ -1354,7 +1354,7 @@ graft-segment-returns-2 : (t : ℕ) → graft-segment-lts.Need-returns-2 (
   u32-at-reads.Asked,
   u32-at-reads.Learnt,
 ) (graft-segment-at t) graft-segment.Post
-graft-segment-returns-2 t c = below-refused (c .before .before .before .before .before .before .before .before .before .before .before .before .before .before .before .before .before .before .before .before .args .tape .now) (c .before .before .before .before .before .before .before .before .before .before .before .before .before .before .before .before .before .before .before .before .args .bytes .now) (c .before .before .before .before .before .before .before .before .before .before .before .before .before .before .before .before .before .before .before .before .args .at) (c .before .before .before .before .before .before .before .before .before .before .before .before .before .before .before .before .before .before .before .before .args .p) (c .before .before .before .before .before .before .before .before .before .before .before .before .before .before .before .before .before .before .before .before .args .m) (c .before .before .before .before .before .before .before .before .before .before .before .before .before .before .before .before .before .before .before .before .args .to) (c .before .before .before .before .before .before .before .before .before .before .before .before .before .before .before .before .before .before .before .before .args .out .now) (c .before .before .before .before .before .before .before .before .before .before .before .before .before .before .before .before .before .before .before .before .args .work .now) (c .before .before .before .before .before .before .before .before .before .before .before .before .before .before .before .before .before .before .before .before .args .strs .now) (c .before .before .before .before .before .before .before .before .before .before .before .before .before .before .before .before .before .before .before .before .args .level) (c .before .before .before .before .before .before .before .before .before .before .before .before .before .if1 .left) (c .before .before .before .before .before .before .before .before .before .graft-body .result) (c .before .before .before .before .before .before .before .before .before .graft-body .ensures) (not-true _ (c .if2 .taken))
+graft-segment-returns-2 t c = below-refused (c .before .before .before .before .before .before .before .before .before .before .before .before .before .before .before .before .before .before .before .before .before .before .args .tape .now) (c .before .before .before .before .before .before .before .before .before .before .before .before .before .before .before .before .before .before .before .before .before .before .args .bytes .now) (c .before .before .before .before .before .before .before .before .before .before .before .before .before .before .before .before .before .before .before .before .before .before .args .at) (c .before .before .before .before .before .before .before .before .before .before .before .before .before .before .before .before .before .before .before .before .before .before .args .p) (c .before .before .before .before .before .before .before .before .before .before .before .before .before .before .before .before .before .before .before .before .before .before .args .m) (c .before .before .before .before .before .before .before .before .before .before .before .before .before .before .before .before .before .before .before .before .before .before .args .to) (c .before .before .before .before .before .before .before .before .before .before .before .before .before .before .before .before .before .before .before .before .before .before .args .out .now) (c .before .before .before .before .before .before .before .before .before .before .before .before .before .before .before .before .before .before .before .before .before .before .args .work .now) (c .before .before .before .before .before .before .before .before .before .before .before .before .before .before .before .before .before .before .before .before .before .before .args .strs .now) (c .before .before .before .before .before .before .before .before .before .before .before .before .before .before .before .before .before .before .before .before .before .before .args .level) (c .before .before .before .before .before .before .before .before .before .before .before .before .before .if1 .left) (c .before .before .before .before .before .before .before .before .before .graft-body .result) (c .before .before .before .before .before .before .before .before .before .graft-body .ensures) (not-true _ (c .if2 .taken))
 
 -- src/lib.rt:511:36
 graft-segment-add-u32-at : (t : ℕ) → graft-segment-lts.Need-add-u32-at (
@@ -1365,7 +1365,7 @@ graft-segment-add-u32-at : (t : ℕ) → graft-segment-lts.Need-add-u32-at (
   u32-at-reads.Asked,
   u32-at-reads.Learnt,
 ) (graft-segment-at t) graft-segment.Post
-graft-segment-add-u32-at t c = omega (arith, c .before .before .before .before .before .before .before .before .before .before .before .before .before .before .before .before .before .before .before .before .before .pre .1 .1 .0 .0, c .before .before .before .before .before .before .before .before .before .before .before .before .before .before .before .before .before .before .before .before .before .good, c .before .before .before .before .before .before .before .before .before .before .before .before .before .before .before .before .before .before .before .before .before .fits)
+graft-segment-add-u32-at t c = omega (arith, c .before .before .before .before .before .before .before .before .before .before .before .before .before .before .before .before .before .before .before .before .before .before .before .pre .1 .1 .0 .0, c .before .before .before .before .before .before .before .before .before .before .before .before .before .before .before .before .before .before .before .before .before .before .before .good, c .before .before .before .before .before .before .before .before .before .before .before .before .before .before .before .before .before .before .before .before .before .before .before .fits)
 
 -- src/lib.rt:511:9
 graft-segment-u32-at-requires : (t : ℕ) → graft-segment-lts.Need-u32-at-requires (
@@ -1376,7 +1376,7 @@ graft-segment-u32-at-requires : (t : ℕ) → graft-segment-lts.Need-u32-at-requ
   u32-at-reads.Asked,
   u32-at-reads.Learnt,
 ) (graft-segment-at t) graft-segment.Post
-graft-segment-u32-at-requires t c κs = omega (arith, c .before .before .before .before .before .before .before .before .before .before .before .before .before .before .before .before .before .before .before .before .before .pre .1 .1 .0 .0)
+graft-segment-u32-at-requires t c κs = omega (arith, c .before .before .before .before .before .before .before .before .before .before .before .before .before .before .before .before .before .before .before .before .before .before .before .pre .1 .1 .0 .0)
 
 -- src/lib.rt:512:37
 graft-segment-add-u32-at-2 : (t : ℕ) → graft-segment-lts.Need-add-u32-at-2 (
@@ -1387,7 +1387,7 @@ graft-segment-add-u32-at-2 : (t : ℕ) → graft-segment-lts.Need-add-u32-at-2 (
   u32-at-reads.Asked,
   u32-at-reads.Learnt,
 ) (graft-segment-at t) graft-segment.Post
-graft-segment-add-u32-at-2 t c = omega (arith, c .before .before .before .before .before .before .before .before .before .before .before .before .before .before .before .before .before .before .before .before .before .before .pre .1 .1 .0 .0, c .before .before .before .before .before .before .before .before .before .before .before .before .before .before .before .before .before .before .before .before .before .before .good, c .before .before .before .before .before .before .before .before .before .before .before .before .before .before .before .before .before .before .before .before .before .before .fits)
+graft-segment-add-u32-at-2 t c = omega (arith, c .before .before .before .before .before .before .before .before .before .before .before .before .before .before .before .before .before .before .before .before .before .before .before .before .pre .1 .1 .0 .0, c .before .before .before .before .before .before .before .before .before .before .before .before .before .before .before .before .before .before .before .before .before .before .before .before .good, c .before .before .before .before .before .before .before .before .before .before .before .before .before .before .before .before .before .before .before .before .before .before .before .before .fits)
 
 -- src/lib.rt:512:9
 graft-segment-u32-at-requires-2 : (t : ℕ) → graft-segment-lts.Need-u32-at-requires-2 (
@@ -1398,56 +1398,10 @@ graft-segment-u32-at-requires-2 : (t : ℕ) → graft-segment-lts.Need-u32-at-re
   u32-at-reads.Asked,
   u32-at-reads.Learnt,
 ) (graft-segment-at t) graft-segment.Post
-graft-segment-u32-at-requires-2 t c κs = omega (arith, c .before .before .before .before .before .before .before .before .before .before .before .before .before .before .before .before .before .before .before .before .before .before .pre .1 .1 .0 .0)
-
--- src/lib.rt:513:34
-graft-segment-add-put-segment-3 : (t : ℕ) → graft-segment-lts.Need-add-put-segment-3 (
-  put-segment-reads.Asked,
-  put-segment-reads.Learnt,
-  graft-body-below t,
-  graft-body.Post,
-  u32-at-reads.Asked,
-  u32-at-reads.Learnt,
-) (graft-segment-at t) graft-segment.Post
-graft-segment-add-put-segment-3 t c = omega (arith, c .before .before .before .before .before .before .before .before .before .before .before .before .before .before .before .before .before .before .before .before .before .before .before .before .pre .1 .1 .0 .0, c .before .before .before .before .before .before .before .before .before .before .before .before .before .before .before .before .before .before .before .before .before .before .before .before .good, c .before .before .before .before .before .before .before .before .before .before .before .before .before .before .before .before .before .before .before .before .before .before .before .before .fits)
-
--- src/lib.rt:513:29
-graft-segment-shared-slice-read-put-segment-3 :
-    (t : ℕ) → graft-segment-lts.Need-shared-slice-read-put-segment-3 (
-      put-segment-reads.Asked,
-      put-segment-reads.Learnt,
-      graft-body-below t,
-      graft-body.Post,
-      u32-at-reads.Asked,
-      u32-at-reads.Learnt,
-    ) (graft-segment-at t) graft-segment.Post
-graft-segment-shared-slice-read-put-segment-3 t c = omega (arith, c .before .before .before .before .before .before .before .before .before .before .before .before .before .before .before .before .before .before .before .before .before .before .before .before .before .pre .1 .1 .0 .0)
-
--- src/lib.rt:513:48
-graft-segment-add-put-segment-4 : (t : ℕ) → graft-segment-lts.Need-add-put-segment-4 (
-  put-segment-reads.Asked,
-  put-segment-reads.Learnt,
-  graft-body-below t,
-  graft-body.Post,
-  u32-at-reads.Asked,
-  u32-at-reads.Learnt,
-) (graft-segment-at t) graft-segment.Post
-graft-segment-add-put-segment-4 t c = omega (arith, c .before .before .before .before .before .before .before .before .before .before .before .before .before .before .before .before .before .before .before .before .before .before .before .before .before .pre .1 .1 .0 .0, c .before .before .before .before .before .before .before .before .before .before .before .before .before .before .before .before .before .before .before .before .before .before .before .before .before .good, c .before .before .before .before .before .before .before .before .before .before .before .before .before .before .before .before .before .before .before .before .before .before .before .before .before .fits)
-
--- src/lib.rt:513:43
-graft-segment-shared-slice-read-put-segment-4 :
-    (t : ℕ) → graft-segment-lts.Need-shared-slice-read-put-segment-4 (
-      put-segment-reads.Asked,
-      put-segment-reads.Learnt,
-      graft-body-below t,
-      graft-body.Post,
-      u32-at-reads.Asked,
-      u32-at-reads.Learnt,
-    ) (graft-segment-at t) graft-segment.Post
-graft-segment-shared-slice-read-put-segment-4 t c = omega (arith, c .before .before .before .before .before .before .before .before .before .before .before .before .before .before .before .before .before .before .before .before .before .before .before .before .before .before .pre .1 .1 .0 .0)
+graft-segment-u32-at-requires-2 t c κs = omega (arith, c .before .before .before .before .before .before .before .before .before .before .before .before .before .before .before .before .before .before .before .before .before .before .before .before .pre .1 .1 .0 .0)
 
 -- src/lib.rt:513:62
-graft-segment-add-put-segment-5 : (t : ℕ) → graft-segment-lts.Need-add-put-segment-5 (
+graft-segment-add-kind : (t : ℕ) → graft-segment-lts.Need-add-kind (
   put-segment-reads.Asked,
   put-segment-reads.Learnt,
   graft-body-below t,
@@ -1455,11 +1409,11 @@ graft-segment-add-put-segment-5 : (t : ℕ) → graft-segment-lts.Need-add-put-s
   u32-at-reads.Asked,
   u32-at-reads.Learnt,
 ) (graft-segment-at t) graft-segment.Post
-graft-segment-add-put-segment-5 t c = omega (arith, c .before .before .before .before .before .before .before .before .before .before .before .before .before .before .before .before .before .before .before .before .before .before .before .before .before .before .pre .1 .1 .0 .0, c .before .before .before .before .before .before .before .before .before .before .before .before .before .before .before .before .before .before .before .before .before .before .before .before .before .before .good, c .before .before .before .before .before .before .before .before .before .before .before .before .before .before .before .before .before .before .before .before .before .before .before .before .before .before .fits)
+graft-segment-add-kind t c = omega (arith, c .before .before .before .before .before .before .before .before .before .before .before .before .before .before .before .before .before .before .before .before .before .before .before .before .before .pre .1 .1 .0 .0, c .before .before .before .before .before .before .before .before .before .before .before .before .before .before .before .before .before .before .before .before .before .before .before .before .before .good, c .before .before .before .before .before .before .before .before .before .before .before .before .before .before .before .before .before .before .before .before .before .before .before .before .before .fits)
 
 -- src/lib.rt:513:57
-graft-segment-shared-slice-read-put-segment-5 :
-    (t : ℕ) → graft-segment-lts.Need-shared-slice-read-put-segment-5 (
+graft-segment-shared-slice-read-kind :
+    (t : ℕ) → graft-segment-lts.Need-shared-slice-read-kind (
       put-segment-reads.Asked,
       put-segment-reads.Learnt,
       graft-body-below t,
@@ -1467,10 +1421,10 @@ graft-segment-shared-slice-read-put-segment-5 :
       u32-at-reads.Asked,
       u32-at-reads.Learnt,
     ) (graft-segment-at t) graft-segment.Post
-graft-segment-shared-slice-read-put-segment-5 t c = omega (arith, c .before .before .before .before .before .before .before .before .before .before .before .before .before .before .before .before .before .before .before .before .before .before .before .before .before .before .before .pre .1 .1 .0 .0)
+graft-segment-shared-slice-read-kind t c = omega (arith, c .before .before .before .before .before .before .before .before .before .before .before .before .before .before .before .before .before .before .before .before .before .before .before .before .before .before .pre .1 .1 .0 .0)
 
 -- src/lib.rt:513:76
-graft-segment-add-put-segment-6 : (t : ℕ) → graft-segment-lts.Need-add-put-segment-6 (
+graft-segment-add-variant : (t : ℕ) → graft-segment-lts.Need-add-variant (
   put-segment-reads.Asked,
   put-segment-reads.Learnt,
   graft-body-below t,
@@ -1478,11 +1432,11 @@ graft-segment-add-put-segment-6 : (t : ℕ) → graft-segment-lts.Need-add-put-s
   u32-at-reads.Asked,
   u32-at-reads.Learnt,
 ) (graft-segment-at t) graft-segment.Post
-graft-segment-add-put-segment-6 t c = omega (arith, c .before .before .before .before .before .before .before .before .before .before .before .before .before .before .before .before .before .before .before .before .before .before .before .before .before .before .before .pre .1 .1 .0 .0, c .before .before .before .before .before .before .before .before .before .before .before .before .before .before .before .before .before .before .before .before .before .before .before .before .before .before .before .good, c .before .before .before .before .before .before .before .before .before .before .before .before .before .before .before .before .before .before .before .before .before .before .before .before .before .before .before .fits)
+graft-segment-add-variant t c = omega (arith, c .before .before .before .before .before .before .before .before .before .before .before .before .before .before .before .before .before .before .before .before .before .before .before .before .before .before .pre .1 .1 .0 .0, c .before .before .before .before .before .before .before .before .before .before .before .before .before .before .before .before .before .before .before .before .before .before .before .before .before .before .good, c .before .before .before .before .before .before .before .before .before .before .before .before .before .before .before .before .before .before .before .before .before .before .before .before .before .before .fits)
 
 -- src/lib.rt:513:71
-graft-segment-shared-slice-read-put-segment-6 :
-    (t : ℕ) → graft-segment-lts.Need-shared-slice-read-put-segment-6 (
+graft-segment-shared-slice-read-variant :
+    (t : ℕ) → graft-segment-lts.Need-shared-slice-read-variant (
       put-segment-reads.Asked,
       put-segment-reads.Learnt,
       graft-body-below t,
@@ -1490,7 +1444,7 @@ graft-segment-shared-slice-read-put-segment-6 :
       u32-at-reads.Asked,
       u32-at-reads.Learnt,
     ) (graft-segment-at t) graft-segment.Post
-graft-segment-shared-slice-read-put-segment-6 t c = omega (arith, c .before .before .before .before .before .before .before .before .before .before .before .before .before .before .before .before .before .before .before .before .before .before .before .before .before .before .before .before .pre .1 .1 .0 .0)
+graft-segment-shared-slice-read-variant t c = omega (arith, c .before .before .before .before .before .before .before .before .before .before .before .before .before .before .before .before .before .before .before .before .before .before .before .before .before .before .before .pre .1 .1 .0 .0)
 
 -- src/lib.rt:513:5
 graft-segment-put-segment-requires-2 : (t : ℕ) → graft-segment-lts.Need-put-segment-requires-2 (
@@ -1501,7 +1455,7 @@ graft-segment-put-segment-requires-2 : (t : ℕ) → graft-segment-lts.Need-put-
   u32-at-reads.Asked,
   u32-at-reads.Learnt,
 ) (graft-segment-at t) graft-segment.Post
-graft-segment-put-segment-requires-2 t c κs = omega (arith, c .before .before .before .before .before .before .before .before .before .before .before .before .before .before .before .before .before .before .before .before .before .before .before .before .before .before .before .before .pre .1 .1 .1 .1, c .before .before .before .before .before .before .before .before .before .before .before .before .before .before .before .before .before .graft-body .kept .1 .1 .1 .0)
+graft-segment-put-segment-requires-2 t c κs = omega (arith, c .before .before .before .before .before .before .before .before .before .before .before .before .before .before .before .before .before .before .before .before .before .before .before .before .before .before .before .before .pre .1 .1 .1 .1, c .before .before .before .before .before .before .before .before .before .before .before .before .before .before .before .graft-body .kept .1 .1 .1 .0)
 
 -- src/lib.rt:494:1
 graft-segment-same-length-5 : (t : ℕ) → graft-segment-lts.Need-same-length-5 (
@@ -1512,7 +1466,7 @@ graft-segment-same-length-5 : (t : ℕ) → graft-segment-lts.Need-same-length-5
   u32-at-reads.Asked,
   u32-at-reads.Learnt,
 ) (graft-segment-at t) graft-segment.Post
-graft-segment-same-length-5 t c = c .before .before .put-segment2 .kept .0 ∙ c .before .before .before .before .before .before .before .before .before .before .before .before .before .before .before .before .before .before .before .before .graft-body .kept .1 .1 .1 .0
+graft-segment-same-length-5 t c = c .before .before .put-segment2 .kept .0 ∙ c .before .before .before .before .before .before .before .before .before .before .before .before .before .before .before .before .before .before .graft-body .kept .1 .1 .1 .0
 
 -- src/lib.rt:494:1
 graft-segment-same-length-6 : (t : ℕ) → graft-segment-lts.Need-same-length-6 (
@@ -1523,7 +1477,7 @@ graft-segment-same-length-6 : (t : ℕ) → graft-segment-lts.Need-same-length-6
   u32-at-reads.Asked,
   u32-at-reads.Learnt,
 ) (graft-segment-at t) graft-segment.Post
-graft-segment-same-length-6 t c = c .before .before .before .before .before .before .before .before .before .before .before .before .before .before .before .before .before .before .before .before .graft-body .kept .1 .1 .1 .1 .0
+graft-segment-same-length-6 t c = c .before .before .before .before .before .before .before .before .before .before .before .before .before .before .before .before .before .before .graft-body .kept .1 .1 .1 .1 .0
 
 -- src/lib.rt:494:1
 graft-segment-same-length-7 : (t : ℕ) → graft-segment-lts.Need-same-length-7 (
@@ -1534,7 +1488,7 @@ graft-segment-same-length-7 : (t : ℕ) → graft-segment-lts.Need-same-length-7
   u32-at-reads.Asked,
   u32-at-reads.Learnt,
 ) (graft-segment-at t) graft-segment.Post
-graft-segment-same-length-7 t c = c .before .before .before .before .before .before .before .before .before .before .before .before .before .before .before .before .before .before .before .before .graft-body .kept .1 .1 .1 .1 .1 .0
+graft-segment-same-length-7 t c = c .before .before .before .before .before .before .before .before .before .before .before .before .before .before .before .before .before .before .graft-body .kept .1 .1 .1 .1 .1 .0
 
 -- src/lib.rt:494:1
 graft-segment-returns-3 : (t : ℕ) → graft-segment-lts.Need-returns-3 (
@@ -1545,10 +1499,10 @@ graft-segment-returns-3 : (t : ℕ) → graft-segment-lts.Need-returns-3 (
   u32-at-reads.Asked,
   u32-at-reads.Learnt,
 ) (graft-segment-at t) graft-segment.Post
-graft-segment-returns-3 t c = below-made (c .before .before .before .before .before .before .before .before .before .before .before .before .before .before .before .before .before .before .before .before .before .before .before .before .before .before .before .before .before .before .before .args .tape .now) (c .before .before .before .before .before .before .before .before .before .before .before .before .before .before .before .before .before .before .before .before .before .before .before .before .before .before .before .before .before .before .before .args .bytes .now) (c .before .before .before .before .before .before .before .before .before .before .before .before .before .before .before .before .before .before .before .before .before .before .before .before .before .before .before .before .before .before .before .args .at) (c .before .before .before .before .before .before .before .before .before .before .before .before .before .before .before .before .before .before .before .before .before .before .before .before .before .before .before .before .before .before .before .args .p) (c .before .before .before .before .before .before .before .before .before .before .before .before .before .before .before .before .before .before .before .before .before .before .before .before .before .before .before .before .before .before .before .args .m) (c .before .before .before .before .before .before .before .before .before .before .before .before .before .before .before .before .before .before .before .before .before .before .before .before .before .before .before .before .before .before .before .args .to) (c .before .before .before .before .before .before .before .before .before .before .before .before .before .before .before .before .before .before .before .before .before .before .before .before .before .before .before .before .before .before .before .args .out .now) (c .before .before .before .before .before .before .before .before .before .before .before .before .before .before .before .before .before .before .before .before .before .before .before .before .before .before .before .before .before .before .before .args .work .now) (c .before .before .before .before .before .before .before .before .before .before .before .before .before .before .before .before .before .before .before .before .before .before .before .before .before .before .before .before .before .before .before .args .strs .now) (c .before .before .before .before .before .before .before .before .before .before .before .before .before .before .before .before .before .before .before .before .before .before .before .before .before .before .before .before .before .before .before .args .level) (c .before .before .before .before .before .before .before .before .before .before .before .before .before .before .before .before .before .before .before .before .before .before .before .before .if1 .left) (c .before .before .before .before .before .before .before .before .before .before .before .before .before .before .before .before .before .before .before .before .graft-body .result) (c .before .before .before .before .before .before .before .before .before .before .before .before .before .before .before .before .before .before .before .before .graft-body .ensures) (c .before .before .before .before .before .before .before .before .before .u32-at .result) (c .before .before .before .before .before .before .before .before .u32-at2 .result) (c .before .before .before .before .before .before .before .before .before .u32-at .ensures) (c .before .before .before .before .before .before .before .before .u32-at2 .ensures) (not-false _ (c .before .before .before .before .before .before .before .before .before .before .before .if2 .left)) (c .before .before .put-segment2 .ensures)
+graft-segment-returns-3 t c = below-made (c .before .before .before .before .before .before .before .before .before .before .before .before .before .before .before .before .before .before .before .before .before .before .before .before .before .before .before .before .before .before .before .args .tape .now) (c .before .before .before .before .before .before .before .before .before .before .before .before .before .before .before .before .before .before .before .before .before .before .before .before .before .before .before .before .before .before .before .args .bytes .now) (c .before .before .before .before .before .before .before .before .before .before .before .before .before .before .before .before .before .before .before .before .before .before .before .before .before .before .before .before .before .before .before .args .at) (c .before .before .before .before .before .before .before .before .before .before .before .before .before .before .before .before .before .before .before .before .before .before .before .before .before .before .before .before .before .before .before .args .p) (c .before .before .before .before .before .before .before .before .before .before .before .before .before .before .before .before .before .before .before .before .before .before .before .before .before .before .before .before .before .before .before .args .m) (c .before .before .before .before .before .before .before .before .before .before .before .before .before .before .before .before .before .before .before .before .before .before .before .before .before .before .before .before .before .before .before .args .to) (c .before .before .before .before .before .before .before .before .before .before .before .before .before .before .before .before .before .before .before .before .before .before .before .before .before .before .before .before .before .before .before .args .out .now) (c .before .before .before .before .before .before .before .before .before .before .before .before .before .before .before .before .before .before .before .before .before .before .before .before .before .before .before .before .before .before .before .args .work .now) (c .before .before .before .before .before .before .before .before .before .before .before .before .before .before .before .before .before .before .before .before .before .before .before .before .before .before .before .before .before .before .before .args .strs .now) (c .before .before .before .before .before .before .before .before .before .before .before .before .before .before .before .before .before .before .before .before .before .before .before .before .before .before .before .before .before .before .before .args .level) (c .before .before .before .before .before .before .before .before .before .before .before .before .before .before .before .before .before .before .before .before .before .before .if1 .left) (c .before .before .before .before .before .before .before .before .before .before .before .before .before .before .before .before .before .before .graft-body .result) (c .before .before .before .before .before .before .before .before .before .before .before .before .before .before .before .before .before .before .graft-body .ensures) (c .before .before .before .before .before .before .before .u32-at .result) (c .before .before .before .before .before .before .u32-at2 .result) (c .before .before .before .before .before .before .before .u32-at .ensures) (c .before .before .before .before .before .before .u32-at2 .ensures) (not-false _ (c .before .before .before .before .before .before .before .before .before .if2 .left)) (c .before .before .put-segment2 .ensures)
 
 -- src/lib.rt:466:37
-graft-segment-run-add-t16 : (t : ℕ) → graft-segment-run-lts.Need-add-t16 (
+graft-segment-run-add-t17 : (t : ℕ) → graft-segment-run-lts.Need-add-t17 (
   segment-place-reads.Asked,
   segment-place-reads.Learnt,
   inner-segments-reads.Asked,
@@ -1558,7 +1512,7 @@ graft-segment-run-add-t16 : (t : ℕ) → graft-segment-run-lts.Need-add-t16 (
   pushed-segments-reads.Asked,
   pushed-segments-reads.Learnt,
 ) (graft-segment-run-at t) graft-segment-run.Post
-graft-segment-run-add-t16 t c = omega (arith, (c .before .before .before .before .before .before .before .before .pre .1 .0) .space .segmentNumbers)
+graft-segment-run-add-t17 t c = omega (arith, (c .before .before .before .before .before .before .before .before .pre .1 .0) .space .segmentNumbers)
 
 -- src/lib.rt:466:9
 graft-segment-run-returns : (t : ℕ) → graft-segment-run-lts.Need-returns (
@@ -1897,7 +1851,7 @@ pub +graft-body+graft-content+graft-content-run+graft-contents+graft-field+graft
     )
     (graft-content-run-at t)
     graft-content-run.Post
-    (graft-content-run-add-t16 t)
+    (graft-content-run-add-t17 t)
     (graft-content-run-returns t)
     (graft-content-run-content-place-requires t)
     (graft-content-run-inner-contents-requires t)
@@ -1991,10 +1945,10 @@ pub +graft-body+graft-content+graft-content-run+graft-contents+graft-field+graft
     graft-segment.Post
     (graft-segment-mul-place t)
     (graft-segment-add-place t)
-    (graft-segment-add-put-segment t)
-    (graft-segment-shared-slice-read-put-segment t)
-    (graft-segment-add-put-segment-2 t)
-    (graft-segment-shared-slice-read-put-segment-2 t)
+    (graft-segment-add-tag t)
+    (graft-segment-shared-slice-read-tag t)
+    (graft-segment-add-own t)
+    (graft-segment-shared-slice-read-own t)
     (graft-segment-put-segment-requires t)
     (graft-segment-same-length t)
     (graft-segment-returns t)
@@ -2009,14 +1963,10 @@ pub +graft-body+graft-content+graft-content-run+graft-contents+graft-field+graft
     (graft-segment-u32-at-requires t)
     (graft-segment-add-u32-at-2 t)
     (graft-segment-u32-at-requires-2 t)
-    (graft-segment-add-put-segment-3 t)
-    (graft-segment-shared-slice-read-put-segment-3 t)
-    (graft-segment-add-put-segment-4 t)
-    (graft-segment-shared-slice-read-put-segment-4 t)
-    (graft-segment-add-put-segment-5 t)
-    (graft-segment-shared-slice-read-put-segment-5 t)
-    (graft-segment-add-put-segment-6 t)
-    (graft-segment-shared-slice-read-put-segment-6 t)
+    (graft-segment-add-kind t)
+    (graft-segment-shared-slice-read-kind t)
+    (graft-segment-add-variant t)
+    (graft-segment-shared-slice-read-variant t)
     (graft-segment-put-segment-requires-2 t)
     (graft-segment-same-length-5 t)
     (graft-segment-same-length-6 t)
@@ -2034,7 +1984,7 @@ pub +graft-body+graft-content+graft-content-run+graft-contents+graft-field+graft
     )
     (graft-segment-run-at t)
     graft-segment-run.Post
-    (graft-segment-run-add-t16 t)
+    (graft-segment-run-add-t17 t)
     (graft-segment-run-returns t)
     (graft-segment-run-segment-place-requires t)
     (graft-segment-run-inner-segments-requires t)
