@@ -8,7 +8,7 @@ ghost use Prim.Native.Nat.{ℕ, _+_, _-_, _*_, _≤_, _<_};
 ghost use lib.ListN.{length, getD, take, drop};
 ghost use Rattle.model.specs.Tape.{recordBytes, recordsBytes, stringCodec};
 ghost use Rattle.wire.specs.Overwrite.{overwrite};
-ghost use Rattle.layer.specs.Lengths.{lengthIn, lengthsIn, Rising};
+ghost use Rattle.layer.specs.Lengths.{newLength, newLengths, Rising};
 
 // ---- bytes moved up
 
@@ -39,7 +39,7 @@ fn put_string(out: &mut [u8], at: usize, n: u32)
 fn string_length(work: &[u32], k: usize) -> u32
     requires { ⌜ 8192 + k + 1 < length (now work) ⌝ }
     requires { ⌜ getD (now work) (8192 + k) 0 ≤ getD (now work) (8192 + k + 1) 0 ⌝ }
-    ensures { λ r. ⌜ r ≡ lengthIn (now (work .entry)) k ⌝ }
+    ensures { λ r. ⌜ r ≡ newLength (now (work .entry)) k ⌝ }
 {
     work[STARTS + k + 1] - work[STARTS + k]
 }
@@ -48,7 +48,7 @@ fn string_length(work: &[u32], k: usize) -> u32
 pub fn put_lengths(out: &mut [u8], at: usize, work: &[u32], count: usize)
     requires { ⌜ Rising (now work) count ⌝ }
     requires { ⌜ at + 5 * count ≤ length (now out) ⌝ }
-    ensures { λ _. ⌜ now (out .exit) ≡ overwrite (now (out .entry)) at (recordsBytes stringCodec (lengthsIn (now (work .entry)) count)) ⌝ }
+    ensures { λ _. ⌜ now (out .exit) ≡ overwrite (now (out .entry)) at (recordsBytes stringCodec (newLengths (now (work .entry)) count)) ⌝ }
 {
     let mut i = 0;
     while i < count {

@@ -1,4 +1,4 @@
-use Rattle.layer.specs.Lengths.{lengthsIn, lengths-none, lengths-more}
+use Rattle.layer.specs.Lengths.{newLengths, lengths-none, lengths-more}
 use Rattle.wire.specs.Overwrite.{overwrite}
 use Rattle.model.specs.Tape.{recordsBytes, stringCodec}
 use mathlib.Core.Path.{_≡_, refl, sym, ap, _∙_}
@@ -15,7 +15,7 @@ use Rattle.layer.proofs.put_string.Reads as put-string-reads
 use Rattle.layer.proofs.string_length.Reads as string-length-reads
 
 abbrev Inv-loop : tie.InvT-loop
-Inv-loop out₀ at work count i₀ out i = (i ≤ count) × (length out ≡ length out₀) × (out ≡ overwrite out₀ at (recordsBytes stringCodec (lengthsIn work i)))
+Inv-loop out₀ at work count i₀ out i = (i ≤ count) × (length out ≡ length out₀) × (out ≡ overwrite out₀ at (recordsBytes stringCodec (newLengths work i)))
 
 abbrev μ-loop : tie.MeasureT-loop
 μ-loop out₀ at work count i₀ out i = count - i
