@@ -1,3 +1,4 @@
 pub mod Moved
 pub mod Lengths
 pub mod Source
+pub mod Layered
