@@ -6,7 +6,8 @@ use mathlib.Core.Bool.{Bool, true, false, _&&_, true≢false}
 use mathlib.Core.List.{List, [], _∷_, _++_, map, flatten, append-assoc}
 use lib.ListN.{length, take, drop, length-append}
 use lib.Dec.{leb}
-use borrow.Author.Tests.{le-leb}
+use lib.Seq.{length-take-le}
+use borrow.Author.Tests.{le-leb, leb-true}
 use Rattle.model.specs.Limits.{maxPool, maxNewStrings}
 use Rattle.model.specs.Intern.{StrInterner}
 use Rattle.model.specs.Types.{SourceNode}
@@ -25,7 +26,7 @@ use Rattle.graft.specs.declared.Mark.{Mark}
 use Rattle.graft.specs.Grafted.{Sized}
 use Rattle.layer.specs.declared.Offsets.{Offsets}
 use Rattle.layer.specs.declared.Layer.{Layer}
-use Rattle.layer.specs.Lengths.{newLengths, good-rising, string-lengths, Rising}
+use Rattle.layer.specs.Lengths.{newLengths, lengths-width, good-rising, string-lengths, Rising}
 use Rattle.layer.specs.Moved.{moved-written, three-blocks}
 use Rattle.layer.specs.Layered.{roomLeft, planOf, layerBy, layerRecords, layerOk, LayerSizes, LayerFits, layer-ok, layer-refused}
 use Rattle.layer.specs.Walked.{WalkRoom, WalkMade, Walked}
@@ -57,7 +58,7 @@ pub record Counted (m : Room) (a : Added) (s : Sizes) : Type 0 where
   pub contentsFit : a .contents ≤ m .contents
   pub segmentsFit : a .segments ≤ m .segments
 
-module _ {m : Room} {a : Added} {s : Sizes} (e : s ≡ sizesIn m a) where
+module _ (m : Room) (a : Added) {s : Sizes} (e : s ≡ sizesIn m a) where
   not-over : fits m a ≡ true → s .over ≡ false
   unfolding sizesIn
   not-over h = ap (λ (x : Sizes). x .over) e ∙ rw h refl
@@ -82,8 +83,128 @@ module _ {m : Room} {a : Added} {s : Sizes} (e : s ≡ sizesIn m a) where
 
 -- ---- refusals
 
-told-refused : {out strs out′ strs′ : List ℕ} {at base : ℕ} {o : Offsets} {r : Layer} {g : With (List SourceNode)} → r .ok ≡ false → (LayerFits (length out) (length strs) at base o g → ⊥) → LayerTold out strs out′ strs′ at base o r g
-told-refused {out} {strs} {at = at} {base = base} {o = o} {g = g} e h = record {
-  ok = e ∙ layer-refused (length out) (length strs) at base o g h;
-  made = λ x. absurd (true≢false (sym x ∙ e));
-}
+module _ (out strs : List ℕ) (at base : ℕ) (o : Offsets) (g : With (List SourceNode)) {a : Added} {nodes : ℕ} (z : LayerSizes g a nodes) where
+  abbrev Fits : Type 0
+  Fits = LayerFits (length out) (length strs) at base o g
+
+  abbrev Told : List ℕ → List ℕ → Layer → Type 0
+  Told out′ strs′ r = LayerTold out strs out′ strs′ at base o r g
+
+  none-fits : {out′ strs′ : List ℕ} {r : Layer} → r .ok ≡ false → (Fits → ⊥) → Told out′ strs′ r
+  none-fits e h = record { ok = e ∙ layer-refused (length out) (length strs) at base o g h; made = λ x. absurd (true≢false (sym x ∙ e)) }
+
+  -- a pool would pass number 3's limit
+  pub pools-refused : {out′ strs′ : List ℕ} {r : Layer} {s : Sizes} → s ≡ sizesIn (roomLeft o) a → s .over ≡ true → r .ok ≡ false → Told out′ strs′ r
+  pools-refused e x y =
+      none-fits y (λ f. true≢false (sym x ∙ not-over (roomLeft o) a e (fits-where (roomLeft o) a (omega (arith, f .contents, z .contents)) (omega (arith, f .segments, z .segments)))))
+
+  -- the tape is too short without the strings' records
+  pub tape-refused : {out′ strs′ : List ℕ} {r : Layer} {s : Sizes} → Counted (roomLeft o) a s → length out - at < 1 + 10 * s .contents + 37 * s .segments + 49 * nodes → r .ok ≡ false → Told out′ strs′ r
+  tape-refused k h y = none-fits y (λ f. omega (arith, f .tape, z .bytes, k .contents, k .segments, h))
+
+  -- the strings have no room
+  pub walk-refused : {out′ strs′ : List ℕ} {r : Layer} {x : Bool} → x ≡ hasRoom (length strs) base (g .1 .interner) → x ≡ false → r .ok ≡ false → Told out′ strs′ r
+  unfolding hasRoom
+  walk-refused e h y = none-fits y (λ f. true≢false (
+      sym (rw (le-leb (length (g .1 .interner .strings)) maxNewStrings (f .few), le-leb (base + length (flatten (g .1 .interner .strings))) (length strs) (f .bytes)) refl) ∙ sym e ∙ h))
+
+  -- ---- behind the walk
+
+  module _ {s : Sizes} (k : Counted (roomLeft o) a s) (nodesat : ℕ) (e : nodesat ≡ at + (1 + 10 * s .contents + 37 * s .segments)) (h : nodesat + 49 * nodes ≤ length out) where
+    pub walk-room : o .contents ≤ maxPool → o .segments ≤ maxPool → o .strings ≤ maxPool → s .calls < 2 ^ 32 → WalkRoom (planOf o at (s .contents)) nodesat nodes (length out) a
+    walk-room x y w v = record {
+      contents = omega (arith, k .contents);
+      segments = omega (arith, e, k .segments);
+      records = h;
+      contentNumbers = omega (arith, x, k .contentsFit);
+      segmentNumbers = omega (arith, y, k .segmentsFit);
+      stringNumbers = omega (arith, w);
+      calls = omega (arith, v, k .calls);
+    }
+
+    module _ {out₁ work₁ strs₁ : List ℕ} {m : Mark} (w : WalkMade (planOf o at (s .contents)) base nodesat out strs out₁ work₁ strs₁ m g) where
+      strings-count : m .state .count ≡ length (g .1 .interner .strings)
+      strings-count = sym (count-is work₁ strs₁ (m .state) (w .good)) ∙ ap (λ (x : StrInterner). length (x .strings)) (w .state)
+
+      pub strings-refused : {out′ : List ℕ} {r : Layer} {x : Bool} {left : ℕ} → x ≡ (leb (o .strings + m .state .count) maxPool && leb (5 * m .state .count) left) → x ≡ false
+          → left ≡ length out - (nodesat + 49 * nodes) → r .ok ≡ false → Told out′ strs₁ r
+      strings-refused {left = left} q x l y = none-fits y (λ f. true≢false (
+          sym (rw (le-leb (o .strings + m .state .count) maxPool (omega (arith, f .strings, strings-count)), le-leb (5 * m .state .count) left (omega (arith, l, f .tape, z .bytes, e, k .contents, k .segments, strings-count))) refl) ∙ sym q ∙ x))
+
+      -- ---- the strings' records, and all of it
+
+      same-strings : stateOf work₁ strs₁ (m .state) .strings ≡ g .1 .interner .strings
+      same-strings = ap (λ (x : StrInterner). x .strings) (w .state)
+
+      abbrev strings : List (List ℕ)
+      strings = g .1 .interner .strings
+
+      -- the bytes of the strings stand from `base` on
+      strings-there : take (base + length (flatten strings)) strs₁ ≡ take base strs ++ flatten strings
+      strings-there =
+          let q = w .good in
+          let b = w .begins in
+          let x : take (m .state .used) strs₁ ≡ take base strs₁ ++ flatten strings = q .laid ∙ ap₂ (λ (n : ℕ) (l : List (List ℕ)). take n strs₁ ++ flatten l) b same-strings in
+          let n : base + length (flatten strings) ≡ m .state .used =
+          omega (arith, ap length x, length-append (take base strs₁) (flatten strings), length-take-le (m .state .used) strs₁ (q .fits), length-take-le base strs₁ (omega (arith, q .fits, q .begins, b))) in
+          ap (λ (i : ℕ). take i strs₁) n ∙ x ∙ ap (λ (l : List ℕ). l ++ flatten strings) (w .kept)
+
+      one-run : out₁ ≡ overwrite out (at + 1) (recordsBytes contentCodec (g .1 .contents) ++ (recordsBytes segmentCodec (g .1 .segments) ++ recordsBytes nodeCodec (g .0)))
+      one-run =
+          w .wrote ∙ three-blocks out (at + 1) (recordsBytes contentCodec (g .1 .contents)) (recordsBytes segmentCodec (g .1 .segments)) (recordsBytes nodeCodec (g .0))
+          (omega (arith, z .contentBytes, z .segmentBytes, z .nodeBytes, k .contents, k .segments, e, h)) (at + 1 + 10 * s .contents) nodesat
+          (omega (arith, z .contentBytes, k .contents)) (omega (arith, z .segmentBytes, k .contents, k .segments, e))
+
+      same-records : (xs ys zs us : List ℕ) → xs ++ (ys ++ (zs ++ us)) ≡ (xs ++ (ys ++ zs)) ++ us
+      same-records xs ys zs us = simp append-assoc
+
+      module _ (n : ℕ) (f : n + 1 ≡ 1 + 10 * s .contents + 37 * s .segments + 49 * nodes) (x : (leb (o .strings + m .state .count) maxPool && leb (5 * m .state .count) (length out - (nodesat + 49 * nodes))) ≡ true) where
+        strings-fit : (o .strings + m .state .count ≤ maxPool) × (5 * m .state .count ≤ length out - (nodesat + 49 * nodes))
+        strings-fit =
+            let u = both (leb (o .strings + m .state .count) maxPool) (leb (5 * m .state .count) (length out - (nodesat + 49 * nodes))) x in
+            (leb-true (o .strings + m .state .count) maxPool (u .0), leb-true (5 * m .state .count) (length out - (nodesat + 49 * nodes)) (u .1))
+
+        pub lay-out-rising : Rising work₁ (m .state .count)
+        lay-out-rising = good-rising (w .good)
+
+        pub lay-out-room : (at + 1 + n + 5 * m .state .count ≤ length out) × (m .state .count ≤ maxNewStrings)
+        lay-out-room = (omega (arith, f, e, h, strings-fit .1), w .good .words .few)
+
+        module _ {out₂ : List ℕ} (l : out₂ ≡ overwrite out₁ at (2 ∷ (recordsBytes stringCodec (newLengths work₁ (m .state .count)) ++ take n (drop (at + 1) out₁)))) where
+          all-written : out₂ ≡ overwrite out at (layerRecords g)
+          unfolding layerRecords layerBytes layerOf
+          all-written =
+              let rs = recordsBytes stringCodec (map length strings) in
+              let cs = recordsBytes contentCodec (g .1 .contents) in
+              let ss = recordsBytes segmentCodec (g .1 .segments) in
+              let ns = recordsBytes nodeCodec (g .0) in
+              let r : recordsBytes stringCodec (newLengths work₁ (m .state .count)) ≡ rs = ap (recordsBytes stringCodec) (sym (string-lengths (w .good)) ∙ ap (map length) same-strings) in
+              let q : length rs ≡ 5 * m .state .count = ap length (sym r) ∙ lengths-width work₁ (m .state .count) in
+              let y : length (cs ++ (ss ++ ns)) ≡ n = omega (arith, length-append cs (ss ++ ns), length-append ss ns, z .contentBytes, z .segmentBytes, z .nodeBytes, k .contents, k .segments, f) in
+              moved-written out at rs (cs ++ (ss ++ ns)) (omega (arith, q, y, f, e, h, strings-fit .1)) n 2 (sym y) one-run (l ∙ ap (λ (b : List ℕ). overwrite out₁ at (2 ∷ (b ++ take n (drop (at + 1) out₁)))) r)
+              ∙ ap (λ (b : List ℕ). overwrite out at (2 ∷ b)) (same-records rs cs ss ns)
+
+          pub layer-told : (hasRoom (length strs) base (g .1 .interner) ≡ true) → {r : Layer} (len : ℕ) → len ≡ 1 + 10 * s .contents + 37 * s .segments + 5 * m .state .count → r ≡ layerBy m len → Told out₂ strs₁ r
+          unfolding hasRoom
+          layer-told room {r} len q i =
+              let u = both (leb (length strings) maxNewStrings) (leb (base + length (flatten strings)) (length strs)) room in
+              let c = strings-count in
+              record {
+                ok = ap (λ (v : Layer). v .ok) i ∙ layer-ok (length out) (length strs) at base o g (record {
+                  few = leb-true (length strings) maxNewStrings (u .0);
+                  strings = omega (arith, c, strings-fit .0);
+                  contents = omega (arith, z .contents, k .contentsFit);
+                  segments = omega (arith, z .segments, k .segmentsFit);
+                  tape = omega (arith, z .bytes, c, strings-fit .1, k .contents, k .segments, e, h);
+                  bytes = leb-true (base + length (flatten strings)) (length strs) (u .1);
+                });
+                made = λ _. record {
+                  wrote = all-written;
+                  bytes = strings-there;
+                  len = ap (λ (v : Layer). v .len) i ∙ omega (arith, q, z .layer, c, k .contents, k .segments);
+                  strings = ap (λ (v : Layer). v .strings) i ∙ c;
+                  contents = ap (λ (v : Layer). v .contents) i ∙ w .contents;
+                  segments = ap (λ (v : Layer). v .segments) i ∙ w .segments;
+                  stats = ap (λ (v : Layer). statsOf (v .state .stats)) i ∙ ap (λ (v : StrInterner). v .stats) (w .state);
+                };
+              }

@@ -46,6 +46,10 @@ newLayer o = record {
 unfoldable pub graftedInto : List ℕ → List ℕ → Offsets → With (List SourceNode)
 graftedInto t d o = graftNodeRefs (shownNodes (bookAt t (places t) d)) (newLayer o)
 
+-- what that adds
+abbrev pub sourceAdds : List ℕ → List ℕ → Added
+sourceAdds t d = nodesSize (shownNodes (bookAt t (places t) d))
+
 -- the layer's records, and behind them those of the nodes
 unfoldable pub layerRecords : With (List SourceNode) → List ℕ
 layerRecords g = layerBytes (layerOf (g .1)) ++ recordsBytes nodeCodec (g .0)
@@ -92,6 +96,9 @@ pub record LayerSizes (g : With (List SourceNode)) (a : Added) (nodes : ℕ) : T
   pub contents : length (g .1 .contents) ≡ a .contents
   pub segments : length (g .1 .segments) ≡ a .segments
   pub count : length (g .0) ≡ nodes
+  pub contentBytes : length (recordsBytes contentCodec (g .1 .contents)) ≡ 10 * a .contents
+  pub segmentBytes : length (recordsBytes segmentCodec (g .1 .segments)) ≡ 37 * a .segments
+  pub nodeBytes : length (recordsBytes nodeCodec (g .0)) ≡ 49 * nodes
   pub layer : length (layerBytes (layerOf (g .1))) ≡ 1 + 5 * length (g .1 .interner .strings) + 10 * a .contents + 37 * a .segments
   pub bytes : length (layerRecords g) ≡ 1 + 5 * length (g .1 .interner .strings) + 10 * a .contents + 37 * a .segments + 49 * nodes
 
@@ -111,20 +118,25 @@ shown-long : (b : LexOutput) → length (shownNodes b) ≡ length (b .sourceNode
 unfolding shownNodes
 shown-long b = length-map (b .sourceNodes) (shownNode (storeOf (b .layers)))
 
-pub layer-sizes : (t d : List ℕ) (o : Offsets) {nodes : ℕ} → length (bookAt t (places t) d .sourceNodes) ≡ nodes → LayerSizes (graftedInto t d o) (nodesSize (shownNodes (bookAt t (places t) d))) nodes
+pub layer-sizes : (t d : List ℕ) (o : Offsets) {nodes : ℕ} → length (bookAt t (places t) d .sourceNodes) ≡ nodes → LayerSizes (graftedInto t d o) (sourceAdds t d) nodes
 unfolding graftedInto layerRecords newLayer
 layer-sizes t d o {nodes} e =
     let ns = shownNodes (bookAt t (places t) d) in
     let g = graftNodeRefs ns (newLayer o) in
     let k = node-refs-grow ns (newLayer o) in
     let n : length (g .0) ≡ nodes = length-refs ns (newLayer o) ∙ shown-long (bookAt t (places t) d) ∙ e in
-    let l = layer-long (g .1) (refs-sized ns (newLayer o) (empty-sized o)) in
+    let s = refs-sized ns (newLayer o) (empty-sized o) in
+    let l = layer-long (g .1) s in
+    let w = refs-width ns (newLayer o) in
     record {
       contents = omega (arith, k .contents);
       segments = omega (arith, k .segments);
       count = n;
+      contentBytes = omega (arith, s .contents, k .contents);
+      segmentBytes = omega (arith, s .segments, k .segments);
+      nodeBytes = omega (arith, w, n);
       layer = omega (arith, l, k .contents, k .segments);
-      bytes = omega (arith, l, k .contents, k .segments, n, refs-width ns (newLayer o), length-append (layerBytes (layerOf (g .1))) (recordsBytes nodeCodec (g .0)));
+      bytes = omega (arith, l, k .contents, k .segments, n, w, length-append (layerBytes (layerOf (g .1))) (recordsBytes nodeCodec (g .0)));
     }
 
 -- ---- number 18

@@ -8,11 +8,16 @@ ghost use mathlib.Core.List.{_∷_, _++_};
 ghost use Prim.Native.Nat.{ℕ, _+_, _-_, _*_, _^_, _≤_, _<_};
 ghost use lib.Dec.{leb};
 ghost use lib.ListN.{length, getD, take, drop};
-ghost use Rattle.model.specs.Limits.{maxPool, maxNewStrings};
+ghost use Rattle.model.specs.Limits.{maxPool, maxNewStrings, minWorkWords};
 ghost use Rattle.model.specs.Tape.{recordBytes, recordsBytes, stringCodec};
 ghost use Rattle.wire.specs.Overwrite.{overwrite};
 ghost use Rattle.layer.specs.Lengths.{newLength, newLengths, Rising};
-ghost use Rattle.layer.specs.Layered.{roomLeft, layerBy, planOf};
+ghost use Rattle.strings.specs.Starts.{lengthsIn, Readable};
+ghost use Rattle.strings.specs.Index.{Indexed};
+ghost use Rattle.graft.specs.Walk.{indexWords};
+ghost use Rattle.layer.specs.Source.{SourceFits};
+ghost use Rattle.layer.specs.Layered.{roomLeft, layerBy, planOf, sourceAdds, graftedInto};
+ghost use Rattle.layer.specs.Walked.{offsetsOf, WalkRoom, Walked};
 
 const MAX_POOL: usize = 1048575;
 
@@ -182,4 +187,56 @@ fn plan_of(o: Offsets, at: usize, contents: u32) -> graft::Plan
         contentsat: at + 1,
         segmentsat: at + 1 + 10 * (contents as usize),
     }
+}
+
+// ---- the walk
+
+// An index of the source's strings, in the work words that the interner leaves free.
+fn index_words(tape: &[u8], st: store::Store, room: usize, work: &mut [u32])
+    requires { ⌜ Readable (now tape) st room ⌝ }
+    requires { ⌜ minWorkWords ≤ length (now work) ⌝ }
+    ensures { λ _. ⌜ Indexed (lengthsIn (now (tape .entry))) (indexWords (now (work .exit))) ⌝ }
+{
+    strings::index_strings(tape, st, room, &mut work[11776..16384]);
+}
+
+// Section 5. The source's nodes, grafted into a layer that has nothing yet.
+fn walk(
+    tape: &[u8],
+    bytes: &[u8],
+    p: places::Places,
+    st: store::Store,
+    out: &mut [u8],
+    work: &mut [u32],
+    strs: &mut [u8],
+    plan: graft::Plan,
+    base: usize,
+    nodesat: usize,
+) -> graft::Mark
+    requires { ⌜ SourceFits (now tape) (now bytes) p st ⌝ }
+    requires { ⌜ WalkRoom plan nodesat (p .nodes .count) (length (now out)) (sourceAdds (now tape) (now bytes)) ⌝ }
+    requires { ⌜ (minWorkWords ≤ length (now work)) × (base ≤ length (now strs)) × (length (now strs) < 2 ^ 32) ⌝ }
+    ensures { λ r. ⌜ Walked plan base nodesat (now (out .entry)) (now (strs .entry)) (now (out .exit)) (now (work .exit)) (now (strs .exit)) r (graftedInto (now (tape .entry)) (now (bytes .entry)) (offsetsOf plan)) ⌝ }
+{
+    index_words(tape, st, bytes.len(), work);
+    let state = interner::fresh(work, strs, base);
+    let m = graft::Mark {
+        ok: true,
+        contents: 0,
+        segments: 0,
+        state: state,
+    };
+    graft::graft_nodes(
+        tape,
+        bytes,
+        st,
+        out,
+        work,
+        strs,
+        plan,
+        m,
+        p.nodes.at,
+        p.nodes.count,
+        nodesat,
+    )
 }
