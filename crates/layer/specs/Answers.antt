@@ -28,7 +28,7 @@ use Rattle.layer.specs.declared.Offsets.{Offsets}
 use Rattle.layer.specs.declared.Layer.{Layer}
 use Rattle.layer.specs.Lengths.{newLengths, lengths-width, good-rising, string-lengths, Rising}
 use Rattle.layer.specs.Moved.{moved-written, three-blocks}
-use Rattle.layer.specs.Layered.{roomLeft, planOf, layerBy, layerRecords, layerOk, LayerSizes, LayerFits, layer-ok, layer-refused}
+use Rattle.layer.specs.Layered.{OffsetsFit, roomLeft, planOf, layerBy, layerRecords, layerOk, LayerSizes, LayerFits, layer-ok, layer-refused}
 use Rattle.layer.specs.Walked.{WalkRoom, WalkMade, Walked}
 
 -- The layer and the nodes where they belong. What stands behind the strings is not said.
@@ -44,6 +44,29 @@ pub record LayerMade (out strs out′ strs′ : List ℕ) (at base : ℕ) (r : L
 pub record LayerTold (out strs out′ strs′ : List ℕ) (at base : ℕ) (o : Offsets) (r : Layer) (g : With (List SourceNode)) : Type 0 where
   pub ok : r .ok ≡ layerOk (length out) (length strs) at base o g
   pub made : r .ok ≡ true → LayerMade out strs out′ strs′ at base r g
+
+-- What `finish` answers: whether the strings and their records have room, and if so the layer as it was laid out.
+abbrev pub stringsFit : ℕ → ℕ → ℕ → Bool
+stringsFit below count left = leb (below + count) maxPool && leb (5 * count) left
+
+pub record Finished (work : List ℕ) (below at len rest : ℕ) (m : Mark) (out out′ : List ℕ) (r : Layer) : Type 0 where
+  pub ok : r .ok ≡ stringsFit below (m .state .count) (length out - at - len - rest)
+  pub is : r .ok ≡ true → r ≡ layerBy m (len + 5 * m .state .count)
+  pub wrote : r .ok ≡ true → out′ ≡ overwrite out at (2 ∷ (recordsBytes stringCodec (newLengths work (m .state .count)) ++ take (len - 1 + rest) (drop (at + 1) out)))
+
+pub finish-refused : {work : List ℕ} {below at len rest : ℕ} {m : Mark} {out out′ : List ℕ} {r : Layer} {x : Bool} → x ≡ stringsFit below (m .state .count) (length out - at - len - rest) → x ≡ false → r .ok ≡ false
+    → Finished work below at len rest m out out′ r
+finish-refused e f y = record { ok = y ∙ sym f ∙ e; is = λ o. absurd (true≢false (sym o ∙ y)); wrote = λ o. absurd (true≢false (sym o ∙ y)) }
+
+pub finish-made : {work : List ℕ} {below at len rest : ℕ} {m : Mark} {out out′ : List ℕ} {r : Layer} {x : Bool} → x ≡ stringsFit below (m .state .count) (length out - at - len - rest) → x ≡ true
+    → r ≡ layerBy m (len + 5 * m .state .count) → out′ ≡ overwrite out at (2 ∷ (recordsBytes stringCodec (newLengths work (m .state .count)) ++ take (len - 1 + rest) (drop (at + 1) out)))
+    → Finished work below at len rest m out out′ r
+finish-made e f i w = record { ok = ap (λ (v : Layer). v .ok) i ∙ sym f ∙ e; is = λ _. i; wrote = λ _. w }
+
+pub strings-room : (below count left : ℕ) {x : Bool} → x ≡ stringsFit below count left → x ≡ true → (below + count ≤ maxPool) × (5 * count ≤ left)
+strings-room below count left e f =
+    let u = both (leb (below + count) maxPool) (leb (5 * count) left) (sym e ∙ f) in
+    (leb-true (below + count) maxPool (u .0), leb-true (5 * count) left (u .1))
 
 -- ---- sizes
 
@@ -83,7 +106,7 @@ module _ (m : Room) (a : Added) {s : Sizes} (e : s ≡ sizesIn m a) where
 
 -- ---- refusals
 
-module _ (out strs : List ℕ) (at base : ℕ) (o : Offsets) (g : With (List SourceNode)) {a : Added} {nodes : ℕ} (z : LayerSizes g a nodes) where
+module _ (out strs : List ℕ) (at base : ℕ) (o : Offsets) (small : OffsetsFit o) (g : With (List SourceNode)) {a : Added} {nodes : ℕ} (z : LayerSizes g a nodes) where
   abbrev Fits : Type 0
   Fits = LayerFits (length out) (length strs) at base o g
 
@@ -111,14 +134,14 @@ module _ (out strs : List ℕ) (at base : ℕ) (o : Offsets) (g : With (List Sou
   -- ---- behind the walk
 
   module _ {s : Sizes} (k : Counted (roomLeft o) a s) (nodesat : ℕ) (e : nodesat ≡ at + (1 + 10 * s .contents + 37 * s .segments)) (h : nodesat + 49 * nodes ≤ length out) where
-    pub walk-room : o .contents ≤ maxPool → o .segments ≤ maxPool → o .strings ≤ maxPool → s .calls < 2 ^ 32 → WalkRoom (planOf o at (s .contents)) nodesat nodes (length out) a
-    walk-room x y w v = record {
+    pub walk-room : s .calls < 2 ^ 32 → WalkRoom (planOf o at (s .contents)) nodesat nodes (length out) a
+    walk-room v = record {
       contents = omega (arith, k .contents);
       segments = omega (arith, e, k .segments);
       records = h;
-      contentNumbers = omega (arith, x, k .contentsFit);
-      segmentNumbers = omega (arith, y, k .segmentsFit);
-      stringNumbers = omega (arith, w);
+      contentNumbers = omega (arith, small .contents, k .contentsFit);
+      segmentNumbers = omega (arith, small .segments, k .segmentsFit);
+      stringNumbers = omega (arith, small .strings);
       calls = omega (arith, v, k .calls);
     }
 
@@ -193,8 +216,8 @@ module _ (out strs : List ℕ) (at base : ℕ) (o : Offsets) (g : With (List Sou
                 ok = ap (λ (v : Layer). v .ok) i ∙ layer-ok (length out) (length strs) at base o g (record {
                   few = leb-true (length strings) maxNewStrings (u .0);
                   strings = omega (arith, c, strings-fit .0);
-                  contents = omega (arith, z .contents, k .contentsFit);
-                  segments = omega (arith, z .segments, k .segmentsFit);
+                  contents = omega (arith, z .contents, k .contentsFit, small .contents);
+                  segments = omega (arith, z .segments, k .segmentsFit, small .segments);
                   tape = omega (arith, z .bytes, c, strings-fit .1, k .contents, k .segments, e, h);
                   bytes = leb-true (base + length (flatten strings)) (length strs) (u .1);
                 });

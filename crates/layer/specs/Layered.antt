@@ -31,6 +31,12 @@ use Rattle.layer.specs.Lengths.{strings-width}
 
 -- ---- definitions
 
+-- Number 3 of the layers below.
+pub record OffsetsFit (o : Offsets) : Type 0 where
+  pub strings : o .strings ≤ maxPool
+  pub contents : o .contents ≤ maxPool
+  pub segments : o .segments ≤ maxPool
+
 -- Section 3. `NodeStore::layered`, by the counts of the layers below.
 unfoldable pub newLayer : Offsets → NewLayer
 newLayer o = record {

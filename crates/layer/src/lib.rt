@@ -16,8 +16,9 @@ ghost use Rattle.strings.specs.Starts.{lengthsIn, Readable};
 ghost use Rattle.strings.specs.Index.{Indexed};
 ghost use Rattle.graft.specs.Walk.{indexWords};
 ghost use Rattle.layer.specs.Source.{SourceFits};
-ghost use Rattle.layer.specs.Layered.{roomLeft, layerBy, planOf, sourceAdds, graftedInto};
+ghost use Rattle.layer.specs.Layered.{OffsetsFit, roomLeft, layerBy, planOf, sourceAdds, graftedInto};
 ghost use Rattle.layer.specs.Walked.{offsetsOf, WalkRoom, Walked};
+ghost use Rattle.layer.specs.Answers.{Finished};
 
 const MAX_POOL: usize = 1048575;
 
@@ -103,7 +104,7 @@ fn lay_out(out: &mut [u8], work: &[u32], at: usize, n: usize, count: usize)
 
 // Number 3. How many contents and segments may still be added.
 fn room_left(o: Offsets) -> sizes::Room
-    requires { ⌜ (o .contents ≤ maxPool) × (o .segments ≤ maxPool) ⌝ }
+    requires { ⌜ OffsetsFit o ⌝ }
     ensures { λ r. ⌜ r ≡ roomLeft o ⌝ }
 {
     sizes::Room {
@@ -239,4 +240,21 @@ fn walk(
         p.nodes.count,
         nodesat,
     )
+}
+
+// ---- the layer
+
+// The strings of a walk that wrote `len` bytes of a layer and `rest` of nodes.
+fn finish(out: &mut [u8], work: &[u32], below: u32, at: usize, len: usize, rest: usize, m: graft::Mark) -> Layer
+    requires { ⌜ Rising (now work) (m .state .count) ⌝ }
+    requires { ⌜ (below ≤ maxPool) × (m .state .count ≤ maxNewStrings) × (1 ≤ len) × (at + len + rest ≤ length (now out)) ⌝ }
+    ensures { λ r. ⌜ Finished (now (work .entry)) below at len rest m (now (out .entry)) (now (out .exit)) r ⌝ }
+{
+    let state = m.state;
+    let count = state.count;
+    if !strings_fit(below, count, out.len() - at - len - rest) {
+        return refused();
+    }
+    lay_out(out, work, at, len - 1 + rest, count);
+    layer_of(m, len + 5 * count)
 }
