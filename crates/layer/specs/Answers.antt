@@ -74,7 +74,7 @@ fits-where : (m : Room) (a : Added) → a .contents ≤ m .contents → a .segme
 unfolding fits
 fits-where m a h k = rw (le-leb (a .contents) (m .contents) h, le-leb (a .segments) (m .segments) k) refl
 
-pub record Counted (m : Room) (a : Added) (s : Sizes) : Type 0 where
+pub record Exact (m : Room) (a : Added) (s : Sizes) : Type 0 where
   pub contents : s .contents ≡ a .contents
   pub segments : s .segments ≡ a .segments
   pub calls : s .calls ≡ a .calls
@@ -90,9 +90,9 @@ module _ (m : Room) (a : Added) {s : Sizes} (e : s ≡ sizesIn m a) where
   unfolding sizesIn
   is-over h = ap (λ (x : Sizes). x .over) e ∙ rw h refl
 
-  pub counted : s .over ≡ false → Counted m a s
+  pub sizes-exact : s .over ≡ false → Exact m a s
   unfolding sizesIn
-  counted x =
+  sizes-exact x =
       let h : fits m a ≡ true = by-bool (fits m a) (λ y. y) (λ y. absurd (true≢false (sym (is-over y) ∙ x))) in
       let r = fits-room m a h in
       let q : s ≡ record { contents = a .contents; segments = a .segments; calls = a .calls; over = false } = e ∙ rw h refl in
@@ -105,6 +105,9 @@ module _ (m : Room) (a : Added) {s : Sizes} (e : s ≡ sizesIn m a) where
       }
 
 -- ---- refusals
+
+same-records : (xs ys zs us : List ℕ) → xs ++ (ys ++ (zs ++ us)) ≡ (xs ++ (ys ++ zs)) ++ us
+same-records xs ys zs us = simp append-assoc
 
 module _ (out strs : List ℕ) (at base : ℕ) (o : Offsets) (small : OffsetsFit o) (g : With (List SourceNode)) {a : Added} {nodes : ℕ} (z : LayerSizes g a nodes) where
   abbrev Fits : Type 0
@@ -121,113 +124,116 @@ module _ (out strs : List ℕ) (at base : ℕ) (o : Offsets) (small : OffsetsFit
   pools-refused e x y =
       none-fits y (λ f. true≢false (sym x ∙ not-over (roomLeft o) a e (fits-where (roomLeft o) a (omega (arith, f .contents, z .contents)) (omega (arith, f .segments, z .segments)))))
 
-  -- the tape is too short without the strings' records
-  pub tape-refused : {out′ strs′ : List ℕ} {r : Layer} {s : Sizes} → Counted (roomLeft o) a s → length out - at < 1 + 10 * s .contents + 37 * s .segments + 49 * nodes → r .ok ≡ false → Told out′ strs′ r
-  tape-refused k h y = none-fits y (λ f. omega (arith, f .tape, z .bytes, k .contents, k .segments, h))
-
   -- the strings have no room
   pub walk-refused : {out′ strs′ : List ℕ} {r : Layer} {x : Bool} → x ≡ hasRoom (length strs) base (g .1 .interner) → x ≡ false → r .ok ≡ false → Told out′ strs′ r
   unfolding hasRoom
   walk-refused e h y = none-fits y (λ f. true≢false (
       sym (rw (le-leb (length (g .1 .interner .strings)) maxNewStrings (f .few), le-leb (base + length (flatten (g .1 .interner .strings))) (length strs) (f .bytes)) refl) ∙ sym e ∙ h))
 
-  -- ---- behind the walk
+  -- ---- where the sizes are known
 
-  module _ {s : Sizes} (k : Counted (roomLeft o) a s) (nodesat : ℕ) (e : nodesat ≡ at + (1 + 10 * s .contents + 37 * s .segments)) (h : nodesat + 49 * nodes ≤ length out) where
-    pub walk-room : s .calls < 2 ^ 32 → WalkRoom (planOf o at (s .contents)) nodesat nodes (length out) a
-    walk-room v = record {
-      contents = omega (arith, k .contents);
-      segments = omega (arith, e, k .segments);
-      records = h;
-      contentNumbers = omega (arith, small .contents, k .contentsFit);
-      segmentNumbers = omega (arith, small .segments, k .segmentsFit);
-      stringNumbers = omega (arith, small .strings);
-      calls = omega (arith, v, k .calls);
-    }
+  module _ {s : Sizes} (k : Exact (roomLeft o) a s) (len rest : ℕ) (e : len ≡ 1 + 10 * s .contents + 37 * s .segments) (f : rest ≡ 49 * nodes) where
+    -- the tape is too short without the strings' records
+    pub tape-refused : {out′ strs′ : List ℕ} {r : Layer} → length out - at < len + rest → r .ok ≡ false → Told out′ strs′ r
+    tape-refused h y = none-fits y (λ q. omega (arith, q .tape, z .bytes, k .contents, k .segments, e, f, h))
 
-    module _ {out₁ work₁ strs₁ : List ℕ} {m : Mark} (w : WalkMade (planOf o at (s .contents)) base nodesat out strs out₁ work₁ strs₁ m g) where
-      strings-count : m .state .count ≡ length (g .1 .interner .strings)
-      strings-count = sym (count-is work₁ strs₁ (m .state) (w .good)) ∙ ap (λ (x : StrInterner). length (x .strings)) (w .state)
+    module _ (h : at + len + rest ≤ length out) where
+      pub walk-room : s .calls < 2 ^ 32 → WalkRoom (planOf o at (s .contents)) (at + len) nodes (length out) a
+      walk-room v = record {
+        contents = omega (arith, k .contents);
+        segments = omega (arith, e, k .segments);
+        records = omega (arith, f, h);
+        contentNumbers = omega (arith, small .contents, k .contentsFit);
+        segmentNumbers = omega (arith, small .segments, k .segmentsFit);
+        stringNumbers = omega (arith, small .strings);
+        calls = omega (arith, v, k .calls);
+      }
 
-      pub strings-refused : {out′ : List ℕ} {r : Layer} {x : Bool} {left : ℕ} → x ≡ (leb (o .strings + m .state .count) maxPool && leb (5 * m .state .count) left) → x ≡ false
-          → left ≡ length out - (nodesat + 49 * nodes) → r .ok ≡ false → Told out′ strs₁ r
-      strings-refused {left = left} q x l y = none-fits y (λ f. true≢false (
-          sym (rw (le-leb (o .strings + m .state .count) maxPool (omega (arith, f .strings, strings-count)), le-leb (5 * m .state .count) left (omega (arith, l, f .tape, z .bytes, e, k .contents, k .segments, strings-count))) refl) ∙ sym q ∙ x))
+      module _ {out₁ work₁ strs₁ : List ℕ} {m : Mark} (w : WalkMade (planOf o at (s .contents)) base (at + len) out strs out₁ work₁ strs₁ m g) where
+        abbrev strings : List (List ℕ)
+        strings = g .1 .interner .strings
 
-      -- ---- the strings' records, and all of it
+        same-strings : stateOf work₁ strs₁ (m .state) .strings ≡ strings
+        same-strings = ap (λ (x : StrInterner). x .strings) (w .state)
 
-      same-strings : stateOf work₁ strs₁ (m .state) .strings ≡ g .1 .interner .strings
-      same-strings = ap (λ (x : StrInterner). x .strings) (w .state)
+        count : m .state .count ≡ length strings
+        count = sym (count-is work₁ strs₁ (m .state) (w .good)) ∙ ap length same-strings
 
-      abbrev strings : List (List ℕ)
-      strings = g .1 .interner .strings
+        -- the bytes of the strings stand from `base` on
+        strings-there : take (base + length (flatten strings)) strs₁ ≡ take base strs ++ flatten strings
+        strings-there =
+            let q = w .good in
+            let b = w .begins in
+            let x : take (m .state .used) strs₁ ≡ take base strs₁ ++ flatten strings = q .laid ∙ ap₂ (λ (n : ℕ) (l : List (List ℕ)). take n strs₁ ++ flatten l) b same-strings in
+            let n : base + length (flatten strings) ≡ m .state .used =
+            omega (arith, ap length x, length-append (take base strs₁) (flatten strings), length-take-le (m .state .used) strs₁ (q .fits), length-take-le base strs₁ (omega (arith, q .fits, q .begins, b)), q .begins, b) in
+            ap (λ (i : ℕ). take i strs₁) n ∙ x ∙ ap (λ (l : List ℕ). l ++ flatten strings) (w .kept)
 
-      -- the bytes of the strings stand from `base` on
-      strings-there : take (base + length (flatten strings)) strs₁ ≡ take base strs ++ flatten strings
-      strings-there =
-          let q = w .good in
-          let b = w .begins in
-          let x : take (m .state .used) strs₁ ≡ take base strs₁ ++ flatten strings = q .laid ∙ ap₂ (λ (n : ℕ) (l : List (List ℕ)). take n strs₁ ++ flatten l) b same-strings in
-          let n : base + length (flatten strings) ≡ m .state .used =
-          omega (arith, ap length x, length-append (take base strs₁) (flatten strings), length-take-le (m .state .used) strs₁ (q .fits), length-take-le base strs₁ (omega (arith, q .fits, q .begins, b))) in
-          ap (λ (i : ℕ). take i strs₁) n ∙ x ∙ ap (λ (l : List ℕ). l ++ flatten strings) (w .kept)
+        one-run : out₁ ≡ overwrite out (at + 1) (recordsBytes contentCodec (g .1 .contents) ++ (recordsBytes segmentCodec (g .1 .segments) ++ recordsBytes nodeCodec (g .0)))
+        one-run =
+            w .wrote ∙ three-blocks out (at + 1) (recordsBytes contentCodec (g .1 .contents)) (recordsBytes segmentCodec (g .1 .segments)) (recordsBytes nodeCodec (g .0))
+            (omega (arith, z .contentBytes, z .segmentBytes, z .nodeBytes, k .contents, k .segments, e, f, h)) (at + 1 + 10 * s .contents) (at + len)
+            (omega (arith, z .contentBytes, k .contents)) (omega (arith, z .segmentBytes, k .contents, k .segments, e))
 
-      one-run : out₁ ≡ overwrite out (at + 1) (recordsBytes contentCodec (g .1 .contents) ++ (recordsBytes segmentCodec (g .1 .segments) ++ recordsBytes nodeCodec (g .0)))
-      one-run =
-          w .wrote ∙ three-blocks out (at + 1) (recordsBytes contentCodec (g .1 .contents)) (recordsBytes segmentCodec (g .1 .segments)) (recordsBytes nodeCodec (g .0))
-          (omega (arith, z .contentBytes, z .segmentBytes, z .nodeBytes, k .contents, k .segments, e, h)) (at + 1 + 10 * s .contents) nodesat
-          (omega (arith, z .contentBytes, k .contents)) (omega (arith, z .segmentBytes, k .contents, k .segments, e))
+        -- what `finish` asks
+        pub finish-room : length out₁ ≡ length out → Rising work₁ (m .state .count) × ((o .strings ≤ maxPool) × (m .state .count ≤ maxNewStrings) × (1 ≤ len) × (at + len + rest ≤ length out₁))
+        finish-room l = (good-rising (w .good), (small .strings, w .good .words .few, omega (arith, e), omega (arith, h, l)))
 
-      same-records : (xs ys zs us : List ℕ) → xs ++ (ys ++ (zs ++ us)) ≡ (xs ++ (ys ++ zs)) ++ us
-      same-records xs ys zs us = simp append-assoc
+        module _ {out₂ : List ℕ} {r : Layer} (l : length out₁ ≡ length out) (q : Finished work₁ (o .strings) at len rest m out₁ out₂ r) where
+          left : length out₁ - at - len - rest ≡ length out - (at + len + rest)
+          left = omega (arith, l)
 
-      module _ (n : ℕ) (f : n + 1 ≡ 1 + 10 * s .contents + 37 * s .segments + 49 * nodes) (x : (leb (o .strings + m .state .count) maxPool && leb (5 * m .state .count) (length out - (nodesat + 49 * nodes))) ≡ true) where
-        strings-fit : (o .strings + m .state .count ≤ maxPool) × (5 * m .state .count ≤ length out - (nodesat + 49 * nodes))
-        strings-fit =
-            let u = both (leb (o .strings + m .state .count) maxPool) (leb (5 * m .state .count) (length out - (nodesat + 49 * nodes))) x in
-            (leb-true (o .strings + m .state .count) maxPool (u .0), leb-true (5 * m .state .count) (length out - (nodesat + 49 * nodes)) (u .1))
+          fit : r .ok ≡ true → (o .strings + m .state .count ≤ maxPool) × (5 * m .state .count ≤ length out - (at + len + rest))
+          fit x = rw left at (strings-room (o .strings) (m .state .count) (length out₁ - at - len - rest) (q .ok) x)
 
-        pub lay-out-rising : Rising work₁ (m .state .count)
-        lay-out-rising = good-rising (w .good)
-
-        pub lay-out-room : (at + 1 + n + 5 * m .state .count ≤ length out) × (m .state .count ≤ maxNewStrings)
-        lay-out-room = (omega (arith, f, e, h, strings-fit .1), w .good .words .few)
-
-        module _ {out₂ : List ℕ} (l : out₂ ≡ overwrite out₁ at (2 ∷ (recordsBytes stringCodec (newLengths work₁ (m .state .count)) ++ take n (drop (at + 1) out₁)))) where
-          all-written : out₂ ≡ overwrite out at (layerRecords g)
+          all-written : r .ok ≡ true → out₂ ≡ overwrite out at (layerRecords g)
           unfolding layerRecords layerBytes layerOf
-          all-written =
+          all-written x =
               let rs = recordsBytes stringCodec (map length strings) in
               let cs = recordsBytes contentCodec (g .1 .contents) in
               let ss = recordsBytes segmentCodec (g .1 .segments) in
               let ns = recordsBytes nodeCodec (g .0) in
-              let r : recordsBytes stringCodec (newLengths work₁ (m .state .count)) ≡ rs = ap (recordsBytes stringCodec) (sym (string-lengths (w .good)) ∙ ap (map length) same-strings) in
-              let q : length rs ≡ 5 * m .state .count = ap length (sym r) ∙ lengths-width work₁ (m .state .count) in
-              let y : length (cs ++ (ss ++ ns)) ≡ n = omega (arith, length-append cs (ss ++ ns), length-append ss ns, z .contentBytes, z .segmentBytes, z .nodeBytes, k .contents, k .segments, f) in
-              moved-written out at rs (cs ++ (ss ++ ns)) (omega (arith, q, y, f, e, h, strings-fit .1)) n 2 (sym y) one-run (l ∙ ap (λ (b : List ℕ). overwrite out₁ at (2 ∷ (b ++ take n (drop (at + 1) out₁)))) r)
-              ∙ ap (λ (b : List ℕ). overwrite out at (2 ∷ b)) (same-records rs cs ss ns)
+              let b : recordsBytes stringCodec (newLengths work₁ (m .state .count)) ≡ rs = ap (recordsBytes stringCodec) (sym (string-lengths (w .good)) ∙ ap (map length) same-strings) in
+              let c : length rs ≡ 5 * m .state .count = ap length (sym b) ∙ lengths-width work₁ (m .state .count) in
+              let y : length (cs ++ (ss ++ ns)) ≡ len - 1 + rest = omega (arith, length-append cs (ss ++ ns), length-append ss ns, z .contentBytes, z .segmentBytes, z .nodeBytes, k .contents, k .segments, e, f) in
+              moved-written out at rs (cs ++ (ss ++ ns)) (omega (arith, c, y, e, h, fit x .1)) (len - 1 + rest) 2 (sym y) one-run
+              (q .wrote x ∙ ap (λ (v : List ℕ). overwrite out₁ at (2 ∷ (v ++ take (len - 1 + rest) (drop (at + 1) out₁)))) b)
+              ∙ ap (λ (v : List ℕ). overwrite out at (2 ∷ v)) (same-records rs cs ss ns)
 
-          pub layer-told : (hasRoom (length strs) base (g .1 .interner) ≡ true) → {r : Layer} (len : ℕ) → len ≡ 1 + 10 * s .contents + 37 * s .segments + 5 * m .state .count → r ≡ layerBy m len → Told out₂ strs₁ r
+          strings-full : r .ok ≡ false → Fits → ⊥
+          strings-full x y = true≢false (
+              sym (rw (le-leb (o .strings + m .state .count) maxPool (omega (arith, y .strings, count)), le-leb (5 * m .state .count) (length out₁ - at - len - rest) (omega (arith, left, y .tape, z .bytes, e, f, k .contents, k .segments, count))) refl)
+              ∙ sym (q .ok) ∙ x)
+
+          layer-fits : hasRoom (length strs) base (g .1 .interner) ≡ true → r .ok ≡ true → Fits
           unfolding hasRoom
-          layer-told room {r} len q i =
+          layer-fits room x =
               let u = both (leb (length strings) maxNewStrings) (leb (base + length (flatten strings)) (length strs)) room in
-              let c = strings-count in
               record {
-                ok = ap (λ (v : Layer). v .ok) i ∙ layer-ok (length out) (length strs) at base o g (record {
-                  few = leb-true (length strings) maxNewStrings (u .0);
-                  strings = omega (arith, c, strings-fit .0);
-                  contents = omega (arith, z .contents, k .contentsFit, small .contents);
-                  segments = omega (arith, z .segments, k .segmentsFit, small .segments);
-                  tape = omega (arith, z .bytes, c, strings-fit .1, k .contents, k .segments, e, h);
-                  bytes = leb-true (base + length (flatten strings)) (length strs) (u .1);
-                });
-                made = λ _. record {
-                  wrote = all-written;
-                  bytes = strings-there;
-                  len = ap (λ (v : Layer). v .len) i ∙ omega (arith, q, z .layer, c, k .contents, k .segments);
-                  strings = ap (λ (v : Layer). v .strings) i ∙ c;
-                  contents = ap (λ (v : Layer). v .contents) i ∙ w .contents;
-                  segments = ap (λ (v : Layer). v .segments) i ∙ w .segments;
-                  stats = ap (λ (v : Layer). statsOf (v .state .stats)) i ∙ ap (λ (v : StrInterner). v .stats) (w .state);
-                };
+                few = leb-true (length strings) maxNewStrings (u .0);
+                strings = omega (arith, count, fit x .0);
+                contents = omega (arith, z .contents, k .contentsFit, small .contents);
+                segments = omega (arith, z .segments, k .segmentsFit, small .segments);
+                tape = omega (arith, z .bytes, count, fit x .1, k .contents, k .segments, e, f, h);
+                bytes = leb-true (base + length (flatten strings)) (length strs) (u .1);
               }
+
+          layer-made : r .ok ≡ true → LayerMade out strs out₂ strs₁ at base r g
+          layer-made x =
+              let i = q .is x in
+              record {
+                wrote = all-written x;
+                bytes = strings-there;
+                len = ap (λ (v : Layer). v .len) i ∙ omega (arith, e, z .layer, count, k .contents, k .segments);
+                strings = ap (λ (v : Layer). v .strings) i ∙ count;
+                contents = ap (λ (v : Layer). v .contents) i ∙ w .contents;
+                segments = ap (λ (v : Layer). v .segments) i ∙ w .segments;
+                stats = ap (λ (v : Layer). statsOf (v .state .stats)) i ∙ ap (λ (v : StrInterner). v .stats) (w .state);
+              }
+
+          -- the walk is done, and `finish` has answered
+          pub layer-told : hasRoom (length strs) base (g .1 .interner) ≡ true → Told out₂ strs₁ r
+          layer-told room =
+              by-bool (r .ok)
+              (λ x. record { ok = x ∙ layer-ok (length out) (length strs) at base o g (layer-fits room x); made = layer-made })
+              (λ x. none-fits x (strings-full x))

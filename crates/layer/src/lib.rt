@@ -8,7 +8,7 @@ ghost use mathlib.Core.List.{_∷_, _++_};
 ghost use Prim.Native.Nat.{ℕ, _+_, _-_, _*_, _^_, _≤_, _<_};
 ghost use lib.Dec.{leb};
 ghost use lib.ListN.{length, getD, take, drop};
-ghost use Rattle.model.specs.Limits.{maxPool, maxNewStrings, minWorkWords};
+ghost use Rattle.model.specs.Limits.{maxPool, maxList, maxNewStrings, minWorkWords};
 ghost use Rattle.model.specs.Tape.{recordBytes, recordsBytes, stringCodec};
 ghost use Rattle.wire.specs.Overwrite.{overwrite};
 ghost use Rattle.layer.specs.Lengths.{newLength, newLengths, Rising};
@@ -18,7 +18,7 @@ ghost use Rattle.graft.specs.Walk.{indexWords};
 ghost use Rattle.layer.specs.Source.{SourceFits};
 ghost use Rattle.layer.specs.Layered.{OffsetsFit, roomLeft, layerBy, planOf, sourceAdds, graftedInto};
 ghost use Rattle.layer.specs.Walked.{offsetsOf, WalkRoom, Walked};
-ghost use Rattle.layer.specs.Answers.{Finished};
+ghost use Rattle.layer.specs.Answers.{Finished, Exact, LayerTold};
 
 const MAX_POOL: usize = 1048575;
 
@@ -118,6 +118,14 @@ fn layer_length(contents: u32, segments: u32) -> usize
     ensures { λ r. ⌜ r ≡ 1 + 10 * contents + 37 * segments ⌝ }
 {
     1 + 10 * (contents as usize) + 37 * (segments as usize)
+}
+
+// The bytes of the source's nodes.
+fn nodes_length(p: places::Places) -> usize
+    requires { ⌜ p .nodes .count ≤ maxList ⌝ }
+    ensures { λ r. ⌜ r ≡ 49 * p .nodes .count ⌝ }
+{
+    49 * p.nodes.count
 }
 
 // Number 18. Whether so many strings have room in their pool, and their records in `left` bytes.
@@ -257,4 +265,35 @@ fn finish(out: &mut [u8], work: &[u32], below: u32, at: usize, len: usize, rest:
     }
     lay_out(out, work, at, len - 1 + rest, count);
     layer_of(m, len + 5 * count)
+}
+
+// The same where the sizes are known.
+fn graft_sized(
+    tape: &[u8],
+    bytes: &[u8],
+    p: places::Places,
+    st: store::Store,
+    out: &mut [u8],
+    work: &mut [u32],
+    strs: &mut [u8],
+    o: Offsets,
+    at: usize,
+    base: usize,
+    s: sizes::Sizes,
+) -> Layer
+    requires { ⌜ SourceFits (now tape) (now bytes) p st × OffsetsFit o × Exact (roomLeft o) (sourceAdds (now tape) (now bytes)) s ⌝ }
+    requires { ⌜ (minWorkWords ≤ length (now work)) × (base ≤ length (now strs)) × (length (now strs) < 2 ^ 32) × (at ≤ length (now out)) ⌝ }
+    ensures { λ r. ⌜ LayerTold (now (out .entry)) (now (strs .entry)) (now (out .exit)) (now (strs .exit)) at base o r (graftedInto (now (tape .entry)) (now (bytes .entry)) o) ⌝ }
+{
+    let len = layer_length(s.contents, s.segments);
+    let rest = nodes_length(p);
+    if out.len() - at < len + rest {
+        return refused();
+    }
+    let plan = plan_of(o, at, s.contents);
+    let m = walk(tape, bytes, p, st, out, work, strs, plan, base, at + len);
+    if !m.ok {
+        return refused();
+    }
+    finish(out, work, o.strings, at, len, rest, m)
 }
