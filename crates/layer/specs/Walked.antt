@@ -14,6 +14,7 @@ use Rattle.model.specs.Graft.{NewLayer, With, graftNodeRefs}
 use Rattle.wire.specs.Overwrite.{overwrite}
 use Rattle.places.specs.declared.Places.{Places}
 use Rattle.store.specs.declared.Store.{Store}
+use Rattle.store.specs.Lengths.{book-lengths}
 use Rattle.strings.specs.Starts.{lengthsIn}
 use Rattle.strings.specs.Index.{indexIn, Indexed, index-length, index-written}
 use Rattle.interner.specs.declared.StrInterner.{StrInterner as Interner}
@@ -30,7 +31,7 @@ use Rattle.graft.specs.NodeItems.{NodesTold, refsFrom}
 use Rattle.graft.specs.NodeLoop.{shownOf}
 use Rattle.layer.specs.declared.Offsets.{Offsets}
 use Rattle.layer.specs.Source.{SourceFits, source-of, source-adds, source-shown}
-use Rattle.layer.specs.Layered.{newLayer, graftedInto, sourceAdds}
+use Rattle.layer.specs.Layered.{newLayer, graftedInto, sourceAdds, planOf, LayerSizes, layer-sizes}
 
 abbrev pub offsetsOf : Plan → Offsets
 offsetsOf p = record { strings = p .strings; contents = p .contents; segments = p .segments }
@@ -138,3 +139,12 @@ module _ {t d : List ℕ} {q : Places} {st : Store} (f : SourceFits t d q st) {w
     pub walk-told : NodesTold p (freshMark s) nodesat out work strs out′ work′ strs′ r (refsFrom p work strs (freshMark s) (shownOf t d (recordsAt nodeCodec t (q .nodes .at) (q .nodes .count))))
         → Walked p base nodesat out strs out′ work′ strs′ r (graftedInto t d (offsetsOf p))
     walk-told k = from-here (rw same-graft at k)
+
+-- by the plan of a layer from `at` on
+pub walked-by : (t d : List ℕ) (o : Offsets) (at contents : ℕ) {p : Plan} {base nodesat : ℕ} {out strs out′ work′ strs′ : List ℕ} {r : Mark} → p ≡ planOf o at contents
+    → Walked p base nodesat out strs out′ work′ strs′ r (graftedInto t d (offsetsOf p)) → Walked (planOf o at contents) base nodesat out strs out′ work′ strs′ r (graftedInto t d o)
+walked-by t d o at contents {base = base} {nodesat = n} {out = out} {strs = strs} {out′ = out′} {work′ = work′} {strs′ = strs′} {r = r} e w =
+    subst (λ (q : Plan). Walked q base n out strs out′ work′ strs′ r (graftedInto t d (offsetsOf q))) e w
+
+pub source-sizes : {t d : List ℕ} {q : Places} {st : Store} → SourceFits t d q st → (o : Offsets) → LayerSizes (graftedInto t d o) (sourceAdds t d) (q .nodes .count)
+source-sizes {t} {d} {q} f o = layer-sizes t d o (book-lengths t d q (f .accepted .framing) (f .is) .nodes)
