@@ -8,7 +8,7 @@ use lib.ListN.{length, take, drop, length-append}
 use lib.Dec.{leb}
 use lib.Seq.{length-take-le}
 use borrow.Author.Tests.{le-leb, leb-true}
-use Rattle.model.specs.Limits.{maxPool, maxNewStrings}
+use Rattle.model.specs.Limits.{maxPool, maxList, maxNewStrings}
 use Rattle.model.specs.Intern.{StrInterner}
 use Rattle.model.specs.Types.{SourceNode}
 use Rattle.model.specs.Tape.{recordsBytes, stringCodec, contentCodec, segmentCodec, nodeCodec, layerBytes}
@@ -22,6 +22,7 @@ use Rattle.sizes.specs.declared.Room.{Room}
 use Rattle.sizes.specs.declared.Sizes.{Sizes}
 use Rattle.sizes.specs.Added.{Added}
 use Rattle.sizes.specs.Capped.{fits, fits-room, sizesIn}
+use Rattle.sizes.specs.Calls.{Limited}
 use Rattle.graft.specs.declared.Mark.{Mark}
 use Rattle.graft.specs.Grafted.{Sized}
 use Rattle.layer.specs.declared.Offsets.{Offsets}
@@ -103,6 +104,13 @@ module _ (m : Room) (a : Added) {s : Sizes} (e : s ≡ sizesIn m a) where
         contentsFit = r .0;
         segmentsFit = r .1;
       }
+
+-- as `reading_sizes` answers in the room that is left
+pub left-sizes : (o : Offsets) (a : Added) {m : Room} {s : Sizes} → m ≡ roomLeft o → s ≡ sizesIn m a → s ≡ sizesIn (roomLeft o) a
+left-sizes o a {m} e f = f ∙ ap (λ (x : Room). sizesIn x a) e
+
+pub left-limited : {m : Room} (o : Offsets) {nodes : ℕ} → m ≡ roomLeft o → nodes ≤ maxList → Limited m nodes
+left-limited o e h = record { contents = omega (arith, ap (λ (x : Room). x .contents) e); segments = omega (arith, ap (λ (x : Room). x .segments) e); few = h }
 
 -- ---- refusals
 

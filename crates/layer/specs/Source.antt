@@ -6,7 +6,7 @@ use mathlib.Core.Bool.{true}
 use mathlib.Core.List.{List}
 use lib.ListN.{length, drop}
 use Rattle.model.specs.Lists.{all}
-use Rattle.model.specs.Limits.{maxPool, maxList}
+use Rattle.model.specs.Limits.{maxList}
 use Rattle.model.specs.Bytes.{wordAt}
 use Rattle.model.specs.Tape.{recordsAt, nodeCodec, places, bookAt}
 use Rattle.model.specs.Tree.{shownNodes}
@@ -24,11 +24,9 @@ use Rattle.ids.specs.Whole.{IdsFit, idsIn, layersIn, ids-are, content-ok, segme
 use Rattle.tape.specs.Accepted.{Accepted, accepted-places, accepted-store}
 use Rattle.tape.specs.Placed.{fit-nodes}
 use Rattle.tape.specs.Numbers.{store-few, pools-ids, pools-levels}
-use Rattle.sizes.specs.declared.Room.{Room}
 use Rattle.sizes.specs.InPlace.{nodesAdd}
 use Rattle.sizes.specs.Trees.{nodesSize}
 use Rattle.sizes.specs.Shown.{shown-nodes-add}
-use Rattle.sizes.specs.Calls.{Limited}
 use Rattle.graft.specs.Walk.{Source}
 use Rattle.graft.specs.NodeLoop.{shownOf, shown-map}
 
@@ -87,9 +85,6 @@ module _ {t d : List ℕ} {p : Places} {st : Store} (f : SourceFits t d p st) wh
       }
 
   -- ---- what the code asks
-
-  pub source-limited : {m : Room} → m .contents ≤ maxPool → m .segments ≤ maxPool → Limited m (p .nodes .count)
-  source-limited h k = record { contents = h; segments = k; few = source-few }
 
   pub source-readable : length d < 2 ^ 63 → Readable t st (length d)
   source-readable h = readable t d (f .accepted .framing) st (f .stored) (store-few (accepted-places (f .accepted) (f .is)) (accepted-store (f .accepted) (f .is)) (f .stored)) h

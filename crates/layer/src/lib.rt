@@ -267,7 +267,7 @@ fn finish(out: &mut [u8], work: &[u32], below: u32, at: usize, len: usize, rest:
     layer_of(m, len + 5 * count)
 }
 
-// The same where the sizes are known.
+// `graft_layer` where the sizes are known.
 fn graft_sized(
     tape: &[u8],
     bytes: &[u8],
@@ -296,4 +296,30 @@ fn graft_sized(
         return refused();
     }
     finish(out, work, o.strings, at, len, rest, m)
+}
+
+// Sections 3 and 5. The nodes of a source that passed 1 to 7, grafted into one new layer above layers of these counts: the layer's
+// records from `at` on in `out`, the nodes' behind them, the strings' bytes from `base` on in `strs`. Not ok where number 18, or
+// number 3 of a pool, forbids it.
+pub fn graft_layer(
+    tape: &[u8],
+    bytes: &[u8],
+    p: places::Places,
+    st: store::Store,
+    out: &mut [u8],
+    work: &mut [u32],
+    strs: &mut [u8],
+    o: Offsets,
+    at: usize,
+    base: usize,
+) -> Layer
+    requires { ⌜ SourceFits (now tape) (now bytes) p st × OffsetsFit o ⌝ }
+    requires { ⌜ (minWorkWords ≤ length (now work)) × (base ≤ length (now strs)) × (length (now strs) < 2 ^ 32) × (at ≤ length (now out)) ⌝ }
+    ensures { λ r. ⌜ LayerTold (now (out .entry)) (now (strs .entry)) (now (out .exit)) (now (strs .exit)) at base o r (graftedInto (now (tape .entry)) (now (bytes .entry)) o) ⌝ }
+{
+    let s = sizes::reading_sizes(tape, st, p, room_left(o));
+    if s.over {
+        return refused();
+    }
+    graft_sized(tape, bytes, p, st, out, work, strs, o, at, base, s)
 }
