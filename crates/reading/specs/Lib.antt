@@ -1,2 +1,4 @@
 pub mod Text
 pub mod Balance
+pub mod Until
+pub mod Window

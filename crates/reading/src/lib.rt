@@ -8,9 +8,12 @@ ghost use Rattle.model.specs.Lists.{any, same as sameBytes};
 ghost use Rattle.model.specs.Bytes.{part};
 ghost use Rattle.model.specs.Tape.{recordAt, recordsAt, nodeCodec, diagnosticCodec};
 ghost use Rattle.model.specs.Region.{edited, behindEdit};
-ghost use Rattle.model.specs.Merge.{balancedNodes, isUnclosed};
+ghost use Rattle.model.specs.Merge.{balancedNodes, isUnclosed, normalizedOffset};
+ghost use Rattle.reading.specs.Window.{endsOnBoundaries};
+ghost use Rattle.bounds.specs.Search.{InOrder};
 ghost use Rattle.edit.specs.Numbers.{editOf};
 ghost use Rattle.reading.specs.Balance.{closesUnopened};
+ghost use Rattle.reading.specs.Until.{Until};
 
 // Number 12. The reading's text is the text of the new region; `from` to `to` is the region in the old text.
 pub fn is_region_text(
@@ -100,4 +103,61 @@ pub fn has_unclosed(tape: &[u8], at: usize, count: usize) -> bool
         i += 1;
     }
     false
+}
+
+// How many nodes end at or before an offset: they are the first ones.
+pub fn nodes_until(tape: &[u8], at: usize, count: usize, offset: u32) -> usize
+    requires { ⌜ at + 49 * count ≤ length (now tape) ⌝ }
+    requires { ⌜ InOrder (recordsAt nodeCodec (now tape) at count) ⌝ }
+    ensures { λ r. ⌜ Until (now (tape .entry)) at count offset r ⌝ }
+{
+    let mut i = 0;
+    while i < count {
+        if offset < records::node_end(tape, at + 49 * i) {
+            return i;
+        }
+        i += 1;
+    }
+    i
+}
+
+// An offset and the drift of the nodes before it.
+fn drifted(offset: u32, images: u64, spans: u64) -> usize
+    requires { ⌜ (images < 9223372036854775808) × (spans < 9223372036854775808) ⌝ }
+    ensures { λ r. ⌜ r ≡ offset + images - spans ⌝ }
+{
+    let place = offset as u64 + images;
+    if place <= spans {
+        return 0;
+    }
+    (place - spans) as usize
+}
+
+// `normalized_offset`: the place of a source offset in the normalized text.
+pub fn normalized_offset(tape: &[u8], at: usize, count: usize, offset: u32) -> usize
+    requires { ⌜ at + 49 * count ≤ length (now tape) ⌝ }
+    requires { ⌜ InOrder (recordsAt nodeCodec (now tape) at count) ⌝ }
+    ensures { λ r. ⌜ r ≡ normalizedOffset (recordsAt nodeCodec (now (tape .entry)) at count) offset ⌝ }
+{
+    let n = nodes_until(tape, at, count, offset);
+    let mut images: u64 = 0;
+    let mut spans: u64 = 0;
+    let mut i = 0;
+    while i < n {
+        let p = at + 49 * i;
+        images += bounds::image_length(tape, p);
+        spans += bounds::span_length(tape, p);
+        i += 1;
+    }
+    drifted(offset, images, spans)
+}
+
+// Number 16. No cut falls inside a normalized character.
+pub fn cuts_ok(normalized: &[u8], start: usize, end: usize) -> bool
+    ensures { λ r. ⌜ r ≡ endsOnBoundaries (now (normalized .entry)) start end ⌝ }
+{
+    if !utf8::is_char_boundary(normalized, start) {
+        return false;
+    }
+    utf8::is_char_boundary(normalized, end)
 }

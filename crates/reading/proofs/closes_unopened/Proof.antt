@@ -1,3 +1,4 @@
+use Rattle.reading.specs.Balance.{unopened-block, unopened-warichu}
 use borrow.Author.Needs.{needs}
 use Rattle.reading.proofs.closes_unopened.Statement.{statement}
 use Rattle.reading.proofs.closes_unopened.Tie as tie
@@ -17,7 +18,7 @@ closes-nothing-requires c κs = search needs
 
 -- src/lib.rt:55:9
 returns : tie.Need-returns
-returns c = ?
+returns c = unopened-block _ _ _ (c .before .before .is-block-close .ensures) (c .before .closes-nothing .ensures) (c .if1 .taken)
 
 -- src/lib.rt:57:26
 is-warichu-close-requires : tie.Need-is-warichu-close-requires
@@ -29,7 +30,7 @@ closes-nothing-requires-2 c κs = search needs
 
 -- src/lib.rt:50:1
 returns-2 : tie.Need-returns-2
-returns-2 c = ?
+returns-2 c = unopened-warichu _ _ _ (c .before .before .before .before .is-block-close .ensures) (c .before .before .before .closes-nothing .ensures) (c .before .before .if1 .left) (c .before .is-warichu-close .ensures) (c .closes-nothing2 .ensures)
 
 pub closes-unopened-spec : {M : Type 1} → statement M
 closes-unopened-spec =
