@@ -1,0 +1,183 @@
+// Number 15, document 01 section 7: `introduces_ruby_format_dependency`. A Ruby of the reading and a Referenced Format behind the region, or
+// a Referenced Format of the reading whose target is the base of a Ruby before the region. The bases before the region go into a Bloom
+// filter, so that a target that is no base seldom has to be compared: one walk over each book's nodes. The lent words have three parts:
+// an index of the old book's strings, the filter, an index of the reading's strings. Any number of words will do, also none.
+use strings::Plain;
+ghost use mathlib.Core.Path.{_≡_};
+ghost use mathlib.Core.List.{_++_};
+ghost use Prim.Native.Nat.{_+_, _-_, _*_, _≤_, _<_};
+ghost use lib.ListN.{length};
+ghost use Rattle.model.specs.Lists.{any, keep};
+ghost use Rattle.model.specs.Tape.{recordAt, recordsAt, nodeCodec};
+ghost use Rattle.model.specs.Region.{isRuby, isReferencedFormat};
+ghost use Rattle.laws.specs.Nodes.{endsBy, startsAt};
+ghost use Rattle.strings.specs.Starts.{storeIn};
+ghost use Rattle.strings.specs.Shown.{Resolvable};
+ghost use Rattle.strings.specs.PlainContent.{plainString};
+ghost use Rattle.dependency.specs.Bases.{amongBases};
+ghost use Rattle.dependency.specs.Sound.{Sound, SoundNode, PlainIn};
+ghost use Rattle.dependency.specs.Noted.{firstWords, Noted};
+ghost use Rattle.introduces.specs.Linked.{formatFrom, refersTo};
+
+fn any_ruby(tape: &[u8], at: usize, count: usize) -> bool
+    requires { ⌜ at + 49 * count ≤ length (now tape) ⌝ }
+    ensures { λ r. ⌜ r ≡ any isRuby (recordsAt nodeCodec (now (tape .entry)) at count) ⌝ }
+{
+    let mut i = 0;
+    while i < count {
+        if dependency::is_ruby(tape, at + 49 * i) {
+            return true;
+        }
+        i += 1;
+    }
+    false
+}
+
+fn is_format_from(tape: &[u8], at: usize, from: u32) -> bool
+    requires { ⌜ at + 49 ≤ length (now tape) ⌝ }
+    ensures { λ r. ⌜ r ≡ formatFrom from (recordAt nodeCodec (now (tape .entry)) at) ⌝ }
+{
+    if !dependency::is_referenced_format(tape, at) {
+        return false;
+    }
+    from <= records::node_start(tape, at)
+}
+
+// A Referenced Format that starts at or behind an offset.
+fn any_format_from(tape: &[u8], at: usize, count: usize, from: u32) -> bool
+    requires { ⌜ at + 49 * count ≤ length (now tape) ⌝ }
+    ensures { λ r. ⌜ r ≡ any isReferencedFormat (keep (startsAt from) (recordsAt nodeCodec (now (tape .entry)) at count)) ⌝ }
+{
+    let mut i = 0;
+    while i < count {
+        if is_format_from(tape, at + 49 * i, from) {
+            return true;
+        }
+        i += 1;
+    }
+    false
+}
+
+// The bases of the Rubies among these nodes, inserted. The words before `base` are kept.
+fn note_rubies<'a>(
+    tape: &[u8],
+    st: store::Store,
+    words: &mut [u32],
+    base: usize,
+    old: &'a [u8],
+    new: &'a [u8],
+    at: usize,
+    count: usize,
+)
+    requires { ⌜ Sound (now tape) st (firstWords base (now words)) (now old) (now new) at count ⌝ }
+    requires { ⌜ base ≤ length (now words) ⌝ }
+    ensures { λ _. ⌜ (firstWords base (now (words .exit)) ≡ firstWords base (now (words .entry))) × Noted (storeIn (now (tape .entry)) (now (old .entry) ++ now (new .entry))) (recordsAt nodeCodec (now (tape .entry)) at count) (now (words .exit)) base ⌝ }
+{
+    let mut i = 0;
+    while i < count {
+        dependency::note_ruby(tape, st, words, base, old, new, at + 49 * i);
+        i += 1;
+    }
+}
+
+// Is a string of the reading the base of a Ruby among the old nodes? `words` have the old index and the filter, `index` is the reading's.
+fn is_base_of<'a, 'b>(
+    tape: &[u8],
+    st: store::Store,
+    words: &[u32],
+    base: usize,
+    old: &'a [u8],
+    new: &'a [u8],
+    at: usize,
+    count: usize,
+    reading: &[u8],
+    own: store::Store,
+    index: &[u32],
+    front: &'b [u8],
+    back: &'b [u8],
+    p: Plain,
+) -> bool
+    requires { ⌜ Sound (now tape) st (firstWords base (now words)) (now old) (now new) at count ⌝ }
+    requires { ⌜ base ≤ length (now words) ⌝ }
+    requires { ⌜ Noted (storeIn (now tape) (now old ++ now new)) (recordsAt nodeCodec (now tape) at count) (now words) base ⌝ }
+    requires { ⌜ Resolvable (now reading) own (now index) (now front) (now back) ⌝ }
+    requires { ⌜ PlainIn own p ⌝ }
+    ensures { λ r. ⌜ r ≡ amongBases (storeIn (now (tape .entry)) (now (old .entry) ++ now (new .entry))) (recordsAt nodeCodec (now (tape .entry)) at count) (plainString (storeIn (now (reading .entry)) (now (front .entry) ++ now (back .entry))) p) ⌝ }
+{
+    match p {
+        Plain::Id(id) => {
+            let s = strings::resolve_str(reading, own, index, front, back, id);
+            return dependency::is_filtered_base(tape, st, words, base, old, new, at, count, s);
+        }
+        Plain::Nothing => {
+            return false;
+        }
+    }
+}
+
+// A Referenced Format of the reading whose target is the base of a Ruby among the old nodes.
+fn refers_to<'a, 'b>(
+    tape: &[u8],
+    st: store::Store,
+    words: &[u32],
+    base: usize,
+    old: &'a [u8],
+    new: &'a [u8],
+    at: usize,
+    count: usize,
+    reading: &[u8],
+    own: store::Store,
+    index: &[u32],
+    front: &'b [u8],
+    back: &'b [u8],
+    place: usize,
+) -> bool
+    requires { ⌜ Sound (now tape) st (firstWords base (now words)) (now old) (now new) at count ⌝ }
+    requires { ⌜ base ≤ length (now words) ⌝ }
+    requires { ⌜ Noted (storeIn (now tape) (now old ++ now new)) (recordsAt nodeCodec (now tape) at count) (now words) base ⌝ }
+    requires { ⌜ SoundNode (now reading) own (now index) (now front) (now back) place ⌝ }
+    ensures { λ r. ⌜ r ≡ refersTo (storeIn (now (tape .entry)) (now (old .entry) ++ now (new .entry))) (recordsAt nodeCodec (now (tape .entry)) at count) (storeIn (now (reading .entry)) (now (front .entry) ++ now (back .entry))) (recordAt nodeCodec (now (reading .entry)) place) ⌝ }
+{
+    if !dependency::is_referenced_format(reading, place) {
+        return false;
+    }
+    let p = dependency::first_plain(reading, own, place);
+    is_base_of(
+        tape, st, words, base, old, new, at, count, reading, own, index, front, back, p,
+    )
+}
+
+fn any_refers_to<'a, 'b>(
+    tape: &[u8],
+    st: store::Store,
+    words: &[u32],
+    base: usize,
+    old: &'a [u8],
+    new: &'a [u8],
+    at: usize,
+    count: usize,
+    reading: &[u8],
+    own: store::Store,
+    index: &[u32],
+    front: &'b [u8],
+    back: &'b [u8],
+    place: usize,
+    nodes: usize,
+) -> bool
+    requires { ⌜ Sound (now tape) st (firstWords base (now words)) (now old) (now new) at count ⌝ }
+    requires { ⌜ base ≤ length (now words) ⌝ }
+    requires { ⌜ Noted (storeIn (now tape) (now old ++ now new)) (recordsAt nodeCodec (now tape) at count) (now words) base ⌝ }
+    requires { ⌜ Sound (now reading) own (now index) (now front) (now back) place nodes ⌝ }
+    ensures { λ r. ⌜ r ≡ any (refersTo (storeIn (now (tape .entry)) (now (old .entry) ++ now (new .entry))) (recordsAt nodeCodec (now (tape .entry)) at count) (storeIn (now (reading .entry)) (now (front .entry) ++ now (back .entry)))) (recordsAt nodeCodec (now (reading .entry)) place nodes) ⌝ }
+{
+    let mut i = 0;
+    while i < nodes {
+        if refers_to(
+            tape, st, words, base, old, new, at, count, reading, own, index, front, back, place + 49 * i,
+        ) {
+            return true;
+        }
+        i += 1;
+    }
+    false
+}
