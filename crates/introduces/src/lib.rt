@@ -11,13 +11,14 @@ ghost use Rattle.model.specs.Lists.{any, keep};
 ghost use Rattle.model.specs.Tape.{recordAt, recordsAt, nodeCodec};
 ghost use Rattle.model.specs.Region.{isRuby, isReferencedFormat};
 ghost use Rattle.laws.specs.Nodes.{endsBy, startsAt};
-ghost use Rattle.strings.specs.Starts.{storeIn};
+ghost use Rattle.strings.specs.Starts.{storeIn, lengthsIn, Readable};
 ghost use Rattle.strings.specs.Shown.{Resolvable};
 ghost use Rattle.strings.specs.PlainContent.{plainString};
 ghost use Rattle.dependency.specs.Bases.{amongBases};
 ghost use Rattle.dependency.specs.Sound.{Sound, SoundNode, PlainIn};
 ghost use Rattle.dependency.specs.Noted.{firstWords, Noted};
 ghost use Rattle.introduces.specs.Linked.{formatFrom, refersTo};
+ghost use Rattle.introduces.specs.Words.{lastWords, BothIndexed};
 
 fn any_ruby(tape: &[u8], at: usize, count: usize) -> bool
     requires { ⌜ at + 49 * count ≤ length (now tape) ⌝ }
@@ -180,4 +181,69 @@ fn any_refers_to<'a, 'b>(
         i += 1;
     }
     false
+}
+
+// An index of the old book's strings in the words before `base`, zeros up to `middle`, an index of the reading's strings behind it.
+fn index_both(
+    tape: &[u8],
+    st: store::Store,
+    room: usize,
+    reading: &[u8],
+    own: store::Store,
+    space: usize,
+    words: &mut [u32],
+    base: usize,
+    middle: usize,
+)
+    requires { ⌜ Readable (now tape) st room ⌝ }
+    requires { ⌜ Readable (now reading) own space ⌝ }
+    requires { ⌜ (base ≤ middle) × (middle ≤ length (now words)) ⌝ }
+    ensures { λ _. ⌜ BothIndexed (lengthsIn (now (tape .entry))) (lengthsIn (now (reading .entry))) (now (words .exit)) base middle ⌝ }
+{
+    let end = words.len();
+    region::index_words(tape, st, room, &mut words[0..middle], base);
+    strings::index_strings(reading, own, space, &mut words[middle..end]);
+}
+
+// A Referenced Format of the reading whose target is the base of a Ruby among the old nodes, by words that have both indexes.
+fn refers_by_index<'a, 'b>(
+    tape: &[u8],
+    st: store::Store,
+    words: &mut [u32],
+    base: usize,
+    middle: usize,
+    old: &'a [u8],
+    new: &'a [u8],
+    at: usize,
+    count: usize,
+    reading: &[u8],
+    own: store::Store,
+    front: &'b [u8],
+    back: &'b [u8],
+    place: usize,
+    nodes: usize,
+) -> bool
+    requires { ⌜ (base ≤ middle) × (middle ≤ length (now words)) ⌝ }
+    requires { ⌜ Sound (now tape) st (firstWords base (firstWords middle (now words))) (now old) (now new) at count ⌝ }
+    requires { ⌜ Sound (now reading) own (lastWords middle (now words)) (now front) (now back) place nodes ⌝ }
+    ensures { λ r. ⌜ r ≡ any (refersTo (storeIn (now (tape .entry)) (now (old .entry) ++ now (new .entry))) (recordsAt nodeCodec (now (tape .entry)) at count) (storeIn (now (reading .entry)) (now (front .entry) ++ now (back .entry)))) (recordsAt nodeCodec (now (reading .entry)) place nodes) ⌝ }
+{
+    note_rubies(tape, st, &mut words[0..middle], base, old, new, at, count);
+    any_refers_to(
+        tape,
+        st,
+        &words[0..middle],
+        base,
+        old,
+        new,
+        at,
+        count,
+        reading,
+        own,
+        &words[middle..words.len()],
+        front,
+        back,
+        place,
+        nodes,
+    )
 }

@@ -95,7 +95,7 @@ pub fn chosen_region(
 }
 
 // An index of the book's strings in the words before `base`, zeros in the others.
-fn index_words(tape: &[u8], st: store::Store, room: usize, words: &mut [u32], base: usize)
+pub fn index_words(tape: &[u8], st: store::Store, room: usize, words: &mut [u32], base: usize)
     requires { ⌜ Readable (now tape) st room ⌝ }
     requires { ⌜ base ≤ length (now words) ⌝ }
     ensures { λ _. ⌜ now (words .exit) ≡ indexedWords (lengthsIn (now (tape .entry))) base (now (words .entry)) ⌝ }
