@@ -83,6 +83,19 @@ pub none-refers : (st : NodeStore) (earlier : List SourceNode) (own : NodeStore)
     → any (refersTo st earlier own) ns ≡ false
 none-refers st earlier own ns e = none-from-zero st earlier own ns (formats-from 0 ns ∙ e)
 
+-- a Ruby among the reading's nodes and a Referenced Format behind the region
+unfoldable pub rubyForLater : List SourceNode → List SourceNode → ℕ → Bool
+rubyForLater reading ns end = any isRuby reading && any isReferencedFormat (keep (startsAt end) ns)
+
+module _ (reading ns : List SourceNode) (end : ℕ) {x : Bool} (e : x ≡ any isRuby reading) where
+  pub later-none : x ≡ false → false ≡ rubyForLater reading ns end
+  unfolding rubyForLater
+  later-none h = rw (← e, h) refl
+
+  pub later-format : x ≡ true → {y : Bool} → y ≡ any isReferencedFormat (keep (startsAt end) ns) → y ≡ rubyForLater reading ns end
+  unfolding rubyForLater
+  later-format h f = f ∙ rw (← e, h) refl
+
 -- Number 15.
 pub introduces-is : (old : LexOutput) (reading : RegionOutput) (r : Span)
     → (any isRuby (reading .sourceNodes) && any isReferencedFormat (keep (startsAt (r .end)) (old .sourceNodes)))

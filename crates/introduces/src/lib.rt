@@ -8,17 +8,22 @@ ghost use mathlib.Core.List.{_++_};
 ghost use Prim.Native.Nat.{_+_, _-_, _*_, _≤_, _<_};
 ghost use lib.ListN.{length};
 ghost use Rattle.model.specs.Lists.{any, keep};
-ghost use Rattle.model.specs.Tape.{recordAt, recordsAt, nodeCodec};
+ghost use Rattle.model.specs.Tape.{recordAt, recordsAt, nodeCodec, places as placesIn, bookAt};
+ghost use Rattle.model.specs.Store.{storeOf};
 ghost use Rattle.model.specs.Region.{isRuby, isReferencedFormat};
+ghost use Rattle.model.specs.Merge.{introducesRubyFormatDependency};
 ghost use Rattle.laws.specs.Nodes.{endsBy, startsAt};
-ghost use Rattle.strings.specs.Starts.{storeIn, lengthsIn, Readable};
-ghost use Rattle.strings.specs.Shown.{Resolvable};
+ghost use Rattle.bounds.specs.Spans.{spanOf};
+ghost use Rattle.strings.specs.Starts.{storeIn, startIn, lengthsIn, Readable};
+ghost use Rattle.strings.specs.Shown.{Resolvable, oldStrings};
 ghost use Rattle.strings.specs.PlainContent.{plainString};
 ghost use Rattle.dependency.specs.Bases.{amongBases};
 ghost use Rattle.dependency.specs.Sound.{Sound, SoundNode, PlainIn};
 ghost use Rattle.dependency.specs.Noted.{firstWords, Noted};
-ghost use Rattle.introduces.specs.Linked.{formatFrom, refersTo};
+ghost use Rattle.region.specs.Ready.{Ready};
+ghost use Rattle.introduces.specs.Linked.{formatFrom, refersTo, rubyForLater};
 ghost use Rattle.introduces.specs.Words.{lastWords, BothIndexed};
+ghost use Rattle.introduces.specs.Books.{Held};
 
 fn any_ruby(tape: &[u8], at: usize, count: usize) -> bool
     requires { ⌜ at + 49 * count ≤ length (now tape) ⌝ }
@@ -57,6 +62,25 @@ fn any_format_from(tape: &[u8], at: usize, count: usize, from: u32) -> bool
         i += 1;
     }
     false
+}
+
+// A Ruby of the reading and a Referenced Format behind the region.
+fn ruby_for_later(
+    tape: &[u8],
+    at: usize,
+    count: usize,
+    reading: &[u8],
+    place: usize,
+    nodes: usize,
+    end: u32,
+) -> bool
+    requires { ⌜ (at + 49 * count ≤ length (now tape)) × (place + 49 * nodes ≤ length (now reading)) ⌝ }
+    ensures { λ r. ⌜ r ≡ rubyForLater (recordsAt nodeCodec (now (reading .entry)) place nodes) (recordsAt nodeCodec (now (tape .entry)) at count) end ⌝ }
+{
+    if !any_ruby(reading, place, nodes) {
+        return false;
+    }
+    any_format_from(tape, at, count, end)
 }
 
 // The bases of the Rubies among these nodes, inserted. The words before `base` are kept.
@@ -245,5 +269,109 @@ fn refers_by_index<'a, 'b>(
         back,
         place,
         nodes,
+    )
+}
+
+// Where the bytes of the last layer's strings begin: behind both texts and the strings of the other layers.
+fn last_strings_at(tape: &[u8], bytes: &[u8], p: places::Places, st: store::Store) -> usize
+    requires { ⌜ Held (now tape) (now bytes) p st ⌝ }
+    ensures { λ r. ⌜ r ≡ p .text + p .normalized + startIn (now (tape .entry)) (oldStrings st) ⌝ }
+{
+    let first = p.text as usize + p.normalized as usize;
+    let olds = strings::old_strings(st);
+    first + strings::start_from(tape, st, bytes.len(), 0, olds, 0)
+}
+
+// A Referenced Format of the reading whose target is the base of a Ruby before the region.
+fn refers_before(
+    tape: &[u8],
+    bytes: &[u8],
+    p: places::Places,
+    st: store::Store,
+    reading: &[u8],
+    letters: &[u8],
+    q: places::Places,
+    own: store::Store,
+    words: &mut [u32],
+    base: usize,
+    middle: usize,
+    start: u32,
+) -> bool
+    requires { ⌜ (base ≤ middle) × (middle ≤ length (now words)) ⌝ }
+    requires { ⌜ Ready (now tape) (now bytes) p st (firstWords base (firstWords middle (now words))) ⌝ }
+    requires { ⌜ Ready (now reading) (now letters) q own (lastWords middle (now words)) ⌝ }
+    ensures { λ r. ⌜ r ≡ any (refersTo (storeOf (bookAt (now (tape .entry)) (placesIn (now (tape .entry))) (now (bytes .entry)) .layers)) (keep (endsBy start) (bookAt (now (tape .entry)) (placesIn (now (tape .entry))) (now (bytes .entry)) .sourceNodes)) (storeOf (bookAt (now (reading .entry)) (placesIn (now (reading .entry))) (now (letters .entry)) .layers))) (bookAt (now (reading .entry)) (placesIn (now (reading .entry))) (now (letters .entry)) .sourceNodes) ⌝ }
+{
+    let n = reading::nodes_until(tape, p.nodes.at, p.nodes.count, start);
+    let first = p.text as usize + p.normalized as usize;
+    let cut = last_strings_at(tape, bytes, p, st);
+    let begin = q.text as usize + q.normalized as usize;
+    let part = last_strings_at(reading, letters, q, own);
+    refers_by_index(
+        tape,
+        st,
+        words,
+        base,
+        middle,
+        &bytes[first..cut],
+        &bytes[cut..bytes.len()],
+        p.nodes.at,
+        n,
+        reading,
+        own,
+        &letters[begin..part],
+        &letters[part..letters.len()],
+        q.nodes.at,
+        q.nodes.count,
+    )
+}
+
+// Number 15. `introduces_ruby_format_dependency` of a book and a reading that passed 1 to 7, with the region from `start` to `end`.
+pub fn introduces_ruby_format_dependency(
+    tape: &[u8],
+    bytes: &[u8],
+    p: places::Places,
+    st: store::Store,
+    reading: &[u8],
+    letters: &[u8],
+    q: places::Places,
+    own: store::Store,
+    words: &mut [u32],
+    start: u32,
+    end: u32,
+) -> bool
+    requires { ⌜ Held (now tape) (now bytes) p st ⌝ }
+    requires { ⌜ Held (now reading) (now letters) q own ⌝ }
+    ensures { λ r. ⌜ r ≡ introducesRubyFormatDependency (bookAt (now (tape .entry)) (placesIn (now (tape .entry))) (now (bytes .entry))) (bookAt (now (reading .entry)) (placesIn (now (reading .entry))) (now (letters .entry))) (spanOf start end) ⌝ }
+{
+    if ruby_for_later(
+        tape,
+        p.nodes.at,
+        p.nodes.count,
+        reading,
+        q.nodes.at,
+        q.nodes.count,
+        end,
+    ) {
+        return true;
+    }
+    if !any_format_from(reading, q.nodes.at, q.nodes.count, 0) {
+        return false;
+    }
+    let base = words.len() / 3;
+    let middle = base + base;
+    index_both(
+        tape,
+        st,
+        bytes.len(),
+        reading,
+        own,
+        letters.len(),
+        words,
+        base,
+        middle,
+    );
+    refers_before(
+        tape, bytes, p, st, reading, letters, q, own, words, base, middle, start,
     )
 }
