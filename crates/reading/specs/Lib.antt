@@ -2,3 +2,4 @@ pub mod Text
 pub mod Balance
 pub mod Until
 pub mod Window
+pub mod Book
