@@ -23,6 +23,18 @@ pub record BothIndexed (old new words : List ℕ) (base middle : ℕ) : Type 0 w
   pub first : Indexed old (firstWords base (firstWords middle words))
   pub last : Indexed new (lastWords middle words)
 
+-- both parts as they were
+pub record KeptIndexes (before : List ℕ) (base middle : ℕ) (after : List ℕ) : Type 0 where
+  pub size : length after ≡ length before
+  pub first : firstWords base (firstWords middle after) ≡ firstWords base (firstWords middle before)
+  pub last : lastWords middle after ≡ lastWords middle before
+
+pub kept-none : (words : List ℕ) (base middle : ℕ) → KeptIndexes words base middle words
+kept-none words base middle = record { size = refl; first = refl; last = refl }
+
+pub kept-more : {a b c : List ℕ} {base middle : ℕ} → KeptIndexes a base middle b → KeptIndexes b base middle c → KeptIndexes a base middle c
+kept-more k l = record { size = l .size ∙ k .size; first = l .first ∙ k .first; last = l .last ∙ k .last }
+
 -- ---- the words before `middle` written
 
 module _ (words : List ℕ) (middle : ℕ) (h : middle ≤ length words) (ys : List ℕ) (n : length ys ≡ length (take (middle - 0) words)) where
@@ -50,6 +62,9 @@ module _ (words : List ℕ) (middle : ℕ) (h : middle ≤ length words) (ys : L
   pub first-inside : {base : ℕ} → base ≤ middle → base ≤ length (firstWords middle (ys ++ drop (middle - 0) words))
   first-inside b = let a = ap length first-front in omega (arith, a, length-first, b)
 
+  pub first-kept : (base : ℕ) → firstWords base ys ≡ firstWords base (firstWords middle words) → KeptIndexes words base middle (ys ++ drop (middle - 0) words)
+  first-kept base e = record { size = first-length; first = ap (firstWords base) first-front ∙ e; last = first-last }
+
 -- the same words
 pub noted-words : {st : NodeStore} {ns : List SourceNode} {words other : List ℕ} {base : ℕ} → words ≡ other → Noted st ns other base → Noted st ns words base
 noted-words e m = rw e m
@@ -73,6 +88,12 @@ module _ (words : List ℕ) (middle : ℕ) (h : middle ≤ length words) (end : 
   last-front =
       ap (firstWords middle) after-is ∙ ap (λ (k : ℕ). take k (take middle words ++ zs)) (sub-zero middle ∙ sym length-front)
       ∙ take-append-seam (take middle words) zs
+
+  pub last-first : firstWords middle after ≡ firstWords middle words
+  last-first = last-front ∙ ap (λ (k : ℕ). take k words) (sym (sub-zero middle))
+
+  pub last-inside : middle ≤ length after
+  last-inside = let a = ap length after-is in let b = length-append (take middle words) zs in omega (arith, a, b, length-front)
 
   pub last-back : lastWords middle after ≡ zs
   last-back =

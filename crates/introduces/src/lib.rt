@@ -5,7 +5,7 @@
 use strings::Plain;
 ghost use mathlib.Core.Path.{_≡_};
 ghost use mathlib.Core.List.{_++_};
-ghost use Prim.Native.Nat.{_+_, _-_, _*_, _≤_, _<_};
+ghost use Prim.Native.Nat.{_+_, _*_, _≤_, min};
 ghost use lib.ListN.{length};
 ghost use Rattle.model.specs.Lists.{any, keep};
 ghost use Rattle.model.specs.Tape.{recordAt, recordsAt, nodeCodec, places as placesIn, bookAt};
@@ -22,7 +22,7 @@ ghost use Rattle.dependency.specs.Sound.{Sound, SoundNode, PlainIn};
 ghost use Rattle.dependency.specs.Noted.{firstWords, Noted};
 ghost use Rattle.region.specs.Ready.{Ready};
 ghost use Rattle.introduces.specs.Linked.{formatFrom, refersTo, rubyForLater};
-ghost use Rattle.introduces.specs.Words.{lastWords, BothIndexed};
+ghost use Rattle.introduces.specs.Words.{lastWords, KeptIndexes, BothIndexed};
 ghost use Rattle.introduces.specs.Books.{Held};
 
 fn any_ruby(tape: &[u8], at: usize, count: usize) -> bool
@@ -103,6 +103,26 @@ fn note_rubies<'a>(
         dependency::note_ruby(tape, st, words, base, old, new, at + 49 * i);
         i += 1;
     }
+}
+
+// The same in a filter that begins as zeros.
+fn note_bases<'a>(
+    tape: &[u8],
+    st: store::Store,
+    words: &mut [u32],
+    base: usize,
+    old: &'a [u8],
+    new: &'a [u8],
+    at: usize,
+    count: usize,
+)
+    requires { ⌜ Sound (now tape) st (firstWords base (now words)) (now old) (now new) at count ⌝ }
+    requires { ⌜ base ≤ length (now words) ⌝ }
+    ensures { λ _. ⌜ (firstWords base (now (words .exit)) ≡ firstWords base (now (words .entry))) × Noted (storeIn (now (tape .entry)) (now (old .entry) ++ now (new .entry))) (recordsAt nodeCodec (now (tape .entry)) at count) (now (words .exit)) base ⌝ }
+{
+    let end = words.len();
+    wire::zero_words(&mut words[base..end]);
+    note_rubies(tape, st, words, base, old, new, at, count);
 }
 
 // Is a string of the reading the base of a Ruby among the old nodes? `words` have the old index and the filter, `index` is the reading's.
@@ -229,7 +249,60 @@ fn index_both(
     strings::index_strings(reading, own, space, &mut words[middle..end]);
 }
 
-// A Referenced Format of the reading whose target is the base of a Ruby among the old nodes, by words that have both indexes.
+// A Referenced Format of the reading whose target is the base of a Ruby among the old nodes, by words that have both indexes. The indexes
+// are kept.
+fn refers_to_some<'a, 'b>(
+    tape: &[u8],
+    st: store::Store,
+    words: &mut [u32],
+    base: usize,
+    middle: usize,
+    old: &'a [u8],
+    new: &'a [u8],
+    at: usize,
+    count: usize,
+    reading: &[u8],
+    own: store::Store,
+    front: &'b [u8],
+    back: &'b [u8],
+    place: usize,
+    nodes: usize,
+) -> bool
+    requires { ⌜ (base ≤ middle) × (middle ≤ length (now words)) ⌝ }
+    requires { ⌜ Sound (now tape) st (firstWords base (firstWords middle (now words))) (now old) (now new) at count ⌝ }
+    requires { ⌜ Sound (now reading) own (lastWords middle (now words)) (now front) (now back) place nodes ⌝ }
+    ensures { λ r. ⌜ (r ≡ any (refersTo (storeIn (now (tape .entry)) (now (old .entry) ++ now (new .entry))) (recordsAt nodeCodec (now (tape .entry)) at count) (storeIn (now (reading .entry)) (now (front .entry) ++ now (back .entry)))) (recordsAt nodeCodec (now (reading .entry)) place nodes)) × KeptIndexes (now (words .entry)) base middle (now (words .exit)) ⌝ }
+{
+    note_bases(tape, st, &mut words[0..middle], base, old, new, at, count);
+    any_refers_to(
+        tape,
+        st,
+        &words[0..middle],
+        base,
+        old,
+        new,
+        at,
+        count,
+        reading,
+        own,
+        &words[middle..words.len()],
+        front,
+        back,
+        place,
+        nodes,
+    )
+}
+
+fn fewer(a: usize, b: usize) -> usize
+    ensures { λ r. ⌜ r ≡ min a b ⌝ }
+{
+    if a < b {
+        return a;
+    }
+    b
+}
+
+// The same with a filter of no more bases than it has words: as many old nodes at a time, and a walk over the reading's nodes for each part.
 fn refers_by_index<'a, 'b>(
     tape: &[u8],
     st: store::Store,
@@ -252,24 +325,32 @@ fn refers_by_index<'a, 'b>(
     requires { ⌜ Sound (now reading) own (lastWords middle (now words)) (now front) (now back) place nodes ⌝ }
     ensures { λ r. ⌜ r ≡ any (refersTo (storeIn (now (tape .entry)) (now (old .entry) ++ now (new .entry))) (recordsAt nodeCodec (now (tape .entry)) at count) (storeIn (now (reading .entry)) (now (front .entry) ++ now (back .entry)))) (recordsAt nodeCodec (now (reading .entry)) place nodes) ⌝ }
 {
-    note_rubies(tape, st, &mut words[0..middle], base, old, new, at, count);
-    any_refers_to(
-        tape,
-        st,
-        &words[0..middle],
-        base,
-        old,
-        new,
-        at,
-        count,
-        reading,
-        own,
-        &words[middle..words.len()],
-        front,
-        back,
-        place,
-        nodes,
-    )
+    let size = middle - base + 1;
+    let mut i = 0;
+    while i < count {
+        let n = fewer(size, count - i);
+        if refers_to_some(
+            tape,
+            st,
+            words,
+            base,
+            middle,
+            old,
+            new,
+            at + 49 * i,
+            n,
+            reading,
+            own,
+            front,
+            back,
+            place,
+            nodes,
+        ) {
+            return true;
+        }
+        i += n;
+    }
+    false
 }
 
 // Where the bytes of the last layer's strings begin: behind both texts and the strings of the other layers.
