@@ -188,7 +188,20 @@ fn refers_to<'a, 'b>(
     }
     let p = dependency::first_plain(reading, own, place);
     is_base_of(
-        tape, st, words, base, old, new, at, count, reading, own, index, front, back, p,
+        tape,
+        st,
+        words,
+        base,
+        old,
+        new,
+        at,
+        count,
+        reading,
+        own,
+        index,
+        front,
+        back,
+        p,
     )
 }
 
@@ -218,7 +231,20 @@ fn any_refers_to<'a, 'b>(
     let mut i = 0;
     while i < nodes {
         if refers_to(
-            tape, st, words, base, old, new, at, count, reading, own, index, front, back, place + 49 * i,
+            tape,
+            st,
+            words,
+            base,
+            old,
+            new,
+            at,
+            count,
+            reading,
+            own,
+            index,
+            front,
+            back,
+            place + 49 * i,
         ) {
             return true;
         }
@@ -453,6 +479,17 @@ pub fn introduces_ruby_format_dependency(
         middle,
     );
     refers_before(
-        tape, bytes, p, st, reading, letters, q, own, words, base, middle, start,
+        tape,
+        bytes,
+        p,
+        st,
+        reading,
+        letters,
+        q,
+        own,
+        words,
+        base,
+        middle,
+        start,
     )
 }
