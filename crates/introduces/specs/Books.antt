@@ -1,12 +1,10 @@
 -- Number 15 of two books that passed 1 to 7, for each return of the code.
 use mathlib.Core.Path.{_≡_, refl, sym, ap, ap₂, _∙_}
 use Prim.Native.Nat.{ℕ, _+_, _-_, _*_, _^_, _≤_, _<_}
-use native.Mathlib.Omega.{arith}
 use mathlib.Core.Bool.{Bool, true, false, _&&_, _||_}
 use mathlib.Core.List.{List, []}
 use lib.ListN.{length}
 use Rattle.model.specs.Lists.{any, keep}
-use Rattle.model.specs.Offset.{Span}
 use Rattle.model.specs.Types.{SourceNode, LexOutput}
 use Rattle.model.specs.Store.{NodeStore, storeOf}
 use Rattle.model.specs.Tape.{recordsAt, nodeCodec, places, bookAt}

@@ -1,8 +1,8 @@
 -- Number 15, as the code asks it: a Ruby of the reading and a Referenced Format behind the region, or a Referenced Format of the reading
 -- whose target is the base of a Ruby before the region.
-use mathlib.Core.Path.{_≡_, refl, sym, ap, ap₂, _∙_}
-use Prim.Native.Nat.{ℕ, _+_, _*_, _≤_, _<_}
-use mathlib.Core.Bool.{Bool, true, false, cond, _&&_, _||_, and-false, and-true}
+use mathlib.Core.Path.{_≡_, refl, sym, ap, _∙_}
+use Prim.Native.Nat.{ℕ, _+_}
+use mathlib.Core.Bool.{Bool, true, false, _&&_, _||_, and-false, and-true}
 use mathlib.Core.List.{List, [], _∷_, _++_}
 use lib.Dec.{leb}
 use borrow.Author.Tests.{le-leb}
@@ -11,9 +11,9 @@ use Rattle.model.specs.Lists.{any, keep}
 use Rattle.model.specs.Offset.{Span}
 use Rattle.model.specs.Types.{SourceNode, LexOutput, RegionOutput}
 use Rattle.model.specs.Store.{NodeStore, storeOf}
-use Rattle.model.specs.Tape.{recordAt, recordsAt, nodeCodec}
-use Rattle.model.specs.Region.{isRuby, isReferencedFormat, firstPlain, isAmong}
-use Rattle.model.specs.Merge.{rubyBases, introducesRubyFormatDependency}
+use Rattle.model.specs.Tape.{recordAt, nodeCodec}
+use Rattle.model.specs.Region.{isRuby, isReferencedFormat, firstPlain}
+use Rattle.model.specs.Merge.{introducesRubyFormatDependency}
 use Rattle.laws.specs.Lists.{neither}
 use Rattle.laws.specs.Nodes.{endsBy, startsAt}
 use Rattle.wire.specs.Loops.{by-bool}

@@ -1,13 +1,12 @@
 -- The old nodes some at a time, so that the filter is never crowded: what refers to none of the first nodes and to none of the next refers
 -- to none of both.
 use mathlib.Core.Path.{_≡_, refl, sym, ap, ap₂, _∙_}
-use Prim.Native.Nat.{ℕ, zero, suc, _+_, _-_, _*_, _≤_, _<_}
+use Prim.Native.Nat.{ℕ, zero, suc, _+_, _-_, _*_, _≤_}
 use native.Mathlib.Omega.{arith}
 use native.Mathlib.Nat.{add-zero}
 use mathlib.Core.Bool.{Bool, true, false, _&&_, _||_, or-assoc, and-false}
 use mathlib.Core.Option.{Option, none, some}
 use mathlib.Core.List.{List, [], _∷_, _++_, append-assoc, append-nil}
-use lib.ListN.{length}
 use Rattle.model.specs.Lists.{all, any, tabulate}
 use Rattle.model.specs.Types.{SourceNode}
 use Rattle.model.specs.Store.{NodeStore}

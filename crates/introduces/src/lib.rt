@@ -1,7 +1,8 @@
 // Number 15, document 01 section 7: `introduces_ruby_format_dependency`. A Ruby of the reading and a Referenced Format behind the region, or
-// a Referenced Format of the reading whose target is the base of a Ruby before the region. The bases before the region go into a Bloom
-// filter, so that a target that is no base seldom has to be compared: one walk over each book's nodes. The lent words have three parts:
-// an index of the old book's strings, the filter, an index of the reading's strings. Any number of words will do, also none.
+// a Referenced Format of the reading whose target is the base of a Ruby before the region. The bases go into a Bloom filter, so that a
+// target that is no base seldom has to be compared; a filter takes as many old nodes as it has words, and each such part of the old nodes
+// costs one walk over the reading's. The lent words have three parts: an index of the old book's strings, the filter, an index of the
+// reading's strings. Any number of words will do, also none.
 use strings::Plain;
 ghost use mathlib.Core.Path.{_≡_};
 ghost use mathlib.Core.List.{_++_};
@@ -253,7 +254,7 @@ fn any_refers_to<'a, 'b>(
     false
 }
 
-// An index of the old book's strings in the words before `base`, zeros up to `middle`, an index of the reading's strings behind it.
+// An index of the old book's strings in the words before `base`, an index of the reading's strings in those from `middle` on.
 fn index_both(
     tape: &[u8],
     st: store::Store,
@@ -328,7 +329,7 @@ fn fewer(a: usize, b: usize) -> usize
     b
 }
 
-// The same with a filter of no more bases than it has words: as many old nodes at a time, and a walk over the reading's nodes for each part.
+// The same, with no more old nodes at a time than the filter has words.
 fn refers_by_index<'a, 'b>(
     tape: &[u8],
     st: store::Store,

@@ -1,9 +1,9 @@
 -- Numbers 12, 13, 14 and 16 of books that a tape and its bytes hold: the code's answers by records and parts of bytes are the model's.
-use mathlib.Core.Path.{_≡_, refl, sym, ap, ap₂, _∙_}
-use Prim.Native.Nat.{ℕ, _+_, _-_}
+use mathlib.Core.Path.{_≡_, refl, ap, _∙_}
+use Prim.Native.Nat.{ℕ, _-_}
 use mathlib.Core.Bool.{Bool}
 use mathlib.Core.List.{List}
-use lib.ListN.{length, take, drop}
+use lib.ListN.{take}
 use Rattle.model.specs.Lists.{any, same}
 use Rattle.model.specs.Bytes.{part}
 use Rattle.model.specs.Offset.{Span}

@@ -1,16 +1,16 @@
 -- The nodes until an offset, which end at or before it: the first of a book's, since nodes are in order. Their images and spans are the
 -- drift of `normalized_offset`.
-use mathlib.Core.Path.{_≡_, refl, sym, ap, ap₂, _∙_, subst}
+use mathlib.Core.Path.{_≡_, refl, sym, ap, ap₂, _∙_}
 use Prim.Native.Nat.{ℕ, zero, suc, _+_, _-_, _*_, _≤_, _<_}
 use native.Mathlib.Omega.{arith}
-use mathlib.Core.Bool.{Bool, true, false, cond}
-use mathlib.Core.List.{List, [], _∷_, map}
+use mathlib.Core.Bool.{Bool, true, false}
+use mathlib.Core.List.{List, _∷_, map}
 use lib.Dec.{leb}
 use borrow.Author.Tests.{le-leb, lt-leb}
 use Rattle.model.specs.Lists.{all, keep, tabulate, sum}
 use Rattle.model.specs.Types.{SourceNode}
 use Rattle.model.specs.Tape.{recordAt, recordsAt, nodeCodec}
-use Rattle.model.specs.WellFormed.{ordered, imageLength, spanLength, images, spans}
+use Rattle.model.specs.WellFormed.{imageLength, spanLength, images, spans}
 use Rattle.model.specs.Merge.{normalizedOffset}
 use Rattle.laws.specs.Lists.{all-keep}
 use Rattle.laws.specs.Keep.{all-keep-self}

@@ -1,7 +1,6 @@
 use Rattle.introduces.specs.Linked.{refers-other, refers-target}
 use Rattle.dependency.specs.Sound.{target-first, plain-inside}
 use borrow.Author.Tests.{not-true, not-false}
-use borrow.Author.Needs.{needs}
 use Rattle.introduces.proofs.refers_to.Statement.{statement}
 use Rattle.introduces.proofs.refers_to.Tie as tie
 use Rattle.introduces.proofs.refers_to.Reads as reads

@@ -1,9 +1,6 @@
 use Rattle.reading.specs.Balance.{unclosed-bracket, unclosed-close}
-use Rattle.model.specs.Merge.{isUnclosed}
 use Rattle.model.specs.Tape.{recordAt, operandsAt, diagnosticCodec}
-use borrow.Author.Tests.{eq-eqb, ne-eqb}
-use mathlib.Core.Path.{refl, sym, ap}
-use mathlib.Core.Bool.{_||_}
+use mathlib.Core.Path.{refl}
 use borrow.Author.Needs.{needs}
 use Rattle.reading.proofs.is_unclosed.Statement.{statement}
 use Rattle.reading.proofs.is_unclosed.Tie as tie
