@@ -15,16 +15,16 @@ ghost use Rattle.model.specs.Region.{isRuby, isReferencedFormat};
 ghost use Rattle.model.specs.Merge.{introducesRubyFormatDependency};
 ghost use Rattle.laws.specs.Nodes.{endsBy, startsAt};
 ghost use Rattle.bounds.specs.Spans.{spanOf};
-ghost use Rattle.strings.specs.Starts.{storeIn, startIn, lengthsIn, Readable};
-ghost use Rattle.strings.specs.Shown.{Resolvable, oldStrings};
+ghost use Rattle.strings.specs.Starts.{storeIn, lengthsIn, Readable};
+ghost use Rattle.strings.specs.Shown.{Resolvable};
 ghost use Rattle.strings.specs.PlainContent.{plainString};
 ghost use Rattle.dependency.specs.Bases.{amongBases};
 ghost use Rattle.dependency.specs.Sound.{Sound, SoundNode, PlainIn};
 ghost use Rattle.dependency.specs.Noted.{firstWords, Noted};
 ghost use Rattle.region.specs.Ready.{Ready};
+ghost use Rattle.region.specs.Held.{Held};
 ghost use Rattle.introduces.specs.Linked.{formatFrom, refersTo, rubyForLater};
 ghost use Rattle.introduces.specs.Words.{lastWords, KeptIndexes, BothIndexed};
-ghost use Rattle.introduces.specs.Books.{Held};
 
 fn any_ruby(tape: &[u8], at: usize, count: usize) -> bool
     requires { ⌜ at + 49 * count ≤ length (now tape) ⌝ }
@@ -380,16 +380,6 @@ fn refers_by_index<'a, 'b>(
     false
 }
 
-// Where the bytes of the last layer's strings begin: behind both texts and the strings of the other layers.
-fn last_strings_at(tape: &[u8], bytes: &[u8], p: places::Places, st: store::Store) -> usize
-    requires { ⌜ Held (now tape) (now bytes) p st ⌝ }
-    ensures { λ r. ⌜ r ≡ p .text + p .normalized + startIn (now (tape .entry)) (oldStrings st) ⌝ }
-{
-    let first = p.text as usize + p.normalized as usize;
-    let olds = strings::old_strings(st);
-    first + strings::start_from(tape, st, bytes.len(), 0, olds, 0)
-}
-
 // A Referenced Format of the reading whose target is the base of a Ruby before the region.
 fn refers_before(
     tape: &[u8],
@@ -412,9 +402,9 @@ fn refers_before(
 {
     let n = reading::nodes_until(tape, p.nodes.at, p.nodes.count, start);
     let first = p.text as usize + p.normalized as usize;
-    let cut = last_strings_at(tape, bytes, p, st);
+    let cut = region::last_strings_at(tape, bytes, p, st);
     let begin = q.text as usize + q.normalized as usize;
-    let part = last_strings_at(reading, letters, q, own);
+    let part = region::last_strings_at(reading, letters, q, own);
     refers_by_index(
         tape,
         st,

@@ -1,4 +1,5 @@
-use Rattle.introduces.specs.Books.{held-inside, held-readable, held-ready, introduces-later, introduces-none, introduces-refers}
+use Rattle.region.specs.Held.{held-inside, held-readable, held-ready}
+use Rattle.introduces.specs.Books.{introduces-later, introduces-none, introduces-refers}
 use borrow.Author.Tests.{not-true}
 use native.Mathlib.Omega.{arith}
 use borrow.Author.Needs.{needs}

@@ -1,4 +1,5 @@
-use Rattle.introduces.specs.Books.{ready-held, ready-in-order, refers-by}
+use Rattle.introduces.specs.Books.{refers-by}
+use Rattle.region.specs.Held.{ready-held, ready-in-order}
 use Rattle.region.specs.Ready.{ready-runs, ready-cut, ready-sound, ready-store, ready-nodes}
 use Rattle.dependency.specs.Sound.{sound-before}
 use Rattle.model.specs.Lists.{keep}
@@ -10,7 +11,7 @@ use Rattle.introduces.proofs.refers_before.Statement.{statement}
 use Rattle.introduces.proofs.refers_before.Tie as tie
 use Rattle.introduces.proofs.refers_before.Reads as reads
 use Rattle.introduces.proofs.refers_before.Lts as lts
-use Rattle.introduces.proofs.last_strings_at.Reads as last-strings-at-reads
+use Rattle.region.proofs.last_strings_at.Reads as last-strings-at-reads
 use Rattle.introduces.proofs.refers_by_index.Reads as refers-by-index-reads
 use Rattle.reading.proofs.nodes_until.Reads as nodes-until-reads
 

@@ -1,12 +1,12 @@
-use Rattle.introduces.specs.Books.{held-without}
+use Rattle.region.specs.Held.{held-without}
 use Rattle.region.specs.Ready.{ready-layers, ready-readable, ready-olds, ready-place, ready-cut}
 use mathlib.Core.Path.{refl}
 use native.Mathlib.Omega.{arith}
 use borrow.Author.Needs.{needs}
-use Rattle.introduces.proofs.last_strings_at.Statement.{statement}
-use Rattle.introduces.proofs.last_strings_at.Tie as tie
-use Rattle.introduces.proofs.last_strings_at.Reads as reads
-use Rattle.introduces.proofs.last_strings_at.Lts as lts
+use Rattle.region.proofs.last_strings_at.Statement.{statement}
+use Rattle.region.proofs.last_strings_at.Tie as tie
+use Rattle.region.proofs.last_strings_at.Reads as reads
+use Rattle.region.proofs.last_strings_at.Lts as lts
 use Rattle.strings.proofs.old_strings.Reads as old-strings-reads
 use Rattle.strings.proofs.start_from.Reads as start-from-reads
 
