@@ -226,7 +226,7 @@ pub fn pairs_allow_cut(tape: &[u8], pairs: places::Run, o: usize) -> bool
     is_nothing(pair_across(tape, pairs, o))
 }
 
-fn depths_zero(blocks: usize, warichu: usize) -> bool
+pub fn depths_zero(blocks: usize, warichu: usize) -> bool
     ensures { λ r. ⌜ r ≡ depthsZero blocks warichu ⌝ }
 {
     if blocks != 0 {
@@ -391,7 +391,7 @@ pub struct Depths {
     pub unmatched: usize,
 }
 
-fn closes_nothing(closes: bool, depth: usize) -> bool
+pub fn closes_nothing(closes: bool, depth: usize) -> bool
     ensures { λ r. ⌜ r ≡ closesNothing closes depth ⌝ }
 {
     if !closes {

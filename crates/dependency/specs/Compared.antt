@@ -8,7 +8,8 @@ use mathlib.Core.List.{List, _++_}
 use lib.ListN.{length, getD, take, drop, length-append, length-drop}
 use lib.Seq.{length-take-le}
 use Rattle.model.specs.Lists.{any, same}
-use Rattle.model.specs.Store.{resolveStr}
+use Rattle.model.specs.Types.{SourceNode}
+use Rattle.model.specs.Store.{NodeStore, resolveStr}
 use Rattle.model.specs.Tape.{recordAt, recordsAt, nodeCodec, stringCodec}
 use Rattle.model.specs.Region.{isRuby, firstPlain}
 use Rattle.laws.specs.Checks.{same-eq}
@@ -70,15 +71,15 @@ module _ {t : List ℕ} {st : Store} {words old new : List ℕ} {p : ℕ} (n : S
     unfolding hasBase
     base-ruby h g q = rw (← e, h) (q ∙ ap (isPlain s) (sym (plain-first n g)))
 
--- ---- the target of a Format
+-- ---- the target of a Format, whose string may stand in another store
 
-module _ (t : List ℕ) (b : List ℕ) (at count : ℕ) where
-  pub target-some : (id : ℕ) {r : Plain} → r ≡ Id id → {s : List ℕ} → s ≡ resolveStr (storeIn t b) id → {x : Bool} → x ≡ any (hasBase (storeIn t b) s) (recordsAt nodeCodec t at count)
-      → x ≡ amongBases (storeIn t b) (recordsAt nodeCodec t at count) (plainString (storeIn t b) r)
+module _ (st other : NodeStore) (ns : List SourceNode) where
+  pub target-some : (id : ℕ) {r : Plain} → r ≡ Id id → {s : List ℕ} → s ≡ resolveStr other id → {x : Bool} → x ≡ any (hasBase st s) ns
+      → x ≡ amongBases st ns (plainString other r)
   unfolding amongBases plainString
   target-some id e f q = rw (e, ← f) q
 
-  pub target-none : {r : Plain} → r ≡ Nothing → false ≡ amongBases (storeIn t b) (recordsAt nodeCodec t at count) (plainString (storeIn t b) r)
+  pub target-none : {r : Plain} → r ≡ Nothing → false ≡ amongBases st ns (plainString other r)
   unfolding amongBases plainString
   target-none e = rw e refl
 

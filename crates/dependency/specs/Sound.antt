@@ -129,11 +129,13 @@ module _ {t : List ℕ} {st : Store} {words old new : List ℕ} {p : ℕ} (s : S
   pub ruby-first : {x : Bool} → x ≡ isRuby (recordAt nodeCodec t p) → x ≡ true → FirstRange t st p
   ruby-first e h = range-in (ruby-range (layersIn t (old ++ new)) (recordAt nodeCodec t p) (s .node) (sym e ∙ h))
 
+  pub target-first : {x : Bool} → x ≡ isReferencedFormat (recordAt nodeCodec t p) → x ≡ true → FirstRange t st p
+  target-first e h = range-in (format-range (layersIn t (old ++ new)) (recordAt nodeCodec t p) (s .node) (sym e ∙ h))
+
   pub format-first : {x : Bool} (from : ℕ) → x ≡ asksTarget from (recordAt nodeCodec t p) → x ≡ true → FirstRange t st p
   unfolding asksTarget
   format-first from e h =
-      let b = both (isReferencedFormat (recordAt nodeCodec t p)) (ltb from (recordAt nodeCodec t p .sourceSpan .end)) (sym e ∙ h) in
-      range-in (format-range (layersIn t (old ++ new)) (recordAt nodeCodec t p) (s .node) (b .0))
+      target-first refl (both (isReferencedFormat (recordAt nodeCodec t p)) (ltb from (recordAt nodeCodec t p .sourceSpan .end)) (sym e ∙ h) .0)
 
   module _ {r : Plain} (e : (b : List ℕ) → r ≡ plainOf (firstContents t p b)) where
     pub plain-first : firstPlain (storeIn t (old ++ new)) (recordAt nodeCodec t p) ≡ plainString (storeIn t (old ++ new)) r

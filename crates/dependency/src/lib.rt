@@ -71,7 +71,7 @@ fn asked_nodes(tape: &[u8], at: usize, count: usize, from: u32) -> usize
 }
 
 // The contents of a node's first range, if they are one Plain content: the base of a Ruby, the target of a Format.
-fn first_plain(tape: &[u8], st: store::Store, at: usize) -> Plain
+pub fn first_plain(tape: &[u8], st: store::Store, at: usize) -> Plain
     requires { ⌜ OfTape (now tape) st ⌝ }
     requires { ⌜ at + 49 ≤ length (now tape) ⌝ }
     requires { ⌜ FirstRange (now tape) st at ⌝ }
@@ -170,7 +170,7 @@ pub fn is_ruby_base<'a>(
 }
 
 // The same, with the filter of these bases asked first.
-fn is_filtered_base<'a>(
+pub fn is_filtered_base<'a>(
     tape: &[u8],
     st: store::Store,
     words: &[u32],
@@ -275,7 +275,7 @@ fn insert_plain<'a>(
 }
 
 // The plain base of a Ruby, inserted.
-fn note_ruby<'a>(
+pub fn note_ruby<'a>(
     tape: &[u8],
     st: store::Store,
     words: &mut [u32],

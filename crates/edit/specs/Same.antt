@@ -25,7 +25,7 @@ same-before (x ∷ a) [] c e = absurd (omega (arith, e))
 same-before (x ∷ a) (y ∷ b) c e = ap (λ (z : Bool). eqb x y && z) (same-before a b c (omega (arith, e)))
 
 -- a text in three parts
-parts : (t : List ℕ) (s e : ℕ) → s ≤ e → t ≡ take s t ++ (take (e - s) (drop s t) ++ drop e t)
+pub parts : (t : List ℕ) (s e : ℕ) → s ≤ e → t ≡ take s t ++ (take (e - s) (drop s t) ++ drop e t)
 parts t s e h =
     let whole : s + (e - s) ≡ e = omega arith in
     sym (ap (λ (x : List ℕ). take s t ++ x)

@@ -1,5 +1,6 @@
 pub mod Chosen
 pub mod Ready
+pub mod Held
 pub mod Stage
 pub mod Words
 pub mod Entry

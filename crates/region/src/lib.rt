@@ -4,17 +4,19 @@
 // words will do, also none.
 ghost use mathlib.Core.Path.{_≡_};
 ghost use mathlib.Core.List.{List};
-ghost use Prim.Native.Nat.{ℕ, _-_, _≤_};
+ghost use Prim.Native.Nat.{ℕ, _+_, _-_, _≤_};
 ghost use lib.ListN.{length};
 ghost use Rattle.model.specs.Bytes.{part};
 ghost use Rattle.model.specs.Tape.{places as placesIn, bookAt};
 ghost use Rattle.model.specs.Region.{chosenRegion, chooseRegion, hasRubyFormatDependency};
 ghost use Rattle.wire.specs.Overwrite.{zeros};
-ghost use Rattle.strings.specs.Starts.{lengthsIn, Readable};
+ghost use Rattle.strings.specs.Starts.{startIn, lengthsIn, Readable};
+ghost use Rattle.strings.specs.Shown.{oldStrings};
 ghost use Rattle.dependency.specs.Noted.{firstWords};
 ghost use Rattle.edit.specs.Numbers.{editOf};
 ghost use Rattle.region.specs.Chosen.{chosenOf, wholeText};
 ghost use Rattle.region.specs.Ready.{Ready};
+ghost use Rattle.region.specs.Held.{Held};
 ghost use Rattle.region.specs.Words.{indexedWords};
 
 // The region in offsets of the old text, or a number up to 11.
@@ -33,7 +35,17 @@ fn is_whole(text: u32, r: cuts::Region) -> bool
     r.end == text as usize
 }
 
-// Number 10. The strings stand behind both texts, those of the last layer behind the others.
+// Where the bytes of the last layer's strings begin: behind both texts and the strings of the other layers.
+pub fn last_strings_at(tape: &[u8], bytes: &[u8], p: places::Places, st: store::Store) -> usize
+    requires { ⌜ Held (now tape) (now bytes) p st ⌝ }
+    ensures { λ r. ⌜ r ≡ p .text + p .normalized + startIn (now (tape .entry)) (oldStrings st) ⌝ }
+{
+    let first = p.text as usize + p.normalized as usize;
+    let olds = strings::old_strings(st);
+    first + strings::start_from(tape, st, bytes.len(), 0, olds, 0)
+}
+
+// Number 10.
 fn depends(
     tape: &[u8],
     bytes: &[u8],
@@ -48,8 +60,7 @@ fn depends(
     ensures { λ r. ⌜ ((end : ℕ) (replacement : List ℕ) → r ≡ hasRubyFormatDependency (bookAt (now (tape .entry)) (placesIn (now (tape .entry))) (now (bytes .entry))) (editOf from end replacement)) ⌝ }
 {
     let first = p.text as usize + p.normalized as usize;
-    let olds = strings::old_strings(st);
-    let cut = first + strings::start_from(tape, st, bytes.len(), 0, olds, 0);
+    let cut = last_strings_at(tape, bytes, p, st);
     dependency::has_ruby_format_dependency(
         tape,
         st,
@@ -95,7 +106,7 @@ pub fn chosen_region(
 }
 
 // An index of the book's strings in the words before `base`, zeros in the others.
-fn index_words(tape: &[u8], st: store::Store, room: usize, words: &mut [u32], base: usize)
+pub fn index_words(tape: &[u8], st: store::Store, room: usize, words: &mut [u32], base: usize)
     requires { ⌜ Readable (now tape) st room ⌝ }
     requires { ⌜ base ≤ length (now words) ⌝ }
     ensures { λ _. ⌜ now (words .exit) ≡ indexedWords (lengthsIn (now (tape .entry))) base (now (words .entry)) ⌝ }

@@ -35,7 +35,7 @@ is-filtered-base-requires c κs = search needs
 
 -- src/lib.rt:189:13
 returns : tie.Need-returns
-returns c = target-some _ _ _ _ _ (c .before .before .before .before .p .given .1) (c .before .resolve-str .ensures ∙ shown-str (c .before .before .before .before .before .before .before .before .before .before .pre .0 .strings .sides) _ (c .before .before .before .before .before .before .before .before .before .before .pre .1 .1 .1 .inside _ (c .before .before .before .before .p .given .1))) (c .is-filtered-base .ensures)
+returns c = target-some _ _ _ _ (c .before .before .before .before .p .given .1) (c .before .resolve-str .ensures ∙ shown-str (c .before .before .before .before .before .before .before .before .before .before .pre .0 .strings .sides) _ (c .before .before .before .before .before .before .before .before .before .before .pre .1 .1 .1 .inside _ (c .before .before .before .before .p .given .1))) (c .is-filtered-base .ensures)
 
 -- src/lib.rt:192:13
 enum-told : tie.Need-enum-told
@@ -43,7 +43,7 @@ enum-told c = search needs
 
 -- src/lib.rt:192:13
 returns-2 : tie.Need-returns-2
-returns-2 c = target-none _ _ _ _ (c .enum-told .given .1)
+returns-2 c = target-none _ _ _ (c .enum-told .given .1)
 
 pub is-target-base-spec : {M : Type 1} → statement M
 is-target-base-spec =

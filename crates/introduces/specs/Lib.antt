@@ -1,0 +1,4 @@
+pub mod Linked
+pub mod Words
+pub mod Pieces
+pub mod Books

@@ -1,0 +1,486 @@
+// Number 15, document 01 section 7: `introduces_ruby_format_dependency`. A Ruby of the reading and a Referenced Format behind the region, or
+// a Referenced Format of the reading whose target is the base of a Ruby before the region. The bases go into a Bloom filter, so that a
+// target that is no base seldom has to be compared; a filter takes as many old nodes as it has words, and each such part of the old nodes
+// costs one walk over the reading's. The lent words have three parts: an index of the old book's strings, the filter, an index of the
+// reading's strings. Any number of words will do, also none.
+use strings::Plain;
+ghost use mathlib.Core.Path.{_≡_};
+ghost use mathlib.Core.List.{_++_};
+ghost use Prim.Native.Nat.{_+_, _*_, _≤_, min};
+ghost use lib.ListN.{length};
+ghost use Rattle.model.specs.Lists.{any, keep};
+ghost use Rattle.model.specs.Tape.{recordAt, recordsAt, nodeCodec, places as placesIn, bookAt};
+ghost use Rattle.model.specs.Store.{storeOf};
+ghost use Rattle.model.specs.Region.{isRuby, isReferencedFormat};
+ghost use Rattle.model.specs.Merge.{introducesRubyFormatDependency};
+ghost use Rattle.laws.specs.Nodes.{endsBy, startsAt};
+ghost use Rattle.bounds.specs.Spans.{spanOf};
+ghost use Rattle.strings.specs.Starts.{storeIn, lengthsIn, Readable};
+ghost use Rattle.strings.specs.Shown.{Resolvable};
+ghost use Rattle.strings.specs.PlainContent.{plainString};
+ghost use Rattle.dependency.specs.Bases.{amongBases};
+ghost use Rattle.dependency.specs.Sound.{Sound, SoundNode, PlainIn};
+ghost use Rattle.dependency.specs.Noted.{firstWords, Noted};
+ghost use Rattle.region.specs.Ready.{Ready};
+ghost use Rattle.region.specs.Held.{Held};
+ghost use Rattle.introduces.specs.Linked.{formatFrom, refersTo, rubyForLater};
+ghost use Rattle.introduces.specs.Words.{lastWords, KeptIndexes, BothIndexed};
+
+fn any_ruby(tape: &[u8], at: usize, count: usize) -> bool
+    requires { ⌜ at + 49 * count ≤ length (now tape) ⌝ }
+    ensures { λ r. ⌜ r ≡ any isRuby (recordsAt nodeCodec (now (tape .entry)) at count) ⌝ }
+{
+    let mut i = 0;
+    while i < count {
+        if dependency::is_ruby(tape, at + 49 * i) {
+            return true;
+        }
+        i += 1;
+    }
+    false
+}
+
+fn is_format_from(tape: &[u8], at: usize, from: u32) -> bool
+    requires { ⌜ at + 49 ≤ length (now tape) ⌝ }
+    ensures { λ r. ⌜ r ≡ formatFrom from (recordAt nodeCodec (now (tape .entry)) at) ⌝ }
+{
+    if !dependency::is_referenced_format(tape, at) {
+        return false;
+    }
+    from <= records::node_start(tape, at)
+}
+
+// A Referenced Format that starts at or behind an offset.
+fn any_format_from(tape: &[u8], at: usize, count: usize, from: u32) -> bool
+    requires { ⌜ at + 49 * count ≤ length (now tape) ⌝ }
+    ensures { λ r. ⌜ r ≡ any isReferencedFormat (keep (startsAt from) (recordsAt nodeCodec (now (tape .entry)) at count)) ⌝ }
+{
+    let mut i = 0;
+    while i < count {
+        if is_format_from(tape, at + 49 * i, from) {
+            return true;
+        }
+        i += 1;
+    }
+    false
+}
+
+// A Ruby of the reading and a Referenced Format behind the region.
+fn ruby_for_later(
+    tape: &[u8],
+    at: usize,
+    count: usize,
+    reading: &[u8],
+    place: usize,
+    nodes: usize,
+    end: u32,
+) -> bool
+    requires { ⌜ (at + 49 * count ≤ length (now tape)) × (place + 49 * nodes ≤ length (now reading)) ⌝ }
+    ensures { λ r. ⌜ r ≡ rubyForLater (recordsAt nodeCodec (now (reading .entry)) place nodes) (recordsAt nodeCodec (now (tape .entry)) at count) end ⌝ }
+{
+    if !any_ruby(reading, place, nodes) {
+        return false;
+    }
+    any_format_from(tape, at, count, end)
+}
+
+// The bases of the Rubies among these nodes, inserted. The words before `base` are kept.
+fn note_rubies<'a>(
+    tape: &[u8],
+    st: store::Store,
+    words: &mut [u32],
+    base: usize,
+    old: &'a [u8],
+    new: &'a [u8],
+    at: usize,
+    count: usize,
+)
+    requires { ⌜ Sound (now tape) st (firstWords base (now words)) (now old) (now new) at count ⌝ }
+    requires { ⌜ base ≤ length (now words) ⌝ }
+    ensures { λ _. ⌜ (firstWords base (now (words .exit)) ≡ firstWords base (now (words .entry))) × Noted (storeIn (now (tape .entry)) (now (old .entry) ++ now (new .entry))) (recordsAt nodeCodec (now (tape .entry)) at count) (now (words .exit)) base ⌝ }
+{
+    let mut i = 0;
+    while i < count {
+        dependency::note_ruby(tape, st, words, base, old, new, at + 49 * i);
+        i += 1;
+    }
+}
+
+// The same in a filter that begins as zeros.
+fn note_bases<'a>(
+    tape: &[u8],
+    st: store::Store,
+    words: &mut [u32],
+    base: usize,
+    old: &'a [u8],
+    new: &'a [u8],
+    at: usize,
+    count: usize,
+)
+    requires { ⌜ Sound (now tape) st (firstWords base (now words)) (now old) (now new) at count ⌝ }
+    requires { ⌜ base ≤ length (now words) ⌝ }
+    ensures { λ _. ⌜ (firstWords base (now (words .exit)) ≡ firstWords base (now (words .entry))) × Noted (storeIn (now (tape .entry)) (now (old .entry) ++ now (new .entry))) (recordsAt nodeCodec (now (tape .entry)) at count) (now (words .exit)) base ⌝ }
+{
+    let end = words.len();
+    wire::zero_words(&mut words[base..end]);
+    note_rubies(tape, st, words, base, old, new, at, count);
+}
+
+// Is a string of the reading the base of a Ruby among the old nodes? `words` have the old index and the filter, `index` is the reading's.
+fn is_base_of<'a, 'b>(
+    tape: &[u8],
+    st: store::Store,
+    words: &[u32],
+    base: usize,
+    old: &'a [u8],
+    new: &'a [u8],
+    at: usize,
+    count: usize,
+    reading: &[u8],
+    own: store::Store,
+    index: &[u32],
+    front: &'b [u8],
+    back: &'b [u8],
+    p: Plain,
+) -> bool
+    requires { ⌜ Sound (now tape) st (firstWords base (now words)) (now old) (now new) at count ⌝ }
+    requires { ⌜ base ≤ length (now words) ⌝ }
+    requires { ⌜ Noted (storeIn (now tape) (now old ++ now new)) (recordsAt nodeCodec (now tape) at count) (now words) base ⌝ }
+    requires { ⌜ Resolvable (now reading) own (now index) (now front) (now back) ⌝ }
+    requires { ⌜ PlainIn own p ⌝ }
+    ensures { λ r. ⌜ r ≡ amongBases (storeIn (now (tape .entry)) (now (old .entry) ++ now (new .entry))) (recordsAt nodeCodec (now (tape .entry)) at count) (plainString (storeIn (now (reading .entry)) (now (front .entry) ++ now (back .entry))) p) ⌝ }
+{
+    match p {
+        Plain::Id(id) => {
+            let s = strings::resolve_str(reading, own, index, front, back, id);
+            return dependency::is_filtered_base(tape, st, words, base, old, new, at, count, s);
+        }
+        Plain::Nothing => {
+            return false;
+        }
+    }
+}
+
+// A Referenced Format of the reading whose target is the base of a Ruby among the old nodes.
+fn refers_to<'a, 'b>(
+    tape: &[u8],
+    st: store::Store,
+    words: &[u32],
+    base: usize,
+    old: &'a [u8],
+    new: &'a [u8],
+    at: usize,
+    count: usize,
+    reading: &[u8],
+    own: store::Store,
+    index: &[u32],
+    front: &'b [u8],
+    back: &'b [u8],
+    place: usize,
+) -> bool
+    requires { ⌜ Sound (now tape) st (firstWords base (now words)) (now old) (now new) at count ⌝ }
+    requires { ⌜ base ≤ length (now words) ⌝ }
+    requires { ⌜ Noted (storeIn (now tape) (now old ++ now new)) (recordsAt nodeCodec (now tape) at count) (now words) base ⌝ }
+    requires { ⌜ SoundNode (now reading) own (now index) (now front) (now back) place ⌝ }
+    ensures { λ r. ⌜ r ≡ refersTo (storeIn (now (tape .entry)) (now (old .entry) ++ now (new .entry))) (recordsAt nodeCodec (now (tape .entry)) at count) (storeIn (now (reading .entry)) (now (front .entry) ++ now (back .entry))) (recordAt nodeCodec (now (reading .entry)) place) ⌝ }
+{
+    if !dependency::is_referenced_format(reading, place) {
+        return false;
+    }
+    let p = dependency::first_plain(reading, own, place);
+    is_base_of(
+        tape,
+        st,
+        words,
+        base,
+        old,
+        new,
+        at,
+        count,
+        reading,
+        own,
+        index,
+        front,
+        back,
+        p,
+    )
+}
+
+fn any_refers_to<'a, 'b>(
+    tape: &[u8],
+    st: store::Store,
+    words: &[u32],
+    base: usize,
+    old: &'a [u8],
+    new: &'a [u8],
+    at: usize,
+    count: usize,
+    reading: &[u8],
+    own: store::Store,
+    index: &[u32],
+    front: &'b [u8],
+    back: &'b [u8],
+    place: usize,
+    nodes: usize,
+) -> bool
+    requires { ⌜ Sound (now tape) st (firstWords base (now words)) (now old) (now new) at count ⌝ }
+    requires { ⌜ base ≤ length (now words) ⌝ }
+    requires { ⌜ Noted (storeIn (now tape) (now old ++ now new)) (recordsAt nodeCodec (now tape) at count) (now words) base ⌝ }
+    requires { ⌜ Sound (now reading) own (now index) (now front) (now back) place nodes ⌝ }
+    ensures { λ r. ⌜ r ≡ any (refersTo (storeIn (now (tape .entry)) (now (old .entry) ++ now (new .entry))) (recordsAt nodeCodec (now (tape .entry)) at count) (storeIn (now (reading .entry)) (now (front .entry) ++ now (back .entry)))) (recordsAt nodeCodec (now (reading .entry)) place nodes) ⌝ }
+{
+    let mut i = 0;
+    while i < nodes {
+        if refers_to(
+            tape,
+            st,
+            words,
+            base,
+            old,
+            new,
+            at,
+            count,
+            reading,
+            own,
+            index,
+            front,
+            back,
+            place + 49 * i,
+        ) {
+            return true;
+        }
+        i += 1;
+    }
+    false
+}
+
+// An index of the old book's strings in the words before `base`, an index of the reading's strings in those from `middle` on.
+fn index_both(
+    tape: &[u8],
+    st: store::Store,
+    room: usize,
+    reading: &[u8],
+    own: store::Store,
+    space: usize,
+    words: &mut [u32],
+    base: usize,
+    middle: usize,
+)
+    requires { ⌜ Readable (now tape) st room ⌝ }
+    requires { ⌜ Readable (now reading) own space ⌝ }
+    requires { ⌜ (base ≤ middle) × (middle ≤ length (now words)) ⌝ }
+    ensures { λ _. ⌜ BothIndexed (lengthsIn (now (tape .entry))) (lengthsIn (now (reading .entry))) (now (words .exit)) base middle ⌝ }
+{
+    let end = words.len();
+    region::index_words(tape, st, room, &mut words[0..middle], base);
+    strings::index_strings(reading, own, space, &mut words[middle..end]);
+}
+
+// A Referenced Format of the reading whose target is the base of a Ruby among the old nodes, by words that have both indexes. The indexes
+// are kept.
+fn refers_to_some<'a, 'b>(
+    tape: &[u8],
+    st: store::Store,
+    words: &mut [u32],
+    base: usize,
+    middle: usize,
+    old: &'a [u8],
+    new: &'a [u8],
+    at: usize,
+    count: usize,
+    reading: &[u8],
+    own: store::Store,
+    front: &'b [u8],
+    back: &'b [u8],
+    place: usize,
+    nodes: usize,
+) -> bool
+    requires { ⌜ (base ≤ middle) × (middle ≤ length (now words)) ⌝ }
+    requires { ⌜ Sound (now tape) st (firstWords base (firstWords middle (now words))) (now old) (now new) at count ⌝ }
+    requires { ⌜ Sound (now reading) own (lastWords middle (now words)) (now front) (now back) place nodes ⌝ }
+    ensures { λ r. ⌜ (r ≡ any (refersTo (storeIn (now (tape .entry)) (now (old .entry) ++ now (new .entry))) (recordsAt nodeCodec (now (tape .entry)) at count) (storeIn (now (reading .entry)) (now (front .entry) ++ now (back .entry)))) (recordsAt nodeCodec (now (reading .entry)) place nodes)) × KeptIndexes (now (words .entry)) base middle (now (words .exit)) ⌝ }
+{
+    note_bases(tape, st, &mut words[0..middle], base, old, new, at, count);
+    any_refers_to(
+        tape,
+        st,
+        &words[0..middle],
+        base,
+        old,
+        new,
+        at,
+        count,
+        reading,
+        own,
+        &words[middle..words.len()],
+        front,
+        back,
+        place,
+        nodes,
+    )
+}
+
+fn fewer(a: usize, b: usize) -> usize
+    ensures { λ r. ⌜ r ≡ min a b ⌝ }
+{
+    if a < b {
+        return a;
+    }
+    b
+}
+
+// The same, with no more old nodes at a time than the filter has words.
+fn refers_by_index<'a, 'b>(
+    tape: &[u8],
+    st: store::Store,
+    words: &mut [u32],
+    base: usize,
+    middle: usize,
+    old: &'a [u8],
+    new: &'a [u8],
+    at: usize,
+    count: usize,
+    reading: &[u8],
+    own: store::Store,
+    front: &'b [u8],
+    back: &'b [u8],
+    place: usize,
+    nodes: usize,
+) -> bool
+    requires { ⌜ (base ≤ middle) × (middle ≤ length (now words)) ⌝ }
+    requires { ⌜ Sound (now tape) st (firstWords base (firstWords middle (now words))) (now old) (now new) at count ⌝ }
+    requires { ⌜ Sound (now reading) own (lastWords middle (now words)) (now front) (now back) place nodes ⌝ }
+    ensures { λ r. ⌜ r ≡ any (refersTo (storeIn (now (tape .entry)) (now (old .entry) ++ now (new .entry))) (recordsAt nodeCodec (now (tape .entry)) at count) (storeIn (now (reading .entry)) (now (front .entry) ++ now (back .entry)))) (recordsAt nodeCodec (now (reading .entry)) place nodes) ⌝ }
+{
+    let size = middle - base + 1;
+    let mut i = 0;
+    while i < count {
+        let n = fewer(size, count - i);
+        if refers_to_some(
+            tape,
+            st,
+            words,
+            base,
+            middle,
+            old,
+            new,
+            at + 49 * i,
+            n,
+            reading,
+            own,
+            front,
+            back,
+            place,
+            nodes,
+        ) {
+            return true;
+        }
+        i += n;
+    }
+    false
+}
+
+// A Referenced Format of the reading whose target is the base of a Ruby before the region.
+fn refers_before(
+    tape: &[u8],
+    bytes: &[u8],
+    p: places::Places,
+    st: store::Store,
+    reading: &[u8],
+    letters: &[u8],
+    q: places::Places,
+    own: store::Store,
+    words: &mut [u32],
+    base: usize,
+    middle: usize,
+    start: u32,
+) -> bool
+    requires { ⌜ (base ≤ middle) × (middle ≤ length (now words)) ⌝ }
+    requires { ⌜ Ready (now tape) (now bytes) p st (firstWords base (firstWords middle (now words))) ⌝ }
+    requires { ⌜ Ready (now reading) (now letters) q own (lastWords middle (now words)) ⌝ }
+    ensures { λ r. ⌜ r ≡ any (refersTo (storeOf (bookAt (now (tape .entry)) (placesIn (now (tape .entry))) (now (bytes .entry)) .layers)) (keep (endsBy start) (bookAt (now (tape .entry)) (placesIn (now (tape .entry))) (now (bytes .entry)) .sourceNodes)) (storeOf (bookAt (now (reading .entry)) (placesIn (now (reading .entry))) (now (letters .entry)) .layers))) (bookAt (now (reading .entry)) (placesIn (now (reading .entry))) (now (letters .entry)) .sourceNodes) ⌝ }
+{
+    let n = reading::nodes_until(tape, p.nodes.at, p.nodes.count, start);
+    let first = p.text as usize + p.normalized as usize;
+    let cut = region::last_strings_at(tape, bytes, p, st);
+    let begin = q.text as usize + q.normalized as usize;
+    let part = region::last_strings_at(reading, letters, q, own);
+    refers_by_index(
+        tape,
+        st,
+        words,
+        base,
+        middle,
+        &bytes[first..cut],
+        &bytes[cut..bytes.len()],
+        p.nodes.at,
+        n,
+        reading,
+        own,
+        &letters[begin..part],
+        &letters[part..letters.len()],
+        q.nodes.at,
+        q.nodes.count,
+    )
+}
+
+// Number 15. `introduces_ruby_format_dependency` of a book and a reading that passed 1 to 7, with the region from `start` to `end`.
+pub fn introduces_ruby_format_dependency(
+    tape: &[u8],
+    bytes: &[u8],
+    p: places::Places,
+    st: store::Store,
+    reading: &[u8],
+    letters: &[u8],
+    q: places::Places,
+    own: store::Store,
+    words: &mut [u32],
+    start: u32,
+    end: u32,
+) -> bool
+    requires { ⌜ Held (now tape) (now bytes) p st ⌝ }
+    requires { ⌜ Held (now reading) (now letters) q own ⌝ }
+    ensures { λ r. ⌜ r ≡ introducesRubyFormatDependency (bookAt (now (tape .entry)) (placesIn (now (tape .entry))) (now (bytes .entry))) (bookAt (now (reading .entry)) (placesIn (now (reading .entry))) (now (letters .entry))) (spanOf start end) ⌝ }
+{
+    if ruby_for_later(
+        tape,
+        p.nodes.at,
+        p.nodes.count,
+        reading,
+        q.nodes.at,
+        q.nodes.count,
+        end,
+    ) {
+        return true;
+    }
+    if !any_format_from(reading, q.nodes.at, q.nodes.count, 0) {
+        return false;
+    }
+    let base = words.len() / 3;
+    let middle = base + base;
+    index_both(
+        tape,
+        st,
+        bytes.len(),
+        reading,
+        own,
+        letters.len(),
+        words,
+        base,
+        middle,
+    );
+    refers_before(
+        tape,
+        bytes,
+        p,
+        st,
+        reading,
+        letters,
+        q,
+        own,
+        words,
+        base,
+        middle,
+        start,
+    )
+}

@@ -1,0 +1,5 @@
+pub mod Text
+pub mod Balance
+pub mod Until
+pub mod Window
+pub mod Book
