@@ -1,0 +1,4 @@
+pub mod Window
+pub mod Parts
+pub mod Counted
+pub mod Kinds
