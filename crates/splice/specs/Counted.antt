@@ -11,7 +11,7 @@ use Rattle.model.specs.Bytes.{wordAt}
 use Rattle.model.specs.Tape.{Codec, recordSize, recordAt, recordsAt}
 use Rattle.model.specs.Merge.{MergeWindow, Located, keptBefore, keptBehind}
 use Rattle.laws.specs.Keep.{keep-append, keep-map}
-use Rattle.wire.specs.Loops.{tabulate-last}
+use Rattle.wire.specs.Loops.{tabulate-last, by-bool}
 use Rattle.splice.specs.Parts.{spanIn, isIn, asIn, partOf}
 use Rattle.splice.specs.declared.Part.{Part}
 
@@ -44,15 +44,13 @@ module _ (f : ℕ → Bool) (at z : ℕ) where
     here : f (at + z * i) ≡ r
     here = ap f (sym e) ∙ sym a
 
-    pub count-yes : r ≡ true → n + 1 ≡ length (keep f (placesFrom at z (i + 1)))
-    count-yes t =
-        let one : length (keep f ((at + z * i) ∷ [])) ≡ 1 = rw (here, t) refl in
-        omega (arith, c, kept-more i, one)
+    pub count-more : {m : ℕ} → m ≡ cond r 1 0 → n + m ≡ length (keep f (placesFrom at z (i + 1)))
+    count-more {m} t =
+        let one : length (keep f ((at + z * i) ∷ [])) ≡ cond r 1 0 = ap (λ (b : Bool). length (cond b ((at + z * i) ∷ []) [])) here ∙ by-bool r (λ y. rw y refl) (λ y. rw y refl) in
+        omega (arith, c, kept-more i, one, t)
 
-    pub count-no : r ≡ false → n ≡ length (keep f (placesFrom at z (i + 1)))
-    count-no t =
-        let none : length (keep f ((at + z * i) ∷ [])) ≡ 0 = rw (here, t) refl in
-        omega (arith, c, kept-more i, none)
+    pub count-most : n ≤ i → n + cond r 1 0 ≤ i + 1
+    count-most h = by-bool r (λ y. rw y (omega arith)) (λ y. rw y (omega arith))
 
   pub count-all : (n i m : ℕ) → n ≡ length (keep f (placesFrom at z i)) → i ≡ m → n ≡ length (keep f (placesFrom at z m))
   count-all n i m c e = rw e at c

@@ -2,3 +2,4 @@ pub mod Window
 pub mod Parts
 pub mod Counted
 pub mod Kinds
+pub mod Written
