@@ -12,8 +12,10 @@ use Rattle.model.specs.Tape.{Codec, recordSize, recordAt, recordsAt}
 use Rattle.model.specs.Merge.{MergeWindow, Located, keptBefore, keptBehind}
 use Rattle.laws.specs.Keep.{keep-append, keep-map}
 use Rattle.wire.specs.Loops.{tabulate-last, by-bool}
-use Rattle.splice.specs.Parts.{spanIn, isIn, asIn, partOf}
+use Rattle.records.specs.Runs.{run-length}
+use Rattle.splice.specs.Parts.{spanIn, isIn, asIn, partOf, part-before, part-reading, part-behind}
 use Rattle.splice.specs.declared.Part.{Part}
+use Rattle.splice.specs.declared.Part.the-variants.{Before, Reading, Behind}
 
 -- the same of a record at q, whose words at `first` and `last` are its start and its end less `extra`
 unfoldable pub rowIn : List ℕ → ℕ → ℕ → ℕ → ℕ → ℕ → Part → ℕ → Bool
@@ -90,3 +92,16 @@ module _ {A : Type 0} (c : Codec A) (l : Located A) (w : MergeWindow) (p : Part)
 
 pub moved-count : {A B : Type 0} (f : A → B) (xs : List A) → length (map f xs) ≡ length xs
 moved-count f xs = length-map f xs
+
+-- ---- room for a part
+
+module _ {A : Type 0} (l : Located A) (w : MergeWindow) (xs : List A) (to z n : ℕ) where
+  pub before-room : to + z * length (keptBefore l w xs) ≤ n → to + z * length (partOf l w Before xs) ≤ n
+  before-room h = rw (part-before l w xs) h
+
+  pub behind-room : to + z * length (keptBehind l w xs) ≤ n → to + z * length (partOf l w Behind xs) ≤ n
+  behind-room h = rw (part-behind l w xs, length-map (l .moved w) (keptBehind l w xs)) h
+
+pub reading-room : {A : Type 0} (c : Codec A) (l : Located A) (w : MergeWindow) (t : List ℕ) (at count to z n : ℕ)
+    → to + z * count ≤ n → to + z * length (partOf l w Reading (recordsAt c t at count)) ≤ n
+reading-room c l w t at count to z n h = rw (part-reading l w (recordsAt c t at count), length-map (l .placed w) (recordsAt c t at count), run-length c t at count) h

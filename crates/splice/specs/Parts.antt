@@ -12,7 +12,7 @@ use Rattle.model.specs.Tape.{Codec, recordSize, recordAt, recordsAt, recordByte
 use Rattle.model.specs.Merge.{MergeWindow, Located, keptBefore, keptBehind}
 use Rattle.laws.specs.Lists.{map-append}
 use Rattle.laws.specs.Keep.{keep-append}
-use Rattle.wire.specs.Overwrite.{overwrite, Wrote, wrote-none, wrote-next, overwrite-nil}
+use Rattle.wire.specs.Overwrite.{overwrite, Wrote, wrote-none, wrote-next, overwrite-nil, length-overwrite}
 use Rattle.wire.specs.Loops.{by-bool}
 use Rattle.graft.specs.Records.{records-more, records-parts}
 use Rattle.graft.specs.Grafted.{bytes-append}
@@ -166,8 +166,8 @@ module _ {A : Type 0} {c : Codec A} {l : Located A} {z : ℕ} (k : Kind c l z) (
             omega (arith, m, g, o, u .place, u .long, room)
 
         pub put-more : {next′ : ℕ} {out′ : List ℕ} → next′ ≡ next + length (itemBytes c l w p (recordAt c t q)) → out′ ≡ overwrite out next (itemBytes c l w p (recordAt c t q))
-            → length out′ ≡ length out → PutUpTo c l w p t at d to (i + 1) next′ out′
-        put-more {next′} {out′} a b s =
+            → PutUpTo c l w p t at d to (i + 1) next′ out′
+        put-more {next′} {out′} a b =
             let a′ : next′ ≡ next + length (itemBytes c l w p (item i)) = rw here at a in
             let b′ : out′ ≡ overwrite out next (itemBytes c l w p (item i)) = rw here at b in
             let m = bytes-more i in
@@ -176,5 +176,20 @@ module _ {A : Type 0} {c : Codec A} {l : Located A} {z : ℕ} (k : Kind c l z) (
             record {
               wrote = rw m (wrote-next (u .wrote) next (itemBytes c l w p (item i)) b′ (u .place) (omega (arith, u .place, x, y, room)));
               place = omega (arith, a′, u .place, x);
-              long = s ∙ u .long;
+              long = ap length b′ ∙ length-overwrite out next (itemBytes c l w p (item i)) (omega (arith, u .place, u .long, x, y, room)) ∙ u .long;
             }
+
+-- ---- one item, as the code writes it or leaves it
+
+module _ {A : Type 0} {c : Codec A} {l : Located A} {z : ℕ} (k : Kind c l z) (w : MergeWindow) (p : Part) (t : List ℕ) (q : ℕ) (d : List ℕ) (to : ℕ) where
+  abbrev record-item : List ℕ
+  record-item = itemBytes c l w p (recordAt c t q)
+
+  pub item-none : isIn l w p (recordAt c t q) ≡ false → (to ≡ to + length record-item) × (d ≡ overwrite d to record-item)
+  item-none h = let e = item-left c l w p (recordAt c t q) h in rw (← e) (omega arith, overwrite-nil d to)
+
+  pub item-put : {bs d′ : List ℕ} → isIn l w p (recordAt c t q) ≡ true → d′ ≡ overwrite d to bs → bs ≡ recordBytes c (asIn l w p (recordAt c t q))
+      → (to + z ≡ to + length record-item) × (d′ ≡ overwrite d to record-item)
+  item-put h e b =
+      let i = item-kept c l w p (recordAt c t q) h in
+      (ap (λ (n : ℕ). to + n) (sym (k .width t q w p) ∙ ap length i), e ∙ ap (overwrite d to) (b ∙ i))
