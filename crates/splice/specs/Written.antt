@@ -2,10 +2,14 @@
 use mathlib.Core.Path.{_≡_, refl, sym, ap, _∙_}
 use Prim.Native.Nat.{ℕ, _+_, _*_, _%_, _/_}
 use native.Mathlib.Omega.{arith}
+use mathlib.Core.Option.{Option, none, some, Option·getD}
+use lib.IntN.{ℤ}
 use mathlib.Core.List.{List, [], _∷_, _++_, append-nil, append-assoc}
 use lib.ListN.{length}
 use Rattle.model.specs.Bytes.{wordBytes}
 use Rattle.model.specs.Tape.{recordBytes, operandBytes, pairCodec, containerCodec, diagnosticCodec}
+use Rattle.model.specs.Offset.{shiftU32}
+use Rattle.model.specs.Merge.{movedOffset}
 use Rattle.wire.specs.Overwrite.{overwrite, Wrote}
 
 -- a command, a byte and four words
@@ -52,3 +56,14 @@ pub container-placed : (plain opening closing start : ℕ)
     ≡ recordBytes containerCodec (record { plain = plain; opening = opening + start; closing = closing + start })
 unfolding recordBytes operandBytes containerCodec
 container-placed plain opening closing start = rw (word-rest (opening + start), word-rest (closing + start)) refl
+
+-- ---- an offset of the old rest, as `shift_by` answers
+
+module _ (o : ℕ) (by : ℤ) where
+  pub moved-some : (n : ℕ) → some n ≡ shiftU32 o by → n ≡ movedOffset o by
+  unfolding movedOffset
+  moved-some n e = ap (λ (x : Option ℕ). Option·getD x 0) e
+
+  pub moved-none : none ≡ shiftU32 o by → 0 ≡ movedOffset o by
+  unfolding movedOffset
+  moved-none e = ap (λ (x : Option ℕ). Option·getD x 0) e

@@ -267,3 +267,313 @@ pub fn put_behind_pairs(
 {
     put_pairs(tape, at, count, w, Part::Behind, out, to);
 }
+
+// ---- containers, `merge_container_pairs`: in the normalized text; one ends behind its close
+
+fn container_in(tape: &[u8], at: usize, w: Window, part: Part) -> bool
+    requires { ⌜ at + 13 ≤ length (now tape) ⌝ }
+    ensures { λ r. ⌜ r ≡ isIn containerLocated (windowValue w) part (recordAt containerCodec (now (tape .entry)) at) ⌝ }
+{
+    row_in(tape, at, 5, 9, 1, w.nstart, w.nend, part)
+}
+
+fn count_containers(tape: &[u8], at: usize, count: usize, w: Window, part: Part) -> usize
+    requires { ⌜ at + 13 * count ≤ length (now tape) ⌝ }
+    ensures { λ r. ⌜ r ≡ length (partOf containerLocated (windowValue w) part (recordsAt containerCodec (now (tape .entry)) at count)) ⌝ }
+{
+    count_in(tape, at, count, 13, 5, 9, 1, w.nstart, w.nend, part)
+}
+
+// A sum that does not fit a word is written by its low 32 bits; an accepted reading has none.
+fn plus(o: u32, start: u32) -> u32
+    ensures { λ r. ⌜ r ≡ (o + start) % 4294967296 ⌝ }
+{
+    ((o as u64 + start as u64) % 4294967296) as u32
+}
+
+fn moved_offset(o: u32, by: span::Amount) -> u32
+    ensures { λ r. ⌜ r ≡ movedOffset o (valueOf by) ⌝ }
+{
+    let moved = span::shift_by(o, by);
+    match moved {
+        span::OptionU32::Some(n) => n,
+        span::OptionU32::None => 0,
+    }
+}
+
+fn container_as_in(p: records::ContainerPair, w: Window, part: Part) -> records::ContainerPair
+    ensures { λ r. ⌜ recordBytes containerCodec (containerPairOf r) ≡ recordBytes containerCodec (asIn containerLocated (windowValue w) part (containerPairOf p)) ⌝ }
+{
+    match part {
+        Part::Before => p,
+        Part::Reading => records::ContainerPair {
+            plain: p.plain,
+            opening: plus(p.opening, w.nstart),
+            closing: plus(p.closing, w.nstart),
+        },
+        Part::Behind => {
+            let by = w.nby;
+            records::ContainerPair {
+                plain: p.plain,
+                opening: moved_offset(p.opening, by),
+                closing: moved_offset(p.closing, by),
+            }
+        }
+    }
+}
+
+fn put_container(out: &mut [u8], at: usize, p: records::ContainerPair)
+    requires { ⌜ at + 13 ≤ length (now out) ⌝ }
+    ensures { λ _. ⌜ now (out .exit) ≡ overwrite (now (out .entry)) at (recordBytes containerCodec (containerPairOf p)) ⌝ }
+{
+    wire::put_u8(out, at, 8);
+    wire::put_u32(out, at + 1, p.plain);
+    wire::put_u32(out, at + 5, p.opening);
+    wire::put_u32(out, at + 9, p.closing);
+}
+
+// The container at a place as it stands in a part, or nothing; the next place.
+fn put_container_item(
+    tape: &[u8],
+    at: usize,
+    w: Window,
+    part: Part,
+    out: &mut [u8],
+    to: usize,
+) -> usize
+    requires { ⌜ at + 13 ≤ length (now tape) ⌝ }
+    requires { ⌜ (isIn containerLocated (windowValue w) part (recordAt containerCodec (now tape) at) ≡ true → to + 13 ≤ length (now out)) ⌝ }
+    ensures { λ r. ⌜ (r ≡ to + length (itemBytes containerCodec containerLocated (windowValue w) part (recordAt containerCodec (now (tape .entry)) at))) × (now (out .exit) ≡ overwrite (now (out .entry)) to (itemBytes containerCodec containerLocated (windowValue w) part (recordAt containerCodec (now (tape .entry)) at))) ⌝ }
+{
+    if !container_in(tape, at, w, part) {
+        return to;
+    }
+    put_container(out, to, container_as_in(records::container_at(tape, at), w, part));
+    to + 13
+}
+
+fn put_containers(
+    tape: &[u8],
+    at: usize,
+    count: usize,
+    w: Window,
+    part: Part,
+    out: &mut [u8],
+    to: usize,
+)
+    requires { ⌜ at + 13 * count ≤ length (now tape) ⌝ }
+    requires { ⌜ to + 13 * length (partOf containerLocated (windowValue w) part (recordsAt containerCodec (now tape) at count)) ≤ length (now out) ⌝ }
+    ensures { λ _. ⌜ now (out .exit) ≡ overwrite (now (out .entry)) to (recordsBytes containerCodec (partOf containerLocated (windowValue w) part (recordsAt containerCodec (now (tape .entry)) at count))) ⌝ }
+{
+    let mut next = to;
+    let mut i = 0;
+    while i < count {
+        next = put_container_item(tape, at + 13 * i, w, part, out, next);
+        i += 1;
+    }
+}
+
+pub fn kept_before_containers(tape: &[u8], at: usize, count: usize, w: Window) -> usize
+    requires { ⌜ at + 13 * count ≤ length (now tape) ⌝ }
+    ensures { λ r. ⌜ r ≡ length (keptBefore containerLocated (windowValue w) (recordsAt containerCodec (now (tape .entry)) at count)) ⌝ }
+{
+    count_containers(tape, at, count, w, Part::Before)
+}
+
+pub fn kept_behind_containers(tape: &[u8], at: usize, count: usize, w: Window) -> usize
+    requires { ⌜ at + 13 * count ≤ length (now tape) ⌝ }
+    ensures { λ r. ⌜ r ≡ length (keptBehind containerLocated (windowValue w) (recordsAt containerCodec (now (tape .entry)) at count)) ⌝ }
+{
+    count_containers(tape, at, count, w, Part::Behind)
+}
+
+pub fn put_before_containers(
+    tape: &[u8],
+    at: usize,
+    count: usize,
+    w: Window,
+    out: &mut [u8],
+    to: usize,
+)
+    requires { ⌜ at + 13 * count ≤ length (now tape) ⌝ }
+    requires { ⌜ to + 13 * length (keptBefore containerLocated (windowValue w) (recordsAt containerCodec (now tape) at count)) ≤ length (now out) ⌝ }
+    ensures { λ _. ⌜ now (out .exit) ≡ overwrite (now (out .entry)) to (recordsBytes containerCodec (keptBefore containerLocated (windowValue w) (recordsAt containerCodec (now (tape .entry)) at count))) ⌝ }
+{
+    put_containers(tape, at, count, w, Part::Before, out, to);
+}
+
+pub fn put_placed_containers(
+    tape: &[u8],
+    at: usize,
+    count: usize,
+    w: Window,
+    out: &mut [u8],
+    to: usize,
+)
+    requires { ⌜ (at + 13 * count ≤ length (now tape)) × (to + 13 * count ≤ length (now out)) ⌝ }
+    ensures { λ _. ⌜ now (out .exit) ≡ overwrite (now (out .entry)) to (recordsBytes containerCodec (map (containerLocated .placed (windowValue w)) (recordsAt containerCodec (now (tape .entry)) at count))) ⌝ }
+{
+    put_containers(tape, at, count, w, Part::Reading, out, to);
+}
+
+pub fn put_behind_containers(
+    tape: &[u8],
+    at: usize,
+    count: usize,
+    w: Window,
+    out: &mut [u8],
+    to: usize,
+)
+    requires { ⌜ at + 13 * count ≤ length (now tape) ⌝ }
+    requires { ⌜ to + 13 * length (keptBehind containerLocated (windowValue w) (recordsAt containerCodec (now tape) at count)) ≤ length (now out) ⌝ }
+    ensures { λ _. ⌜ now (out .exit) ≡ overwrite (now (out .entry)) to (recordsBytes containerCodec (map (containerLocated .moved (windowValue w)) (keptBehind containerLocated (windowValue w) (recordsAt containerCodec (now (tape .entry)) at count)))) ⌝ }
+{
+    put_containers(tape, at, count, w, Part::Behind, out, to);
+}
+
+// ---- diagnostics, `merge_diagnostics`
+
+fn diagnostic_in(tape: &[u8], at: usize, w: Window, part: Part) -> bool
+    requires { ⌜ at + 18 ≤ length (now tape) ⌝ }
+    ensures { λ r. ⌜ r ≡ isIn diagnosticLocated (windowValue w) part (recordAt diagnosticCodec (now (tape .entry)) at) ⌝ }
+{
+    row_in(tape, at, 6, 10, 0, w.start, w.end, part)
+}
+
+fn count_diagnostics(tape: &[u8], at: usize, count: usize, w: Window, part: Part) -> usize
+    requires { ⌜ at + 18 * count ≤ length (now tape) ⌝ }
+    ensures { λ r. ⌜ r ≡ length (partOf diagnosticLocated (windowValue w) part (recordsAt diagnosticCodec (now (tape .entry)) at count)) ⌝ }
+{
+    count_in(tape, at, count, 18, 6, 10, 0, w.start, w.end, part)
+}
+
+fn shifted_diagnostic(d: records::Diagnostic, by: span::Amount) -> records::Diagnostic
+    ensures { λ r. ⌜ diagnosticOf r ≡ shiftedDiagnostic (valueOf by) (diagnosticOf d) ⌝ }
+{
+    records::Diagnostic {
+        kind: d.kind,
+        rank: d.rank,
+        start: span::shift_clamp(d.start, by),
+        end: span::shift_clamp(d.end, by),
+        plain: d.plain,
+    }
+}
+
+fn diagnostic_as_in(d: records::Diagnostic, w: Window, part: Part) -> records::Diagnostic
+    ensures { λ r. ⌜ diagnosticOf r ≡ asIn diagnosticLocated (windowValue w) part (diagnosticOf d) ⌝ }
+{
+    match part {
+        Part::Before => d,
+        Part::Reading => shifted_diagnostic(d, span::Amount::Forward(w.start as u64)),
+        Part::Behind => {
+            let by = w.by;
+            shifted_diagnostic(d, by)
+        }
+    }
+}
+
+fn put_diagnostic(out: &mut [u8], at: usize, d: records::Diagnostic)
+    requires { ⌜ at + 18 ≤ length (now out) ⌝ }
+    ensures { λ _. ⌜ now (out .exit) ≡ overwrite (now (out .entry)) at (recordBytes diagnosticCodec (diagnosticOf d)) ⌝ }
+{
+    put_four(out, at, 9, d.kind, d.rank, d.start, d.end, d.plain);
+}
+
+// The diagnostic at a place as it stands in a part, or nothing; the next place.
+fn put_diagnostic_item(
+    tape: &[u8],
+    at: usize,
+    w: Window,
+    part: Part,
+    out: &mut [u8],
+    to: usize,
+) -> usize
+    requires { ⌜ at + 18 ≤ length (now tape) ⌝ }
+    requires { ⌜ (isIn diagnosticLocated (windowValue w) part (recordAt diagnosticCodec (now tape) at) ≡ true → to + 18 ≤ length (now out)) ⌝ }
+    ensures { λ r. ⌜ (r ≡ to + length (itemBytes diagnosticCodec diagnosticLocated (windowValue w) part (recordAt diagnosticCodec (now (tape .entry)) at))) × (now (out .exit) ≡ overwrite (now (out .entry)) to (itemBytes diagnosticCodec diagnosticLocated (windowValue w) part (recordAt diagnosticCodec (now (tape .entry)) at))) ⌝ }
+{
+    if !diagnostic_in(tape, at, w, part) {
+        return to;
+    }
+    put_diagnostic(out, to, diagnostic_as_in(records::diagnostic_at(tape, at), w, part));
+    to + 18
+}
+
+fn put_diagnostics(
+    tape: &[u8],
+    at: usize,
+    count: usize,
+    w: Window,
+    part: Part,
+    out: &mut [u8],
+    to: usize,
+)
+    requires { ⌜ at + 18 * count ≤ length (now tape) ⌝ }
+    requires { ⌜ to + 18 * length (partOf diagnosticLocated (windowValue w) part (recordsAt diagnosticCodec (now tape) at count)) ≤ length (now out) ⌝ }
+    ensures { λ _. ⌜ now (out .exit) ≡ overwrite (now (out .entry)) to (recordsBytes diagnosticCodec (partOf diagnosticLocated (windowValue w) part (recordsAt diagnosticCodec (now (tape .entry)) at count))) ⌝ }
+{
+    let mut next = to;
+    let mut i = 0;
+    while i < count {
+        next = put_diagnostic_item(tape, at + 18 * i, w, part, out, next);
+        i += 1;
+    }
+}
+
+pub fn kept_before_diagnostics(tape: &[u8], at: usize, count: usize, w: Window) -> usize
+    requires { ⌜ at + 18 * count ≤ length (now tape) ⌝ }
+    ensures { λ r. ⌜ r ≡ length (keptBefore diagnosticLocated (windowValue w) (recordsAt diagnosticCodec (now (tape .entry)) at count)) ⌝ }
+{
+    count_diagnostics(tape, at, count, w, Part::Before)
+}
+
+pub fn kept_behind_diagnostics(tape: &[u8], at: usize, count: usize, w: Window) -> usize
+    requires { ⌜ at + 18 * count ≤ length (now tape) ⌝ }
+    ensures { λ r. ⌜ r ≡ length (keptBehind diagnosticLocated (windowValue w) (recordsAt diagnosticCodec (now (tape .entry)) at count)) ⌝ }
+{
+    count_diagnostics(tape, at, count, w, Part::Behind)
+}
+
+pub fn put_before_diagnostics(
+    tape: &[u8],
+    at: usize,
+    count: usize,
+    w: Window,
+    out: &mut [u8],
+    to: usize,
+)
+    requires { ⌜ at + 18 * count ≤ length (now tape) ⌝ }
+    requires { ⌜ to + 18 * length (keptBefore diagnosticLocated (windowValue w) (recordsAt diagnosticCodec (now tape) at count)) ≤ length (now out) ⌝ }
+    ensures { λ _. ⌜ now (out .exit) ≡ overwrite (now (out .entry)) to (recordsBytes diagnosticCodec (keptBefore diagnosticLocated (windowValue w) (recordsAt diagnosticCodec (now (tape .entry)) at count))) ⌝ }
+{
+    put_diagnostics(tape, at, count, w, Part::Before, out, to);
+}
+
+pub fn put_placed_diagnostics(
+    tape: &[u8],
+    at: usize,
+    count: usize,
+    w: Window,
+    out: &mut [u8],
+    to: usize,
+)
+    requires { ⌜ (at + 18 * count ≤ length (now tape)) × (to + 18 * count ≤ length (now out)) ⌝ }
+    ensures { λ _. ⌜ now (out .exit) ≡ overwrite (now (out .entry)) to (recordsBytes diagnosticCodec (map (diagnosticLocated .placed (windowValue w)) (recordsAt diagnosticCodec (now (tape .entry)) at count))) ⌝ }
+{
+    put_diagnostics(tape, at, count, w, Part::Reading, out, to);
+}
+
+pub fn put_behind_diagnostics(
+    tape: &[u8],
+    at: usize,
+    count: usize,
+    w: Window,
+    out: &mut [u8],
+    to: usize,
+)
+    requires { ⌜ at + 18 * count ≤ length (now tape) ⌝ }
+    requires { ⌜ to + 18 * length (keptBehind diagnosticLocated (windowValue w) (recordsAt diagnosticCodec (now tape) at count)) ≤ length (now out) ⌝ }
+    ensures { λ _. ⌜ now (out .exit) ≡ overwrite (now (out .entry)) to (recordsBytes diagnosticCodec (map (diagnosticLocated .moved (windowValue w)) (keptBehind diagnosticLocated (windowValue w) (recordsAt diagnosticCodec (now (tape .entry)) at count)))) ⌝ }
+{
+    put_diagnostics(tape, at, count, w, Part::Behind, out, to);
+}

@@ -1,0 +1,21 @@
+use borrow.Author.Needs.{needs}
+use Rattle.splice.proofs.put_behind_diagnostics.Statement.{statement}
+use Rattle.splice.proofs.put_behind_diagnostics.Tie as tie
+use Rattle.splice.proofs.put_behind_diagnostics.Reads as reads
+use Rattle.splice.proofs.put_behind_diagnostics.Lts as lts
+use Rattle.splice.proofs.put_diagnostics.Reads as put-diagnostics-reads
+
+-- src/lib.rt:578:5
+put-diagnostics-requires : tie.Need-put-diagnostics-requires
+put-diagnostics-requires c κs = ?
+
+-- src/lib.rt:566:1
+same-length : tie.Need-same-length
+same-length c = search needs
+
+-- src/lib.rt:566:1
+returns : tie.Need-returns
+returns c = ?
+
+pub put-behind-diagnostics-spec : {M : Type 1} → statement M
+put-behind-diagnostics-spec = tie.close (tie.spec put-diagnostics-requires same-length returns)
