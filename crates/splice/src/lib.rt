@@ -7,12 +7,12 @@ ghost use Prim.Native.Nat.{_+_, _*_, _%_, _≤_, _<_};
 ghost use lib.ListN.{length};
 ghost use Rattle.model.specs.Lists.{keep};
 ghost use Rattle.model.specs.Tape.{recordAt, recordsAt, recordBytes, recordsBytes, pairCodec, containerCodec, diagnosticCodec};
-ghost use Rattle.model.specs.Merge.{keptBefore, keptBehind, pairLocated, containerLocated, diagnosticLocated, shiftedPair, shiftedDiagnostic, movedOffset};
+ghost use Rattle.model.specs.Merge.{keptBefore, keptBehind, pairLocated, containerLocated, diagnosticLocated, movedOffset};
 ghost use Rattle.wire.specs.Overwrite.{overwrite};
 ghost use Rattle.span.specs.Values.{valueOf};
 ghost use Rattle.records.specs.Values.{pairLinkOf, containerPairOf, diagnosticOf};
 ghost use Rattle.splice.specs.Parts.{spanIn, isIn, asIn, partOf, itemBytes};
-ghost use Rattle.splice.specs.Window.{windowValue};
+ghost use Rattle.splice.specs.Window.{windowValue, sourceIn, normalizedIn};
 ghost use Rattle.splice.specs.Counted.{rowIn, placesFrom};
 ghost use Rattle.splice.specs.Written.{fourBytes};
 
@@ -100,6 +100,51 @@ fn count_in(
     n
 }
 
+// Where an offset in the source text stands in a part.
+fn source_in(v: u32, w: Window, part: Part) -> u32
+    ensures { λ r. ⌜ r ≡ sourceIn (windowValue w) part v ⌝ }
+{
+    match part {
+        Part::Before => v,
+        Part::Reading => span::shift_clamp(v, span::Amount::Forward(w.start as u64)),
+        Part::Behind => {
+            let by = w.by;
+            span::shift_clamp(v, by)
+        }
+    }
+}
+
+// A sum that does not fit a word is written by its low 32 bits; an accepted reading has none.
+fn plus(o: u32, start: u32) -> u32
+    ensures { λ r. ⌜ r ≡ (o + start) % 4294967296 ⌝ }
+{
+    ((o as u64 + start as u64) % 4294967296) as u32
+}
+
+fn moved_offset(o: u32, by: span::Amount) -> u32
+    ensures { λ r. ⌜ r ≡ movedOffset o (valueOf by) ⌝ }
+{
+    let moved = span::shift_by(o, by);
+    match moved {
+        span::OptionU32::Some(n) => n,
+        span::OptionU32::None => 0,
+    }
+}
+
+// Where an offset in the normalized text stands in a part.
+fn normalized_in(v: u32, w: Window, part: Part) -> u32
+    ensures { λ r. ⌜ r ≡ normalizedIn (windowValue w) part v ⌝ }
+{
+    match part {
+        Part::Before => v,
+        Part::Reading => plus(v, w.nstart),
+        Part::Behind => {
+            let by = w.nby;
+            moved_offset(v, by)
+        }
+    }
+}
+
 fn put_four(out: &mut [u8], at: usize, command: u8, kind: u8, a: u32, b: u32, e: u32, f: u32)
     requires { ⌜ at + 18 ≤ length (now out) ⌝ }
     ensures { λ _. ⌜ now (out .exit) ≡ overwrite (now (out .entry)) at (fourBytes command kind a b e f) ⌝ }
@@ -128,28 +173,15 @@ fn count_pairs(tape: &[u8], at: usize, count: usize, w: Window, part: Part) -> u
     count_in(tape, at, count, 18, 2, 14, 0, w.start, w.end, part)
 }
 
-fn shifted_pair(p: records::PairLink, by: span::Amount) -> records::PairLink
-    ensures { λ r. ⌜ pairLinkOf r ≡ shiftedPair (valueOf by) (pairLinkOf p) ⌝ }
-{
-    records::PairLink {
-        kind: p.kind,
-        openstart: span::shift_clamp(p.openstart, by),
-        openend: span::shift_clamp(p.openend, by),
-        closestart: span::shift_clamp(p.closestart, by),
-        closeend: span::shift_clamp(p.closeend, by),
-    }
-}
-
 fn pair_as_in(p: records::PairLink, w: Window, part: Part) -> records::PairLink
     ensures { λ r. ⌜ pairLinkOf r ≡ asIn pairLocated (windowValue w) part (pairLinkOf p) ⌝ }
 {
-    match part {
-        Part::Before => p,
-        Part::Reading => shifted_pair(p, span::Amount::Forward(w.start as u64)),
-        Part::Behind => {
-            let by = w.by;
-            shifted_pair(p, by)
-        }
+    records::PairLink {
+        kind: p.kind,
+        openstart: source_in(p.openstart, w, part),
+        openend: source_in(p.openend, w, part),
+        closestart: source_in(p.closestart, w, part),
+        closeend: source_in(p.closeend, w, part),
     }
 }
 
@@ -284,41 +316,13 @@ fn count_containers(tape: &[u8], at: usize, count: usize, w: Window, part: Part)
     count_in(tape, at, count, 13, 5, 9, 1, w.nstart, w.nend, part)
 }
 
-// A sum that does not fit a word is written by its low 32 bits; an accepted reading has none.
-fn plus(o: u32, start: u32) -> u32
-    ensures { λ r. ⌜ r ≡ (o + start) % 4294967296 ⌝ }
-{
-    ((o as u64 + start as u64) % 4294967296) as u32
-}
-
-fn moved_offset(o: u32, by: span::Amount) -> u32
-    ensures { λ r. ⌜ r ≡ movedOffset o (valueOf by) ⌝ }
-{
-    let moved = span::shift_by(o, by);
-    match moved {
-        span::OptionU32::Some(n) => n,
-        span::OptionU32::None => 0,
-    }
-}
-
 fn container_as_in(p: records::ContainerPair, w: Window, part: Part) -> records::ContainerPair
     ensures { λ r. ⌜ recordBytes containerCodec (containerPairOf r) ≡ recordBytes containerCodec (asIn containerLocated (windowValue w) part (containerPairOf p)) ⌝ }
 {
-    match part {
-        Part::Before => p,
-        Part::Reading => records::ContainerPair {
-            plain: p.plain,
-            opening: plus(p.opening, w.nstart),
-            closing: plus(p.closing, w.nstart),
-        },
-        Part::Behind => {
-            let by = w.nby;
-            records::ContainerPair {
-                plain: p.plain,
-                opening: moved_offset(p.opening, by),
-                closing: moved_offset(p.closing, by),
-            }
-        }
+    records::ContainerPair {
+        plain: p.plain,
+        opening: normalized_in(p.opening, w, part),
+        closing: normalized_in(p.closing, w, part),
     }
 }
 
@@ -447,28 +451,15 @@ fn count_diagnostics(tape: &[u8], at: usize, count: usize, w: Window, part: Part
     count_in(tape, at, count, 18, 6, 10, 0, w.start, w.end, part)
 }
 
-fn shifted_diagnostic(d: records::Diagnostic, by: span::Amount) -> records::Diagnostic
-    ensures { λ r. ⌜ diagnosticOf r ≡ shiftedDiagnostic (valueOf by) (diagnosticOf d) ⌝ }
+fn diagnostic_as_in(d: records::Diagnostic, w: Window, part: Part) -> records::Diagnostic
+    ensures { λ r. ⌜ diagnosticOf r ≡ asIn diagnosticLocated (windowValue w) part (diagnosticOf d) ⌝ }
 {
     records::Diagnostic {
         kind: d.kind,
         rank: d.rank,
-        start: span::shift_clamp(d.start, by),
-        end: span::shift_clamp(d.end, by),
+        start: source_in(d.start, w, part),
+        end: source_in(d.end, w, part),
         plain: d.plain,
-    }
-}
-
-fn diagnostic_as_in(d: records::Diagnostic, w: Window, part: Part) -> records::Diagnostic
-    ensures { λ r. ⌜ diagnosticOf r ≡ asIn diagnosticLocated (windowValue w) part (diagnosticOf d) ⌝ }
-{
-    match part {
-        Part::Before => d,
-        Part::Reading => shifted_diagnostic(d, span::Amount::Forward(w.start as u64)),
-        Part::Behind => {
-            let by = w.by;
-            shifted_diagnostic(d, by)
-        }
     }
 }
 
