@@ -46,7 +46,7 @@ fn span_in(part: Part, start: usize, stop: usize, from: usize, to: usize) -> boo
 }
 
 // The same of the record at a place: its start stands at `first`, its end less `extra` at `last`.
-fn row_in(
+pub fn row_in(
     tape: &[u8],
     at: usize,
     first: usize,
@@ -74,7 +74,7 @@ fn number(b: bool) -> usize
 }
 
 // How many records of a run are in a part.
-fn count_in(
+pub fn count_in(
     tape: &[u8],
     at: usize,
     count: usize,
@@ -101,7 +101,7 @@ fn count_in(
 }
 
 // Where an offset in the source text stands in a part.
-fn source_in(v: u32, w: Window, part: Part) -> u32
+pub fn source_in(v: u32, w: Window, part: Part) -> u32
     ensures { λ r. ⌜ r ≡ sourceIn (windowValue w) part v ⌝ }
 {
     match part {
@@ -132,7 +132,7 @@ fn moved_offset(o: u32, by: span::Amount) -> u32
 }
 
 // Where an offset in the normalized text stands in a part.
-fn normalized_in(v: u32, w: Window, part: Part) -> u32
+pub fn normalized_in(v: u32, w: Window, part: Part) -> u32
     ensures { λ r. ⌜ r ≡ normalizedIn (windowValue w) part v ⌝ }
 {
     match part {
