@@ -6,7 +6,7 @@ use mathlib.Core.Bool.{true}
 use mathlib.Core.List.{List, [], _∷_, _++_, append-assoc, map, flatten}
 use lib.ListN.{length, length-append, length-map}
 use Rattle.model.specs.Lists.{all}
-use Rattle.model.specs.Tape.{Codec, recordSize, recordAt, recordsAt, recordBytes, recordsBytes}
+use Rattle.model.specs.Tape.{Codec, recordSize, recordsAt, recordBytes, recordsBytes}
 use Rattle.model.specs.Merge.{MergeWindow, Located, keptBefore, keptBehind, spliced}
 use Rattle.laws.specs.Lists.{both}
 use Rattle.laws.specs.Words.{Stands, stands-behind}
@@ -15,7 +15,7 @@ use Rattle.laws.specs.Records.{Lawful, record-length, record-stands}
 use Rattle.wire.specs.Overwrite.{overwrite, Wrote, wrote-next}
 use Rattle.records.specs.Runs.{run-cons, run-none, run-length}
 use Rattle.graft.specs.Grafted.{bytes-append}
-use Rattle.splice.specs.Parts.{Kind, partOf, part-before, part-reading, part-behind, bytes-long}
+use Rattle.splice.specs.Parts.{Kind, part-before, part-reading, part-behind, bytes-long}
 use Rattle.splice.specs.declared.Part.the-variants.{Before, Reading, Behind}
 
 -- ---- lengths

@@ -1,11 +1,10 @@
 -- Records as they are written, and moved.
-use mathlib.Core.Path.{_≡_, refl, sym, ap, _∙_}
+use mathlib.Core.Path.{_≡_, refl, ap, _∙_}
 use Prim.Native.Nat.{ℕ, _+_, _*_, _%_, _/_}
 use native.Mathlib.Omega.{arith}
 use mathlib.Core.Option.{Option, none, some, Option·getD}
 use lib.IntN.{ℤ}
 use mathlib.Core.List.{List, [], _∷_, _++_, append-nil, append-assoc}
-use lib.ListN.{length}
 use Rattle.model.specs.Bytes.{wordBytes}
 use Rattle.model.specs.Types.{SourceNode}
 use Rattle.model.specs.Tape.{recordBytes, operandBytes, nodeCodec, pairCodec, containerCodec, diagnosticCodec}

@@ -1,9 +1,10 @@
-// Document 01 section 7: the four lists of a merge. Each is three parts, the old one up to the region, the reading's moved to the
-// region, and the old rest moved; what straddles an edge is in none. The caller asks for lengths first, then writes part by part.
+// Document 01 section 7: the lists of a merge. Each is three parts: the old list up to the region, the reading moved to the region,
+// the old rest moved; what straddles an edge of the region is in none. The caller asks for lengths first, then writes part by
+// part. Here are pairs, containers and diagnostics, and what nodes share with them; crate splice_nodes has the nodes.
 ghost use mathlib.Core.Path.{_≡_};
 ghost use mathlib.Core.Bool.{true, cond};
 ghost use mathlib.Core.List.{map};
-ghost use Prim.Native.Nat.{_+_, _*_, _%_, _≤_, _<_};
+ghost use Prim.Native.Nat.{_+_, _*_, _%_, _≤_};
 ghost use lib.ListN.{length};
 ghost use Rattle.model.specs.Lists.{keep};
 ghost use Rattle.model.specs.Tape.{recordAt, recordsAt, recordBytes, recordsBytes, pairCodec, containerCodec, diagnosticCodec};
@@ -35,6 +36,7 @@ pub enum Part {
 
 // ---- records of any kind
 
+// Whether what lies from `start` to `stop` is in a part, the region lying from `from` to `to`.
 fn span_in(part: Part, start: usize, stop: usize, from: usize, to: usize) -> bool
     ensures { λ r. ⌜ r ≡ spanIn part start stop from to ⌝ }
 {
@@ -64,6 +66,7 @@ pub fn row_in(
     span_in(part, start, stop, from as usize, to as usize)
 }
 
+// 1 for true.
 fn number(b: bool) -> usize
     ensures { λ r. ⌜ r ≡ cond b 1 0 ⌝ }
 {
@@ -114,13 +117,14 @@ pub fn source_in(v: u32, w: Window, part: Part) -> u32
     }
 }
 
-// A sum that does not fit a word is written by its low 32 bits; an accepted reading has none.
+// A sum, or its low 32 bits where it passes a word: a record's bytes hold no more of it.
 fn plus(o: u32, start: u32) -> u32
     ensures { λ r. ⌜ r ≡ (o + start) % 4294967296 ⌝ }
 {
     ((o as u64 + start as u64) % 4294967296) as u32
 }
 
+// `shift_u32`, and 0 where it has no answer.
 fn moved_offset(o: u32, by: span::Amount) -> u32
     ensures { λ r. ⌜ r ≡ movedOffset o (valueOf by) ⌝ }
 {
@@ -145,6 +149,7 @@ pub fn normalized_in(v: u32, w: Window, part: Part) -> u32
     }
 }
 
+// A command, a byte and four words: a pair or a diagnostic.
 fn put_four(out: &mut [u8], at: usize, command: u8, kind: u8, a: u32, b: u32, e: u32, f: u32)
     requires { ⌜ at + 18 ≤ length (now out) ⌝ }
     ensures { λ _. ⌜ now (out .exit) ≡ overwrite (now (out .entry)) at (fourBytes command kind a b e f) ⌝ }
@@ -202,14 +207,7 @@ fn put_pair(out: &mut [u8], at: usize, p: records::PairLink)
 }
 
 // The pair at a place as it stands in a part, or nothing; the next place.
-fn put_pair_item(
-    tape: &[u8],
-    at: usize,
-    w: Window,
-    part: Part,
-    out: &mut [u8],
-    to: usize,
-) -> usize
+fn put_pair_item(tape: &[u8], at: usize, w: Window, part: Part, out: &mut [u8], to: usize) -> usize
     requires { ⌜ at + 18 ≤ length (now tape) ⌝ }
     requires { ⌜ (isIn pairLocated (windowValue w) part (recordAt pairCodec (now tape) at) ≡ true → to + 18 ≤ length (now out)) ⌝ }
     ensures { λ r. ⌜ (r ≡ to + length (itemBytes pairCodec pairLocated (windowValue w) part (recordAt pairCodec (now (tape .entry)) at))) × (now (out .exit) ≡ overwrite (now (out .entry)) to (itemBytes pairCodec pairLocated (windowValue w) part (recordAt pairCodec (now (tape .entry)) at))) ⌝ }
@@ -221,15 +219,7 @@ fn put_pair_item(
     to + 18
 }
 
-fn put_pairs(
-    tape: &[u8],
-    at: usize,
-    count: usize,
-    w: Window,
-    part: Part,
-    out: &mut [u8],
-    to: usize,
-)
+fn put_pairs(tape: &[u8], at: usize, count: usize, w: Window, part: Part, out: &mut [u8], to: usize)
     requires { ⌜ at + 18 * count ≤ length (now tape) ⌝ }
     requires { ⌜ to + 18 * length (partOf pairLocated (windowValue w) part (recordsAt pairCodec (now tape) at count)) ≤ length (now out) ⌝ }
     ensures { λ _. ⌜ now (out .exit) ≡ overwrite (now (out .entry)) to (recordsBytes pairCodec (partOf pairLocated (windowValue w) part (recordsAt pairCodec (now (tape .entry)) at count))) ⌝ }
@@ -256,14 +246,7 @@ pub fn kept_behind_pairs(tape: &[u8], at: usize, count: usize, w: Window) -> usi
     count_pairs(tape, at, count, w, Part::Behind)
 }
 
-pub fn put_before_pairs(
-    tape: &[u8],
-    at: usize,
-    count: usize,
-    w: Window,
-    out: &mut [u8],
-    to: usize,
-)
+pub fn put_before_pairs(tape: &[u8], at: usize, count: usize, w: Window, out: &mut [u8], to: usize)
     requires { ⌜ at + 18 * count ≤ length (now tape) ⌝ }
     requires { ⌜ to + 18 * length (keptBefore pairLocated (windowValue w) (recordsAt pairCodec (now tape) at count)) ≤ length (now out) ⌝ }
     ensures { λ _. ⌜ now (out .exit) ≡ overwrite (now (out .entry)) to (recordsBytes pairCodec (keptBefore pairLocated (windowValue w) (recordsAt pairCodec (now (tape .entry)) at count))) ⌝ }
@@ -271,28 +254,14 @@ pub fn put_before_pairs(
     put_pairs(tape, at, count, w, Part::Before, out, to);
 }
 
-pub fn put_placed_pairs(
-    tape: &[u8],
-    at: usize,
-    count: usize,
-    w: Window,
-    out: &mut [u8],
-    to: usize,
-)
+pub fn put_placed_pairs(tape: &[u8], at: usize, count: usize, w: Window, out: &mut [u8], to: usize)
     requires { ⌜ (at + 18 * count ≤ length (now tape)) × (to + 18 * count ≤ length (now out)) ⌝ }
     ensures { λ _. ⌜ now (out .exit) ≡ overwrite (now (out .entry)) to (recordsBytes pairCodec (map (pairLocated .placed (windowValue w)) (recordsAt pairCodec (now (tape .entry)) at count))) ⌝ }
 {
     put_pairs(tape, at, count, w, Part::Reading, out, to);
 }
 
-pub fn put_behind_pairs(
-    tape: &[u8],
-    at: usize,
-    count: usize,
-    w: Window,
-    out: &mut [u8],
-    to: usize,
-)
+pub fn put_behind_pairs(tape: &[u8], at: usize, count: usize, w: Window, out: &mut [u8], to: usize)
     requires { ⌜ at + 18 * count ≤ length (now tape) ⌝ }
     requires { ⌜ to + 18 * length (keptBehind pairLocated (windowValue w) (recordsAt pairCodec (now tape) at count)) ≤ length (now out) ⌝ }
     ensures { λ _. ⌜ now (out .exit) ≡ overwrite (now (out .entry)) to (recordsBytes pairCodec (map (pairLocated .moved (windowValue w)) (keptBehind pairLocated (windowValue w) (recordsAt pairCodec (now (tape .entry)) at count)))) ⌝ }
@@ -352,7 +321,11 @@ fn put_container_item(
     if !container_in(tape, at, w, part) {
         return to;
     }
-    put_container(out, to, container_as_in(records::container_at(tape, at), w, part));
+    put_container(
+        out,
+        to,
+        container_as_in(records::container_at(tape, at), w, part),
+    );
     to + 13
 }
 
@@ -486,7 +459,11 @@ fn put_diagnostic_item(
     if !diagnostic_in(tape, at, w, part) {
         return to;
     }
-    put_diagnostic(out, to, diagnostic_as_in(records::diagnostic_at(tape, at), w, part));
+    put_diagnostic(
+        out,
+        to,
+        diagnostic_as_in(records::diagnostic_at(tape, at), w, part),
+    );
     to + 18
 }
 

@@ -1,12 +1,12 @@
 -- Records that are moved where they stand: what is behind those moved so far is read as it was.
-use mathlib.Core.Path.{_≡_, refl, sym, ap, ap₂, _∙_}
+use mathlib.Core.Path.{_≡_, refl, ap, ap₂, _∙_}
 use Prim.Native.Nat.{ℕ, suc, _+_, _*_, _≤_, _<_}
 use native.Mathlib.Omega.{arith}
 use native.Mathlib.Nat.{mul-zero, add-zero, mul-suc, mul-le-mul-left}
 use mathlib.Core.Bool.{true}
 use mathlib.Core.List.{List, [], _∷_, map}
 use lib.ListN.{length}
-use Rattle.model.specs.Tape.{Operand, Operand.byte, Operand.word, operandSize, valueAt, Codec, recordSize, operandsAt, recordAt, recordsAt, recordBytes, recordsBytes, nodeCodec}
+use Rattle.model.specs.Tape.{Operand, Operand.byte, Operand.word, operandSize, valueAt, Codec, operandsAt, recordAt, recordsAt, recordBytes, recordsBytes, nodeCodec}
 use Rattle.model.specs.Merge.{MergeWindow, Located}
 use Rattle.model.specs.Types.{SourceNode}
 use Rattle.wire.specs.Overwrite.{overwrite, getD-behind}
@@ -14,7 +14,6 @@ use Rattle.wire.specs.Words.{wordAt-behind}
 use Rattle.splice.specs.Parts.{Kind, PutUpTo, isIn, asIn, partOf, spanIn, part-reading, item-put, put-first, put-last, put-more}
 use Rattle.splice.specs.Counted.{reading-room}
 use Rattle.graft.specs.Written.{nodeWith, six-of}
-use Rattle.splice.specs.declared.Part.{Part}
 use Rattle.splice.specs.declared.Part.the-variants.{Reading}
 
 module _ (d : List ℕ) (at : ℕ) (bs : List ℕ) (fits : at + length bs ≤ length d) (q : ℕ) (h : at + length bs ≤ q) where

@@ -48,7 +48,7 @@ same-length c = search needs
 
 -- src/lib.rt:325:1
 returns : tie.Need-returns
-returns c = 
+returns c =
     let w1 : Wrote (c .before .before .before .before .before .before .before .before .before .before .before .before .before .before .before .before .before .args .out .now) (c .before .before .before .before .before .before .before .before .before .before .before .before .before .before .before .before .before .args .at) (8 ∷ []) (c .before .before .before .before .before .before .before .before .before .before .before .before .before .before .put-u8 .last .0) = record { is = c .before .before .before .before .before .before .before .before .before .before .before .before .before .before .put-u8 .ensures } in
     let w2 = wrote-next w1 ((c .before .before .before .before .before .before .before .before .before .before .before .before .before .before .before .before .before .args .at) + 1) (wordBytes (c .before .before .before .before .before .before .before .before .before .before .before .before .before .before .before .before .before .args .p .plain)) (c .before .before .before .before .before .before .before .before .before .before .put-u32 .ensures) (omega arith) (simp length-wordBytes (omega (arith, c .before .before .before .before .before .before .before .before .before .before .before .before .before .before .before .before .before .pre))) in
     let w3 = wrote-next w2 ((c .before .before .before .before .before .before .before .before .before .before .before .before .before .before .before .before .before .args .at) + 5) (wordBytes (c .before .before .before .before .before .before .before .before .before .before .before .before .before .before .before .before .before .args .p .opening)) (c .before .before .before .before .before .before .put-u322 .ensures) (simp length-wordBytes (omega arith)) (simp length-wordBytes (omega (arith, c .before .before .before .before .before .before .before .before .before .before .before .before .before .before .before .before .before .pre))) in
