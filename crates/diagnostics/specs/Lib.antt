@@ -1,3 +1,4 @@
 pub mod Sorted
 pub mod Within
 pub mod Reversed
+pub mod Runs
