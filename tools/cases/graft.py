@@ -80,7 +80,7 @@ class Graft:
     """one new layer above pools of the given sizes; source: the book whose trees are copied"""
     def __init__(s, source, strings, contents, segments):
         s.interner, s.contents, s.segments = Interner(), [], []
-        s.below = strings, contents, segments
+        s.below, s.known = (strings, contents, segments), {}
         s.from_strings, s.from_contents, s.from_segments = ([x for l in source.layers for x in getattr(l, p)] for p in ('strings', 'contents', 'segments'))
     @property
     def layer(s): return Layer(s.interner.strings, s.contents, s.segments)
@@ -88,7 +88,6 @@ class Graft:
     def string(s, id): return s.below[0] + s.interner.intern(s.from_strings[id])
     def push(s, pool, below, items):
         pool += items
-        if below + len(pool) > POOL: raise Over
         return [below + len(pool) - len(items), len(items)]
     def content(s, c):
         tag, *words = c
@@ -104,9 +103,25 @@ class Graft:
         return Body(b.kind, b.tag, b.plain, words)
     def node(s, n): return Node(n.cls, n.inline, n.start, n.end, n.off, s.body(n.body) if n.cls < 2 else n.body)
 
+    # how many contents and segments a graft adds, a range counted once, so that a layer that no pool holds need not be made
+    def adds(s, bodies):
+        ranges = [(form, *b.words[i:i + 2]) for b in bodies for form, i in fields(b) if form in ('contents', 'segments')]
+        return [sum(n) for n in zip((0, 0), *(s.range_adds(*r) for r in ranges))]
+    def range_adds(s, form, start, length):
+        key = form, start, length
+        if key not in s.known:
+            if form == 'segments':
+                contents, segments = s.adds([g.body for g in s.from_segments[start:start + length]])
+                s.known[key] = contents, segments + length
+            else:
+                runs = [s.range_adds('segments', a, n) for tag, a, n in s.from_contents[start:start + length] if tag == 1]
+                s.known[key] = length + sum(c for c, _ in runs), sum(g for _, g in runs)
+        return s.known[key]
+
 def graft(source, strings, contents, segments):
     """the grafted nodes, and the Graft with the new layer; Over where a pool or the new layer's strings pass their limit"""
     g = Graft(source, strings, contents, segments)
+    if any(b + n > POOL for b, n in zip(g.below, [0] + g.adds([n.body for n in source.nodes if n.cls < 2]))): raise Over
     nodes = [g.node(n) for n in source.nodes]
-    if len(g.interner.strings) > STRINGS or any(b + n > POOL for b, n in zip(g.below, map(len, (g.interner.strings, g.contents, g.segments)))): raise Over
+    if len(g.interner.strings) > STRINGS or strings + len(g.interner.strings) > POOL: raise Over
     return nodes, g
