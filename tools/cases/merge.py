@@ -1,7 +1,7 @@
 """Sections 6 and 7 of document 01 and its numbers 8 to 18: the merge of a reading into a book, tape to tape."""
-from gen import Book, Layer, Node
+from gen import NONE, Book, Node
 from book import Refused, check_book, check_reading, drift, is_utf8, must, pool, within_limits
-from graft import COUNTS, Over, graft
+from graft import COUNTS, Over, fields, graft
 
 WORK = 16384
 
@@ -98,6 +98,21 @@ def merge(tape, data, start, end, replacement, rtape, rdata, room=(65536, 65536,
     must(18, within_limits(b) and len(b.tape()) <= room[0] and len(b.bytes()) <= room[1] and WORK <= room[2])
     reused = len(b.nodes) - len(nodes)
     return b.tape(), b.bytes(), (first, last, reused, len(nodes), counts)
+
+# ---- demand 3: equal books
+
+def shown(b):
+    """a book as it is compared: an id as its string, a range as the list of items that it names"""
+    strings, contents, segments = (pool(b, p) for p in ('strings', 'contents', 'segments'))
+    def string(id): return None if id == NONE else strings[id]
+    def segment_range(start, length): return [(s.tag, s.level, body(s.body)) for s in segments[start:start + length]]
+    def content(tag, a, n): return string(a) if tag == 0 else segment_range(a, n)
+    def field(form, words):
+        if form == 'contents': return [content(*c) for c in contents[words[0]:words[0] + words[1]]]
+        return segment_range(*words[:2]) if form == 'segments' else string(words[0])
+    def body(x): return x.kind, x.tag, x.plain, [field(form, x.words[i:]) for form, i in fields(x)]
+    nodes = [(n.cls, n.inline, n.start, n.end, n.off, body(n.body) if n.cls < 2 else n.body.plain) for n in b.nodes]
+    return b.text, b.norm, nodes, b.pairs, b.containers, b.diags
 
 # ---- Runs: the program `merge`
 
