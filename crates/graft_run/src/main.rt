@@ -11,6 +11,7 @@ ghost use Rattle.tape.specs.Accepted.{Accepted};
 ghost use Rattle.layer.specs.Layered.{OffsetsFit};
 
 const MAX_POOL: u32 = 1048575;
+
 const NODE: usize = 49;
 
 fn say(s: &[u8]) {
