@@ -213,9 +213,9 @@ module _ (out strs : List ℕ) (at base : ℕ) (o : Offsets) (small : OffsetsFit
               sym (rw (le-leb (o .strings + m .state .count) maxPool (omega (arith, y .strings, count)), le-leb (5 * m .state .count) (length out₁ - at - len - rest) (omega (arith, left, y .tape, z .bytes, e, f, k .contents, k .segments, count))) refl)
               ∙ sym (q .ok) ∙ x)
 
-          layer-fits : hasRoom (length strs) base (g .1 .interner) ≡ true → r .ok ≡ true → Fits
+          finish-fits : hasRoom (length strs) base (g .1 .interner) ≡ true → r .ok ≡ true → Fits
           unfolding hasRoom
-          layer-fits room x =
+          finish-fits room x =
               let u = both (leb (length strings) maxNewStrings) (leb (base + length (flatten strings)) (length strs)) room in
               record {
                 few = leb-true (length strings) maxNewStrings (u .0);
@@ -243,5 +243,5 @@ module _ (out strs : List ℕ) (at base : ℕ) (o : Offsets) (small : OffsetsFit
           pub layer-told : hasRoom (length strs) base (g .1 .interner) ≡ true → Told out₂ strs₁ r
           layer-told room =
               by-bool (r .ok)
-              (λ x. record { ok = x ∙ layer-ok (length out) (length strs) at base o g (layer-fits room x); made = layer-made })
+              (λ x. record { ok = x ∙ layer-ok (length out) (length strs) at base o g (finish-fits room x); made = layer-made })
               (λ x. none-fits x (strings-full x))

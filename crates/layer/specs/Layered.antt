@@ -156,7 +156,7 @@ pub record LayerFits (size room at base : ℕ) (o : Offsets) (g : With (List Sou
   pub bytes : base + length (flatten (g .1 .interner .strings)) ≤ room
 
 module _ (size room at base : ℕ) (o : Offsets) (g : With (List SourceNode)) where
-  layer-fits : layerOk size room at base o g ≡ true → LayerFits size room at base o g
+  pub layer-fits : layerOk size room at base o g ≡ true → LayerFits size room at base o g
   unfolding layerOk
   layer-fits e =
       let u₀ = both _ (leb (base + length (flatten (g .1 .interner .strings))) room) e in
