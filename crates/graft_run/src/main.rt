@@ -4,8 +4,8 @@
 use libc::STDIN_FILENO;
 use libc::STDOUT_FILENO;
 ghost use mathlib.Core.Path.{_≡_};
-ghost use mathlib.Core.Bool.{false};
-ghost use Prim.Native.Nat.{_≤_, _<_, _^_};
+ghost use mathlib.Core.Bool.{true, false};
+ghost use Prim.Native.Nat.{_+_, _*_, _≤_, _<_, _^_};
 ghost use lib.ListN.{length};
 ghost use Rattle.tape.specs.Accepted.{Accepted};
 ghost use Rattle.layer.specs.Layered.{OffsetsFit};
@@ -28,17 +28,6 @@ fn put_hash(label: &[u8], s: &[u8]) {
     io::print_hex(STDOUT_FILENO, hash::fx_hash(s), 16);
 }
 
-// Where the nodes' records behind a layer of `len` bytes end, in a buffer of `room`.
-fn records_end(len: usize, nodes: usize, room: usize) -> usize {
-    if room < len {
-        return room;
-    }
-    if (room - len) / NODE < nodes {
-        return room;
-    }
-    len + NODE * nodes
-}
-
 fn put_counts(r: layer::Layer) {
     let state = r.state;
     let c = state.stats;
@@ -51,8 +40,17 @@ fn put_counts(r: layer::Layer) {
     put(b" probes ", c.probesteps);
 }
 
+// A layer's records, and those of the nodes behind them.
+fn records<'a>(out: &'a [u8], len: usize, nodes: usize) -> &'a [u8]
+    requires { ⌜ len + 49 * nodes ≤ length (now out) ⌝ }
+{
+    &out[0..len + NODE * nodes]
+}
+
 // The strings' bytes begin at 0.
-fn put_layer(r: layer::Layer, nodes: usize, out: &[u8], strs: &[u8]) {
+fn put_layer(r: layer::Layer, nodes: usize, out: &[u8], strs: &[u8])
+    requires { ⌜ r .len + 49 * nodes ≤ length (now out) ⌝ }
+{
     let state = r.state;
     put(b"strings ", r.strings as u64);
     put(b" contents ", r.contents as u64);
@@ -61,14 +59,13 @@ fn put_layer(r: layer::Layer, nodes: usize, out: &[u8], strs: &[u8]) {
     put(b", layer ", r.len as u64);
     say(b" bytes");
     put_counts(r);
-    put_hash(
-        b", tape ",
-        wire::between(out, 0, records_end(r.len, nodes, out.len())),
-    );
+    put_hash(b", tape ", records(out, r.len, nodes));
     put_hash(b" strings ", wire::between(strs, 0, state.used));
 }
 
-fn put_answer(r: layer::Layer, nodes: usize, out: &[u8], strs: &[u8]) {
+fn put_answer(r: layer::Layer, nodes: usize, out: &[u8], strs: &[u8])
+    requires { ⌜ (r .ok ≡ true → r .len + 49 * nodes ≤ length (now out)) ⌝ }
+{
     if r.ok {
         put_layer(r, nodes, out, strs);
     } else {
