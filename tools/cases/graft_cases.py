@@ -2,7 +2,7 @@
 strings, and how many strings, contents and segments are below the new layer. Unlike numbers below, and things in the source that no
 node names, so that an id or a start that is not moved shows."""
 from small import *
-from tape_cases import but, empty, nest, node, one, pools, run, text
+from tape_cases import but, empty, nest, node, pools, run, text
 
 TAPE_ROOM, BYTES_ROOM = 65536, 262144  # what the program lends at most
 BELOW = (10, 200, 3000)
@@ -53,7 +53,8 @@ case('AngleQuote', nodes_of((14, 0, [1, 4])))
 case('MarginNote', nodes_of((15, 0, [3, 1, 1, 2]), (15, 0, [2, 1, 4, 1])))
 case('BlockOpen and BlockClose: no words', book('abcd', 'x', nodes=[block(2, 0, 1, 0, (3, 4)), block(3, 1, 2, 0, (5, 6)), block(2, 2, 3, 1), block(3, 3, 4, 1)]))
 case('Ruby and Gaiji of class BlockLeaf', nodes_of((1, 0, [1, 2, 3, 2]), (3, 2, [5, 4]), cls=1))
-case('a segment of each tag', nodes_of((11, 2, [1, NONE, NONE, NONE, 1, 4]), segments=[text(0), text(1), Seg(1, 0, Body(3, 2, (1, 2), [2, 3])), Seg(2, 0, Body(13, 9, (3, 4), [4])), node(17, 10, 0, [5])]))
+case('a segment of each tag', nodes_of((11, 2, [1, NONE, NONE, NONE, 1, 4]), segments=[
+    text(0), text(1), Seg(1, 0, Body(3, 2, (1, 2), [2, 3])), Seg(2, 0, Body(13, 9, (3, 4), [4])), node(17, 10, 0, [5])]))
 
 # ---- the order of the fields, which the ids show: "mencode before hint", "Format target before payload", "file, number, dimensions, caption, description"
 case('hint and mencode both new', nodes_of((3, 2, [1, 2])))
@@ -100,7 +101,8 @@ case('224 strings, then an older one: 512 slots', quote([*range(224), 0], hexes(
 def tower():
     holders = [lambda c, s: (1, 0, [0, 1, c, 1]), lambda c, s: (1, 0, [c, 1, 0, 1]), lambda c, s: (2, 6, [c, 1, 1]), lambda c, s: (9, 0, [c, 1]), lambda c, s: (11, 2, [2, NONE, 1, 0, s, 2]),
                lambda c, s: (14, 0, [c, 1]), lambda c, s: (15, 0, [c, 1, 0, 1]), lambda c, s: (15, 0, [0, 1, c, 1])]
-    others = [lambda l: node(l, 3, 2, [1, 3]), lambda l: node(l, 4), lambda l: node(1, 5), lambda l: node(l, 6), lambda l: node(l, 7), lambda l: node(l, 8), lambda l: node(l, 10, 0, [4]), lambda l: node(l, 11, 1, [0, NONE, NONE, 2, 3]),
+    others = [lambda l: node(l, 3, 2, [1, 3]), lambda l: node(l, 4), lambda l: node(1, 5), lambda l: node(l, 6), lambda l: node(l, 7), lambda l: node(l, 8),
+              lambda l: node(l, 10, 0, [4]), lambda l: node(l, 11, 1, [0, NONE, NONE, 2, 3]),
               lambda l: node(l, 12, 0, [5]), lambda l: node(l, 13, 13, [4]), lambda l: text(5), lambda l: Seg(1, 0, Body(3, 0, (l, l), [2])), lambda l: Seg(2, 0, Body(13, 4, (l, l), [0]))]
     contents, segments = [P(1)], [text(0), text(1)]
     for level in range(1, 33):
@@ -111,10 +113,11 @@ def tower():
 case('a tree of every kind at 32 levels', tower())
 case('32 levels', nest(32))
 
-# ---- 32 layers: content i names string i + 1 or the segments of layer i + 1, round; nodes name the first, the last and those between
+# ---- 32 layers: the contents and segments of each name strings, segments and contents of others; nodes name the first, the last and those between
 def layers32():
     ls = [Layer([b'%c' % (97 + i % 26)], [P((i + 1) % 32), run(2 * ((i + 5) % 32), 2)], [text((i + 7) % 32), Seg(3, 1, Body(9, 0, (i, 0), [2 * ((i + 9) % 32), 1]))]) for i in range(32)]
-    b = book('nnnnn', nodes=[inline(0, 1, 14, 0, [0, 2]), inline(1, 2, 15, 0, [62, 2, 31, 1]), leaf(2, 3, 11, 2, [31, 0, 16, 15, 30, 2]), inline(3, 4, 1, 0, [32, 2, 2, 2]), inline(4, 5, 3, 2, [30, 1])])
+    b = book('nnnnn', nodes=[inline(0, 1, 14, 0, [0, 2]), inline(1, 2, 15, 0, [62, 2, 31, 1]),
+                             leaf(2, 3, 11, 2, [31, 0, 16, 15, 30, 2]), inline(3, 4, 1, 0, [32, 2, 2, 2]), inline(4, 5, 3, 2, [30, 1])])
     return but(b, layers=ls)
 case('32 layers, nodes that name several', layers32())
 case('a run of the last layer, contents of the first', but(nodes_of((14, 0, [0, 1])), layers=[Layer([], [run(0, 2)]), Layer(), Layer([b'z'], [], [text(0), text(1)]), Layer([b'y'])]))

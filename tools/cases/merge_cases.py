@@ -103,12 +103,18 @@ def around():
     return book(abc, nodes=[leaf(0, 1, 5), inline(2, 4, 4), inline(4, 8, 6), leaf(8, 9, 7), block(2, 9, 10, 1, (1, 2))])
 case('nodes at the edges', around(), 4, 5, b'xyz', book('xyzb\n\n', 'k', nodes=[inline(0, 5, 12, 0, [0], (8, 9))]))
 case('nodes at the edges, a shorter passage', around(), 4, 6, b'', plain('\n\n'))
-case('offsets at both ends of their images', but(around(), nodes=[Node(1, 0, 0, 1, 6, Body(5)), Node(0, 0, 2, 4, 8, Body(4)), Node(0, 0, 4, 8, 11, Body(6)), Node(1, 0, 8, 9, 14, Body(7)), Node(2, 1, 9, 10, 23, Body(0))]), 4, 5, b'xx', book('xxb\n\n', nodes=[inline(0, 3, 5)]))
+def at_ends(b, *offsets):
+    for n, off in zip(b.nodes, offsets): n.off = off
+    return b
+case('offsets at both ends of their images', at_ends(around(), 6, 8, 11, 14, 23), 4, 5, b'xx', book('xxb\n\n', nodes=[inline(0, 3, 5)]))
 case('containers at the edges', but(plain(abc), containers=[(1, 0, 3), (2, 0, 4), (3, 2, 5), (4, 5, 6), (5, 7, 9), (6, 8, 9)]), 4, 5, b'xx', but(plain('xxb\n\n'), containers=[(7, 0, 4), (8, 1, 2)]))
 case('pairs at the edges', but(plain('aa\n\nb\n\n\n\ncc'), pairs=[(0, 0, 1, 3, 4), (1, 4, 5, 6, 7), (2, 9, 10, 10, 11)]), 4, 5, b'xx', but(plain('xx\n\n'), pairs=[(3, 0, 1, 3, 4), (4, 0, 2, 2, 3)]))
 def diagnostics(*ds): return [(kind, rank, a, e, plain) for plain, (kind, rank, a, e) in enumerate(ds)]
-case('diagnostics at the edges', but(plain(abc), diags=diagnostics((4, 0, 3, 4), (0, 0, 3, 5), (1, 0, 4, 8), (2, 0, 7, 9), (3, 0, 8, 9), (4, 0, 0, 10))), 4, 5, b'xx', but(plain('xxb\n\n'), diags=[(4, 9, 0, 5, NONE)]))
-case('diagnostics with equal keys, and out of order', but(plain(abc), diags=diagnostics((4, 2, 8, 9), (0, 2, 0, 1), (0, 1, 0, 1), (1, 2, 0, 1), (3, 2, 8, 9), (2, 2, 0, 1), (4, 2, 8, 9))), 4, 5, b'x', but(plain('xb\n\n'), diags=[(1, 7, 0, 1, 9), (0, 7, 0, 1, 8), (4, 7, 0, 1, 7), (4, 6, 0, 1, 6)]))
+case('diagnostics at the edges',
+     but(plain(abc), diags=diagnostics((4, 0, 3, 4), (0, 0, 3, 5), (1, 0, 4, 8), (2, 0, 7, 9), (3, 0, 8, 9), (4, 0, 0, 10))), 4, 5, b'xx', but(plain('xxb\n\n'), diags=[(4, 9, 0, 5, NONE)]))
+case('diagnostics with equal keys, and out of order',
+     but(plain(abc), diags=diagnostics((4, 2, 8, 9), (0, 2, 0, 1), (0, 1, 0, 1), (1, 2, 0, 1), (3, 2, 8, 9), (2, 2, 0, 1), (4, 2, 8, 9))), 4, 5, b'x',
+     but(plain('xb\n\n'), diags=[(1, 7, 0, 1, 9), (0, 7, 0, 1, 8), (4, 7, 0, 1, 7), (4, 6, 0, 1, 6)]))
 case('more than 32 diagnostics with equal keys', but(plain(abc), diags=diagnostics(*[(0, i * i % 3 % 2, 0, 1) for i in range(40)])), 4, 5, b'x', plain('xb\n\n'))
 case('characters of three bytes', plain('漢字\n\nあ\n\n字'), 8, 11, '漢'.encode(), book('漢\n\n', ['漢', 'かん'], [P(0), P(1)], [], [inline(0, 3, 1, 0, [0, 1, 1, 1])]))
 
