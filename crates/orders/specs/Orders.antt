@@ -1,5 +1,5 @@
 -- Two corrections merged in both orders by running calls: what each call leaves, and that they commute (document 01 section 7, demand 3).
-use mathlib.Core.Path.{_≡_, refl, sym, ap, ap₂, _∙_}
+use mathlib.Core.Path.{_≡_, refl, sym, ap, ap₂, _∙_, subst}
 use Prim.Native.Nat.{ℕ, _-_, _≤_}
 use native.Mathlib.Omega.{arith}
 use native.Mathlib.Nat.{sub-zero}
@@ -19,7 +19,7 @@ use Rattle.edit.specs.Numbers.{editOf}
 use Rattle.result.specs.Answer.{Merged, roomOf, outputOf, outputTape, outputBytes}
 use Rattle.result.specs.declared.IncrementalOutput.{IncrementalOutput as Output}
 use Rattle.orders.specs.declared.BothOrders.{BothOrders as Answers}
-use Rattle.orders.specs.Moved.{cutMoved, moved-exact}
+use Rattle.orders.specs.Moved.{cutBehind, cutMoved, moved-exact}
 
 -- a tape and its bytes, and a correction, as they are lent
 abbrev pub storedOf : List ℕ → List ℕ → Stored
@@ -109,11 +109,18 @@ module _ {asked : Checked IncrementalOutput} {room : Room} {r : Output} {out tex
 
 -- ---- two calls
 
+-- a room, with as many words as came back
+abbrev pub withWords : Room → List ℕ → Room
+withWords room w = record { tapeBytes = room .tapeBytes; textBytes = room .textBytes; workWords = length w }
+
+with-words : (w : List ℕ) (room : Room) → length w ≡ room .workWords → withWords room w ≡ room
+with-words w room e = λ i. record { tapeBytes = room .tapeBytes; textBytes = room .textBytes; workWords = e i }
+
 -- The second call reads the result of the first out of its buffers, with as many words.
 pub in-order : {book : Stored} {first second : Correction} {room₁ room₂ : Room} {r₁ r₂ : Output} {out₁ out₂ : Stored} {w₁ w₂ : List ℕ} → room₂ .workWords ≡ room₁ .workWords
     → Merged (mergeOf book first room₁) room₁ r₁ (out₁ .tape) (out₁ .bytes) w₁
-    → (let room : Room = record { tapeBytes = room₂ .tapeBytes; textBytes = room₂ .textBytes; workWords = length w₁ } in
-    Merged (mergeOf (storedOf (take (r₁ .tape - 0) (drop 0 (out₁ .tape))) (take (r₁ .bytes - 0) (drop 0 (out₁ .bytes)))) second room) room r₂ (out₂ .tape) (out₂ .bytes) w₂)
+    → Merged (mergeOf (storedOf (take (r₁ .tape - 0) (drop 0 (out₁ .tape))) (take (r₁ .bytes - 0) (drop 0 (out₁ .bytes)))) second (withWords room₂ w₁))
+    (withWords room₂ w₁) r₂ (out₂ .tape) (out₂ .bytes) w₂
     → MergedInOrder book first second room₁ room₂ r₁ r₂ out₁ out₂ w₂
 unfolding resultOf workBuffer
 in-order {room₁ = room₁} {room₂ = room₂} {w₁ = w₁} k m n =
@@ -123,11 +130,6 @@ in-order {room₁ = room₁} {room₂ = room₂} {w₁ = w₁} k m n =
       one = merged-work m (n .words ∙ ap (λ (j : ℕ). replicate j 0) e);
       two = rw (tape-head m .1, bytes-head m .1, f) at n;
     }
-
-pub in-order-work : {book : Stored} {first second : Correction} {room₁ room₂ : Room} {r₁ r₂ : Output} {out₁ out₂ : Stored} {work words : List ℕ}
-    → MergedInOrder book first second room₁ room₂ r₁ r₂ out₁ out₂ work → words ≡ workBuffer room₁ → words ≡ workBuffer room₂
-    → MergedInOrder book first second room₁ room₂ r₁ r₂ out₁ out₂ words
-in-order-work m e f = record { one = merged-work (m .one) e; two = merged-work (m .two) f }
 
 -- ---- four calls
 
@@ -172,5 +174,29 @@ module _ (stored : Stored) (earlier later : Correction) (bytes : StoredBytes sto
         commutes = demand3 stored book bytes holds earlier later bytesE bytesL sep orders;
       }
 
-  pub merged-both : MergedBothOrders stored earlier later room₁ room₂ room₃ room₄ r out₁ out₂ out₃ out₄ work
+  merged-both : MergedBothOrders stored earlier later room₁ room₂ room₃ room₄ r out₁ out₂ out₃ out₄ work
   merged-both = record { laterSecond = m; earlierSecond = n; commute = calls-commute }
+
+-- The later correction with the offsets that the code has moved.
+pub moved-correction : (other : Edit) (start end : ℕ) (replacement tape bytes : List ℕ) {s e : ℕ} → s ≡ cutBehind other start → e ≡ cutBehind other end
+    → correctionOf s e replacement tape bytes ≡ cutMoved other (correctionOf start end replacement tape bytes)
+unfolding cutMoved editOf
+moved-correction other start end replacement tape bytes p q = rw (p, q) refl
+
+-- The second order begins with the words that the first has left.
+pub both-orders : {stored : Stored} {earlier later moved : Correction} {room₁ room₂ room₃ room₄ : Room} {r₁ r₂ r₃ r₄ : Output} {out₁ out₂ out₃ out₄ : Stored} {w₁ w₂ : List ℕ}
+    → StoredBytes stored → StoredBytes (earlier .reading) → StoredBytes (later .reading) → moved ≡ cutMoved (earlier .edit) later
+    → room₃ .workWords ≡ room₁ .workWords → room₄ .workWords ≡ room₁ .workWords
+    → MergedInOrder stored earlier moved room₁ room₂ r₁ r₂ out₁ out₂ w₁
+    → MergedInOrder stored later earlier (withWords room₃ w₁) (withWords room₄ w₁) r₃ r₄ out₃ out₄ w₂
+    → MergedBothOrders stored earlier later room₁ room₂ room₃ room₄
+    (record { earlierfirst = r₁; latersecond = r₂; laterfirst = r₃; earliersecond = r₄ }) out₁ out₂ out₃ out₄ w₂
+unfolding workBuffer
+both-orders {stored} {earlier} {later} {moved} {room₁} {room₂} {room₃} {room₄} {r₁} {r₂} {r₃} {r₄} {out₁} {out₂} {out₃} {out₄} {w₁} {w₂} b bE bL e k₃ k₄ m n =
+    let l : length w₁ ≡ room₁ .workWords = ap length (m .one .words) ∙ length-replicate {A = ℕ} (room₁ .workWords) 0 in
+    let w : w₂ ≡ w₁ = n .one .words ∙ ap (λ (j : ℕ). replicate j 0) l ∙ sym (m .one .words) in
+    let m′ = subst (λ (x : Correction). MergedInOrder stored earlier x room₁ room₂ r₁ r₂ out₁ out₂ w₂) e
+    (subst (MergedInOrder stored earlier moved room₁ room₂ r₁ r₂ out₁ out₂) (sym w) m) in
+    let n′ = subst (λ (x : Room). MergedInOrder stored later earlier room₃ x r₃ r₄ out₃ out₄ w₂) (with-words w₁ room₄ (l ∙ sym k₄))
+    (subst (λ (x : Room). MergedInOrder stored later earlier x (withWords room₄ w₁) r₃ r₄ out₃ out₄ w₂) (with-words w₁ room₃ (l ∙ sym k₃)) n) in
+    merged-both stored earlier later b bE bL {r = record { earlierfirst = r₁; latersecond = r₂; laterfirst = r₃; earliersecond = r₄ }} m′ n′

@@ -62,8 +62,25 @@ fn merge(
         (roomOf (now (outtape .entry)) (now (outbytes .entry)) (now (work .entry))))
         (roomOf (now (outtape .entry)) (now (outbytes .entry)) (now (work .entry))) r (now (outtape .exit)) (now (outbytes .exit)) (now (work .exit)) ⌝ }
 {
-    let none = interner::InternStats { calls: 0, cachehits: 0, tablehits: 0, allocs: 0, longbypass: 0, resizes: 0, probesteps: 0 };
-    result::IncrementalOutput { number: 1, start: 0, end: 0, reused: 0, reread: 0, stats: none, tape: 0, bytes: 0 }
+    let none = interner::InternStats {
+        calls: 0,
+        cachehits: 0,
+        tablehits: 0,
+        allocs: 0,
+        longbypass: 0,
+        resizes: 0,
+        probesteps: 0,
+    };
+    result::IncrementalOutput {
+        number: 1,
+        start: 0,
+        end: 0,
+        reused: 0,
+        reread: 0,
+        stats: none,
+        tape: 0,
+        bytes: 0,
+    }
 }
 
 // What two calls answer, the second on the result of the first.
@@ -74,6 +91,66 @@ struct InOrder {
 
 // One correction merged into the book, and another into the result; of a refused first merge nothing is left to be read.
 fn merge_in_order(
+    tape: &[u8],
+    bytes: &[u8],
+    start: u32,
+    end: u32,
+    replacement: &[u8],
+    readingtape: &[u8],
+    readingbytes: &[u8],
+    nextstart: u32,
+    nextend: u32,
+    nextreplacement: &[u8],
+    nextreadingtape: &[u8],
+    nextreadingbytes: &[u8],
+    outtape: &mut [u8],
+    outbytes: &mut [u8],
+    nexttape: &mut [u8],
+    nextbytes: &mut [u8],
+    work: &mut [u32],
+) -> InOrder
+    ensures { λ r. ⌜ MergedInOrder (storedOf (now (tape .entry)) (now (bytes .entry)))
+        (correctionOf start end (now (replacement .entry)) (now (readingtape .entry)) (now (readingbytes .entry)))
+        (correctionOf nextstart nextend (now (nextreplacement .entry)) (now (nextreadingtape .entry)) (now (nextreadingbytes .entry)))
+        (roomOf (now (outtape .entry)) (now (outbytes .entry)) (now (work .entry)))
+        (roomOf (now (nexttape .entry)) (now (nextbytes .entry)) (now (work .entry)))
+        (r .first) (r .second) (storedOf (now (outtape .exit)) (now (outbytes .exit))) (storedOf (now (nexttape .exit)) (now (nextbytes .exit))) (now (work .exit)) ⌝ }
+{
+    let first = merge(
+        tape,
+        bytes,
+        start,
+        end,
+        replacement,
+        readingtape,
+        readingbytes,
+        outtape,
+        outbytes,
+        work,
+    );
+    let tapeend = first.tape;
+    let bytesend = first.bytes;
+    let second = merge(
+        &outtape[0..tapeend],
+        &outbytes[0..bytesend],
+        nextstart,
+        nextend,
+        nextreplacement,
+        nextreadingtape,
+        nextreadingbytes,
+        nexttape,
+        nextbytes,
+        work,
+    );
+    InOrder {
+        first: first,
+        second: second,
+    }
+}
+
+// Demand 3. The earlier correction and, on its result, the later one, moved by the change in length; and the other way round, each into
+// buffers of its own. All four calls are made, whatever they answer.
+pub fn merge_both_orders(
     tape: &[u8],
     bytes: &[u8],
     start1: u32,
@@ -90,29 +167,70 @@ fn merge_in_order(
     bytes1: &mut [u8],
     tape2: &mut [u8],
     bytes2: &mut [u8],
+    tape3: &mut [u8],
+    bytes3: &mut [u8],
+    tape4: &mut [u8],
+    bytes4: &mut [u8],
     work: &mut [u32],
-) -> InOrder
-    ensures { λ r. ⌜ MergedInOrder (storedOf (now (tape .entry)) (now (bytes .entry)))
+) -> BothOrders
+    ensures { λ r. ⌜ MergedBothOrders (storedOf (now (tape .entry)) (now (bytes .entry)))
         (correctionOf start1 end1 (now (replacement1 .entry)) (now (readingtape1 .entry)) (now (readingbytes1 .entry)))
         (correctionOf start2 end2 (now (replacement2 .entry)) (now (readingtape2 .entry)) (now (readingbytes2 .entry)))
         (roomOf (now (tape1 .entry)) (now (bytes1 .entry)) (now (work .entry)))
         (roomOf (now (tape2 .entry)) (now (bytes2 .entry)) (now (work .entry)))
-        (r .first) (r .second) (storedOf (now (tape1 .exit)) (now (bytes1 .exit))) (storedOf (now (tape2 .exit)) (now (bytes2 .exit))) (now (work .exit)) ⌝ }
+        (roomOf (now (tape3 .entry)) (now (bytes3 .entry)) (now (work .entry)))
+        (roomOf (now (tape4 .entry)) (now (bytes4 .entry)) (now (work .entry)))
+        r (storedOf (now (tape1 .exit)) (now (bytes1 .exit))) (storedOf (now (tape2 .exit)) (now (bytes2 .exit)))
+        (storedOf (now (tape3 .exit)) (now (bytes3 .exit))) (storedOf (now (tape4 .exit)) (now (bytes4 .exit))) (now (work .exit)) ⌝ }
 {
-    let first = merge(tape, bytes, start1, end1, replacement1, readingtape1, readingbytes1, tape1, bytes1, work);
-    let tapeend = first.tape;
-    let bytesend = first.bytes;
-    let second = merge(
-        &tape1[0..tapeend],
-        &bytes1[0..bytesend],
+    let movedstart = moved(start2, start1, end1, replacement1);
+    let movedend = moved(end2, start1, end1, replacement1);
+    let a = merge_in_order(
+        tape,
+        bytes,
+        start1,
+        end1,
+        replacement1,
+        readingtape1,
+        readingbytes1,
+        movedstart,
+        movedend,
+        replacement2,
+        readingtape2,
+        readingbytes2,
+        tape1,
+        bytes1,
+        tape2,
+        bytes2,
+        work,
+    );
+    let b = merge_in_order(
+        tape,
+        bytes,
         start2,
         end2,
         replacement2,
         readingtape2,
         readingbytes2,
-        tape2,
-        bytes2,
+        start1,
+        end1,
+        replacement1,
+        readingtape1,
+        readingbytes1,
+        tape3,
+        bytes3,
+        tape4,
+        bytes4,
         work,
     );
-    InOrder { first: first, second: second }
+    let earlierfirst = a.first;
+    let latersecond = a.second;
+    let laterfirst = b.first;
+    let earliersecond = b.second;
+    BothOrders {
+        earlierfirst: earlierfirst,
+        latersecond: latersecond,
+        laterfirst: laterfirst,
+        earliersecond: earliersecond,
+    }
 }
