@@ -1,23 +1,23 @@
 -- The input of the program `merge`: numbers 1 and 3 before all else, the parts, and how much of it has to be read.
 use mathlib.Core.Path.{_≡_, refl, sym, ap, _∙_}
-use Prim.Native.Nat.{ℕ, _+_, _-_, _≤_, _<_, min}
+use Prim.Native.Nat.{ℕ, _+_, _-_, _≤_, _<_}
 use native.Mathlib.Omega.{arith}
-use mathlib.Core.Bool.{Bool, true, false, cond, not, _&&_}
+use mathlib.Core.Bool.{Bool, true, false, cond}
 use mathlib.Core.List.{List, [], _∷_}
-use lib.ListN.{length, take, drop, getD, length-take}
+use lib.ListN.{length, take, getD, length-take}
 use lib.Seq.{take-all, getD-take}
 use lib.Dec.{leb, ltb, eqb}
-use borrow.Author.Tests.{leb-true, leb-false, ltb-true, ltb-false, eqb-true, eqb-false, le-leb, lt-leb, le-ltb, lt-ltb, ne-eqb, eq-eqb}
+use borrow.Author.Tests.{leb-true, leb-false, ltb-false, eqb-true, le-ltb, lt-ltb, ne-eqb, eq-eqb}
 use Rattle.model.specs.Lists.{all, sum}
 use Rattle.model.specs.Limits.{maxPart}
 use Rattle.model.specs.Bytes.{wordAt, part}
 use Rattle.model.specs.Refusal.{Checked, Checked.refused, Checked.accepted, _>>=_, refuse_if_}
-use Rattle.model.specs.Merge.{Stored, Room, IncrementalOutput, merge}
-use Rattle.model.specs.Runs.{partLengths, programRoom, asked, program}
+use Rattle.model.specs.Merge.{Room, IncrementalOutput, merge}
+use Rattle.model.specs.Runs.{partLengths, asked, program}
 use Rattle.laws.specs.Lists.{both}
 use Rattle.wire.specs.Loops.{by-bool}
 use Rattle.edit.specs.Numbers.{editOf}
-use Rattle.result.specs.Answer.{Merged, roomOf, outputOf, refusedOutput}
+use Rattle.result.specs.Answer.{Merged, outputOf, refusedOutput}
 use Rattle.result.specs.declared.IncrementalOutput.{IncrementalOutput as Output}
 
 -- each part is at most 65536 bytes long

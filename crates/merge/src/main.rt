@@ -3,10 +3,9 @@
 use libc::STDIN_FILENO;
 use libc::STDOUT_FILENO;
 ghost use mathlib.Core.Path.{_≡_};
-ghost use mathlib.Core.List.{List, [], _∷_, _++_};
+ghost use mathlib.Core.List.{[], _∷_, _++_};
 ghost use Prim.Native.Nat.{_+_, _≤_};
 ghost use lib.ListN.{length, take};
-ghost use Rattle.model.specs.Bytes.{wordAt};
 ghost use Rattle.model.specs.Merge.{merge as mergeModel};
 ghost use Rattle.model.specs.Runs.{asked, program, line};
 ghost use Rattle.edit.specs.Numbers.{editOf};

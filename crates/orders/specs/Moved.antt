@@ -1,10 +1,9 @@
 -- The later edit, moved by the earlier's change in length, as a u32 has room for it.
-use mathlib.Core.Path.{_≡_, refl, sym, ap, _∙_, subst}
+use mathlib.Core.Path.{_≡_, refl}
 use Prim.Native.Nat.{ℕ, _+_, _-_, _≤_, min}
 use native.Mathlib.Omega.{arith}
 use mathlib.Core.List.{List}
 use lib.ListN.{length}
-use Rattle.model.specs.Limits.{maxText}
 use Rattle.model.specs.Offset.{Span, maxU32}
 use Rattle.model.specs.Types.{LexOutput}
 use Rattle.model.specs.Region.{Edit, edited, behindEdit}

@@ -12,11 +12,11 @@ use Rattle.model.specs.WellFormed.{checkBook}
 use Rattle.model.specs.Region.{Edit}
 use Rattle.model.specs.Merge.{Stored, Room, IncrementalOutput, merge, padded, tapeBuffer, textBuffer, workBuffer}
 use Rattle.model.specs.Demand3.{Correction, StoredBytes, Separate, BothOrders, Commutes, Demand3}
-use Rattle.laws.specs.Checks.{MergeAccepted, merge-accepted, chosen-facts, same-accepted}
+use Rattle.laws.specs.Checks.{chosen-facts}
 use Rattle.laws.specs.Numbers.{UpTo, merge-numbers}
 use Rattle.commute.specs.Demand3.{demand3}
 use Rattle.edit.specs.Numbers.{editOf}
-use Rattle.result.specs.Answer.{Merged, roomOf, outputOf, outputTape, outputBytes}
+use Rattle.result.specs.Answer.{Merged, outputOf, outputTape, outputBytes}
 use Rattle.result.specs.declared.IncrementalOutput.{IncrementalOutput as Output}
 use Rattle.orders.specs.declared.BothOrders.{BothOrders as Answers}
 use Rattle.orders.specs.Moved.{cutBehind, cutMoved, moved-exact}

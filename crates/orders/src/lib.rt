@@ -7,7 +7,7 @@ ghost use Rattle.result.specs.Answer.{roomOf, Merged};
 ghost use Rattle.model.specs.Merge.{merge as mergeModel};
 ghost use Rattle.edit.specs.Numbers.{editOf};
 ghost use Rattle.orders.specs.Moved.{cutBehind};
-ghost use Rattle.orders.specs.Orders.{storedOf, correctionOf, mergeOf, MergedInOrder, MergedBothOrders};
+ghost use Rattle.orders.specs.Orders.{storedOf, correctionOf, MergedInOrder, MergedBothOrders};
 
 // What the four calls answer. The earlier correction is the one that lies before the other.
 pub struct BothOrders {

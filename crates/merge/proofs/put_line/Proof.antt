@@ -1,4 +1,3 @@
-use mathlib.Core.Path.{refl, sym, _∙_}
 use native.Mathlib.Omega.{arith}
 use Rattle.merge.specs.Line.{refused-line, accepted-line}
 use borrow.Author.Needs.{needs}

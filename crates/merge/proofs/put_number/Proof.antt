@@ -1,4 +1,3 @@
-use mathlib.Core.Path.{refl, sym, _∙_}
 use lib.ListN.{take}
 use native.Mathlib.Omega.{arith}
 use Rattle.merge.specs.Decimal.{digits-few}

@@ -1,5 +1,4 @@
-use mathlib.Core.Path.{refl, sym, _∙_}
-use native.Mathlib.Omega.{arith}
+use mathlib.Core.Path.{refl}
 use Rattle.merge.specs.Line.{put-text}
 use borrow.Author.Needs.{needs}
 use Rattle.merge.proofs.put_text.Statement.{statement}
