@@ -1,5 +1,5 @@
 -- The answers of the entries as C has them: a number of the table, or 0 and the values. What an answer does not have is 0.
-use mathlib.Core.Path.{_≡_, refl, sym, ap, _∙_}
+use mathlib.Core.Path.{_≡_, refl, sym, ap, _∙_, subst}
 use Prim.Native.Nat.{ℕ}
 use native.Mathlib.Omega.{arith}
 use mathlib.Core.Bool.{Bool, true, false, cond}
@@ -11,6 +11,8 @@ use Rattle.model.specs.Offset.{Span}
 use Rattle.model.specs.Types.{LexOutput}
 use Rattle.model.specs.Refusal.{Checked, Checked.refused, Checked.accepted, _>>=_}
 use Rattle.model.specs.WellFormed.{checkBook}
+use Rattle.model.specs.Merge.{Stored, Room, IncrementalOutput}
+use Rattle.model.specs.Demand3.{Correction}
 use Rattle.model.specs.Lookup.{askBook, lookupStrSpan, lookupStr}
 use Rattle.laws.specs.Numbers.{UpTo, book-up-to}
 use Rattle.lookup.specs.declared.Allowed.{Allowed}
@@ -27,12 +29,18 @@ use Rattle.lookup.specs.Ranges.{rangeIf, rangeAtOf}
 use Rattle.lookup.specs.Strings.{strIf, strAtOf, strShown}
 use Rattle.region.specs.declared.Chosen.{Chosen}
 use Rattle.region.specs.declared.Chosen.the-variants as chosen
+use Rattle.result.specs.Answer.{Merged}
+use Rattle.orders.specs.Orders.{MergedBothOrders}
+use Rattle.result.specs.declared.IncrementalOutput.{IncrementalOutput as Output}
+use Rattle.orders.specs.declared.BothOrders.{BothOrders}
 use Rattle.exports.specs.declared.AllowedAnswer.{AllowedAnswer}
 use Rattle.exports.specs.declared.NodeAnswer.{NodeAnswer}
 use Rattle.exports.specs.declared.RangeAnswer.{RangeAnswer}
 use Rattle.exports.specs.declared.StrAnswer.{StrAnswer}
 use Rattle.exports.specs.declared.CopyAnswer.{CopyAnswer}
 use Rattle.exports.specs.declared.RegionAnswer.{RegionAnswer}
+use Rattle.exports.specs.declared.MergeAnswer.{MergeAnswer}
+use Rattle.exports.specs.declared.OrdersAnswer.{OrdersAnswer}
 
 -- ---- told
 
@@ -112,3 +120,42 @@ str-told t d id {x} e h =
           ∙ ap (strShown d) (str-back (askBook t d (λ (b : LexOutput). lookupStrSpan b id)) (ask-up-to t d (λ (b : LexOutput). lookupStrSpan b id)) ∙ sym (h .0))
           ∙ h .1,
     )
+
+-- ---- merges: the answer of the entry, read back
+
+abbrev pub outputRead : MergeAnswer → Output
+outputRead r = record {
+  number = r .number;
+  start = r .start;
+  end = r .end;
+  reused = r .reused;
+  reread = r .reread;
+  stats = record {
+    calls = r .calls;
+    cachehits = r .cachehits;
+    tablehits = r .tablehits;
+    allocs = r .allocs;
+    longbypass = r .longbypass;
+    resizes = r .resizes;
+    probesteps = r .probesteps;
+  };
+  tape = r .tape;
+  bytes = r .bytes;
+}
+
+abbrev pub ordersRead : OrdersAnswer → BothOrders
+ordersRead r = record {
+  earlierfirst = outputRead (r .earlierfirst);
+  latersecond = outputRead (r .latersecond);
+  laterfirst = outputRead (r .laterfirst);
+  earliersecond = outputRead (r .earliersecond);
+}
+
+pub merge-told : {asked : Checked IncrementalOutput} {room : Room} {x y : Output} {out text work : List ℕ} → y ≡ x → Merged asked room x out text work → Merged asked room y out text work
+merge-told e m = record { answer = e ∙ m .answer; tape = m .tape; bytes = m .bytes; words = m .words }
+
+pub orders-told : {stored : Stored} {earlier later : Correction} {room₁ room₂ room₃ room₄ : Room} {x y : BothOrders} {out₁ out₂ out₃ out₄ : Stored} {work : List ℕ} → y ≡ x
+    → MergedBothOrders stored earlier later room₁ room₂ room₃ room₄ x out₁ out₂ out₃ out₄ work
+    → MergedBothOrders stored earlier later room₁ room₂ room₃ room₄ y out₁ out₂ out₃ out₄ work
+orders-told {stored} {earlier} {later} {room₁} {room₂} {room₃} {room₄} {x} {y} {out₁} {out₂} {out₃} {out₄} {work} e m =
+    subst (λ (z : BothOrders). MergedBothOrders stored earlier later room₁ room₂ room₃ room₄ z out₁ out₂ out₃ out₄ work) (sym e) m

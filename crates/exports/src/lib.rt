@@ -3,6 +3,7 @@
 ghost use mathlib.Core.Path.{_≡_};
 ghost use lib.ListN.{length};
 ghost use Rattle.model.specs.Refusal.{numberOf};
+ghost use Rattle.model.specs.Merge.{merge};
 ghost use Rattle.model.specs.WellFormed.{checkBook, checkReading};
 ghost use Rattle.model.specs.Region.{chooseRegion};
 ghost use Rattle.model.specs.Tape.{contentCodec, segmentCodec};
@@ -17,7 +18,9 @@ ghost use Rattle.lookup.specs.Strings.{strAtOf, strShown};
 ghost use Rattle.lookup.specs.Copying.{copiedOf, copyInto};
 ghost use Rattle.edit.specs.Numbers.{editOf};
 ghost use Rattle.region.specs.Chosen.{chosenOf};
-ghost use Rattle.exports.specs.Answers.{allowedAnswer, nodeAnswer, rangeAnswer, rangeRead, strAnswer, strRead, copyAnswer, regionAnswer};
+ghost use Rattle.result.specs.Answer.{roomOf, Merged};
+ghost use Rattle.orders.specs.Orders.{storedOf, correctionOf, MergedBothOrders};
+ghost use Rattle.exports.specs.Answers.{allowedAnswer, nodeAnswer, rangeAnswer, rangeRead, strAnswer, strRead, copyAnswer, regionAnswer, outputRead, ordersRead};
 
 #[repr(C)]
 pub struct AllowedAnswer {
@@ -65,6 +68,35 @@ pub struct RegionAnswer {
     pub number: u32,
     pub start: u32,
     pub end: u32,
+}
+
+// What a merge answers: the region in offsets of the old text, old nodes kept, the reading's nodes, the seven counts, and how many bytes of
+// the two result buffers the book takes.
+#[repr(C)]
+pub struct MergeAnswer {
+    pub number: u32,
+    pub start: u32,
+    pub end: u32,
+    pub reused: u32,
+    pub reread: u32,
+    pub calls: u64,
+    pub cachehits: u64,
+    pub tablehits: u64,
+    pub allocs: u64,
+    pub longbypass: u64,
+    pub resizes: u64,
+    pub probesteps: u64,
+    pub tape: usize,
+    pub bytes: usize,
+}
+
+// What the four merges answer.
+#[repr(C)]
+pub struct OrdersAnswer {
+    pub earlierfirst: MergeAnswer,
+    pub latersecond: MergeAnswer,
+    pub laterfirst: MergeAnswer,
+    pub earliersecond: MergeAnswer,
 }
 
 fn allowed_answer(a: lookup::Allowed) -> AllowedAnswer
@@ -192,6 +224,43 @@ fn region_answer(a: region::Chosen) -> RegionAnswer
     }
 }
 
+fn merge_answer(a: result::IncrementalOutput) -> MergeAnswer
+    ensures { λ r. ⌜ outputRead r ≡ a ⌝ }
+{
+    let c = a.stats;
+    MergeAnswer {
+        number: a.number,
+        start: a.start,
+        end: a.end,
+        reused: a.reused,
+        reread: a.reread,
+        calls: c.calls,
+        cachehits: c.cachehits,
+        tablehits: c.tablehits,
+        allocs: c.allocs,
+        longbypass: c.longbypass,
+        resizes: c.resizes,
+        probesteps: c.probesteps,
+        tape: a.tape,
+        bytes: a.bytes,
+    }
+}
+
+fn orders_answer(a: orders::BothOrders) -> OrdersAnswer
+    ensures { λ r. ⌜ ordersRead r ≡ a ⌝ }
+{
+    let earlierfirst = a.earlierfirst;
+    let latersecond = a.latersecond;
+    let laterfirst = a.laterfirst;
+    let earliersecond = a.earliersecond;
+    OrdersAnswer {
+        earlierfirst: merge_answer(earlierfirst),
+        latersecond: merge_answer(latersecond),
+        laterfirst: merge_answer(laterfirst),
+        earliersecond: merge_answer(earliersecond),
+    }
+}
+
 #[no_mangle]
 pub extern "C" fn aozora_check_book(tape: &[u8], bytes: &[u8]) -> u32
     ensures { λ r. ⌜ r ≡ numberOf (checkBook (now (tape .entry)) (now (bytes .entry))) ⌝ }
@@ -282,4 +351,95 @@ pub extern "C" fn aozora_choose_region(
         × (now (words .exit) ≡ zeros (length (now (words .entry)))) ⌝ }
 {
     region_answer(region::choose_region(tape, bytes, start, end, replacement, words))
+}
+
+#[no_mangle]
+pub extern "C" fn aozora_merge(
+    tape: &[u8],
+    bytes: &[u8],
+    start: u32,
+    end: u32,
+    replacement: &[u8],
+    readingtape: &[u8],
+    readingbytes: &[u8],
+    outtape: &mut [u8],
+    outbytes: &mut [u8],
+    work: &mut [u32],
+) -> MergeAnswer
+    ensures { λ r. ⌜ Merged
+        (merge (record { tape = now (tape .entry); bytes = now (bytes .entry) }) (editOf start end (now (replacement .entry))) (record { tape = now (readingtape .entry); bytes = now (readingbytes .entry) })
+        (roomOf (now (outtape .entry)) (now (outbytes .entry)) (now (work .entry))))
+        (roomOf (now (outtape .entry)) (now (outbytes .entry)) (now (work .entry))) (outputRead r) (now (outtape .exit)) (now (outbytes .exit)) (now (work .exit)) ⌝ }
+{
+    merge_answer(incremental::merge(
+        tape,
+        bytes,
+        start,
+        end,
+        replacement,
+        readingtape,
+        readingbytes,
+        outtape,
+        outbytes,
+        work,
+    ))
+}
+
+#[no_mangle]
+pub extern "C" fn aozora_merge_both_orders(
+    tape: &[u8],
+    bytes: &[u8],
+    start1: u32,
+    end1: u32,
+    replacement1: &[u8],
+    readingtape1: &[u8],
+    readingbytes1: &[u8],
+    start2: u32,
+    end2: u32,
+    replacement2: &[u8],
+    readingtape2: &[u8],
+    readingbytes2: &[u8],
+    tape1: &mut [u8],
+    bytes1: &mut [u8],
+    tape2: &mut [u8],
+    bytes2: &mut [u8],
+    tape3: &mut [u8],
+    bytes3: &mut [u8],
+    tape4: &mut [u8],
+    bytes4: &mut [u8],
+    work: &mut [u32],
+) -> OrdersAnswer
+    ensures { λ r. ⌜ MergedBothOrders (storedOf (now (tape .entry)) (now (bytes .entry)))
+        (correctionOf start1 end1 (now (replacement1 .entry)) (now (readingtape1 .entry)) (now (readingbytes1 .entry)))
+        (correctionOf start2 end2 (now (replacement2 .entry)) (now (readingtape2 .entry)) (now (readingbytes2 .entry)))
+        (roomOf (now (tape1 .entry)) (now (bytes1 .entry)) (now (work .entry)))
+        (roomOf (now (tape2 .entry)) (now (bytes2 .entry)) (now (work .entry)))
+        (roomOf (now (tape3 .entry)) (now (bytes3 .entry)) (now (work .entry)))
+        (roomOf (now (tape4 .entry)) (now (bytes4 .entry)) (now (work .entry)))
+        (ordersRead r) (storedOf (now (tape1 .exit)) (now (bytes1 .exit))) (storedOf (now (tape2 .exit)) (now (bytes2 .exit)))
+        (storedOf (now (tape3 .exit)) (now (bytes3 .exit))) (storedOf (now (tape4 .exit)) (now (bytes4 .exit))) (now (work .exit)) ⌝ }
+{
+    orders_answer(orders::merge_both_orders(
+        tape,
+        bytes,
+        start1,
+        end1,
+        replacement1,
+        readingtape1,
+        readingbytes1,
+        start2,
+        end2,
+        replacement2,
+        readingtape2,
+        readingbytes2,
+        tape1,
+        bytes1,
+        tape2,
+        bytes2,
+        tape3,
+        bytes3,
+        tape4,
+        bytes4,
+        work,
+    ))
 }

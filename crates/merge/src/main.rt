@@ -6,10 +6,8 @@ ghost use mathlib.Core.Path.{_≡_};
 ghost use mathlib.Core.List.{[], _∷_, _++_};
 ghost use Prim.Native.Nat.{_+_, _≤_};
 ghost use lib.ListN.{length, take};
-ghost use Rattle.model.specs.Merge.{merge as mergeModel};
 ghost use Rattle.model.specs.Runs.{asked, program, line};
-ghost use Rattle.edit.specs.Numbers.{editOf};
-ghost use Rattle.result.specs.Answer.{roomOf, Merged, outputOf, refusedOutput};
+ghost use Rattle.result.specs.Answer.{outputOf, refusedOutput};
 ghost use Rattle.merge.specs.Input.{partsFit, inputNumber, Whole};
 ghost use Rattle.merge.specs.Line.{numbered, acceptedLine, lineOf};
 
@@ -65,27 +63,6 @@ fn input_refusal(input: &[u8]) -> u32
     0
 }
 
-// STUB of `incremental::merge`, to be replaced by it.
-fn merge(
-    tape: &[u8],
-    bytes: &[u8],
-    start: u32,
-    end: u32,
-    replacement: &[u8],
-    readingtape: &[u8],
-    readingbytes: &[u8],
-    outtape: &mut [u8],
-    outbytes: &mut [u8],
-    work: &mut [u32],
-) -> result::IncrementalOutput
-    ensures { λ r. ⌜ Merged
-        (mergeModel (record { tape = now (tape .entry); bytes = now (bytes .entry) }) (editOf start end (now (replacement .entry))) (record { tape = now (readingtape .entry); bytes = now (readingbytes .entry) })
-        (roomOf (now (outtape .entry)) (now (outbytes .entry)) (now (work .entry))))
-        (roomOf (now (outtape .entry)) (now (outbytes .entry)) (now (work .entry))) r (now (outtape .exit)) (now (outbytes .exit)) (now (work .exit)) ⌝ }
-{
-    refused(1)
-}
-
 fn refused(n: u32) -> result::IncrementalOutput
     ensures { λ r. ⌜ r ≡ refusedOutput n ⌝ }
 {
@@ -126,7 +103,7 @@ fn merge_parts(
     let newtape = replacement + wire::u32_at(input, 16) as usize;
     let newbytes = newtape + wire::u32_at(input, 20) as usize;
     let end = newbytes + wire::u32_at(input, 24) as usize;
-    merge(
+    incremental::merge(
         wire::between(input, HEAD, oldbytes),
         wire::between(input, oldbytes, replacement),
         wire::u32_at(input, 8),

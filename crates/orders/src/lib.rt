@@ -3,8 +3,7 @@
 ghost use mathlib.Core.Path.{_≡_};
 ghost use Prim.Native.Nat.{min};
 ghost use Rattle.model.specs.Offset.{maxU32};
-ghost use Rattle.result.specs.Answer.{roomOf, Merged};
-ghost use Rattle.model.specs.Merge.{merge as mergeModel};
+ghost use Rattle.result.specs.Answer.{roomOf};
 ghost use Rattle.edit.specs.Numbers.{editOf};
 ghost use Rattle.orders.specs.Moved.{cutBehind};
 ghost use Rattle.orders.specs.Orders.{storedOf, correctionOf, MergedInOrder, MergedBothOrders};
@@ -44,45 +43,6 @@ fn moved(offset: u32, start: u32, end: u32, replacement: &[u8]) -> u32
     capped(longer - removed)
 }
 
-// STUB of `incremental::merge`, to be replaced by it.
-fn merge(
-    tape: &[u8],
-    bytes: &[u8],
-    start: u32,
-    end: u32,
-    replacement: &[u8],
-    readingtape: &[u8],
-    readingbytes: &[u8],
-    outtape: &mut [u8],
-    outbytes: &mut [u8],
-    work: &mut [u32],
-) -> result::IncrementalOutput
-    ensures { λ r. ⌜ Merged
-        (mergeModel (record { tape = now (tape .entry); bytes = now (bytes .entry) }) (editOf start end (now (replacement .entry))) (record { tape = now (readingtape .entry); bytes = now (readingbytes .entry) })
-        (roomOf (now (outtape .entry)) (now (outbytes .entry)) (now (work .entry))))
-        (roomOf (now (outtape .entry)) (now (outbytes .entry)) (now (work .entry))) r (now (outtape .exit)) (now (outbytes .exit)) (now (work .exit)) ⌝ }
-{
-    let none = interner::InternStats {
-        calls: 0,
-        cachehits: 0,
-        tablehits: 0,
-        allocs: 0,
-        longbypass: 0,
-        resizes: 0,
-        probesteps: 0,
-    };
-    result::IncrementalOutput {
-        number: 1,
-        start: 0,
-        end: 0,
-        reused: 0,
-        reread: 0,
-        stats: none,
-        tape: 0,
-        bytes: 0,
-    }
-}
-
 // What two calls answer, the second on the result of the first.
 struct InOrder {
     pub first: result::IncrementalOutput,
@@ -116,7 +76,7 @@ fn merge_in_order(
         (roomOf (now (nexttape .entry)) (now (nextbytes .entry)) (now (work .entry)))
         (r .first) (r .second) (storedOf (now (outtape .exit)) (now (outbytes .exit))) (storedOf (now (nexttape .exit)) (now (nextbytes .exit))) (now (work .exit)) ⌝ }
 {
-    let first = merge(
+    let first = incremental::merge(
         tape,
         bytes,
         start,
@@ -130,7 +90,7 @@ fn merge_in_order(
     );
     let tapeend = first.tape;
     let bytesend = first.bytes;
-    let second = merge(
+    let second = incremental::merge(
         &outtape[0..tapeend],
         &outbytes[0..bytesend],
         nextstart,

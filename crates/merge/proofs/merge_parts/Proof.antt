@@ -4,7 +4,7 @@ use Rattle.merge.proofs.merge_parts.Statement.{statement}
 use Rattle.merge.proofs.merge_parts.Tie as tie
 use Rattle.merge.proofs.merge_parts.Reads as reads
 use Rattle.merge.proofs.merge_parts.Lts as lts
-use Rattle.merge.proofs.merge.Reads as merge-reads
+use Rattle.incremental.proofs.merge.Reads as merge-reads
 use Rattle.wire.proofs.between.Reads as between-reads
 use Rattle.wire.proofs.u32_at.Reads as u32-at-reads
 

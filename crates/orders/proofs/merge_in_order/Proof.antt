@@ -5,7 +5,7 @@ use Rattle.orders.proofs.merge_in_order.Statement.{statement}
 use Rattle.orders.proofs.merge_in_order.Tie as tie
 use Rattle.orders.proofs.merge_in_order.Reads as reads
 use Rattle.orders.proofs.merge_in_order.Lts as lts
-use Rattle.orders.proofs.merge.Reads as merge-reads
+use Rattle.incremental.proofs.merge.Reads as merge-reads
 
 -- src/lib.rt:102:9
 merge-requires : tie.Need-merge-requires
