@@ -1,0 +1,33 @@
+use mathlib.Core.Path.{ap, _∙_}
+use Rattle.exports.specs.Answers.{copyAnswer}
+use borrow.Author.Needs.{needs}
+use Rattle.exports.proofs.aozora_copy_book.Statement.{statement}
+use Rattle.exports.proofs.aozora_copy_book.Tie as tie
+use Rattle.exports.proofs.aozora_copy_book.Reads as reads
+use Rattle.exports.proofs.aozora_copy_book.Lts as lts
+use Rattle.exports.proofs.copy_answer.Reads as copy-answer-reads
+use Rattle.lookup.proofs.copy_book.Reads as copy-book-reads
+
+-- src/lib.rt:269:17
+copy-book-requires : tie.Need-copy-book-requires
+copy-book-requires c κs = search needs
+
+-- src/lib.rt:269:5
+copy-answer-requires : tie.Need-copy-answer-requires
+copy-answer-requires c κs = search needs
+
+-- src/lib.rt:257:1
+same-length : tie.Need-same-length
+same-length c = search needs
+
+-- src/lib.rt:257:1
+same-length-2 : tie.Need-same-length-2
+same-length-2 c = search needs
+
+-- src/lib.rt:257:1
+returns : tie.Need-returns
+returns c = (c .copy-answer .ensures ∙ ap copyAnswer (c .before .before .before .before .before .copy-book .ensures .0), c .before .before .before .before .before .copy-book .ensures .1, c .before .before .before .before .before .copy-book .ensures .2)
+
+pub aozora-copy-book-spec : {M : Type 1} → statement M
+aozora-copy-book-spec =
+    tie.close (tie.spec copy-book-requires copy-answer-requires same-length same-length-2 returns)

@@ -1,0 +1,26 @@
+use Rattle.model.specs.Tape.{contentCodec}
+use Rattle.lookup.specs.Ranges.{rangeShown}
+use Rattle.exports.specs.Answers.{range-told}
+use borrow.Author.Needs.{needs}
+use Rattle.exports.proofs.aozora_lookup_contents.Statement.{statement}
+use Rattle.exports.proofs.aozora_lookup_contents.Tie as tie
+use Rattle.exports.proofs.aozora_lookup_contents.Reads as reads
+use Rattle.exports.proofs.aozora_lookup_contents.Lts as lts
+use Rattle.exports.proofs.range_answer.Reads as range-answer-reads
+use Rattle.lookup.proofs.lookup_contents.Reads as lookup-contents-reads
+
+-- src/lib.rt:241:18
+lookup-contents-requires : tie.Need-lookup-contents-requires
+lookup-contents-requires c κs = search needs
+
+-- src/lib.rt:241:5
+range-answer-requires : tie.Need-range-answer-requires
+range-answer-requires c κs = search needs
+
+-- src/lib.rt:231:1
+returns : tie.Need-returns
+returns c = range-told _ _ _ _ _ (c .range-answer .ensures) (rangeShown contentCodec _) (c .before .lookup-contents .ensures)
+
+pub aozora-lookup-contents-spec : {M : Type 1} → statement M
+aozora-lookup-contents-spec =
+    tie.close (tie.spec lookup-contents-requires range-answer-requires returns)

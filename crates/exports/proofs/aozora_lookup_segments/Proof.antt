@@ -1,0 +1,26 @@
+use Rattle.model.specs.Tape.{segmentCodec}
+use Rattle.lookup.specs.Ranges.{rangeShown}
+use Rattle.exports.specs.Answers.{range-told}
+use borrow.Author.Needs.{needs}
+use Rattle.exports.proofs.aozora_lookup_segments.Statement.{statement}
+use Rattle.exports.proofs.aozora_lookup_segments.Tie as tie
+use Rattle.exports.proofs.aozora_lookup_segments.Reads as reads
+use Rattle.exports.proofs.aozora_lookup_segments.Lts as lts
+use Rattle.exports.proofs.range_answer.Reads as range-answer-reads
+use Rattle.lookup.proofs.lookup_segments.Reads as lookup-segments-reads
+
+-- src/lib.rt:254:18
+lookup-segments-requires : tie.Need-lookup-segments-requires
+lookup-segments-requires c κs = search needs
+
+-- src/lib.rt:254:5
+range-answer-requires : tie.Need-range-answer-requires
+range-answer-requires c κs = search needs
+
+-- src/lib.rt:244:1
+returns : tie.Need-returns
+returns c = range-told _ _ _ _ _ (c .range-answer .ensures) (rangeShown segmentCodec _) (c .before .lookup-segments .ensures)
+
+pub aozora-lookup-segments-spec : {M : Type 1} → statement M
+aozora-lookup-segments-spec =
+    tie.close (tie.spec lookup-segments-requires range-answer-requires returns)

@@ -1,0 +1,25 @@
+use mathlib.Core.Path.{ap, _∙_}
+use Rattle.exports.specs.Answers.{nodeAnswer}
+use borrow.Author.Needs.{needs}
+use Rattle.exports.proofs.aozora_node_at_source.Statement.{statement}
+use Rattle.exports.proofs.aozora_node_at_source.Tie as tie
+use Rattle.exports.proofs.aozora_node_at_source.Reads as reads
+use Rattle.exports.proofs.aozora_node_at_source.Lts as lts
+use Rattle.exports.proofs.node_answer.Reads as node-answer-reads
+use Rattle.lookup.proofs.node_at_source.Reads as node-at-source-reads
+
+-- src/lib.rt:220:17
+node-at-source-requires : tie.Need-node-at-source-requires
+node-at-source-requires c κs = search needs
+
+-- src/lib.rt:220:5
+node-answer-requires : tie.Need-node-answer-requires
+node-answer-requires c κs = search needs
+
+-- src/lib.rt:216:1
+returns : tie.Need-returns
+returns c = c .node-answer .ensures ∙ ap nodeAnswer (c .before .node-at-source .ensures)
+
+pub aozora-node-at-source-spec : {M : Type 1} → statement M
+aozora-node-at-source-spec =
+    tie.close (tie.spec node-at-source-requires node-answer-requires returns)

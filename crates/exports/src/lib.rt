@@ -1,0 +1,445 @@
+// The entries for C and Rust: each as it stands in its crate, an enum answer as a struct of numbers. A slice goes as a pointer and a length.
+// In every answer `number` is 0 or the number of the refusal, and what an answer does not have is 0.
+ghost use mathlib.Core.Path.{_≡_};
+ghost use lib.ListN.{length};
+ghost use Rattle.model.specs.Refusal.{numberOf};
+ghost use Rattle.model.specs.Merge.{merge};
+ghost use Rattle.model.specs.WellFormed.{checkBook, checkReading};
+ghost use Rattle.model.specs.Region.{chooseRegion};
+ghost use Rattle.model.specs.Tape.{contentCodec, segmentCodec};
+ghost use Rattle.model.specs.Lookup.{askBook, diagnosticsAllowIncremental, nodeAtSource, lookupContents, lookupSegments, lookupStr, lookupStrSpan};
+ghost use Rattle.model.specs.Lookup.{copiedTape, copiedBytes};
+ghost use Rattle.wire.specs.Overwrite.{zeros};
+ghost use Rattle.store.specs.Stored.{storeAt};
+ghost use Rattle.store.specs.Standing.{contentPlace, segmentPlace};
+ghost use Rattle.lookup.specs.Asked.{allowedOf, nodeAtOf};
+ghost use Rattle.lookup.specs.Ranges.{contentsOk, segmentsOk, rangeAtOf, rangeShown};
+ghost use Rattle.lookup.specs.Strings.{strAtOf, strShown};
+ghost use Rattle.lookup.specs.Copying.{copiedOf, copyInto};
+ghost use Rattle.edit.specs.Numbers.{editOf};
+ghost use Rattle.region.specs.Chosen.{chosenOf};
+ghost use Rattle.result.specs.Answer.{roomOf, Merged};
+ghost use Rattle.orders.specs.Orders.{storedOf, correctionOf, MergedBothOrders};
+ghost use Rattle.exports.specs.Answers.{allowedAnswer, nodeAnswer, rangeAnswer, rangeRead, strAnswer, strRead, copyAnswer, regionAnswer, outputRead, ordersRead};
+
+#[repr(C)]
+pub struct AllowedAnswer {
+    pub number: u32,
+    pub allowed: bool,
+}
+
+// The node's place in the list, where one is found.
+#[repr(C)]
+pub struct NodeAnswer {
+    pub number: u32,
+    pub found: bool,
+    pub node: usize,
+}
+
+// Where the first record of a range stands in the tape, and how many they are.
+#[repr(C)]
+pub struct RangeAnswer {
+    pub number: u32,
+    pub found: bool,
+    pub place: usize,
+    pub count: u32,
+}
+
+// Where a string starts and ends in the byte buffer.
+#[repr(C)]
+pub struct StrAnswer {
+    pub number: u32,
+    pub found: bool,
+    pub start: usize,
+    pub end: usize,
+}
+
+// How many bytes of the two result buffers the copy takes.
+#[repr(C)]
+pub struct CopyAnswer {
+    pub number: u32,
+    pub tape: usize,
+    pub bytes: usize,
+}
+
+// The region in offsets of the old text.
+#[repr(C)]
+pub struct RegionAnswer {
+    pub number: u32,
+    pub start: u32,
+    pub end: u32,
+}
+
+// What a merge answers: the region in offsets of the old text, old nodes kept, the reading's nodes, the seven counts, and how many bytes of
+// the two result buffers the book takes.
+#[repr(C)]
+pub struct MergeAnswer {
+    pub number: u32,
+    pub start: u32,
+    pub end: u32,
+    pub reused: u32,
+    pub reread: u32,
+    pub calls: u64,
+    pub cachehits: u64,
+    pub tablehits: u64,
+    pub allocs: u64,
+    pub longbypass: u64,
+    pub resizes: u64,
+    pub probesteps: u64,
+    pub tape: usize,
+    pub bytes: usize,
+}
+
+// What the four merges answer.
+#[repr(C)]
+pub struct OrdersAnswer {
+    pub earlierfirst: MergeAnswer,
+    pub latersecond: MergeAnswer,
+    pub laterfirst: MergeAnswer,
+    pub earliersecond: MergeAnswer,
+}
+
+fn allowed_answer(a: lookup::Allowed) -> AllowedAnswer
+    ensures { λ r. ⌜ r ≡ allowedAnswer a ⌝ }
+{
+    match a {
+        lookup::Allowed::Refused(n) => AllowedAnswer {
+            number: n,
+            allowed: false,
+        },
+        lookup::Allowed::Yes => AllowedAnswer {
+            number: 0,
+            allowed: true,
+        },
+        lookup::Allowed::No => AllowedAnswer {
+            number: 0,
+            allowed: false,
+        },
+    }
+}
+
+fn node_answer(a: lookup::NodeAt) -> NodeAnswer
+    ensures { λ r. ⌜ r ≡ nodeAnswer a ⌝ }
+{
+    match a {
+        lookup::NodeAt::Refused(n) => NodeAnswer {
+            number: n,
+            found: false,
+            node: 0,
+        },
+        lookup::NodeAt::Node(i) => NodeAnswer {
+            number: 0,
+            found: true,
+            node: i,
+        },
+        lookup::NodeAt::Nothing => NodeAnswer {
+            number: 0,
+            found: false,
+            node: 0,
+        },
+    }
+}
+
+fn range_answer(a: lookup::RangeAt) -> RangeAnswer
+    ensures { λ r. ⌜ r ≡ rangeAnswer a ⌝ }
+{
+    match a {
+        lookup::RangeAt::Refused(n) => RangeAnswer {
+            number: n,
+            found: false,
+            place: 0,
+            count: 0,
+        },
+        lookup::RangeAt::At(place, n) => RangeAnswer {
+            number: 0,
+            found: true,
+            place: place,
+            count: n,
+        },
+        lookup::RangeAt::Nothing => RangeAnswer {
+            number: 0,
+            found: false,
+            place: 0,
+            count: 0,
+        },
+    }
+}
+
+fn str_answer(a: lookup::StrAt) -> StrAnswer
+    ensures { λ r. ⌜ r ≡ strAnswer a ⌝ }
+{
+    match a {
+        lookup::StrAt::Refused(n) => StrAnswer {
+            number: n,
+            found: false,
+            start: 0,
+            end: 0,
+        },
+        lookup::StrAt::At(start, end) => StrAnswer {
+            number: 0,
+            found: true,
+            start: start,
+            end: end,
+        },
+        lookup::StrAt::Nothing => StrAnswer {
+            number: 0,
+            found: false,
+            start: 0,
+            end: 0,
+        },
+    }
+}
+
+fn copy_answer(a: lookup::Copied) -> CopyAnswer
+    ensures { λ r. ⌜ r ≡ copyAnswer a ⌝ }
+{
+    match a {
+        lookup::Copied::Refused(n) => CopyAnswer {
+            number: n,
+            tape: 0,
+            bytes: 0,
+        },
+        lookup::Copied::Copied(tape, bytes) => CopyAnswer {
+            number: 0,
+            tape: tape,
+            bytes: bytes,
+        },
+    }
+}
+
+fn region_answer(a: region::Chosen) -> RegionAnswer
+    ensures { λ r. ⌜ r ≡ regionAnswer a ⌝ }
+{
+    match a {
+        region::Chosen::Refused(n) => RegionAnswer {
+            number: n,
+            start: 0,
+            end: 0,
+        },
+        region::Chosen::Region(start, end) => RegionAnswer {
+            number: 0,
+            start: start,
+            end: end,
+        },
+    }
+}
+
+fn merge_answer(a: result::IncrementalOutput) -> MergeAnswer
+    ensures { λ r. ⌜ outputRead r ≡ a ⌝ }
+{
+    let c = a.stats;
+    MergeAnswer {
+        number: a.number,
+        start: a.start,
+        end: a.end,
+        reused: a.reused,
+        reread: a.reread,
+        calls: c.calls,
+        cachehits: c.cachehits,
+        tablehits: c.tablehits,
+        allocs: c.allocs,
+        longbypass: c.longbypass,
+        resizes: c.resizes,
+        probesteps: c.probesteps,
+        tape: a.tape,
+        bytes: a.bytes,
+    }
+}
+
+fn orders_answer(a: orders::BothOrders) -> OrdersAnswer
+    ensures { λ r. ⌜ ordersRead r ≡ a ⌝ }
+{
+    let earlierfirst = a.earlierfirst;
+    let latersecond = a.latersecond;
+    let laterfirst = a.laterfirst;
+    let earliersecond = a.earliersecond;
+    OrdersAnswer {
+        earlierfirst: merge_answer(earlierfirst),
+        latersecond: merge_answer(latersecond),
+        laterfirst: merge_answer(laterfirst),
+        earliersecond: merge_answer(earliersecond),
+    }
+}
+
+#[no_mangle]
+pub extern "C" fn aozora_check_book(tape: &[u8], bytes: &[u8]) -> u32
+    ensures { λ r. ⌜ r ≡ numberOf (checkBook (now (tape .entry)) (now (bytes .entry))) ⌝ }
+{
+    tape::check_book(tape, bytes)
+}
+
+#[no_mangle]
+pub extern "C" fn aozora_check_reading(tape: &[u8], bytes: &[u8]) -> u32
+    ensures { λ r. ⌜ r ≡ numberOf (checkReading (now (tape .entry)) (now (bytes .entry))) ⌝ }
+{
+    tape::check_reading(tape, bytes)
+}
+
+#[no_mangle]
+pub extern "C" fn aozora_diagnostics_allow_incremental(tape: &[u8], bytes: &[u8]) -> AllowedAnswer
+    ensures { λ r. ⌜ r ≡ allowedAnswer (allowedOf (askBook (now (tape .entry)) (now (bytes .entry)) (λ b. diagnosticsAllowIncremental (b .diagnostics)))) ⌝ }
+{
+    allowed_answer(lookup::diagnostics_allow_incremental(tape, bytes))
+}
+
+#[no_mangle]
+pub extern "C" fn aozora_node_at_source(tape: &[u8], bytes: &[u8], offset: u32) -> NodeAnswer
+    ensures { λ r. ⌜ r ≡ nodeAnswer (nodeAtOf (askBook (now (tape .entry)) (now (bytes .entry)) (λ b. nodeAtSource (b .sourceNodes) offset))) ⌝ }
+{
+    node_answer(lookup::node_at_source(tape, bytes, offset))
+}
+
+#[no_mangle]
+pub extern "C" fn aozora_lookup_str(tape: &[u8], bytes: &[u8], id: u32) -> StrAnswer
+    ensures { λ r. ⌜ (r ≡ strAnswer (strAtOf (askBook (now (tape .entry)) (now (bytes .entry)) (λ b. lookupStrSpan b id))))
+        × (strShown (now (bytes .entry)) (strRead r) ≡ askBook (now (tape .entry)) (now (bytes .entry)) (λ b. lookupStr b id)) ⌝ }
+{
+    str_answer(lookup::lookup_str(tape, bytes, id))
+}
+
+#[no_mangle]
+pub extern "C" fn aozora_lookup_contents(
+    tape: &[u8],
+    bytes: &[u8],
+    start: u32,
+    len: u32,
+) -> RangeAnswer
+    ensures { λ r. ⌜ (r ≡ rangeAnswer (rangeAtOf (askBook (now (tape .entry)) (now (bytes .entry)) (contentsOk start len)) (contentPlace (storeAt (now (tape .entry))) start) len))
+        × (rangeShown contentCodec (now (tape .entry)) (rangeRead r) ≡ askBook (now (tape .entry)) (now (bytes .entry)) (λ b. lookupContents b start len)) ⌝ }
+{
+    range_answer(lookup::lookup_contents(tape, bytes, start, len))
+}
+
+#[no_mangle]
+pub extern "C" fn aozora_lookup_segments(
+    tape: &[u8],
+    bytes: &[u8],
+    start: u32,
+    len: u32,
+) -> RangeAnswer
+    ensures { λ r. ⌜ (r ≡ rangeAnswer (rangeAtOf (askBook (now (tape .entry)) (now (bytes .entry)) (segmentsOk start len)) (segmentPlace (storeAt (now (tape .entry))) start) len))
+        × (rangeShown segmentCodec (now (tape .entry)) (rangeRead r) ≡ askBook (now (tape .entry)) (now (bytes .entry)) (λ b. lookupSegments b start len)) ⌝ }
+{
+    range_answer(lookup::lookup_segments(tape, bytes, start, len))
+}
+
+#[no_mangle]
+pub extern "C" fn aozora_copy_book(
+    tape: &[u8],
+    bytes: &[u8],
+    outtape: &mut [u8],
+    outbytes: &mut [u8],
+) -> CopyAnswer
+    ensures { λ r. ⌜ (let copy = copyInto (now (tape .entry)) (now (bytes .entry)) (length (now (outtape .entry))) (length (now (outbytes .entry))) in
+        (r ≡ copyAnswer (copiedOf copy))
+        × (now (outtape .exit) ≡ copiedTape (length (now (outtape .entry))) copy)
+        × (now (outbytes .exit) ≡ copiedBytes (length (now (outbytes .entry))) copy)) ⌝ }
+{
+    copy_answer(lookup::copy_book(tape, bytes, outtape, outbytes))
+}
+
+#[no_mangle]
+pub extern "C" fn aozora_choose_region(
+    tape: &[u8],
+    bytes: &[u8],
+    start: u32,
+    end: u32,
+    replacement: &[u8],
+    words: &mut [u32],
+) -> RegionAnswer
+    ensures { λ r. ⌜ (r ≡ regionAnswer (chosenOf (chooseRegion (now (tape .entry)) (now (bytes .entry)) (editOf start end (now (replacement .entry))))))
+        × (now (words .exit) ≡ zeros (length (now (words .entry)))) ⌝ }
+{
+    region_answer(region::choose_region(tape, bytes, start, end, replacement, words))
+}
+
+#[no_mangle]
+pub extern "C" fn aozora_merge(
+    tape: &[u8],
+    bytes: &[u8],
+    start: u32,
+    end: u32,
+    replacement: &[u8],
+    readingtape: &[u8],
+    readingbytes: &[u8],
+    outtape: &mut [u8],
+    outbytes: &mut [u8],
+    work: &mut [u32],
+) -> MergeAnswer
+    ensures { λ r. ⌜ Merged
+        (merge (record { tape = now (tape .entry); bytes = now (bytes .entry) }) (editOf start end (now (replacement .entry))) (record { tape = now (readingtape .entry); bytes = now (readingbytes .entry) })
+        (roomOf (now (outtape .entry)) (now (outbytes .entry)) (now (work .entry))))
+        (roomOf (now (outtape .entry)) (now (outbytes .entry)) (now (work .entry))) (outputRead r) (now (outtape .exit)) (now (outbytes .exit)) (now (work .exit)) ⌝ }
+{
+    merge_answer(incremental::merge(
+        tape,
+        bytes,
+        start,
+        end,
+        replacement,
+        readingtape,
+        readingbytes,
+        outtape,
+        outbytes,
+        work,
+    ))
+}
+
+#[no_mangle]
+pub extern "C" fn aozora_merge_both_orders(
+    tape: &[u8],
+    bytes: &[u8],
+    start1: u32,
+    end1: u32,
+    replacement1: &[u8],
+    readingtape1: &[u8],
+    readingbytes1: &[u8],
+    start2: u32,
+    end2: u32,
+    replacement2: &[u8],
+    readingtape2: &[u8],
+    readingbytes2: &[u8],
+    tape1: &mut [u8],
+    bytes1: &mut [u8],
+    tape2: &mut [u8],
+    bytes2: &mut [u8],
+    tape3: &mut [u8],
+    bytes3: &mut [u8],
+    tape4: &mut [u8],
+    bytes4: &mut [u8],
+    work: &mut [u32],
+) -> OrdersAnswer
+    ensures { λ r. ⌜ MergedBothOrders (storedOf (now (tape .entry)) (now (bytes .entry)))
+        (correctionOf start1 end1 (now (replacement1 .entry)) (now (readingtape1 .entry)) (now (readingbytes1 .entry)))
+        (correctionOf start2 end2 (now (replacement2 .entry)) (now (readingtape2 .entry)) (now (readingbytes2 .entry)))
+        (roomOf (now (tape1 .entry)) (now (bytes1 .entry)) (now (work .entry)))
+        (roomOf (now (tape2 .entry)) (now (bytes2 .entry)) (now (work .entry)))
+        (roomOf (now (tape3 .entry)) (now (bytes3 .entry)) (now (work .entry)))
+        (roomOf (now (tape4 .entry)) (now (bytes4 .entry)) (now (work .entry)))
+        (ordersRead r) (storedOf (now (tape1 .exit)) (now (bytes1 .exit))) (storedOf (now (tape2 .exit)) (now (bytes2 .exit)))
+        (storedOf (now (tape3 .exit)) (now (bytes3 .exit))) (storedOf (now (tape4 .exit)) (now (bytes4 .exit))) (now (work .exit)) ⌝ }
+{
+    orders_answer(orders::merge_both_orders(
+        tape,
+        bytes,
+        start1,
+        end1,
+        replacement1,
+        readingtape1,
+        readingbytes1,
+        start2,
+        end2,
+        replacement2,
+        readingtape2,
+        readingbytes2,
+        tape1,
+        bytes1,
+        tape2,
+        bytes2,
+        tape3,
+        bytes3,
+        tape4,
+        bytes4,
+        work,
+    ))
+}

@@ -1,0 +1,27 @@
+use mathlib.Core.Path.{refl}
+use Rattle.merge.specs.Line.{put-text}
+use borrow.Author.Needs.{needs}
+use Rattle.merge.proofs.put_text.Statement.{statement}
+use Rattle.merge.proofs.put_text.Tie as tie
+use Rattle.merge.proofs.put_text.Reads as reads
+use Rattle.merge.proofs.put_text.Lts as lts
+use Rattle.wire.proofs.copy_at.Reads as copy-at-reads
+
+-- src/main.rt:18:5
+copy-at-requires : tie.Need-copy-at-requires
+copy-at-requires c κs = search needs
+
+-- src/main.rt:19:5
+add-result : tie.Need-add-result
+add-result c = search needs
+
+-- src/main.rt:14:1
+same-length : tie.Need-same-length
+same-length c = search needs
+
+-- src/main.rt:14:1
+returns : tie.Need-returns
+returns c = (refl, put-text _ _ _ (c .before .before .before .before .before .before .pre) (c .before .before .copy-at .ensures))
+
+pub put-text-spec : {M : Type 1} → statement M
+put-text-spec = tie.close (tie.spec copy-at-requires add-result same-length returns)
