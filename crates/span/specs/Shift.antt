@@ -67,7 +67,7 @@ module _ (x n : ℕ) where
 
 -- ---- the difference of two numbers
 
-sub-signs : (a b : ℕ) → pos a -ℤ pos b ≡ subℕ a b
+pub sub-signs : (a b : ℕ) → pos a -ℤ pos b ≡ subℕ a b
 sub-signs a zero = rw (le-ltb a 0 (omega arith), sub-zero, add-zero) refl
 sub-signs a (suc b) = refl
 

@@ -1,0 +1,155 @@
+-- Numbers 12 to 17 of a reading, by the code's tests on tapes and parts of bytes.
+use mathlib.Core.Path.{_≡_, refl, sym, ap, _∙_}
+use Prim.Native.Nat.{ℕ, _+_, _-_, _*_, _^_, _≤_, _<_}
+use native.Mathlib.Omega.{arith}
+use native.Mathlib.Nat.{sub-zero}
+use mathlib.Core.Bool.{Bool, true, false, not, _&&_}
+use mathlib.Core.List.{List, [], _∷_}
+use lib.ListN.{length, take, drop}
+use lib.Dec.{leb}
+use borrow.Author.Tests.{le-leb, lt-leb}
+use Rattle.model.specs.Lists.{any, isEmpty, same}
+use Rattle.model.specs.Limits.{maxLayers}
+use Rattle.model.specs.Bytes.{part}
+use Rattle.model.specs.Offset.{Span}
+use Rattle.model.specs.Types.{SourceNode, LexOutput, RegionOutput}
+use Rattle.model.specs.Tape.{recordsAt, nodeCodec, diagnosticCodec, places, bookAt}
+use Rattle.model.specs.Region.{Edit, edited, behindEdit}
+use Rattle.model.specs.Merge.{newRegionText, balancedNodes, isUnclosed, introducesRubyFormatDependency, normalizedOffset, windowOf, cutsOk}
+use Rattle.places.specs.declared.Places.{Places}
+use Rattle.store.specs.declared.Store.{Store}
+use Rattle.store.specs.Lengths.{BookLengths, book-lengths}
+use Rattle.tape.specs.Accepted.{accepted-places, accepted-order}
+use Rattle.tape.specs.Placed.{fit-nodes, fit-diagnostics}
+use Rattle.bounds.specs.Search.{InOrder}
+use Rattle.reading.specs.Book.{text-book, text-found, normalized-found, balanced-book, unclosed-book, cuts-book}
+use Rattle.reading.specs.Window.{endsOnBoundaries}
+use Rattle.region.specs.Ready.{ready-inside}
+use Rattle.region.specs.Held.{Held, held-without}
+use Rattle.incremental.specs.Numbers.{layerMissing, cutNumber, readingNumber, number-12, number-13, number-14, number-rest, number-15, number-16, number-17, number-0}
+use Rattle.incremental.specs.Stages.{Read}
+use Rattle.incremental.specs.Window.{Inside, given-inside}
+
+module _ {t d : List ℕ} {p : Places} {st : Store} (h : Held t d p st) where
+  abbrev pub bookOf : LexOutput
+  bookOf = bookAt t (places t) d
+
+  pub held-lengths : BookLengths bookOf p
+  held-lengths = book-lengths t d p (h .accepted .framing) (h .is)
+
+  pub held-texts : p .text + p .normalized ≤ length d
+  held-texts = ready-inside (held-without h)
+
+  pub held-order : InOrder (recordsAt nodeCodec t (p .nodes .at) (p .nodes .count))
+  held-order = accepted-order (h .accepted) (h .is)
+
+  pub held-nodes : p .nodes .at + 49 * p .nodes .count ≤ length t
+  held-nodes = fit-nodes (accepted-places (h .accepted) (h .is))
+
+  pub held-diagnostics : p .diagnostics .at + 18 * p .diagnostics .count ≤ length t
+  held-diagnostics = fit-diagnostics (accepted-places (h .accepted) (h .is))
+
+  -- as the code takes it
+  pub held-text : take (p .text - 0) d ≡ bookOf .sanitized
+  held-text = ap (λ (n : ℕ). take n d) (sub-zero (p .text)) ∙ text-found t d (h .is)
+
+  pub held-normalized : {first end : ℕ} → first ≡ p .text → end ≡ first + p .normalized → take (end - first) (drop first d) ≡ bookOf .normalized
+  held-normalized {first} {end} e f =
+      let n : end - first ≡ p .normalized = omega (arith, f) in
+      ap (λ (k : ℕ). take k (drop first d)) n ∙ ap (λ (k : ℕ). take (p .normalized) (drop k d)) e ∙ normalized-found t d (h .is)
+
+-- ---- number 17
+
+empty-none : (ns : List SourceNode) → length ns ≡ 0 → isEmpty ns ≡ true
+empty-none [] e = refl
+empty-none (n ∷ ns) e = absurd (omega (arith, e))
+
+empty-some : (ns : List SourceNode) → (length ns ≡ 0 → ⊥) → isEmpty ns ≡ false
+empty-some [] h = absurd (h refl)
+empty-some (n ∷ ns) h = refl
+
+module _ {t d : List ℕ} {p : Places} {st : Store} (h : Held t d p st) {rt rd : List ℕ} {q : Places} {own : Store} (k : Held rt rd q own) where
+  abbrev missing : Bool
+  missing = layerMissing (bookAt t (places t) d) (bookAt rt (places rt) rd)
+
+  pub missing-none : q .nodes .count ≡ 0 → missing ≡ false
+  unfolding layerMissing
+  missing-none z = rw (empty-none (bookAt rt (places rt) rd .sourceNodes) (held-lengths k .nodes ∙ z)) refl
+
+  module _ (s : q .nodes .count ≡ 0 → ⊥) where
+    some : isEmpty (bookAt rt (places rt) rd .sourceNodes) ≡ false
+    some = empty-some (bookAt rt (places rt) rd .sourceNodes) (λ z. s (sym (held-lengths k .nodes) ∙ z))
+
+    pub missing-free : p .layers < 32 → missing ≡ false
+    unfolding layerMissing
+    missing-free l = let n = held-lengths h .layers in rw (some, lt-leb 32 (length (bookAt t (places t) d .layers)) (omega (arith, l, n))) refl
+
+    pub missing-full : 32 ≤ p .layers → missing ≡ true
+    unfolding layerMissing
+    missing-full l = let n = held-lengths h .layers in rw (some, le-leb 32 (length (bookAt t (places t) d .layers)) (omega (arith, l, n))) refl
+
+-- ---- 12 to 17
+
+module _ {t d : List ℕ} {p : Places} {st : Store} {e : Edit} {r : Span} {rt rd : List ℕ} {q : Places} {own : Store} (g : Read t d p st e r rt rd q own) where
+  abbrev old : LexOutput
+  old = bookAt t (places t) d
+
+  abbrev new : RegionOutput
+  new = bookAt rt (places rt) rd
+
+  pub region-asked : (r .start ≤ e .start) × (e .start ≤ e .end) × (e .end ≤ r .end) × (r .end ≤ length (take (p .text - 0) d))
+  region-asked =
+      let i = given-inside (g .given) in
+      let n = ap length (held-text (g .given .held)) ∙ held-lengths (g .given .held) .text in
+      (i .start, i .edit, i .end, omega (arith, i .text, n))
+
+  module _ {x₁ : Bool} (f₁ : x₁ ≡ same (take (q .text - 0) rd) (part (edited (take (p .text - 0) d) e) (r .start) (behindEdit e (r .end) - r .start))) where
+    twelve : x₁ ≡ same (new .sanitized) (newRegionText old e r)
+    twelve = text-book old new e r (held-text (g .given .held)) (held-text (g .held)) f₁
+
+    pub refused-12 : x₁ ≡ false → 12 ≡ readingNumber old e r new
+    refused-12 = number-12 old e r new twelve
+
+    module _ (h₁ : x₁ ≡ true) {x₂ : Bool} (f₂ : x₂ ≡ balancedNodes (recordsAt nodeCodec rt (q .nodes .at) (q .nodes .count))) where
+      thirteen : x₂ ≡ balancedNodes (new .sourceNodes)
+      thirteen = balanced-book rt rd (g .held .is) f₂
+
+      pub refused-13 : x₂ ≡ false → 13 ≡ readingNumber old e r new
+      refused-13 = number-13 old e r new twelve h₁ thirteen
+
+      module _ (h₂ : x₂ ≡ true) {x₃ : Bool} (f₃ : x₃ ≡ any isUnclosed (recordsAt diagnosticCodec rt (q .diagnostics .at) (q .diagnostics .count))) where
+        fourteen : x₃ ≡ any isUnclosed (new .diagnostics)
+        fourteen = unclosed-book rt rd (g .held .is) f₃
+
+        pub refused-14 : x₃ ≡ true → 14 ≡ readingNumber old e r new
+        refused-14 = number-14 old e r new twelve h₁ thirteen h₂ fourteen
+
+        pub refused-cut : x₃ ≡ false → {n : ℕ} → n ≡ cutNumber old e r new → n ≡ readingNumber old e r new
+        refused-cut h₃ = number-rest old e r new twelve h₁ thirteen h₂ fourteen h₃
+
+module _ {t d : List ℕ} {p : Places} {st : Store} (h : Held t d p st) {rt rd : List ℕ} {q : Places} {own : Store} (k : Held rt rd q own) (e : Edit) (r : Span) where
+  abbrev book : LexOutput
+  book = bookAt t (places t) d
+
+  abbrev readingBook : RegionOutput
+  readingBook = bookAt rt (places rt) rd
+
+  module _ {x₄ : Bool} (f₄ : x₄ ≡ introducesRubyFormatDependency book readingBook r) where
+    pub refused-15 : x₄ ≡ true → 15 ≡ cutNumber book e r readingBook
+    refused-15 = number-15 book e r readingBook f₄
+
+    module _ (h₄ : x₄ ≡ false) {start end : ℕ} (u : start ≡ normalizedOffset (recordsAt nodeCodec t (p .nodes .at) (p .nodes .count)) (r .start))
+        (v : end ≡ normalizedOffset (recordsAt nodeCodec t (p .nodes .at) (p .nodes .count)) (r .end)) {first last : ℕ} (a : first ≡ p .text) (b : last ≡ first + p .normalized)
+        {x₅ : Bool} (f₅ : x₅ ≡ endsOnBoundaries (take (last - first) (drop first d)) start end) where
+      sixteen : x₅ ≡ cutsOk book (windowOf book e readingBook r)
+      sixteen = cuts-book t d (h .is) e readingBook r u v (held-normalized h a b) f₅
+
+      pub refused-16 : x₅ ≡ false → 16 ≡ cutNumber book e r readingBook
+      refused-16 = number-16 book e r readingBook f₄ h₄ sixteen
+
+      module _ (h₅ : x₅ ≡ true) where
+        pub refused-17 : layerMissing book readingBook ≡ true → 17 ≡ cutNumber book e r readingBook
+        refused-17 = number-17 book e r readingBook f₄ h₄ sixteen h₅
+
+        pub refused-none : layerMissing book readingBook ≡ false → 0 ≡ cutNumber book e r readingBook
+        refused-none = number-0 book e r readingBook f₄ h₄ sixteen h₅
