@@ -1,2 +1,4 @@
 pub mod Answer
 pub mod Checked
+pub mod Widths
+pub mod Parts
