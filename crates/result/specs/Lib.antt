@@ -2,3 +2,4 @@ pub mod Answer
 pub mod Checked
 pub mod Widths
 pub mod Parts
+pub mod Writing
