@@ -3,15 +3,15 @@ use mathlib.Core.Path.{_≡_, refl, sym, ap, _∙_}
 use Prim.Native.Nat.{ℕ, _+_, _*_, _≤_, _<_}
 use native.Mathlib.Omega.{arith}
 use mathlib.Core.Bool.{true, false, true≢false}
-use mathlib.Core.List.{List, [], _∷_, _++_, map, flatten}
+use mathlib.Core.List.{List, [], _∷_, _++_, append-nil, map, flatten}
 use lib.ListN.{length, drop}
 use Rattle.model.specs.Lists.{all}
-use Rattle.model.specs.Bytes.{wordAt}
+use Rattle.model.specs.Bytes.{byteAt, wordAt}
 use Rattle.model.specs.Types.{SourceNode}
-use Rattle.model.specs.Tape.{recordAt, recordsAt, recordsBytes, nodeCodec}
-use Rattle.model.specs.Tree.{ShownNode, shownNode}
-use Rattle.model.specs.Graft.{NewLayer, With, graftNodeRefs}
-use Rattle.wire.specs.Overwrite.{overwrite-nil}
+use Rattle.model.specs.Tape.{recordAt, operandsAt, recordsAt, recordBytes, recordsBytes, nodeCodec}
+use Rattle.model.specs.Tree.{ShownNode, shownNode, showNode, showWith}
+use Rattle.model.specs.Graft.{NewLayer, With, graftNode, graftNodeRef, graftNodeRefs}
+use Rattle.wire.specs.Overwrite.{overwrite, overwrite-nil}
 use Rattle.wire.specs.Loops.{by-bool}
 use Rattle.interner.specs.State.{hasRoom}
 use Rattle.store.specs.Standing.{length-records}
@@ -22,14 +22,18 @@ use Rattle.sizes.specs.Trees.{Grew, node-refs-grow}
 use Rattle.sizes.specs.InPlace.{nodeAdds, nodesAdd}
 use Rattle.sizes.specs.Shown.{nodes-agree}
 use Rattle.graft.specs.Grafted.{layerFrom, Roomy}
-use Rattle.graft.specs.Walk.{Source, sourceStore, Ready}
+use Rattle.graft.specs.Widths.{node-six}
+use Rattle.graft.specs.Written.{sixOf, six-of, nodeWith}
+use Rattle.graft.specs.Walk.{Source, sourceStore, Ready, WordsTold}
 use Rattle.graft.specs.Rooms.{ready-item, space-left, roomy}
 use Rattle.graft.specs.Answers.{told-none}
 use Rattle.graft.specs.Fields.{all-first}
 use Rattle.graft.specs.Records.{records-more, records-parts, records-in, records-add}
+use Rattle.graft.specs.Nodes.{nodeWords}
 use Rattle.graft.specs.NodeItems.{NodesTold, refsFrom, steps-refs, refs-parts, length-refs, nodes-turn}
 use Rattle.graft.specs.declared.Plan.{Plan}
 use Rattle.graft.specs.declared.Mark.{Mark}
+use Rattle.graft.specs.declared.Words.{Words}
 
 -- the nodes with their trees
 unfoldable pub shownOf : List ℕ → List ℕ → List SourceNode → List ShownNode
@@ -58,6 +62,62 @@ shown-nodes-grow t d st s at n f h =
     let ns = recordsAt nodeCodec t at n in
     rw (nodes-agree t st (s .fit .stored) (drop (wordAt t 1 + wordAt t 5) d) (s .segments) (s .contents) ns h, shown-map t d ns)
     (node-refs-grow (map (shownNode (sourceStore t d)) ns) f)
+
+-- ---- one node: its words are grafted, and its record is written
+
+module _ (t d : List ℕ) (at : ℕ) (p : Plan) (m : Mark) (to : ℕ) (out work strs : List ℕ) {out₁ work₁ strs₁ : List ℕ} (r : Words)
+    (x : WordsTold p m out work strs out₁ work₁ strs₁ r (nodeWords t d (recordAt nodeCodec t at) (layerFrom p work strs m))) where
+  abbrev found : SourceNode
+  found = recordAt nodeCodec t at
+
+  -- the node with its grafted words
+  abbrev ref : SourceNode
+  ref = graftNodeRef (shownNode (sourceStore t d) found) (layerFrom p work strs m) .0
+
+  one-ref : refsFrom p work strs m (shownOf t d (found ∷ [])) ≡ (ref ∷ [], nodeWords t d found (layerFrom p work strs m) .1)
+  unfolding shownOf graftNodeRefs graftNodeRef shownNode nodeWords
+  one-ref = refl
+
+  pub ref-refused : r .mark .ok ≡ false → NodesTold p m to out work strs out₁ work₁ strs₁ (r .mark) (refsFrom p work strs m (shownOf t d (found ∷ [])))
+  ref-refused e = rw one-ref (record { ok = x .told .ok; made = λ o. absurd (true≢false (sym o ∙ e)) })
+
+  -- the node with the bytes that stand at its place, and these words
+  abbrev read : List ℕ → SourceNode
+  read ws = nodeWith (byteAt t (at + 1)) (byteAt t (at + 2)) (wordAt t (at + 3)) (wordAt t (at + 7)) (wordAt t (at + 11)) (byteAt t (at + 15)) (byteAt t (at + 16)) (wordAt t (at + 17)) (wordAt t (at + 21)) ws
+
+  six : r .mark .ok ≡ true → sixOf (r .words) ≡ nodeWords t d found (layerFrom p work strs m) .0
+  unfolding nodeWords
+  six o = ap sixOf (x .words o) ∙ six-of (nodeWords t d found (layerFrom p work strs m) .0) (node-six (showNode (sourceStore t d) found) (layerFrom p work strs m) .is)
+
+  same : r .mark .ok ≡ true → read (r .words) ≡ ref
+  unfolding graftNodeRef shownNode nodeWords showNode showWith graftNode recordAt operandsAt nodeCodec
+  same o =
+      let y = six o in
+      λ i. record {
+        class = byteAt t (at + 1);
+        inline = byteAt t (at + 2);
+        sourceSpan = record { start = wordAt t (at + 3); end = wordAt t (at + 7) };
+        normalizedOffset = wordAt t (at + 11);
+        body = record { kind = byteAt t (at + 15); tag = byteAt t (at + 16); plain1 = wordAt t (at + 17); plain2 = wordAt t (at + 21); words = y i };
+      }
+
+  pub ref-made : (start stop offset first second : ℕ) → start ≡ wordAt t (at + 3) → stop ≡ wordAt t (at + 7) → offset ≡ wordAt t (at + 11) → first ≡ wordAt t (at + 17) → second ≡ wordAt t (at + 21)
+      → r .mark .ok ≡ true → {out₂ : List ℕ}
+      → out₂ ≡ overwrite out₁ to (recordBytes nodeCodec (nodeWith (byteAt t (at + 1)) (byteAt t (at + 2)) start stop offset (byteAt t (at + 15)) (byteAt t (at + 16)) first second (r .words)))
+      → NodesTold p m to out work strs out₂ work₁ strs₁ (r .mark) (refsFrom p work strs m (shownOf t d (found ∷ [])))
+  unfolding recordsBytes flatten
+  ref-made start stop offset first second a b e f g o {out₂} w =
+      let v : out₂ ≡ overwrite out₁ to (recordBytes nodeCodec (read (r .words))) = rw (← a, ← b, ← e, ← f, ← g) w in
+      rw one-ref (record {
+        ok = x .told .ok;
+        made = λ y. record {
+          under = out₁;
+          made = x .told .made y;
+          wrote = v ∙ ap (λ (n : SourceNode). overwrite out₁ to (recordBytes nodeCodec n)) (same o) ∙ ap (overwrite out₁ to) (sym (append-nil (recordBytes nodeCodec ref)));
+        };
+      })
+
+-- ---- the loop
 
 -- the first i nodes are grafted, and their records written
 pub record NodesUpTo (t d : List ℕ) (p : Plan) (m : Mark) (at nodesat : ℕ) (out work strs out′ work′ strs′ : List ℕ) (u : Mark) (i : ℕ) : Type 0 where

@@ -39,7 +39,7 @@ space-left a b s = record {
 }
 
 pub ready-left : {t d : List ℕ} {st : Store} {p : Plan} {m : Mark} {out work strs : List ℕ} (a b : Added) → Ready t d st p m out work strs (add a b) → Ready t d st p m out work strs a
-ready-left a b r = record { source = r .source; good = r .good; going = r .going; has = r .has; space = space-left a b (r .space) }
+ready-left a b r = record { source = r .source; index = r .index; good = r .good; going = r .going; has = r .has; space = space-left a b (r .space) }
 
 module _ (p : Plan) (m : Mark) (out work strs : List ℕ) {out′ work′ strs′ : List ℕ} {r : Mark} {g : NewLayer} (x : Made p m out work strs out′ work′ strs′ r g) (a : Added) (k : Grew (layerFrom p work strs m) g a) where
   calls-on : r .state .stats .calls ≡ m .state .stats .calls + a .calls
@@ -61,6 +61,7 @@ module _ (p : Plan) (m : Mark) (out work strs : List ℕ) {out′ work′ strs�
       → Ready t d st p m out work strs (add a b) → Ready t d st p r tape work′ strs′ b
   ready-next {t} {d} {tape} {st} b o e l y = record {
     source = y .source;
+    index = rw (x .free) (y .index);
     good = x .good;
     going = e;
     has = (λ i. hasRoom (x .long i) (x .base i) (x .state i)) ∙ sym o ∙ e;

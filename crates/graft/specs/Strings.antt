@@ -26,7 +26,7 @@ use Rattle.graft.specs.declared.Start.{Start}
 use Rattle.store.specs.Pools.{before-next, before-most}
 use Rattle.store.specs.Standing.{allLengths, length-at, string-at}
 use Rattle.store.specs.declared.Store.{Store}
-use Rattle.strings.specs.Starts.{OfTape, Readable, Between, lengths-bytes, readable}
+use Rattle.strings.specs.Starts.{OfTape, Readable, lengths-bytes, readable}
 
 module _ (t d : List ℕ) (st : Store) (s : Source t d st) where
   pub header-inside : 9 ≤ length t
@@ -43,9 +43,6 @@ module _ (t d : List ℕ) (st : Store) (s : Source t d st) where
 
   pub source-readable : length d < 2 ^ 63 → Readable t st (length d)
   source-readable h = readable t d (s .framing) st (s .fit .stored) (s .fit .few) h
-
-  pub source-start : (id : ℕ) → id < st .totals .strings → Between st 0 id
-  source-start id h = record { order = omega arith; inside = omega (arith, h) }
 
   module _ (id : ℕ) (h : id < st .totals .strings) where
     pub from-small : stringFrom t id ≤ length d

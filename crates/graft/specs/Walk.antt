@@ -1,6 +1,6 @@
 -- What each function of the writing walk is told of its source and its room, and what it answers.
 use mathlib.Core.Path.{_≡_}
-use Prim.Native.Nat.{ℕ, _+_, _*_, _≤_, _<_, _^_}
+use Prim.Native.Nat.{ℕ, _+_, _-_, _*_, _≤_, _<_, _^_}
 use mathlib.Core.Bool.{true, cond}
 use mathlib.Core.List.{List}
 use lib.ListN.{length, take, drop, set, replicate}
@@ -16,6 +16,8 @@ use Rattle.model.specs.Graft.{NewLayer, With, graftStr, pushContents, pushSegme
 use Rattle.places.specs.Again.{Frame}
 use Rattle.store.specs.Standing.{allLengths}
 use Rattle.store.specs.declared.Store.{Store}
+use Rattle.strings.specs.Starts.{lengthsIn}
+use Rattle.strings.specs.Index.{Indexed}
 use Rattle.ids.specs.Tests.{contentIn, segmentIn}
 use Rattle.levels.specs.Below.{LevelsFit}
 use Rattle.interner.specs.State.{hasRoom, Good, stateOf}
@@ -47,6 +49,10 @@ pub record Source (t d : List ℕ) (st : Store) : Type 0 where
 -- where the bytes of a string begin: behind both texts and the strings before it
 abbrev pub stringFrom : List ℕ → ℕ → ℕ
 stringFrom t id = wordAt t 1 + wordAt t 5 + sum (take id (allLengths t (places t .layers)))
+
+-- the work words behind the interner's: the index of the source's strings
+abbrev pub indexWords : List ℕ → List ℕ
+indexWords work = take (16384 - 11776) (drop 11776 work)
 
 -- the trees of the contents, or segments, that stand from `at` on
 abbrev pub shownContents : ℕ → List ℕ → List ℕ → List Content → NewLayer → With (List Content)
@@ -95,6 +101,7 @@ pub record SegmentsTold (p : Plan) (m : Mark) (to : ℕ) (out work strs out′ w
 -- what a function of the walk is given
 pub record Ready (t d : List ℕ) (st : Store) (p : Plan) (m : Mark) (out work strs : List ℕ) (a : Added) : Type 0 where
   pub source : Source t d st
+  pub index : Indexed (lengthsIn t) (indexWords work)
   pub good : Good work strs (m .state)
   pub going : m .ok ≡ true
   pub has : hasRoom (length strs) (m .state .base) (stateOf work strs (m .state)) ≡ true

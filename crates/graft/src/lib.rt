@@ -14,15 +14,19 @@ ghost use Rattle.model.specs.Tape.{recordAt, recordsAt, contentCodec, segmentCo
 ghost use Rattle.model.specs.Graft.{graftStr};
 ghost use Rattle.wire.specs.Overwrite.{overwrite};
 ghost use Rattle.records.specs.Values.{bodyAt};
+ghost use Rattle.strings.specs.Starts.{lengthsIn};
+ghost use Rattle.strings.specs.Index.{Indexed};
 ghost use Rattle.interner.specs.State.{Good, stateOf, hasRoom};
 ghost use Rattle.ids.specs.Tests.{bodyIn, nodeIn, contentIn, segmentIn, contentsIn, segmentsIn, usedWell};
-ghost use Rattle.sizes.specs.InPlace.{innerAdds, bodyAdds, nodeAdds, placeAdds, usedAdds, contentAdds, contentsAdd, contentRunAdds, segmentsAdd, segmentRunAdds};
+ghost use Rattle.sizes.specs.InPlace.{innerAdds, bodyAdds, nodeAdds, nodesAdd, placeAdds, usedAdds, contentAdds, contentsAdd, contentRunAdds, segmentsAdd, segmentRunAdds};
 ghost use Rattle.graft.specs.Grafted.{layerFrom};
 ghost use Rattle.graft.specs.Runs.{withContents, withSegments};
 ghost use Rattle.graft.specs.Written.{wordsBytes, segmentWith, nodeHead, nodeWith};
 ghost use Rattle.graft.specs.Nodes.{nodeWords};
+ghost use Rattle.graft.specs.NodeItems.{NodesTold, refsFrom};
+ghost use Rattle.graft.specs.NodeLoop.{shownOf};
 ghost use Rattle.graft.specs.Walk.{Ready, bodyFrom, placeFrom, contentRunFrom, segmentRunFrom, fieldFrom};
-ghost use Rattle.graft.specs.Walk.{sourceStore, Source, stringFrom, shownContents, shownSegments, StartTold, idFrom, strStart, WordsTold, ContentsTold, SegmentsTold};
+ghost use Rattle.graft.specs.Walk.{sourceStore, Source, indexWords, stringFrom, shownContents, shownSegments, StartTold, idFrom, strStart, WordsTold, ContentsTold, SegmentsTold};
 
 // Where the new layer's numbers begin, and where its contents and segments are written.
 pub struct Plan {
@@ -58,13 +62,14 @@ pub struct Words {
     pub words: [u32; 6],
 }
 
-// Where the bytes of that string begin.
-fn string_from(tape: &[u8], bytes: &[u8], st: store::Store, id: u32) -> usize
+// Where the bytes of that string begin; `words` are the index of the strings.
+fn string_from(tape: &[u8], bytes: &[u8], st: store::Store, words: &[u32], id: u32) -> usize
     requires { ⌜ Source (now tape) (now bytes) st ⌝ }
+    requires { ⌜ Indexed (lengthsIn (now tape)) (now words) ⌝ }
     requires { ⌜ id < st .totals .strings ⌝ }
     ensures { λ r. ⌜ r ≡ stringFrom (now (tape .entry)) id ⌝ }
 {
-    let start = strings::start_from(tape, st, bytes.len(), 0, id, 0);
+    let start = strings::string_start(tape, st, bytes.len(), words, id);
     let text = wire::u32_at(tape, 1) as usize;
     let normalized = wire::u32_at(tape, 5) as usize;
     text + normalized + start
@@ -99,11 +104,12 @@ fn graft_str(
     id: u32,
 ) -> Start
     requires { ⌜ Source (now tape) (now bytes) st ⌝ }
+    requires { ⌜ Indexed (lengthsIn (now tape)) (indexWords (now work)) ⌝ }
     requires { ⌜ Good (now work) (now strs) (m .state) ⌝ }
     requires { ⌜ (id < st .totals .strings) × (m .state .stats .calls < 2 ^ 32) × (p .strings + 2 ^ 12 < 2 ^ 32) ⌝ }
     ensures { λ r. ⌜ ((out : List ℕ) → StartTold p m out (now (work .entry)) (now (strs .entry)) out (now (work .exit)) (now (strs .exit)) r (graftStr (resolveStr (sourceStore (now (tape .entry)) (now (bytes .entry))) id) (layerFrom p (now (work .entry)) (now (strs .entry)) m))) ⌝ }
 {
-    let from = string_from(tape, bytes, st, id);
+    let from = string_from(tape, bytes, st, &work[11776..16384], id);
     let len = strings::string_length(tape, st, id);
     let state = m.state;
     let a = intern::intern(work, strs, state, &bytes[from..from + len]);
@@ -123,6 +129,7 @@ fn graft_string(
     id: u32,
 ) -> Start
     requires { ⌜ Source (now tape) (now bytes) st ⌝ }
+    requires { ⌜ Indexed (lengthsIn (now tape)) (indexWords (now work)) ⌝ }
     requires { ⌜ Good (now work) (now strs) (m .state) ⌝ }
     requires { ⌜ (m .ok ≡ true) × (hasRoom (length (now strs)) (m .state .base) (stateOf (now work) (now strs) (m .state)) ≡ true) ⌝ }
     requires { ⌜ (usedWell st usage id 0 ≡ true) × (m .state .stats .calls < 2 ^ 32) × (p .strings + 2 ^ 12 < 2 ^ 32) ⌝ }
@@ -781,4 +788,91 @@ pub fn graft_node(
         };
     }
     graft_body(tape, bytes, st, out, work, strs, p, m, at + 15, 33)
+}
+
+// Section 5. `graft_node_ref`, its record written at `to` with the span of the reading.
+fn graft_node_at(
+    tape: &[u8],
+    bytes: &[u8],
+    st: store::Store,
+    out: &mut [u8],
+    work: &mut [u32],
+    strs: &mut [u8],
+    p: Plan,
+    m: Mark,
+    at: usize,
+    to: usize,
+) -> Mark
+    requires { ⌜ Ready (now tape) (now bytes) st p m (now out) (now work) (now strs) (nodeAdds (now tape) st (recordAt nodeCodec (now tape) at)) ⌝ }
+    requires { ⌜ (at + 49 ≤ length (now tape)) × (nodeIn st (recordAt nodeCodec (now tape) at) ≡ true) × (to + 49 ≤ length (now out)) ⌝ }
+    ensures { λ r. ⌜ NodesTold p m to (now (out .entry)) (now (work .entry)) (now (strs .entry)) (now (out .exit)) (now (work .exit)) (now (strs .exit)) r (refsFrom p (now (work .entry)) (now (strs .entry)) m (shownOf (now (tape .entry)) (now (bytes .entry)) (recordAt nodeCodec (now (tape .entry)) at ∷ []))) ⌝ }
+{
+    let w = graft_node(tape, bytes, st, out, work, strs, p, m, at);
+    let k = w.mark;
+    if !k.ok {
+        return k;
+    }
+    let words = w.words;
+    let start = wire::u32_at(tape, at + 3);
+    let stop = wire::u32_at(tape, at + 7);
+    let offset = wire::u32_at(tape, at + 11);
+    let first = wire::u32_at(tape, at + 17);
+    let second = wire::u32_at(tape, at + 21);
+    put_node(
+        out,
+        to,
+        tape[at + 1],
+        tape[at + 2],
+        start,
+        stop,
+        offset,
+        tape[at + 15],
+        tape[at + 16],
+        first,
+        second,
+        words,
+    );
+    k
+}
+
+// Section 5. The nodes of the reading, `count` of them from `at` on, their records from `nodesat` on.
+pub fn graft_nodes(
+    tape: &[u8],
+    bytes: &[u8],
+    st: store::Store,
+    out: &mut [u8],
+    work: &mut [u32],
+    strs: &mut [u8],
+    p: Plan,
+    m: Mark,
+    at: usize,
+    count: usize,
+    nodesat: usize,
+) -> Mark
+    requires { ⌜ Ready (now tape) (now bytes) st p m (now out) (now work) (now strs) (nodesAdd (now tape) st at count) ⌝ }
+    requires { ⌜ (at + 49 * count ≤ length (now tape)) × (all (nodeIn st) (recordsAt nodeCodec (now tape) at count) ≡ true) ⌝ }
+    requires { ⌜ (p .segmentsat + 37 * (m .segments + nodesAdd (now tape) st at count .segments) ≤ nodesat) × (nodesat + 49 * count ≤ length (now out)) ⌝ }
+    ensures { λ r. ⌜ NodesTold p m nodesat (now (out .entry)) (now (work .entry)) (now (strs .entry)) (now (out .exit)) (now (work .exit)) (now (strs .exit)) r (refsFrom p (now (work .entry)) (now (strs .entry)) m (shownOf (now (tape .entry)) (now (bytes .entry)) (recordsAt nodeCodec (now (tape .entry)) at count))) ⌝ }
+{
+    let mut u = m;
+    let mut i = 0;
+    while i < count {
+        u = graft_node_at(
+            tape,
+            bytes,
+            st,
+            out,
+            work,
+            strs,
+            p,
+            u,
+            at + 49 * i,
+            nodesat + 49 * i,
+        );
+        if !u.ok {
+            return u;
+        }
+        i += 1;
+    }
+    u
 }

@@ -49,9 +49,12 @@ strings-width (n ∷ ns) = length-append (recordBytes stringCodec n) (recordsByt
 
 -- ---- the loop
 
-pub length-lengths : (work : List ℕ) (count : ℕ) → length (newLengths work count) ≡ count
+length-lengths : (work : List ℕ) (count : ℕ) → length (newLengths work count) ≡ count
 unfolding newLengths
 length-lengths work count = length-listTo (newLength work) count
+
+pub lengths-width : (work : List ℕ) (count : ℕ) → length (recordsBytes stringCodec (newLengths work count)) ≡ 5 * count
+lengths-width work count = strings-width (newLengths work count) ∙ ap (λ (k : ℕ). 5 * k) (length-lengths work count)
 
 module _ (d : List ℕ) (at : ℕ) (work : List ℕ) where
   pub lengths-none : d ≡ overwrite d at (recordsBytes stringCodec (newLengths work 0))

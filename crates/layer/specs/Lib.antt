@@ -1,3 +1,6 @@
 pub mod Moved
 pub mod Lengths
 pub mod Source
+pub mod Layered
+pub mod Walked
+pub mod Answers

@@ -86,20 +86,26 @@ module _ (d : List ℕ) (a : ℕ) (xs : List ℕ) (fits : a + length xs ≤ leng
 
 -- ---- a layer
 
--- the bytes xs stand behind a gap for one byte; moved up, with the bytes rs between the two
-pub layer-moved : (d : List ℕ) (at : ℕ) (rs xs : List ℕ) → at + 1 + length rs + length xs ≤ length d → {d₁ d₂ d₃ d₄ : List ℕ} (from n by v : ℕ) → from ≡ at + 1 → n ≡ length xs → by ≡ length rs
-    → d₁ ≡ overwrite d from xs → d₂ ≡ overwrite d₁ (from + by) (take n (drop from d₁)) → d₃ ≡ overwrite d₂ at (v ∷ []) → d₄ ≡ overwrite d₃ from rs → d₄ ≡ overwrite d at (v ∷ (rs ++ xs))
-layer-moved d at rs xs h {d₁} {d₂} {d₃} {d₄} from n by v e f g w₁ w₂ w₃ w₄ =
-    let l₁ : length d₁ ≡ length d = ap length w₁ ∙ length-overwrite d from xs (omega (arith, e, h)) in
-    let x : take n (drop from d₁) ≡ xs = ap (λ (l : List ℕ). take n (drop from l)) w₁ ∙ overwrite-part d from xs (omega (arith, e, h)) n f in
-    let w : d₂ ≡ overwrite d₁ (from + by) xs = w₂ ∙ ap (overwrite d₁ (from + by)) x in
-    let l₂ : length d₂ ≡ length d = ap length w ∙ length-overwrite d₁ (from + by) xs (omega (arith, e, g, h, l₁)) ∙ l₁ in
-    w₄ ∙ ap (λ (l : List ℕ). overwrite l from rs) w₃ ∙ overwrite-next d₂ at (v ∷ []) (omega (arith, h, l₂)) from rs e (omega (arith, e, h, l₂))
-    ∙ ap (λ (l : List ℕ). overwrite l at (v ∷ rs)) w
-    ∙ overwrite-swap d₁ at (v ∷ rs) (from + by) xs (omega (arith, e, g)) (omega (arith, e, g, h, l₁))
-    ∙ overwrite-next d₁ at (v ∷ rs) (omega (arith, h, l₁)) (from + by) xs (omega (arith, e, g)) (omega (arith, e, g, h, l₁))
-    ∙ ap (λ (l : List ℕ). overwrite l at (v ∷ (rs ++ xs))) w₁
-    ∙ overwrite-covered d from xs (omega (arith, e, h)) at (v ∷ (rs ++ xs)) (omega (arith, e)) (omega (arith, e, length-append rs xs))
+-- the n bytes behind the place `at` moved up, and rs between them and a byte there
+pub moved-up : (d : List ℕ) (at n : ℕ) (rs : List ℕ) → at + 1 + n + length rs ≤ length d → {d₁ d₂ d₃ : List ℕ} (by v : ℕ) → by ≡ length rs
+    → d₁ ≡ overwrite d (at + 1 + by) (take n (drop (at + 1) d)) → d₂ ≡ overwrite d₁ at (v ∷ []) → d₃ ≡ overwrite d₂ (at + 1) rs → d₃ ≡ overwrite d at (v ∷ (rs ++ take n (drop (at + 1) d)))
+moved-up d at n rs h {d₁} by v e w₁ w₂ w₃ =
+    let xs = take n (drop (at + 1) d) in
+    let m : length xs ≡ n = length-take-le n (drop (at + 1) d) (rw length-drop (omega (arith, h))) in
+    let l : length d₁ ≡ length d = ap length w₁ ∙ length-overwrite d (at + 1 + by) xs (omega (arith, e, m, h)) in
+    w₃ ∙ ap (λ (x : List ℕ). overwrite x (at + 1) rs) w₂ ∙ overwrite-next d₁ at (v ∷ []) (omega (arith, h, l)) (at + 1) rs (omega arith) (omega (arith, h, l))
+    ∙ ap (λ (x : List ℕ). overwrite x at (v ∷ rs)) w₁
+    ∙ overwrite-swap d at (v ∷ rs) (at + 1 + by) xs (omega (arith, e)) (omega (arith, e, m, h))
+    ∙ overwrite-next d at (v ∷ rs) (omega (arith, h)) (at + 1 + by) xs (omega (arith, e)) (omega (arith, e, m, h))
+
+-- where those n bytes were written before, all of it is one write
+pub moved-written : (d : List ℕ) (at : ℕ) (rs xs : List ℕ) → at + 1 + length rs + length xs ≤ length d → {d₁ d₂ : List ℕ} (n v : ℕ) → n ≡ length xs
+    → d₁ ≡ overwrite d (at + 1) xs → d₂ ≡ overwrite d₁ at (v ∷ (rs ++ take n (drop (at + 1) d₁))) → d₂ ≡ overwrite d at (v ∷ (rs ++ xs))
+moved-written d at rs xs h {d₁} n v e w₁ w₂ =
+    let f : at + 1 + length xs ≤ length d = omega (arith, h) in
+    let x : take n (drop (at + 1) d₁) ≡ xs = ap (λ (l : List ℕ). take n (drop (at + 1) l)) w₁ ∙ overwrite-part d (at + 1) xs f n e in
+    w₂ ∙ ap₂ (λ (l y : List ℕ). overwrite l at (v ∷ (rs ++ y))) w₁ x
+    ∙ overwrite-covered d (at + 1) xs f at (v ∷ (rs ++ xs)) (omega arith) (omega (arith, length-append rs xs))
 
 -- three blocks, each right behind the last
 pub three-blocks : (d : List ℕ) (a : ℕ) (xs ys zs : List ℕ) → a + length xs + length ys + length zs ≤ length d → (b k : ℕ) → b ≡ a + length xs → k ≡ b + length ys

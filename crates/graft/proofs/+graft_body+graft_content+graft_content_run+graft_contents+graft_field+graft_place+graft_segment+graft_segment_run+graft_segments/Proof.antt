@@ -361,7 +361,7 @@ graft-content-graft-str-requires : (t : ℕ) → graft-content-lts.Need-graft-st
   graft-segment-run-below t,
   graft-segment-run.Post,
 ) (graft-content-at t) graft-content.Post
-graft-content-graft-str-requires t c κs = ((c .before .before .before .before .before .before .before .before .before .before .before .pre .1 .0) .source, ((c .before .before .before .before .before .before .before .before .before .before .before .pre .1 .0) .good, (plain-known (c .before .before .before .before .before .before .before .before .before .before .before .args .tape .now) (c .before .before .before .before .before .before .before .before .before .before .before .args .st) (c .before .before .before .before .before .before .before .before .before .before .before .args .at) (c .before .before .before .before .before .content-at .result) (c .before .before .before .before .before .content-at .ensures) (c .before .before .before .before .before .before .before .before .before .before .before .pre .1 .1 .0 .1) (c .before .before .if1 .taken), omega (arith, (c .before .before .before .before .before .before .before .before .before .before .before .pre .1 .0) .space .calls), omega (arith, (c .before .before .before .before .before .before .before .before .before .before .before .pre .1 .0) .space .stringNumbers))))
+graft-content-graft-str-requires t c κs = ((c .before .before .before .before .before .before .before .before .before .before .before .pre .1 .0) .source, ((c .before .before .before .before .before .before .before .before .before .before .before .pre .1 .0) .index, ((c .before .before .before .before .before .before .before .before .before .before .before .pre .1 .0) .good, (plain-known (c .before .before .before .before .before .before .before .before .before .before .before .args .tape .now) (c .before .before .before .before .before .before .before .before .before .before .before .args .st) (c .before .before .before .before .before .before .before .before .before .before .before .args .at) (c .before .before .before .before .before .content-at .result) (c .before .before .before .before .before .content-at .ensures) (c .before .before .before .before .before .before .before .before .before .before .before .pre .1 .1 .0 .1) (c .before .before .if1 .taken), omega (arith, (c .before .before .before .before .before .before .before .before .before .before .before .pre .1 .0) .space .calls), omega (arith, (c .before .before .before .before .before .before .before .before .before .before .before .pre .1 .0) .space .stringNumbers)))))
 
 -- src/lib.rt:445:13
 graft-content-same-length : (t : ℕ) → graft-content-lts.Need-same-length (
@@ -989,7 +989,7 @@ graft-field-graft-string-requires : (t : ℕ) → graft-field-lts.Need-graft-str
   graft-string-reads.Asked,
   graft-string-reads.Learnt,
 ) (graft-field-at t) graft-field.Post
-graft-field-graft-string-requires t c κs = ((c .before .before .before .before .before .before .before .before .before .before .before .pre .1 .0) .source, ((c .before .before .before .before .before .before .before .before .before .before .before .pre .1 .0) .good, (((c .before .before .before .before .before .before .before .before .before .before .before .pre .1 .0) .going, (c .before .before .before .before .before .before .before .before .before .before .before .pre .1 .0) .has), (string-well (c .before .before .before .before .before .before .before .before .before .before .before .args .st) ((c .before .before .before .before .before .before .before .before .before .before .before .args .f) .usage) ((c .before .before .before .before .before .before .before .before .before .before .before .args .f) .first) ((c .before .before .before .before .before .before .before .before .before .before .before .args .f) .second) (c .before .before .before .before .before .before .before .before .before .before .before .pre .1 .1) (c .before .before .before .before .if1 .left) (c .before .before .if2 .left), omega (arith, (c .before .before .before .before .before .before .before .before .before .before .before .pre .1 .0) .space .calls), omega (arith, (c .before .before .before .before .before .before .before .before .before .before .before .pre .1 .0) .space .stringNumbers)))))
+graft-field-graft-string-requires t c κs = ((c .before .before .before .before .before .before .before .before .before .before .before .pre .1 .0) .source, ((c .before .before .before .before .before .before .before .before .before .before .before .pre .1 .0) .index, ((c .before .before .before .before .before .before .before .before .before .before .before .pre .1 .0) .good, (((c .before .before .before .before .before .before .before .before .before .before .before .pre .1 .0) .going, (c .before .before .before .before .before .before .before .before .before .before .before .pre .1 .0) .has), (string-well (c .before .before .before .before .before .before .before .before .before .before .before .args .st) ((c .before .before .before .before .before .before .before .before .before .before .before .args .f) .usage) ((c .before .before .before .before .before .before .before .before .before .before .before .args .f) .first) ((c .before .before .before .before .before .before .before .before .before .before .before .args .f) .second) (c .before .before .before .before .before .before .before .before .before .before .before .pre .1 .1) (c .before .before .before .before .if1 .left) (c .before .before .if2 .left), omega (arith, (c .before .before .before .before .before .before .before .before .before .before .before .pre .1 .0) .space .calls), omega (arith, (c .before .before .before .before .before .before .before .before .before .before .before .pre .1 .0) .space .stringNumbers))))))
 
 -- src/lib.rt:384:1
 graft-field-same-length-7 : (t : ℕ) → graft-field-lts.Need-same-length-7 (

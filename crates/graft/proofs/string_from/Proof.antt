@@ -1,51 +1,52 @@
-use Rattle.graft.specs.Strings.{header-inside, from-small, source-readable, source-start}
+use Rattle.strings.specs.Starts.{lengthsIn}
+use Rattle.strings.specs.Shown.{span-of-start}
+use Rattle.graft.specs.Strings.{header-inside, from-small, source-readable}
 use native.Mathlib.Omega.{arith}
-use mathlib.Core.Path.{refl}
 use borrow.Author.Needs.{needs}
 use Rattle.graft.proofs.string_from.Statement.{statement}
 use Rattle.graft.proofs.string_from.Tie as tie
 use Rattle.graft.proofs.string_from.Reads as reads
 use Rattle.graft.proofs.string_from.Lts as lts
-use Rattle.strings.proofs.start_from.Reads as start-from-reads
+use Rattle.strings.proofs.string_start.Reads as string-start-reads
 use Rattle.wire.proofs.u32_at.Reads as u32-at-reads
 
--- src/lib.rt:68:9
-start-from-requires : tie.Need-start-from-requires
-start-from-requires c κs = (source-readable (c .before .before .args .tape .now) (c .before .before .args .bytes .now) (c .before .before .args .st) (c .before .before .pre .0) (omega arith), (source-start (c .before .before .args .tape .now) (c .before .before .args .bytes .now) (c .before .before .args .st) (c .before .before .pre .0) _ (c .before .before .pre .1), refl))
+-- src/lib.rt:72:9
+string-start-requires : tie.Need-string-start-requires
+string-start-requires c κs = (source-readable (c .before .before .before .args .tape .now) (c .before .before .before .args .bytes .now) (c .before .before .before .args .st) (c .before .before .before .pre .0) (omega arith), (c .before .before .before .pre .1 .0, c .before .before .before .pre .1 .1))
 
--- src/lib.rt:69:16
+-- src/lib.rt:73:16
 u32-at-requires : tie.Need-u32-at-requires
-u32-at-requires c κs = omega (arith, header-inside (c .before .before .before .args .tape .now) (c .before .before .before .args .bytes .now) (c .before .before .before .args .st) (c .before .before .before .pre .0))
+u32-at-requires c κs = omega (arith, header-inside (c .before .before .before .before .args .tape .now) (c .before .before .before .before .args .bytes .now) (c .before .before .before .before .args .st) (c .before .before .before .before .pre .0))
 
--- src/lib.rt:69:16
+-- src/lib.rt:73:16
 cast-text : tie.Need-cast-text
 cast-text c = search needs
 
--- src/lib.rt:70:22
+-- src/lib.rt:74:22
 u32-at-requires-2 : tie.Need-u32-at-requires-2
-u32-at-requires-2 c κs = omega (arith, header-inside (c .before .before .before .before .args .tape .now) (c .before .before .before .before .args .bytes .now) (c .before .before .before .before .args .st) (c .before .before .before .before .pre .0))
+u32-at-requires-2 c κs = omega (arith, header-inside (c .before .before .before .before .before .args .tape .now) (c .before .before .before .before .before .args .bytes .now) (c .before .before .before .before .before .args .st) (c .before .before .before .before .before .pre .0))
 
--- src/lib.rt:70:22
+-- src/lib.rt:74:22
 cast-normalized : tie.Need-cast-normalized
 cast-normalized c = search needs
 
--- src/lib.rt:71:5
+-- src/lib.rt:75:5
 add-result : tie.Need-add-result
 add-result c = search needs
 
--- src/lib.rt:71:5
+-- src/lib.rt:75:5
 add-result-2 : tie.Need-add-result-2
-add-result-2 c = omega (arith, c .before .u32-at .ensures, c .u32-at2 .ensures, c .before .before .start-from .ensures, from-small (c .before .before .before .before .before .args .tape .now) (c .before .before .before .before .before .args .bytes .now) (c .before .before .before .before .before .args .st) (c .before .before .before .before .before .pre .0) (c .before .before .before .before .before .args .id) (c .before .before .before .before .before .pre .1))
+add-result-2 c = omega (arith, c .before .u32-at .ensures, c .u32-at2 .ensures, span-of-start (lengthsIn (c .before .before .before .before .before .before .args .tape .now)) (c .before .before .before .before .before .before .args .id) (c .before .before .string-start .ensures), from-small (c .before .before .before .before .before .before .args .tape .now) (c .before .before .before .before .before .before .args .bytes .now) (c .before .before .before .before .before .before .args .st) (c .before .before .before .before .before .before .pre .0) (c .before .before .before .before .before .before .args .id) (c .before .before .before .before .before .before .pre .1 .1))
 
--- src/lib.rt:63:1
+-- src/lib.rt:66:1
 returns : tie.Need-returns
-returns c = search needs
+returns c = omega (arith, c .before .u32-at .ensures, c .u32-at2 .ensures, span-of-start (lengthsIn (c .before .before .before .before .before .before .args .tape .now)) (c .before .before .before .before .before .before .args .id) (c .before .before .string-start .ensures))
 
 pub string-from-spec : {M : Type 1} → statement M
 string-from-spec =
     tie.close
     (tie.spec
-    start-from-requires
+    string-start-requires
     u32-at-requires
     cast-text
     u32-at-requires-2
