@@ -1,0 +1,24 @@
+use Rattle.splice.specs.Counted.{moved-count}
+use Rattle.splice.specs.Parts.{part-behind}
+use Rattle.model.specs.Merge.{keptBehind, pairLocated}
+use Rattle.model.specs.Tape.{recordsAt, pairCodec}
+use Rattle.splice.specs.Window.{windowValue}
+use mathlib.Core.Path.{ap, _∙_}
+use lib.ListN.{length}
+use borrow.Author.Needs.{needs}
+use Rattle.splice.proofs.kept_behind_pairs.Statement.{statement}
+use Rattle.splice.proofs.kept_behind_pairs.Tie as tie
+use Rattle.splice.proofs.kept_behind_pairs.Reads as reads
+use Rattle.splice.proofs.kept_behind_pairs.Lts as lts
+use Rattle.splice.proofs.count_pairs.Reads as count-pairs-reads
+
+-- src/lib.rt:221:5
+count-pairs-requires : tie.Need-count-pairs-requires
+count-pairs-requires c κs = search needs
+
+-- src/lib.rt:217:1
+returns : tie.Need-returns
+returns c = c .count-pairs .ensures ∙ ap length (part-behind pairLocated (windowValue (c .before .before .args .w)) (recordsAt pairCodec (c .before .before .args .tape .now) (c .before .before .args .at) (c .before .before .args .count))) ∙ moved-count (pairLocated .moved (windowValue (c .before .before .args .w))) (keptBehind pairLocated (windowValue (c .before .before .args .w)) (recordsAt pairCodec (c .before .before .args .tape .now) (c .before .before .args .at) (c .before .before .args .count)))
+
+pub kept-behind-pairs-spec : {M : Type 1} → statement M
+kept-behind-pairs-spec = tie.close (tie.spec count-pairs-requires returns)

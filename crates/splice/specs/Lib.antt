@@ -1,0 +1,5 @@
+pub mod Window
+pub mod Parts
+pub mod Counted
+pub mod Kinds
+pub mod Written
