@@ -5,3 +5,5 @@ pub mod Parts
 pub mod Writing
 pub mod Books
 pub mod Sizes
+pub mod Lists
+pub mod Grafting

@@ -197,3 +197,13 @@ fn lists_end(at: usize, k: Kept, q: places::Places) -> usize
     let diagnostics = total(k.diagnostics, q.diagnostics.count);
     at + 49 * nodes + 18 * pairs + 13 * containers + 18 * diagnostics + 1
 }
+
+// ---- the new layer
+
+// What grafting wrote: the bytes of the new layer's records and of its strings, and the counts. Not ok where there is no room.
+pub struct Graft {
+    pub ok: bool,
+    pub len: usize,
+    pub bytes: usize,
+    pub stats: interner::InternStats,
+}
