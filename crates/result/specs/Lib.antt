@@ -7,3 +7,4 @@ pub mod Books
 pub mod Sizes
 pub mod Lists
 pub mod Grafting
+pub mod Whole
