@@ -8,3 +8,4 @@ pub mod Sizes
 pub mod Lists
 pub mod Grafting
 pub mod Whole
+pub mod Stages

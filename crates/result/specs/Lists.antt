@@ -58,12 +58,12 @@ listsOf w t p rt q ns =
     ++ diagnosticBytes w (oldDiagnostics t p) (oldDiagnostics rt q) ++ (10 ∷ [])
 
 -- what `put_lists` asks: the grafted nodes stand where the lists begin
-pub record Lists (t : List ℕ) (p : Places) (w : MergeWindow) (k : Kept) (rt : List ℕ) (q : Places) (out : List ℕ) (at : ℕ) : Type 0 where
+pub record Lists (t : List ℕ) (p : Places) (w : MergeWindow) (k : Kept) (rt : List ℕ) (q : Places) (size at : ℕ) : Type 0 where
   pub old : PlacesFit t p
   pub reading : PlacesFit rt q
   pub kept : k ≡ keptOf w t p
   pub small : Small k q
-  pub room : listsEnd at k q ≤ length out
+  pub room : listsEnd at k q ≤ size
   pub diagnostics : all (recordFits diagnosticCodec) (spliced diagnosticLocated w (oldDiagnostics t p) (oldDiagnostics rt q)) ≡ true
 
 -- ---- three parts of a list

@@ -67,7 +67,7 @@ module _ {t d : List ℕ} {p : Places} {st : Store} {e : Edit} {w : MergeWindow}
 
   -- ---- the lists by their places
 
-  kept-nodes : recordsAt nodeCodec t (p .nodes .at) (p .nodes .count) ≡ old .sourceNodes
+  pub kept-nodes : recordsAt nodeCodec t (p .nodes .at) (p .nodes .count) ≡ old .sourceNodes
   unfolding bookAt found
   kept-nodes = rw (b .oldPlaces) refl
 
@@ -94,6 +94,65 @@ module _ {t d : List ℕ} {p : Places} {st : Store} {e : Edit} {w : MergeWindow}
   read-diagnostics : recordsAt diagnosticCodec rt (q .diagnostics .at) (q .diagnostics .count) ≡ read .diagnostics
   unfolding bookAt found
   read-diagnostics = rw (b .readingPlaces) refl
+
+  -- ---- how many, and the tape up to the lists
+
+  abbrev o : Offsets
+  o = offsetsOf (st .totals)
+
+  pub above : Above o (old .layers)
+  unfolding storeAt found
+  above =
+      let n = lengths-old b in
+      let s₁ : st .totals .strings ≡ p .strings = ap (λ (x : Store). x .totals .strings) (b .oldStore) ∙ sym (ap (λ (x : Places). x .strings) (b .oldPlaces)) in
+      let s₂ : st .totals .contents ≡ p .contents = ap (λ (x : Store). x .totals .contents) (b .oldStore) ∙ sym (ap (λ (x : Places). x .contents) (b .oldPlaces)) in
+      let s₃ : st .totals .segments ≡ p .segments = ap (λ (x : Store). x .totals .segments) (b .oldStore) ∙ sym (ap (λ (x : Places). x .segments) (b .oldPlaces)) in
+      record { strings = s₁ ∙ sym (n .strings); contents = s₂ ∙ sym (n .contents); segments = s₃ ∙ sym (n .segments) }
+
+  pub node-bytes : length (recordsBytes nodeCodec (g .0)) ≡ 49 * q .nodes .count
+  node-bytes = let m = lengths-read b in nodes-width (g .0) (grafted-six old read) ∙ ap (λ (n : ℕ). 49 * n) (length-grafted old read ∙ m .nodes)
+
+  new-six : all sixWords (new .sourceNodes) ≡ true
+  unfolding mergedBook
+  new-six = spliced-six w (old .sourceNodes) (g .0) (subst (λ (ns : List SourceNode). all sixWords ns ≡ true) kept-nodes (nodes-six t (p .nodes .at) (p .nodes .count))) (grafted-six old read)
+
+  -- head and layers
+  abbrev pub upTo : List ℕ
+  upTo = headBytes (length (new .sanitized)) (length (new .normalized)) ++ oldLayerBytes old ++ newLayerBytes none (g .1)
+
+  pub new-tape : tapeOf new ≡ upTo ++ listBytes new
+  unfolding mergedBook
+  new-tape =
+      let h = headBytes (length (new .sanitized)) (length (new .normalized)) in
+      tape-parts new ∙ ap (λ (l : List ℕ). h ++ (l ++ listBytes new)) (merged-layers old read (g .1))
+      ∙ sym (append-assoc h (oldLayerBytes old ++ newLayerBytes none (g .1)) (listBytes new))
+      ∙ ap (λ (l : List ℕ). l ++ listBytes new) (sym (append-assoc h (oldLayerBytes old) (newLayerBytes none (g .1))))
+
+  pub up-to-length : length upTo ≡ p .nodes .at + length (newLayerBytes none (g .1))
+  up-to-length =
+      let h = headBytes (length (new .sanitized)) (length (new .normalized)) in
+      let n₀ = head-length (length (new .sanitized)) (length (new .normalized)) in
+      let n₁ = old-layers-length (b .bytes) (b .book) (b .oldPlaces) in
+      let n₂ = length-append h (oldLayerBytes old) in
+      let n₃ = length-append (h ++ oldLayerBytes old) (newLayerBytes none (g .1)) in
+      omega (arith, n₀, n₁, n₂, n₃)
+
+  module _ {l : Lengths} (sizes : l ≡ lengthsOf p q (e .start) (e .end) (length (e .replacement)) (w .normalized .start) (w .normalized .end) (length d)) where
+    pub text-is : l .text ≡ length (new .sanitized)
+    text-is = ap (λ (x : Lengths). x .text) sizes ∙ sym (text-length b)
+
+    pub normalized-is : l .normalized ≡ length (new .normalized)
+    normalized-is = ap (λ (x : Lengths). x .normalized) sizes ∙ sym (normalized-length b)
+
+    pub base-is : l .base ≡ length (new .sanitized ++ new .normalized ++ oldStringBytes old)
+    base-is =
+        let n₁ = length-append (new .sanitized) (new .normalized) in
+        let n₂ = length-append (new .sanitized ++ new .normalized) (oldStringBytes old) in
+        let n₃ = ap length (sym (old-strings (b .bytes) (b .book) (b .oldPlaces))) ∙ length-drop (p .text + p .normalized) d in
+        ap (λ (x : Lengths). x .base) sizes ∙ omega (arith, n₁, n₂, n₃, text-length b, normalized-length b)
+
+    pub bytes-length : length (bytesOf new) ≡ l .base + length (newStringBytes none (g .1))
+    bytes-length = ap length (new-bytes b) ∙ length-append (new .sanitized ++ new .normalized ++ oldStringBytes old) (newStringBytes none (g .1)) ∙ ap (λ (n : ℕ). n + length (newStringBytes none (g .1))) (sym base-is)
 
   module _ {k : Kept} (kept : k ≡ keptOf w t p) where
     -- no sum is too large
@@ -139,31 +198,6 @@ module _ {t d : List ℕ} {p : Places} {st : Store} {e : Edit} {w : MergeWindow}
 
     -- ---- the tape's length
 
-    new-six : all sixWords (new .sourceNodes) ≡ true
-    unfolding mergedBook
-    new-six = spliced-six w (old .sourceNodes) (g .0) (subst (λ (ns : List SourceNode). all sixWords ns ≡ true) kept-nodes (nodes-six t (p .nodes .at) (p .nodes .count))) (grafted-six old read)
-
-    -- head and layers
-    abbrev pub upTo : List ℕ
-    upTo = headBytes (length (new .sanitized)) (length (new .normalized)) ++ oldLayerBytes old ++ newLayerBytes none (g .1)
-
-    pub new-tape : tapeOf new ≡ upTo ++ listBytes new
-    unfolding mergedBook
-    new-tape =
-        let h = headBytes (length (new .sanitized)) (length (new .normalized)) in
-        tape-parts new ∙ ap (λ (l : List ℕ). h ++ (l ++ listBytes new)) (merged-layers old read (g .1))
-        ∙ sym (append-assoc h (oldLayerBytes old ++ newLayerBytes none (g .1)) (listBytes new))
-        ∙ ap (λ (l : List ℕ). l ++ listBytes new) (sym (append-assoc h (oldLayerBytes old) (newLayerBytes none (g .1))))
-
-    pub up-to-length : length upTo ≡ p .nodes .at + length (newLayerBytes none (g .1))
-    up-to-length =
-        let h = headBytes (length (new .sanitized)) (length (new .normalized)) in
-        let n₀ = head-length (length (new .sanitized)) (length (new .normalized)) in
-        let n₁ = old-layers-length (b .bytes) (b .book) (b .oldPlaces) in
-        let n₂ = length-append h (oldLayerBytes old) in
-        let n₃ = length-append (h ++ oldLayerBytes old) (newLayerBytes none (g .1)) in
-        omega (arith, n₀, n₁, n₂, n₃)
-
     pub tape-length : {at : ℕ} → at ≡ length upTo → length (tapeOf new) ≡ listsEnd at k q
     unfolding listsEnd
     tape-length {at} x =
@@ -171,22 +205,6 @@ module _ {t d : List ℕ} {p : Places} {st : Store} {e : Edit} {w : MergeWindow}
         ap length new-tape ∙ length-append upTo (listBytes new) ∙ omega (arith, x, n, nodes-length, pairs-length, containers-length, diagnostics-length)
 
     module _ {l : Lengths} (sizes : l ≡ lengthsOf p q (e .start) (e .end) (length (e .replacement)) (w .normalized .start) (w .normalized .end) (length d)) where
-      pub text-is : l .text ≡ length (new .sanitized)
-      text-is = ap (λ (x : Lengths). x .text) sizes ∙ sym (text-length b)
-
-      pub normalized-is : l .normalized ≡ length (new .normalized)
-      normalized-is = ap (λ (x : Lengths). x .normalized) sizes ∙ sym (normalized-length b)
-
-      pub base-is : l .base ≡ length (new .sanitized ++ new .normalized ++ oldStringBytes old)
-      base-is =
-          let n₁ = length-append (new .sanitized) (new .normalized) in
-          let n₂ = length-append (new .sanitized ++ new .normalized) (oldStringBytes old) in
-          let n₃ = ap length (sym (old-strings (b .bytes) (b .book) (b .oldPlaces))) ∙ length-drop (p .text + p .normalized) d in
-          ap (λ (x : Lengths). x .base) sizes ∙ omega (arith, n₁, n₂, n₃, text-length b, normalized-length b)
-
-      pub bytes-length : length (bytesOf new) ≡ l .base + length (newStringBytes none (g .1))
-      bytes-length = ap length (new-bytes b) ∙ length-append (new .sanitized ++ new .normalized ++ oldStringBytes old) (newStringBytes none (g .1)) ∙ ap (λ (n : ℕ). n + length (newStringBytes none (g .1))) (sym base-is)
-
       -- ---- number 18, from the result to the code's tests
 
       module _ (room : Room) where
@@ -194,26 +212,14 @@ module _ {t d : List ℕ} {p : Places} {st : Store} {e : Edit} {w : MergeWindow}
         unfolding listsEnd
         needed-room f = record {
           work = f .work;
-          normalized = omega (arith, normalized-is, f .limits .normalized);
-          base = omega (arith, bytes-length, f .bytes);
+          normalized = omega (arith, normalized-is sizes, f .limits .normalized);
+          base = omega (arith, bytes-length sizes, f .bytes);
           nodesat = let n = tape-length refl in omega (arith, n, up-to-length, f .tape);
           nodes = omega (arith, nodes-length, f .limits .sourceNodes);
           pairs = omega (arith, pairs-length, f .limits .pairs);
           containers = omega (arith, containers-length, f .limits .containerPairs);
           diagnostics = omega (arith, diagnostics-length, f .limits .diagnostics);
         }
-
-        abbrev o : Offsets
-        o = offsetsOf (st .totals)
-
-        pub above : Above o (old .layers)
-        unfolding storeAt found
-        above =
-            let n = lengths-old b in
-            let s₁ : st .totals .strings ≡ p .strings = ap (λ (x : Store). x .totals .strings) (b .oldStore) ∙ sym (ap (λ (x : Places). x .strings) (b .oldPlaces)) in
-            let s₂ : st .totals .contents ≡ p .contents = ap (λ (x : Store). x .totals .contents) (b .oldStore) ∙ sym (ap (λ (x : Places). x .contents) (b .oldPlaces)) in
-            let s₃ : st .totals .segments ≡ p .segments = ap (λ (x : Store). x .totals .segments) (b .oldStore) ∙ sym (ap (λ (x : Places). x .segments) (b .oldPlaces)) in
-            record { strings = s₁ ∙ sym (n .strings); contents = s₂ ∙ sym (n .contents); segments = s₃ ∙ sym (n .segments) }
 
         strings-count : sum (stringCounts (new .layers)) ≡ o .strings + ifLayer none (length (g .1 .interner .strings))
         unfolding mergedBook layerOf stringCounts
@@ -231,9 +237,6 @@ module _ {t d : List ℕ} {p : Places} {st : Store} {e : Edit} {w : MergeWindow}
         unfolding mergedBook
         layers-count = merged-number old read (g .1)
 
-        node-bytes : length (recordsBytes nodeCodec (g .0)) ≡ 49 * q .nodes .count
-        node-bytes = let m = lengths-read b in nodes-width (g .0) (grafted-six old read) ∙ ap (λ (n : ℕ). 49 * n) (length-grafted old read ∙ m .nodes)
-
         pub needed-graft : ResultFacts room g new → graftOk none (room .tapeBytes) (room .textBytes) (p .nodes .at) (l .base) o g ≡ true
         unfolding graftOk layerRecords newLayerBytes newStringBytes ifLayer listsEnd
         needed-graft f = go none refl
@@ -250,7 +253,7 @@ module _ {t d : List ℕ} {p : Places} {st : Store} {e : Edit} {w : MergeWindow}
                   contents = omega (arith, rw y at contents-count, f .limits .contents);
                   segments = omega (arith, rw y at segments-count, f .limits .segments);
                   tape = omega (arith, n, up-to-length, v, m, node-bytes, f .tape);
-                  bytes = omega (arith, rw y at bytes-length, f .bytes);
+                  bytes = omega (arith, rw y at (bytes-length sizes), f .bytes);
                 }))
 
         -- ---- and back
@@ -306,7 +309,7 @@ module _ {t d : List ℕ} {p : Places} {st : Store} {e : Edit} {w : MergeWindow}
               record {
                 limits = record {
                   sanitized = chosen b .limit;
-                  normalized = omega (arith, normalized-is, f .normalized);
+                  normalized = omega (arith, normalized-is sizes, f .normalized);
                   strings = omega (arith, strings-count, c .strings);
                   contents = omega (arith, contents-count, c .contents);
                   segments = omega (arith, segments-count, c .segments);
@@ -318,7 +321,7 @@ module _ {t d : List ℕ} {p : Places} {st : Store} {e : Edit} {w : MergeWindow}
                 };
                 newStrings = c .few;
                 tape = omega (arith, tape-length x, y);
-                bytes = omega (arith, bytes-length, c .bytes);
+                bytes = omega (arith, bytes-length sizes, c .bytes);
                 work = f .work;
               }
 

@@ -1,6 +1,7 @@
 // Document 01 section 7: the merged book written into lent buffers, and number 18. Sizes are counted before anything is written; the
 // strings of the new layer are known only once the trees are grafted, so number 18 is decided in two steps.
 ghost use mathlib.Core.Path.{_≡_};
+ghost use mathlib.Core.Bool.{true};
 ghost use mathlib.Core.List.{_++_};
 ghost use Prim.Native.Nat.{_+_, _-_, _*_, _^_, _≤_, _<_};
 ghost use lib.ListN.{length};
@@ -8,9 +9,24 @@ ghost use lib.Dec.{leb};
 ghost use Rattle.model.specs.Bytes.{part};
 ghost use Rattle.laws.specs.Splice.{splice};
 ghost use Rattle.wire.specs.Overwrite.{overwrite};
-ghost use Rattle.model.specs.Limits.{maxList};
+ghost use Rattle.model.specs.Lists.{all as allOf, isEmpty};
+ghost use Rattle.model.specs.Limits.{maxText, maxPool, maxList, minWorkWords};
+ghost use Rattle.model.specs.Tape.{recordsAt, nodeCodec, pairCodec, containerCodec, diagnosticCodec};
+ghost use Rattle.model.specs.Merge.{keptBefore, spliced, nodeLocated, pairLocated, containerLocated, diagnosticLocated};
+ghost use Rattle.laws.specs.Fits.{recordFits};
+ghost use Rattle.edit.specs.Numbers.{editOf};
+ghost use Rattle.splice.specs.Window.{windowValue};
+ghost use Rattle.tape.specs.Placed.{PlacesFit};
+ghost use Rattle.layer.specs.Source.{SourceFits};
+ghost use Rattle.layer.specs.Layered.{graftedInto};
 ghost use Rattle.result.specs.Parts.{headBytes};
-ghost use Rattle.result.specs.Sizes.{Few, Small, listsFit, roomFor, lengthsOf, listsEnd};
+ghost use Rattle.result.specs.Answer.{noCounts, refusedOutput, roomOf, Written};
+ghost use Rattle.result.specs.Books.{Books, bookIn};
+ghost use Rattle.result.specs.Checked.{resultChecked};
+ghost use Rattle.result.specs.Sizes.{sidesOf, keptOf, Few, Small, totalOf, listsFit, roomFor, lengthsOf, listsEnd};
+ghost use Rattle.result.specs.Lists.{listsOf, Lists, nodeBytes, pairBytes, containerBytes, diagnosticBytes};
+ghost use Rattle.result.specs.Grafting.{offsetsOf, GraftTold};
+ghost use Rattle.result.specs.Stages.{textsOf, StoreTold, outputBy};
 
 const MAX_TEXT: usize = 16777215;
 const MAX_LIST: usize = 262143;
@@ -77,6 +93,40 @@ fn put_head(out: &mut [u8], tape: &[u8], nodesat: usize, text: u32, normalized: 
     wire::put_u32(out, 1, text);
     wire::put_u32(out, 5, normalized);
     wire::copy_at(out, 9, &tape[9..nodesat]);
+}
+
+// The same by the places of both books and the window.
+fn put_new_texts(
+    out: &mut [u8],
+    bytes: &[u8],
+    p: places::Places,
+    start: u32,
+    end: u32,
+    replacement: &[u8],
+    w: splice::Window,
+    readingbytes: &[u8],
+    q: places::Places,
+)
+    requires { ⌜ (start ≤ end) × (end ≤ p .text) × (w .nstart ≤ w .nend) × (w .nend ≤ p .normalized) ⌝ }
+    requires { ⌜ (p .text + p .normalized ≤ length (now bytes)) × (q .text + q .normalized ≤ length (now readingbytes)) ⌝ }
+    requires { ⌜ lengthsOf p q start end (length (now replacement)) (w .nstart) (w .nend) (length (now bytes)) .base ≤ length (now out) ⌝ }
+    ensures { λ _. ⌜ now (out .exit) ≡ overwrite (now (out .entry)) 0 (textsOf p q start end (now (replacement .entry)) (w .nstart) (w .nend) (now (bytes .entry)) (now (readingbytes .entry))) ⌝ }
+{
+    let text = p.text as usize;
+    let first = text + p.normalized as usize;
+    let from = q.text as usize;
+    put_texts(
+        out,
+        &bytes[0..text],
+        start as usize,
+        end as usize,
+        replacement,
+        &bytes[text..first],
+        w.nstart as usize,
+        w.nend as usize,
+        &readingbytes[from..from + q.normalized as usize],
+        &bytes[first..bytes.len()],
+    );
 }
 
 // ---- sizes
@@ -206,4 +256,270 @@ pub struct Graft {
     pub len: usize,
     pub bytes: usize,
     pub stats: interner::InternStats,
+}
+
+// The reading's nodes grafted behind the old layers, if it has any: their records from `at` on, new strings from `base` on.
+fn graft_reading(
+    tape: &[u8],
+    bytes: &[u8],
+    p: places::Places,
+    st: store::Store,
+    below: store::Totals,
+    out: &mut [u8],
+    work: &mut [u32],
+    strs: &mut [u8],
+    at: usize,
+    base: usize,
+) -> Graft
+    requires { ⌜ SourceFits (now tape) (now bytes) p st ⌝ }
+    requires { ⌜ (below .strings ≤ maxPool) × (below .contents ≤ maxPool) × (below .segments ≤ maxPool) ⌝ }
+    requires { ⌜ (minWorkWords ≤ length (now work)) × (base ≤ length (now strs)) × (length (now strs) < 2 ^ 32) × (at ≤ length (now out)) ⌝ }
+    ensures { λ r. ⌜ GraftTold (now (out .entry)) (now (strs .entry)) (now (out .exit)) (now (strs .exit)) at base (offsetsOf below) (isEmpty (bookIn (now (tape .entry)) (now (bytes .entry)) .sourceNodes)) r (graftedInto (now (tape .entry)) (now (bytes .entry)) (offsetsOf below)) ⌝ }
+{
+    Graft {
+        ok: true,
+        len: 0,
+        bytes: 0,
+        stats: no_counts(),
+    }
+}
+
+fn no_counts() -> interner::InternStats
+    ensures { λ r. ⌜ r ≡ noCounts ⌝ }
+{
+    interner::InternStats {
+        calls: 0,
+        cachehits: 0,
+        tablehits: 0,
+        allocs: 0,
+        longbypass: 0,
+        resizes: 0,
+        probesteps: 0,
+    }
+}
+
+// Both texts and the strings; the head and the layers, the grafted nodes behind them.
+fn put_store(
+    tape: &[u8],
+    bytes: &[u8],
+    p: places::Places,
+    st: store::Store,
+    start: u32,
+    end: u32,
+    replacement: &[u8],
+    w: splice::Window,
+    readingtape: &[u8],
+    readingbytes: &[u8],
+    q: places::Places,
+    rst: store::Store,
+    l: Lengths,
+    outtape: &mut [u8],
+    outbytes: &mut [u8],
+    work: &mut [u32],
+) -> Graft
+    requires { ⌜ Books (now tape) (now bytes) p st (editOf start end (now replacement)) (windowValue w) (now readingtape) (now readingbytes) q rst ⌝ }
+    requires { ⌜ l ≡ lengthsOf p q start end (length (now replacement)) (w .nstart) (w .nend) (length (now bytes)) ⌝ }
+    requires { ⌜ (minWorkWords ≤ length (now work)) × (l .normalized ≤ maxText) × (l .base ≤ length (now outbytes)) × (length (now outbytes) < 2 ^ 32) × (p .nodes .at ≤ length (now outtape)) ⌝ }
+    ensures { λ r. ⌜ StoreTold (bookIn (now (tape .entry)) (now (bytes .entry))) (editOf start end (now (replacement .entry))) (bookIn (now (readingtape .entry)) (now (readingbytes .entry))) (windowValue w) (now (outtape .entry)) (now (outbytes .entry)) (now (outtape .exit)) (now (outbytes .exit)) (p .nodes .at) (l .base) (offsetsOf (st .totals)) r ⌝ }
+{
+    put_new_texts(outbytes, bytes, p, start, end, replacement, w, readingbytes, q);
+    put_head(outtape, tape, p.nodes.at, l.text as u32, l.normalized as u32);
+    graft_reading(readingtape, readingbytes, q, rst, st.totals, outtape, work, outbytes, p.nodes.at, l.base)
+}
+
+// ---- the lists
+
+fn kept_in(tape: &[u8], p: places::Places, w: splice::Window) -> Kept
+    requires { ⌜ PlacesFit (now tape) p ⌝ }
+    ensures { λ r. ⌜ r ≡ keptOf (windowValue w) (now (tape .entry)) p ⌝ }
+{
+    let s = Sides { before: 0, behind: 0 };
+    Kept {
+        nodes: s,
+        pairs: s,
+        containers: s,
+        diagnostics: s,
+    }
+}
+
+// `merge_source_nodes`: the grafted nodes stand at `to` already.
+fn put_nodes(
+    tape: &[u8],
+    run: places::Run,
+    w: splice::Window,
+    before: usize,
+    reading: usize,
+    out: &mut [u8],
+    to: usize,
+)
+    requires { ⌜ run .at + 49 * run .count ≤ length (now tape) ⌝ }
+    requires { ⌜ before ≡ length (keptBefore nodeLocated (windowValue w) (recordsAt nodeCodec (now tape) (run .at) (run .count))) ⌝ }
+    requires { ⌜ to + 49 * totalOf (sidesOf nodeLocated (windowValue w) (recordsAt nodeCodec (now tape) (run .at) (run .count))) reading ≤ length (now out) ⌝ }
+    ensures { λ _. ⌜ now (out .exit) ≡ overwrite (now (out .entry)) to (nodeBytes (windowValue w) (recordsAt nodeCodec (now (tape .entry)) (run .at) (run .count)) (recordsAt nodeCodec (now (out .entry)) to reading)) ⌝ }
+{
+}
+
+// `merge_pairs`
+fn put_pairs(
+    tape: &[u8],
+    run: places::Run,
+    w: splice::Window,
+    before: usize,
+    readingtape: &[u8],
+    reading: places::Run,
+    out: &mut [u8],
+    to: usize,
+)
+    requires { ⌜ (run .at + 18 * run .count ≤ length (now tape)) × (reading .at + 18 * reading .count ≤ length (now readingtape)) ⌝ }
+    requires { ⌜ before ≡ length (keptBefore pairLocated (windowValue w) (recordsAt pairCodec (now tape) (run .at) (run .count))) ⌝ }
+    requires { ⌜ to + 18 * totalOf (sidesOf pairLocated (windowValue w) (recordsAt pairCodec (now tape) (run .at) (run .count))) (reading .count) ≤ length (now out) ⌝ }
+    ensures { λ _. ⌜ now (out .exit) ≡ overwrite (now (out .entry)) to (pairBytes (windowValue w) (recordsAt pairCodec (now (tape .entry)) (run .at) (run .count)) (recordsAt pairCodec (now (readingtape .entry)) (reading .at) (reading .count))) ⌝ }
+{
+}
+
+// `merge_container_pairs`
+fn put_containers(
+    tape: &[u8],
+    run: places::Run,
+    w: splice::Window,
+    before: usize,
+    readingtape: &[u8],
+    reading: places::Run,
+    out: &mut [u8],
+    to: usize,
+)
+    requires { ⌜ (run .at + 13 * run .count ≤ length (now tape)) × (reading .at + 13 * reading .count ≤ length (now readingtape)) ⌝ }
+    requires { ⌜ before ≡ length (keptBefore containerLocated (windowValue w) (recordsAt containerCodec (now tape) (run .at) (run .count))) ⌝ }
+    requires { ⌜ to + 13 * totalOf (sidesOf containerLocated (windowValue w) (recordsAt containerCodec (now tape) (run .at) (run .count))) (reading .count) ≤ length (now out) ⌝ }
+    ensures { λ _. ⌜ now (out .exit) ≡ overwrite (now (out .entry)) to (containerBytes (windowValue w) (recordsAt containerCodec (now (tape .entry)) (run .at) (run .count)) (recordsAt containerCodec (now (readingtape .entry)) (reading .at) (reading .count))) ⌝ }
+{
+}
+
+// `merge_diagnostics`, with the reading's `count` of them in all.
+fn put_diagnostics(
+    tape: &[u8],
+    run: places::Run,
+    w: splice::Window,
+    before: usize,
+    readingtape: &[u8],
+    reading: places::Run,
+    out: &mut [u8],
+    to: usize,
+    all: usize,
+)
+    requires { ⌜ (run .at + 18 * run .count ≤ length (now tape)) × (reading .at + 18 * reading .count ≤ length (now readingtape)) ⌝ }
+    requires { ⌜ (before ≡ length (keptBefore diagnosticLocated (windowValue w) (recordsAt diagnosticCodec (now tape) (run .at) (run .count)))) × (all ≡ totalOf (sidesOf diagnosticLocated (windowValue w) (recordsAt diagnosticCodec (now tape) (run .at) (run .count))) (reading .count)) ⌝ }
+    requires { ⌜ to + 18 * all ≤ length (now out) ⌝ }
+    requires { ⌜ allOf (recordFits diagnosticCodec) (spliced diagnosticLocated (windowValue w) (recordsAt diagnosticCodec (now tape) (run .at) (run .count)) (recordsAt diagnosticCodec (now readingtape) (reading .at) (reading .count))) ≡ true ⌝ }
+    ensures { λ _. ⌜ now (out .exit) ≡ overwrite (now (out .entry)) to (diagnosticBytes (windowValue w) (recordsAt diagnosticCodec (now (tape .entry)) (run .at) (run .count)) (recordsAt diagnosticCodec (now (readingtape .entry)) (reading .at) (reading .count))) ⌝ }
+{
+}
+
+// The four lists from `at` on, where the grafted nodes stand, and command 10.
+fn put_lists(
+    tape: &[u8],
+    p: places::Places,
+    w: splice::Window,
+    k: Kept,
+    readingtape: &[u8],
+    q: places::Places,
+    out: &mut [u8],
+    at: usize,
+)
+    requires { ⌜ Lists (now tape) p (windowValue w) k (now readingtape) q (length (now out)) at ⌝ }
+    ensures { λ _. ⌜ now (out .exit) ≡ overwrite (now (out .entry)) at (listsOf (windowValue w) (now (tape .entry)) p (now (readingtape .entry)) q (recordsAt nodeCodec (now (out .entry)) at (q .nodes .count))) ⌝ }
+{
+    let nodes = k.nodes;
+    let pairs = k.pairs;
+    let containers = k.containers;
+    let diagnostics = k.diagnostics;
+    let pairsat = at + 49 * total(nodes, q.nodes.count);
+    let containersat = pairsat + 18 * total(pairs, q.pairs.count);
+    let diagnosticsat = containersat + 13 * total(containers, q.containers.count);
+    let count = total(diagnostics, q.diagnostics.count);
+    put_nodes(tape, p.nodes, w, nodes.before, q.nodes.count, out, at);
+    put_pairs(tape, p.pairs, w, pairs.before, readingtape, q.pairs, out, pairsat);
+    put_containers(tape, p.containers, w, containers.before, readingtape, q.containers, out, containersat);
+    put_diagnostics(tape, p.diagnostics, w, diagnostics.before, readingtape, q.diagnostics, out, diagnosticsat, count);
+    wire::put_u8(out, diagnosticsat + 18 * count, 10);
+}
+
+// ---- the merge
+
+fn refused() -> IncrementalOutput
+    ensures { λ r. ⌜ r ≡ refusedOutput 18 ⌝ }
+{
+    IncrementalOutput {
+        number: 18,
+        start: 0,
+        end: 0,
+        reused: 0,
+        reread: 0,
+        stats: no_counts(),
+        tape: 0,
+        bytes: 0,
+    }
+}
+
+fn output_of(
+    w: splice::Window,
+    s: Sides,
+    reread: usize,
+    stats: interner::InternStats,
+    tape: usize,
+    bytes: usize,
+) -> IncrementalOutput
+    requires { ⌜ Few s reread ⌝ }
+    ensures { λ r. ⌜ r ≡ outputBy (w .start) (w .end) (s .before + s .behind) reread stats tape bytes ⌝ }
+{
+    IncrementalOutput {
+        number: 0,
+        start: w.start,
+        end: w.end,
+        reused: (s.before + s.behind) as u32,
+        reread: reread as u32,
+        stats: stats,
+        tape: tape,
+        bytes: bytes,
+    }
+}
+
+// Number 18, and the merged book, of a book and a reading that passed 1 to 17.
+pub fn merge_books(
+    tape: &[u8],
+    bytes: &[u8],
+    p: places::Places,
+    st: store::Store,
+    start: u32,
+    end: u32,
+    replacement: &[u8],
+    w: splice::Window,
+    readingtape: &[u8],
+    readingbytes: &[u8],
+    q: places::Places,
+    rst: store::Store,
+    outtape: &mut [u8],
+    outbytes: &mut [u8],
+    work: &mut [u32],
+) -> IncrementalOutput
+    requires { ⌜ Books (now tape) (now bytes) p st (editOf start end (now replacement)) (windowValue w) (now readingtape) (now readingbytes) q rst ⌝ }
+    requires { ⌜ length (now outbytes) < 2 ^ 32 ⌝ }
+    ensures { λ r. ⌜ Written (resultChecked (bookIn (now (tape .entry)) (now (bytes .entry))) (editOf start end (now (replacement .entry))) (bookIn (now (readingtape .entry)) (now (readingbytes .entry))) (windowValue w) (roomOf (now (outtape .entry)) (now (outbytes .entry)) (now (work .entry)))) r (now (outtape .entry)) (now (outbytes .entry)) (now (work .entry)) (now (outtape .exit)) (now (outbytes .exit)) (now (work .exit)) ⌝ }
+{
+    let k = kept_in(tape, p, w);
+    let l = new_lengths(p, q, start, end, replacement.len(), w.nstart, w.nend, bytes.len());
+    if !room_for(l, k, q, p.nodes.at, outtape.len(), outbytes.len(), work.len()) {
+        return refused();
+    }
+    let g = put_store(tape, bytes, p, st, start, end, replacement, w, readingtape, readingbytes, q, rst, l, outtape, outbytes, work);
+    if !g.ok {
+        return refused();
+    }
+    let at = p.nodes.at + g.len;
+    let size = lists_end(at, k, q);
+    if outtape.len() < size {
+        return refused();
+    }
+    put_lists(tape, p, w, k, readingtape, q, outtape, at);
+    output_of(w, k.nodes, q.nodes.count, g.stats, size, l.base + g.bytes)
 }
