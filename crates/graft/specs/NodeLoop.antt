@@ -40,7 +40,7 @@ unfoldable pub shownOf : List ℕ → List ℕ → List SourceNode → List Show
 shownOf t d [] = []
 shownOf t d (n ∷ ns) = shownNode (sourceStore t d) n ∷ shownOf t d ns
 
-shown-map : (t d : List ℕ) (ns : List SourceNode) → shownOf t d ns ≡ map (shownNode (sourceStore t d)) ns
+pub shown-map : (t d : List ℕ) (ns : List SourceNode) → shownOf t d ns ≡ map (shownNode (sourceStore t d)) ns
 unfolding shownOf
 shown-map t d [] = refl
 shown-map t d (n ∷ ns) = ap (λ (l : List ShownNode). shownNode (sourceStore t d) n ∷ l) (shown-map t d ns)

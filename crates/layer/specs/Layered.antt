@@ -31,6 +31,12 @@ use Rattle.layer.specs.Lengths.{strings-width}
 
 -- ---- definitions
 
+-- Number 3 of the layers below.
+pub record OffsetsFit (o : Offsets) : Type 0 where
+  pub strings : o .strings ≤ maxPool
+  pub contents : o .contents ≤ maxPool
+  pub segments : o .segments ≤ maxPool
+
 -- Section 3. `NodeStore::layered`, by the counts of the layers below.
 unfoldable pub newLayer : Offsets → NewLayer
 newLayer o = record {
@@ -45,6 +51,10 @@ newLayer o = record {
 -- Section 5. The nodes of the source, grafted into it.
 unfoldable pub graftedInto : List ℕ → List ℕ → Offsets → With (List SourceNode)
 graftedInto t d o = graftNodeRefs (shownNodes (bookAt t (places t) d)) (newLayer o)
+
+-- what that adds
+abbrev pub sourceAdds : List ℕ → List ℕ → Added
+sourceAdds t d = nodesSize (shownNodes (bookAt t (places t) d))
 
 -- the layer's records, and behind them those of the nodes
 unfoldable pub layerRecords : With (List SourceNode) → List ℕ
@@ -92,6 +102,9 @@ pub record LayerSizes (g : With (List SourceNode)) (a : Added) (nodes : ℕ) : T
   pub contents : length (g .1 .contents) ≡ a .contents
   pub segments : length (g .1 .segments) ≡ a .segments
   pub count : length (g .0) ≡ nodes
+  pub contentBytes : length (recordsBytes contentCodec (g .1 .contents)) ≡ 10 * a .contents
+  pub segmentBytes : length (recordsBytes segmentCodec (g .1 .segments)) ≡ 37 * a .segments
+  pub nodeBytes : length (recordsBytes nodeCodec (g .0)) ≡ 49 * nodes
   pub layer : length (layerBytes (layerOf (g .1))) ≡ 1 + 5 * length (g .1 .interner .strings) + 10 * a .contents + 37 * a .segments
   pub bytes : length (layerRecords g) ≡ 1 + 5 * length (g .1 .interner .strings) + 10 * a .contents + 37 * a .segments + 49 * nodes
 
@@ -111,20 +124,25 @@ shown-long : (b : LexOutput) → length (shownNodes b) ≡ length (b .sourceNode
 unfolding shownNodes
 shown-long b = length-map (b .sourceNodes) (shownNode (storeOf (b .layers)))
 
-pub layer-sizes : (t d : List ℕ) (o : Offsets) {nodes : ℕ} → length (bookAt t (places t) d .sourceNodes) ≡ nodes → LayerSizes (graftedInto t d o) (nodesSize (shownNodes (bookAt t (places t) d))) nodes
+pub layer-sizes : (t d : List ℕ) (o : Offsets) {nodes : ℕ} → length (bookAt t (places t) d .sourceNodes) ≡ nodes → LayerSizes (graftedInto t d o) (sourceAdds t d) nodes
 unfolding graftedInto layerRecords newLayer
 layer-sizes t d o {nodes} e =
     let ns = shownNodes (bookAt t (places t) d) in
     let g = graftNodeRefs ns (newLayer o) in
     let k = node-refs-grow ns (newLayer o) in
     let n : length (g .0) ≡ nodes = length-refs ns (newLayer o) ∙ shown-long (bookAt t (places t) d) ∙ e in
-    let l = layer-long (g .1) (refs-sized ns (newLayer o) (empty-sized o)) in
+    let s = refs-sized ns (newLayer o) (empty-sized o) in
+    let l = layer-long (g .1) s in
+    let w = refs-width ns (newLayer o) in
     record {
       contents = omega (arith, k .contents);
       segments = omega (arith, k .segments);
       count = n;
+      contentBytes = omega (arith, s .contents, k .contents);
+      segmentBytes = omega (arith, s .segments, k .segments);
+      nodeBytes = omega (arith, w, n);
       layer = omega (arith, l, k .contents, k .segments);
-      bytes = omega (arith, l, k .contents, k .segments, n, refs-width ns (newLayer o), length-append (layerBytes (layerOf (g .1))) (recordsBytes nodeCodec (g .0)));
+      bytes = omega (arith, l, k .contents, k .segments, n, w, length-append (layerBytes (layerOf (g .1))) (recordsBytes nodeCodec (g .0)));
     }
 
 -- ---- number 18
@@ -138,7 +156,7 @@ pub record LayerFits (size room at base : ℕ) (o : Offsets) (g : With (List Sou
   pub bytes : base + length (flatten (g .1 .interner .strings)) ≤ room
 
 module _ (size room at base : ℕ) (o : Offsets) (g : With (List SourceNode)) where
-  layer-fits : layerOk size room at base o g ≡ true → LayerFits size room at base o g
+  pub layer-fits : layerOk size room at base o g ≡ true → LayerFits size room at base o g
   unfolding layerOk
   layer-fits e =
       let u₀ = both _ (leb (base + length (flatten (g .1 .interner .strings))) room) e in

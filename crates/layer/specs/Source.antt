@@ -1,16 +1,15 @@
 -- A source that passed 1 to 7, its places and its store: what follows for the code that counts and grafts its nodes.
-use mathlib.Core.Path.{_≡_, refl, sym, ap, _∙_}
+use mathlib.Core.Path.{_≡_, sym, ap, _∙_}
 use Prim.Native.Nat.{ℕ, _+_, _*_, _^_, _≤_, _<_}
 use native.Mathlib.Omega.{arith}
-use mathlib.Core.Bool.{Bool, true}
-use mathlib.Core.List.{List, [], _∷_, map}
+use mathlib.Core.Bool.{true}
+use mathlib.Core.List.{List}
 use lib.ListN.{length, drop}
 use Rattle.model.specs.Lists.{all}
-use Rattle.model.specs.Limits.{maxPool, maxList}
+use Rattle.model.specs.Limits.{maxList}
 use Rattle.model.specs.Bytes.{wordAt}
-use Rattle.model.specs.Types.{Content, Segment, SourceNode}
 use Rattle.model.specs.Tape.{recordsAt, nodeCodec, places, bookAt}
-use Rattle.model.specs.Tree.{ShownNode, shownNode, shownNodes}
+use Rattle.model.specs.Tree.{shownNodes}
 use Rattle.laws.specs.Lists.{both}
 use Rattle.laws.specs.Checks.{limit-facts}
 use Rattle.laws.specs.Layers.{ids-pools}
@@ -20,29 +19,21 @@ use Rattle.store.specs.declared.Store.{Store}
 use Rattle.store.specs.Stored.{storeAt}
 use Rattle.store.specs.Lengths.{book-lengths}
 use Rattle.strings.specs.Starts.{Readable, readable}
-use Rattle.ids.specs.Tests.{contentIn, segmentIn, nodeIn}
+use Rattle.ids.specs.Tests.{nodeIn}
 use Rattle.ids.specs.Whole.{IdsFit, idsIn, layersIn, ids-are, content-ok, segment-ok}
-use Rattle.levels.specs.Below.{LevelsFit}
 use Rattle.tape.specs.Accepted.{Accepted, accepted-places, accepted-store}
 use Rattle.tape.specs.Placed.{fit-nodes}
 use Rattle.tape.specs.Numbers.{store-few, pools-ids, pools-levels}
-use Rattle.sizes.specs.declared.Room.{Room}
 use Rattle.sizes.specs.InPlace.{nodesAdd}
 use Rattle.sizes.specs.Trees.{nodesSize}
 use Rattle.sizes.specs.Shown.{shown-nodes-add}
-use Rattle.sizes.specs.Calls.{Limited}
-use Rattle.graft.specs.Walk.{Source, sourceStore}
-use Rattle.graft.specs.NodeLoop.{shownOf}
+use Rattle.graft.specs.Walk.{Source}
+use Rattle.graft.specs.NodeLoop.{shownOf, shown-map}
 
 pub record SourceFits (t d : List ℕ) (p : Places) (st : Store) : Type 0 where
   pub accepted : Accepted t d
   pub is : p ≡ found t
   pub stored : st ≡ storeAt t
-
-shown-map : (t d : List ℕ) (ns : List SourceNode) → shownOf t d ns ≡ map (shownNode (sourceStore t d)) ns
-unfolding shownOf
-shown-map t d [] = refl
-shown-map t d (n ∷ ns) = ap (λ (l : List ShownNode). shownNode (sourceStore t d) n ∷ l) (shown-map t d ns)
 
 module _ {t d : List ℕ} {p : Places} {st : Store} (f : SourceFits t d p st) where
   -- ---- its lists
@@ -94,9 +85,6 @@ module _ {t d : List ℕ} {p : Places} {st : Store} (f : SourceFits t d p st) wh
       }
 
   -- ---- what the code asks
-
-  pub source-limited : {m : Room} → m .contents ≤ maxPool → m .segments ≤ maxPool → Limited m (p .nodes .count)
-  source-limited h k = record { contents = h; segments = k; few = source-few }
 
   pub source-readable : length d < 2 ^ 63 → Readable t st (length d)
   source-readable h = readable t d (f .accepted .framing) st (f .stored) (store-few (accepted-places (f .accepted) (f .is)) (accepted-store (f .accepted) (f .is)) (f .stored)) h

@@ -1,34 +1,37 @@
 -- The walk over a source's nodes, from a fresh interner on: what it asks, and what it has done in the terms of the new layer.
 use mathlib.Core.Path.{_≡_, refl, sym, ap, _∙_, subst}
-use Prim.Native.Nat.{ℕ, _+_, _*_, _≤_, _<_, _^_}
+use Prim.Native.Nat.{ℕ, _+_, _-_, _*_, _≤_, _<_, _^_}
 use native.Mathlib.Omega.{arith}
 use mathlib.Core.Bool.{true}
-use mathlib.Core.List.{List, []}
-use lib.ListN.{length, take}
+use mathlib.Core.List.{List, [], _++_}
+use lib.ListN.{length, take, drop, set, length-drop}
+use lib.Seq.{length-take-le, take-at, drop-at, drop-set-lt}
+use Rattle.model.specs.Limits.{minWorkWords}
 use Rattle.model.specs.Types.{SourceNode}
 use Rattle.model.specs.Intern.{StrInterner}
-use Rattle.model.specs.Tape.{recordsAt, recordsBytes, contentCodec, segmentCodec, nodeCodec, places, bookAt}
-use Rattle.model.specs.Tree.{shownNodes}
+use Rattle.model.specs.Tape.{recordsAt, recordsBytes, contentCodec, segmentCodec, nodeCodec}
 use Rattle.model.specs.Graft.{NewLayer, With, graftNodeRefs}
 use Rattle.wire.specs.Overwrite.{overwrite}
 use Rattle.places.specs.declared.Places.{Places}
 use Rattle.store.specs.declared.Store.{Store}
+use Rattle.store.specs.Lengths.{book-lengths}
+use Rattle.strings.specs.Starts.{lengthsIn}
+use Rattle.strings.specs.Index.{indexIn, Indexed, index-length, index-written}
 use Rattle.interner.specs.declared.StrInterner.{StrInterner as Interner}
 use Rattle.interner.specs.State.{stateOf, Good, hasRoom, Fresh}
 use Rattle.interner.specs.Room.{room-same}
 use Rattle.sizes.specs.Added.{Added}
 use Rattle.sizes.specs.InPlace.{nodesAdd}
-use Rattle.sizes.specs.Trees.{nodesSize}
 use Rattle.graft.specs.declared.Plan.{Plan}
 use Rattle.graft.specs.declared.Mark.{Mark}
 use Rattle.graft.specs.Blocks.{blocks}
 use Rattle.graft.specs.Grafted.{layerFrom}
-use Rattle.graft.specs.Walk.{Ready, Space}
+use Rattle.graft.specs.Walk.{indexWords, Ready}
 use Rattle.graft.specs.NodeItems.{NodesTold, refsFrom}
 use Rattle.graft.specs.NodeLoop.{shownOf}
 use Rattle.layer.specs.declared.Offsets.{Offsets}
 use Rattle.layer.specs.Source.{SourceFits, source-of, source-adds, source-shown}
-use Rattle.layer.specs.Layered.{newLayer, graftedInto}
+use Rattle.layer.specs.Layered.{newLayer, graftedInto, sourceAdds, planOf, LayerSizes, layer-sizes}
 
 abbrev pub offsetsOf : Plan → Offsets
 offsetsOf p = record { strings = p .strings; contents = p .contents; segments = p .segments }
@@ -36,6 +39,23 @@ offsetsOf p = record { strings = p .strings; contents = p .contents; segments = 
 -- nothing pushed yet
 abbrev pub freshMark : Interner → Mark
 freshMark r = record { ok = true; contents = 0; segments = 0; state = r }
+
+-- ---- the index
+
+-- the words lent for the index, as they come back
+pub index-there : (lengths work : List ℕ) → minWorkWords ≤ length work → {ys : List ℕ} → ys ≡ overwrite (indexWords work) 0 (indexIn lengths (indexWords work))
+    → Indexed lengths (indexWords (take 11776 work ++ (ys ++ drop (16384 - 11776) (drop 11776 work))))
+index-there lengths work h {ys} e =
+    let n : length ys ≡ 16384 - 11776 = index-length lengths (indexWords work) e ∙ length-take-le (16384 - 11776) (drop 11776 work) (rw length-drop (omega (arith, h))) in
+    let rest = drop (16384 - 11776) (drop 11776 work) in
+    index-written lengths (indexWords work)
+    (ap (λ (l : List ℕ). take (16384 - 11776) l) (drop-at (take 11776 work) (ys ++ rest) 11776 (length-take-le 11776 work (omega (arith, h)))) ∙ take-at ys rest (16384 - 11776) n ∙ e)
+
+-- a fresh interner writes before it
+index-kept : (t work₀ : List ℕ) (base : ℕ) {work : List ℕ} → work ≡ set work₀ 8192 base → Indexed (lengthsIn t) (indexWords work₀) → Indexed (lengthsIn t) (indexWords work)
+index-kept t work₀ base e i = rw (ap indexWords e ∙ ap (λ (l : List ℕ). take (16384 - 11776) l) (drop-set-lt 11776 work₀ 8192 base (omega arith))) i
+
+-- ---- the walk
 
 -- Room for all that is added, a, and for the nodes' records behind it in a tape of `size` bytes.
 pub record WalkRoom (p : Plan) (nodesat nodes size : ℕ) (a : Added) : Type 0 where
@@ -61,13 +81,14 @@ pub record Walked (p : Plan) (base nodesat : ℕ) (out strs out′ work′ strs�
   pub ok : r .ok ≡ hasRoom (length strs) base (g .1 .interner)
   pub made : r .ok ≡ true → WalkMade p base nodesat out strs out′ work′ strs′ r g
 
-module _ {t d : List ℕ} {q : Places} {st : Store} (f : SourceFits t d q st) {work₀ strs work : List ℕ} {base : ℕ} {s : Interner} (b : Fresh work₀ strs base work s) (p : Plan) (nodesat : ℕ) (out : List ℕ) where
+module _ {t d : List ℕ} {q : Places} {st : Store} (f : SourceFits t d q st) {work₀ strs work : List ℕ} {base : ℕ} {s : Interner} (b : Fresh work₀ strs base work s) (index : Indexed (lengthsIn t) (indexWords work₀)) (p : Plan) (nodesat : ℕ) (out : List ℕ) where
   no-calls : s .stats .calls ≡ 0
   no-calls = ap (λ (x : StrInterner). x .stats .calls) (b .state)
 
-  pub walk-ready : WalkRoom p nodesat (q .nodes .count) (length out) (nodesSize (shownNodes (bookAt t (places t) d))) → Ready t d st p (freshMark s) out work strs (nodesAdd t st (q .nodes .at) (q .nodes .count))
+  pub walk-ready : WalkRoom p nodesat (q .nodes .count) (length out) (sourceAdds t d) → Ready t d st p (freshMark s) out work strs (nodesAdd t st (q .nodes .at) (q .nodes .count))
   walk-ready w = rw (source-adds f) (record {
     source = source-of f;
+    index = index-kept t work₀ base (b .words) index;
     good = b .good;
     going = refl;
     has = sym (room-same work strs s (b .good));
@@ -81,7 +102,7 @@ module _ {t d : List ℕ} {q : Places} {st : Store} (f : SourceFits t d q st) {w
     };
   })
 
-  pub walk-low : WalkRoom p nodesat (q .nodes .count) (length out) (nodesSize (shownNodes (bookAt t (places t) d))) → p .segmentsat + 37 * (0 + nodesAdd t st (q .nodes .at) (q .nodes .count) .segments) ≤ nodesat
+  pub walk-low : WalkRoom p nodesat (q .nodes .count) (length out) (sourceAdds t d) → p .segmentsat + 37 * (0 + nodesAdd t st (q .nodes .at) (q .nodes .count) .segments) ≤ nodesat
   walk-low w = rw (source-adds f) (omega (arith, w .segments))
 
   same-layer : layerFrom p work strs (freshMark s) ≡ newLayer (offsetsOf p)
@@ -118,3 +139,12 @@ module _ {t d : List ℕ} {q : Places} {st : Store} (f : SourceFits t d q st) {w
     pub walk-told : NodesTold p (freshMark s) nodesat out work strs out′ work′ strs′ r (refsFrom p work strs (freshMark s) (shownOf t d (recordsAt nodeCodec t (q .nodes .at) (q .nodes .count))))
         → Walked p base nodesat out strs out′ work′ strs′ r (graftedInto t d (offsetsOf p))
     walk-told k = from-here (rw same-graft at k)
+
+-- by the plan of a layer from `at` on
+pub walked-by : (t d : List ℕ) (o : Offsets) (at contents : ℕ) {p : Plan} {base nodesat : ℕ} {out strs out′ work′ strs′ : List ℕ} {r : Mark} → p ≡ planOf o at contents
+    → Walked p base nodesat out strs out′ work′ strs′ r (graftedInto t d (offsetsOf p)) → Walked (planOf o at contents) base nodesat out strs out′ work′ strs′ r (graftedInto t d o)
+walked-by t d o at contents {base = base} {nodesat = n} {out = out} {strs = strs} {out′ = out′} {work′ = work′} {strs′ = strs′} {r = r} e w =
+    subst (λ (q : Plan). Walked q base n out strs out′ work′ strs′ r (graftedInto t d (offsetsOf q))) e w
+
+pub source-sizes : {t d : List ℕ} {q : Places} {st : Store} → SourceFits t d q st → (o : Offsets) → LayerSizes (graftedInto t d o) (sourceAdds t d) (q .nodes .count)
+source-sizes {t} {d} {q} f o = layer-sizes t d o (book-lengths t d q (f .accepted .framing) (f .is) .nodes)

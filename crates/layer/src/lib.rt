@@ -8,11 +8,17 @@ ghost use mathlib.Core.List.{_∷_, _++_};
 ghost use Prim.Native.Nat.{ℕ, _+_, _-_, _*_, _^_, _≤_, _<_};
 ghost use lib.Dec.{leb};
 ghost use lib.ListN.{length, getD, take, drop};
-ghost use Rattle.model.specs.Limits.{maxPool, maxNewStrings};
+ghost use Rattle.model.specs.Limits.{maxPool, maxList, maxNewStrings, minWorkWords};
 ghost use Rattle.model.specs.Tape.{recordBytes, recordsBytes, stringCodec};
 ghost use Rattle.wire.specs.Overwrite.{overwrite};
 ghost use Rattle.layer.specs.Lengths.{newLength, newLengths, Rising};
-ghost use Rattle.layer.specs.Layered.{roomLeft, layerBy, planOf};
+ghost use Rattle.strings.specs.Starts.{lengthsIn, Readable};
+ghost use Rattle.strings.specs.Index.{Indexed};
+ghost use Rattle.graft.specs.Walk.{indexWords};
+ghost use Rattle.layer.specs.Source.{SourceFits};
+ghost use Rattle.layer.specs.Layered.{OffsetsFit, roomLeft, layerBy, planOf, sourceAdds, graftedInto};
+ghost use Rattle.layer.specs.Walked.{offsetsOf, WalkRoom, Walked};
+ghost use Rattle.layer.specs.Answers.{Finished, Exact, LayerTold};
 
 const MAX_POOL: usize = 1048575;
 
@@ -98,7 +104,7 @@ fn lay_out(out: &mut [u8], work: &[u32], at: usize, n: usize, count: usize)
 
 // Number 3. How many contents and segments may still be added.
 fn room_left(o: Offsets) -> sizes::Room
-    requires { ⌜ (o .contents ≤ maxPool) × (o .segments ≤ maxPool) ⌝ }
+    requires { ⌜ OffsetsFit o ⌝ }
     ensures { λ r. ⌜ r ≡ roomLeft o ⌝ }
 {
     sizes::Room {
@@ -112,6 +118,14 @@ fn layer_length(contents: u32, segments: u32) -> usize
     ensures { λ r. ⌜ r ≡ 1 + 10 * contents + 37 * segments ⌝ }
 {
     1 + 10 * (contents as usize) + 37 * (segments as usize)
+}
+
+// The bytes of the source's nodes.
+fn nodes_length(p: places::Places) -> usize
+    requires { ⌜ p .nodes .count ≤ maxList ⌝ }
+    ensures { λ r. ⌜ r ≡ 49 * p .nodes .count ⌝ }
+{
+    49 * p.nodes.count
 }
 
 // Number 18. Whether so many strings have room in their pool, and their records in `left` bytes.
@@ -182,4 +196,130 @@ fn plan_of(o: Offsets, at: usize, contents: u32) -> graft::Plan
         contentsat: at + 1,
         segmentsat: at + 1 + 10 * (contents as usize),
     }
+}
+
+// ---- the walk
+
+// An index of the source's strings, in the work words that the interner leaves free.
+fn index_words(tape: &[u8], st: store::Store, room: usize, work: &mut [u32])
+    requires { ⌜ Readable (now tape) st room ⌝ }
+    requires { ⌜ minWorkWords ≤ length (now work) ⌝ }
+    ensures { λ _. ⌜ Indexed (lengthsIn (now (tape .entry))) (indexWords (now (work .exit))) ⌝ }
+{
+    strings::index_strings(tape, st, room, &mut work[11776..16384]);
+}
+
+// Section 5. The source's nodes, grafted into a layer that has nothing yet.
+fn walk(
+    tape: &[u8],
+    bytes: &[u8],
+    p: places::Places,
+    st: store::Store,
+    out: &mut [u8],
+    work: &mut [u32],
+    strs: &mut [u8],
+    plan: graft::Plan,
+    base: usize,
+    nodesat: usize,
+) -> graft::Mark
+    requires { ⌜ SourceFits (now tape) (now bytes) p st ⌝ }
+    requires { ⌜ WalkRoom plan nodesat (p .nodes .count) (length (now out)) (sourceAdds (now tape) (now bytes)) ⌝ }
+    requires { ⌜ (minWorkWords ≤ length (now work)) × (base ≤ length (now strs)) × (length (now strs) < 2 ^ 32) ⌝ }
+    ensures { λ r. ⌜ Walked plan base nodesat (now (out .entry)) (now (strs .entry)) (now (out .exit)) (now (work .exit)) (now (strs .exit)) r (graftedInto (now (tape .entry)) (now (bytes .entry)) (offsetsOf plan)) ⌝ }
+{
+    index_words(tape, st, bytes.len(), work);
+    let state = interner::fresh(work, strs, base);
+    let m = graft::Mark {
+        ok: true,
+        contents: 0,
+        segments: 0,
+        state: state,
+    };
+    graft::graft_nodes(
+        tape,
+        bytes,
+        st,
+        out,
+        work,
+        strs,
+        plan,
+        m,
+        p.nodes.at,
+        p.nodes.count,
+        nodesat,
+    )
+}
+
+// ---- the layer
+
+// The strings of a walk that wrote `len` bytes of a layer and `rest` of nodes.
+fn finish(out: &mut [u8], work: &[u32], below: u32, at: usize, len: usize, rest: usize, m: graft::Mark) -> Layer
+    requires { ⌜ Rising (now work) (m .state .count) ⌝ }
+    requires { ⌜ (below ≤ maxPool) × (m .state .count ≤ maxNewStrings) × (1 ≤ len) × (at + len + rest ≤ length (now out)) ⌝ }
+    ensures { λ r. ⌜ Finished (now (work .entry)) below at len rest m (now (out .entry)) (now (out .exit)) r ⌝ }
+{
+    let state = m.state;
+    let count = state.count;
+    if !strings_fit(below, count, out.len() - at - len - rest) {
+        return refused();
+    }
+    lay_out(out, work, at, len - 1 + rest, count);
+    layer_of(m, len + 5 * count)
+}
+
+// `graft_layer` where the sizes are known.
+fn graft_sized(
+    tape: &[u8],
+    bytes: &[u8],
+    p: places::Places,
+    st: store::Store,
+    out: &mut [u8],
+    work: &mut [u32],
+    strs: &mut [u8],
+    o: Offsets,
+    at: usize,
+    base: usize,
+    s: sizes::Sizes,
+) -> Layer
+    requires { ⌜ SourceFits (now tape) (now bytes) p st × OffsetsFit o × Exact (roomLeft o) (sourceAdds (now tape) (now bytes)) s ⌝ }
+    requires { ⌜ (minWorkWords ≤ length (now work)) × (base ≤ length (now strs)) × (length (now strs) < 2 ^ 32) × (at ≤ length (now out)) ⌝ }
+    ensures { λ r. ⌜ LayerTold (now (out .entry)) (now (strs .entry)) (now (out .exit)) (now (strs .exit)) at base o r (graftedInto (now (tape .entry)) (now (bytes .entry)) o) ⌝ }
+{
+    let len = layer_length(s.contents, s.segments);
+    let rest = nodes_length(p);
+    if out.len() - at < len + rest {
+        return refused();
+    }
+    let plan = plan_of(o, at, s.contents);
+    let m = walk(tape, bytes, p, st, out, work, strs, plan, base, at + len);
+    if !m.ok {
+        return refused();
+    }
+    finish(out, work, o.strings, at, len, rest, m)
+}
+
+// Sections 3 and 5. The nodes of a source that passed 1 to 7, grafted into one new layer above layers of these counts: the layer's
+// records from `at` on in `out`, the nodes' behind them, the strings' bytes from `base` on in `strs`. Not ok where number 18, or
+// number 3 of a pool, forbids it.
+pub fn graft_layer(
+    tape: &[u8],
+    bytes: &[u8],
+    p: places::Places,
+    st: store::Store,
+    out: &mut [u8],
+    work: &mut [u32],
+    strs: &mut [u8],
+    o: Offsets,
+    at: usize,
+    base: usize,
+) -> Layer
+    requires { ⌜ SourceFits (now tape) (now bytes) p st × OffsetsFit o ⌝ }
+    requires { ⌜ (minWorkWords ≤ length (now work)) × (base ≤ length (now strs)) × (length (now strs) < 2 ^ 32) × (at ≤ length (now out)) ⌝ }
+    ensures { λ r. ⌜ LayerTold (now (out .entry)) (now (strs .entry)) (now (out .exit)) (now (strs .exit)) at base o r (graftedInto (now (tape .entry)) (now (bytes .entry)) o) ⌝ }
+{
+    let s = sizes::reading_sizes(tape, st, p, room_left(o));
+    if s.over {
+        return refused();
+    }
+    graft_sized(tape, bytes, p, st, out, work, strs, o, at, base, s)
 }
