@@ -3,9 +3,9 @@ use mathlib.Core.Path.{_≡_, refl, sym, ap, _∙_}
 use Prim.Native.Nat.{ℕ, zero, suc, _+_, _*_, _≤_, _<_}
 use native.Mathlib.Omega.{arith}
 use native.Mathlib.Nat.{mul-zero, add-zero, mul-suc, mul-le-mul-left}
-use mathlib.Core.Bool.{Bool, true, false, cond}
+use mathlib.Core.Bool.{Bool, cond}
 use mathlib.Core.List.{List, [], _∷_, _++_, map}
-use lib.ListN.{length, length-append}
+use lib.ListN.{length, length-append, length-map}
 use Rattle.model.specs.Lists.{keep, tabulate}
 use Rattle.model.specs.Bytes.{wordAt}
 use Rattle.model.specs.Tape.{Codec, recordSize, recordAt, recordsAt}
@@ -73,25 +73,18 @@ tabulate-map : {A : Type 0} (f : ℕ → A) (n : ℕ) (g : ℕ → ℕ) → tabu
 tabulate-map f zero g = refl
 tabulate-map {A} f (suc n) g = ap (λ (l : List A). f (g 0) ∷ l) (tabulate-map f n (λ i. g (suc i)))
 
-length-map : {A B : Type 0} (f : A → B) (l : List A) → length (map f l) ≡ length l
-length-map f [] = refl
-length-map f (x ∷ l) = ap suc (length-map f l)
-
 module _ {A : Type 0} (c : Codec A) (l : Located A) (w : MergeWindow) (p : Part) (t : List ℕ) where
   pub part-count : (f : ℕ → Bool) → ((q : ℕ) → isIn l w p (recordAt c t q) ≡ f q) → (z : ℕ) → recordSize c ≡ z → (at n : ℕ)
       → length (keep f (placesFrom at z n)) ≡ length (partOf l w p (recordsAt c t at n))
   unfolding partOf recordsAt placesFrom
   part-count f e z s at n =
       let ps = tabulate n (λ i. at + z * i) in
-      sym (length-map (asIn l w p) (keep (isIn l w p) (recordsAt c t at n))
+      sym (length-map (keep (isIn l w p) (recordsAt c t at n)) (asIn l w p)
       ∙ ap (λ (k : ℕ). length (keep (isIn l w p) (tabulate n (λ i. recordAt c t (at + k * i))))) s
       ∙ ap (λ (x : List A). length (keep (isIn l w p) x)) (tabulate-map (recordAt c t) n (λ i. at + z * i))
       ∙ ap length (keep-map (isIn l w p) (recordAt c t) ps)
-      ∙ length-map (recordAt c t) (keep (λ q. isIn l w p (recordAt c t q)) ps)
+      ∙ length-map (keep (λ q. isIn l w p (recordAt c t q)) ps) (recordAt c t)
       ∙ ap (λ (g : ℕ → Bool). length (keep g ps)) (λ j q. e q j))
-
-pub moved-count : {A B : Type 0} (f : A → B) (xs : List A) → length (map f xs) ≡ length xs
-moved-count f xs = length-map f xs
 
 -- ---- room for a part
 
@@ -100,8 +93,8 @@ module _ {A : Type 0} (l : Located A) (w : MergeWindow) (xs : List A) (to z n : 
   before-room h = rw (part-before l w xs) h
 
   pub behind-room : to + z * length (keptBehind l w xs) ≤ n → to + z * length (partOf l w Behind xs) ≤ n
-  behind-room h = rw (part-behind l w xs, length-map (l .moved w) (keptBehind l w xs)) h
+  behind-room h = rw (part-behind l w xs, length-map (keptBehind l w xs) (l .moved w)) h
 
 pub reading-room : {A : Type 0} (c : Codec A) (l : Located A) (w : MergeWindow) (t : List ℕ) (at count to z n : ℕ)
     → to + z * count ≤ n → to + z * length (partOf l w Reading (recordsAt c t at count)) ≤ n
-reading-room c l w t at count to z n h = rw (part-reading l w (recordsAt c t at count), length-map (l .placed w) (recordsAt c t at count), run-length c t at count) h
+reading-room c l w t at count to z n h = rw (part-reading l w (recordsAt c t at count), length-map (recordsAt c t at count) (l .placed w), run-length c t at count) h

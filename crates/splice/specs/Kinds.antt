@@ -1,14 +1,13 @@
 -- The four kinds: their sizes, and where their starts and ends stand.
-use mathlib.Core.Path.{_≡_, refl, sym, ap, _∙_}
-use Prim.Native.Nat.{ℕ, suc, _+_}
-use native.Mathlib.Omega.{arith}
+use mathlib.Core.Path.{_≡_, refl}
+use Prim.Native.Nat.{ℕ}
 use native.Mathlib.Nat.{add-zero}
 use native.Mathlib.Numerals.{add-one}
 use mathlib.Core.List.{List}
 use lib.ListN.{length}
-use Rattle.model.specs.Bytes.{wordAt, wordBytes}
-use Rattle.model.specs.Tape.{recordSize, recordAt, operandsAt, recordBytes, operandBytes, nodeCodec, pairCodec, containerCodec, diagnosticCodec}
-use Rattle.model.specs.Merge.{MergeWindow, nodeLocated, pairLocated, containerLocated, diagnosticLocated, shiftedPair, shiftedDiagnostic}
+use Rattle.model.specs.Bytes.{wordBytes}
+use Rattle.model.specs.Tape.{recordAt, operandsAt, recordBytes, operandBytes, nodeCodec, pairCodec, containerCodec, diagnosticCodec}
+use Rattle.model.specs.Merge.{MergeWindow, nodeLocated, pairLocated, containerLocated, diagnosticLocated}
 use Rattle.splice.specs.Parts.{Kind, isIn, asIn}
 use Rattle.splice.specs.Counted.{rowIn}
 use Rattle.splice.specs.declared.Part.{Part}

@@ -3,3 +3,4 @@ pub mod Parts
 pub mod Counted
 pub mod Kinds
 pub mod Written
+pub mod Spliced

@@ -3,7 +3,7 @@ use mathlib.Core.Path.{_≡_, refl, sym, ap, _∙_}
 use Prim.Native.Nat.{ℕ, zero, suc, _+_, _*_, _≤_, _<_}
 use native.Mathlib.Omega.{arith}
 use native.Mathlib.Nat.{mul-zero, mul-one, mul-add, mul-suc, mul-le-mul-left}
-use mathlib.Core.Bool.{Bool, true, false, cond}
+use mathlib.Core.Bool.{Bool, true, false}
 use mathlib.Core.List.{List, [], _∷_, _++_, append-nil, map, flatten}
 use lib.ListN.{length, length-append}
 use lib.Dec.{leb}
@@ -125,7 +125,7 @@ module _ {A : Type 0} {c : Codec A} {l : Located A} {z : ℕ} (k : Kind c l z) (
       (λ h. ap length (sym (item-kept c l w p (item i) h)) ∙ k .width t (at + recordSize c * i) w p ∙ sym (ap (λ (x : List A). z * length x) (one-kept l w p (item i) h) ∙ mul-one z))
       (λ h. ap length (sym (item-left c l w p (item i) h)) ∙ sym (ap (λ (x : List A). z * length x) (one-left l w p (item i) h) ∙ mul-zero z))
 
-  bytes-long : (i : ℕ) → length (recordsBytes c (items i)) ≡ z * length (items i)
+  pub bytes-long : (i : ℕ) → length (recordsBytes c (items i)) ≡ z * length (items i)
   unfolding recordsAt partOf recordsBytes flatten
   bytes-long zero = sym (mul-zero z)
   bytes-long (suc i) =

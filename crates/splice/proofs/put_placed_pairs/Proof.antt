@@ -1,3 +1,12 @@
+use Rattle.wire.specs.Overwrite.{overwrite}
+use Rattle.splice.specs.Counted.{reading-room}
+use Rattle.splice.specs.Parts.{part-reading}
+use Rattle.model.specs.Types.{PairLink}
+use Rattle.model.specs.Merge.{pairLocated}
+use Rattle.model.specs.Tape.{recordsAt, recordsBytes, pairCodec}
+use Rattle.splice.specs.Window.{windowValue}
+use mathlib.Core.Path.{ap, _∙_}
+use mathlib.Core.List.{List}
 use borrow.Author.Needs.{needs}
 use Rattle.splice.proofs.put_placed_pairs.Statement.{statement}
 use Rattle.splice.proofs.put_placed_pairs.Tie as tie
@@ -7,7 +16,7 @@ use Rattle.splice.proofs.put_pairs.Reads as put-pairs-reads
 
 -- src/lib.rt:253:5
 put-pairs-requires : tie.Need-put-pairs-requires
-put-pairs-requires c κs = ?
+put-pairs-requires c κs = (c .before .before .before .pre .0, reading-room pairCodec pairLocated (windowValue (c .before .before .before .args .w)) (c .before .before .before .args .tape .now) (c .before .before .before .args .at) (c .before .before .before .args .count) (c .before .before .before .args .to) 18 _ (c .before .before .before .pre .1))
 
 -- src/lib.rt:242:1
 same-length : tie.Need-same-length
@@ -15,7 +24,7 @@ same-length c = search needs
 
 -- src/lib.rt:242:1
 returns : tie.Need-returns
-returns c = ?
+returns c = c .before .before .put-pairs .ensures ∙ ap (λ (x : List PairLink). overwrite (c .before .before .before .before .before .before .args .out .now) (c .before .before .before .before .before .before .args .to) (recordsBytes pairCodec x)) (part-reading pairLocated (windowValue (c .before .before .before .before .before .before .args .w)) (recordsAt pairCodec (c .before .before .before .before .before .before .args .tape .now) (c .before .before .before .before .before .before .args .at) (c .before .before .before .before .before .before .args .count)))
 
 pub put-placed-pairs-spec : {M : Type 1} → statement M
 put-placed-pairs-spec = tie.close (tie.spec put-pairs-requires same-length returns)

@@ -1,0 +1,23 @@
+use Rattle.splice.specs.Parts.{part-behind}
+use Rattle.model.specs.Merge.{keptBehind, containerLocated}
+use Rattle.model.specs.Tape.{recordsAt, containerCodec}
+use Rattle.splice.specs.Window.{windowValue}
+use mathlib.Core.Path.{ap, _∙_}
+use lib.ListN.{length, length-map}
+use borrow.Author.Needs.{needs}
+use Rattle.splice.proofs.kept_behind_containers.Statement.{statement}
+use Rattle.splice.proofs.kept_behind_containers.Tie as tie
+use Rattle.splice.proofs.kept_behind_containers.Reads as reads
+use Rattle.splice.proofs.kept_behind_containers.Lts as lts
+use Rattle.splice.proofs.count_containers.Reads as count-containers-reads
+
+-- src/lib.rt:387:5
+count-containers-requires : tie.Need-count-containers-requires
+count-containers-requires c κs = search needs
+
+-- src/lib.rt:383:1
+returns : tie.Need-returns
+returns c = c .count-containers .ensures ∙ ap length (part-behind containerLocated (windowValue (c .before .before .args .w)) (recordsAt containerCodec (c .before .before .args .tape .now) (c .before .before .args .at) (c .before .before .args .count))) ∙ length-map (keptBehind containerLocated (windowValue (c .before .before .args .w)) (recordsAt containerCodec (c .before .before .args .tape .now) (c .before .before .args .at) (c .before .before .args .count))) (containerLocated .moved (windowValue (c .before .before .args .w)))
+
+pub kept-behind-containers-spec : {M : Type 1} → statement M
+kept-behind-containers-spec = tie.close (tie.spec count-containers-requires returns)

@@ -1,0 +1,20 @@
+use Rattle.splice.specs.Kinds.{node-in}
+use Rattle.splice.specs.Window.{windowValue}
+use mathlib.Core.Path.{sym, _∙_}
+use borrow.Author.Needs.{needs}
+use Rattle.splice_nodes.proofs.node_in.Statement.{statement}
+use Rattle.splice_nodes.proofs.node_in.Tie as tie
+use Rattle.splice_nodes.proofs.node_in.Reads as reads
+use Rattle.splice_nodes.proofs.node_in.Lts as lts
+use Rattle.splice.proofs.row_in.Reads as row-in-reads
+
+-- src/lib.rt:20:5
+row-in-requires : tie.Need-row-in-requires
+row-in-requires c κs = search needs
+
+-- src/lib.rt:16:1
+returns : tie.Need-returns
+returns c = c .row-in .ensures ∙ sym (node-in (windowValue (c .before .before .args .w)) (c .before .before .args .part) (c .before .before .args .tape .now) (c .before .before .args .at))
+
+pub node-in-spec : {M : Type 1} → statement M
+node-in-spec = tie.close (tie.spec row-in-requires returns)
