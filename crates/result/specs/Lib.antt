@@ -9,3 +9,4 @@ pub mod Lists
 pub mod Grafting
 pub mod Whole
 pub mod Stages
+pub mod Merging

@@ -3,15 +3,14 @@ use mathlib.Core.Path.{_≡_, refl, sym, ap, ap₂, _∙_}
 use Prim.Native.Nat.{ℕ, suc, _+_, _-_, _*_, _≤_, _<_}
 use native.Mathlib.Omega.{arith}
 use mathlib.Core.Bool.{Bool, true, false, cond, _&&_, and-false}
-use mathlib.Core.List.{List, [], _∷_, _++_, map}
-use lib.ListN.{length, length-append, length-map}
+use mathlib.Core.List.{List, [], _∷_}
+use lib.ListN.{length}
 use lib.Dec.{leb}
 use borrow.Author.Tests.{leb-true, le-leb, lt-leb}
 use Rattle.model.specs.Lists.{keep}
 use Rattle.model.specs.Limits.{maxText, maxList, minWorkWords}
-use Rattle.model.specs.Types.{SourceNode, PairLink, ContainerPair, Diagnostic}
 use Rattle.model.specs.Tape.{recordsAt, nodeCodec, pairCodec, containerCodec, diagnosticCodec}
-use Rattle.model.specs.Merge.{MergeWindow, Located, keptBefore, keptBehind, spliced, nodeLocated, pairLocated, containerLocated, diagnosticLocated, insertDiagnostic, sortDiagnostics, notBehind}
+use Rattle.model.specs.Merge.{MergeWindow, Located, keptBefore, keptBehind, nodeLocated, pairLocated, containerLocated, diagnosticLocated}
 use Rattle.laws.specs.Lists.{both}
 use Rattle.laws.specs.Located.{isBefore, isBehind}
 use Rattle.places.specs.declared.Places.{Places}
@@ -82,15 +81,6 @@ module _ {A : Type 0} where
       go m true = omega (arith, m)
       go m false = omega (arith, m)
 
-  pub length-spliced : (l : Located A) (w : MergeWindow) (old reading : List A) → length (spliced l w old reading) ≡ totalOf (sidesOf l w old) (length reading)
-  unfolding spliced
-  length-spliced l w old reading =
-      let a = length-append (keptBefore l w old) (map (l .placed w) reading ++ map (l .moved w) (keptBehind l w old)) in
-      let b = length-append (map (l .placed w) reading) (map (l .moved w) (keptBehind l w old)) in
-      let c = length-map reading (l .placed w) in
-      let d = length-map (keptBehind l w old) (l .moved w) in
-      omega (arith, a, b, c, d)
-
   pub few-kept : (l : Located A) (w : MergeWindow) (old : List A) {reading : ℕ} → length old ≤ maxList → reading ≤ maxList → Few (sidesOf l w old) reading
   unfolding keptBefore keptBehind
   few-kept l w old h k = record {
@@ -98,20 +88,6 @@ module _ {A : Type 0} where
     reading = k;
     behind = let m = keep-few (isBehind l w) old in omega (arith, m, h);
   }
-
-length-insert : (x : Diagnostic) (l : List Diagnostic) → length (insertDiagnostic x l) ≡ suc (length l)
-unfolding insertDiagnostic
-length-insert x [] = refl
-length-insert x (e ∷ es) = go (length-insert x es) (notBehind x e)
-  where
-    go : length (insertDiagnostic x es) ≡ suc (length es) → (b : Bool) → length (cond b (x ∷ e ∷ es) (e ∷ insertDiagnostic x es)) ≡ suc (suc (length es))
-    go m true = refl
-    go m false = ap suc m
-
-pub length-sort : (ds : List Diagnostic) → length (sortDiagnostics ds) ≡ length ds
-unfolding sortDiagnostics
-length-sort [] = refl
-length-sort (d ∷ ds) = length-insert d (sortDiagnostics ds) ∙ ap suc (length-sort ds)
 
 -- ---- the tests, one by one
 

@@ -6,7 +6,7 @@ use native.Mathlib.Nat.{sub-zero, zero-add}
 use mathlib.Core.Bool.{Bool, true, false, true≢false}
 use mathlib.Core.List.{List, [], _∷_, _++_, append-assoc, append-nil, flatten}
 use lib.ListN.{length, take, drop, length-append, length-drop}
-use lib.Seq.{take-all}
+use lib.Seq.{take-all, length-take-le}
 use Rattle.model.specs.Lists.{all, isEmpty}
 use Rattle.model.specs.Bytes.{part}
 use Rattle.model.specs.Limits.{maxText, minWorkWords}
@@ -59,6 +59,21 @@ texts-sliced p q start end replacement from to d rd out text first first′ a b 
     let k : first ≡ p .text + p .normalized = omega (arith, a, b) in
     let v : take (length d - first) (drop first d) ≡ drop (p .text + p .normalized) d = take-all (length d - first) (drop first d) (let l = length-drop first d in omega (arith, l)) ∙ ap (λ (i : ℕ). drop i d) k in
     e ∙ ap (overwrite out 0) (ap₂ (λ (i j : List ℕ). i ++ j) (ap₂ (λ (i j : List ℕ). i ++ j) (ap (splice start end replacement) x) (ap₂ (splice from to) y z)) v)
+
+-- what `put_texts` asks of them
+pub texts-asked : (p q : Places) (start end : ℕ) (replacement : List ℕ) (from to : ℕ) (d rd : List ℕ) (out : ℕ) → (start ≤ end) × (end ≤ p .text) × (from ≤ to) × (to ≤ p .normalized)
+    → p .text + p .normalized ≤ length d → q .text + q .normalized ≤ length rd → lengthsOf p q start end (length replacement) from to (length d) .base ≤ out
+    → ((start ≤ end) × (end ≤ length (take (p .text - 0) d)) × (from ≤ to) × (to ≤ length (take (p .text + p .normalized - p .text) (drop (p .text) d))))
+    × (start + length replacement + (length (take (p .text - 0) d) - end) + (from + length (take (q .text + q .normalized - q .text) (drop (q .text) rd)) + (length (take (p .text + p .normalized - p .text) (drop (p .text) d)) - to))
+    + length (take (length d - (p .text + p .normalized)) (drop (p .text + p .normalized) d)) ≤ out)
+texts-asked p q start end replacement from to d rd out h a b c =
+    let n₁ : length (take (p .text - 0) d) ≡ p .text = length-take-le (p .text - 0) d (omega (arith, a)) ∙ sub-zero (p .text) in
+    let m₂ : p .text + p .normalized - p .text ≡ p .normalized = omega arith in
+    let n₂ : length (take (p .text + p .normalized - p .text) (drop (p .text) d)) ≡ p .normalized = length-take-le (p .text + p .normalized - p .text) (drop (p .text) d) (rw length-drop (omega (arith, a))) ∙ m₂ in
+    let m₃ : q .text + q .normalized - q .text ≡ q .normalized = omega arith in
+    let n₃ : length (take (q .text + q .normalized - q .text) (drop (q .text) rd)) ≡ q .normalized = length-take-le (q .text + q .normalized - q .text) (drop (q .text) rd) (rw length-drop (omega (arith, b))) ∙ m₃ in
+    let n₄ : length (take (length d - (p .text + p .normalized)) (drop (p .text + p .normalized) d)) ≡ length d - (p .text + p .normalized) = length-take-le (length d - (p .text + p .normalized)) (drop (p .text + p .normalized) d) (rw length-drop (omega arith)) in
+    rw (n₁, n₂, n₃, n₄) (h, c)
 
 -- ---- the store: texts, head, old layers and the new layer
 

@@ -34,6 +34,8 @@ use Rattle.places.specs.declared.Places.{Places}
 use Rattle.places.specs.Found.{found}
 use Rattle.store.specs.declared.Store.{Store}
 use Rattle.store.specs.Stored.{storeAt}
+use Rattle.splice.specs.Spliced.{spliced-length, records-stand}
+use Rattle.diagnostics.specs.Sorted.{sort-length}
 use Rattle.layer.specs.declared.Offsets.{Offsets}
 use Rattle.layer.specs.Layered.{Above, layerOk, layerRecords, LayerFits, layer-fits, layer-ok}
 use Rattle.layer.specs.Moved.{overwrite-covered, overwrite-part}
@@ -43,9 +45,9 @@ use Rattle.result.specs.declared.Graft.{Graft}
 use Rattle.result.specs.Answer.{roomOf}
 use Rattle.result.specs.Checked.{resultChecked, merge-passed, ResultFacts, result-facts, result-ok}
 use Rattle.result.specs.Parts.{headBytes, oldLayerBytes, oldStringBytes, newLayerBytes, newStringBytes, ifLayer, listBytes, tape-parts, list-length, head-length, merged-layers, merged-count, merged-number, old-layers-length, old-strings}
-use Rattle.result.specs.Widths.{sixWords, nodes-width, nodes-six, grafted-six, length-grafted, spliced-six, run-there}
+use Rattle.result.specs.Widths.{sixWords, nodes-width, nodes-six, grafted-six, length-grafted, spliced-six}
 use Rattle.result.specs.Books.{Books, bookIn, mergeOf, chosen, begun, old-fits, reading-fits, lengths-old, lengths-read, limits-old, limits-read, inside, text-length, normalized-length, new-bytes}
-use Rattle.result.specs.Sizes.{sidesOf, keptOf, totalOf, lengthsOf, Small, listsEnd, RoomFor, length-spliced, length-sort, few-kept}
+use Rattle.result.specs.Sizes.{sidesOf, keptOf, totalOf, lengthsOf, Small, listsEnd, RoomFor, few-kept}
 use Rattle.result.specs.Lists.{listsOf, oldDiagnostics}
 use Rattle.result.specs.Grafting.{graftOk, offsetsOf}
 
@@ -175,26 +177,26 @@ module _ {t d : List ℕ} {p : Places} {st : Store} {e : Edit} {w : MergeWindow}
     unfolding mergedBook keptOf
     nodes-length =
         let m = lengths-read b in
-        rw (kept, kept-nodes) (length-spliced nodeLocated w (old .sourceNodes) (g .0) ∙ ap (totalOf (sidesOf nodeLocated w (old .sourceNodes))) (length-grafted old read ∙ m .nodes))
+        rw (kept, kept-nodes) (spliced-length nodeCodec nodeLocated w (old .sourceNodes) (g .0) ∙ ap (totalOf (sidesOf nodeLocated w (old .sourceNodes))) (length-grafted old read ∙ m .nodes))
 
     pub pairs-length : length (new .pairs) ≡ totalOf (k .pairs) (q .pairs .count)
     unfolding mergedBook keptOf
     pairs-length =
         let m = lengths-read b in
-        rw (kept, kept-pairs) (length-spliced pairLocated w (old .pairs) (read .pairs) ∙ ap (totalOf (sidesOf pairLocated w (old .pairs))) (m .pairs))
+        rw (kept, kept-pairs) (spliced-length pairCodec pairLocated w (old .pairs) (read .pairs) ∙ ap (totalOf (sidesOf pairLocated w (old .pairs))) (m .pairs))
 
     pub containers-length : length (new .containerPairs) ≡ totalOf (k .containers) (q .containers .count)
     unfolding mergedBook keptOf
     containers-length =
         let m = lengths-read b in
-        rw (kept, kept-containers) (length-spliced containerLocated w (old .containerPairs) (read .containerPairs) ∙ ap (totalOf (sidesOf containerLocated w (old .containerPairs))) (m .containers))
+        rw (kept, kept-containers) (spliced-length containerCodec containerLocated w (old .containerPairs) (read .containerPairs) ∙ ap (totalOf (sidesOf containerLocated w (old .containerPairs))) (m .containers))
 
     pub diagnostics-length : length (new .diagnostics) ≡ totalOf (k .diagnostics) (q .diagnostics .count)
     unfolding mergedBook keptOf
     diagnostics-length =
         let m = lengths-read b in
         rw (kept, kept-diagnostics)
-        (length-sort (spliced diagnosticLocated w (old .diagnostics) (read .diagnostics)) ∙ length-spliced diagnosticLocated w (old .diagnostics) (read .diagnostics) ∙ ap (totalOf (sidesOf diagnosticLocated w (old .diagnostics))) (m .diagnostics))
+        (sort-length (spliced diagnosticLocated w (old .diagnostics) (read .diagnostics)) ∙ spliced-length diagnosticCodec diagnosticLocated w (old .diagnostics) (read .diagnostics) ∙ ap (totalOf (sidesOf diagnosticLocated w (old .diagnostics))) (m .diagnostics))
 
     -- ---- the tape's length
 
@@ -388,7 +390,7 @@ module _ {t d : List ℕ} {p : Places} {st : Store} {e : Edit} {w : MergeWindow}
             let l : length (take at x) ≡ at = length-take-le at x (omega (arith, up-to-long, here, n, fits)) in
             let s : drop at out₁ ≡ ns ++ drop (at + length ns) x
             = ap (drop at) (wrote ∙ both-parts ∙ append-assoc (take at x) ns (drop (at + length ns) x)) ∙ drop-at (take at x) (ns ++ drop (at + length ns) x) at l in
-            ap (recordsAt nodeCodec out₁ at) (sym (length-grafted old read ∙ m .nodes)) ∙ run-there nodeCodec node-lawful out₁ (g .0) h at (drop (at + length ns) x) s
+            ap (recordsAt nodeCodec out₁ at) (sym (length-grafted old read ∙ m .nodes)) ∙ records-stand nodeCodec node-lawful out₁ (g .0) h at (drop (at + length ns) x) s
 
         pub tape-stands : all (recordFits nodeCodec) (g .0) ≡ true → listsEnd at k q ≤ length out → {out₂ : List ℕ}
             → out₂ ≡ overwrite out₁ at (listsOf w t p rt q (recordsAt nodeCodec out₁ at (q .nodes .count))) → take (length (tapeOf new)) out₂ ≡ tapeOf new

@@ -1,11 +1,11 @@
--- How long the records of the four lists are, and what is read where they stand: 49 bytes a node, whose body has six words, 18 a
+-- How long the records of the four lists are, and records read at another place: 49 bytes a node, whose body has six words, 18 a
 -- pair, 13 a container, 18 a diagnostic.
 use mathlib.Core.Path.{_≡_, refl, sym, ap, ap₂, _∙_}
 use Prim.Native.Nat.{ℕ, zero, suc, _+_, _*_, _≤_, _<_}
 use native.Mathlib.Omega.{arith}
-use native.Mathlib.Nat.{mul-le-mul-left, mul-suc, mul-zero, add-zero, add-comm, add-assoc}
+use native.Mathlib.Nat.{mul-le-mul-left, mul-suc, add-assoc}
 use mathlib.Core.Bool.{Bool, true, false, _&&_}
-use mathlib.Core.List.{List, [], _∷_, _++_, append-assoc, map, flatten}
+use mathlib.Core.List.{List, [], _∷_, _++_, map, flatten}
 use lib.ListN.{length, getD, take, drop, length-append, length-map}
 use lib.Seq.{getD-take, getD-drop}
 use lib.Dec.{eqb}
@@ -20,9 +20,6 @@ use Rattle.model.specs.Graft.{NewLayer, layered, graftNodeRef, graftNodeRefs}
 use Rattle.model.specs.Merge.{MergeWindow, spliced, nodeLocated, grafted}
 use Rattle.laws.specs.Lists.{both, join}
 use Rattle.laws.specs.Located.{spliced-all}
-use Rattle.laws.specs.Words.{Stands, stands-behind}
-use Rattle.laws.specs.Fits.{recordFits}
-use Rattle.laws.specs.Records.{Lawful, record-length, record-stands}
 use Rattle.graft.specs.Widths.{six-words, node-six}
 use Rattle.graft.specs.NodeItems.{length-refs}
 
@@ -113,32 +110,11 @@ pub spliced-six : (w : MergeWindow) (old reading : List SourceNode) → all sixW
 unfolding nodeLocated sixWords
 spliced-six w old reading a b = spliced-all nodeLocated w sixWords sixWords sixWords (λ n o h. o) (λ n o. o) (λ n o h. o) old reading a b
 
--- ---- a run read where it stands, whatever follows it
-
-next-place : {A : Type 0} (c : Codec A) (p i : ℕ) → p + recordSize c * suc i ≡ p + recordSize c + recordSize c * i
-next-place c p i = ap (λ (k : ℕ). p + k) (mul-suc (recordSize c) i ∙ add-comm (recordSize c * i) (recordSize c)) ∙ sym (add-assoc p (recordSize c) (recordSize c * i))
-
-first-place : {A : Type 0} (c : Codec A) (p : ℕ) → p + recordSize c * 0 ≡ p
-first-place c p = ap (λ (k : ℕ). p + k) (mul-zero (recordSize c)) ∙ add-zero p
+-- ---- the same bytes at another place are the same records
 
 tabulate-same : {A : Type 0} (n : ℕ) (f g : ℕ → A) → ((i : ℕ) → i < n → f i ≡ g i) → tabulate n f ≡ tabulate n g
 tabulate-same zero f g e = refl
 tabulate-same (suc n) f g e = ap₂ (λ x xs. x ∷ xs) (e zero (omega arith)) (tabulate-same n (λ i. f (suc i)) (λ i. g (suc i)) (λ i h. e (suc i) (omega (arith, h))))
-
-pub run-there : {A : Type 0} (c : Codec A) → Lawful c → (t : List ℕ) (xs : List A) → all (recordFits c) xs ≡ true → (p : ℕ) (l : List ℕ) → Stands t p (recordsBytes c xs ++ l)
-    → recordsAt c t p (length xs) ≡ xs
-unfolding recordsBytes flatten recordsAt
-run-there c lawful t [] ok p l h = refl
-run-there c lawful t (x ∷ xs) ok p l h =
-    let f = both (recordFits c x) (all (recordFits c) xs) ok in
-    let tail = recordsBytes c xs ++ l in
-    let here : Stands t p (recordBytes c x ++ tail) = h ∙ append-assoc (recordBytes c x) (recordsBytes c xs) l in
-    let more = run-there c lawful t xs (f .1) (p + recordSize c) l (stands-behind t p (recordSize c) (recordBytes c x) tail (record-length c lawful x (f .0)) here) in
-    let first : recordAt c t (p + recordSize c * 0) ≡ x = ap (recordAt c t) (first-place c p) ∙ record-stands c lawful t x (f .0) p tail here in
-    let later = tabulate-same (length xs) (λ i. recordAt c t (p + recordSize c * suc i)) (λ i. recordAt c t (p + recordSize c + recordSize c * i)) (λ i k. ap (recordAt c t) (next-place c p i)) in
-    ap₂ (λ y ys. y ∷ ys) first (later ∙ more)
-
--- ---- the same bytes at another place are the same records
 
 module _ (t t′ : List ℕ) (p p′ n : ℕ) (e : part t p n ≡ part t′ p′ n) where
   byte-moved : (i : ℕ) → i < n → byteAt t (p + i) ≡ byteAt t′ (p′ + i)

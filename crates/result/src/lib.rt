@@ -276,11 +276,35 @@ fn graft_reading(
     requires { ⌜ (minWorkWords ≤ length (now work)) × (base ≤ length (now strs)) × (length (now strs) < 2 ^ 32) × (at ≤ length (now out)) ⌝ }
     ensures { λ r. ⌜ GraftTold (now (out .entry)) (now (strs .entry)) (now (out .exit)) (now (strs .exit)) at base (offsetsOf below) (isEmpty (bookIn (now (tape .entry)) (now (bytes .entry)) .sourceNodes)) r (graftedInto (now (tape .entry)) (now (bytes .entry)) (offsetsOf below)) ⌝ }
 {
+    if p.nodes.count == 0 {
+        return Graft {
+            ok: true,
+            len: 0,
+            bytes: 0,
+            stats: no_counts(),
+        };
+    }
+    let o = layer::Offsets {
+        strings: below.strings,
+        contents: below.contents,
+        segments: below.segments,
+    };
+    let l = layer::graft_layer(tape, bytes, p, st, out, work, strs, o, at, base);
+    if !l.ok {
+        return Graft {
+            ok: false,
+            len: 0,
+            bytes: 0,
+            stats: no_counts(),
+        };
+    }
+    let state = l.state;
+    let stats = state.stats;
     Graft {
         ok: true,
-        len: 0,
-        bytes: 0,
-        stats: no_counts(),
+        len: l.len,
+        bytes: state.used - base,
+        stats: stats,
     }
 }
 
@@ -333,12 +357,23 @@ fn kept_in(tape: &[u8], p: places::Places, w: splice::Window) -> Kept
     requires { ⌜ PlacesFit (now tape) p ⌝ }
     ensures { λ r. ⌜ r ≡ keptOf (windowValue w) (now (tape .entry)) p ⌝ }
 {
-    let s = Sides { before: 0, behind: 0 };
     Kept {
-        nodes: s,
-        pairs: s,
-        containers: s,
-        diagnostics: s,
+        nodes: Sides {
+            before: splice_nodes::kept_before_nodes(tape, p.nodes.at, p.nodes.count, w),
+            behind: splice_nodes::kept_behind_nodes(tape, p.nodes.at, p.nodes.count, w),
+        },
+        pairs: Sides {
+            before: splice::kept_before_pairs(tape, p.pairs.at, p.pairs.count, w),
+            behind: splice::kept_behind_pairs(tape, p.pairs.at, p.pairs.count, w),
+        },
+        containers: Sides {
+            before: splice::kept_before_containers(tape, p.containers.at, p.containers.count, w),
+            behind: splice::kept_behind_containers(tape, p.containers.at, p.containers.count, w),
+        },
+        diagnostics: Sides {
+            before: splice::kept_before_diagnostics(tape, p.diagnostics.at, p.diagnostics.count, w),
+            behind: splice::kept_behind_diagnostics(tape, p.diagnostics.at, p.diagnostics.count, w),
+        },
     }
 }
 
@@ -357,6 +392,10 @@ fn put_nodes(
     requires { ⌜ to + 49 * totalOf (sidesOf nodeLocated (windowValue w) (recordsAt nodeCodec (now tape) (run .at) (run .count))) reading ≤ length (now out) ⌝ }
     ensures { λ _. ⌜ now (out .exit) ≡ overwrite (now (out .entry)) to (nodeBytes (windowValue w) (recordsAt nodeCodec (now (tape .entry)) (run .at) (run .count)) (recordsAt nodeCodec (now (out .entry)) to reading)) ⌝ }
 {
+    layer::move_up(out, to, 49 * reading, 49 * before);
+    splice_nodes::put_before_nodes(tape, run.at, run.count, w, out, to);
+    splice_nodes::place_nodes(out, to + 49 * before, reading, w);
+    splice_nodes::put_behind_nodes(tape, run.at, run.count, w, out, to + 49 * before + 49 * reading);
 }
 
 // `merge_pairs`
@@ -375,6 +414,9 @@ fn put_pairs(
     requires { ⌜ to + 18 * totalOf (sidesOf pairLocated (windowValue w) (recordsAt pairCodec (now tape) (run .at) (run .count))) (reading .count) ≤ length (now out) ⌝ }
     ensures { λ _. ⌜ now (out .exit) ≡ overwrite (now (out .entry)) to (pairBytes (windowValue w) (recordsAt pairCodec (now (tape .entry)) (run .at) (run .count)) (recordsAt pairCodec (now (readingtape .entry)) (reading .at) (reading .count))) ⌝ }
 {
+    splice::put_before_pairs(tape, run.at, run.count, w, out, to);
+    splice::put_placed_pairs(readingtape, reading.at, reading.count, w, out, to + 18 * before);
+    splice::put_behind_pairs(tape, run.at, run.count, w, out, to + 18 * before + 18 * reading.count);
 }
 
 // `merge_container_pairs`
@@ -393,9 +435,12 @@ fn put_containers(
     requires { ⌜ to + 13 * totalOf (sidesOf containerLocated (windowValue w) (recordsAt containerCodec (now tape) (run .at) (run .count))) (reading .count) ≤ length (now out) ⌝ }
     ensures { λ _. ⌜ now (out .exit) ≡ overwrite (now (out .entry)) to (containerBytes (windowValue w) (recordsAt containerCodec (now (tape .entry)) (run .at) (run .count)) (recordsAt containerCodec (now (readingtape .entry)) (reading .at) (reading .count))) ⌝ }
 {
+    splice::put_before_containers(tape, run.at, run.count, w, out, to);
+    splice::put_placed_containers(readingtape, reading.at, reading.count, w, out, to + 13 * before);
+    splice::put_behind_containers(tape, run.at, run.count, w, out, to + 13 * before + 13 * reading.count);
 }
 
-// `merge_diagnostics`, with the reading's `count` of them in all.
+// `merge_diagnostics`: `all` of them, sorted where they stand.
 fn put_diagnostics(
     tape: &[u8],
     run: places::Run,
@@ -413,6 +458,10 @@ fn put_diagnostics(
     requires { ⌜ allOf (recordFits diagnosticCodec) (spliced diagnosticLocated (windowValue w) (recordsAt diagnosticCodec (now tape) (run .at) (run .count)) (recordsAt diagnosticCodec (now readingtape) (reading .at) (reading .count))) ≡ true ⌝ }
     ensures { λ _. ⌜ now (out .exit) ≡ overwrite (now (out .entry)) to (diagnosticBytes (windowValue w) (recordsAt diagnosticCodec (now (tape .entry)) (run .at) (run .count)) (recordsAt diagnosticCodec (now (readingtape .entry)) (reading .at) (reading .count))) ⌝ }
 {
+    splice::put_before_diagnostics(tape, run.at, run.count, w, out, to);
+    splice::put_placed_diagnostics(readingtape, reading.at, reading.count, w, out, to + 18 * before);
+    splice::put_behind_diagnostics(tape, run.at, run.count, w, out, to + 18 * before + 18 * reading.count);
+    diagnostics::sort_diagnostics(out, to, all);
 }
 
 // The four lists from `at` on, where the grafted nodes stand, and command 10.

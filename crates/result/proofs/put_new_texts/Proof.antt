@@ -1,3 +1,9 @@
+use Rattle.result.specs.Stages.{texts-sliced, texts-asked}
+use mathlib.Core.Path.{_≡_, refl, sym, ap, _∙_}
+use mathlib.Core.List.{List, [], _∷_, _++_}
+use Prim.Native.Nat.{ℕ, zero, suc, _+_, _-_, _*_, _%_, _/_, _^_, _≤_, _<_}
+use native.Mathlib.Omega.{arith}
+use lib.ListN.{length, getD, take, drop, set, replicate, length-set, length-take, length-drop, length-append, length-replicate}
 use borrow.Author.Needs.{needs}
 use Rattle.result.proofs.put_new_texts.Statement.{statement}
 use Rattle.result.proofs.put_new_texts.Tie as tie
@@ -71,15 +77,15 @@ part-put-texts-start-3 c = search needs
 
 -- src/lib.rt:127:9
 part-put-texts-end-3 : tie.Need-part-put-texts-end-3
-part-put-texts-end-3 c = ?
+part-put-texts-end-3 c = omega (arith, c .before .before .before .before .before .before .before .before .before .before .before .before .before .pre .1 .0 .1)
 
 -- src/lib.rt:128:9
 sub-put-texts-4 : tie.Need-sub-put-texts-4
-sub-put-texts-4 c = ?
+sub-put-texts-4 c = omega (arith, c .before .before .before .before .before .before .before .before .before .before .before .before .before .before .pre .1 .0 .0)
 
 -- src/lib.rt:128:9
 part-put-texts-start-4 : tie.Need-part-put-texts-start-4
-part-put-texts-start-4 c = ?
+part-put-texts-start-4 c = omega (arith, c .before .before .before .before .before .before .before .before .before .before .before .before .before .before .pre .1 .0 .0)
 
 -- src/lib.rt:128:9
 part-put-texts-end-4 : tie.Need-part-put-texts-end-4
@@ -87,7 +93,7 @@ part-put-texts-end-4 c = search needs
 
 -- src/lib.rt:118:5
 put-texts-requires : tie.Need-put-texts-requires
-put-texts-requires c κs = ?
+put-texts-requires c κs = texts-asked (c .before .before .before .before .before .before .before .before .before .before .before .before .before .before .before .args .p) (c .before .before .before .before .before .before .before .before .before .before .before .before .before .before .before .args .q) (c .before .before .before .before .before .before .before .before .before .before .before .before .before .before .before .args .start) (c .before .before .before .before .before .before .before .before .before .before .before .before .before .before .before .args .end) (c .before .before .before .before .before .before .before .before .before .before .before .before .before .before .before .args .replacement .now) (c .before .before .before .before .before .before .before .before .before .before .before .before .before .before .before .args .w .nstart) (c .before .before .before .before .before .before .before .before .before .before .before .before .before .before .before .args .w .nend) (c .before .before .before .before .before .before .before .before .before .before .before .before .before .before .before .args .bytes .now) (c .before .before .before .before .before .before .before .before .before .before .before .before .before .before .before .args .readingbytes .now) _ (c .before .before .before .before .before .before .before .before .before .before .before .before .before .before .before .pre .0) (c .before .before .before .before .before .before .before .before .before .before .before .before .before .before .before .pre .1 .0 .0) (c .before .before .before .before .before .before .before .before .before .before .before .before .before .before .before .pre .1 .0 .1) (c .before .before .before .before .before .before .before .before .before .before .before .before .before .before .before .pre .1 .1)
 
 -- src/lib.rt:99:1
 same-length : tie.Need-same-length
@@ -95,7 +101,7 @@ same-length c = search needs
 
 -- src/lib.rt:99:1
 returns : tie.Need-returns
-returns c = ?
+returns c = texts-sliced (c .before .before .before .before .before .before .before .before .before .before .before .before .before .before .before .before .before .before .args .p) (c .before .before .before .before .before .before .before .before .before .before .before .before .before .before .before .before .before .before .args .q) (c .before .before .before .before .before .before .before .before .before .before .before .before .before .before .before .before .before .before .args .start) (c .before .before .before .before .before .before .before .before .before .before .before .before .before .before .before .before .before .before .args .end) (c .before .before .before .before .before .before .before .before .before .before .before .before .before .before .before .before .before .before .args .replacement .now) (c .before .before .before .before .before .before .before .before .before .before .before .before .before .before .before .before .before .before .args .w .nstart) (c .before .before .before .before .before .before .before .before .before .before .before .before .before .before .before .before .before .before .args .w .nend) (c .before .before .before .before .before .before .before .before .before .before .before .before .before .before .before .before .before .before .args .bytes .now) (c .before .before .before .before .before .before .before .before .before .before .before .before .before .before .before .before .before .before .args .readingbytes .now) (c .before .before .before .before .before .before .before .before .before .before .before .before .before .before .before .before .before .before .args .out .now) (c .before .before .before .before .before .before .before .before .before .before .before .before .before .before .before .before .before .before .args .p .text) (c .before .before .before .before .before .before .before .before .before .before .before .before .before .before .before .before .before .before .args .p .text + c .before .before .before .before .before .before .before .before .before .before .before .before .before .before .before .before .before .before .args .p .normalized) (c .before .before .before .before .before .before .before .before .before .before .before .before .before .before .before .before .before .before .args .q .text) refl refl refl (c .before .before .before .before .before .before .before .before .before .before .before .before .before .before .before .before .before .before .pre .1 .0 .0) (c .before .before .put-texts .ensures)
 
 pub put-new-texts-spec : {M : Type 1} → statement M
 put-new-texts-spec =
