@@ -1,15 +1,15 @@
 -- The walk's answers: what each function has read, grafted and written, against the model's graft of what the source shows.
 use mathlib.Core.Path.{_≡_, refl, sym, ap, _∙_}
-use Prim.Native.Nat.{ℕ, _+_, _*_}
+use Prim.Native.Nat.{ℕ, _+_}
 use native.Mathlib.Omega.{arith}
 use mathlib.Core.Bool.{true, false, true≢false}
 use mathlib.Core.List.{List, [], _∷_, append-nil, flatten}
 use lib.ListN.{length, drop}
 use borrow.Author.Tests.{eq-eqb, ne-eqb}
 use Rattle.model.specs.Bytes.{wordAt}
-use Rattle.model.specs.Types.{Content, Segment}
+use Rattle.model.specs.Types.{Content}
 use Rattle.model.specs.Store.{resolveStr, resolveContentRange, resolveSegRange}
-use Rattle.model.specs.Tape.{recordsAt, recordBytes, recordsBytes, contentCodec, segmentCodec}
+use Rattle.model.specs.Tape.{Codec, recordsAt, recordBytes, recordsBytes, contentCodec, segmentCodec}
 use Rattle.model.specs.Tree.{showContents, showSegments}
 use Rattle.model.specs.Graft.{NewLayer, With, graftStr, graftContents, graftSegments, pushContents, pushSegments}
 use Rattle.wire.specs.Overwrite.{overwrite}
@@ -22,10 +22,9 @@ use Rattle.sizes.specs.Trees.{length-segments, length-contents}
 use Rattle.sizes.specs.Shown.{showInner, segments-shown, contents-shown}
 use Rattle.graft.specs.Rebased.{steps-each, steps-every}
 use Rattle.graft.specs.Blocks.{blocks-none}
-use Rattle.graft.specs.Grafted.{layerFrom, contentAt, segmentAt, Told, Roomy}
+use Rattle.graft.specs.Grafted.{layerFrom, contentAt, segmentAt, Told, Roomy, empty-sized}
 use Rattle.graft.specs.Widths.{contents-width, segments-width, contents-sized, segments-sized}
-use Rattle.graft.specs.Turns.{empty-sized}
-use Rattle.graft.specs.Runs.{withContents, withSegments, contents-pushed, segments-pushed}
+use Rattle.graft.specs.Runs.{ItemsTold, withContents, withSegments, contents-pushed, segments-pushed}
 use Rattle.graft.specs.Walk.{Source, sourceStore, shownContents, shownSegments, Ready, StartTold, ContentsTold, SegmentsTold, contentRunFrom, segmentRunFrom}
 use Rattle.graft.specs.declared.Plan.{Plan}
 use Rattle.graft.specs.declared.Mark.{Mark}
@@ -73,45 +72,21 @@ module _ (l : ℕ) (t d : List ℕ) (x : Content) (f : NewLayer) where
       ∙ ap length (segment-range t st (s .fit .stored) (drop (wordAt t 1 + wordAt t 5) d) (x .first) (x .second) h) ∙ length-records segmentCodec t (segmentPlace st (x .first)) (x .second) in
       rw (ne-eqb (x .tag) 0 n) (λ i. (record { tag = 1; first = at .0; second = k i } ∷ [], at .1))
 
--- an item whose walk was made, and its record written
-module _ (p : Plan) (m : Mark) (to : ℕ) (out work strs : List ℕ) {out₁ work₁ strs₁ : List ℕ} {k : Mark} {g : NewLayer} (a : Told p m out work strs out₁ work₁ strs₁ k g) where
-  module _ {whole : With (List Content)} {tag w second : ℕ} (q : whole ≡ (record { tag = tag; first = w; second = second } ∷ [], g)) where
-    pub content-refused : k .ok ≡ false → ContentsTold p m to out work strs out₁ work₁ strs₁ k whole
-    content-refused e = rw q (record { ok = a .ok; made = λ o. absurd (true≢false (sym o ∙ e)) })
+-- ---- one item, whatever its kind
 
-    pub content-made : (v : ℕ) → v ≡ w → k .ok ≡ true → {out₂ : List ℕ} → out₂ ≡ overwrite out₁ (p .contentsat + 10 * to) (recordBytes contentCodec (record { tag = tag; first = v; second = second }))
-        → ContentsTold p m to out work strs out₂ work₁ strs₁ k whole
-    unfolding recordsBytes flatten
-    content-made v z o {out₂} e =
-        rw q (record {
-          ok = a .ok;
-          made = λ y. record {
-            under = out₁;
-            made = a .made y;
-            wrote =
-                e ∙ ap (λ (n : ℕ). overwrite out₁ (p .contentsat + 10 * to) (recordBytes contentCodec (record { tag = tag; first = n; second = second }))) z
-                ∙ ap (overwrite out₁ (p .contentsat + 10 * to)) (sym (append-nil (recordBytes contentCodec (record { tag = tag; first = w; second = second }))));
-          };
-        })
+module _ {A : Type 0} (k : Codec A) (p : Plan) (m : Mark) (place : ℕ) (out work strs : List ℕ) {out₁ work₁ strs₁ : List ℕ} {r : Mark} {g : NewLayer} (a : Told p m out work strs out₁ work₁ strs₁ r g)
+    {whole : With (List A)} {one : A} (q : whole ≡ (one ∷ [], g)) where
+  pub item-refused : r .ok ≡ false → ItemsTold k p m place out work strs out₁ work₁ strs₁ r whole
+  item-refused e = rw q (record { ok = a .ok; made = λ o. absurd (true≢false (sym o ∙ e)) })
 
-  module _ {whole : With (List Segment)} {one : Segment} (q : whole ≡ (one ∷ [], g)) where
-    pub segment-refused : k .ok ≡ false → SegmentsTold p m to out work strs out₁ work₁ strs₁ k whole
-    segment-refused e = rw q (record { ok = a .ok; made = λ o. absurd (true≢false (sym o ∙ e)) })
-
-    pub segment-made : (s : Segment) → s ≡ one → k .ok ≡ true → {out₂ : List ℕ} → out₂ ≡ overwrite out₁ (p .segmentsat + 37 * to) (recordBytes segmentCodec s)
-        → SegmentsTold p m to out work strs out₂ work₁ strs₁ k whole
-    unfolding recordsBytes flatten
-    segment-made s z o {out₂} e =
-        rw q (record {
-          ok = a .ok;
-          made = λ y. record {
-            under = out₁;
-            made = a .made y;
-            wrote =
-                e ∙ ap (λ (x : Segment). overwrite out₁ (p .segmentsat + 37 * to) (recordBytes segmentCodec x)) z
-                ∙ ap (overwrite out₁ (p .segmentsat + 37 * to)) (sym (append-nil (recordBytes segmentCodec one)));
-          };
-        })
+  -- its walk was made, and its record written
+  pub item-made : (x : A) → x ≡ one → {out₂ : List ℕ} → out₂ ≡ overwrite out₁ place (recordBytes k x) → ItemsTold k p m place out work strs out₂ work₁ strs₁ r whole
+  unfolding recordsBytes flatten
+  item-made x z e =
+      rw q (record {
+        ok = a .ok;
+        made = λ y. record { under = out₁; made = a .made y; wrote = e ∙ ap (λ (v : A). overwrite out₁ place (recordBytes k v)) z ∙ ap (overwrite out₁ place) (sym (append-nil (recordBytes k one))) };
+      })
 
 -- ---- runs
 

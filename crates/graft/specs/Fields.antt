@@ -3,10 +3,10 @@ use mathlib.Core.Path.{_≡_, refl, sym, ap, ap₂, _∙_}
 use Prim.Native.Nat.{ℕ, zero, suc, _+_, _≤_, _<_}
 use native.Mathlib.Omega.{arith}
 use mathlib.Core.Bool.{true, false, true≢false}
-use mathlib.Core.List.{List, _∷_, _++_, append-assoc}
+use mathlib.Core.List.{List, _++_, append-assoc}
 use lib.ListN.{length, replicate}
 use borrow.Author.Tests.{eq-eqb, ne-eqb, ltb-true}
-use Rattle.model.specs.Lists.{all, tabulate}
+use Rattle.model.specs.Lists.{all}
 use Rattle.model.specs.Bytes.{byteAt}
 use Rattle.model.specs.Limits.{noString}
 use Rattle.model.specs.Types.{Body}
@@ -14,8 +14,6 @@ use Rattle.model.specs.Store.{resolveStr}
 use Rattle.model.specs.Tape.{Field, fieldsOf}
 use Rattle.model.specs.Tree.{showFields}
 use Rattle.model.specs.Graft.{NewLayer, graftStr, graftFields}
-use Rattle.laws.specs.Lists.{both}
-use Rattle.laws.specs.Keep.{all-append-is}
 use Rattle.wire.specs.Loops.{by-bool}
 use Rattle.store.specs.declared.Store.{Store}
 use Rattle.records.specs.Values.{bodyAt}
@@ -27,9 +25,9 @@ use Rattle.sizes.specs.InPlace.{innerAdds, bodyAdds, placeAdds, usedAdds, field
 use Rattle.sizes.specs.Shown.{showInner}
 use Rattle.sizes.specs.declared.FieldWords.{FieldWords}
 use Rattle.graft.specs.Rebased.{rebased, behind, steps-fields}
-use Rattle.graft.specs.Grafted.{layerFrom, Told, Sized, Roomy, next-layer, told-then, refused-then}
+use Rattle.graft.specs.Grafted.{layerFrom, Told, Sized, Roomy, empty-sized, next-layer, told-then, refused-then}
 use Rattle.graft.specs.Widths.{fields-sized}
-use Rattle.graft.specs.Turns.{empty-sized, fields-then}
+use Rattle.graft.specs.Parts.{Parts, all-first, fields-then}
 use Rattle.graft.specs.Walk.{Source, sourceStore, Ready, StartTold, WordsTold, bodyFrom, placeFrom, contentRunFrom, segmentRunFrom, fieldFrom, idFrom, wordsWith}
 use Rattle.graft.specs.Rooms.{ready-item, space-left, roomy, fields-add}
 use Rattle.graft.specs.Answers.{told-none}
@@ -39,22 +37,7 @@ use Rattle.graft.specs.declared.Mark.{Mark}
 use Rattle.graft.specs.declared.Start.{Start}
 use Rattle.graft.specs.declared.Words.{Words}
 
--- ---- lists in parts
-
--- a first part of a list
-pub record Parts {A : Type 0} (xs whole : List A) : Type 0 where
-  pub rest : List A
-  pub is : whole ≡ xs ++ rest
-
-pub tabulate-parts : {A : Type 0} (i n : ℕ) (f : ℕ → A) → i ≤ n → Parts (tabulate i f) (tabulate n f)
-tabulate-parts zero n f h = record { rest = tabulate n f; is = refl }
-tabulate-parts (suc i) zero f h = absurd (omega arith)
-tabulate-parts (suc i) (suc n) f h =
-    let r = tabulate-parts i n (λ (k : ℕ). f (suc k)) (omega arith) in
-    record { rest = r .rest; is = ap (λ (l : List _). f 0 ∷ l) (r .is) }
-
-pub all-first : {A : Type 0} (p : A → _) {xs whole : List A} → Parts xs whole → all p whole ≡ true → all p xs ≡ true
-all-first p {xs} {whole} r h = both (all p xs) (all p (r .rest)) (sym (all-append-is p xs (r .rest)) ∙ sym (ap (all p) (r .is)) ∙ h) .0
+-- ---- places in parts
 
 places-parts : (k t i n j : ℕ) → i ≤ n → Parts (placeFields k t i j) (placeFields k t n j)
 unfolding placeFields

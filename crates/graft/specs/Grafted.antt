@@ -46,6 +46,10 @@ pub record Roomy (p : Plan) (m : Mark) (out : List ℕ) (g : NewLayer) : Type 0 
   pub contents : p .contentsat + 10 * (m .contents + length (g .contents)) ≤ p .segmentsat
   pub segments : p .segmentsat + 37 * (m .segments + length (g .segments)) ≤ length out
 
+pub empty-sized : (p : Plan) (work strs : List ℕ) (m : Mark) → Sized (layerFrom p work strs m)
+unfolding recordsBytes flatten
+empty-sized p work strs m = record { contents = refl; segments = refl }
+
 -- a step that was made: from the layer by m to the layer g, pools and all
 pub record Made (p : Plan) (m : Mark) (out work strs out′ work′ strs′ : List ℕ) (r : Mark) (g : NewLayer) : Type 0 where
   pub good : Good work′ strs′ (r .state)

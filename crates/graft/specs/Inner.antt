@@ -88,14 +88,14 @@ module _ {t d : List ℕ} {st : Store} {p : Plan} {m : Mark} {out work strs : Li
   pub content-run-answer : (to : ℕ) → to ≡ m .contents + own .contents → {out′ work′ strs′ : List ℕ} {r : Mark}
       → ContentsTold p m to out work strs out′ work′ strs′ r (shownContents l t d (recordsAt contentCodec t at len) (layerFrom p work strs m))
       → (s : Start) → s ≡ record { mark = withContents r (to + len); at = p .contents + to } → StartTold p m out work strs out′ work′ strs′ s (contentRunFrom l t d start len (layerFrom p work strs m))
-  unfolding contentRunFrom
+  unfolding contentRunFrom contentsAdd
   content-run-answer to z b s q =
       let f = layerFrom p work strs m in
       let is : recordsAt contentCodec t at len ≡ resolveContentRange (sourceStore t d) start len =
       ap (λ (n : ℕ). recordsAt contentCodec t n len) e ∙ sym (content-range t st (y .source .fit .stored) (drop (wordAt t 1 + wordAt t 5) d) start len h) in
       let w = shownContents l t d (recordsAt contentCodec t at len) f in
       let room : Roomy p m out (pushContents (w .0) (w .1) .1) = rw is (roomy out work strs (y .space) (content-run-adds t d st (y .source) l start len f h)) in
-      let g = shown-contents-grow t d st (y .source) l at len f contents-known in
+      let g = shown-contents-grow t d st (y .source) l (recordsAt contentCodec t at len) f contents-known in
       content-run-told l t d st (y .source) p m out work strs start len h at to e (omega (arith, z, g .contents)) room b s q
 
 -- ---- a run of segments
@@ -137,12 +137,12 @@ module _ {t d : List ℕ} {st : Store} {p : Plan} {m : Mark} {out work strs : Li
   pub segment-run-answer : (to : ℕ) → to ≡ m .segments + theirs .segments → {out′ work′ strs′ : List ℕ} {r : Mark}
       → SegmentsTold p m to out work strs out′ work′ strs′ r (shownSegments l t d (recordsAt segmentCodec t at len) (layerFrom p work strs m))
       → (s : Start) → s ≡ record { mark = withSegments r (to + len); at = p .segments + to } → StartTold p m out work strs out′ work′ strs′ s (segmentRunFrom l t d start len (layerFrom p work strs m))
-  unfolding segmentRunFrom
+  unfolding segmentRunFrom segmentsAdd
   segment-run-answer to z b s q =
       let f = layerFrom p work strs m in
       let is : recordsAt segmentCodec t at len ≡ resolveSegRange (sourceStore t d) start len =
       ap (λ (n : ℕ). recordsAt segmentCodec t n len) e ∙ sym (segment-range t st (y .source .fit .stored) (drop (wordAt t 1 + wordAt t 5) d) start len h) in
       let w = shownSegments l t d (recordsAt segmentCodec t at len) f in
       let room : Roomy p m out (pushSegments (w .0) (w .1) .1) = rw is (roomy out work strs (y .space) (segment-run-adds t d st (y .source) l start len f h)) in
-      let g = shown-segments-grow t d st (y .source) l at len f segments-known in
+      let g = shown-segments-grow t d st (y .source) l (recordsAt segmentCodec t at len) f segments-known in
       segment-run-told l t d st (y .source) p m out work strs start len h at to e (omega (arith, z, g .segments)) room b s q

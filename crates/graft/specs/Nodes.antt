@@ -1,15 +1,16 @@
--- The words of a node: those of its body, of level 33, or none where its class is 2 or 3.
+-- One node: its words, those of its body, of level 33, or none where its class is 2 or 3; and its record.
 use mathlib.Core.Path.{_≡_, refl, sym, ap, _∙_}
 use Prim.Native.Nat.{ℕ, _+_, _≤_, _<_}
-use mathlib.Core.Bool.{true}
-use mathlib.Core.List.{List}
+use mathlib.Core.Bool.{true, false}
+use mathlib.Core.List.{List, [], _∷_}
 use lib.ListN.{replicate}
 use borrow.Author.Tests.{lt-ltb, le-ltb}
-use Rattle.model.specs.Bytes.{byteAt}
+use Rattle.model.specs.Bytes.{byteAt, wordAt}
 use Rattle.model.specs.Types.{SourceNode}
-use Rattle.model.specs.Tape.{Field, fieldsOf, nodeFields, recordAt, operandsAt, nodeCodec}
-use Rattle.model.specs.Tree.{showNode, showWith, showFields}
-use Rattle.model.specs.Graft.{NewLayer, With, graftNode, graftFields}
+use Rattle.model.specs.Tape.{Field, fieldsOf, nodeFields, recordAt, operandsAt, recordBytes, nodeCodec}
+use Rattle.model.specs.Tree.{showNode, shownNode, showWith, showFields}
+use Rattle.model.specs.Graft.{NewLayer, With, graftNode, graftNodeRef, graftNodeRefs, graftFields}
+use Rattle.wire.specs.Overwrite.{overwrite}
 use Rattle.records.specs.Values.{bodyAt, node-body}
 use Rattle.store.specs.declared.Store.{Store}
 use Rattle.ids.specs.Tests.{bodyIn, nodeIn, node-answer}
@@ -17,8 +18,11 @@ use Rattle.sizes.specs.Order.{fields-in-order}
 use Rattle.sizes.specs.InPlace.{nodeAdds, bodyAdds}
 use Rattle.sizes.specs.Shown.{showInner}
 use Rattle.graft.specs.Grafted.{layerFrom}
+use Rattle.graft.specs.Widths.{node-six}
+use Rattle.graft.specs.Written.{sixOf, six-of, nodeWith}
 use Rattle.graft.specs.Walk.{sourceStore, Ready, WordsTold, bodyFrom}
-use Rattle.graft.specs.Answers.{told-none}
+use Rattle.graft.specs.Answers.{told-none, item-refused, item-made}
+use Rattle.graft.specs.NodeItems.{shownOf, refsFrom, NodesTold}
 use Rattle.graft.specs.declared.Plan.{Plan}
 use Rattle.graft.specs.declared.Mark.{Mark}
 use Rattle.graft.specs.declared.Words.{Words}
@@ -60,3 +64,42 @@ module _ (t d : List ℕ) (st : Store) (at : ℕ) where
       pub node-told : {out′ work′ strs′ : List ℕ} {r : Words} → WordsTold p m out work strs out′ work′ strs′ r (bodyFrom 33 t d p work strs m (bodyAt t (at + 15)) 6)
           → WordsTold p m out work strs out′ work′ strs′ r (nodeWords t d found (layerFrom p work strs m))
       node-told x = rw whole x
+
+  -- ---- its record
+
+  module _ (p : Plan) (m : Mark) (to : ℕ) (out work strs : List ℕ) {out₁ work₁ strs₁ : List ℕ} (r : Words) (x : WordsTold p m out work strs out₁ work₁ strs₁ r (nodeWords t d found (layerFrom p work strs m))) where
+    -- the node with its grafted words
+    abbrev ref : SourceNode
+    ref = graftNodeRef (shownNode (sourceStore t d) found) (layerFrom p work strs m) .0
+
+    one-ref : refsFrom p work strs m (shownOf t d (found ∷ [])) ≡ (ref ∷ [], nodeWords t d found (layerFrom p work strs m) .1)
+    unfolding shownOf graftNodeRefs graftNodeRef shownNode nodeWords
+    one-ref = refl
+
+    pub ref-refused : r .mark .ok ≡ false → NodesTold p m to out work strs out₁ work₁ strs₁ (r .mark) (refsFrom p work strs m (shownOf t d (found ∷ [])))
+    ref-refused = item-refused nodeCodec p m to out work strs (x .told) one-ref
+
+    six : r .mark .ok ≡ true → sixOf (r .words) ≡ nodeWords t d found (layerFrom p work strs m) .0
+    unfolding nodeWords
+    six o = ap sixOf (x .words o) ∙ six-of (nodeWords t d found (layerFrom p work strs m) .0) (node-six (showNode (sourceStore t d) found) (layerFrom p work strs m) .is)
+
+    same : r .mark .ok ≡ true
+        → nodeWith (byteAt t (at + 1)) (byteAt t (at + 2)) (wordAt t (at + 3)) (wordAt t (at + 7)) (wordAt t (at + 11)) (byteAt t (at + 15)) (byteAt t (at + 16)) (wordAt t (at + 17)) (wordAt t (at + 21)) (r .words) ≡ ref
+    unfolding graftNodeRef shownNode nodeWords showNode showWith graftNode recordAt operandsAt nodeCodec
+    same o =
+        let y = six o in
+        λ i. record {
+          class = byteAt t (at + 1);
+          inline = byteAt t (at + 2);
+          sourceSpan = record { start = wordAt t (at + 3); end = wordAt t (at + 7) };
+          normalizedOffset = wordAt t (at + 11);
+          body = record { kind = byteAt t (at + 15); tag = byteAt t (at + 16); plain1 = wordAt t (at + 17); plain2 = wordAt t (at + 21); words = y i };
+        }
+
+    pub ref-made : (start stop offset first second : ℕ) → start ≡ wordAt t (at + 3) → stop ≡ wordAt t (at + 7) → offset ≡ wordAt t (at + 11) → first ≡ wordAt t (at + 17) → second ≡ wordAt t (at + 21)
+        → r .mark .ok ≡ true → {out₂ : List ℕ}
+        → out₂ ≡ overwrite out₁ to (recordBytes nodeCodec (nodeWith (byteAt t (at + 1)) (byteAt t (at + 2)) start stop offset (byteAt t (at + 15)) (byteAt t (at + 16)) first second (r .words)))
+        → NodesTold p m to out work strs out₂ work₁ strs₁ (r .mark) (refsFrom p work strs m (shownOf t d (found ∷ [])))
+    ref-made start stop offset first second a b e f g o =
+        item-made nodeCodec p m to out work strs (x .told) one-ref
+        (nodeWith (byteAt t (at + 1)) (byteAt t (at + 2)) start stop offset (byteAt t (at + 15)) (byteAt t (at + 16)) first second (r .words)) (rw (a, b, e, f, g) (same o))

@@ -10,7 +10,7 @@ use Rattle.wire.specs.Loops.{tabulate-last}
 use Rattle.laws.specs.Lists.{both}
 use Rattle.laws.specs.Keep.{all-append-is}
 use Rattle.sizes.specs.Added.{Added, add, addAll, all-append, add-nothing}
-use Rattle.graft.specs.Fields.{Parts, tabulate-parts, all-first}
+use Rattle.graft.specs.Parts.{Parts, tabulate-parts, all-first}
 
 module _ {A : Type 0} (k : Codec A) (t : List ℕ) (at : ℕ) where
   pub records-more : (i : ℕ) → recordsAt k t at (i + 1) ≡ recordsAt k t at i ++ (recordAt k t (at + recordSize k * i) ∷ [])

@@ -7,18 +7,18 @@ use mathlib.Core.List.{List}
 use lib.ListN.{length, drop}
 use Rattle.model.specs.Lists.{all}
 use Rattle.model.specs.Bytes.{wordAt}
-use Rattle.model.specs.Types.{Body}
+use Rattle.model.specs.Types.{Body, Content, Segment}
 use Rattle.model.specs.Intern.{StrInterner}
 use Rattle.model.specs.Store.{resolveContentRange, resolveSegRange}
-use Rattle.model.specs.Tape.{Field, recordsAt, contentCodec, segmentCodec}
+use Rattle.model.specs.Tape.{Field}
 use Rattle.model.specs.Tree.{showContents, showSegments, showFields}
 use Rattle.model.specs.Graft.{NewLayer, graftFields}
 use Rattle.interner.specs.State.{hasRoom}
 use Rattle.store.specs.declared.Store.{Store}
 use Rattle.ids.specs.Tests.{fieldIn, contentIn, segmentIn, contentsIn, segmentsIn}
-use Rattle.sizes.specs.Added.{Added, add, add-assoc}
+use Rattle.sizes.specs.Added.{Added, add, addAll, add-assoc}
 use Rattle.sizes.specs.Trees.{Grew, contents-grow, segments-grow, fields-grow, content-run-grows, segment-run-grows}
-use Rattle.sizes.specs.InPlace.{innerAdds, contentsAdd, contentRunAdds, segmentsAdd, segmentRunAdds, fieldsAdd}
+use Rattle.sizes.specs.InPlace.{innerAdds, contentAdds, contentRunAdds, segmentRunAdds, fieldsAdd}
 use Rattle.sizes.specs.Shown.{showInner, segments-agree, contents-agree, fields-agree, segment-run-agrees, content-run-agrees, inner-agrees}
 use Rattle.graft.specs.Grafted.{layerFrom, Roomy, Made}
 use Rattle.graft.specs.Walk.{Source, sourceStore, shownContents, shownSegments, Space, Ready, contentRunFrom, segmentRunFrom}
@@ -82,19 +82,13 @@ module _ (t d : List ℕ) (st : Store) (s : Source t d st) (l : ℕ) where
   abbrev rest : List ℕ
   rest = drop (wordAt t 1 + wordAt t 5) d
 
-  pub shown-contents-grow : (at n : ℕ) (f : NewLayer) → all (contentIn st) (recordsAt contentCodec t at n) ≡ true
-      → Grew f (shownContents l t d (recordsAt contentCodec t at n) f .1) (contentsAdd (innerAdds l t st) t st at n)
-  unfolding contentsAdd
-  shown-contents-grow at n f h =
-      let cs = recordsAt contentCodec t at n in
+  pub shown-contents-grow : (cs : List Content) (f : NewLayer) → all (contentIn st) cs ≡ true → Grew f (shownContents l t d cs f .1) (addAll (contentAdds (innerAdds l t st) t st) cs)
+  shown-contents-grow cs f h =
       rw (sym (contents-agree t st (s .fit .stored) rest (showInner l (sourceStore t d)) (innerAdds l t st) (inner-agrees t st (s .fit .stored) rest (s .segments) (s .contents) l) (s .segments) cs h))
       (contents-grow (showContents (showInner l (sourceStore t d)) (sourceStore t d) cs) f)
 
-  pub shown-segments-grow : (at n : ℕ) (f : NewLayer) → all (segmentIn st) (recordsAt segmentCodec t at n) ≡ true
-      → Grew f (shownSegments l t d (recordsAt segmentCodec t at n) f .1) (segmentsAdd (innerAdds l t st) t at n)
-  unfolding segmentsAdd
-  shown-segments-grow at n f h =
-      let ss = recordsAt segmentCodec t at n in
+  pub shown-segments-grow : (ss : List Segment) (f : NewLayer) → all (segmentIn st) ss ≡ true → Grew f (shownSegments l t d ss f .1) (addAll (λ (x : Segment). innerAdds l t st (x .body)) ss)
+  shown-segments-grow ss f h =
       rw (sym (segments-agree t st (s .fit .stored) rest (showInner l (sourceStore t d)) (innerAdds l t st) (inner-agrees t st (s .fit .stored) rest (s .segments) (s .contents) l) ss h))
       (segments-grow (showSegments (showInner l (sourceStore t d)) ss) f)
 

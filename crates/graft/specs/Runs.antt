@@ -1,97 +1,73 @@
--- A run while it is walked: its items stand at their final places, behind all that its inner runs push. What the items so far
--- and the inner runs so far have written, one item more, and the end, where the run is pushed.
+-- Items while they are walked, those of a run or the nodes: their records stand at their final places, behind all that the inner
+-- runs push. What the items so far and the inner runs so far have written, more items, and the end, where a run is pushed.
 use mathlib.Core.Path.{_≡_, refl, sym, ap, ap₂, _∙_}
 use Prim.Native.Nat.{ℕ, _+_, _*_, _≤_}
 use native.Mathlib.Omega.{arith}
+use mathlib.Core.Bool.{true}
 use mathlib.Core.List.{List, _++_}
 use lib.ListN.{length, length-append}
 use Rattle.model.specs.Types.{Content, Segment}
-use Rattle.model.specs.Tape.{recordsBytes, contentCodec, segmentCodec}
-use Rattle.model.specs.Graft.{NewLayer, pushContents, pushSegments}
+use Rattle.model.specs.Tape.{Codec, recordsBytes, contentCodec, segmentCodec}
+use Rattle.model.specs.Graft.{NewLayer, With, pushContents, pushSegments}
 use Rattle.wire.specs.Overwrite.{overwrite, overwrite-next}
+use Rattle.interner.specs.State.{hasRoom}
 use Rattle.graft.specs.Rebased.{behind}
-use Rattle.graft.specs.Blocks.{blocks, length-blocks, items-first, items-second, push-first, push-second}
+use Rattle.graft.specs.Blocks.{blocks, length-blocks, Apart, apart-less, apart-inside, items-apart, push-first, push-second}
 use Rattle.graft.specs.Grafted.{contentAt, segmentAt, laid, Sized, Roomy, Made, made-then, bytes-append}
 use Rattle.graft.specs.declared.Plan.{Plan}
 use Rattle.graft.specs.declared.Mark.{Mark}
 
--- the number of the run's first content, and its items so far; `made` is the walk without the items, on the tape `under` them
-pub record ContentsSoFar (p : Plan) (m : Mark) (to : ℕ) (out work strs out′ work′ strs′ : List ℕ) (r : Mark) (items : List Content) (g : NewLayer) : Type 0 where
+-- the items so far, their records from the byte `place` on; `made` is the walk without the items, on the tape `under` them
+pub record ItemsSoFar {A : Type 0} (k : Codec A) (p : Plan) (m : Mark) (place : ℕ) (out work strs out′ work′ strs′ : List ℕ) (r : Mark) (items : List A) (g : NewLayer) : Type 0 where
   pub under : List ℕ
   pub made : Made p m out work strs under work′ strs′ r g
-  pub wrote : out′ ≡ overwrite under (p .contentsat + 10 * to) (recordsBytes contentCodec items)
+  pub wrote : out′ ≡ overwrite under place (recordsBytes k items)
 
-pub record SegmentsSoFar (p : Plan) (m : Mark) (to : ℕ) (out work strs out′ work′ strs′ : List ℕ) (r : Mark) (items : List Segment) (g : NewLayer) : Type 0 where
-  pub under : List ℕ
-  pub made : Made p m out work strs under work′ strs′ r g
-  pub wrote : out′ ≡ overwrite under (p .segmentsat + 37 * to) (recordsBytes segmentCodec items)
+-- not ok exactly where the defined strings have no room
+pub record ItemsTold {A : Type 0} (k : Codec A) (p : Plan) (m : Mark) (place : ℕ) (out work strs out′ work′ strs′ : List ℕ) (r : Mark) (a : With (List A)) : Type 0 where
+  pub ok : r .ok ≡ hasRoom (length strs) (m .state .base) (a .1 .interner)
+  pub made : r .ok ≡ true → ItemsSoFar k p m place out work strs out′ work′ strs′ r (a .0) (a .1)
+
+-- n bytes from `place` on meet neither the new contents nor the new segments, so many of each
+abbrev pub Clear : Plan → Mark → ℕ → ℕ → ℕ → ℕ → ℕ → Type 0
+Clear p m size contents segments place n = Apart (p .contentsat + 10 * (m .contents + contents)) (p .segmentsat) (p .segmentsat + 37 * (m .segments + segments)) size place n
 
 -- a step below pending items
 under-step : {p : Plan} {m : Mark} {out work strs out′ work′ strs′ : List ℕ} {r : Mark} {g : NewLayer} (under : List ℕ) → Made p m out work strs out′ work′ strs′ r g → Made p m under work strs (laid p m under g) work′ strs′ r g
 under-step under a = record { good = a .good; state = a .state; contents = a .contents; segments = a .segments; wrote = refl; base = a .base; kept = a .kept; free = a .free; long = a .long }
 
-module _ (p : Plan) (m : Mark) (to : ℕ) (out work strs : List ℕ) {out₁ work₁ strs₁ out₂ work₂ strs₂ : List ℕ} {r₁ r : Mark} {items more : List Content} {g h : NewLayer}
+module _ {A : Type 0} (k : Codec A) (p : Plan) (m : Mark) (place : ℕ) (out work strs : List ℕ) {out₁ work₁ strs₁ out₂ work₂ strs₂ : List ℕ} {r₁ r : Mark} {items more : List A} {g h : NewLayer}
     (sg : Sized g) (sh : Sized h) (room : Roomy p m out (behind g h)) where
-  -- items behind items: the second step begins at the number `n` behind the first items
-  pub contents-then : (n : ℕ) → n ≡ to + length items → m .contents + length (behind g h .contents) ≤ to → p .contentsat + 10 * (to + length (items ++ more)) ≤ p .segmentsat
-      → length (recordsBytes contentCodec items) ≡ 10 * length items → length (recordsBytes contentCodec more) ≡ 10 * length more
-      → ContentsSoFar p m to out work strs out₁ work₁ strs₁ r₁ items g → ContentsSoFar p r₁ n out₁ work₁ strs₁ out₂ work₂ strs₂ r more h
-      → ContentsSoFar p m to out work strs out₂ work₂ strs₂ r (items ++ more) (behind g h)
-  contents-then n e low high si sm a b =
+  -- items behind items: the second step begins at the byte `n` behind the first items
+  pub items-then : (n : ℕ) → n ≡ place + length (recordsBytes k items)
+      → Clear p m (length out) (length (behind g h .contents)) (length (behind g h .segments)) place (length (recordsBytes k (items ++ more)))
+      → ItemsSoFar k p m place out work strs out₁ work₁ strs₁ r₁ items g → ItemsSoFar k p r₁ n out₁ work₁ strs₁ out₂ work₂ strs₂ r more h
+      → ItemsSoFar k p m place out work strs out₂ work₂ strs₂ r (items ++ more) (behind g h)
+  items-then n e clear a b =
       let x = length-append (g .contents) (h .contents) in
       let y = length-append (g .segments) (h .segments) in
-      let z = length-append items more in
-      let q = p .contentsat + 10 * to in
-      let bytes = recordsBytes contentCodec items in
+      let bytes = recordsBytes k items in
+      let next = recordsBytes k more in
+      let first = recordsBytes contentCodec (h .contents) in
+      let second = recordsBytes segmentCodec (h .segments) in
       let mid = laid p r₁ (a .under) h in
+      let z : length (recordsBytes k (items ++ more)) ≡ length bytes + length next = ap length (bytes-append k items more) ∙ length-append bytes next in
       let l : length (a .under) ≡ length out = ap length (a .made .wrote)
       ∙ length-blocks out (contentAt p m) (segmentAt p m) (recordsBytes contentCodec (g .contents)) (recordsBytes segmentCodec (g .segments)) (omega (arith, sg .contents, x, room .contents)) (omega (arith, sg .segments, y, room .segments)) in
-      let k : length mid ≡ length out =
-      length-blocks (a .under) (contentAt p r₁) (segmentAt p r₁) (recordsBytes contentCodec (h .contents)) (recordsBytes segmentCodec (h .segments))
-      (omega (arith, sh .contents, x, a .made .contents, a .made .segments, room .contents)) (omega (arith, l, sh .segments, y, a .made .segments, room .segments)) ∙ l in
+      let u : contentAt p r₁ + length first ≤ segmentAt p r₁ = omega (arith, sh .contents, x, a .made .contents, a .made .segments, room .contents) in
+      let v : segmentAt p r₁ + length second ≤ length (a .under) = omega (arith, l, sh .segments, y, a .made .segments, room .segments) in
+      let j : length mid ≡ length out = length-blocks (a .under) (contentAt p r₁) (segmentAt p r₁) first second u v ∙ l in
+      let inside : place + (length bytes + length next) ≤ length out = let w = apart-inside (omega (arith, room .segments)) clear in omega (arith, w, z) in
+      let apart : Apart (contentAt p r₁ + length first) (segmentAt p r₁) (segmentAt p r₁ + length second) (length (a .under)) place (length bytes) =
+      apart-less (omega (arith, sh .contents, a .made .contents, x)) (omega arith) (omega (arith, sh .segments, a .made .segments, y)) (omega (arith, l)) (omega (arith, z)) clear in
       record {
         under = mid;
         made = made-then p m out work strs (a .made) sg sh room (under-step (a .under) (b .made));
         wrote =
-            b .wrote ∙ ap₂ (λ (d : List ℕ) (i : ℕ). overwrite d (p .contentsat + 10 * i) (recordsBytes contentCodec more)) (b .made .wrote ∙ ap (λ (d : List ℕ). laid p r₁ d h) (a .wrote)) e
-            ∙ ap (λ (d : List ℕ). overwrite d (p .contentsat + 10 * (to + length items)) (recordsBytes contentCodec more))
-            (items-first (a .under) (contentAt p r₁) (segmentAt p r₁) (recordsBytes contentCodec (h .contents)) (recordsBytes segmentCodec (h .segments)) q bytes
-            (omega (arith, sh .contents, a .made .contents, low, x)) (omega (arith, si, z, high)) (omega (arith, l, sh .segments, y, a .made .segments, room .segments)))
-            ∙ overwrite-next mid q bytes (omega (arith, k, si, z, high, room .segments)) (p .contentsat + 10 * (to + length items)) (recordsBytes contentCodec more)
-            (omega (arith, si)) (omega (arith, k, sm, z, high, room .segments))
-            ∙ ap (overwrite mid q) (sym (bytes-append contentCodec items more));
-      }
-
-module _ (p : Plan) (m : Mark) (to : ℕ) (out work strs : List ℕ) {out₁ work₁ strs₁ out₂ work₂ strs₂ : List ℕ} {r₁ r : Mark} {items more : List Segment} {g h : NewLayer}
-    (sg : Sized g) (sh : Sized h) (room : Roomy p m out (behind g h)) where
-  -- items behind items: the second step begins at the number `n` behind the first items
-  pub segments-then : (n : ℕ) → n ≡ to + length items → m .segments + length (behind g h .segments) ≤ to → p .segmentsat + 37 * (to + length (items ++ more)) ≤ length out
-      → length (recordsBytes segmentCodec items) ≡ 37 * length items → length (recordsBytes segmentCodec more) ≡ 37 * length more
-      → SegmentsSoFar p m to out work strs out₁ work₁ strs₁ r₁ items g → SegmentsSoFar p r₁ n out₁ work₁ strs₁ out₂ work₂ strs₂ r more h
-      → SegmentsSoFar p m to out work strs out₂ work₂ strs₂ r (items ++ more) (behind g h)
-  segments-then n e low high si sm a b =
-      let x = length-append (g .contents) (h .contents) in
-      let y = length-append (g .segments) (h .segments) in
-      let z = length-append items more in
-      let q = p .segmentsat + 37 * to in
-      let bytes = recordsBytes segmentCodec items in
-      let mid = laid p r₁ (a .under) h in
-      let l : length (a .under) ≡ length out = ap length (a .made .wrote)
-      ∙ length-blocks out (contentAt p m) (segmentAt p m) (recordsBytes contentCodec (g .contents)) (recordsBytes segmentCodec (g .segments)) (omega (arith, sg .contents, x, room .contents)) (omega (arith, sg .segments, y, room .segments)) in
-      let k : length mid ≡ length out =
-      length-blocks (a .under) (contentAt p r₁) (segmentAt p r₁) (recordsBytes contentCodec (h .contents)) (recordsBytes segmentCodec (h .segments))
-      (omega (arith, sh .contents, x, a .made .contents, a .made .segments, room .contents)) (omega (arith, l, sh .segments, y, a .made .segments, room .segments)) ∙ l in
-      record {
-        under = mid;
-        made = made-then p m out work strs (a .made) sg sh room (under-step (a .under) (b .made));
-        wrote =
-            b .wrote ∙ ap₂ (λ (d : List ℕ) (i : ℕ). overwrite d (p .segmentsat + 37 * i) (recordsBytes segmentCodec more)) (b .made .wrote ∙ ap (λ (d : List ℕ). laid p r₁ d h) (a .wrote)) e
-            ∙ ap (λ (d : List ℕ). overwrite d (p .segmentsat + 37 * (to + length items)) (recordsBytes segmentCodec more))
-            (items-second (a .under) (contentAt p r₁) (segmentAt p r₁) (recordsBytes contentCodec (h .contents)) (recordsBytes segmentCodec (h .segments)) q bytes
-            (omega (arith, sh .contents, x, a .made .contents, a .made .segments, room .contents)) (omega (arith, sh .segments, a .made .segments, low, y)) (omega (arith, l, si, z, high)))
-            ∙ overwrite-next mid q bytes (omega (arith, k, si, z, high)) (p .segmentsat + 37 * (to + length items)) (recordsBytes segmentCodec more)
-            (omega (arith, si)) (omega (arith, k, sm, z, high))
-            ∙ ap (overwrite mid q) (sym (bytes-append segmentCodec items more));
+            b .wrote ∙ ap₂ (λ (d : List ℕ) (i : ℕ). overwrite d i next) (b .made .wrote ∙ ap (λ (d : List ℕ). laid p r₁ d h) (a .wrote)) e
+            ∙ ap (λ (d : List ℕ). overwrite d (place + length bytes) next) (items-apart (a .under) (contentAt p r₁) (segmentAt p r₁) first second place bytes apart u v)
+            ∙ overwrite-next mid place bytes (omega (arith, j, inside)) (place + length bytes) next refl (omega (arith, j, inside))
+            ∙ ap (overwrite mid place) (sym (bytes-append k items more));
       }
 
 -- ---- the end: the run is pushed
@@ -104,7 +80,7 @@ withSegments r n = record { ok = r .ok; contents = r .contents; segments = n; st
 
 module _ (p : Plan) (m : Mark) (to : ℕ) (out work strs : List ℕ) {out′ work′ strs′ : List ℕ} {r : Mark} {g : NewLayer} (sg : Sized g) where
   pub contents-pushed : {items : List Content} → to ≡ m .contents + length (g .contents) → length (recordsBytes contentCodec items) ≡ 10 * length items
-      → Roomy p m out (pushContents items g .1) → ContentsSoFar p m to out work strs out′ work′ strs′ r items g
+      → Roomy p m out (pushContents items g .1) → ItemsSoFar contentCodec p m (p .contentsat + 10 * to) out work strs out′ work′ strs′ r items g
       → (n : ℕ) → n ≡ to + length items → Made p m out work strs out′ work′ strs′ (withContents r n) (pushContents items g .1)
   unfolding pushContents
   contents-pushed {items} e si room a n f =
@@ -127,7 +103,7 @@ module _ (p : Plan) (m : Mark) (to : ℕ) (out work strs : List ℕ) {out′ wor
       }
 
   pub segments-pushed : {items : List Segment} → to ≡ m .segments + length (g .segments) → length (recordsBytes segmentCodec items) ≡ 37 * length items
-      → Roomy p m out (pushSegments items g .1) → SegmentsSoFar p m to out work strs out′ work′ strs′ r items g
+      → Roomy p m out (pushSegments items g .1) → ItemsSoFar segmentCodec p m (p .segmentsat + 37 * to) out work strs out′ work′ strs′ r items g
       → (n : ℕ) → n ≡ to + length items → Made p m out work strs out′ work′ strs′ (withSegments r n) (pushSegments items g .1)
   unfolding pushSegments
   segments-pushed {items} e si room a n f =

@@ -10,7 +10,7 @@ use Rattle.model.specs.Limits.{noString}
 use Rattle.model.specs.Bytes.{wordAt}
 use Rattle.model.specs.Types.{Body, Content, Segment}
 use Rattle.model.specs.Store.{NodeStore, storeOf, resolveStr, resolveContentRange, resolveSegRange}
-use Rattle.model.specs.Tape.{places, layersAt}
+use Rattle.model.specs.Tape.{places, layersAt, contentCodec, segmentCodec}
 use Rattle.model.specs.Tree.{showSegments, showContents, showFields}
 use Rattle.model.specs.Graft.{NewLayer, With, graftStr, pushContents, pushSegments, graftFields, graftContents, graftSegments}
 use Rattle.places.specs.Again.{Frame}
@@ -27,7 +27,7 @@ use Rattle.sizes.specs.Order.{placeField, placeFields}
 use Rattle.sizes.specs.declared.FieldWords.{FieldWords}
 use Rattle.sizes.specs.Added.{Added}
 use Rattle.graft.specs.Grafted.{layerFrom, Told}
-use Rattle.graft.specs.Runs.{ContentsSoFar, SegmentsSoFar}
+use Rattle.graft.specs.Runs.{ItemsTold}
 use Rattle.graft.specs.declared.Plan.{Plan}
 use Rattle.graft.specs.declared.Mark.{Mark}
 use Rattle.graft.specs.declared.Start.{Start}
@@ -88,13 +88,11 @@ pub record WordsTold (p : Plan) (m : Mark) (out work strs out′ work′ strs′
   pub words : r .mark .ok ≡ true → r .words ≡ a .0
 
 -- a run's items at their final places, the first at number `to`
-pub record ContentsTold (p : Plan) (m : Mark) (to : ℕ) (out work strs out′ work′ strs′ : List ℕ) (r : Mark) (a : With (List Content)) : Type 0 where
-  pub ok : r .ok ≡ hasRoom (length strs) (m .state .base) (a .1 .interner)
-  pub made : r .ok ≡ true → ContentsSoFar p m to out work strs out′ work′ strs′ r (a .0) (a .1)
+abbrev pub ContentsTold : Plan → Mark → ℕ → List ℕ → List ℕ → List ℕ → List ℕ → List ℕ → List ℕ → Mark → With (List Content) → Type 0
+ContentsTold p m to = ItemsTold contentCodec p m (p .contentsat + 10 * to)
 
-pub record SegmentsTold (p : Plan) (m : Mark) (to : ℕ) (out work strs out′ work′ strs′ : List ℕ) (r : Mark) (a : With (List Segment)) : Type 0 where
-  pub ok : r .ok ≡ hasRoom (length strs) (m .state .base) (a .1 .interner)
-  pub made : r .ok ≡ true → SegmentsSoFar p m to out work strs out′ work′ strs′ r (a .0) (a .1)
+abbrev pub SegmentsTold : Plan → Mark → ℕ → List ℕ → List ℕ → List ℕ → List ℕ → List ℕ → List ℕ → Mark → With (List Segment) → Type 0
+SegmentsTold p m to = ItemsTold segmentCodec p m (p .segmentsat + 37 * to)
 
 -- ---- what the functions of the walk graft
 

@@ -23,8 +23,7 @@ ghost use Rattle.graft.specs.Grafted.{layerFrom};
 ghost use Rattle.graft.specs.Runs.{withContents, withSegments};
 ghost use Rattle.graft.specs.Written.{wordsBytes, segmentWith, nodeHead, nodeWith};
 ghost use Rattle.graft.specs.Nodes.{nodeWords};
-ghost use Rattle.graft.specs.NodeItems.{NodesTold, refsFrom};
-ghost use Rattle.graft.specs.NodeLoop.{shownOf};
+ghost use Rattle.graft.specs.NodeItems.{shownOf, refsFrom, NodesTold};
 ghost use Rattle.graft.specs.Walk.{Ready, bodyFrom, placeFrom, contentRunFrom, segmentRunFrom, fieldFrom};
 ghost use Rattle.graft.specs.Walk.{sourceStore, Source, indexWords, stringFrom, shownContents, shownSegments, StartTold, idFrom, strStart, WordsTold, ContentsTold, SegmentsTold};
 
@@ -509,7 +508,8 @@ fn graft_content_run(
         };
     }
     let at = store::content_place(st, start);
-    let to = m.contents + inner_contents(tape, st, at, len as usize, level);
+    let inner = inner_contents(tape, st, at, len as usize, level);
+    let to = m.contents + inner;
     let r = graft_contents(
         tape,
         bytes,
@@ -647,7 +647,8 @@ fn graft_segment_run(
         };
     }
     let at = store::segment_place(st, start);
-    let to = m.segments + inner_segments(tape, st, at, len as usize, level);
+    let inner = inner_segments(tape, st, at, len as usize, level);
+    let to = m.segments + inner;
     let r = graft_segments(
         tape,
         bytes,
@@ -709,7 +710,7 @@ fn graft_segments(
     u
 }
 
-// Section 5. `graft_segment`, written as segment number `to`; levels are copied. Below level 0 a body is all zeros.
+// Section 5. `graft_segment`, written as segment number `to`; its own level is copied. Below level 0 of the walk a body is all zeros.
 fn graft_segment(
     tape: &[u8],
     bytes: &[u8],
@@ -729,18 +730,10 @@ fn graft_segment(
     ensures { λ r. ⌜ SegmentsTold p m to (now (out .entry)) (now (work .entry)) (now (strs .entry)) (now (out .exit)) (now (work .exit)) (now (strs .exit)) r (shownSegments level (now (tape .entry)) (now (bytes .entry)) (recordAt segmentCodec (now (tape .entry)) at ∷ []) (layerFrom p (now (work .entry)) (now (strs .entry)) m)) ⌝ }
 {
     let place = p.segmentsat + 37 * (to as usize);
+    let tag = tape[at + 1];
+    let own = tape[at + 2];
     if level == 0 {
-        put_segment(
-            out,
-            place,
-            tape[at + 1],
-            tape[at + 2],
-            0,
-            0,
-            0,
-            0,
-            [0u32; 6],
-        );
+        put_segment(out, place, tag, own, 0, 0, 0, 0, [0u32; 6]);
         return m;
     }
     let b = graft_body(tape, bytes, st, out, work, strs, p, m, at + 3, level - 1);
@@ -751,17 +744,9 @@ fn graft_segment(
     let words = b.words;
     let first = wire::u32_at(tape, at + 5);
     let second = wire::u32_at(tape, at + 9);
-    put_segment(
-        out,
-        place,
-        tape[at + 1],
-        tape[at + 2],
-        tape[at + 3],
-        tape[at + 4],
-        first,
-        second,
-        words,
-    );
+    let kind = tape[at + 3];
+    let variant = tape[at + 4];
+    put_segment(out, place, tag, own, kind, variant, first, second, words);
     k
 }
 

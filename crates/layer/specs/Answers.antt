@@ -1,9 +1,9 @@
 -- What `graft_layer` answers: a refusal exactly where the layer has no room, else the layer and the nodes as they stand in the two buffers.
-use mathlib.Core.Path.{_≡_, refl, sym, ap, ap₂, _∙_, subst}
+use mathlib.Core.Path.{_≡_, refl, sym, ap, ap₂, _∙_}
 use Prim.Native.Nat.{ℕ, _+_, _-_, _*_, _≤_, _<_, _^_}
 use native.Mathlib.Omega.{arith}
 use mathlib.Core.Bool.{Bool, true, false, _&&_, true≢false}
-use mathlib.Core.List.{List, [], _∷_, _++_, map, flatten, append-assoc}
+use mathlib.Core.List.{List, _∷_, _++_, map, flatten, append-assoc}
 use lib.ListN.{length, take, drop, length-append}
 use lib.Dec.{leb}
 use lib.Seq.{length-take-le}
@@ -24,13 +24,12 @@ use Rattle.sizes.specs.Added.{Added}
 use Rattle.sizes.specs.Capped.{fits, fits-room, sizesIn}
 use Rattle.sizes.specs.Calls.{Limited}
 use Rattle.graft.specs.declared.Mark.{Mark}
-use Rattle.graft.specs.Grafted.{Sized}
 use Rattle.layer.specs.declared.Offsets.{Offsets}
 use Rattle.layer.specs.declared.Layer.{Layer}
 use Rattle.layer.specs.Lengths.{newLengths, lengths-width, good-rising, string-lengths, Rising}
-use Rattle.layer.specs.Moved.{moved-written, three-blocks}
+use Rattle.layer.specs.LaidOut.{moved-written, three-blocks}
 use Rattle.layer.specs.Layered.{OffsetsFit, roomLeft, planOf, layerBy, layerRecords, layerOk, LayerSizes, LayerFits, layer-ok, layer-refused}
-use Rattle.layer.specs.Walked.{WalkRoom, WalkMade, Walked}
+use Rattle.layer.specs.Walked.{WalkRoom, WalkMade}
 
 -- The layer and the nodes where they belong. What stands behind the strings is not said.
 pub record LayerMade (out strs out′ strs′ : List ℕ) (at base : ℕ) (r : Layer) (g : With (List SourceNode)) : Type 0 where

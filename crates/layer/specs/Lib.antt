@@ -1,4 +1,4 @@
-pub mod Moved
+pub mod LaidOut
 pub mod Lengths
 pub mod Source
 pub mod Layered

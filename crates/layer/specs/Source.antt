@@ -28,7 +28,7 @@ use Rattle.sizes.specs.InPlace.{nodesAdd}
 use Rattle.sizes.specs.Trees.{nodesSize}
 use Rattle.sizes.specs.Shown.{shown-nodes-add}
 use Rattle.graft.specs.Walk.{Source}
-use Rattle.graft.specs.NodeLoop.{shownOf, shown-map}
+use Rattle.graft.specs.NodeItems.{shownOf, shown-map}
 
 pub record SourceFits (t d : List ℕ) (p : Places) (st : Store) : Type 0 where
   pub accepted : Accepted t d

@@ -10,7 +10,7 @@ use Rattle.model.specs.Limits.{minWorkWords}
 use Rattle.model.specs.Types.{SourceNode}
 use Rattle.model.specs.Intern.{StrInterner}
 use Rattle.model.specs.Tape.{recordsAt, recordsBytes, contentCodec, segmentCodec, nodeCodec}
-use Rattle.model.specs.Graft.{NewLayer, With, graftNodeRefs}
+use Rattle.model.specs.Graft.{With, graftNodeRefs}
 use Rattle.wire.specs.Overwrite.{overwrite}
 use Rattle.places.specs.declared.Places.{Places}
 use Rattle.store.specs.declared.Store.{Store}
@@ -27,8 +27,7 @@ use Rattle.graft.specs.declared.Mark.{Mark}
 use Rattle.graft.specs.Blocks.{blocks}
 use Rattle.graft.specs.Grafted.{layerFrom}
 use Rattle.graft.specs.Walk.{indexWords, Ready}
-use Rattle.graft.specs.NodeItems.{NodesTold, refsFrom}
-use Rattle.graft.specs.NodeLoop.{shownOf}
+use Rattle.graft.specs.NodeItems.{shownOf, NodesTold, refsFrom}
 use Rattle.layer.specs.declared.Offsets.{Offsets}
 use Rattle.layer.specs.Source.{SourceFits, source-of, source-adds, source-shown}
 use Rattle.layer.specs.Layered.{newLayer, graftedInto, sourceAdds, planOf, LayerSizes, layer-sizes}

@@ -5,16 +5,16 @@ use table::STARTS;
 ghost use mathlib.Core.Path.{_≡_};
 ghost use mathlib.Core.Bool.{false, _&&_};
 ghost use mathlib.Core.List.{_∷_, _++_};
-ghost use Prim.Native.Nat.{ℕ, _+_, _-_, _*_, _^_, _≤_, _<_};
+ghost use Prim.Native.Nat.{_+_, _-_, _*_, _^_, _≤_, _<_};
 ghost use lib.Dec.{leb};
 ghost use lib.ListN.{length, getD, take, drop};
 ghost use Rattle.model.specs.Limits.{maxPool, maxList, maxNewStrings, minWorkWords};
 ghost use Rattle.model.specs.Tape.{recordBytes, recordsBytes, stringCodec};
 ghost use Rattle.wire.specs.Overwrite.{overwrite};
-ghost use Rattle.layer.specs.Lengths.{newLength, newLengths, Rising};
 ghost use Rattle.strings.specs.Starts.{lengthsIn, Readable};
 ghost use Rattle.strings.specs.Index.{Indexed};
 ghost use Rattle.graft.specs.Walk.{indexWords};
+ghost use Rattle.layer.specs.Lengths.{newLength, newLengths, Rising};
 ghost use Rattle.layer.specs.Source.{SourceFits};
 ghost use Rattle.layer.specs.Layered.{OffsetsFit, roomLeft, layerBy, planOf, sourceAdds, graftedInto};
 ghost use Rattle.layer.specs.Walked.{offsetsOf, WalkRoom, Walked};
@@ -38,20 +38,6 @@ pub struct Layer {
     pub contents: u32,
     pub segments: u32,
     pub state: interner::StrInterner,
-}
-
-// ---- bytes moved up
-
-// The n bytes from a place on, moved up; from the end, since the two places may overlap.
-pub fn move_up(out: &mut [u8], from: usize, n: usize, by: usize)
-    requires { ⌜ from + n + by ≤ length (now out) ⌝ }
-    ensures { λ _. ⌜ now (out .exit) ≡ overwrite (now (out .entry)) (from + by) (take n (drop from (now (out .entry)))) ⌝ }
-{
-    let mut i = n;
-    while 0 < i {
-        i -= 1;
-        out[from + by + i] = out[from + i];
-    }
 }
 
 // ---- strings
@@ -95,7 +81,7 @@ fn lay_out(out: &mut [u8], work: &[u32], at: usize, n: usize, count: usize)
     requires { ⌜ (at + 1 + n + 5 * count ≤ length (now out)) × (count ≤ maxNewStrings) ⌝ }
     ensures { λ _. ⌜ now (out .exit) ≡ overwrite (now (out .entry)) at (2 ∷ (recordsBytes stringCodec (newLengths (now (work .entry)) count) ++ take n (drop (at + 1) (now (out .entry))))) ⌝ }
 {
-    move_up(out, at + 1, n, 5 * count);
+    wire::move_up(out, at + 1, n, 5 * count);
     wire::put_u8(out, at, 2);
     put_lengths(out, at + 1, work, count);
 }
@@ -185,6 +171,7 @@ fn layer_of(m: graft::Mark, len: usize) -> Layer
     }
 }
 
+// Contents go right behind the layer's 2, segments right behind them.
 fn plan_of(o: Offsets, at: usize, contents: u32) -> graft::Plan
     requires { ⌜ at + 1 + 10 * contents < 2 ^ 63 ⌝ }
     ensures { λ r. ⌜ r ≡ planOf o at contents ⌝ }
@@ -252,8 +239,16 @@ fn walk(
 
 // ---- the layer
 
-// The strings of a walk that wrote `len` bytes of a layer and `rest` of nodes.
-fn finish(out: &mut [u8], work: &[u32], below: u32, at: usize, len: usize, rest: usize, m: graft::Mark) -> Layer
+// The strings' records before what a walk wrote, `len` bytes of a layer and `rest` of nodes; not ok where they have no room.
+fn finish(
+    out: &mut [u8],
+    work: &[u32],
+    below: u32,
+    at: usize,
+    len: usize,
+    rest: usize,
+    m: graft::Mark,
+) -> Layer
     requires { ⌜ Rising (now work) (m .state .count) ⌝ }
     requires { ⌜ (below ≤ maxPool) × (m .state .count ≤ maxNewStrings) × (1 ≤ len) × (at + len + rest ≤ length (now out)) ⌝ }
     ensures { λ r. ⌜ Finished (now (work .entry)) below at len rest m (now (out .entry)) (now (out .exit)) r ⌝ }

@@ -4,3 +4,4 @@ pub mod Loops
 pub mod Runs
 pub mod Compare
 pub mod Parts
+pub mod Moved

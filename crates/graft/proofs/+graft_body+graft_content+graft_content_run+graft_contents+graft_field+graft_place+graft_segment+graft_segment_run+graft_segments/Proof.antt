@@ -8,8 +8,11 @@ use Rattle.ids.specs.Tests.{used-contents, used-segments}
 use Rattle.sizes.specs.InPlace.{innerAdds}
 use Rattle.graft.specs.Fields.{string-well, field-contents, field-segments, field-string, field-contents-ready, field-segments-ready, word-is, word-small, place-well, place-ready, place-told}
 use Rattle.graft.specs.Fields.{BodySoFar, body-first, body-ready, body-turn, body-more, body-refused, body-last}
-use Rattle.graft.specs.ContentItems.{ContentsUpTo, contents-first, content-ready, content-in, content-low, content-turn, contents-more, contents-refused, contents-last}
-use Rattle.graft.specs.SegmentItems.{SegmentsUpTo, segments-first, segment-ready, segment-in, segment-low, segment-turn, segments-more, segments-refused, segments-last}
+use Rattle.model.specs.Tape.{contentCodec, segmentCodec}
+use Rattle.graft.specs.Blocks.{Apart.between, Apart.beyond}
+use Rattle.graft.specs.Walk.{shownContents, shownSegments}
+use Rattle.graft.specs.Loop.{ItemsUpTo, items-first, item-ready, item-known, item-low, item-turn, items-more, items-refused, items-last}
+use Rattle.graft.specs.Kinds.{content-grafts, segment-grafts}
 use Rattle.graft.specs.Inner.{contents-ready, contents-high, contents-numbers, contents-others, contents-within, contents-known, content-run-answer}
 use Rattle.graft.specs.Inner.{segments-ready, segments-high, segments-numbers, segments-others, segments-within, segments-known, segment-run-answer}
 use Rattle.graft.specs.Items.{plain-known, plain-refused, plain-made, run-known, run-ready, run-refused, run-made, body-known, below-ready, segment-zero, below-refused, below-made}
@@ -599,7 +602,7 @@ graft-content-returns-4 : (t : ℕ) → graft-content-lts.Need-returns-4 (
 graft-content-returns-4 t c = run-made (c .before .before .before .before .before .before .before .before .before .before .before .before .before .before .before .before .before .before .before .before .before .before .before .before .before .before .args .tape .now) (c .before .before .before .before .before .before .before .before .before .before .before .before .before .before .before .before .before .before .before .before .before .before .before .before .before .before .args .st) (c .before .before .before .before .before .before .before .before .before .before .before .before .before .before .before .before .before .before .before .before .before .before .before .before .before .before .args .at) (c .before .before .before .before .before .before .before .before .before .before .before .before .before .before .before .before .before .before .before .before .content-at .result) (c .before .before .before .before .before .before .before .before .before .before .before .before .before .before .before .before .before .before .before .before .content-at .ensures) (c .before .before .before .before .before .before .before .before .before .before .before .before .before .before .before .before .before .before .before .before .before .before .before .before .before .before .args .level) (c .before .before .before .before .before .before .before .before .before .before .before .before .before .before .before .before .before .before .before .before .before .before .before .before .before .before .args .bytes .now) (c .before .before .before .before .before .before .before .before .before .before .before .before .before .before .before .before .before .before .before .before .before .before .before .before .before .before .args .p) (c .before .before .before .before .before .before .before .before .before .before .before .before .before .before .before .before .before .before .before .before .before .before .before .before .before .before .args .m) (c .before .before .before .before .before .before .before .before .before .before .before .before .before .before .before .before .before .before .before .before .before .before .before .before .before .before .args .to) (c .before .before .before .before .before .before .before .before .before .before .before .before .before .before .before .before .before .before .before .before .before .before .before .before .before .before .args .out .now) (c .before .before .before .before .before .before .before .before .before .before .before .before .before .before .before .before .before .before .before .before .before .before .before .before .before .before .args .work .now) (c .before .before .before .before .before .before .before .before .before .before .before .before .before .before .before .before .before .before .before .before .before .before .before .before .before .before .args .strs .now) (c .before .before .before .before .before .before .before .before .before .before .before .before .before .graft-segment-run .result) ((c .before .before .before .before .before .before .before .before .before .before .before .before .before .before .before .before .before .before .before .before .before .before .before .before .before .before .pre .1 .0) .source) (run-known (c .before .before .before .before .before .before .before .before .before .before .before .before .before .before .before .before .before .before .before .before .before .before .before .before .before .before .args .tape .now) (c .before .before .before .before .before .before .before .before .before .before .before .before .before .before .before .before .before .before .before .before .before .before .before .before .before .before .args .st) (c .before .before .before .before .before .before .before .before .before .before .before .before .before .before .before .before .before .before .before .before .before .before .before .before .before .before .args .at) (c .before .before .before .before .before .before .before .before .before .before .before .before .before .before .before .before .before .before .before .before .content-at .result) (c .before .before .before .before .before .before .before .before .before .before .before .before .before .before .before .before .before .before .before .before .content-at .ensures) (c .before .before .before .before .before .before .before .before .before .before .before .before .before .before .before .before .before .before .before .before .before .before .before .before .before .before .pre .1 .1 .0 .1) (c .before .before .before .before .before .before .before .before .before .before .before .before .before .before .before .before .before .if1 .left)) (c .before .before .before .before .before .before .before .before .before .before .before .before .before .before .before .before .before .if1 .left) (c .before .before .before .before .before .before .before .before .before .before .before .before .before .graft-segment-run .ensures) (not-false _ (c .before .before .before .before .if3 .left)) (c .before .before .put-content2 .ensures)
 
 -- src/lib.rt:405:37
-graft-content-run-add-t16 : (t : ℕ) → graft-content-run-lts.Need-add-t16 (
+graft-content-run-add-t17 : (t : ℕ) → graft-content-run-lts.Need-add-t17 (
   content-place-reads.Asked,
   content-place-reads.Learnt,
   inner-contents-reads.Asked,
@@ -609,7 +612,7 @@ graft-content-run-add-t16 : (t : ℕ) → graft-content-run-lts.Need-add-t16 (
   pushed-contents-reads.Asked,
   pushed-contents-reads.Learnt,
 ) (graft-content-run-at t) graft-content-run.Post
-graft-content-run-add-t16 t c = omega (arith, (c .before .before .before .before .before .before .before .before .pre .1 .0) .space .contentNumbers)
+graft-content-run-add-t17 t c = omega (arith, (c .before .before .before .before .before .before .before .before .pre .1 .0) .space .contentNumbers)
 
 -- src/lib.rt:405:9
 graft-content-run-returns : (t : ℕ) → graft-content-run-lts.Need-returns (
@@ -746,7 +749,7 @@ graft-content-run-returns-2 : (t : ℕ) → graft-content-run-lts.Need-returns-2
 graft-content-run-returns-2 t c = content-run-answer (c .before .before .before .before .before .before .before .before .before .before .before .before .before .before .before .before .before .before .before .before .args .level) (c .before .before .before .before .before .before .before .before .before .before .before .before .before .before .before .before .before .before .before .before .args .start) (c .before .before .before .before .before .before .before .before .before .before .before .before .before .before .before .before .before .before .before .before .args .len) (c .before .before .before .before .before .before .before .before .before .before .before .before .before .before .before .before .before .before .before .before .pre .1 .1) (c .before .before .before .before .before .before .before .before .before .before .before .before .before .before .before .before .before .before .before .before .pre .1 .0) (c .before .before .before .before .before .before .before .before .before .before .before .before .before .content-place .result) (c .before .before .before .before .before .before .before .before .before .before .before .before .before .content-place .ensures) ((c .before .before .before .before .before .before .before .before .before .before .before .before .before .before .before .before .before .before .before .before .args .m) .contents + c .before .before .before .before .before .before .before .before .before .before .before .before .inner-contents .result) (ap (λ (n : ℕ). (c .before .before .before .before .before .before .before .before .before .before .before .before .before .before .before .before .before .before .before .before .args .m) .contents + n) (c .before .before .before .before .before .before .before .before .before .before .before .before .inner-contents .ensures)) (c .before .before .before .before .before .before .before .graft-contents .ensures) (c .pushed-contents .result) (c .pushed-contents .ensures)
 
 abbrev graft-contents-Inv-loop : graft-contents-lts.InvT-loop
-graft-contents-Inv-loop tape bytes st out₀ work₀ strs₀ p at count to level u₀ i₀ out work strs u i = (i ≤ count) × ContentsUpTo level tape bytes p u₀ at to out₀ work₀ strs₀ out work strs u i × (length work ≡ length work₀) × (length strs ≡ length strs₀)
+graft-contents-Inv-loop tape bytes st out₀ work₀ strs₀ p at count to level u₀ i₀ out work strs u i = (i ≤ count) × ItemsUpTo tape contentCodec (shownContents level tape bytes) p u₀ at (p .contentsat + 10 * to) out₀ work₀ strs₀ out work strs u i × (length work ≡ length work₀) × (length strs ≡ length strs₀)
 
 abbrev graft-contents-μ-loop : graft-contents-lts.MeasureT-loop
 graft-contents-μ-loop tape bytes st out₀ work₀ strs₀ p at count to level u₀ i₀ out work strs u i = count - i
@@ -756,7 +759,7 @@ graft-contents-loop-holds : (t : ℕ) → graft-contents-lts.Need-loop-holds (
   graft-content-below t,
   graft-content.Post,
 ) (graft-contents-at t) graft-contents.Post graft-contents-Inv-loop graft-contents-μ-loop
-graft-contents-loop-holds t c = (omega arith, contents-first (c .before .before .before .before .before .args .level) (c .before .before .before .before .before .args .tape .now) (c .before .before .before .before .before .args .bytes .now) (c .before .before .before .before .before .args .st) (c .before .before .before .before .before .args .p) (c .before .before .before .before .before .args .m) (c .before .before .before .before .before .args .at) (c .before .before .before .before .before .args .count) (c .before .before .before .before .before .args .to) (c .before .before .before .before .before .args .out .now) (c .before .before .before .before .before .args .work .now) (c .before .before .before .before .before .args .strs .now) (c .before .before .before .before .before .pre .1 .0) (c .before .before .before .before .before .pre .1 .1 .0 .1), refl, refl)
+graft-contents-loop-holds t c = (omega arith, items-first (content-grafts ((c .before .before .before .before .before .pre .1 .0) .source) (c .before .before .before .before .before .args .level)) (c .before .before .before .before .before .args .at) (c .before .before .before .before .before .args .count) ((c .before .before .before .before .before .args .p) .contentsat + 10 * (c .before .before .before .before .before .args .to)) (c .before .before .before .before .before .pre .1 .0) (c .before .before .before .before .before .pre .1 .1 .0 .1), refl, refl)
 
 -- src/lib.rt:423:72
 graft-contents-mul-graft-content : (t : ℕ) → graft-contents-lts.Need-mul-graft-content (
@@ -791,7 +794,7 @@ graft-contents-graft-content-requires : (t : ℕ) → graft-contents-lts.Need-gr
   graft-content-below t,
   graft-content.Post,
 ) (graft-contents-at t) graft-contents.Post graft-contents-Inv-loop graft-contents-μ-loop
-graft-contents-graft-content-requires t c κs = (omega arith, (content-ready (c .before .before .before .before .before .before .before .before .before .before .args .level) (c .before .before .before .before .before .before .before .before .before .before .args .tape .now) (c .before .before .before .before .before .before .before .before .before .before .args .bytes .now) (c .before .before .before .before .before .before .before .before .before .before .args .st) (c .before .before .before .before .before .before .before .before .before .before .args .p) (c .before .before .before .before .before .before .before .before .before .before .args .m) (c .before .before .before .before .before .before .before .before .before .before .args .at) (c .before .before .before .before .before .before .before .before .before .before .args .count) (c .before .before .before .before .before .before .before .before .before .before .args .to) (c .before .before .before .before .before .before .before .before .before .before .args .out .now) (c .before .before .before .before .before .before .before .before .before .before .args .work .now) (c .before .before .before .before .before .before .before .before .before .before .args .strs .now) (c .before .before .before .before .before .before .before .before .before .before .pre .1 .0) (c .before .before .before .before .before .before .before .before .before .before .pre .1 .1 .0 .1) (c .before .before .before .before .loop .inv .1) (c .before .before .before .loop-test .taken), ((omega (arith, c .before .before .before .before .before .before .before .before .before .before .pre .1 .1 .0 .0, c .before .before .before .loop-test .taken), content-in (c .before .before .before .before .before .before .before .before .before .before .args .level) (c .before .before .before .before .before .before .before .before .before .before .args .tape .now) (c .before .before .before .before .before .before .before .before .before .before .args .bytes .now) (c .before .before .before .before .before .before .before .before .before .before .args .st) (c .before .before .before .before .before .before .before .before .before .before .args .p) (c .before .before .before .before .before .before .before .before .before .before .args .m) (c .before .before .before .before .before .before .before .before .before .before .args .at) (c .before .before .before .before .before .before .before .before .before .before .args .count) (c .before .before .before .before .before .before .before .before .before .before .args .to) (c .before .before .before .before .before .before .before .before .before .before .args .out .now) (c .before .before .before .before .before .before .before .before .before .before .args .work .now) (c .before .before .before .before .before .before .before .before .before .before .args .strs .now) (c .before .before .before .before .before .before .before .before .before .before .pre .1 .0) (c .before .before .before .before .before .before .before .before .before .before .pre .1 .1 .0 .1) (c .before .before .before .before .loop .i) (c .before .before .before .loop-test .taken)), (omega (arith, content-low (c .before .before .before .before .before .before .before .before .before .before .args .level) (c .before .before .before .before .before .before .before .before .before .before .args .tape .now) (c .before .before .before .before .before .before .before .before .before .before .args .bytes .now) (c .before .before .before .before .before .before .before .before .before .before .args .st) (c .before .before .before .before .before .before .before .before .before .before .args .p) (c .before .before .before .before .before .before .before .before .before .before .args .m) (c .before .before .before .before .before .before .before .before .before .before .args .at) (c .before .before .before .before .before .before .before .before .before .before .args .count) (c .before .before .before .before .before .before .before .before .before .before .args .to) (c .before .before .before .before .before .before .before .before .before .before .args .out .now) (c .before .before .before .before .before .before .before .before .before .before .args .work .now) (c .before .before .before .before .before .before .before .before .before .before .args .strs .now) (c .before .before .before .before .before .before .before .before .before .before .pre .1 .0) (c .before .before .before .before .before .before .before .before .before .before .pre .1 .1 .0 .1) (c .before .before .before .before .loop .inv .1) (c .before .before .before .loop-test .taken) (c .before .before .before .before .before .before .before .before .before .before .pre .1 .1 .1 .0)), omega (arith, (c .before .before .before .before .before .before .before .before .before .before .pre .1 .1 .1 .1), c .before .before .before .loop-test .taken)))))
+graft-contents-graft-content-requires t c κs = (omega arith, (item-ready (content-grafts ((c .before .before .before .before .before .before .before .before .before .before .pre .1 .0) .source) (c .before .before .before .before .before .before .before .before .before .before .args .level)) (c .before .before .before .before .before .before .before .before .before .before .args .at) (c .before .before .before .before .before .before .before .before .before .before .args .count) ((c .before .before .before .before .before .before .before .before .before .before .args .p) .contentsat + 10 * (c .before .before .before .before .before .before .before .before .before .before .args .to)) (c .before .before .before .before .before .before .before .before .before .before .pre .1 .0) (c .before .before .before .before .before .before .before .before .before .before .pre .1 .1 .0 .1) (c .before .before .before .before .loop .inv .1) (c .before .before .before .loop-test .taken), ((omega (arith, c .before .before .before .before .before .before .before .before .before .before .pre .1 .1 .0 .0, c .before .before .before .loop-test .taken), item-known (content-grafts ((c .before .before .before .before .before .before .before .before .before .before .pre .1 .0) .source) (c .before .before .before .before .before .before .before .before .before .before .args .level)) (c .before .before .before .before .before .before .before .before .before .before .args .at) (c .before .before .before .before .before .before .before .before .before .before .args .count) ((c .before .before .before .before .before .before .before .before .before .before .args .p) .contentsat + 10 * (c .before .before .before .before .before .before .before .before .before .before .args .to)) (c .before .before .before .before .before .before .before .before .before .before .pre .1 .0) (c .before .before .before .before .before .before .before .before .before .before .pre .1 .1 .0 .1) (c .before .before .before .before .loop .i) (c .before .before .before .loop-test .taken)), (omega (arith, item-low (content-grafts ((c .before .before .before .before .before .before .before .before .before .before .pre .1 .0) .source) (c .before .before .before .before .before .before .before .before .before .before .args .level)) (c .before .before .before .before .before .before .before .before .before .before .args .at) (c .before .before .before .before .before .before .before .before .before .before .args .count) ((c .before .before .before .before .before .before .before .before .before .before .args .p) .contentsat + 10 * (c .before .before .before .before .before .before .before .before .before .before .args .to)) (c .before .before .before .before .before .before .before .before .before .before .pre .1 .0) (c .before .before .before .before .before .before .before .before .before .before .pre .1 .1 .0 .1) (c .before .before .before .before .loop .inv .1) (c .before .before .before .loop-test .taken) .0, c .before .before .before .before .before .before .before .before .before .before .pre .1 .1 .1 .0), omega (arith, c .before .before .before .before .before .before .before .before .before .before .pre .1 .1 .1 .1, c .before .before .before .loop-test .taken)))))
 
 -- src/lib.rt:425:13
 graft-contents-same-length : (t : ℕ) → graft-contents-lts.Need-same-length (
@@ -819,7 +822,7 @@ graft-contents-returns : (t : ℕ) → graft-contents-lts.Need-returns (
   graft-content-below t,
   graft-content.Post,
 ) (graft-contents-at t) graft-contents.Post graft-contents-Inv-loop graft-contents-μ-loop
-graft-contents-returns t c = contents-refused (c .before .before .before .before .before .before .before .before .before .before .before .before .before .before .before .before .before .before .before .args .level) (c .before .before .before .before .before .before .before .before .before .before .before .before .before .before .before .before .before .before .before .args .tape .now) (c .before .before .before .before .before .before .before .before .before .before .before .before .before .before .before .before .before .before .before .args .bytes .now) (c .before .before .before .before .before .before .before .before .before .before .before .before .before .before .before .before .before .before .before .args .st) (c .before .before .before .before .before .before .before .before .before .before .before .before .before .before .before .before .before .before .before .args .p) (c .before .before .before .before .before .before .before .before .before .before .before .before .before .before .before .before .before .before .before .args .m) (c .before .before .before .before .before .before .before .before .before .before .before .before .before .before .before .before .before .before .before .args .at) (c .before .before .before .before .before .before .before .before .before .before .before .before .before .before .before .before .before .before .before .args .count) (c .before .before .before .before .before .before .before .before .before .before .before .before .before .before .before .before .before .before .before .args .to) (c .before .before .before .before .before .before .before .before .before .before .before .before .before .before .before .before .before .before .before .args .out .now) (c .before .before .before .before .before .before .before .before .before .before .before .before .before .before .before .before .before .before .before .args .work .now) (c .before .before .before .before .before .before .before .before .before .before .before .before .before .before .before .before .before .before .before .args .strs .now) (c .before .before .before .before .before .before .before .before .before .before .before .before .before .before .before .before .before .before .before .pre .1 .0) (c .before .before .before .before .before .before .before .before .before .before .before .before .before .before .before .before .before .before .before .pre .1 .1 .0 .1) (c .before .before .before .before .before .before .before .before .before .before .before .before .before .loop .i + 1) (omega (arith, c .before .before .before .before .before .before .before .before .before .before .before .before .loop-test .taken)) (content-turn (c .before .before .before .before .before .before .before .before .before .before .before .before .before .before .before .before .before .before .before .args .level) (c .before .before .before .before .before .before .before .before .before .before .before .before .before .before .before .before .before .before .before .args .tape .now) (c .before .before .before .before .before .before .before .before .before .before .before .before .before .before .before .before .before .before .before .args .bytes .now) (c .before .before .before .before .before .before .before .before .before .before .before .before .before .before .before .before .before .before .before .args .st) (c .before .before .before .before .before .before .before .before .before .before .before .before .before .before .before .before .before .before .before .args .p) (c .before .before .before .before .before .before .before .before .before .before .before .before .before .before .before .before .before .before .before .args .m) (c .before .before .before .before .before .before .before .before .before .before .before .before .before .before .before .before .before .before .before .args .at) (c .before .before .before .before .before .before .before .before .before .before .before .before .before .before .before .before .before .before .before .args .count) (c .before .before .before .before .before .before .before .before .before .before .before .before .before .before .before .before .before .before .before .args .to) (c .before .before .before .before .before .before .before .before .before .before .before .before .before .before .before .before .before .before .before .args .out .now) (c .before .before .before .before .before .before .before .before .before .before .before .before .before .before .before .before .before .before .before .args .work .now) (c .before .before .before .before .before .before .before .before .before .before .before .before .before .before .before .before .before .before .before .args .strs .now) (c .before .before .before .before .before .before .before .before .before .before .before .before .before .before .before .before .before .before .before .pre .1 .0) (c .before .before .before .before .before .before .before .before .before .before .before .before .before .before .before .before .before .before .before .pre .1 .1 .0 .1) (c .before .before .before .before .before .before .before .before .before .before .before .before .before .loop .inv .1) (c .before .before .before .before .before .before .before .before .before .before .before .before .loop-test .taken) (c .before .before .before .before .before .before .before .before .before .before .before .before .before .before .before .before .before .before .before .pre .1 .1 .1 .0) (c .before .before .before .before .before .before .before .before .before .before .before .before .before .before .before .before .before .before .before .pre .1 .1 .1 .1) ((c .before .before .before .before .before .before .before .before .before .before .before .before .before .before .before .before .before .before .before .args .to) + c .before .before .before .before .before .before .before .before .before .before .before .before .before .loop .i) refl (c .before .before .before .before .before .before .before .before .graft-content .ensures)) (not-true _ (c .if1 .taken))
+graft-contents-returns t c = items-refused (content-grafts ((c .before .before .before .before .before .before .before .before .before .before .before .before .before .before .before .before .before .before .before .pre .1 .0) .source) (c .before .before .before .before .before .before .before .before .before .before .before .before .before .before .before .before .before .before .before .args .level)) (c .before .before .before .before .before .before .before .before .before .before .before .before .before .before .before .before .before .before .before .args .at) (c .before .before .before .before .before .before .before .before .before .before .before .before .before .before .before .before .before .before .before .args .count) ((c .before .before .before .before .before .before .before .before .before .before .before .before .before .before .before .before .before .before .before .args .p) .contentsat + 10 * (c .before .before .before .before .before .before .before .before .before .before .before .before .before .before .before .before .before .before .before .args .to)) (c .before .before .before .before .before .before .before .before .before .before .before .before .before .before .before .before .before .before .before .pre .1 .0) (c .before .before .before .before .before .before .before .before .before .before .before .before .before .before .before .before .before .before .before .pre .1 .1 .0 .1) (c .before .before .before .before .before .before .before .before .before .before .before .before .before .loop .i + 1) (omega (arith, c .before .before .before .before .before .before .before .before .before .before .before .before .loop-test .taken)) (item-turn (content-grafts ((c .before .before .before .before .before .before .before .before .before .before .before .before .before .before .before .before .before .before .before .pre .1 .0) .source) (c .before .before .before .before .before .before .before .before .before .before .before .before .before .before .before .before .before .before .before .args .level)) (c .before .before .before .before .before .before .before .before .before .before .before .before .before .before .before .before .before .before .before .args .at) (c .before .before .before .before .before .before .before .before .before .before .before .before .before .before .before .before .before .before .before .args .count) ((c .before .before .before .before .before .before .before .before .before .before .before .before .before .before .before .before .before .before .before .args .p) .contentsat + 10 * (c .before .before .before .before .before .before .before .before .before .before .before .before .before .before .before .before .before .before .before .args .to)) (c .before .before .before .before .before .before .before .before .before .before .before .before .before .before .before .before .before .before .before .pre .1 .0) (c .before .before .before .before .before .before .before .before .before .before .before .before .before .before .before .before .before .before .before .pre .1 .1 .0 .1) (c .before .before .before .before .before .before .before .before .before .before .before .before .before .loop .inv .1) (c .before .before .before .before .before .before .before .before .before .before .before .before .loop-test .taken) (between (omega (arith, c .before .before .before .before .before .before .before .before .before .before .before .before .before .before .before .before .before .before .before .pre .1 .1 .1 .0)) (omega (arith, c .before .before .before .before .before .before .before .before .before .before .before .before .before .before .before .before .before .before .before .pre .1 .1 .1 .1))) ((c .before .before .before .before .before .before .before .before .before .before .before .before .before .before .before .before .before .before .before .args .p) .contentsat + 10 * ((c .before .before .before .before .before .before .before .before .before .before .before .before .before .before .before .before .before .before .before .args .to) + c .before .before .before .before .before .before .before .before .before .before .before .before .before .loop .i)) (omega arith) (c .before .before .before .before .before .before .before .before .graft-content .ensures)) (not-true _ (c .if1 .taken))
 
 -- src/lib.rt:427:9
 graft-contents-add-i : (t : ℕ) → graft-contents-lts.Need-add-i (
@@ -840,7 +843,7 @@ graft-contents-loop-again : (t : ℕ) → graft-contents-lts.Need-loop-again (
   graft-content-below t,
   graft-content.Post,
 ) (graft-contents-at t) graft-contents.Post graft-contents-Inv-loop graft-contents-μ-loop
-graft-contents-loop-again t c = (omega (arith, c .before .before .before .before .before .before .before .before .before .before .before .before .loop-test .taken), contents-more (c .before .before .before .before .before .before .before .before .before .before .before .before .before .before .before .before .before .before .before .args .level) (c .before .before .before .before .before .before .before .before .before .before .before .before .before .before .before .before .before .before .before .args .tape .now) (c .before .before .before .before .before .before .before .before .before .before .before .before .before .before .before .before .before .before .before .args .bytes .now) (c .before .before .before .before .before .before .before .before .before .before .before .before .before .before .before .before .before .before .before .args .st) (c .before .before .before .before .before .before .before .before .before .before .before .before .before .before .before .before .before .before .before .args .p) (c .before .before .before .before .before .before .before .before .before .before .before .before .before .before .before .before .before .before .before .args .m) (c .before .before .before .before .before .before .before .before .before .before .before .before .before .before .before .before .before .before .before .args .at) (c .before .before .before .before .before .before .before .before .before .before .before .before .before .before .before .before .before .before .before .args .count) (c .before .before .before .before .before .before .before .before .before .before .before .before .before .before .before .before .before .before .before .args .to) (c .before .before .before .before .before .before .before .before .before .before .before .before .before .before .before .before .before .before .before .args .out .now) (c .before .before .before .before .before .before .before .before .before .before .before .before .before .before .before .before .before .before .before .args .work .now) (c .before .before .before .before .before .before .before .before .before .before .before .before .before .before .before .before .before .before .before .args .strs .now) (c .before .before .before .before .before .before .before .before .before .before .before .before .before .before .before .before .before .before .before .pre .1 .0) (c .before .before .before .before .before .before .before .before .before .before .before .before .before .before .before .before .before .before .before .pre .1 .1 .0 .1) (c .before .before .before .before .before .before .before .before .before .before .before .before .before .loop .inv .1) (c .before .before .before .before .before .before .before .before .before .before .before .before .loop-test .taken) (c .before .before .before .before .before .before .before .before .before .before .before .before .before .before .before .before .before .before .before .pre .1 .1 .1 .0) (c .before .before .before .before .before .before .before .before .before .before .before .before .before .before .before .before .before .before .before .pre .1 .1 .1 .1) ((c .before .before .before .before .before .before .before .before .before .before .before .before .before .before .before .before .before .before .before .args .to) + c .before .before .before .before .before .before .before .before .before .before .before .before .before .loop .i) refl (c .before .before .before .before .before .before .before .before .graft-content .ensures) (c .before .before .before .before .before .before .before .before .graft-content .kept .1 .1 .1 .0) (not-false _ (c .if1 .left)), c .before .before .before .before .before .before .before .before .graft-content .kept .1 .1 .1 .1 .0 ∙ c .before .before .before .before .before .before .before .before .before .before .before .before .before .loop .inv .2, c .before .before .before .before .before .before .before .before .graft-content .kept .1 .1 .1 .1 .1 .0 ∙ c .before .before .before .before .before .before .before .before .before .before .before .before .before .loop .inv .3)
+graft-contents-loop-again t c = (omega (arith, c .before .before .before .before .before .before .before .before .before .before .before .before .loop-test .taken), items-more (content-grafts ((c .before .before .before .before .before .before .before .before .before .before .before .before .before .before .before .before .before .before .before .pre .1 .0) .source) (c .before .before .before .before .before .before .before .before .before .before .before .before .before .before .before .before .before .before .before .args .level)) (c .before .before .before .before .before .before .before .before .before .before .before .before .before .before .before .before .before .before .before .args .at) (c .before .before .before .before .before .before .before .before .before .before .before .before .before .before .before .before .before .before .before .args .count) ((c .before .before .before .before .before .before .before .before .before .before .before .before .before .before .before .before .before .before .before .args .p) .contentsat + 10 * (c .before .before .before .before .before .before .before .before .before .before .before .before .before .before .before .before .before .before .before .args .to)) (c .before .before .before .before .before .before .before .before .before .before .before .before .before .before .before .before .before .before .before .pre .1 .0) (c .before .before .before .before .before .before .before .before .before .before .before .before .before .before .before .before .before .before .before .pre .1 .1 .0 .1) (c .before .before .before .before .before .before .before .before .before .before .before .before .before .loop .inv .1) (c .before .before .before .before .before .before .before .before .before .before .before .before .loop-test .taken) (between (omega (arith, c .before .before .before .before .before .before .before .before .before .before .before .before .before .before .before .before .before .before .before .pre .1 .1 .1 .0)) (omega (arith, c .before .before .before .before .before .before .before .before .before .before .before .before .before .before .before .before .before .before .before .pre .1 .1 .1 .1))) ((c .before .before .before .before .before .before .before .before .before .before .before .before .before .before .before .before .before .before .before .args .p) .contentsat + 10 * ((c .before .before .before .before .before .before .before .before .before .before .before .before .before .before .before .before .before .before .before .args .to) + c .before .before .before .before .before .before .before .before .before .before .before .before .before .loop .i)) (omega arith) (c .before .before .before .before .before .before .before .before .graft-content .ensures) (c .before .before .before .before .before .before .before .before .graft-content .kept .1 .1 .1 .0) (not-false _ (c .if1 .left)), c .before .before .before .before .before .before .before .before .graft-content .kept .1 .1 .1 .1 .0 ∙ c .before .before .before .before .before .before .before .before .before .before .before .before .before .loop .inv .2, c .before .before .before .before .before .before .before .before .graft-content .kept .1 .1 .1 .1 .1 .0 ∙ c .before .before .before .before .before .before .before .before .before .before .before .before .before .loop .inv .3)
 
 -- src/lib.rt:414:1
 graft-contents-same-length-4 : (t : ℕ) → graft-contents-lts.Need-same-length-4 (
@@ -868,7 +871,7 @@ graft-contents-returns-2 : (t : ℕ) → graft-contents-lts.Need-returns-2 (
   graft-content-below t,
   graft-content.Post,
 ) (graft-contents-at t) graft-contents.Post graft-contents-Inv-loop graft-contents-μ-loop
-graft-contents-returns-2 t c = contents-last (c .before .before .before .before .before .before .before .args .level) (c .before .before .before .before .before .before .before .args .tape .now) (c .before .before .before .before .before .before .before .args .bytes .now) (c .before .before .before .before .before .before .before .args .st) (c .before .before .before .before .before .before .before .args .p) (c .before .before .before .before .before .before .before .args .m) (c .before .before .before .before .before .before .before .args .at) (c .before .before .before .before .before .before .before .args .count) (c .before .before .before .before .before .before .before .args .to) (c .before .before .before .before .before .before .before .args .out .now) (c .before .before .before .before .before .before .before .args .work .now) (c .before .before .before .before .before .before .before .args .strs .now) (c .before .before .before .before .before .before .before .pre .1 .0) (c .before .before .before .before .before .before .before .pre .1 .1 .0 .1) (c .before .loop .inv .1) (omega (arith, c .loop-test .left)) (c .before .loop .inv .0)
+graft-contents-returns-2 t c = items-last (content-grafts ((c .before .before .before .before .before .before .before .pre .1 .0) .source) (c .before .before .before .before .before .before .before .args .level)) (c .before .before .before .before .before .before .before .args .at) (c .before .before .before .before .before .before .before .args .count) ((c .before .before .before .before .before .before .before .args .p) .contentsat + 10 * (c .before .before .before .before .before .before .before .args .to)) (c .before .before .before .before .before .before .before .pre .1 .0) (c .before .before .before .before .before .before .before .pre .1 .1 .0 .1) (c .before .loop .inv .1) (omega (arith, c .loop-test .left)) (c .before .loop .inv .0)
 
 -- src/lib.rt:390:9
 graft-field-graft-content-run-requires : (t : ℕ) → graft-field-lts.Need-graft-content-run-requires (
@@ -1198,7 +1201,7 @@ graft-segment-add-place : (t : ℕ) → graft-segment-lts.Need-add-place (
 graft-segment-add-place t c = omega (arith, c .before .before .before .before .before .before .pre .1 .1 .1 .1)
 
 -- src/lib.rt:502:38
-graft-segment-add-put-segment : (t : ℕ) → graft-segment-lts.Need-add-put-segment (
+graft-segment-add-tag : (t : ℕ) → graft-segment-lts.Need-add-tag (
   put-segment-reads.Asked,
   put-segment-reads.Learnt,
   graft-body-below t,
@@ -1206,11 +1209,11 @@ graft-segment-add-put-segment : (t : ℕ) → graft-segment-lts.Need-add-put-seg
   u32-at-reads.Asked,
   u32-at-reads.Learnt,
 ) (graft-segment-at t) graft-segment.Post
-graft-segment-add-put-segment t c = omega (arith, c .before .before .before .before .before .before .before .before .pre .1 .1 .0 .0)
+graft-segment-add-tag t c = omega (arith, c .before .before .before .before .before .before .pre .1 .1 .0 .0)
 
 -- src/lib.rt:502:33
-graft-segment-shared-slice-read-put-segment :
-    (t : ℕ) → graft-segment-lts.Need-shared-slice-read-put-segment (
+graft-segment-shared-slice-read-tag :
+    (t : ℕ) → graft-segment-lts.Need-shared-slice-read-tag (
       put-segment-reads.Asked,
       put-segment-reads.Learnt,
       graft-body-below t,
@@ -1218,10 +1221,10 @@ graft-segment-shared-slice-read-put-segment :
       u32-at-reads.Asked,
       u32-at-reads.Learnt,
     ) (graft-segment-at t) graft-segment.Post
-graft-segment-shared-slice-read-put-segment t c = omega (arith, c .before .before .before .before .before .before .before .before .before .pre .1 .1 .0 .0)
+graft-segment-shared-slice-read-tag t c = omega (arith, c .before .before .before .before .before .before .before .pre .1 .1 .0 .0)
 
 -- src/lib.rt:502:52
-graft-segment-add-put-segment-2 : (t : ℕ) → graft-segment-lts.Need-add-put-segment-2 (
+graft-segment-add-own : (t : ℕ) → graft-segment-lts.Need-add-own (
   put-segment-reads.Asked,
   put-segment-reads.Learnt,
   graft-body-below t,
@@ -1229,11 +1232,11 @@ graft-segment-add-put-segment-2 : (t : ℕ) → graft-segment-lts.Need-add-put-s
   u32-at-reads.Asked,
   u32-at-reads.Learnt,
 ) (graft-segment-at t) graft-segment.Post
-graft-segment-add-put-segment-2 t c = omega (arith, c .before .before .before .before .before .before .before .before .before .pre .1 .1 .0 .0)
+graft-segment-add-own t c = omega (arith, c .before .before .before .before .before .before .before .pre .1 .1 .0 .0)
 
 -- src/lib.rt:502:47
-graft-segment-shared-slice-read-put-segment-2 :
-    (t : ℕ) → graft-segment-lts.Need-shared-slice-read-put-segment-2 (
+graft-segment-shared-slice-read-own :
+    (t : ℕ) → graft-segment-lts.Need-shared-slice-read-own (
       put-segment-reads.Asked,
       put-segment-reads.Learnt,
       graft-body-below t,
@@ -1241,7 +1244,7 @@ graft-segment-shared-slice-read-put-segment-2 :
       u32-at-reads.Asked,
       u32-at-reads.Learnt,
     ) (graft-segment-at t) graft-segment.Post
-graft-segment-shared-slice-read-put-segment-2 t c = omega (arith, c .before .before .before .before .before .before .before .before .before .before .pre .1 .1 .0 .0)
+graft-segment-shared-slice-read-own t c = omega (arith, c .before .before .before .before .before .before .before .before .pre .1 .1 .0 .0)
 
 -- src/lib.rt:502:9
 graft-segment-put-segment-requires : (t : ℕ) → graft-segment-lts.Need-put-segment-requires (
@@ -1274,7 +1277,7 @@ graft-segment-returns : (t : ℕ) → graft-segment-lts.Need-returns (
   u32-at-reads.Asked,
   u32-at-reads.Learnt,
 ) (graft-segment-at t) graft-segment.Post
-graft-segment-returns t c = segment-zero (c .before .before .before .before .before .before .before .before .before .before .before .before .before .args .tape .now) (c .before .before .before .before .before .before .before .before .before .before .before .before .before .args .bytes .now) (c .before .before .before .before .before .before .before .before .before .before .before .before .before .args .at) (c .before .before .before .before .before .before .before .before .before .before .before .before .before .args .p) (c .before .before .before .before .before .before .before .before .before .before .before .before .before .args .m) (c .before .before .before .before .before .before .before .before .before .before .before .before .before .args .to) (c .before .before .before .before .before .before .before .before .before .before .before .before .before .args .out .now) (c .before .before .before .before .before .before .before .before .before .before .before .before .before .args .work .now) (c .before .before .before .before .before .before .before .before .before .before .before .before .before .args .strs .now) (c .before .before .before .before .before .before .before .before .before .before .before .before .before .args .level) (c .before .before .before .before .before .before .if1 .taken) (told-none (c .before .before .before .before .before .before .before .before .before .before .before .before .before .pre .1 .0)) ((c .before .before .before .before .before .before .before .before .before .before .before .before .before .pre .1 .0) .going) (c .before .before .put-segment .ensures)
+graft-segment-returns t c = segment-zero (c .before .before .before .before .before .before .before .before .before .before .before .before .before .args .tape .now) (c .before .before .before .before .before .before .before .before .before .before .before .before .before .args .bytes .now) (c .before .before .before .before .before .before .before .before .before .before .before .before .before .args .at) (c .before .before .before .before .before .before .before .before .before .before .before .before .before .args .p) (c .before .before .before .before .before .before .before .before .before .before .before .before .before .args .m) (c .before .before .before .before .before .before .before .before .before .before .before .before .before .args .to) (c .before .before .before .before .before .before .before .before .before .before .before .before .before .args .out .now) (c .before .before .before .before .before .before .before .before .before .before .before .before .before .args .work .now) (c .before .before .before .before .before .before .before .before .before .before .before .before .before .args .strs .now) (c .before .before .before .before .before .before .before .before .before .before .before .before .before .args .level) (c .before .before .before .before .if1 .taken) (told-none (c .before .before .before .before .before .before .before .before .before .before .before .before .before .pre .1 .0)) (c .before .before .put-segment .ensures)
 
 -- src/lib.rt:505:64
 graft-segment-add-graft-body : (t : ℕ) → graft-segment-lts.Need-add-graft-body (
@@ -1285,7 +1288,7 @@ graft-segment-add-graft-body : (t : ℕ) → graft-segment-lts.Need-add-graft-bo
   u32-at-reads.Asked,
   u32-at-reads.Learnt,
 ) (graft-segment-at t) graft-segment.Post
-graft-segment-add-graft-body t c = omega (arith, c .before .before .before .before .before .before .before .before .before .before .pre .1 .1 .0 .0)
+graft-segment-add-graft-body t c = omega (arith, c .before .before .before .before .before .before .before .before .before .before .before .before .pre .1 .1 .0 .0)
 
 -- src/lib.rt:505:72
 graft-segment-sub-graft-body : (t : ℕ) → graft-segment-lts.Need-sub-graft-body (
@@ -1307,7 +1310,7 @@ graft-segment-graft-body-requires : (t : ℕ) → graft-segment-lts.Need-graft-b
   u32-at-reads.Asked,
   u32-at-reads.Learnt,
 ) (graft-segment-at t) graft-segment.Post
-graft-segment-graft-body-requires t c κs = (omega (arith, c .before .before .before .if1 .left), (below-ready (c .before .before .before .before .before .before .before .before .before .before .args .level) (c .before .before .before .before .before .before .before .before .before .before .args .at) (c .before .before .before .if1 .left) (c .before .before .before .before .before .before .before .before .before .before .pre .1 .0), (omega (arith, c .before .before .before .before .before .before .before .before .before .before .pre .1 .1 .0 .0), body-known (c .before .before .before .before .before .before .before .before .before .before .args .st) (c .before .before .before .before .before .before .before .before .before .before .args .tape .now) (c .before .before .before .before .before .before .before .before .before .before .args .at) (c .before .before .before .before .before .before .before .before .before .before .pre .1 .1 .0 .1))))
+graft-segment-graft-body-requires t c κs = (omega (arith, c .before .before .before .if1 .left), (below-ready (c .before .before .before .before .before .before .before .before .before .before .before .before .args .level) (c .before .before .before .before .before .before .before .before .before .before .before .before .args .at) (c .before .before .before .if1 .left) (c .before .before .before .before .before .before .before .before .before .before .before .before .pre .1 .0), (omega (arith, c .before .before .before .before .before .before .before .before .before .before .before .before .pre .1 .1 .0 .0), body-known (c .before .before .before .before .before .before .before .before .before .before .before .before .args .st) (c .before .before .before .before .before .before .before .before .before .before .before .before .args .tape .now) (c .before .before .before .before .before .before .before .before .before .before .before .before .args .at) (c .before .before .before .before .before .before .before .before .before .before .before .before .pre .1 .1 .0 .1))))
 
 -- src/lib.rt:508:9
 graft-segment-same-length-2 : (t : ℕ) → graft-segment-lts.Need-same-length-2 (
@@ -1351,7 +1354,7 @@ graft-segment-returns-2 : (t : ℕ) → graft-segment-lts.Need-returns-2 (
   u32-at-reads.Asked,
   u32-at-reads.Learnt,
 ) (graft-segment-at t) graft-segment.Post
-graft-segment-returns-2 t c = below-refused (c .before .before .before .before .before .before .before .before .before .before .before .before .before .before .before .before .before .before .before .before .args .tape .now) (c .before .before .before .before .before .before .before .before .before .before .before .before .before .before .before .before .before .before .before .before .args .bytes .now) (c .before .before .before .before .before .before .before .before .before .before .before .before .before .before .before .before .before .before .before .before .args .at) (c .before .before .before .before .before .before .before .before .before .before .before .before .before .before .before .before .before .before .before .before .args .p) (c .before .before .before .before .before .before .before .before .before .before .before .before .before .before .before .before .before .before .before .before .args .m) (c .before .before .before .before .before .before .before .before .before .before .before .before .before .before .before .before .before .before .before .before .args .to) (c .before .before .before .before .before .before .before .before .before .before .before .before .before .before .before .before .before .before .before .before .args .out .now) (c .before .before .before .before .before .before .before .before .before .before .before .before .before .before .before .before .before .before .before .before .args .work .now) (c .before .before .before .before .before .before .before .before .before .before .before .before .before .before .before .before .before .before .before .before .args .strs .now) (c .before .before .before .before .before .before .before .before .before .before .before .before .before .before .before .before .before .before .before .before .args .level) (c .before .before .before .before .before .before .before .before .before .before .before .before .before .if1 .left) (c .before .before .before .before .before .before .before .before .before .graft-body .result) (c .before .before .before .before .before .before .before .before .before .graft-body .ensures) (not-true _ (c .if2 .taken))
+graft-segment-returns-2 t c = below-refused (c .before .before .before .before .before .before .before .before .before .before .before .before .before .before .before .before .before .before .before .before .before .before .args .tape .now) (c .before .before .before .before .before .before .before .before .before .before .before .before .before .before .before .before .before .before .before .before .before .before .args .bytes .now) (c .before .before .before .before .before .before .before .before .before .before .before .before .before .before .before .before .before .before .before .before .before .before .args .at) (c .before .before .before .before .before .before .before .before .before .before .before .before .before .before .before .before .before .before .before .before .before .before .args .p) (c .before .before .before .before .before .before .before .before .before .before .before .before .before .before .before .before .before .before .before .before .before .before .args .m) (c .before .before .before .before .before .before .before .before .before .before .before .before .before .before .before .before .before .before .before .before .before .before .args .to) (c .before .before .before .before .before .before .before .before .before .before .before .before .before .before .before .before .before .before .before .before .before .before .args .out .now) (c .before .before .before .before .before .before .before .before .before .before .before .before .before .before .before .before .before .before .before .before .before .before .args .work .now) (c .before .before .before .before .before .before .before .before .before .before .before .before .before .before .before .before .before .before .before .before .before .before .args .strs .now) (c .before .before .before .before .before .before .before .before .before .before .before .before .before .before .before .before .before .before .before .before .before .before .args .level) (c .before .before .before .before .before .before .before .before .before .before .before .before .before .if1 .left) (c .before .before .before .before .before .before .before .before .before .graft-body .result) (c .before .before .before .before .before .before .before .before .before .graft-body .ensures) (not-true _ (c .if2 .taken))
 
 -- src/lib.rt:511:36
 graft-segment-add-u32-at : (t : ℕ) → graft-segment-lts.Need-add-u32-at (
@@ -1362,7 +1365,7 @@ graft-segment-add-u32-at : (t : ℕ) → graft-segment-lts.Need-add-u32-at (
   u32-at-reads.Asked,
   u32-at-reads.Learnt,
 ) (graft-segment-at t) graft-segment.Post
-graft-segment-add-u32-at t c = omega (arith, c .before .before .before .before .before .before .before .before .before .before .before .before .before .before .before .before .before .before .before .before .before .pre .1 .1 .0 .0, c .before .before .before .before .before .before .before .before .before .before .before .before .before .before .before .before .before .before .before .before .before .good, c .before .before .before .before .before .before .before .before .before .before .before .before .before .before .before .before .before .before .before .before .before .fits)
+graft-segment-add-u32-at t c = omega (arith, c .before .before .before .before .before .before .before .before .before .before .before .before .before .before .before .before .before .before .before .before .before .before .before .pre .1 .1 .0 .0, c .before .before .before .before .before .before .before .before .before .before .before .before .before .before .before .before .before .before .before .before .before .before .before .good, c .before .before .before .before .before .before .before .before .before .before .before .before .before .before .before .before .before .before .before .before .before .before .before .fits)
 
 -- src/lib.rt:511:9
 graft-segment-u32-at-requires : (t : ℕ) → graft-segment-lts.Need-u32-at-requires (
@@ -1373,7 +1376,7 @@ graft-segment-u32-at-requires : (t : ℕ) → graft-segment-lts.Need-u32-at-requ
   u32-at-reads.Asked,
   u32-at-reads.Learnt,
 ) (graft-segment-at t) graft-segment.Post
-graft-segment-u32-at-requires t c κs = omega (arith, c .before .before .before .before .before .before .before .before .before .before .before .before .before .before .before .before .before .before .before .before .before .pre .1 .1 .0 .0)
+graft-segment-u32-at-requires t c κs = omega (arith, c .before .before .before .before .before .before .before .before .before .before .before .before .before .before .before .before .before .before .before .before .before .before .before .pre .1 .1 .0 .0)
 
 -- src/lib.rt:512:37
 graft-segment-add-u32-at-2 : (t : ℕ) → graft-segment-lts.Need-add-u32-at-2 (
@@ -1384,7 +1387,7 @@ graft-segment-add-u32-at-2 : (t : ℕ) → graft-segment-lts.Need-add-u32-at-2 (
   u32-at-reads.Asked,
   u32-at-reads.Learnt,
 ) (graft-segment-at t) graft-segment.Post
-graft-segment-add-u32-at-2 t c = omega (arith, c .before .before .before .before .before .before .before .before .before .before .before .before .before .before .before .before .before .before .before .before .before .before .pre .1 .1 .0 .0, c .before .before .before .before .before .before .before .before .before .before .before .before .before .before .before .before .before .before .before .before .before .before .good, c .before .before .before .before .before .before .before .before .before .before .before .before .before .before .before .before .before .before .before .before .before .before .fits)
+graft-segment-add-u32-at-2 t c = omega (arith, c .before .before .before .before .before .before .before .before .before .before .before .before .before .before .before .before .before .before .before .before .before .before .before .before .pre .1 .1 .0 .0, c .before .before .before .before .before .before .before .before .before .before .before .before .before .before .before .before .before .before .before .before .before .before .before .before .good, c .before .before .before .before .before .before .before .before .before .before .before .before .before .before .before .before .before .before .before .before .before .before .before .before .fits)
 
 -- src/lib.rt:512:9
 graft-segment-u32-at-requires-2 : (t : ℕ) → graft-segment-lts.Need-u32-at-requires-2 (
@@ -1395,56 +1398,10 @@ graft-segment-u32-at-requires-2 : (t : ℕ) → graft-segment-lts.Need-u32-at-re
   u32-at-reads.Asked,
   u32-at-reads.Learnt,
 ) (graft-segment-at t) graft-segment.Post
-graft-segment-u32-at-requires-2 t c κs = omega (arith, c .before .before .before .before .before .before .before .before .before .before .before .before .before .before .before .before .before .before .before .before .before .before .pre .1 .1 .0 .0)
-
--- src/lib.rt:513:34
-graft-segment-add-put-segment-3 : (t : ℕ) → graft-segment-lts.Need-add-put-segment-3 (
-  put-segment-reads.Asked,
-  put-segment-reads.Learnt,
-  graft-body-below t,
-  graft-body.Post,
-  u32-at-reads.Asked,
-  u32-at-reads.Learnt,
-) (graft-segment-at t) graft-segment.Post
-graft-segment-add-put-segment-3 t c = omega (arith, c .before .before .before .before .before .before .before .before .before .before .before .before .before .before .before .before .before .before .before .before .before .before .before .before .pre .1 .1 .0 .0, c .before .before .before .before .before .before .before .before .before .before .before .before .before .before .before .before .before .before .before .before .before .before .before .before .good, c .before .before .before .before .before .before .before .before .before .before .before .before .before .before .before .before .before .before .before .before .before .before .before .before .fits)
-
--- src/lib.rt:513:29
-graft-segment-shared-slice-read-put-segment-3 :
-    (t : ℕ) → graft-segment-lts.Need-shared-slice-read-put-segment-3 (
-      put-segment-reads.Asked,
-      put-segment-reads.Learnt,
-      graft-body-below t,
-      graft-body.Post,
-      u32-at-reads.Asked,
-      u32-at-reads.Learnt,
-    ) (graft-segment-at t) graft-segment.Post
-graft-segment-shared-slice-read-put-segment-3 t c = omega (arith, c .before .before .before .before .before .before .before .before .before .before .before .before .before .before .before .before .before .before .before .before .before .before .before .before .before .pre .1 .1 .0 .0)
-
--- src/lib.rt:513:48
-graft-segment-add-put-segment-4 : (t : ℕ) → graft-segment-lts.Need-add-put-segment-4 (
-  put-segment-reads.Asked,
-  put-segment-reads.Learnt,
-  graft-body-below t,
-  graft-body.Post,
-  u32-at-reads.Asked,
-  u32-at-reads.Learnt,
-) (graft-segment-at t) graft-segment.Post
-graft-segment-add-put-segment-4 t c = omega (arith, c .before .before .before .before .before .before .before .before .before .before .before .before .before .before .before .before .before .before .before .before .before .before .before .before .before .pre .1 .1 .0 .0, c .before .before .before .before .before .before .before .before .before .before .before .before .before .before .before .before .before .before .before .before .before .before .before .before .before .good, c .before .before .before .before .before .before .before .before .before .before .before .before .before .before .before .before .before .before .before .before .before .before .before .before .before .fits)
-
--- src/lib.rt:513:43
-graft-segment-shared-slice-read-put-segment-4 :
-    (t : ℕ) → graft-segment-lts.Need-shared-slice-read-put-segment-4 (
-      put-segment-reads.Asked,
-      put-segment-reads.Learnt,
-      graft-body-below t,
-      graft-body.Post,
-      u32-at-reads.Asked,
-      u32-at-reads.Learnt,
-    ) (graft-segment-at t) graft-segment.Post
-graft-segment-shared-slice-read-put-segment-4 t c = omega (arith, c .before .before .before .before .before .before .before .before .before .before .before .before .before .before .before .before .before .before .before .before .before .before .before .before .before .before .pre .1 .1 .0 .0)
+graft-segment-u32-at-requires-2 t c κs = omega (arith, c .before .before .before .before .before .before .before .before .before .before .before .before .before .before .before .before .before .before .before .before .before .before .before .before .pre .1 .1 .0 .0)
 
 -- src/lib.rt:513:62
-graft-segment-add-put-segment-5 : (t : ℕ) → graft-segment-lts.Need-add-put-segment-5 (
+graft-segment-add-kind : (t : ℕ) → graft-segment-lts.Need-add-kind (
   put-segment-reads.Asked,
   put-segment-reads.Learnt,
   graft-body-below t,
@@ -1452,11 +1409,11 @@ graft-segment-add-put-segment-5 : (t : ℕ) → graft-segment-lts.Need-add-put-s
   u32-at-reads.Asked,
   u32-at-reads.Learnt,
 ) (graft-segment-at t) graft-segment.Post
-graft-segment-add-put-segment-5 t c = omega (arith, c .before .before .before .before .before .before .before .before .before .before .before .before .before .before .before .before .before .before .before .before .before .before .before .before .before .before .pre .1 .1 .0 .0, c .before .before .before .before .before .before .before .before .before .before .before .before .before .before .before .before .before .before .before .before .before .before .before .before .before .before .good, c .before .before .before .before .before .before .before .before .before .before .before .before .before .before .before .before .before .before .before .before .before .before .before .before .before .before .fits)
+graft-segment-add-kind t c = omega (arith, c .before .before .before .before .before .before .before .before .before .before .before .before .before .before .before .before .before .before .before .before .before .before .before .before .before .pre .1 .1 .0 .0, c .before .before .before .before .before .before .before .before .before .before .before .before .before .before .before .before .before .before .before .before .before .before .before .before .before .good, c .before .before .before .before .before .before .before .before .before .before .before .before .before .before .before .before .before .before .before .before .before .before .before .before .before .fits)
 
 -- src/lib.rt:513:57
-graft-segment-shared-slice-read-put-segment-5 :
-    (t : ℕ) → graft-segment-lts.Need-shared-slice-read-put-segment-5 (
+graft-segment-shared-slice-read-kind :
+    (t : ℕ) → graft-segment-lts.Need-shared-slice-read-kind (
       put-segment-reads.Asked,
       put-segment-reads.Learnt,
       graft-body-below t,
@@ -1464,10 +1421,10 @@ graft-segment-shared-slice-read-put-segment-5 :
       u32-at-reads.Asked,
       u32-at-reads.Learnt,
     ) (graft-segment-at t) graft-segment.Post
-graft-segment-shared-slice-read-put-segment-5 t c = omega (arith, c .before .before .before .before .before .before .before .before .before .before .before .before .before .before .before .before .before .before .before .before .before .before .before .before .before .before .before .pre .1 .1 .0 .0)
+graft-segment-shared-slice-read-kind t c = omega (arith, c .before .before .before .before .before .before .before .before .before .before .before .before .before .before .before .before .before .before .before .before .before .before .before .before .before .before .pre .1 .1 .0 .0)
 
 -- src/lib.rt:513:76
-graft-segment-add-put-segment-6 : (t : ℕ) → graft-segment-lts.Need-add-put-segment-6 (
+graft-segment-add-variant : (t : ℕ) → graft-segment-lts.Need-add-variant (
   put-segment-reads.Asked,
   put-segment-reads.Learnt,
   graft-body-below t,
@@ -1475,11 +1432,11 @@ graft-segment-add-put-segment-6 : (t : ℕ) → graft-segment-lts.Need-add-put-s
   u32-at-reads.Asked,
   u32-at-reads.Learnt,
 ) (graft-segment-at t) graft-segment.Post
-graft-segment-add-put-segment-6 t c = omega (arith, c .before .before .before .before .before .before .before .before .before .before .before .before .before .before .before .before .before .before .before .before .before .before .before .before .before .before .before .pre .1 .1 .0 .0, c .before .before .before .before .before .before .before .before .before .before .before .before .before .before .before .before .before .before .before .before .before .before .before .before .before .before .before .good, c .before .before .before .before .before .before .before .before .before .before .before .before .before .before .before .before .before .before .before .before .before .before .before .before .before .before .before .fits)
+graft-segment-add-variant t c = omega (arith, c .before .before .before .before .before .before .before .before .before .before .before .before .before .before .before .before .before .before .before .before .before .before .before .before .before .before .pre .1 .1 .0 .0, c .before .before .before .before .before .before .before .before .before .before .before .before .before .before .before .before .before .before .before .before .before .before .before .before .before .before .good, c .before .before .before .before .before .before .before .before .before .before .before .before .before .before .before .before .before .before .before .before .before .before .before .before .before .before .fits)
 
 -- src/lib.rt:513:71
-graft-segment-shared-slice-read-put-segment-6 :
-    (t : ℕ) → graft-segment-lts.Need-shared-slice-read-put-segment-6 (
+graft-segment-shared-slice-read-variant :
+    (t : ℕ) → graft-segment-lts.Need-shared-slice-read-variant (
       put-segment-reads.Asked,
       put-segment-reads.Learnt,
       graft-body-below t,
@@ -1487,7 +1444,7 @@ graft-segment-shared-slice-read-put-segment-6 :
       u32-at-reads.Asked,
       u32-at-reads.Learnt,
     ) (graft-segment-at t) graft-segment.Post
-graft-segment-shared-slice-read-put-segment-6 t c = omega (arith, c .before .before .before .before .before .before .before .before .before .before .before .before .before .before .before .before .before .before .before .before .before .before .before .before .before .before .before .before .pre .1 .1 .0 .0)
+graft-segment-shared-slice-read-variant t c = omega (arith, c .before .before .before .before .before .before .before .before .before .before .before .before .before .before .before .before .before .before .before .before .before .before .before .before .before .before .before .pre .1 .1 .0 .0)
 
 -- src/lib.rt:513:5
 graft-segment-put-segment-requires-2 : (t : ℕ) → graft-segment-lts.Need-put-segment-requires-2 (
@@ -1498,7 +1455,7 @@ graft-segment-put-segment-requires-2 : (t : ℕ) → graft-segment-lts.Need-put-
   u32-at-reads.Asked,
   u32-at-reads.Learnt,
 ) (graft-segment-at t) graft-segment.Post
-graft-segment-put-segment-requires-2 t c κs = omega (arith, c .before .before .before .before .before .before .before .before .before .before .before .before .before .before .before .before .before .before .before .before .before .before .before .before .before .before .before .before .pre .1 .1 .1 .1, c .before .before .before .before .before .before .before .before .before .before .before .before .before .before .before .before .before .graft-body .kept .1 .1 .1 .0)
+graft-segment-put-segment-requires-2 t c κs = omega (arith, c .before .before .before .before .before .before .before .before .before .before .before .before .before .before .before .before .before .before .before .before .before .before .before .before .before .before .before .before .pre .1 .1 .1 .1, c .before .before .before .before .before .before .before .before .before .before .before .before .before .before .before .graft-body .kept .1 .1 .1 .0)
 
 -- src/lib.rt:494:1
 graft-segment-same-length-5 : (t : ℕ) → graft-segment-lts.Need-same-length-5 (
@@ -1509,7 +1466,7 @@ graft-segment-same-length-5 : (t : ℕ) → graft-segment-lts.Need-same-length-5
   u32-at-reads.Asked,
   u32-at-reads.Learnt,
 ) (graft-segment-at t) graft-segment.Post
-graft-segment-same-length-5 t c = c .before .before .put-segment2 .kept .0 ∙ c .before .before .before .before .before .before .before .before .before .before .before .before .before .before .before .before .before .before .before .before .graft-body .kept .1 .1 .1 .0
+graft-segment-same-length-5 t c = c .before .before .put-segment2 .kept .0 ∙ c .before .before .before .before .before .before .before .before .before .before .before .before .before .before .before .before .before .before .graft-body .kept .1 .1 .1 .0
 
 -- src/lib.rt:494:1
 graft-segment-same-length-6 : (t : ℕ) → graft-segment-lts.Need-same-length-6 (
@@ -1520,7 +1477,7 @@ graft-segment-same-length-6 : (t : ℕ) → graft-segment-lts.Need-same-length-6
   u32-at-reads.Asked,
   u32-at-reads.Learnt,
 ) (graft-segment-at t) graft-segment.Post
-graft-segment-same-length-6 t c = c .before .before .before .before .before .before .before .before .before .before .before .before .before .before .before .before .before .before .before .before .graft-body .kept .1 .1 .1 .1 .0
+graft-segment-same-length-6 t c = c .before .before .before .before .before .before .before .before .before .before .before .before .before .before .before .before .before .before .graft-body .kept .1 .1 .1 .1 .0
 
 -- src/lib.rt:494:1
 graft-segment-same-length-7 : (t : ℕ) → graft-segment-lts.Need-same-length-7 (
@@ -1531,7 +1488,7 @@ graft-segment-same-length-7 : (t : ℕ) → graft-segment-lts.Need-same-length-7
   u32-at-reads.Asked,
   u32-at-reads.Learnt,
 ) (graft-segment-at t) graft-segment.Post
-graft-segment-same-length-7 t c = c .before .before .before .before .before .before .before .before .before .before .before .before .before .before .before .before .before .before .before .before .graft-body .kept .1 .1 .1 .1 .1 .0
+graft-segment-same-length-7 t c = c .before .before .before .before .before .before .before .before .before .before .before .before .before .before .before .before .before .before .graft-body .kept .1 .1 .1 .1 .1 .0
 
 -- src/lib.rt:494:1
 graft-segment-returns-3 : (t : ℕ) → graft-segment-lts.Need-returns-3 (
@@ -1542,10 +1499,10 @@ graft-segment-returns-3 : (t : ℕ) → graft-segment-lts.Need-returns-3 (
   u32-at-reads.Asked,
   u32-at-reads.Learnt,
 ) (graft-segment-at t) graft-segment.Post
-graft-segment-returns-3 t c = below-made (c .before .before .before .before .before .before .before .before .before .before .before .before .before .before .before .before .before .before .before .before .before .before .before .before .before .before .before .before .before .before .before .args .tape .now) (c .before .before .before .before .before .before .before .before .before .before .before .before .before .before .before .before .before .before .before .before .before .before .before .before .before .before .before .before .before .before .before .args .bytes .now) (c .before .before .before .before .before .before .before .before .before .before .before .before .before .before .before .before .before .before .before .before .before .before .before .before .before .before .before .before .before .before .before .args .at) (c .before .before .before .before .before .before .before .before .before .before .before .before .before .before .before .before .before .before .before .before .before .before .before .before .before .before .before .before .before .before .before .args .p) (c .before .before .before .before .before .before .before .before .before .before .before .before .before .before .before .before .before .before .before .before .before .before .before .before .before .before .before .before .before .before .before .args .m) (c .before .before .before .before .before .before .before .before .before .before .before .before .before .before .before .before .before .before .before .before .before .before .before .before .before .before .before .before .before .before .before .args .to) (c .before .before .before .before .before .before .before .before .before .before .before .before .before .before .before .before .before .before .before .before .before .before .before .before .before .before .before .before .before .before .before .args .out .now) (c .before .before .before .before .before .before .before .before .before .before .before .before .before .before .before .before .before .before .before .before .before .before .before .before .before .before .before .before .before .before .before .args .work .now) (c .before .before .before .before .before .before .before .before .before .before .before .before .before .before .before .before .before .before .before .before .before .before .before .before .before .before .before .before .before .before .before .args .strs .now) (c .before .before .before .before .before .before .before .before .before .before .before .before .before .before .before .before .before .before .before .before .before .before .before .before .before .before .before .before .before .before .before .args .level) (c .before .before .before .before .before .before .before .before .before .before .before .before .before .before .before .before .before .before .before .before .before .before .before .before .if1 .left) (c .before .before .before .before .before .before .before .before .before .before .before .before .before .before .before .before .before .before .before .before .graft-body .result) (c .before .before .before .before .before .before .before .before .before .before .before .before .before .before .before .before .before .before .before .before .graft-body .ensures) (c .before .before .before .before .before .before .before .before .before .u32-at .result) (c .before .before .before .before .before .before .before .before .u32-at2 .result) (c .before .before .before .before .before .before .before .before .before .u32-at .ensures) (c .before .before .before .before .before .before .before .before .u32-at2 .ensures) (not-false _ (c .before .before .before .before .before .before .before .before .before .before .before .if2 .left)) (c .before .before .put-segment2 .ensures)
+graft-segment-returns-3 t c = below-made (c .before .before .before .before .before .before .before .before .before .before .before .before .before .before .before .before .before .before .before .before .before .before .before .before .before .before .before .before .before .before .before .args .tape .now) (c .before .before .before .before .before .before .before .before .before .before .before .before .before .before .before .before .before .before .before .before .before .before .before .before .before .before .before .before .before .before .before .args .bytes .now) (c .before .before .before .before .before .before .before .before .before .before .before .before .before .before .before .before .before .before .before .before .before .before .before .before .before .before .before .before .before .before .before .args .at) (c .before .before .before .before .before .before .before .before .before .before .before .before .before .before .before .before .before .before .before .before .before .before .before .before .before .before .before .before .before .before .before .args .p) (c .before .before .before .before .before .before .before .before .before .before .before .before .before .before .before .before .before .before .before .before .before .before .before .before .before .before .before .before .before .before .before .args .m) (c .before .before .before .before .before .before .before .before .before .before .before .before .before .before .before .before .before .before .before .before .before .before .before .before .before .before .before .before .before .before .before .args .to) (c .before .before .before .before .before .before .before .before .before .before .before .before .before .before .before .before .before .before .before .before .before .before .before .before .before .before .before .before .before .before .before .args .out .now) (c .before .before .before .before .before .before .before .before .before .before .before .before .before .before .before .before .before .before .before .before .before .before .before .before .before .before .before .before .before .before .before .args .work .now) (c .before .before .before .before .before .before .before .before .before .before .before .before .before .before .before .before .before .before .before .before .before .before .before .before .before .before .before .before .before .before .before .args .strs .now) (c .before .before .before .before .before .before .before .before .before .before .before .before .before .before .before .before .before .before .before .before .before .before .before .before .before .before .before .before .before .before .before .args .level) (c .before .before .before .before .before .before .before .before .before .before .before .before .before .before .before .before .before .before .before .before .before .before .if1 .left) (c .before .before .before .before .before .before .before .before .before .before .before .before .before .before .before .before .before .before .graft-body .result) (c .before .before .before .before .before .before .before .before .before .before .before .before .before .before .before .before .before .before .graft-body .ensures) (c .before .before .before .before .before .before .before .u32-at .result) (c .before .before .before .before .before .before .u32-at2 .result) (c .before .before .before .before .before .before .before .u32-at .ensures) (c .before .before .before .before .before .before .u32-at2 .ensures) (not-false _ (c .before .before .before .before .before .before .before .before .before .if2 .left)) (c .before .before .put-segment2 .ensures)
 
 -- src/lib.rt:466:37
-graft-segment-run-add-t16 : (t : ℕ) → graft-segment-run-lts.Need-add-t16 (
+graft-segment-run-add-t17 : (t : ℕ) → graft-segment-run-lts.Need-add-t17 (
   segment-place-reads.Asked,
   segment-place-reads.Learnt,
   inner-segments-reads.Asked,
@@ -1555,7 +1512,7 @@ graft-segment-run-add-t16 : (t : ℕ) → graft-segment-run-lts.Need-add-t16 (
   pushed-segments-reads.Asked,
   pushed-segments-reads.Learnt,
 ) (graft-segment-run-at t) graft-segment-run.Post
-graft-segment-run-add-t16 t c = omega (arith, (c .before .before .before .before .before .before .before .before .pre .1 .0) .space .segmentNumbers)
+graft-segment-run-add-t17 t c = omega (arith, (c .before .before .before .before .before .before .before .before .pre .1 .0) .space .segmentNumbers)
 
 -- src/lib.rt:466:9
 graft-segment-run-returns : (t : ℕ) → graft-segment-run-lts.Need-returns (
@@ -1692,7 +1649,7 @@ graft-segment-run-returns-2 : (t : ℕ) → graft-segment-run-lts.Need-returns-2
 graft-segment-run-returns-2 t c = segment-run-answer (c .before .before .before .before .before .before .before .before .before .before .before .before .before .before .before .before .before .before .before .before .args .level) (c .before .before .before .before .before .before .before .before .before .before .before .before .before .before .before .before .before .before .before .before .args .start) (c .before .before .before .before .before .before .before .before .before .before .before .before .before .before .before .before .before .before .before .before .args .len) (c .before .before .before .before .before .before .before .before .before .before .before .before .before .before .before .before .before .before .before .before .pre .1 .1) (c .before .before .before .before .before .before .before .before .before .before .before .before .before .before .before .before .before .before .before .before .pre .1 .0) (c .before .before .before .before .before .before .before .before .before .before .before .before .before .segment-place .result) (c .before .before .before .before .before .before .before .before .before .before .before .before .before .segment-place .ensures) ((c .before .before .before .before .before .before .before .before .before .before .before .before .before .before .before .before .before .before .before .before .args .m) .segments + c .before .before .before .before .before .before .before .before .before .before .before .before .inner-segments .result) (ap (λ (n : ℕ). (c .before .before .before .before .before .before .before .before .before .before .before .before .before .before .before .before .before .before .before .before .args .m) .segments + n) (c .before .before .before .before .before .before .before .before .before .before .before .before .inner-segments .ensures)) (c .before .before .before .before .before .before .before .graft-segments .ensures) (c .pushed-segments .result) (c .pushed-segments .ensures)
 
 abbrev graft-segments-Inv-loop : graft-segments-lts.InvT-loop
-graft-segments-Inv-loop tape bytes st out₀ work₀ strs₀ p at count to level u₀ i₀ out work strs u i = (i ≤ count) × SegmentsUpTo level tape bytes p u₀ at to out₀ work₀ strs₀ out work strs u i × (length work ≡ length work₀) × (length strs ≡ length strs₀)
+graft-segments-Inv-loop tape bytes st out₀ work₀ strs₀ p at count to level u₀ i₀ out work strs u i = (i ≤ count) × ItemsUpTo tape segmentCodec (shownSegments level tape bytes) p u₀ at (p .segmentsat + 37 * to) out₀ work₀ strs₀ out work strs u i × (length work ≡ length work₀) × (length strs ≡ length strs₀)
 
 abbrev graft-segments-μ-loop : graft-segments-lts.MeasureT-loop
 graft-segments-μ-loop tape bytes st out₀ work₀ strs₀ p at count to level u₀ i₀ out work strs u i = count - i
@@ -1702,7 +1659,7 @@ graft-segments-loop-holds : (t : ℕ) → graft-segments-lts.Need-loop-holds (
   graft-segment-below t,
   graft-segment.Post,
 ) (graft-segments-at t) graft-segments.Post graft-segments-Inv-loop graft-segments-μ-loop
-graft-segments-loop-holds t c = (omega arith, segments-first (c .before .before .before .before .before .args .level) (c .before .before .before .before .before .args .tape .now) (c .before .before .before .before .before .args .bytes .now) (c .before .before .before .before .before .args .st) (c .before .before .before .before .before .args .p) (c .before .before .before .before .before .args .m) (c .before .before .before .before .before .args .at) (c .before .before .before .before .before .args .count) (c .before .before .before .before .before .args .to) (c .before .before .before .before .before .args .out .now) (c .before .before .before .before .before .args .work .now) (c .before .before .before .before .before .args .strs .now) (c .before .before .before .before .before .pre .1 .0) (c .before .before .before .before .before .pre .1 .1 .0 .1), refl, refl)
+graft-segments-loop-holds t c = (omega arith, items-first (segment-grafts ((c .before .before .before .before .before .pre .1 .0) .source) (c .before .before .before .before .before .args .level)) (c .before .before .before .before .before .args .at) (c .before .before .before .before .before .args .count) ((c .before .before .before .before .before .args .p) .segmentsat + 37 * (c .before .before .before .before .before .args .to)) (c .before .before .before .before .before .pre .1 .0) (c .before .before .before .before .before .pre .1 .1 .0 .1), refl, refl)
 
 -- src/lib.rt:484:72
 graft-segments-mul-graft-segment : (t : ℕ) → graft-segments-lts.Need-mul-graft-segment (
@@ -1737,7 +1694,7 @@ graft-segments-graft-segment-requires : (t : ℕ) → graft-segments-lts.Need-gr
   graft-segment-below t,
   graft-segment.Post,
 ) (graft-segments-at t) graft-segments.Post graft-segments-Inv-loop graft-segments-μ-loop
-graft-segments-graft-segment-requires t c κs = (omega arith, (segment-ready (c .before .before .before .before .before .before .before .before .before .before .args .level) (c .before .before .before .before .before .before .before .before .before .before .args .tape .now) (c .before .before .before .before .before .before .before .before .before .before .args .bytes .now) (c .before .before .before .before .before .before .before .before .before .before .args .st) (c .before .before .before .before .before .before .before .before .before .before .args .p) (c .before .before .before .before .before .before .before .before .before .before .args .m) (c .before .before .before .before .before .before .before .before .before .before .args .at) (c .before .before .before .before .before .before .before .before .before .before .args .count) (c .before .before .before .before .before .before .before .before .before .before .args .to) (c .before .before .before .before .before .before .before .before .before .before .args .out .now) (c .before .before .before .before .before .before .before .before .before .before .args .work .now) (c .before .before .before .before .before .before .before .before .before .before .args .strs .now) (c .before .before .before .before .before .before .before .before .before .before .pre .1 .0) (c .before .before .before .before .before .before .before .before .before .before .pre .1 .1 .0 .1) (c .before .before .before .before .loop .inv .1) (c .before .before .before .loop-test .taken), ((omega (arith, c .before .before .before .before .before .before .before .before .before .before .pre .1 .1 .0 .0, c .before .before .before .loop-test .taken), segment-in (c .before .before .before .before .before .before .before .before .before .before .args .level) (c .before .before .before .before .before .before .before .before .before .before .args .tape .now) (c .before .before .before .before .before .before .before .before .before .before .args .bytes .now) (c .before .before .before .before .before .before .before .before .before .before .args .st) (c .before .before .before .before .before .before .before .before .before .before .args .p) (c .before .before .before .before .before .before .before .before .before .before .args .m) (c .before .before .before .before .before .before .before .before .before .before .args .at) (c .before .before .before .before .before .before .before .before .before .before .args .count) (c .before .before .before .before .before .before .before .before .before .before .args .to) (c .before .before .before .before .before .before .before .before .before .before .args .out .now) (c .before .before .before .before .before .before .before .before .before .before .args .work .now) (c .before .before .before .before .before .before .before .before .before .before .args .strs .now) (c .before .before .before .before .before .before .before .before .before .before .pre .1 .0) (c .before .before .before .before .before .before .before .before .before .before .pre .1 .1 .0 .1) (c .before .before .before .before .loop .i) (c .before .before .before .loop-test .taken)), (omega (arith, segment-low (c .before .before .before .before .before .before .before .before .before .before .args .level) (c .before .before .before .before .before .before .before .before .before .before .args .tape .now) (c .before .before .before .before .before .before .before .before .before .before .args .bytes .now) (c .before .before .before .before .before .before .before .before .before .before .args .st) (c .before .before .before .before .before .before .before .before .before .before .args .p) (c .before .before .before .before .before .before .before .before .before .before .args .m) (c .before .before .before .before .before .before .before .before .before .before .args .at) (c .before .before .before .before .before .before .before .before .before .before .args .count) (c .before .before .before .before .before .before .before .before .before .before .args .to) (c .before .before .before .before .before .before .before .before .before .before .args .out .now) (c .before .before .before .before .before .before .before .before .before .before .args .work .now) (c .before .before .before .before .before .before .before .before .before .before .args .strs .now) (c .before .before .before .before .before .before .before .before .before .before .pre .1 .0) (c .before .before .before .before .before .before .before .before .before .before .pre .1 .1 .0 .1) (c .before .before .before .before .loop .inv .1) (c .before .before .before .loop-test .taken) (c .before .before .before .before .before .before .before .before .before .before .pre .1 .1 .1 .0)), omega (arith, (c .before .before .before .before .before .before .before .before .before .before .pre .1 .1 .1 .1), c .before .before .before .loop-test .taken)))))
+graft-segments-graft-segment-requires t c κs = (omega arith, (item-ready (segment-grafts ((c .before .before .before .before .before .before .before .before .before .before .pre .1 .0) .source) (c .before .before .before .before .before .before .before .before .before .before .args .level)) (c .before .before .before .before .before .before .before .before .before .before .args .at) (c .before .before .before .before .before .before .before .before .before .before .args .count) ((c .before .before .before .before .before .before .before .before .before .before .args .p) .segmentsat + 37 * (c .before .before .before .before .before .before .before .before .before .before .args .to)) (c .before .before .before .before .before .before .before .before .before .before .pre .1 .0) (c .before .before .before .before .before .before .before .before .before .before .pre .1 .1 .0 .1) (c .before .before .before .before .loop .inv .1) (c .before .before .before .loop-test .taken), ((omega (arith, c .before .before .before .before .before .before .before .before .before .before .pre .1 .1 .0 .0, c .before .before .before .loop-test .taken), item-known (segment-grafts ((c .before .before .before .before .before .before .before .before .before .before .pre .1 .0) .source) (c .before .before .before .before .before .before .before .before .before .before .args .level)) (c .before .before .before .before .before .before .before .before .before .before .args .at) (c .before .before .before .before .before .before .before .before .before .before .args .count) ((c .before .before .before .before .before .before .before .before .before .before .args .p) .segmentsat + 37 * (c .before .before .before .before .before .before .before .before .before .before .args .to)) (c .before .before .before .before .before .before .before .before .before .before .pre .1 .0) (c .before .before .before .before .before .before .before .before .before .before .pre .1 .1 .0 .1) (c .before .before .before .before .loop .i) (c .before .before .before .loop-test .taken)), (omega (arith, item-low (segment-grafts ((c .before .before .before .before .before .before .before .before .before .before .pre .1 .0) .source) (c .before .before .before .before .before .before .before .before .before .before .args .level)) (c .before .before .before .before .before .before .before .before .before .before .args .at) (c .before .before .before .before .before .before .before .before .before .before .args .count) ((c .before .before .before .before .before .before .before .before .before .before .args .p) .segmentsat + 37 * (c .before .before .before .before .before .before .before .before .before .before .args .to)) (c .before .before .before .before .before .before .before .before .before .before .pre .1 .0) (c .before .before .before .before .before .before .before .before .before .before .pre .1 .1 .0 .1) (c .before .before .before .before .loop .inv .1) (c .before .before .before .loop-test .taken) .1, c .before .before .before .before .before .before .before .before .before .before .pre .1 .1 .1 .0), omega (arith, c .before .before .before .before .before .before .before .before .before .before .pre .1 .1 .1 .1, c .before .before .before .loop-test .taken)))))
 
 -- src/lib.rt:486:13
 graft-segments-same-length : (t : ℕ) → graft-segments-lts.Need-same-length (
@@ -1765,7 +1722,7 @@ graft-segments-returns : (t : ℕ) → graft-segments-lts.Need-returns (
   graft-segment-below t,
   graft-segment.Post,
 ) (graft-segments-at t) graft-segments.Post graft-segments-Inv-loop graft-segments-μ-loop
-graft-segments-returns t c = segments-refused (c .before .before .before .before .before .before .before .before .before .before .before .before .before .before .before .before .before .before .before .args .level) (c .before .before .before .before .before .before .before .before .before .before .before .before .before .before .before .before .before .before .before .args .tape .now) (c .before .before .before .before .before .before .before .before .before .before .before .before .before .before .before .before .before .before .before .args .bytes .now) (c .before .before .before .before .before .before .before .before .before .before .before .before .before .before .before .before .before .before .before .args .st) (c .before .before .before .before .before .before .before .before .before .before .before .before .before .before .before .before .before .before .before .args .p) (c .before .before .before .before .before .before .before .before .before .before .before .before .before .before .before .before .before .before .before .args .m) (c .before .before .before .before .before .before .before .before .before .before .before .before .before .before .before .before .before .before .before .args .at) (c .before .before .before .before .before .before .before .before .before .before .before .before .before .before .before .before .before .before .before .args .count) (c .before .before .before .before .before .before .before .before .before .before .before .before .before .before .before .before .before .before .before .args .to) (c .before .before .before .before .before .before .before .before .before .before .before .before .before .before .before .before .before .before .before .args .out .now) (c .before .before .before .before .before .before .before .before .before .before .before .before .before .before .before .before .before .before .before .args .work .now) (c .before .before .before .before .before .before .before .before .before .before .before .before .before .before .before .before .before .before .before .args .strs .now) (c .before .before .before .before .before .before .before .before .before .before .before .before .before .before .before .before .before .before .before .pre .1 .0) (c .before .before .before .before .before .before .before .before .before .before .before .before .before .before .before .before .before .before .before .pre .1 .1 .0 .1) (c .before .before .before .before .before .before .before .before .before .before .before .before .before .loop .i + 1) (omega (arith, c .before .before .before .before .before .before .before .before .before .before .before .before .loop-test .taken)) (segment-turn (c .before .before .before .before .before .before .before .before .before .before .before .before .before .before .before .before .before .before .before .args .level) (c .before .before .before .before .before .before .before .before .before .before .before .before .before .before .before .before .before .before .before .args .tape .now) (c .before .before .before .before .before .before .before .before .before .before .before .before .before .before .before .before .before .before .before .args .bytes .now) (c .before .before .before .before .before .before .before .before .before .before .before .before .before .before .before .before .before .before .before .args .st) (c .before .before .before .before .before .before .before .before .before .before .before .before .before .before .before .before .before .before .before .args .p) (c .before .before .before .before .before .before .before .before .before .before .before .before .before .before .before .before .before .before .before .args .m) (c .before .before .before .before .before .before .before .before .before .before .before .before .before .before .before .before .before .before .before .args .at) (c .before .before .before .before .before .before .before .before .before .before .before .before .before .before .before .before .before .before .before .args .count) (c .before .before .before .before .before .before .before .before .before .before .before .before .before .before .before .before .before .before .before .args .to) (c .before .before .before .before .before .before .before .before .before .before .before .before .before .before .before .before .before .before .before .args .out .now) (c .before .before .before .before .before .before .before .before .before .before .before .before .before .before .before .before .before .before .before .args .work .now) (c .before .before .before .before .before .before .before .before .before .before .before .before .before .before .before .before .before .before .before .args .strs .now) (c .before .before .before .before .before .before .before .before .before .before .before .before .before .before .before .before .before .before .before .pre .1 .0) (c .before .before .before .before .before .before .before .before .before .before .before .before .before .before .before .before .before .before .before .pre .1 .1 .0 .1) (c .before .before .before .before .before .before .before .before .before .before .before .before .before .loop .inv .1) (c .before .before .before .before .before .before .before .before .before .before .before .before .loop-test .taken) (c .before .before .before .before .before .before .before .before .before .before .before .before .before .before .before .before .before .before .before .pre .1 .1 .1 .0) (c .before .before .before .before .before .before .before .before .before .before .before .before .before .before .before .before .before .before .before .pre .1 .1 .1 .1) ((c .before .before .before .before .before .before .before .before .before .before .before .before .before .before .before .before .before .before .before .args .to) + c .before .before .before .before .before .before .before .before .before .before .before .before .before .loop .i) refl (c .before .before .before .before .before .before .before .before .graft-segment .ensures)) (not-true _ (c .if1 .taken))
+graft-segments-returns t c = items-refused (segment-grafts ((c .before .before .before .before .before .before .before .before .before .before .before .before .before .before .before .before .before .before .before .pre .1 .0) .source) (c .before .before .before .before .before .before .before .before .before .before .before .before .before .before .before .before .before .before .before .args .level)) (c .before .before .before .before .before .before .before .before .before .before .before .before .before .before .before .before .before .before .before .args .at) (c .before .before .before .before .before .before .before .before .before .before .before .before .before .before .before .before .before .before .before .args .count) ((c .before .before .before .before .before .before .before .before .before .before .before .before .before .before .before .before .before .before .before .args .p) .segmentsat + 37 * (c .before .before .before .before .before .before .before .before .before .before .before .before .before .before .before .before .before .before .before .args .to)) (c .before .before .before .before .before .before .before .before .before .before .before .before .before .before .before .before .before .before .before .pre .1 .0) (c .before .before .before .before .before .before .before .before .before .before .before .before .before .before .before .before .before .before .before .pre .1 .1 .0 .1) (c .before .before .before .before .before .before .before .before .before .before .before .before .before .loop .i + 1) (omega (arith, c .before .before .before .before .before .before .before .before .before .before .before .before .loop-test .taken)) (item-turn (segment-grafts ((c .before .before .before .before .before .before .before .before .before .before .before .before .before .before .before .before .before .before .before .pre .1 .0) .source) (c .before .before .before .before .before .before .before .before .before .before .before .before .before .before .before .before .before .before .before .args .level)) (c .before .before .before .before .before .before .before .before .before .before .before .before .before .before .before .before .before .before .before .args .at) (c .before .before .before .before .before .before .before .before .before .before .before .before .before .before .before .before .before .before .before .args .count) ((c .before .before .before .before .before .before .before .before .before .before .before .before .before .before .before .before .before .before .before .args .p) .segmentsat + 37 * (c .before .before .before .before .before .before .before .before .before .before .before .before .before .before .before .before .before .before .before .args .to)) (c .before .before .before .before .before .before .before .before .before .before .before .before .before .before .before .before .before .before .before .pre .1 .0) (c .before .before .before .before .before .before .before .before .before .before .before .before .before .before .before .before .before .before .before .pre .1 .1 .0 .1) (c .before .before .before .before .before .before .before .before .before .before .before .before .before .loop .inv .1) (c .before .before .before .before .before .before .before .before .before .before .before .before .loop-test .taken) (beyond (omega (arith, c .before .before .before .before .before .before .before .before .before .before .before .before .before .before .before .before .before .before .before .pre .1 .1 .1 .0)) (omega (arith, c .before .before .before .before .before .before .before .before .before .before .before .before .before .before .before .before .before .before .before .pre .1 .1 .1 .1))) ((c .before .before .before .before .before .before .before .before .before .before .before .before .before .before .before .before .before .before .before .args .p) .segmentsat + 37 * ((c .before .before .before .before .before .before .before .before .before .before .before .before .before .before .before .before .before .before .before .args .to) + c .before .before .before .before .before .before .before .before .before .before .before .before .before .loop .i)) (omega arith) (c .before .before .before .before .before .before .before .before .graft-segment .ensures)) (not-true _ (c .if1 .taken))
 
 -- src/lib.rt:488:9
 graft-segments-add-i : (t : ℕ) → graft-segments-lts.Need-add-i (
@@ -1786,7 +1743,7 @@ graft-segments-loop-again : (t : ℕ) → graft-segments-lts.Need-loop-again (
   graft-segment-below t,
   graft-segment.Post,
 ) (graft-segments-at t) graft-segments.Post graft-segments-Inv-loop graft-segments-μ-loop
-graft-segments-loop-again t c = (omega (arith, c .before .before .before .before .before .before .before .before .before .before .before .before .loop-test .taken), segments-more (c .before .before .before .before .before .before .before .before .before .before .before .before .before .before .before .before .before .before .before .args .level) (c .before .before .before .before .before .before .before .before .before .before .before .before .before .before .before .before .before .before .before .args .tape .now) (c .before .before .before .before .before .before .before .before .before .before .before .before .before .before .before .before .before .before .before .args .bytes .now) (c .before .before .before .before .before .before .before .before .before .before .before .before .before .before .before .before .before .before .before .args .st) (c .before .before .before .before .before .before .before .before .before .before .before .before .before .before .before .before .before .before .before .args .p) (c .before .before .before .before .before .before .before .before .before .before .before .before .before .before .before .before .before .before .before .args .m) (c .before .before .before .before .before .before .before .before .before .before .before .before .before .before .before .before .before .before .before .args .at) (c .before .before .before .before .before .before .before .before .before .before .before .before .before .before .before .before .before .before .before .args .count) (c .before .before .before .before .before .before .before .before .before .before .before .before .before .before .before .before .before .before .before .args .to) (c .before .before .before .before .before .before .before .before .before .before .before .before .before .before .before .before .before .before .before .args .out .now) (c .before .before .before .before .before .before .before .before .before .before .before .before .before .before .before .before .before .before .before .args .work .now) (c .before .before .before .before .before .before .before .before .before .before .before .before .before .before .before .before .before .before .before .args .strs .now) (c .before .before .before .before .before .before .before .before .before .before .before .before .before .before .before .before .before .before .before .pre .1 .0) (c .before .before .before .before .before .before .before .before .before .before .before .before .before .before .before .before .before .before .before .pre .1 .1 .0 .1) (c .before .before .before .before .before .before .before .before .before .before .before .before .before .loop .inv .1) (c .before .before .before .before .before .before .before .before .before .before .before .before .loop-test .taken) (c .before .before .before .before .before .before .before .before .before .before .before .before .before .before .before .before .before .before .before .pre .1 .1 .1 .0) (c .before .before .before .before .before .before .before .before .before .before .before .before .before .before .before .before .before .before .before .pre .1 .1 .1 .1) ((c .before .before .before .before .before .before .before .before .before .before .before .before .before .before .before .before .before .before .before .args .to) + c .before .before .before .before .before .before .before .before .before .before .before .before .before .loop .i) refl (c .before .before .before .before .before .before .before .before .graft-segment .ensures) (c .before .before .before .before .before .before .before .before .graft-segment .kept .1 .1 .1 .0) (not-false _ (c .if1 .left)), c .before .before .before .before .before .before .before .before .graft-segment .kept .1 .1 .1 .1 .0 ∙ c .before .before .before .before .before .before .before .before .before .before .before .before .before .loop .inv .2, c .before .before .before .before .before .before .before .before .graft-segment .kept .1 .1 .1 .1 .1 .0 ∙ c .before .before .before .before .before .before .before .before .before .before .before .before .before .loop .inv .3)
+graft-segments-loop-again t c = (omega (arith, c .before .before .before .before .before .before .before .before .before .before .before .before .loop-test .taken), items-more (segment-grafts ((c .before .before .before .before .before .before .before .before .before .before .before .before .before .before .before .before .before .before .before .pre .1 .0) .source) (c .before .before .before .before .before .before .before .before .before .before .before .before .before .before .before .before .before .before .before .args .level)) (c .before .before .before .before .before .before .before .before .before .before .before .before .before .before .before .before .before .before .before .args .at) (c .before .before .before .before .before .before .before .before .before .before .before .before .before .before .before .before .before .before .before .args .count) ((c .before .before .before .before .before .before .before .before .before .before .before .before .before .before .before .before .before .before .before .args .p) .segmentsat + 37 * (c .before .before .before .before .before .before .before .before .before .before .before .before .before .before .before .before .before .before .before .args .to)) (c .before .before .before .before .before .before .before .before .before .before .before .before .before .before .before .before .before .before .before .pre .1 .0) (c .before .before .before .before .before .before .before .before .before .before .before .before .before .before .before .before .before .before .before .pre .1 .1 .0 .1) (c .before .before .before .before .before .before .before .before .before .before .before .before .before .loop .inv .1) (c .before .before .before .before .before .before .before .before .before .before .before .before .loop-test .taken) (beyond (omega (arith, c .before .before .before .before .before .before .before .before .before .before .before .before .before .before .before .before .before .before .before .pre .1 .1 .1 .0)) (omega (arith, c .before .before .before .before .before .before .before .before .before .before .before .before .before .before .before .before .before .before .before .pre .1 .1 .1 .1))) ((c .before .before .before .before .before .before .before .before .before .before .before .before .before .before .before .before .before .before .before .args .p) .segmentsat + 37 * ((c .before .before .before .before .before .before .before .before .before .before .before .before .before .before .before .before .before .before .before .args .to) + c .before .before .before .before .before .before .before .before .before .before .before .before .before .loop .i)) (omega arith) (c .before .before .before .before .before .before .before .before .graft-segment .ensures) (c .before .before .before .before .before .before .before .before .graft-segment .kept .1 .1 .1 .0) (not-false _ (c .if1 .left)), c .before .before .before .before .before .before .before .before .graft-segment .kept .1 .1 .1 .1 .0 ∙ c .before .before .before .before .before .before .before .before .before .before .before .before .before .loop .inv .2, c .before .before .before .before .before .before .before .before .graft-segment .kept .1 .1 .1 .1 .1 .0 ∙ c .before .before .before .before .before .before .before .before .before .before .before .before .before .loop .inv .3)
 
 -- src/lib.rt:475:1
 graft-segments-same-length-4 : (t : ℕ) → graft-segments-lts.Need-same-length-4 (
@@ -1814,7 +1771,7 @@ graft-segments-returns-2 : (t : ℕ) → graft-segments-lts.Need-returns-2 (
   graft-segment-below t,
   graft-segment.Post,
 ) (graft-segments-at t) graft-segments.Post graft-segments-Inv-loop graft-segments-μ-loop
-graft-segments-returns-2 t c = segments-last (c .before .before .before .before .before .before .before .args .level) (c .before .before .before .before .before .before .before .args .tape .now) (c .before .before .before .before .before .before .before .args .bytes .now) (c .before .before .before .before .before .before .before .args .st) (c .before .before .before .before .before .before .before .args .p) (c .before .before .before .before .before .before .before .args .m) (c .before .before .before .before .before .before .before .args .at) (c .before .before .before .before .before .before .before .args .count) (c .before .before .before .before .before .before .before .args .to) (c .before .before .before .before .before .before .before .args .out .now) (c .before .before .before .before .before .before .before .args .work .now) (c .before .before .before .before .before .before .before .args .strs .now) (c .before .before .before .before .before .before .before .pre .1 .0) (c .before .before .before .before .before .before .before .pre .1 .1 .0 .1) (c .before .loop .inv .1) (omega (arith, c .loop-test .left)) (c .before .loop .inv .0)
+graft-segments-returns-2 t c = items-last (segment-grafts ((c .before .before .before .before .before .before .before .pre .1 .0) .source) (c .before .before .before .before .before .before .before .args .level)) (c .before .before .before .before .before .before .before .args .at) (c .before .before .before .before .before .before .before .args .count) ((c .before .before .before .before .before .before .before .args .p) .segmentsat + 37 * (c .before .before .before .before .before .before .before .args .to)) (c .before .before .before .before .before .before .before .pre .1 .0) (c .before .before .before .before .before .before .before .pre .1 .1 .0 .1) (c .before .loop .inv .1) (omega (arith, c .loop-test .left)) (c .before .loop .inv .0)
 
 pub +graft-body+graft-content+graft-content-run+graft-contents+graft-field+graft-place+graft-segment+graft-segment-run+graft-segments-spec :
     {M : Type 1} → statement M
@@ -1894,7 +1851,7 @@ pub +graft-body+graft-content+graft-content-run+graft-contents+graft-field+graft
     )
     (graft-content-run-at t)
     graft-content-run.Post
-    (graft-content-run-add-t16 t)
+    (graft-content-run-add-t17 t)
     (graft-content-run-returns t)
     (graft-content-run-content-place-requires t)
     (graft-content-run-inner-contents-requires t)
@@ -1988,10 +1945,10 @@ pub +graft-body+graft-content+graft-content-run+graft-contents+graft-field+graft
     graft-segment.Post
     (graft-segment-mul-place t)
     (graft-segment-add-place t)
-    (graft-segment-add-put-segment t)
-    (graft-segment-shared-slice-read-put-segment t)
-    (graft-segment-add-put-segment-2 t)
-    (graft-segment-shared-slice-read-put-segment-2 t)
+    (graft-segment-add-tag t)
+    (graft-segment-shared-slice-read-tag t)
+    (graft-segment-add-own t)
+    (graft-segment-shared-slice-read-own t)
     (graft-segment-put-segment-requires t)
     (graft-segment-same-length t)
     (graft-segment-returns t)
@@ -2006,14 +1963,10 @@ pub +graft-body+graft-content+graft-content-run+graft-contents+graft-field+graft
     (graft-segment-u32-at-requires t)
     (graft-segment-add-u32-at-2 t)
     (graft-segment-u32-at-requires-2 t)
-    (graft-segment-add-put-segment-3 t)
-    (graft-segment-shared-slice-read-put-segment-3 t)
-    (graft-segment-add-put-segment-4 t)
-    (graft-segment-shared-slice-read-put-segment-4 t)
-    (graft-segment-add-put-segment-5 t)
-    (graft-segment-shared-slice-read-put-segment-5 t)
-    (graft-segment-add-put-segment-6 t)
-    (graft-segment-shared-slice-read-put-segment-6 t)
+    (graft-segment-add-kind t)
+    (graft-segment-shared-slice-read-kind t)
+    (graft-segment-add-variant t)
+    (graft-segment-shared-slice-read-variant t)
     (graft-segment-put-segment-requires-2 t)
     (graft-segment-same-length-5 t)
     (graft-segment-same-length-6 t)
@@ -2031,7 +1984,7 @@ pub +graft-body+graft-content+graft-content-run+graft-contents+graft-field+graft
     )
     (graft-segment-run-at t)
     graft-segment-run.Post
-    (graft-segment-run-add-t16 t)
+    (graft-segment-run-add-t17 t)
     (graft-segment-run-returns t)
     (graft-segment-run-segment-place-requires t)
     (graft-segment-run-inner-segments-requires t)

@@ -3,7 +3,14 @@ use native.Mathlib.Omega.{arith}
 use mathlib.Core.Path.{_≡_, refl, _∙_}
 use lib.ListN.{length}
 use borrow.Author.Tests.{not-true, not-false}
-use Rattle.graft.specs.NodeLoop.{NodesUpTo, nodes-first, node-item-ready, node-in, node-turn, nodes-more, nodes-refused, nodes-last}
+use mathlib.Core.List.{List}
+use Rattle.model.specs.Types.{SourceNode}
+use Rattle.model.specs.Tape.{nodeCodec}
+use Rattle.model.specs.Graft.{graftNodeRefs}
+use Rattle.graft.specs.Blocks.{Apart.beyond}
+use Rattle.graft.specs.NodeItems.{shownOf}
+use Rattle.graft.specs.Loop.{ItemsUpTo, items-first, item-ready, item-known, item-turn, items-more, items-refused, items-last}
+use Rattle.graft.specs.Kinds.{node-grafts}
 use Rattle.graft.proofs.graft_nodes.Statement.{statement}
 use Rattle.graft.proofs.graft_nodes.Tie as tie
 use Rattle.graft.proofs.graft_nodes.Reads as reads
@@ -11,14 +18,14 @@ use Rattle.graft.proofs.graft_nodes.Lts as lts
 use Rattle.graft.proofs.graft_node_at.Reads as graft-node-at-reads
 
 abbrev Inv-loop : tie.InvT-loop
-Inv-loop tape bytes st out₀ work₀ strs₀ p at count nodesat u₀ i₀ out work strs u i = (i ≤ count) × NodesUpTo tape bytes p u₀ at nodesat out₀ work₀ strs₀ out work strs u i × (length work ≡ length work₀) × (length strs ≡ length strs₀)
+Inv-loop tape bytes st out₀ work₀ strs₀ p at count nodesat u₀ i₀ out work strs u i = (i ≤ count) × ItemsUpTo tape nodeCodec (λ (ns : List SourceNode). graftNodeRefs (shownOf tape bytes ns)) p u₀ at nodesat out₀ work₀ strs₀ out work strs u i × (length work ≡ length work₀) × (length strs ≡ length strs₀)
 
 abbrev μ-loop : tie.MeasureT-loop
 μ-loop tape bytes st out₀ work₀ strs₀ p at count nodesat u₀ i₀ out work strs u i = count - i
 
 -- src/lib.rt:818:5
 loop-holds : tie.Need-loop-holds Inv-loop μ-loop
-loop-holds c = (omega arith, nodes-first (c .before .before .before .before .before .args .tape .now) (c .before .before .before .before .before .args .bytes .now) (c .before .before .before .before .before .args .st) (c .before .before .before .before .before .args .p) (c .before .before .before .before .before .args .m) (c .before .before .before .before .before .args .at) (c .before .before .before .before .before .args .count) (c .before .before .before .before .before .args .nodesat) (c .before .before .before .before .before .args .out .now) (c .before .before .before .before .before .args .work .now) (c .before .before .before .before .before .args .strs .now) (c .before .before .before .before .before .pre .0) (c .before .before .before .before .before .pre .1 .0 .1), refl, refl)
+loop-holds c = (omega arith, items-first (node-grafts ((c .before .before .before .before .before .pre .0) .source)) (c .before .before .before .before .before .args .at) (c .before .before .before .before .before .args .count) (c .before .before .before .before .before .args .nodesat) (c .before .before .before .before .before .pre .0) (c .before .before .before .before .before .pre .1 .0 .1), refl, refl)
 
 -- src/lib.rt:819:72
 mul-graft-node-at : tie.Need-mul-graft-node-at Inv-loop μ-loop
@@ -38,7 +45,7 @@ add-graft-node-at-2 c = omega (arith, c .before .before .before .before .before 
 
 -- src/lib.rt:819:9
 graft-node-at-requires : tie.Need-graft-node-at-requires Inv-loop μ-loop
-graft-node-at-requires c κs = (node-item-ready (c .before .before .before .before .before .before .before .before .before .before .args .tape .now) (c .before .before .before .before .before .before .before .before .before .before .args .bytes .now) (c .before .before .before .before .before .before .before .before .before .before .args .st) (c .before .before .before .before .before .before .before .before .before .before .args .p) (c .before .before .before .before .before .before .before .before .before .before .args .m) (c .before .before .before .before .before .before .before .before .before .before .args .at) (c .before .before .before .before .before .before .before .before .before .before .args .count) (c .before .before .before .before .before .before .before .before .before .before .args .nodesat) (c .before .before .before .before .before .before .before .before .before .before .args .out .now) (c .before .before .before .before .before .before .before .before .before .before .args .work .now) (c .before .before .before .before .before .before .before .before .before .before .args .strs .now) (c .before .before .before .before .before .before .before .before .before .before .pre .0) (c .before .before .before .before .before .before .before .before .before .before .pre .1 .0 .1) (c .before .before .before .before .loop .inv .1) (c .before .before .before .loop-test .taken), (omega (arith, c .before .before .before .before .before .before .before .before .before .before .pre .1 .0 .0, c .before .before .before .loop-test .taken), node-in (c .before .before .before .before .before .before .before .before .before .before .args .tape .now) (c .before .before .before .before .before .before .before .before .before .before .args .bytes .now) (c .before .before .before .before .before .before .before .before .before .before .args .st) (c .before .before .before .before .before .before .before .before .before .before .args .p) (c .before .before .before .before .before .before .before .before .before .before .args .m) (c .before .before .before .before .before .before .before .before .before .before .args .at) (c .before .before .before .before .before .before .before .before .before .before .args .count) (c .before .before .before .before .before .before .before .before .before .before .args .nodesat) (c .before .before .before .before .before .before .before .before .before .before .args .out .now) (c .before .before .before .before .before .before .before .before .before .before .args .work .now) (c .before .before .before .before .before .before .before .before .before .before .args .strs .now) (c .before .before .before .before .before .before .before .before .before .before .pre .0) (c .before .before .before .before .before .before .before .before .before .before .pre .1 .0 .1) (c .before .before .before .before .loop .i) (c .before .before .before .loop-test .taken), omega (arith, c .before .before .before .before .before .before .before .before .before .before .pre .1 .1 .1, c .before .before .before .loop-test .taken, c .before .before .before .before .loop .inv .1 .long)))
+graft-node-at-requires c κs = (item-ready (node-grafts ((c .before .before .before .before .before .before .before .before .before .before .pre .0) .source)) (c .before .before .before .before .before .before .before .before .before .before .args .at) (c .before .before .before .before .before .before .before .before .before .before .args .count) (c .before .before .before .before .before .before .before .before .before .before .args .nodesat) (c .before .before .before .before .before .before .before .before .before .before .pre .0) (c .before .before .before .before .before .before .before .before .before .before .pre .1 .0 .1) (c .before .before .before .before .loop .inv .1) (c .before .before .before .loop-test .taken), (omega (arith, c .before .before .before .before .before .before .before .before .before .before .pre .1 .0 .0, c .before .before .before .loop-test .taken), item-known (node-grafts ((c .before .before .before .before .before .before .before .before .before .before .pre .0) .source)) (c .before .before .before .before .before .before .before .before .before .before .args .at) (c .before .before .before .before .before .before .before .before .before .before .args .count) (c .before .before .before .before .before .before .before .before .before .before .args .nodesat) (c .before .before .before .before .before .before .before .before .before .before .pre .0) (c .before .before .before .before .before .before .before .before .before .before .pre .1 .0 .1) (c .before .before .before .before .loop .i) (c .before .before .before .loop-test .taken), omega (arith, c .before .before .before .before .before .before .before .before .before .before .pre .1 .1 .1, c .before .before .before .loop-test .taken, c .before .before .before .before .loop .inv .1 .long)))
 
 -- src/lib.rt:821:13
 same-length : tie.Need-same-length Inv-loop μ-loop
@@ -54,7 +61,7 @@ same-length-3 c = c .before .before .before .before .before .before .before .bef
 
 -- src/lib.rt:821:13
 returns : tie.Need-returns Inv-loop μ-loop
-returns c = nodes-refused (c .before .before .before .before .before .before .before .before .before .before .before .before .before .before .before .before .before .before .before .args .tape .now) (c .before .before .before .before .before .before .before .before .before .before .before .before .before .before .before .before .before .before .before .args .bytes .now) (c .before .before .before .before .before .before .before .before .before .before .before .before .before .before .before .before .before .before .before .args .st) (c .before .before .before .before .before .before .before .before .before .before .before .before .before .before .before .before .before .before .before .args .p) (c .before .before .before .before .before .before .before .before .before .before .before .before .before .before .before .before .before .before .before .args .m) (c .before .before .before .before .before .before .before .before .before .before .before .before .before .before .before .before .before .before .before .args .at) (c .before .before .before .before .before .before .before .before .before .before .before .before .before .before .before .before .before .before .before .args .count) (c .before .before .before .before .before .before .before .before .before .before .before .before .before .before .before .before .before .before .before .args .nodesat) (c .before .before .before .before .before .before .before .before .before .before .before .before .before .before .before .before .before .before .before .args .out .now) (c .before .before .before .before .before .before .before .before .before .before .before .before .before .before .before .before .before .before .before .args .work .now) (c .before .before .before .before .before .before .before .before .before .before .before .before .before .before .before .before .before .before .before .args .strs .now) (c .before .before .before .before .before .before .before .before .before .before .before .before .before .before .before .before .before .before .before .pre .0) (c .before .before .before .before .before .before .before .before .before .before .before .before .before .before .before .before .before .before .before .pre .1 .0 .1) (c .before .before .before .before .before .before .before .before .before .before .before .before .before .loop .i + 1) (omega (arith, c .before .before .before .before .before .before .before .before .before .before .before .before .loop-test .taken)) (node-turn (c .before .before .before .before .before .before .before .before .before .before .before .before .before .before .before .before .before .before .before .args .tape .now) (c .before .before .before .before .before .before .before .before .before .before .before .before .before .before .before .before .before .before .before .args .bytes .now) (c .before .before .before .before .before .before .before .before .before .before .before .before .before .before .before .before .before .before .before .args .st) (c .before .before .before .before .before .before .before .before .before .before .before .before .before .before .before .before .before .before .before .args .p) (c .before .before .before .before .before .before .before .before .before .before .before .before .before .before .before .before .before .before .before .args .m) (c .before .before .before .before .before .before .before .before .before .before .before .before .before .before .before .before .before .before .before .args .at) (c .before .before .before .before .before .before .before .before .before .before .before .before .before .before .before .before .before .before .before .args .count) (c .before .before .before .before .before .before .before .before .before .before .before .before .before .before .before .before .before .before .before .args .nodesat) (c .before .before .before .before .before .before .before .before .before .before .before .before .before .before .before .before .before .before .before .args .out .now) (c .before .before .before .before .before .before .before .before .before .before .before .before .before .before .before .before .before .before .before .args .work .now) (c .before .before .before .before .before .before .before .before .before .before .before .before .before .before .before .before .before .before .before .args .strs .now) (c .before .before .before .before .before .before .before .before .before .before .before .before .before .before .before .before .before .before .before .pre .0) (c .before .before .before .before .before .before .before .before .before .before .before .before .before .before .before .before .before .before .before .pre .1 .0 .1) (c .before .before .before .before .before .before .before .before .before .before .before .before .before .loop .inv .1) (c .before .before .before .before .before .before .before .before .before .before .before .before .loop-test .taken) (c .before .before .before .before .before .before .before .before .before .before .before .before .before .before .before .before .before .before .before .pre .1 .1 .0) (c .before .before .before .before .before .before .before .before .before .before .before .before .before .before .before .before .before .before .before .pre .1 .1 .1) ((c .before .before .before .before .before .before .before .before .before .before .before .before .before .before .before .before .before .before .before .args .nodesat) + 49 * c .before .before .before .before .before .before .before .before .before .before .before .before .before .loop .i) refl (c .before .before .before .before .before .before .before .before .graft-node-at .ensures)) (not-true _ (c .if1 .taken))
+returns c = items-refused (node-grafts ((c .before .before .before .before .before .before .before .before .before .before .before .before .before .before .before .before .before .before .before .pre .0) .source)) (c .before .before .before .before .before .before .before .before .before .before .before .before .before .before .before .before .before .before .before .args .at) (c .before .before .before .before .before .before .before .before .before .before .before .before .before .before .before .before .before .before .before .args .count) (c .before .before .before .before .before .before .before .before .before .before .before .before .before .before .before .before .before .before .before .args .nodesat) (c .before .before .before .before .before .before .before .before .before .before .before .before .before .before .before .before .before .before .before .pre .0) (c .before .before .before .before .before .before .before .before .before .before .before .before .before .before .before .before .before .before .before .pre .1 .0 .1) (c .before .before .before .before .before .before .before .before .before .before .before .before .before .loop .i + 1) (omega (arith, c .before .before .before .before .before .before .before .before .before .before .before .before .loop-test .taken)) (item-turn (node-grafts ((c .before .before .before .before .before .before .before .before .before .before .before .before .before .before .before .before .before .before .before .pre .0) .source)) (c .before .before .before .before .before .before .before .before .before .before .before .before .before .before .before .before .before .before .before .args .at) (c .before .before .before .before .before .before .before .before .before .before .before .before .before .before .before .before .before .before .before .args .count) (c .before .before .before .before .before .before .before .before .before .before .before .before .before .before .before .before .before .before .before .args .nodesat) (c .before .before .before .before .before .before .before .before .before .before .before .before .before .before .before .before .before .before .before .pre .0) (c .before .before .before .before .before .before .before .before .before .before .before .before .before .before .before .before .before .before .before .pre .1 .0 .1) (c .before .before .before .before .before .before .before .before .before .before .before .before .before .loop .inv .1) (c .before .before .before .before .before .before .before .before .before .before .before .before .loop-test .taken) (beyond (c .before .before .before .before .before .before .before .before .before .before .before .before .before .before .before .before .before .before .before .pre .1 .1 .0) (c .before .before .before .before .before .before .before .before .before .before .before .before .before .before .before .before .before .before .before .pre .1 .1 .1)) ((c .before .before .before .before .before .before .before .before .before .before .before .before .before .before .before .before .before .before .before .args .nodesat) + 49 * c .before .before .before .before .before .before .before .before .before .before .before .before .before .loop .i) refl (c .before .before .before .before .before .before .before .before .graft-node-at .ensures)) (not-true _ (c .if1 .taken))
 
 -- src/lib.rt:823:9
 add-i : tie.Need-add-i Inv-loop μ-loop
@@ -66,7 +73,7 @@ loop-less c = omega (arith, c .before .before .before .before .before .before .b
 
 -- src/lib.rt:818:5
 loop-again : tie.Need-loop-again Inv-loop μ-loop
-loop-again c = (omega (arith, c .before .before .before .before .before .before .before .before .before .before .before .before .loop-test .taken), nodes-more (c .before .before .before .before .before .before .before .before .before .before .before .before .before .before .before .before .before .before .before .args .tape .now) (c .before .before .before .before .before .before .before .before .before .before .before .before .before .before .before .before .before .before .before .args .bytes .now) (c .before .before .before .before .before .before .before .before .before .before .before .before .before .before .before .before .before .before .before .args .st) (c .before .before .before .before .before .before .before .before .before .before .before .before .before .before .before .before .before .before .before .args .p) (c .before .before .before .before .before .before .before .before .before .before .before .before .before .before .before .before .before .before .before .args .m) (c .before .before .before .before .before .before .before .before .before .before .before .before .before .before .before .before .before .before .before .args .at) (c .before .before .before .before .before .before .before .before .before .before .before .before .before .before .before .before .before .before .before .args .count) (c .before .before .before .before .before .before .before .before .before .before .before .before .before .before .before .before .before .before .before .args .nodesat) (c .before .before .before .before .before .before .before .before .before .before .before .before .before .before .before .before .before .before .before .args .out .now) (c .before .before .before .before .before .before .before .before .before .before .before .before .before .before .before .before .before .before .before .args .work .now) (c .before .before .before .before .before .before .before .before .before .before .before .before .before .before .before .before .before .before .before .args .strs .now) (c .before .before .before .before .before .before .before .before .before .before .before .before .before .before .before .before .before .before .before .pre .0) (c .before .before .before .before .before .before .before .before .before .before .before .before .before .before .before .before .before .before .before .pre .1 .0 .1) (c .before .before .before .before .before .before .before .before .before .before .before .before .before .loop .inv .1) (c .before .before .before .before .before .before .before .before .before .before .before .before .loop-test .taken) (c .before .before .before .before .before .before .before .before .before .before .before .before .before .before .before .before .before .before .before .pre .1 .1 .0) (c .before .before .before .before .before .before .before .before .before .before .before .before .before .before .before .before .before .before .before .pre .1 .1 .1) ((c .before .before .before .before .before .before .before .before .before .before .before .before .before .before .before .before .before .before .before .args .nodesat) + 49 * c .before .before .before .before .before .before .before .before .before .before .before .before .before .loop .i) refl (c .before .before .before .before .before .before .before .before .graft-node-at .ensures) (c .before .before .before .before .before .before .before .before .graft-node-at .kept .1 .1 .1 .0) (not-false _ (c .if1 .left)), c .before .before .before .before .before .before .before .before .graft-node-at .kept .1 .1 .1 .1 .0 ∙ c .before .before .before .before .before .before .before .before .before .before .before .before .before .loop .inv .2, c .before .before .before .before .before .before .before .before .graft-node-at .kept .1 .1 .1 .1 .1 .0 ∙ c .before .before .before .before .before .before .before .before .before .before .before .before .before .loop .inv .3)
+loop-again c = (omega (arith, c .before .before .before .before .before .before .before .before .before .before .before .before .loop-test .taken), items-more (node-grafts ((c .before .before .before .before .before .before .before .before .before .before .before .before .before .before .before .before .before .before .before .pre .0) .source)) (c .before .before .before .before .before .before .before .before .before .before .before .before .before .before .before .before .before .before .before .args .at) (c .before .before .before .before .before .before .before .before .before .before .before .before .before .before .before .before .before .before .before .args .count) (c .before .before .before .before .before .before .before .before .before .before .before .before .before .before .before .before .before .before .before .args .nodesat) (c .before .before .before .before .before .before .before .before .before .before .before .before .before .before .before .before .before .before .before .pre .0) (c .before .before .before .before .before .before .before .before .before .before .before .before .before .before .before .before .before .before .before .pre .1 .0 .1) (c .before .before .before .before .before .before .before .before .before .before .before .before .before .loop .inv .1) (c .before .before .before .before .before .before .before .before .before .before .before .before .loop-test .taken) (beyond (c .before .before .before .before .before .before .before .before .before .before .before .before .before .before .before .before .before .before .before .pre .1 .1 .0) (c .before .before .before .before .before .before .before .before .before .before .before .before .before .before .before .before .before .before .before .pre .1 .1 .1)) ((c .before .before .before .before .before .before .before .before .before .before .before .before .before .before .before .before .before .before .before .args .nodesat) + 49 * c .before .before .before .before .before .before .before .before .before .before .before .before .before .loop .i) refl (c .before .before .before .before .before .before .before .before .graft-node-at .ensures) (c .before .before .before .before .before .before .before .before .graft-node-at .kept .1 .1 .1 .0) (not-false _ (c .if1 .left)), c .before .before .before .before .before .before .before .before .graft-node-at .kept .1 .1 .1 .1 .0 ∙ c .before .before .before .before .before .before .before .before .before .before .before .before .before .loop .inv .2, c .before .before .before .before .before .before .before .before .graft-node-at .kept .1 .1 .1 .1 .1 .0 ∙ c .before .before .before .before .before .before .before .before .before .before .before .before .before .loop .inv .3)
 
 -- src/lib.rt:810:1
 same-length-4 : tie.Need-same-length-4 Inv-loop μ-loop
@@ -82,7 +89,7 @@ same-length-6 c = c .before .loop .inv .3
 
 -- src/lib.rt:810:1
 returns-2 : tie.Need-returns-2 Inv-loop μ-loop
-returns-2 c = nodes-last (c .before .before .before .before .before .before .before .args .tape .now) (c .before .before .before .before .before .before .before .args .bytes .now) (c .before .before .before .before .before .before .before .args .st) (c .before .before .before .before .before .before .before .args .p) (c .before .before .before .before .before .before .before .args .m) (c .before .before .before .before .before .before .before .args .at) (c .before .before .before .before .before .before .before .args .count) (c .before .before .before .before .before .before .before .args .nodesat) (c .before .before .before .before .before .before .before .args .out .now) (c .before .before .before .before .before .before .before .args .work .now) (c .before .before .before .before .before .before .before .args .strs .now) (c .before .before .before .before .before .before .before .pre .0) (c .before .before .before .before .before .before .before .pre .1 .0 .1) (c .before .loop .inv .1) (omega (arith, c .loop-test .left)) (c .before .loop .inv .0)
+returns-2 c = items-last (node-grafts ((c .before .before .before .before .before .before .before .pre .0) .source)) (c .before .before .before .before .before .before .before .args .at) (c .before .before .before .before .before .before .before .args .count) (c .before .before .before .before .before .before .before .args .nodesat) (c .before .before .before .before .before .before .before .pre .0) (c .before .before .before .before .before .before .before .pre .1 .0 .1) (c .before .loop .inv .1) (omega (arith, c .loop-test .left)) (c .before .loop .inv .0)
 
 pub graft-nodes-spec : {M : Type 1} → statement M
 graft-nodes-spec =
