@@ -88,6 +88,10 @@ module _ {A : Type 0} (c : Codec A) (l : Located A) (w : MergeWindow) (p : Part)
   unfolding itemBytes recordsBytes flatten
   item-left h = sym (ap (recordsBytes c) (one-left l w p x h))
 
+-- one element written at `to` as it stands in a part, and r the place behind it
+abbrev pub PutItem : {A : Type 0} → Codec A → Located A → MergeWindow → Part → A → ℕ → List ℕ → List ℕ → ℕ → Type 0
+PutItem c l w p x to d d′ r = (r ≡ to + length (itemBytes c l w p x)) × (d′ ≡ overwrite d to (itemBytes c l w p x))
+
 -- what a loop has written of the first i records of a run, and its next place
 pub record PutUpTo {A : Type 0} (c : Codec A) (l : Located A) (w : MergeWindow) (p : Part) (t : List ℕ) (at : ℕ) (d : List ℕ) (to i next : ℕ) (out : List ℕ) : Type 0 where
   pub wrote : Wrote d to (recordsBytes c (partOf l w p (recordsAt c t at i))) out
@@ -182,14 +186,11 @@ module _ {A : Type 0} {c : Codec A} {l : Located A} {z : ℕ} (k : Kind c l z) (
 -- ---- one item, as the code writes it or leaves it
 
 module _ {A : Type 0} {c : Codec A} {l : Located A} {z : ℕ} (k : Kind c l z) (w : MergeWindow) (p : Part) (t : List ℕ) (q : ℕ) (d : List ℕ) (to : ℕ) where
-  abbrev record-item : List ℕ
-  record-item = itemBytes c l w p (recordAt c t q)
-
-  pub item-none : isIn l w p (recordAt c t q) ≡ false → (to ≡ to + length record-item) × (d ≡ overwrite d to record-item)
+  pub item-none : isIn l w p (recordAt c t q) ≡ false → PutItem c l w p (recordAt c t q) to d d to
   item-none h = let e = item-left c l w p (recordAt c t q) h in rw (← e) (omega arith, overwrite-nil d to)
 
   pub item-put : {bs d′ : List ℕ} → isIn l w p (recordAt c t q) ≡ true → d′ ≡ overwrite d to bs → bs ≡ recordBytes c (asIn l w p (recordAt c t q))
-      → (to + z ≡ to + length record-item) × (d′ ≡ overwrite d to record-item)
+      → PutItem c l w p (recordAt c t q) to d d′ (to + z)
   item-put h e b =
       let i = item-kept c l w p (recordAt c t q) h in
       (ap (λ (n : ℕ). to + n) (sym (k .width t q w p) ∙ ap length i), e ∙ ap (overwrite d to) (b ∙ i))

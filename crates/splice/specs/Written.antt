@@ -25,10 +25,10 @@ pub four-written : (d l : List ℕ) (at command kind a b e f : ℕ) → Wrote d 
 unfolding fourBytes
 four-written d l at command kind a b e f w = w .is ∙ ap (overwrite d at) (simp (append-assoc, append-nil))
 
--- a word's bytes are those of its rest by 2 to the 32
 digit : (x y k : ℕ) → x ≡ 256 * k + y → y % 256 ≡ x % 256
 digit x y k e = omega (arith, e)
 
+-- a word's bytes are those of its rest by 2 to the 32
 pub word-rest : (n : ℕ) → wordBytes (n % 4294967296) ≡ wordBytes n
 unfolding wordBytes
 word-rest n =

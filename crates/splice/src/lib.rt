@@ -12,7 +12,7 @@ ghost use Rattle.model.specs.Merge.{keptBefore, keptBehind, pairLocated, contai
 ghost use Rattle.wire.specs.Overwrite.{overwrite};
 ghost use Rattle.span.specs.Values.{valueOf};
 ghost use Rattle.records.specs.Values.{pairLinkOf, containerPairOf, diagnosticOf};
-ghost use Rattle.splice.specs.Parts.{spanIn, isIn, asIn, partOf, itemBytes};
+ghost use Rattle.splice.specs.Parts.{spanIn, isIn, asIn, partOf, PutItem};
 ghost use Rattle.splice.specs.Window.{windowValue, sourceIn, normalizedIn};
 ghost use Rattle.splice.specs.Counted.{rowIn, placesFrom};
 ghost use Rattle.splice.specs.Written.{fourBytes};
@@ -210,7 +210,7 @@ fn put_pair(out: &mut [u8], at: usize, p: records::PairLink)
 fn put_pair_item(tape: &[u8], at: usize, w: Window, part: Part, out: &mut [u8], to: usize) -> usize
     requires { ⌜ at + 18 ≤ length (now tape) ⌝ }
     requires { ⌜ (isIn pairLocated (windowValue w) part (recordAt pairCodec (now tape) at) ≡ true → to + 18 ≤ length (now out)) ⌝ }
-    ensures { λ r. ⌜ (r ≡ to + length (itemBytes pairCodec pairLocated (windowValue w) part (recordAt pairCodec (now (tape .entry)) at))) × (now (out .exit) ≡ overwrite (now (out .entry)) to (itemBytes pairCodec pairLocated (windowValue w) part (recordAt pairCodec (now (tape .entry)) at))) ⌝ }
+    ensures { λ r. ⌜ PutItem pairCodec pairLocated (windowValue w) part (recordAt pairCodec (now (tape .entry)) at) to (now (out .entry)) (now (out .exit)) r ⌝ }
 {
     if !pair_in(tape, at, w, part) {
         return to;
@@ -316,7 +316,7 @@ fn put_container_item(
 ) -> usize
     requires { ⌜ at + 13 ≤ length (now tape) ⌝ }
     requires { ⌜ (isIn containerLocated (windowValue w) part (recordAt containerCodec (now tape) at) ≡ true → to + 13 ≤ length (now out)) ⌝ }
-    ensures { λ r. ⌜ (r ≡ to + length (itemBytes containerCodec containerLocated (windowValue w) part (recordAt containerCodec (now (tape .entry)) at))) × (now (out .exit) ≡ overwrite (now (out .entry)) to (itemBytes containerCodec containerLocated (windowValue w) part (recordAt containerCodec (now (tape .entry)) at))) ⌝ }
+    ensures { λ r. ⌜ PutItem containerCodec containerLocated (windowValue w) part (recordAt containerCodec (now (tape .entry)) at) to (now (out .entry)) (now (out .exit)) r ⌝ }
 {
     if !container_in(tape, at, w, part) {
         return to;
@@ -454,7 +454,7 @@ fn put_diagnostic_item(
 ) -> usize
     requires { ⌜ at + 18 ≤ length (now tape) ⌝ }
     requires { ⌜ (isIn diagnosticLocated (windowValue w) part (recordAt diagnosticCodec (now tape) at) ≡ true → to + 18 ≤ length (now out)) ⌝ }
-    ensures { λ r. ⌜ (r ≡ to + length (itemBytes diagnosticCodec diagnosticLocated (windowValue w) part (recordAt diagnosticCodec (now (tape .entry)) at))) × (now (out .exit) ≡ overwrite (now (out .entry)) to (itemBytes diagnosticCodec diagnosticLocated (windowValue w) part (recordAt diagnosticCodec (now (tape .entry)) at))) ⌝ }
+    ensures { λ r. ⌜ PutItem diagnosticCodec diagnosticLocated (windowValue w) part (recordAt diagnosticCodec (now (tape .entry)) at) to (now (out .entry)) (now (out .exit)) r ⌝ }
 {
     if !diagnostic_in(tape, at, w, part) {
         return to;

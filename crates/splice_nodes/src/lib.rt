@@ -10,7 +10,7 @@ ghost use Rattle.model.specs.Merge.{keptBefore, keptBehind, nodeLocated};
 ghost use Rattle.wire.specs.Overwrite.{overwrite};
 ghost use Rattle.records.specs.Values.{sourceNodeOf};
 ghost use Rattle.splice.specs.Window.{windowValue};
-ghost use Rattle.splice.specs.Parts.{isIn, asIn, partOf, itemBytes};
+ghost use Rattle.splice.specs.Parts.{isIn, asIn, partOf, PutItem};
 ghost use Rattle.splice.specs.declared.Part.the-variants.{Reading};
 
 fn node_in(tape: &[u8], at: usize, w: splice::Window, part: splice::Part) -> bool
@@ -74,7 +74,7 @@ fn put_node_item(
 ) -> usize
     requires { ⌜ at + 49 ≤ length (now tape) ⌝ }
     requires { ⌜ (isIn nodeLocated (windowValue w) part (recordAt nodeCodec (now tape) at) ≡ true → to + 49 ≤ length (now out)) ⌝ }
-    ensures { λ r. ⌜ (r ≡ to + length (itemBytes nodeCodec nodeLocated (windowValue w) part (recordAt nodeCodec (now (tape .entry)) at))) × (now (out .exit) ≡ overwrite (now (out .entry)) to (itemBytes nodeCodec nodeLocated (windowValue w) part (recordAt nodeCodec (now (tape .entry)) at))) ⌝ }
+    ensures { λ r. ⌜ PutItem nodeCodec nodeLocated (windowValue w) part (recordAt nodeCodec (now (tape .entry)) at) to (now (out .entry)) (now (out .exit)) r ⌝ }
 {
     if !node_in(tape, at, w, part) {
         return to;
