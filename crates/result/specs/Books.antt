@@ -1,17 +1,16 @@
 -- A book and a reading that passed 1 to 17, and what follows for the code that writes their merge.
-use mathlib.Core.Path.{_≡_, refl, sym, ap, _∙_, subst}
+use mathlib.Core.Path.{_≡_, refl, sym, ap, _∙_}
 use Prim.Native.Nat.{ℕ, _+_, _-_, _≤_}
 use native.Mathlib.Omega.{arith}
-use mathlib.Core.Bool.{Bool, true, false}
-use mathlib.Core.List.{List, [], _∷_, _++_, append-assoc}
-use lib.ListN.{length, take, drop, length-append, length-drop}
+use mathlib.Core.Bool.{true}
+use mathlib.Core.List.{List, _++_, append-assoc}
+use lib.ListN.{length}
 use Rattle.model.specs.Lists.{isEmpty}
 use Rattle.model.specs.Limits.{maxText}
 use Rattle.model.specs.Bytes.{AreBytes}
-use Rattle.model.specs.Offset.{Span}
 use Rattle.model.specs.Types.{LexOutput, RegionOutput}
 use Rattle.model.specs.Refusal.{Checked.accepted}
-use Rattle.model.specs.Tape.{places, bookAt, tapeOf, bytesOf}
+use Rattle.model.specs.Tape.{places, bookAt, bytesOf}
 use Rattle.model.specs.Region.{Edit, edited, chosenRegion}
 use Rattle.model.specs.Merge.{MergeWindow, windowOf, mergedNormalized, grafted, mergedBook}
 use Rattle.laws.specs.Checks.{WellFormed, Chosen, chosen-facts, same-eq, LimitFacts, limit-facts}
@@ -19,7 +18,7 @@ use Rattle.laws.specs.Fits.{fits}
 use Rattle.laws.specs.ReadFits.{read-fits}
 use Rattle.laws.specs.Nodes.{normal-inside}
 use Rattle.laws.specs.Splice.{splice}
-use Rattle.commute.specs.Merged.{Fit, region-rises, normal-region-rises}
+use Rattle.commute.specs.Merged.{Fit, normal-region-rises}
 use Rattle.commute.specs.Step.{Begun, begun-fit}
 use Rattle.places.specs.declared.Places.{Places}
 use Rattle.places.specs.Found.{found}

@@ -1,13 +1,13 @@
 -- Number 18 decided and the answer given: what is left of a merge once 12 to 17 have passed.
-use mathlib.Core.Path.{_≡_, refl, sym, ap, _∙_}
-use Prim.Native.Nat.{ℕ, _≤_}
+use mathlib.Core.Path.{_≡_, refl}
+use Prim.Native.Nat.{_≤_}
 use mathlib.Core.Bool.{Bool, true, false, cond, not, _&&_}
 use mathlib.Core.List.{List}
 use lib.ListN.{length}
 use lib.Dec.{leb}
 use borrow.Author.Tests.{leb-true, le-leb}
 use Rattle.model.specs.Lists.{any, isEmpty, same}
-use Rattle.model.specs.Limits.{maxText, maxPool, maxList, maxLayers, maxNewStrings, minWorkWords}
+use Rattle.model.specs.Limits.{maxLayers, maxNewStrings, minWorkWords}
 use Rattle.model.specs.Offset.{Span}
 use Rattle.model.specs.Types.{SourceNode, LexOutput, RegionOutput}
 use Rattle.model.specs.Refusal.{Checked, Checked.refused, Checked.accepted, _>>=_, refuse_if_}
@@ -15,9 +15,9 @@ use Rattle.model.specs.Tape.{tapeOf, bytesOf}
 use Rattle.model.specs.WellFormed.{withinLimits}
 use Rattle.model.specs.Graft.{With}
 use Rattle.model.specs.Region.{Edit}
-use Rattle.model.specs.Merge.{Room, Stored, IncrementalOutput, MergeWindow, newRegionText, balancedNodes, isUnclosed, introducesRubyFormatDependency, windowOf, cutsOk, grafted, mergedBook, storedBook, answer, fitsRoom, resultOk, mergeBooks}
+use Rattle.model.specs.Merge.{Room, IncrementalOutput, MergeWindow, newRegionText, balancedNodes, isUnclosed, introducesRubyFormatDependency, windowOf, cutsOk, grafted, mergedBook, storedBook, answer, fitsRoom, resultOk, mergeBooks}
 use Rattle.laws.specs.Lists.{both}
-use Rattle.laws.specs.Checks.{LimitFacts, limit-facts, same-eq, MergeFacts}
+use Rattle.laws.specs.Checks.{LimitFacts, limit-facts}
 
 -- ---- definitions
 

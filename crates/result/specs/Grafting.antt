@@ -1,19 +1,19 @@
 -- The reading's nodes grafted behind the old layers: nothing where there are none, else one new layer; and both buffers up to them.
-use mathlib.Core.Path.{_≡_, refl, sym, ap, ap₂, _∙_}
-use Prim.Native.Nat.{ℕ, _+_, _-_, _*_, _≤_, _<_}
+use mathlib.Core.Path.{_≡_, refl, sym, ap, _∙_}
+use Prim.Native.Nat.{ℕ, _+_, _-_, _≤_}
 use native.Mathlib.Omega.{arith}
 use native.Mathlib.Nat.{add-zero}
 use mathlib.Core.Bool.{Bool, true, false, true≢false}
-use mathlib.Core.List.{List, [], _∷_, _++_, append-assoc, append-nil, map, flatten}
-use lib.ListN.{length, take, drop, length-append}
+use mathlib.Core.List.{List, [], _∷_, _++_, append-nil, map, flatten}
+use lib.ListN.{length, take}
 use Rattle.model.specs.Lists.{isEmpty}
-use Rattle.model.specs.Types.{SourceNode, LexOutput, RegionOutput}
+use Rattle.model.specs.Types.{SourceNode}
 use Rattle.model.specs.Store.{storeOf}
-use Rattle.model.specs.Tape.{recordsBytes, nodeCodec, layerBytes, bookAt, places, bytesOf}
+use Rattle.model.specs.Tape.{recordsBytes, nodeCodec, bookAt, places}
 use Rattle.model.specs.Tree.{shownNode, shownNodes}
-use Rattle.model.specs.Graft.{NewLayer, layerOf, With, graftNodeRefs}
+use Rattle.model.specs.Graft.{With, graftNodeRefs}
 use Rattle.model.specs.Merge.{grafted}
-use Rattle.wire.specs.Overwrite.{overwrite, overwrite-nil, overwrite-next, length-overwrite, take-overwrite}
+use Rattle.wire.specs.Overwrite.{overwrite, overwrite-nil}
 use Rattle.interner.specs.State.{statsOf}
 use Rattle.places.specs.declared.Places.{Places}
 use Rattle.store.specs.declared.Store.{Store}

@@ -1,9 +1,9 @@
 -- Section 7's four lists on the new tape, one behind the other, and command 10.
-use mathlib.Core.Path.{_≡_, refl, sym, ap, ap₂, _∙_, subst}
-use Prim.Native.Nat.{ℕ, _+_, _-_, _*_, _≤_, _<_}
+use mathlib.Core.Path.{_≡_, sym, ap, _∙_}
+use Prim.Native.Nat.{ℕ, _+_, _*_, _≤_}
 use native.Mathlib.Omega.{arith}
 use native.Mathlib.Nat.{mul-add}
-use mathlib.Core.Bool.{Bool, true}
+use mathlib.Core.Bool.{true}
 use mathlib.Core.List.{List, [], _∷_, _++_, map, append-assoc, append-nil}
 use lib.ListN.{length, take, drop, length-append, length-map, length-drop}
 use lib.Seq.{length-take-le, drop-at}
@@ -23,7 +23,7 @@ use Rattle.records.specs.Runs.{run-length}
 use Rattle.splice.specs.Spliced.{spliced-length, spliced-written, records-stand}
 use Rattle.diagnostics.specs.Sorted.{sort-length}
 use Rattle.diagnostics.specs.Runs.{Diagnostics, written-diagnostics}
-use Rattle.layer.specs.Moved.{overwrite-covered, overwrite-part}
+use Rattle.wire.specs.Moved.{overwrite-covered, overwrite-part}
 use Rattle.places.specs.declared.Places.{Places}
 use Rattle.tape.specs.Placed.{PlacesFit, fit-nodes, fit-pairs, fit-containers, fit-diagnostics}
 use Rattle.result.specs.declared.Kept.{Kept}

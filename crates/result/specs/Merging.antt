@@ -1,15 +1,14 @@
 -- The returns of `merge_books`: number 18 where a test fails, else the merged book and what is returned beside it.
-use mathlib.Core.Path.{_≡_, refl, sym, ap, ap₂, _∙_, subst}
-use Prim.Native.Nat.{ℕ, _+_, _-_, _*_, _^_, _≤_, _<_}
+use mathlib.Core.Path.{_≡_, refl, sym, ap, _∙_}
+use Prim.Native.Nat.{ℕ, _+_, _≤_, _<_}
 use native.Mathlib.Omega.{arith}
 use mathlib.Core.Bool.{Bool, true, false, true≢false}
-use mathlib.Core.List.{List, [], _∷_, _++_}
-use lib.ListN.{length, take, length-append}
-use Rattle.model.specs.Types.{SourceNode, LexOutput, RegionOutput}
-use Rattle.model.specs.Limits.{maxText, maxPool, minWorkWords}
-use Rattle.model.specs.Refusal.{Checked, Checked.refused, Checked.accepted}
-use Rattle.model.specs.Tape.{recordsAt, recordsBytes, nodeCodec, tapeOf, bytesOf, bytesNeeded}
-use Rattle.model.specs.Bytes.{wordAt}
+use mathlib.Core.List.{List}
+use lib.ListN.{length, length-append}
+use Rattle.model.specs.Types.{LexOutput, RegionOutput}
+use Rattle.model.specs.Limits.{maxPool}
+use Rattle.model.specs.Refusal.{Checked, Checked.accepted}
+use Rattle.model.specs.Tape.{recordsAt, recordsBytes, nodeCodec, bytesNeeded}
 use Rattle.model.specs.Region.{Edit}
 use Rattle.model.specs.Merge.{Room, IncrementalOutput, MergeWindow, nodeLocated, keptBefore, keptBehind, grafted, storedBook, answer}
 use Rattle.wire.specs.Overwrite.{overwrite}
@@ -26,12 +25,12 @@ use Rattle.result.specs.declared.IncrementalOutput.{IncrementalOutput as
 use Rattle.result.specs.Answer.{refusedOutput, roomOf, Written}
 use Rattle.result.specs.Checked.{resultChecked, ResultFacts}
 use Rattle.result.specs.Parts.{old-layers-length}
-use Rattle.result.specs.Books.{Books, bookIn, mergeOf, Inside, inside, lengths-old, lengths-read, limits-old}
-use Rattle.result.specs.Sizes.{keptOf, Few, Small, roomFor, lengthsOf, listsEnd, room-facts, room-ok}
+use Rattle.result.specs.Books.{Books, bookIn, mergeOf, lengths-read, limits-old}
+use Rattle.result.specs.Sizes.{keptOf, roomFor, lengthsOf, listsEnd, room-facts, room-ok}
 use Rattle.result.specs.Lists.{Lists, listsOf}
 use Rattle.result.specs.Grafting.{offsetsOf}
 use Rattle.result.specs.Whole.{above, kept-nodes, small, tape-length, needed-room, needed-graft, enough, accepted-is, refused-is, nodes-fit, diagnostics-fit, tape-stands}
-use Rattle.result.specs.Stages.{upTo, StoreMade, StoreTold, outputBy, written-refused, written-accepted}
+use Rattle.result.specs.Stages.{upTo, StoreTold, outputBy, written-refused, written-accepted}
 
 -- ---- what the stages ask
 

@@ -1,18 +1,16 @@
 -- A merged tape and its bytes as the parts that are written, one behind the other: the head, the old layers as they stood, a new
 -- layer if there is one, the four lists; both texts, the old strings as they stood, the new ones.
-use mathlib.Core.Path.{_≡_, refl, sym, ap, ap₂, _∙_}
-use Prim.Native.Nat.{ℕ, _+_, _-_, _*_, _≤_, _<_}
+use mathlib.Core.Path.{_≡_, sym, ap, _∙_}
+use Prim.Native.Nat.{ℕ, _+_, _-_, _*_}
 use native.Mathlib.Omega.{arith}
 use mathlib.Core.Bool.{Bool, true, false, cond}
-use mathlib.Core.Option.{some}
 use mathlib.Core.List.{List, [], _∷_, _++_, append-assoc, append-nil, map, flatten}
 use lib.ListN.{length, take, drop, length-append}
 use lib.Seq.{drop-at, take-at}
 use Rattle.model.specs.Lists.{all, sum, isEmpty}
-use Rattle.model.specs.Bytes.{AreBytes, wordAt, wordBytes, part}
+use Rattle.model.specs.Bytes.{AreBytes, wordBytes, part}
 use Rattle.model.specs.Types.{Layer, LexOutput, RegionOutput}
-use Rattle.model.specs.Store.{stringCounts, contentCounts, segmentCounts}
-use Rattle.model.specs.Tape.{recordsAt, recordsBytes, nodeCodec, pairCodec, containerCodec, diagnosticCodec, places, bookAt, parse, layerBytes, tapeOf, bytesOf}
+use Rattle.model.specs.Tape.{recordsBytes, nodeCodec, pairCodec, containerCodec, diagnosticCodec, places, bookAt, layerBytes, tapeOf, bytesOf}
 use Rattle.model.specs.Graft.{NewLayer, layerOf}
 use Rattle.model.specs.Merge.{mergedLayers}
 use Rattle.laws.specs.Lists.{flatten-snoc, map-append}

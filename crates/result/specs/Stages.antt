@@ -1,26 +1,24 @@
 -- What each stage of the merge's writing leaves, and the answer.
 use mathlib.Core.Path.{_≡_, refl, sym, ap, ap₂, _∙_, subst}
-use Prim.Native.Nat.{ℕ, _+_, _-_, _*_, _≤_, _<_}
+use Prim.Native.Nat.{ℕ, _+_, _-_, _≤_}
 use native.Mathlib.Omega.{arith}
 use native.Mathlib.Nat.{sub-zero, zero-add}
 use mathlib.Core.Bool.{Bool, true, false, true≢false}
-use mathlib.Core.List.{List, [], _∷_, _++_, append-assoc, append-nil, flatten}
+use mathlib.Core.List.{List, [], _∷_, _++_, append-assoc}
 use lib.ListN.{length, take, drop, length-append, length-drop}
 use lib.Seq.{take-all, length-take-le}
-use Rattle.model.specs.Lists.{all, isEmpty}
+use Rattle.model.specs.Lists.{isEmpty}
 use Rattle.model.specs.Bytes.{part}
-use Rattle.model.specs.Limits.{maxText, minWorkWords}
 use Rattle.model.specs.Intern.{InternStats}
 use Rattle.model.specs.Types.{SourceNode, LexOutput, RegionOutput}
 use Rattle.model.specs.Refusal.{Checked, Checked.refused, Checked.accepted, numberOf}
-use Rattle.model.specs.Tape.{recordsAt, recordsBytes, nodeCodec, layerBytes, places, bookAt, tapeOf, bytesOf}
-use Rattle.model.specs.Graft.{NewLayer, layerOf, With}
+use Rattle.model.specs.Tape.{recordsBytes, nodeCodec, bookAt, bytesOf}
+use Rattle.model.specs.Graft.{With}
 use Rattle.model.specs.Region.{Edit}
-use Rattle.model.specs.Merge.{Room, IncrementalOutput, MergeWindow, keptBefore, keptBehind, nodeLocated, grafted, mergedBook, storedBook, answer}
+use Rattle.model.specs.Merge.{IncrementalOutput, MergeWindow, grafted, mergedBook, answer}
 use Rattle.laws.specs.Checks.{same-accepted}
 use Rattle.laws.specs.Splice.{splice}
 use Rattle.wire.specs.Overwrite.{overwrite, length-overwrite, overwrite-next, take-overwrite}
-use Rattle.wire.specs.Loops.{by-bool}
 use Rattle.interner.specs.State.{statsOf}
 use Rattle.interner.specs.declared.InternStats.{InternStats as Counters}
 use Rattle.places.specs.declared.Places.{Places}
@@ -28,16 +26,15 @@ use Rattle.places.specs.Found.{found}
 use Rattle.store.specs.declared.Store.{Store}
 use Rattle.layer.specs.declared.Offsets.{Offsets}
 use Rattle.layer.specs.Layered.{graftedInto, grafted-above, layerRecords, layer-fits}
-use Rattle.result.specs.declared.Kept.{Kept}
 use Rattle.result.specs.declared.Lengths.{Lengths}
 use Rattle.result.specs.declared.Graft.{Graft}
 use Rattle.result.specs.declared.IncrementalOutput.{IncrementalOutput as Output}
-use Rattle.result.specs.Answer.{countersOf, refusedOutput, outputOf, roomOf, Written}
+use Rattle.result.specs.Answer.{countersOf, refusedOutput, outputOf, Written}
 use Rattle.result.specs.Parts.{headBytes, oldLayerBytes, oldStringBytes, newLayerBytes, newStringBytes, old-layers, old-strings, head-length, old-layers-length}
-use Rattle.result.specs.Books.{Books, bookIn, mergeOf, lengths-old, lengths-read, inside, new-text, new-normalized, new-bytes}
-use Rattle.result.specs.Sizes.{keptOf, lengthsOf, listsEnd, RoomFor}
+use Rattle.result.specs.Books.{Books, bookIn, mergeOf, lengths-read, new-text, new-normalized, new-bytes}
+use Rattle.result.specs.Sizes.{lengthsOf}
 use Rattle.result.specs.Grafting.{offsetsOf, graftOk, GraftTold}
-use Rattle.result.specs.Whole.{above, text-is, normalized-is, base-is, bytes-length, node-bytes, up-to-length}
+use Rattle.result.specs.Whole.{above, text-is, normalized-is, base-is, node-bytes}
 
 -- ---- both texts and the old strings
 
@@ -121,14 +118,6 @@ module _ {t d : List ℕ} {p : Places} {st : Store} {e : Edit} {w : MergeWindow}
       go : (ns : List SourceNode) → isEmpty ns ≡ true → length ns ≡ 0
       go [] z = refl
       go (n ∷ ns) z = absurd (true≢false (sym z))
-
-  -- where the nodes count is tested
-  pub none-is : q .nodes .count ≡ 0 → none ≡ true
-  none-is y = let m = lengths-read b in go (read .sourceNodes) (m .nodes ∙ y)
-    where
-      go : (ns : List SourceNode) → length ns ≡ 0 → isEmpty ns ≡ true
-      go [] z = refl
-      go (n ∷ ns) z = absurd (omega (arith, z))
 
   -- room for the layer and the nodes
   graft-room : (size room at base : ℕ) → at ≤ size → graftOk none size room at base (offsetsOf (st .totals)) (grafted old read) ≡ true

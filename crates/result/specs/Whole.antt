@@ -1,26 +1,25 @@
 -- Number 18 by what the code has counted and written, and the merged book where it stands.
-use mathlib.Core.Path.{_≡_, refl, sym, ap, ap₂, _∙_, subst}
-use Prim.Native.Nat.{ℕ, _+_, _-_, _*_, _≤_, _<_}
+use mathlib.Core.Path.{_≡_, refl, sym, ap, _∙_, subst}
+use Prim.Native.Nat.{ℕ, _+_, _*_, _≤_}
 use native.Mathlib.Omega.{arith}
-use mathlib.Core.Bool.{Bool, true, false, cond, not, _&&_, true≢false}
-use mathlib.Core.List.{List, [], _∷_, _++_, append-assoc, append-nil, map, flatten}
+use mathlib.Core.Bool.{Bool, true, false, true≢false}
+use mathlib.Core.List.{List, [], _∷_, _++_, append-assoc, map}
 use lib.ListN.{length, take, drop, length-append, length-drop}
 use lib.Dec.{leb}
 use lib.Seq.{length-take-le, drop-at}
 use native.Mathlib.Nat.{zero-add}
 use borrow.Author.Tests.{leb-false}
 use Rattle.model.specs.Lists.{all, sum, isEmpty}
-use Rattle.model.specs.Limits.{maxText, maxPool, maxList, maxLayers, maxNewStrings, minWorkWords}
-use Rattle.model.specs.Offset.{Span}
+use Rattle.model.specs.Limits.{maxPool, maxLayers, maxNewStrings}
 use Rattle.model.specs.Types.{Layer as ModelLayer, SourceNode, LexOutput, RegionOutput}
-use Rattle.model.specs.Refusal.{Checked, Checked.refused, Checked.accepted}
+use Rattle.model.specs.Refusal.{Checked.refused, Checked.accepted}
 use Rattle.model.specs.Tree.{shownNode, shownNodes}
 use Rattle.model.specs.Store.{storeOf, stringCounts, contentCounts, segmentCounts}
 use Rattle.model.specs.Tape.{recordsAt, recordsBytes, nodeCodec, pairCodec, containerCodec, diagnosticCodec, layerBytes, places, bookAt, tapeOf, bytesOf}
-use Rattle.model.specs.Graft.{NewLayer, layered, layerOf, With, graftNodeRefs}
-use Rattle.model.specs.Region.{Edit, edited}
-use Rattle.model.specs.Merge.{Room, IncrementalOutput, MergeWindow, windowOf, spliced, nodeLocated, pairLocated, containerLocated, diagnosticLocated, sortDiagnostics, grafted, mergedLayers, mergedBook, storedBook, answer, resultOk, mergeBooks}
-use Rattle.laws.specs.Checks.{LimitFacts, MergeFacts, merge-facts, mergedOf}
+use Rattle.model.specs.Graft.{layered, layerOf, With, graftNodeRefs}
+use Rattle.model.specs.Region.{Edit}
+use Rattle.model.specs.Merge.{Room, MergeWindow, windowOf, spliced, nodeLocated, pairLocated, containerLocated, diagnosticLocated, grafted, mergedBook, storedBook, answer, resultOk}
+use Rattle.laws.specs.Checks.{merge-facts, mergedOf}
 use Rattle.laws.specs.Fits.{recordFits, fits}
 use Rattle.laws.specs.WriteRead.{book-fits}
 use Rattle.laws.specs.Sort.{all-sort-is}
@@ -37,16 +36,14 @@ use Rattle.store.specs.Stored.{storeAt}
 use Rattle.splice.specs.Spliced.{spliced-length, records-stand}
 use Rattle.diagnostics.specs.Sorted.{sort-length}
 use Rattle.layer.specs.declared.Offsets.{Offsets}
-use Rattle.layer.specs.Layered.{Above, layerOk, layerRecords, LayerFits, layer-fits, layer-ok}
-use Rattle.layer.specs.Moved.{overwrite-covered, overwrite-part}
+use Rattle.layer.specs.Layered.{Above, layerRecords, layer-fits, layer-ok}
+use Rattle.wire.specs.Moved.{overwrite-covered}
 use Rattle.result.specs.declared.Kept.{Kept}
 use Rattle.result.specs.declared.Lengths.{Lengths}
-use Rattle.result.specs.declared.Graft.{Graft}
-use Rattle.result.specs.Answer.{roomOf}
 use Rattle.result.specs.Checked.{resultChecked, merge-passed, ResultFacts, result-facts, result-ok}
 use Rattle.result.specs.Parts.{headBytes, oldLayerBytes, oldStringBytes, newLayerBytes, newStringBytes, ifLayer, listBytes, tape-parts, list-length, head-length, merged-layers, merged-count, merged-number, old-layers-length, old-strings}
 use Rattle.result.specs.Widths.{sixWords, nodes-width, nodes-six, grafted-six, length-grafted, spliced-six}
-use Rattle.result.specs.Books.{Books, bookIn, mergeOf, chosen, begun, old-fits, reading-fits, lengths-old, lengths-read, limits-old, limits-read, inside, text-length, normalized-length, new-bytes}
+use Rattle.result.specs.Books.{Books, bookIn, mergeOf, chosen, begun, old-fits, reading-fits, lengths-old, lengths-read, limits-old, limits-read, text-length, normalized-length, new-bytes}
 use Rattle.result.specs.Sizes.{sidesOf, keptOf, totalOf, lengthsOf, Small, listsEnd, RoomFor, few-kept}
 use Rattle.result.specs.Lists.{listsOf, oldDiagnostics}
 use Rattle.result.specs.Grafting.{graftOk, offsetsOf}

@@ -1,5 +1,5 @@
 -- Writes one behind the other: a text with a part replaced, and what is written over an earlier write.
-use mathlib.Core.Path.{_≡_, refl, sym, ap, _∙_}
+use mathlib.Core.Path.{_≡_, ap, _∙_}
 use Prim.Native.Nat.{ℕ, _+_, _-_, _≤_}
 use native.Mathlib.Omega.{arith}
 use native.Mathlib.Nat.{sub-zero}
@@ -9,7 +9,7 @@ use lib.Seq.{length-take-le, take-all}
 use Rattle.model.specs.Bytes.{wordBytes}
 use Rattle.laws.specs.Words.{word-length}
 use Rattle.laws.specs.Splice.{splice, splice-length}
-use Rattle.wire.specs.Overwrite.{overwrite, length-overwrite, Wrote, wrote-next}
+use Rattle.wire.specs.Overwrite.{overwrite, Wrote, wrote-next}
 use Rattle.result.specs.Parts.{headBytes}
 
 pub spliced-length : (start end : ℕ) (new old : List ℕ) → start ≤ end → end ≤ length old → length (splice start end new old) ≡ start + length new + (length old - end)

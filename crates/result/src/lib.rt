@@ -82,19 +82,6 @@ fn put_texts(
     wire::copy_at(out, first + second, strings);
 }
 
-// ---- the tape up to the new layer
-
-// Command 1 with the lengths of both texts, and the old layers as they stood.
-fn put_head(out: &mut [u8], tape: &[u8], nodesat: usize, text: u32, normalized: u32)
-    requires { ⌜ (9 ≤ nodesat) × (nodesat ≤ length (now tape)) × (nodesat ≤ length (now out)) ⌝ }
-    ensures { λ _. ⌜ now (out .exit) ≡ overwrite (now (out .entry)) 0 (headBytes text normalized ++ part (now (tape .entry)) 9 (nodesat - 9)) ⌝ }
-{
-    wire::put_u8(out, 0, 1);
-    wire::put_u32(out, 1, text);
-    wire::put_u32(out, 5, normalized);
-    wire::copy_at(out, 9, &tape[9..nodesat]);
-}
-
 // The same by the places of both books and the window.
 fn put_new_texts(
     out: &mut [u8],
@@ -127,6 +114,19 @@ fn put_new_texts(
         &readingbytes[from..from + q.normalized as usize],
         &bytes[first..bytes.len()],
     );
+}
+
+// ---- the tape up to the new layer
+
+// Command 1 with the lengths of both texts, and the old layers as they stood.
+fn put_head(out: &mut [u8], tape: &[u8], nodesat: usize, text: u32, normalized: u32)
+    requires { ⌜ (9 ≤ nodesat) × (nodesat ≤ length (now tape)) × (nodesat ≤ length (now out)) ⌝ }
+    ensures { λ _. ⌜ now (out .exit) ≡ overwrite (now (out .entry)) 0 (headBytes text normalized ++ part (now (tape .entry)) 9 (nodesat - 9)) ⌝ }
+{
+    wire::put_u8(out, 0, 1);
+    wire::put_u32(out, 1, text);
+    wire::put_u32(out, 5, normalized);
+    wire::copy_at(out, 9, &tape[9..nodesat]);
 }
 
 // ---- sizes
@@ -392,7 +392,7 @@ fn put_nodes(
     requires { ⌜ to + 49 * totalOf (sidesOf nodeLocated (windowValue w) (recordsAt nodeCodec (now tape) (run .at) (run .count))) reading ≤ length (now out) ⌝ }
     ensures { λ _. ⌜ now (out .exit) ≡ overwrite (now (out .entry)) to (nodeBytes (windowValue w) (recordsAt nodeCodec (now (tape .entry)) (run .at) (run .count)) (recordsAt nodeCodec (now (out .entry)) to reading)) ⌝ }
 {
-    layer::move_up(out, to, 49 * reading, 49 * before);
+    wire::move_up(out, to, 49 * reading, 49 * before);
     splice_nodes::put_before_nodes(tape, run.at, run.count, w, out, to);
     splice_nodes::place_nodes(out, to + 49 * before, reading, w);
     splice_nodes::put_behind_nodes(tape, run.at, run.count, w, out, to + 49 * before + 49 * reading);
@@ -533,7 +533,8 @@ fn output_of(
     }
 }
 
-// Number 18, and the merged book, of a book and a reading that passed 1 to 17.
+// Number 18, and the merged book, of a book and a reading that passed 1 to 17. The interner keeps places in the byte buffer as u32, so the
+// buffer has fewer than 2 ^ 32 bytes.
 pub fn merge_books(
     tape: &[u8],
     bytes: &[u8],

@@ -2,11 +2,8 @@ use mathlib.Core.Bool.{true}
 use Rattle.result.specs.Answer.{noCounts}
 use borrow.Author.Tests.{not-true, not-false}
 use Rattle.result.specs.Grafting.{offsetsOf, graft-none, graft-refused, graft-some, graft-used, some-nodes, zero-nodes, source-count}
-use mathlib.Core.Path.{_≡_, refl, sym, ap, _∙_}
-use mathlib.Core.List.{List, [], _∷_, _++_}
-use Prim.Native.Nat.{ℕ, zero, suc, _+_, _-_, _*_, _%_, _/_, _^_, _≤_, _<_}
+use mathlib.Core.Path.{refl}
 use native.Mathlib.Omega.{arith}
-use lib.ListN.{length, getD, take, drop, set, replicate, length-set, length-take, length-drop, length-append, length-replicate}
 use borrow.Author.Needs.{needs}
 use Rattle.result.proofs.graft_reading.Statement.{statement}
 use Rattle.result.proofs.graft_reading.Tie as tie

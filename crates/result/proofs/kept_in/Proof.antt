@@ -1,11 +1,6 @@
 use Rattle.result.specs.Sizes.{keptOf}
 use Rattle.tape.specs.Placed.{fit-nodes, fit-pairs, fit-containers, fit-diagnostics}
-use mathlib.Core.Path.{_≡_, refl, sym, ap, _∙_}
-use mathlib.Core.List.{List, [], _∷_, _++_}
-use Prim.Native.Nat.{ℕ, zero, suc, _+_, _-_, _*_, _%_, _/_, _^_, _≤_, _<_}
-use native.Mathlib.Omega.{arith}
-use lib.ListN.{length, getD, take, drop, set, replicate, length-set, length-take, length-drop, length-append, length-replicate}
-use borrow.Author.Needs.{needs}
+use mathlib.Core.Path.{refl, sym}
 use Rattle.result.proofs.kept_in.Statement.{statement}
 use Rattle.result.proofs.kept_in.Tie as tie
 

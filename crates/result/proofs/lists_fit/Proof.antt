@@ -1,10 +1,6 @@
 use borrow.Author.Tests.{not-true, not-false}
 use Rattle.result.specs.Sizes.{lists-nodes, lists-pairs, lists-containers, lists-all}
-use mathlib.Core.Path.{_≡_, refl, sym, ap, _∙_}
-use mathlib.Core.List.{List, [], _∷_, _++_}
-use Prim.Native.Nat.{ℕ, zero, suc, _+_, _-_, _*_, _%_, _/_, _^_, _≤_, _<_}
-use native.Mathlib.Omega.{arith}
-use lib.ListN.{length, getD, take, drop, set, replicate, length-set, length-take, length-drop, length-append, length-replicate}
+use Prim.Native.Nat.{_-_}
 use borrow.Author.Needs.{needs}
 use Rattle.result.proofs.lists_fit.Statement.{statement}
 use Rattle.result.proofs.lists_fit.Tie as tie

@@ -4,11 +4,9 @@ use Rattle.result.specs.Sizes.{room-facts}
 use Rattle.result.specs.Books.{inside}
 use borrow.Author.Tests.{not-true, not-false}
 use Rattle.edit.specs.Numbers.{editOf}
-use mathlib.Core.Path.{_≡_, refl, sym, ap, _∙_}
-use mathlib.Core.List.{List, [], _∷_, _++_}
-use Prim.Native.Nat.{ℕ, zero, suc, _+_, _-_, _*_, _%_, _/_, _^_, _≤_, _<_}
+use mathlib.Core.Path.{refl, sym, _∙_}
+use Prim.Native.Nat.{_-_}
 use native.Mathlib.Omega.{arith}
-use lib.ListN.{length, getD, take, drop, set, replicate, length-set, length-take, length-drop, length-append, length-replicate}
 use borrow.Author.Needs.{needs}
 use Rattle.result.proofs.merge_books.Statement.{statement}
 use Rattle.result.proofs.merge_books.Tie as tie

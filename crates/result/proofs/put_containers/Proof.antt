@@ -1,13 +1,9 @@
-use Rattle.model.specs.Merge.{containerLocated, spliced}
+use Rattle.model.specs.Merge.{containerLocated}
 use Rattle.model.specs.Tape.{containerCodec, recordsAt}
 use Rattle.splice.specs.Window.{windowValue}
 use Rattle.result.specs.Widths.{containers-width}
-use Rattle.result.specs.Lists.{parts-written, total-is, sorted-wrote, diagnostics-there}
-use mathlib.Core.Path.{_≡_, refl, sym, ap, _∙_}
-use mathlib.Core.List.{List, [], _∷_, _++_}
-use Prim.Native.Nat.{ℕ, zero, suc, _+_, _-_, _*_, _%_, _/_, _^_, _≤_, _<_}
+use Rattle.result.specs.Lists.{parts-written}
 use native.Mathlib.Omega.{arith}
-use lib.ListN.{length, getD, take, drop, set, replicate, length-set, length-take, length-drop, length-append, length-replicate}
 use borrow.Author.Needs.{needs}
 use Rattle.result.proofs.put_containers.Statement.{statement}
 use Rattle.result.proofs.put_containers.Tie as tie

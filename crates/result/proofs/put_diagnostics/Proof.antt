@@ -3,11 +3,7 @@ use Rattle.model.specs.Tape.{diagnosticCodec, recordsAt}
 use Rattle.splice.specs.Window.{windowValue}
 use Rattle.result.specs.Widths.{diagnostics-width}
 use Rattle.result.specs.Lists.{parts-written, total-is, sorted-wrote, diagnostics-there}
-use mathlib.Core.Path.{_≡_, refl, sym, ap, _∙_}
-use mathlib.Core.List.{List, [], _∷_, _++_}
-use Prim.Native.Nat.{ℕ, zero, suc, _+_, _-_, _*_, _%_, _/_, _^_, _≤_, _<_}
 use native.Mathlib.Omega.{arith}
-use lib.ListN.{length, getD, take, drop, set, replicate, length-set, length-take, length-drop, length-append, length-replicate}
 use borrow.Author.Needs.{needs}
 use Rattle.result.proofs.put_diagnostics.Statement.{statement}
 use Rattle.result.proofs.put_diagnostics.Tie as tie

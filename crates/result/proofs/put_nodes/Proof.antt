@@ -3,11 +3,7 @@ use Rattle.splice.specs.Window.{windowValue}
 use Rattle.records.specs.Runs.{run-length}
 use Rattle.result.specs.Widths.{nodes-six}
 use Rattle.result.specs.Lists.{nodes-wrote}
-use mathlib.Core.Path.{_≡_, refl, sym, ap, _∙_}
-use mathlib.Core.List.{List, [], _∷_, _++_}
-use Prim.Native.Nat.{ℕ, zero, suc, _+_, _-_, _*_, _%_, _/_, _^_, _≤_, _<_}
 use native.Mathlib.Omega.{arith}
-use lib.ListN.{length, getD, take, drop, set, replicate, length-set, length-take, length-drop, length-append, length-replicate}
 use borrow.Author.Needs.{needs}
 use Rattle.result.proofs.put_nodes.Statement.{statement}
 use Rattle.result.proofs.put_nodes.Tie as tie

@@ -3,11 +3,9 @@ use Rattle.result.specs.Merging.{texts-inside, nodes-at, source-fits, po
 use Rattle.result.specs.Stages.{store-told}
 use Rattle.result.specs.Books.{inside}
 use Rattle.edit.specs.Numbers.{editOf}
-use mathlib.Core.Path.{_≡_, refl, sym, ap, _∙_}
-use mathlib.Core.List.{List, [], _∷_, _++_}
-use Prim.Native.Nat.{ℕ, zero, suc, _+_, _-_, _*_, _%_, _/_, _^_, _≤_, _<_}
+use mathlib.Core.Path.{ap}
+use Prim.Native.Nat.{_-_}
 use native.Mathlib.Omega.{arith}
-use lib.ListN.{length, getD, take, drop, set, replicate, length-set, length-take, length-drop, length-append, length-replicate}
 use borrow.Author.Needs.{needs}
 use Rattle.result.proofs.put_store.Statement.{statement}
 use Rattle.result.proofs.put_store.Tie as tie
