@@ -176,9 +176,14 @@ module _ (size room at base : ℕ) (o : Offsets) (g : With (List SourceNode)) wh
   pub layer-ok : LayerFits size room at base o g → true ≡ layerOk size room at base o g
   unfolding layerOk
   layer-ok f =
-      sym (rw (le-leb (length (g .1 .interner .strings)) maxNewStrings (f .few), le-leb (o .strings + length (g .1 .interner .strings)) maxPool (f .strings),
-      le-leb (o .contents + length (g .1 .contents)) maxPool (f .contents), le-leb (o .segments + length (g .1 .segments)) maxPool (f .segments),
-      le-leb (at + length (layerRecords g)) size (f .tape), le-leb (base + length (flatten (g .1 .interner .strings))) room (f .bytes)) refl)
+      sym (rw (
+        le-leb (length (g .1 .interner .strings)) maxNewStrings (f .few),
+        le-leb (o .strings + length (g .1 .interner .strings)) maxPool (f .strings),
+        le-leb (o .contents + length (g .1 .contents)) maxPool (f .contents),
+        le-leb (o .segments + length (g .1 .segments)) maxPool (f .segments),
+        le-leb (at + length (layerRecords g)) size (f .tape),
+        le-leb (base + length (flatten (g .1 .interner .strings))) room (f .bytes),
+      ) refl)
 
   pub layer-refused : (LayerFits size room at base o g → ⊥) → false ≡ layerOk size room at base o g
   layer-refused h = by-bool (layerOk size room at base o g) (λ e. absurd (h (layer-fits e))) (λ e. sym e)

@@ -29,7 +29,9 @@ ghost use Rattle.result.specs.Grafting.{offsetsOf, GraftTold};
 ghost use Rattle.result.specs.Stages.{textsOf, StoreTold, outputBy};
 
 const MAX_TEXT: usize = 16777215;
+
 const MAX_LIST: usize = 262143;
+
 const MIN_WORK_WORDS: usize = 16384;
 
 // Section 7. What is returned: a number, or 0 and the region, old nodes kept, the reading's nodes, the seven counts, and how many bytes
@@ -346,9 +348,36 @@ fn put_store(
     requires { ⌜ (minWorkWords ≤ length (now work)) × (l .normalized ≤ maxText) × (l .base ≤ length (now outbytes)) × (length (now outbytes) < 2 ^ 32) × (p .nodes .at ≤ length (now outtape)) ⌝ }
     ensures { λ r. ⌜ StoreTold (bookIn (now (tape .entry)) (now (bytes .entry))) (editOf start end (now (replacement .entry))) (bookIn (now (readingtape .entry)) (now (readingbytes .entry))) (windowValue w) (now (outtape .entry)) (now (outbytes .entry)) (now (outtape .exit)) (now (outbytes .exit)) (p .nodes .at) (l .base) (offsetsOf (st .totals)) r ⌝ }
 {
-    put_new_texts(outbytes, bytes, p, start, end, replacement, w, readingbytes, q);
-    put_head(outtape, tape, p.nodes.at, l.text as u32, l.normalized as u32);
-    graft_reading(readingtape, readingbytes, q, rst, st.totals, outtape, work, outbytes, p.nodes.at, l.base)
+    put_new_texts(
+        outbytes,
+        bytes,
+        p,
+        start,
+        end,
+        replacement,
+        w,
+        readingbytes,
+        q,
+    );
+    put_head(
+        outtape,
+        tape,
+        p.nodes.at,
+        l.text as u32,
+        l.normalized as u32,
+    );
+    graft_reading(
+        readingtape,
+        readingbytes,
+        q,
+        rst,
+        st.totals,
+        outtape,
+        work,
+        outbytes,
+        p.nodes.at,
+        l.base,
+    )
 }
 
 // ---- the lists
@@ -395,7 +424,14 @@ fn put_nodes(
     wire::move_up(out, to, 49 * reading, 49 * before);
     splice_nodes::put_before_nodes(tape, run.at, run.count, w, out, to);
     splice_nodes::place_nodes(out, to + 49 * before, reading, w);
-    splice_nodes::put_behind_nodes(tape, run.at, run.count, w, out, to + 49 * before + 49 * reading);
+    splice_nodes::put_behind_nodes(
+        tape,
+        run.at,
+        run.count,
+        w,
+        out,
+        to + 49 * before + 49 * reading,
+    );
 }
 
 // `merge_pairs`
@@ -415,8 +451,22 @@ fn put_pairs(
     ensures { λ _. ⌜ now (out .exit) ≡ overwrite (now (out .entry)) to (pairBytes (windowValue w) (recordsAt pairCodec (now (tape .entry)) (run .at) (run .count)) (recordsAt pairCodec (now (readingtape .entry)) (reading .at) (reading .count))) ⌝ }
 {
     splice::put_before_pairs(tape, run.at, run.count, w, out, to);
-    splice::put_placed_pairs(readingtape, reading.at, reading.count, w, out, to + 18 * before);
-    splice::put_behind_pairs(tape, run.at, run.count, w, out, to + 18 * before + 18 * reading.count);
+    splice::put_placed_pairs(
+        readingtape,
+        reading.at,
+        reading.count,
+        w,
+        out,
+        to + 18 * before,
+    );
+    splice::put_behind_pairs(
+        tape,
+        run.at,
+        run.count,
+        w,
+        out,
+        to + 18 * before + 18 * reading.count,
+    );
 }
 
 // `merge_container_pairs`
@@ -436,8 +486,22 @@ fn put_containers(
     ensures { λ _. ⌜ now (out .exit) ≡ overwrite (now (out .entry)) to (containerBytes (windowValue w) (recordsAt containerCodec (now (tape .entry)) (run .at) (run .count)) (recordsAt containerCodec (now (readingtape .entry)) (reading .at) (reading .count))) ⌝ }
 {
     splice::put_before_containers(tape, run.at, run.count, w, out, to);
-    splice::put_placed_containers(readingtape, reading.at, reading.count, w, out, to + 13 * before);
-    splice::put_behind_containers(tape, run.at, run.count, w, out, to + 13 * before + 13 * reading.count);
+    splice::put_placed_containers(
+        readingtape,
+        reading.at,
+        reading.count,
+        w,
+        out,
+        to + 13 * before,
+    );
+    splice::put_behind_containers(
+        tape,
+        run.at,
+        run.count,
+        w,
+        out,
+        to + 13 * before + 13 * reading.count,
+    );
 }
 
 // `merge_diagnostics`: `all` of them, sorted where they stand.
@@ -459,8 +523,22 @@ fn put_diagnostics(
     ensures { λ _. ⌜ now (out .exit) ≡ overwrite (now (out .entry)) to (diagnosticBytes (windowValue w) (recordsAt diagnosticCodec (now (tape .entry)) (run .at) (run .count)) (recordsAt diagnosticCodec (now (readingtape .entry)) (reading .at) (reading .count))) ⌝ }
 {
     splice::put_before_diagnostics(tape, run.at, run.count, w, out, to);
-    splice::put_placed_diagnostics(readingtape, reading.at, reading.count, w, out, to + 18 * before);
-    splice::put_behind_diagnostics(tape, run.at, run.count, w, out, to + 18 * before + 18 * reading.count);
+    splice::put_placed_diagnostics(
+        readingtape,
+        reading.at,
+        reading.count,
+        w,
+        out,
+        to + 18 * before,
+    );
+    splice::put_behind_diagnostics(
+        tape,
+        run.at,
+        run.count,
+        w,
+        out,
+        to + 18 * before + 18 * reading.count,
+    );
     diagnostics::sort_diagnostics(out, to, all);
 }
 
@@ -487,9 +565,37 @@ fn put_lists(
     let diagnosticsat = containersat + 13 * total(containers, q.containers.count);
     let count = total(diagnostics, q.diagnostics.count);
     put_nodes(tape, p.nodes, w, nodes.before, q.nodes.count, out, at);
-    put_pairs(tape, p.pairs, w, pairs.before, readingtape, q.pairs, out, pairsat);
-    put_containers(tape, p.containers, w, containers.before, readingtape, q.containers, out, containersat);
-    put_diagnostics(tape, p.diagnostics, w, diagnostics.before, readingtape, q.diagnostics, out, diagnosticsat, count);
+    put_pairs(
+        tape,
+        p.pairs,
+        w,
+        pairs.before,
+        readingtape,
+        q.pairs,
+        out,
+        pairsat,
+    );
+    put_containers(
+        tape,
+        p.containers,
+        w,
+        containers.before,
+        readingtape,
+        q.containers,
+        out,
+        containersat,
+    );
+    put_diagnostics(
+        tape,
+        p.diagnostics,
+        w,
+        diagnostics.before,
+        readingtape,
+        q.diagnostics,
+        out,
+        diagnosticsat,
+        count,
+    );
     wire::put_u8(out, diagnosticsat + 18 * count, 10);
 }
 
@@ -557,11 +663,45 @@ pub fn merge_books(
     ensures { λ r. ⌜ Written (resultChecked (bookIn (now (tape .entry)) (now (bytes .entry))) (editOf start end (now (replacement .entry))) (bookIn (now (readingtape .entry)) (now (readingbytes .entry))) (windowValue w) (roomOf (now (outtape .entry)) (now (outbytes .entry)) (now (work .entry)))) r (now (outtape .entry)) (now (outbytes .entry)) (now (work .entry)) (now (outtape .exit)) (now (outbytes .exit)) (now (work .exit)) ⌝ }
 {
     let k = kept_in(tape, p, w);
-    let l = new_lengths(p, q, start, end, replacement.len(), w.nstart, w.nend, bytes.len());
-    if !room_for(l, k, q, p.nodes.at, outtape.len(), outbytes.len(), work.len()) {
+    let l = new_lengths(
+        p,
+        q,
+        start,
+        end,
+        replacement.len(),
+        w.nstart,
+        w.nend,
+        bytes.len(),
+    );
+    if !room_for(
+        l,
+        k,
+        q,
+        p.nodes.at,
+        outtape.len(),
+        outbytes.len(),
+        work.len(),
+    ) {
         return refused();
     }
-    let g = put_store(tape, bytes, p, st, start, end, replacement, w, readingtape, readingbytes, q, rst, l, outtape, outbytes, work);
+    let g = put_store(
+        tape,
+        bytes,
+        p,
+        st,
+        start,
+        end,
+        replacement,
+        w,
+        readingtape,
+        readingbytes,
+        q,
+        rst,
+        l,
+        outtape,
+        outbytes,
+        work,
+    );
     if !g.ok {
         return refused();
     }

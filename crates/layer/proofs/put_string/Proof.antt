@@ -33,7 +33,7 @@ same-length c = search needs
 
 -- src/lib.rt:30:1
 returns : tie.Need-returns
-returns c = 
+returns c =
     let w1 : Wrote (c .before .before .before .before .before .before .before .before .before .args .out .now) (c .before .before .before .before .before .before .before .before .before .args .at) (3 ∷ []) (c .before .before .before .before .before .before .put-u8 .last .0) = record { is = c .before .before .before .before .before .before .put-u8 .ensures } in
     string-written _ _ (c .before .before .before .before .before .before .before .before .before .args .at) (c .before .before .before .before .before .before .before .before .before .args .n) (wrote-next w1 (c .before .before .before .before .before .before .before .before .before .args .at + 1) (wordBytes (c .before .before .before .before .before .before .before .before .before .args .n)) (c .before .before .put-u32 .ensures) (omega arith) (simp length-word (omega (arith, c .before .before .before .before .before .before .before .before .before .pre))))
 

@@ -18,7 +18,7 @@ use Rattle.result.proofs.put_new_texts.Reads as put-new-texts-reads
 -- src/lib.rt:325:5
 put-new-texts-requires : tie.Need-put-new-texts-requires
 unfolding editOf
-put-new-texts-requires c κs = 
+put-new-texts-requires c κs =
     let i = inside (c .before .before .before .before .before .before .before .before .before .pre .0) in
     let x = ap (λ (y : Lengths). y .base) (c .before .before .before .before .before .before .before .before .before .pre .1 .0) in
     ((i .rising, i .ends, i .normalRising, i .normalEnds), (texts-inside (c .before .before .before .before .before .before .before .before .before .pre .0), omega (arith, x, c .before .before .before .before .before .before .before .before .before .pre .1 .1 .2)))
