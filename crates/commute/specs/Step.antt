@@ -12,13 +12,21 @@ use Rattle.model.specs.Types.{LexOutput, RegionOutput}
 use Rattle.model.specs.Refusal.{Checked.accepted}
 use Rattle.model.specs.WellFormed.{checkBook, checkReading}
 use Rattle.model.specs.Region.{Edit, edited, behindEdit, balancedRegion, chosenRegion}
-use Rattle.model.specs.Merge.{Stored, Room, IncrementalOutput, newRegionText, merge}
+use Rattle.model.specs.Merge.{Stored, Room, IncrementalOutput, newRegionText, balancedNodes, merge}
 use Rattle.laws.specs.Checks.{WellFormed, LimitFacts, limit-facts, same-accepted, checked-book, checked-reading, Chosen, chosen-facts, MergeFacts, merge-accepted, mergedOf}
 use Rattle.laws.specs.Fits.{fits}
 use Rattle.laws.specs.Splice.{splice-length}
 use Rattle.laws.specs.Nodes.{sound-of, safe-facts}
 use Rattle.commute.specs.Merged.{Fit}
 use Rattle.commute.specs.Passage.{Bounds, bounds, Twelve, behind-is}
+
+-- What is known of a merge once 12 and 13 have passed.
+pub record Begun (old : LexOutput) (e : Edit) (r : Span) (reading : RegionOutput) : Type 0 where
+  pub oldFormed : WellFormed old
+  pub readingFormed : WellFormed reading
+  pub chosen : Chosen old e r
+  pub regionText : reading .sanitized ≡ newRegionText old e r
+  pub balanced : balancedNodes (reading .sourceNodes) ≡ true
 
 pub record Step (old : LexOutput) (e : Edit) (r : Span) (reading : RegionOutput) (m : IncrementalOutput) : Type 0 where
   pub room : Room
@@ -48,14 +56,14 @@ step-of s b e rs reading room m fb fr hb hr q =
       facts = subst (λ (r : Span). MergeFacts b e r reading room m) (c .region) f;
     }
 
-module _ {old : LexOutput} {e : Edit} {r : Span} {reading : RegionOutput} {m : IncrementalOutput} (s : Step old e r reading m) where
+module _ {old : LexOutput} {e : Edit} {r : Span} {reading : RegionOutput} (s : Begun old e r reading) where
   around : Bounds old e r
   around = subst (Bounds old e) (sym (s .chosen .region)) (bounds old e (s .chosen .inside))
 
   -- number 12, as lengths
-  pub twelve : Twelve e reading r
+  pub begun-size : Twelve e reading r
   unfolding newRegionText edited
-  twelve =
+  begun-size =
       let a = around .starts .before in
       let b = around .ends .behind in
       let d = around .ends .inside in
@@ -65,7 +73,7 @@ module _ {old : LexOutput} {e : Edit} {r : Span} {reading : RegionOutput} {m : I
       let t = take (e .start) (old .sanitized) ++ (e .replacement ++ drop (e .end) (old .sanitized)) in
       let l₁ = length-drop (r .start) t in
       let l₂ = length-take-le (behindEdit e (r .end) - r .start) (drop (r .start) t) (omega arith) in
-      let l₃ = ap length (s .facts .regionText) in
+      let l₃ = ap length (s .regionText) in
       omega arith
 
   limit : length (old .sanitized) + (length (e .replacement) + e .start) ≤ maxText + e .end
@@ -74,8 +82,8 @@ module _ {old : LexOutput} {e : Edit} {r : Span} {reading : RegionOutput} {m : I
       let n = splice-length (e .start) (e .end) (e .replacement) (old .sanitized) (s .chosen .rising) (s .chosen .inside) in
       omega arith
 
-  pub fit-of : Fit old e reading r
-  fit-of =
+  pub begun-fit : Fit old e reading r
+  begun-fit =
       let sound = sound-of old (s .oldFormed) in
       record {
         oldSound = sound;
@@ -85,12 +93,22 @@ module _ {old : LexOutput} {e : Edit} {r : Span} {reading : RegionOutput} {m : I
         endsBehind = around .ends .behind;
         inside = around .ends .inside;
         strictly = around .ends .strictly;
-        size = twelve;
+        size = begun-size;
         limit = limit;
         startSafe = safe-facts sound (r .start) (around .starts .safe);
         endSafe = safe-facts sound (r .end) (around .ends .safe);
-        balanced = s .facts .balanced;
+        balanced = s .balanced;
       }
+
+module _ {old : LexOutput} {e : Edit} {r : Span} {reading : RegionOutput} {m : IncrementalOutput} (s : Step old e r reading m) where
+  begun : Begun old e r reading
+  begun = record { oldFormed = s .oldFormed; readingFormed = s .readingFormed; chosen = s .chosen; regionText = s .facts .regionText; balanced = s .facts .balanced }
+
+  pub twelve : Twelve e reading r
+  twelve = begun-size begun
+
+  pub fit-of : Fit old e reading r
+  fit-of = begun-fit begun
 
   pub limits : LimitFacts (mergedOf old e reading r)
   limits = limit-facts (mergedOf old e reading r) (s .facts .limits)

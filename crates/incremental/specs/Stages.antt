@@ -1,10 +1,10 @@
 -- What each stage of `merge` is given and answers, and the laws for its returns.
-use mathlib.Core.Path.{_≡_, refl, sym, ap, _∙_, subst}
+use mathlib.Core.Path.{_≡_, refl, sym, ap, ap₂, _∙_, subst}
 use Prim.Native.Nat.{ℕ, zero, suc, _+_, _-_, _^_, _≤_, _<_, min}
 use native.Mathlib.Omega.{arith}
 use mathlib.Core.Bool.{Bool, true, false, true≢false}
-use mathlib.Core.List.{List, [], _∷_, _++_}
-use lib.ListN.{length, take, drop, length-take, length-replicate, length-append, length-drop}
+use mathlib.Core.List.{List, [], _∷_, _++_, append-nil}
+use lib.ListN.{length, take, drop, length-take, length-replicate, length-append, length-drop, drop-of-length-le}
 use native.Mathlib.Nat.{sub-zero}
 use lib.Seq.{length-take-le}
 use Rattle.model.specs.Offset.{Span}
@@ -151,6 +151,11 @@ module _ (whole : List ℕ) {used : ℕ} (u : used ≡ min (length whole) 429496
 
     pub whole-within : r .bytes ≤ length back
     whole-within = let n = length-append text₁ (drop (used - 0) whole) in let h = bytes-within (ask (roomOf out part work)) w in omega (arith, n, h)
+
+    -- all words, from the first on
+    pub words-cleared : {n : ℕ} {work′ : List ℕ} → n ≡ length work₁ → work′ ≡ take 0 work₁ ++ (zeros (n - 0) ++ drop n work₁) → work′ ≡ zeros (length work₁)
+    words-cleared {n} e f =
+        f ∙ ap₂ (λ (x y : List ℕ). x ++ y) (ap zeros (sub-zero n ∙ e)) (drop-of-length-le work₁ {i = n} (omega (arith, e))) ∙ append-nil (zeros (length work₁))
 
     pub merged-lent : {out′ text′ work′ : List ℕ}
         → out′ ≡ overwrite out₁ (r .tape) (zeros (length out₁ - r .tape)) → text′ ≡ overwrite back (r .bytes) (zeros (length back - r .bytes)) → work′ ≡ zeros (length work₁)

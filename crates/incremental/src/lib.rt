@@ -2,13 +2,16 @@
 // not result is cleared at the end, so that a refusal leaves zeros everywhere.
 use region::Chosen;
 use result::IncrementalOutput;
+use span::NormalizedOffset;
+use span::SourceOffset;
 use splice::Window;
 ghost use mathlib.Core.Path.{_≡_};
-ghost use Prim.Native.Nat.{_≤_, _<_, _^_, min};
+ghost use Prim.Native.Nat.{_+_, _*_, _≤_, _<_, _^_, min};
 ghost use lib.ListN.{length};
 ghost use Rattle.model.specs.Tape.{recordsAt, nodeCodec, places as placesIn, bookAt};
 ghost use Rattle.model.specs.Region.{Edit};
 ghost use Rattle.model.specs.Merge.{normalizedOffset, mergeBooks};
+ghost use Rattle.bounds.specs.Search.{InOrder};
 ghost use Rattle.edit.specs.Numbers.{editOf};
 ghost use Rattle.result.specs.Answer.{refusedOutput, roomOf, Written, Merged};
 ghost use Rattle.region.specs.Held.{Held};
@@ -38,6 +41,17 @@ fn refused_output(n: u32) -> IncrementalOutput
         tape: 0,
         bytes: 0,
     }
+}
+
+// Section 1. Source offsets and normalized offsets are two measures of two texts. Only here does one become the other: a cut of the source
+// text, as a cut of the normalized text.
+fn normalized_cut(tape: &[u8], nodes: places::Run, cut: SourceOffset) -> NormalizedOffset
+    requires { ⌜ (nodes .at + 49 * nodes .count ≤ length (now tape)) × InOrder (recordsAt nodeCodec (now tape) (nodes .at) (nodes .count)) ⌝ }
+    requires { ⌜ normalizedOffset (recordsAt nodeCodec (now tape) (nodes .at) (nodes .count)) (cut .0) < 2 ^ 32 ⌝ }
+    ensures { λ r. ⌜ r .0 ≡ normalizedOffset (recordsAt nodeCodec (now (tape .entry)) (nodes .at) (nodes .count)) (cut .0) ⌝ }
+{
+    let at = reading::normalized_offset(tape, nodes.at, nodes.count, cut.0);
+    NormalizedOffset(at as u32)
 }
 
 // `MergeWindow`. `len` is the replacement's length, `normalized` that of the reading's normalized text.
@@ -178,10 +192,10 @@ fn merge_read(
     requires { ⌜ length (now outbytes) < 2 ^ 32 ⌝ }
     ensures { λ r. ⌜ Written (mergeBooks (bookAt (now (tape .entry)) (placesIn (now (tape .entry))) (now (bytes .entry))) (editOf start end (now (replacement .entry))) (regionOf from to) (bookAt (now (readingtape .entry)) (placesIn (now (readingtape .entry))) (now (readingbytes .entry))) (roomOf (now (outtape .entry)) (now (outbytes .entry)) (now (work .entry)))) r (now (outtape .entry)) (now (outbytes .entry)) (now (work .entry)) (now (outtape .exit)) (now (outbytes .exit)) (now (work .exit)) ⌝ }
 {
-    let nstart = reading::normalized_offset(tape, p.nodes.at, p.nodes.count, from) as u32;
-    let nend = reading::normalized_offset(tape, p.nodes.at, p.nodes.count, to) as u32;
+    let nstart = normalized_cut(tape, p.nodes, SourceOffset(from));
+    let nend = normalized_cut(tape, p.nodes, SourceOffset(to));
     let len = replacement.len();
-    let w = window(from, to, nstart, nend, len, start, end, q.normalized);
+    let w = window(from, to, nstart.0, nend.0, len, start, end, q.normalized);
     let n = reading_refusal(
         tape,
         bytes,
@@ -356,6 +370,7 @@ pub fn merge(
     );
     wire::zero_from(outtape, r.tape);
     wire::zero_from(outbytes, r.bytes);
-    wire::zero_words(work);
+    let words = work.len();
+    table::clear_part(work, 0, words);
     r
 }

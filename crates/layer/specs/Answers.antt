@@ -40,6 +40,7 @@ pub record LayerMade (out strs out′ strs′ : List ℕ) (at base : ℕ) (r : L
   pub contents : r .contents ≡ length (g .1 .contents)
   pub segments : r .segments ≡ length (g .1 .segments)
   pub stats : statsOf (r .state .stats) ≡ g .1 .interner .stats
+  pub used : r .state .used ≡ base + length (flatten (g .1 .interner .strings))
 
 pub record LayerTold (out strs out′ strs′ : List ℕ) (at base : ℕ) (o : Offsets) (r : Layer) (g : With (List SourceNode)) : Type 0 where
   pub ok : r .ok ≡ layerOk (length out) (length strs) at base o g
@@ -167,14 +168,17 @@ module _ (out strs : List ℕ) (at base : ℕ) (o : Offsets) (small : OffsetsFit
         count = sym (count-is work₁ strs₁ (m .state) (w .good)) ∙ ap length same-strings
 
         -- the bytes of the strings stand from `base` on
-        strings-there : take (base + length (flatten strings)) strs₁ ≡ take base strs ++ flatten strings
-        strings-there =
+        strings-laid : take (m .state .used) strs₁ ≡ take base strs₁ ++ flatten strings
+        strings-laid = w .good .laid ∙ ap₂ (λ (n : ℕ) (l : List (List ℕ)). take n strs₁ ++ flatten l) (w .begins) same-strings
+
+        strings-end : base + length (flatten strings) ≡ m .state .used
+        strings-end =
             let q = w .good in
             let b = w .begins in
-            let x : take (m .state .used) strs₁ ≡ take base strs₁ ++ flatten strings = q .laid ∙ ap₂ (λ (n : ℕ) (l : List (List ℕ)). take n strs₁ ++ flatten l) b same-strings in
-            let n : base + length (flatten strings) ≡ m .state .used =
-            omega (arith, ap length x, length-append (take base strs₁) (flatten strings), length-take-le (m .state .used) strs₁ (q .fits), length-take-le base strs₁ (omega (arith, q .fits, q .begins, b)), q .begins, b) in
-            ap (λ (i : ℕ). take i strs₁) n ∙ x ∙ ap (λ (l : List ℕ). l ++ flatten strings) (w .kept)
+            omega (arith, ap length strings-laid, length-append (take base strs₁) (flatten strings), length-take-le (m .state .used) strs₁ (q .fits), length-take-le base strs₁ (omega (arith, q .fits, q .begins, b)), q .begins, b)
+
+        strings-there : take (base + length (flatten strings)) strs₁ ≡ take base strs ++ flatten strings
+        strings-there = ap (λ (i : ℕ). take i strs₁) strings-end ∙ strings-laid ∙ ap (λ (l : List ℕ). l ++ flatten strings) (w .kept)
 
         one-run : out₁ ≡ overwrite out (at + 1) (recordsBytes contentCodec (g .1 .contents) ++ (recordsBytes segmentCodec (g .1 .segments) ++ recordsBytes nodeCodec (g .0)))
         one-run =
@@ -236,6 +240,7 @@ module _ (out strs : List ℕ) (at base : ℕ) (o : Offsets) (small : OffsetsFit
                 contents = ap (λ (v : Layer). v .contents) i ∙ w .contents;
                 segments = ap (λ (v : Layer). v .segments) i ∙ w .segments;
                 stats = ap (λ (v : Layer). statsOf (v .state .stats)) i ∙ ap (λ (v : StrInterner). v .stats) (w .state);
+                used = ap (λ (v : Layer). v .state .used) i ∙ sym strings-end;
               }
 
           -- the walk is done, and `finish` has answered
