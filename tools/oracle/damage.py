@@ -102,10 +102,14 @@ def _(g, b):
     t = b.tape(); b.raw = t.replace(s + c, c + s, 1)
     if b.raw == t: raise Skip
 # ---- 2
+def valid(s):
+    try: return s.decode() is not None
+    except UnicodeDecodeError: return False
 @damage('texts', 2)
 def _(g, b):
     if not b.text: raise Skip
     b.text = g.r.choice([b'\xff', b'\x80', b'\xc0', b'\xed', b'\xf5']) + b.text[1:]
+    if valid(b.text): raise Skip   # ED before a byte below A0 begins a character
 @damage('norms', 2)
 def _(g, b):
     if not b.norm: raise Skip
