@@ -29,9 +29,9 @@ use Rattle.lookup.specs.Ranges.{rangeIf, rangeAtOf}
 use Rattle.lookup.specs.Strings.{strIf, strAtOf, strShown}
 use Rattle.region.specs.declared.Chosen.{Chosen}
 use Rattle.region.specs.declared.Chosen.the-variants as chosen
-use Rattle.result.specs.Answer.{Merged}
+use Rattle.output.specs.Answer.{Merged}
 use Rattle.orders.specs.Orders.{MergedBothOrders}
-use Rattle.result.specs.declared.IncrementalOutput.{IncrementalOutput as Output}
+use Rattle.output.specs.declared.IncrementalOutput.{IncrementalOutput as Output}
 use Rattle.orders.specs.declared.BothOrders.{BothOrders}
 use Rattle.exports.specs.declared.AllowedAnswer.{AllowedAnswer}
 use Rattle.exports.specs.declared.NodeAnswer.{NodeAnswer}

@@ -18,7 +18,7 @@ ghost use Rattle.lookup.specs.Strings.{strAtOf, strShown};
 ghost use Rattle.lookup.specs.Copying.{copiedOf, copyInto};
 ghost use Rattle.edit.specs.Numbers.{editOf};
 ghost use Rattle.region.specs.Chosen.{chosenOf};
-ghost use Rattle.result.specs.Answer.{roomOf, Merged};
+ghost use Rattle.output.specs.Answer.{roomOf, Merged};
 ghost use Rattle.incremental.specs.Stages.{usedOf};
 ghost use Rattle.orders.specs.Orders.{storedOf, correctionOf, MergedBothOrders};
 ghost use Rattle.exports.specs.Answers.{allowedAnswer, nodeAnswer, rangeAnswer, rangeRead, strAnswer, strRead, copyAnswer, regionAnswer, outputRead, ordersRead};
@@ -225,7 +225,7 @@ fn region_answer(a: region::Chosen) -> RegionAnswer
     }
 }
 
-fn merge_answer(a: result::IncrementalOutput) -> MergeAnswer
+fn merge_answer(a: output::IncrementalOutput) -> MergeAnswer
     ensures { λ r. ⌜ outputRead r ≡ a ⌝ }
 {
     let c = a.stats;

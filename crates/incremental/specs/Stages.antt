@@ -24,8 +24,8 @@ use Rattle.region.specs.Held.{Held}
 use Rattle.region.specs.declared.Chosen.{Chosen}
 use Rattle.region.specs.declared.Chosen.the-variants.{Refused, Region}
 use Rattle.region.specs.Chosen.{chosenOf}
-use Rattle.result.specs.declared.IncrementalOutput.{IncrementalOutput as Output}
-use Rattle.result.specs.Answer.{refusedOutput, outputOf, roomOf, Merged, Written}
+use Rattle.output.specs.declared.IncrementalOutput.{IncrementalOutput as Output}
+use Rattle.output.specs.Answer.{refusedOutput, outputOf, roomOf, Merged, Written}
 
 abbrev pub regionOf : ℕ → ℕ → Span
 regionOf start end = record { start = start; end = end }

@@ -1,7 +1,7 @@
 // Document 01 section 7: the entry `merge`, numbers 1 to 18 in their order. Each stage takes what the stages before it have shown; what is
 // not result is cleared at the end, so that a refusal leaves zeros everywhere.
+use output::IncrementalOutput;
 use region::Chosen;
-use result::IncrementalOutput;
 use span::NormalizedOffset;
 use span::SourceOffset;
 use splice::Window;
@@ -13,35 +13,12 @@ ghost use Rattle.model.specs.Region.{Edit};
 ghost use Rattle.model.specs.Merge.{normalizedOffset, mergeBooks};
 ghost use Rattle.bounds.specs.Search.{InOrder};
 ghost use Rattle.edit.specs.Numbers.{editOf};
-ghost use Rattle.result.specs.Answer.{refusedOutput, roomOf, Written, Merged};
+ghost use Rattle.output.specs.Answer.{refusedOutput, roomOf, Written, Merged};
 ghost use Rattle.region.specs.Held.{Held};
 ghost use Rattle.splice.specs.Window.{windowValue};
 ghost use Rattle.incremental.specs.Numbers.{cutNumber, readingNumber};
 ghost use Rattle.incremental.specs.Window.{windowFrom};
 ghost use Rattle.incremental.specs.Stages.{usedOf, asked, Given, Read, regionOf, askedReading};
-
-fn refused_output(n: u32) -> IncrementalOutput
-    ensures { λ r. ⌜ r ≡ refusedOutput n ⌝ }
-{
-    IncrementalOutput {
-        number: n,
-        start: 0,
-        end: 0,
-        reused: 0,
-        reread: 0,
-        stats: interner::InternStats {
-            calls: 0,
-            cachehits: 0,
-            tablehits: 0,
-            allocs: 0,
-            longbypass: 0,
-            resizes: 0,
-            probesteps: 0,
-        },
-        tape: 0,
-        bytes: 0,
-    }
-}
 
 // Section 1. Source offsets and normalized offsets are two measures of two texts. Only here does one become the other: a cut of the source
 // text, as a cut of the normalized text.
@@ -212,7 +189,7 @@ fn merge_read(
         work,
     );
     if n != 0 {
-        return refused_output(n);
+        return output::refused_output(n);
     }
     result::merge_books(
         tape,
@@ -256,7 +233,7 @@ fn merge_reading(
 {
     let n = tape::check_reading(readingtape, readingbytes);
     if n != 0 {
-        return refused_output(n);
+        return output::refused_output(n);
     }
     let q = places::places_of(readingtape, readingbytes);
     let own = store::store_of(readingtape, q.layers);
@@ -298,7 +275,7 @@ fn merge_checked(
 {
     let n = tape::check_book(tape, bytes);
     if n != 0 {
-        return refused_output(n);
+        return output::refused_output(n);
     }
     let p = places::places_of(tape, bytes);
     let st = store::store_of(tape, p.layers);
@@ -307,7 +284,7 @@ fn merge_checked(
     let found = region::chosen_region(tape, bytes, p, st, work, base, start, end, replacement);
     match found {
         Chosen::Refused(k) => {
-            return refused_output(k);
+            return output::refused_output(k);
         }
         Chosen::Region(from, to) => {
             return merge_reading(

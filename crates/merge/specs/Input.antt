@@ -18,8 +18,8 @@ use Rattle.laws.specs.Lists.{both}
 use Rattle.wire.specs.Loops.{by-bool}
 use Rattle.edit.specs.Numbers.{editOf}
 use Rattle.incremental.specs.Stages.{usedOf}
-use Rattle.result.specs.Answer.{Merged, outputOf, refusedOutput}
-use Rattle.result.specs.declared.IncrementalOutput.{IncrementalOutput as Output}
+use Rattle.output.specs.Answer.{Merged, outputOf, refusedOutput}
+use Rattle.output.specs.declared.IncrementalOutput.{IncrementalOutput as Output}
 
 -- each part is at most 65536 bytes long
 unfoldable pub partsFit : List ℕ → Bool

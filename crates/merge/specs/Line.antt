@@ -14,8 +14,8 @@ use Rattle.model.specs.Runs.{decimal, line, program}
 use Rattle.laws.specs.Numbers.{UpTo, program-numbers}
 use Rattle.wire.specs.Overwrite.{overwrite, take-overwrite}
 use Rattle.io.specs.Digits.{digits as Digits·digits, Fewest}
-use Rattle.result.specs.Answer.{outputOf}
-use Rattle.result.specs.declared.IncrementalOutput.{IncrementalOutput as Output}
+use Rattle.output.specs.Answer.{outputOf}
+use Rattle.output.specs.declared.IncrementalOutput.{IncrementalOutput as Output}
 use Rattle.merge.specs.Decimal.{decimal-digits}
 
 -- a label and a number

@@ -7,7 +7,7 @@ ghost use mathlib.Core.List.{[], _∷_, _++_};
 ghost use Prim.Native.Nat.{_+_, _≤_};
 ghost use lib.ListN.{length, take};
 ghost use Rattle.model.specs.Runs.{asked, program, line};
-ghost use Rattle.result.specs.Answer.{outputOf, refusedOutput};
+ghost use Rattle.output.specs.Answer.{outputOf, refusedOutput};
 ghost use Rattle.merge.specs.Input.{partsFit, inputNumber, Whole};
 ghost use Rattle.merge.specs.Line.{numbered, acceptedLine, lineOf};
 
@@ -63,37 +63,13 @@ fn input_refusal(input: &[u8]) -> u32
     0
 }
 
-fn refused(n: u32) -> result::IncrementalOutput
-    ensures { λ r. ⌜ r ≡ refusedOutput n ⌝ }
-{
-    let none = interner::InternStats {
-        calls: 0,
-        cachehits: 0,
-        tablehits: 0,
-        allocs: 0,
-        longbypass: 0,
-        resizes: 0,
-        probesteps: 0,
-    };
-    result::IncrementalOutput {
-        number: n,
-        start: 0,
-        end: 0,
-        reused: 0,
-        reread: 0,
-        stats: none,
-        tape: 0,
-        bytes: 0,
-    }
-}
-
 // The merge that an input of the right length asks for.
 fn merge_parts(
     input: &[u8],
     outtape: &mut [u8],
     outbytes: &mut [u8],
     work: &mut [u32],
-) -> result::IncrementalOutput
+) -> output::IncrementalOutput
     requires { ⌜ Whole (now input) ⌝ }
     requires { ⌜ (length (now outtape) ≡ 65536) × (length (now outbytes) ≡ 65536) × (length (now work) ≡ 16384) ⌝ }
     ensures { λ r. ⌜ r ≡ outputOf (asked (now (input .entry))) ⌝ }
@@ -122,13 +98,13 @@ fn answer(
     outtape: &mut [u8],
     outbytes: &mut [u8],
     work: &mut [u32],
-) -> result::IncrementalOutput
+) -> output::IncrementalOutput
     requires { ⌜ (length (now outtape) ≡ 65536) × (length (now outbytes) ≡ 65536) × (length (now work) ≡ 16384) ⌝ }
     ensures { λ r. ⌜ r ≡ outputOf (program (now (input .entry))) ⌝ }
 {
     let n = input_refusal(input);
     if n != 0 {
-        return refused(n);
+        return output::refused_output(n);
     }
     merge_parts(input, outtape, outbytes, work)
 }
@@ -156,7 +132,7 @@ fn put_number(out: &mut [u8], at: usize, label: &[u8], n: u64) -> usize
 }
 
 // P5's line: region start, end; kept, reread nodes; intern calls, slots probed.
-fn put_accepted(out: &mut [u8], a: result::IncrementalOutput) -> usize
+fn put_accepted(out: &mut [u8], a: output::IncrementalOutput) -> usize
     requires { ⌜ 160 ≤ length (now out) ⌝ }
     ensures { λ r. ⌜ (r ≤ length (now (out .exit))) × (take r (now (out .exit)) ≡ acceptedLine a) ⌝ }
 {
@@ -170,7 +146,7 @@ fn put_accepted(out: &mut [u8], a: result::IncrementalOutput) -> usize
     put_text(out, probes, b"\n")
 }
 
-fn put_line(out: &mut [u8], a: result::IncrementalOutput) -> usize
+fn put_line(out: &mut [u8], a: output::IncrementalOutput) -> usize
     requires { ⌜ 160 ≤ length (now out) ⌝ }
     ensures { λ r. ⌜ (r ≤ length (now (out .exit))) × (take r (now (out .exit)) ≡ lineOf a) ⌝ }
 {

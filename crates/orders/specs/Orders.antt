@@ -16,8 +16,8 @@ use Rattle.laws.specs.Checks.{chosen-facts}
 use Rattle.laws.specs.Numbers.{UpTo, merge-numbers}
 use Rattle.commute.specs.Demand3.{demand3}
 use Rattle.edit.specs.Numbers.{editOf}
-use Rattle.result.specs.Answer.{Merged, outputOf, outputTape, outputBytes}
-use Rattle.result.specs.declared.IncrementalOutput.{IncrementalOutput as Output}
+use Rattle.output.specs.Answer.{Merged, outputOf, outputTape, outputBytes}
+use Rattle.output.specs.declared.IncrementalOutput.{IncrementalOutput as Output}
 use Rattle.incremental.specs.Stages.{usedOf}
 use Rattle.orders.specs.declared.BothOrders.{BothOrders as Answers}
 use Rattle.orders.specs.Moved.{cutBehind, cutMoved, moved-exact}

@@ -3,17 +3,17 @@
 ghost use mathlib.Core.Path.{_≡_};
 ghost use Prim.Native.Nat.{min};
 ghost use Rattle.model.specs.Offset.{maxU32};
-ghost use Rattle.result.specs.Answer.{roomOf};
+ghost use Rattle.output.specs.Answer.{roomOf};
 ghost use Rattle.edit.specs.Numbers.{editOf};
 ghost use Rattle.orders.specs.Moved.{cutBehind};
 ghost use Rattle.orders.specs.Orders.{storedOf, correctionOf, MergedInOrder, MergedBothOrders};
 
 // What the four calls answer. The earlier correction is the one that lies before the other.
 pub struct BothOrders {
-    pub earlierfirst: result::IncrementalOutput,
-    pub latersecond: result::IncrementalOutput,
-    pub laterfirst: result::IncrementalOutput,
-    pub earliersecond: result::IncrementalOutput,
+    pub earlierfirst: output::IncrementalOutput,
+    pub latersecond: output::IncrementalOutput,
+    pub laterfirst: output::IncrementalOutput,
+    pub earliersecond: output::IncrementalOutput,
 }
 
 const MAX_U32: usize = 4294967295;
@@ -45,8 +45,8 @@ fn moved(offset: u32, start: u32, end: u32, replacement: &[u8]) -> u32
 
 // What two calls answer, the second on the result of the first.
 struct InOrder {
-    pub first: result::IncrementalOutput,
-    pub second: result::IncrementalOutput,
+    pub first: output::IncrementalOutput,
+    pub second: output::IncrementalOutput,
 }
 
 // One correction merged into the book, and another into the result; of a refused first merge nothing is left to be read.

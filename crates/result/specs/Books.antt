@@ -28,7 +28,7 @@ use Rattle.store.specs.Lengths.{BookLengths, book-lengths}
 use Rattle.tape.specs.Accepted.{Accepted, AcceptedReading}
 use Rattle.result.specs.Checked.{Passed}
 use Rattle.result.specs.Parts.{oldStringBytes, newStringBytes, merged-strings}
-use Rattle.result.specs.Writing.{spliced-length}
+use Rattle.merged_texts.specs.Writing.{spliced-length}
 
 -- The region is the window's own.
 pub record Books (t d : List ℕ) (p : Places) (st : Store) (e : Edit) (w : MergeWindow) (rt rd : List ℕ) (q : Places) (rst : Store) : Type 0 where

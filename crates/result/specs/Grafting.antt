@@ -25,7 +25,7 @@ use Rattle.layer.specs.declared.Layer.{Layer}
 use Rattle.layer.specs.Answers.{LayerTold}
 use Rattle.layer.specs.Layered.{newLayer, graftedInto, layerRecords, layerOk}
 use Rattle.result.specs.declared.Graft.{Graft}
-use Rattle.result.specs.Answer.{noCounts}
+use Rattle.output.specs.Answer.{noCounts}
 use Rattle.result.specs.Parts.{newLayerBytes, newStringBytes}
 
 -- ---- definitions

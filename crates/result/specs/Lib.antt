@@ -1,11 +1,6 @@
-pub mod Answer
 pub mod Checked
-pub mod Widths
 pub mod Parts
-pub mod Writing
 pub mod Books
-pub mod Sizes
-pub mod Lists
 pub mod Grafting
 pub mod Whole
 pub mod Stages

@@ -18,19 +18,19 @@ use Rattle.store.specs.declared.Store.{Store}
 use Rattle.tape.specs.Accepted.{accepted-places}
 use Rattle.tape.specs.Placed.{PlacesFit, fit-nodes}
 use Rattle.layer.specs.Source.{SourceFits}
-use Rattle.result.specs.declared.Kept.{Kept}
-use Rattle.result.specs.declared.Lengths.{Lengths}
+use Rattle.merged_lists.specs.declared.Kept.{Kept}
+use Rattle.merged_lists.specs.declared.Lengths.{Lengths}
 use Rattle.result.specs.declared.Graft.{Graft}
-use Rattle.result.specs.declared.IncrementalOutput.{IncrementalOutput as Output}
-use Rattle.result.specs.Answer.{refusedOutput, roomOf, Written}
+use Rattle.output.specs.declared.IncrementalOutput.{IncrementalOutput as Output}
+use Rattle.output.specs.Answer.{refusedOutput, outputBy, roomOf, Written}
 use Rattle.result.specs.Checked.{resultChecked, ResultFacts}
 use Rattle.result.specs.Parts.{old-layers-length}
 use Rattle.result.specs.Books.{Books, bookIn, mergeOf, lengths-read, limits-old}
-use Rattle.result.specs.Sizes.{keptOf, roomFor, lengthsOf, listsEnd, room-facts, room-ok}
-use Rattle.result.specs.Lists.{Lists, listsOf}
+use Rattle.merged_lists.specs.Sizes.{keptOf, roomFor, lengthsOf, listsEnd, room-facts, room-ok}
+use Rattle.merged_lists.specs.Lists.{Lists, listsOf}
 use Rattle.result.specs.Grafting.{offsetsOf}
 use Rattle.result.specs.Whole.{above, kept-nodes, small, tape-length, needed-room, needed-graft, enough, accepted-is, refused-is, nodes-fit, diagnostics-fit, tape-stands}
-use Rattle.result.specs.Stages.{upTo, StoreTold, outputBy, written-refused, written-accepted}
+use Rattle.result.specs.Stages.{upTo, StoreTold, written-refused, written-accepted}
 
 -- ---- what the stages ask
 

@@ -14,7 +14,6 @@ use Rattle.model.specs.Tape.{recordsBytes, nodeCodec, pairCodec, containerCodec
 use Rattle.model.specs.Graft.{NewLayer, layerOf}
 use Rattle.model.specs.Merge.{mergedLayers}
 use Rattle.laws.specs.Lists.{flatten-snoc, map-append}
-use Rattle.laws.specs.Words.{word-length}
 use Rattle.laws.specs.RoundTrip.{read-write}
 use Rattle.wire.specs.Loops.{sum-append}
 use Rattle.places.specs.declared.Places.{Places}
@@ -22,13 +21,10 @@ use Rattle.places.specs.Found.{found}
 use Rattle.places.specs.Again.{lists-inside}
 use Rattle.store.specs.Lengths.{book-lengths}
 use Rattle.tape.specs.Accepted.{Accepted}
-use Rattle.result.specs.Widths.{sixWords, nodes-width, nodes-six, pairs-width, containers-width, diagnostics-width}
+use Rattle.merged_texts.specs.Writing.{headBytes, head-length}
+use Rattle.merged_lists.specs.Widths.{sixWords, nodes-width, nodes-six, pairs-width, containers-width, diagnostics-width}
 
 -- ---- definitions
-
--- command 1 and the lengths of both texts
-unfoldable pub headBytes : ℕ → ℕ → List ℕ
-headBytes text normalized = (1 ∷ []) ++ wordBytes text ++ wordBytes normalized
 
 abbrev pub oldLayerBytes : LexOutput → List ℕ
 oldLayerBytes b = flatten (map layerBytes (b .layers))
@@ -80,10 +76,6 @@ list-length b six =
     let x₃ = length-append (n ++ p ++ c) g in
     let x₄ = length-append (n ++ p ++ c ++ g) (10 ∷ []) in
     omega (arith, x₁, x₂, x₃, x₄, nodes-width (b .sourceNodes) six, pairs-width (b .pairs), containers-width (b .containerPairs), diagnostics-width (b .diagnostics))
-
-pub head-length : (n m : ℕ) → length (headBytes n m) ≡ 9
-unfolding headBytes
-head-length n m = let a = word-length n in let b = word-length m in let c = length-append ((1 ∷ []) ++ wordBytes n) (wordBytes m) in let d = length-append (1 ∷ []) (wordBytes n) in omega (arith, a, b, c, d)
 
 -- ---- the layers of a merged book
 

@@ -26,13 +26,14 @@ use Rattle.places.specs.Found.{found}
 use Rattle.store.specs.declared.Store.{Store}
 use Rattle.layer.specs.declared.Offsets.{Offsets}
 use Rattle.layer.specs.Layered.{graftedInto, grafted-above, layerRecords, layer-fits}
-use Rattle.result.specs.declared.Lengths.{Lengths}
+use Rattle.merged_lists.specs.declared.Lengths.{Lengths}
 use Rattle.result.specs.declared.Graft.{Graft}
-use Rattle.result.specs.declared.IncrementalOutput.{IncrementalOutput as Output}
-use Rattle.result.specs.Answer.{countersOf, refusedOutput, outputOf, Written}
-use Rattle.result.specs.Parts.{headBytes, oldLayerBytes, oldStringBytes, newLayerBytes, newStringBytes, old-layers, old-strings, head-length, old-layers-length}
+use Rattle.output.specs.declared.IncrementalOutput.{IncrementalOutput as Output}
+use Rattle.output.specs.Answer.{countersOf, refusedOutput, outputBy, outputOf, Written}
+use Rattle.merged_texts.specs.Writing.{headBytes, head-length}
+use Rattle.result.specs.Parts.{oldLayerBytes, oldStringBytes, newLayerBytes, newStringBytes, old-layers, old-strings, old-layers-length}
 use Rattle.result.specs.Books.{Books, bookIn, mergeOf, lengths-read, new-text, new-normalized, new-bytes}
-use Rattle.result.specs.Sizes.{lengthsOf}
+use Rattle.merged_lists.specs.Sizes.{lengthsOf}
 use Rattle.result.specs.Grafting.{offsetsOf, graftOk, GraftTold}
 use Rattle.result.specs.Whole.{above, text-is, normalized-is, base-is, node-bytes}
 
@@ -201,9 +202,6 @@ written-refused asked out text work e f a b c = rw (e, f) (record {
 
 counters-back : (c : Counters) (s : InternStats) → statsOf c ≡ s → c ≡ countersOf s
 counters-back c s e = ap countersOf e
-
-abbrev pub outputBy : ℕ → ℕ → ℕ → ℕ → Counters → ℕ → ℕ → Output
-outputBy start end reused reread stats tape bytes = record { number = 0; start = start; end = end; reused = reused; reread = reread; stats = stats; tape = tape; bytes = bytes }
 
 pub written-accepted : (asked : Checked IncrementalOutput) (a : IncrementalOutput) {r : Output} (out text work : List ℕ) {out′ text′ work′ : List ℕ} → asked ≡ accepted a
     → {reused reread tape bytes : ℕ} {stats : Counters} → r ≡ outputBy (a .region .start) (a .region .end) reused reread stats tape bytes → reused ≡ a .reusedNodes → reread ≡ a .reparsedNodes

@@ -38,14 +38,15 @@ use Rattle.diagnostics.specs.Sorted.{sort-length}
 use Rattle.layer.specs.declared.Offsets.{Offsets}
 use Rattle.layer.specs.Layered.{Above, layerRecords, layer-fits, layer-ok}
 use Rattle.wire.specs.Moved.{overwrite-covered}
-use Rattle.result.specs.declared.Kept.{Kept}
-use Rattle.result.specs.declared.Lengths.{Lengths}
+use Rattle.merged_lists.specs.declared.Kept.{Kept}
+use Rattle.merged_lists.specs.declared.Lengths.{Lengths}
 use Rattle.result.specs.Checked.{resultChecked, merge-passed, ResultFacts, result-facts, result-ok}
-use Rattle.result.specs.Parts.{headBytes, oldLayerBytes, oldStringBytes, newLayerBytes, newStringBytes, ifLayer, listBytes, tape-parts, list-length, head-length, merged-layers, merged-count, merged-number, old-layers-length, old-strings}
-use Rattle.result.specs.Widths.{sixWords, nodes-width, nodes-six, grafted-six, length-grafted, spliced-six}
+use Rattle.merged_texts.specs.Writing.{headBytes, head-length}
+use Rattle.result.specs.Parts.{oldLayerBytes, oldStringBytes, newLayerBytes, newStringBytes, ifLayer, listBytes, tape-parts, list-length, merged-layers, merged-count, merged-number, old-layers-length, old-strings}
+use Rattle.merged_lists.specs.Widths.{sixWords, nodes-width, nodes-six, grafted-six, length-grafted, spliced-six}
 use Rattle.result.specs.Books.{Books, bookIn, mergeOf, chosen, begun, old-fits, reading-fits, lengths-old, lengths-read, limits-old, limits-read, text-length, normalized-length, new-bytes}
-use Rattle.result.specs.Sizes.{sidesOf, keptOf, totalOf, lengthsOf, Small, listsEnd, RoomFor, few-kept}
-use Rattle.result.specs.Lists.{listsOf, oldDiagnostics}
+use Rattle.merged_lists.specs.Sizes.{sidesOf, keptOf, totalOf, lengthsOf, Small, listsEnd, RoomFor, few-kept}
+use Rattle.merged_lists.specs.Lists.{listsOf, oldDiagnostics}
 use Rattle.result.specs.Grafting.{graftOk, offsetsOf}
 
 module _ {t d : List ℕ} {p : Places} {st : Store} {e : Edit} {w : MergeWindow} {rt rd : List ℕ} {q : Places} {rst : Store} (b : Books t d p st e w rt rd q rst) where

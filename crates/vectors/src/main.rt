@@ -4,7 +4,7 @@
 // two follow, and the reading's bytes. tools/cases/make writes the cases, and from document 01 the output that is stored beside them.
 use libc::STDIN_FILENO;
 use libc::STDOUT_FILENO;
-use result::IncrementalOutput;
+use output::IncrementalOutput;
 ghost use Prim.Native.Nat.{_≤_};
 
 const HEAD: usize = 20;

@@ -9,7 +9,7 @@ use Rattle.incremental.proofs.merge_checked.Tie as tie
 use Rattle.incremental.proofs.merge_checked.Reads as reads
 use Rattle.incremental.proofs.merge_checked.Lts as lts
 use Rattle.incremental.proofs.merge_reading.Reads as merge-reading-reads
-use Rattle.incremental.proofs.refused_output.Reads as refused-output-reads
+use Rattle.output.proofs.refused_output.Reads as refused-output-reads
 use Rattle.places.proofs.places_of.Reads as places-of-reads
 use Rattle.region.proofs.chosen_region.Reads as chosen-region-reads
 use Rattle.region.proofs.index_words.Reads as index-words-reads

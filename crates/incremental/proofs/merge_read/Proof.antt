@@ -14,7 +14,7 @@ use Rattle.incremental.proofs.merge_read.Lts as lts
 use Rattle.result.proofs.merge_books.Reads as merge-books-reads
 use Rattle.incremental.proofs.normalized_cut.Reads as normalized-cut-reads
 use Rattle.incremental.proofs.reading_refusal.Reads as reading-refusal-reads
-use Rattle.incremental.proofs.refused_output.Reads as refused-output-reads
+use Rattle.output.proofs.refused_output.Reads as refused-output-reads
 use Rattle.incremental.proofs.window.Reads as window-reads
 
 -- src/lib.rt:222:9

@@ -7,7 +7,7 @@ use Rattle.incremental.proofs.merge_reading.Tie as tie
 use Rattle.incremental.proofs.merge_reading.Reads as reads
 use Rattle.incremental.proofs.merge_reading.Lts as lts
 use Rattle.incremental.proofs.merge_read.Reads as merge-read-reads
-use Rattle.incremental.proofs.refused_output.Reads as refused-output-reads
+use Rattle.output.proofs.refused_output.Reads as refused-output-reads
 use Rattle.places.proofs.places_of.Reads as places-of-reads
 use Rattle.store.proofs.store_of.Reads as store-of-reads
 use Rattle.tape.proofs.check_reading.Reads as check-reading-reads

@@ -1,5 +1,5 @@
 use mathlib.Core.Path.{ap, sym, _∙_}
-use Rattle.result.specs.Answer.{outputOf}
+use Rattle.output.specs.Answer.{outputOf}
 use Rattle.merge.specs.Input.{input-refused, input-asks, input-whole}
 use borrow.Author.Needs.{needs}
 use Rattle.merge.proofs.answer.Statement.{statement}
@@ -8,19 +8,19 @@ use Rattle.merge.proofs.answer.Reads as reads
 use Rattle.merge.proofs.answer.Lts as lts
 use Rattle.merge.proofs.input_refusal.Reads as input-refusal-reads
 use Rattle.merge.proofs.merge_parts.Reads as merge-parts-reads
-use Rattle.merge.proofs.refused.Reads as refused-reads
+use Rattle.output.proofs.refused_output.Reads as refused-output-reads
 
 -- src/main.rt:153:9
 input-refusal-requires : tie.Need-input-refusal-requires
 input-refusal-requires c κs = search needs
 
 -- src/main.rt:155:9
-refused-requires : tie.Need-refused-requires
-refused-requires c κs = search needs
+refused-output-requires : tie.Need-refused-output-requires
+refused-output-requires c κs = search needs
 
 -- src/main.rt:155:9
 returns : tie.Need-returns
-returns c = c .refused .ensures ∙ input-refused _ (c .before .before .input-refusal .ensures) (c .before .if1 .taken)
+returns c = c .refused-output .ensures ∙ input-refused _ (c .before .before .input-refusal .ensures) (c .before .if1 .taken)
 
 -- src/main.rt:157:5
 merge-parts-requires : tie.Need-merge-parts-requires
@@ -47,7 +47,7 @@ answer-spec =
     tie.close
     (tie.spec
     input-refusal-requires
-    refused-requires
+    refused-output-requires
     returns
     merge-parts-requires
     same-length

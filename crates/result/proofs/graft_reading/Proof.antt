@@ -1,5 +1,5 @@
 use mathlib.Core.Bool.{true}
-use Rattle.result.specs.Answer.{noCounts}
+use Rattle.output.specs.Answer.{noCounts}
 use borrow.Author.Tests.{not-true, not-false}
 use Rattle.result.specs.Grafting.{offsetsOf, graft-none, graft-refused, graft-some, graft-used, some-nodes, zero-nodes, source-count}
 use mathlib.Core.Path.{refl}

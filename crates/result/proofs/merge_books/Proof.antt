@@ -1,6 +1,6 @@
 use Rattle.result.specs.Merging.{old-fit, texts-inside, no-room, no-graft, no-size, at-small, lists-ready, bytes-small, merged}
 use Rattle.result.specs.Whole.{small}
-use Rattle.result.specs.Sizes.{room-facts}
+use Rattle.merged_lists.specs.Sizes.{room-facts}
 use Rattle.result.specs.Books.{inside}
 use borrow.Author.Tests.{not-true, not-false}
 use Rattle.edit.specs.Numbers.{editOf}
@@ -10,16 +10,6 @@ use native.Mathlib.Omega.{arith}
 use borrow.Author.Needs.{needs}
 use Rattle.result.proofs.merge_books.Statement.{statement}
 use Rattle.result.proofs.merge_books.Tie as tie
-use Rattle.result.proofs.merge_books.Reads as reads
-use Rattle.result.proofs.merge_books.Lts as lts
-use Rattle.result.proofs.kept_in.Reads as kept-in-reads
-use Rattle.result.proofs.lists_end.Reads as lists-end-reads
-use Rattle.result.proofs.new_lengths.Reads as new-lengths-reads
-use Rattle.result.proofs.output_of.Reads as output-of-reads
-use Rattle.result.proofs.put_lists.Reads as put-lists-reads
-use Rattle.result.proofs.put_store.Reads as put-store-reads
-use Rattle.result.proofs.refused.Reads as refused-reads
-use Rattle.result.proofs.room_for.Reads as room-for-reads
 
 -- src/lib.rt:509:9
 kept-in-requires : tie.Need-kept-in-requires
@@ -35,21 +25,21 @@ room-for-requires : tie.Need-room-for-requires
 room-for-requires c κs = small (c .before .before .before .before .before .before .before .before .before .before .pre .0) (c .before .kept-in .ensures)
 
 -- src/lib.rt:512:9
-refused-requires : tie.Need-refused-requires
-refused-requires c κs = search needs
+refused-output-requires : tie.Need-refused-output-requires
+refused-output-requires c κs = search needs
 
 -- src/lib.rt:512:9
 returns : tie.Need-returns
 unfolding editOf
-returns c = no-room (c .before .before .before .before .before .before .before .before .before .before .before .before .before .pre .0) (c .before .before .before .before .kept-in .ensures) (c .before .before .before .new-lengths .ensures) (c .before .before .before .before .before .before .before .before .before .before .before .before .before .args .outtape .now) (c .before .before .before .before .before .before .before .before .before .before .before .before .before .args .outbytes .now) (c .before .before .before .before .before .before .before .before .before .before .before .before .before .args .work .now) (c .before .before .room-for .ensures) (not-true _ (c .before .if1 .taken)) (c .refused .ensures)
+returns c = no-room (c .before .before .before .before .before .before .before .before .before .before .before .before .before .pre .0) (c .before .before .before .before .kept-in .ensures) (c .before .before .before .new-lengths .ensures) (c .before .before .before .before .before .before .before .before .before .before .before .before .before .args .outtape .now) (c .before .before .before .before .before .before .before .before .before .before .before .before .before .args .outbytes .now) (c .before .before .before .before .before .before .before .before .before .before .before .before .before .args .work .now) (c .before .before .room-for .ensures) (not-true _ (c .before .if1 .taken)) (c .refused-output .ensures)
 
 -- src/lib.rt:514:9
 put-store-requires : tie.Need-put-store-requires
 put-store-requires c κs = let f = room-facts _ _ _ _ _ _ _ (sym (c .before .before .before .before .room-for .ensures) ∙ not-false _ (c .before .before .before .if1 .left)) in ((c .before .before .before .before .before .before .before .before .before .before .before .before .before .before .before .pre .0), (c .before .before .before .before .before .new-lengths .ensures, (f .work, f .normalized, f .base, c .before .before .before .before .before .before .before .before .before .before .before .before .before .before .before .pre .1, f .nodesat)))
 
 -- src/lib.rt:516:9
-refused-requires-2 : tie.Need-refused-requires-2
-refused-requires-2 c κs = search needs
+refused-output-requires-2 : tie.Need-refused-output-requires-2
+refused-output-requires-2 c κs = search needs
 
 -- src/lib.rt:516:9
 same-length : tie.Need-same-length
@@ -66,7 +56,7 @@ same-length-3 c = c .before .before .before .before .before .before .before .bef
 -- src/lib.rt:516:9
 returns-2 : tie.Need-returns-2
 unfolding editOf
-returns-2 c = no-graft (c .before .before .before .before .before .before .before .before .before .before .before .before .before .before .before .before .before .before .before .before .before .before .before .before .before .pre .0) (c .before .before .before .before .before .before .before .before .before .before .before .before .before .before .before .before .kept-in .ensures) (c .before .before .before .before .before .before .before .before .before .before .before .before .before .before .before .new-lengths .ensures) (c .before .before .before .before .before .before .before .before .before .before .before .before .before .before .before .before .before .before .before .before .before .before .before .before .before .args .outtape .now) (c .before .before .before .before .before .before .before .before .before .before .before .before .before .before .before .before .before .before .before .before .before .before .before .before .before .args .outbytes .now) (c .before .before .before .before .before .before .before .before .before .before .before .before .before .before .before .before .before .before .before .before .before .before .before .before .before .args .work .now) (c .before .before .before .before .before .before .before .before .before .put-store .ensures) (c .before .before .before .before .before .before .before .before .before .put-store .kept .1 .1 .1 .1 .1 .1 .1 .1 .1 .1 .1 .1 .1 .0) (c .before .before .before .before .before .before .before .before .before .put-store .kept .1 .1 .1 .1 .1 .1 .1 .1 .1 .1 .1 .1 .1 .1 .0) (c .before .before .before .before .before .before .before .before .before .put-store .kept .1 .1 .1 .1 .1 .1 .1 .1 .1 .1 .1 .1 .1 .1 .1 .0) (not-true _ (c .before .if2 .taken)) (c .refused2 .ensures)
+returns-2 c = no-graft (c .before .before .before .before .before .before .before .before .before .before .before .before .before .before .before .before .before .before .before .before .before .before .before .before .before .pre .0) (c .before .before .before .before .before .before .before .before .before .before .before .before .before .before .before .before .kept-in .ensures) (c .before .before .before .before .before .before .before .before .before .before .before .before .before .before .before .new-lengths .ensures) (c .before .before .before .before .before .before .before .before .before .before .before .before .before .before .before .before .before .before .before .before .before .before .before .before .before .args .outtape .now) (c .before .before .before .before .before .before .before .before .before .before .before .before .before .before .before .before .before .before .before .before .before .before .before .before .before .args .outbytes .now) (c .before .before .before .before .before .before .before .before .before .before .before .before .before .before .before .before .before .before .before .before .before .before .before .before .before .args .work .now) (c .before .before .before .before .before .before .before .before .before .put-store .ensures) (c .before .before .before .before .before .before .before .before .before .put-store .kept .1 .1 .1 .1 .1 .1 .1 .1 .1 .1 .1 .1 .1 .0) (c .before .before .before .before .before .before .before .before .before .put-store .kept .1 .1 .1 .1 .1 .1 .1 .1 .1 .1 .1 .1 .1 .1 .0) (c .before .before .before .before .before .before .before .before .before .put-store .kept .1 .1 .1 .1 .1 .1 .1 .1 .1 .1 .1 .1 .1 .1 .1 .0) (not-true _ (c .before .if2 .taken)) (c .refused-output2 .ensures)
 
 -- src/lib.rt:518:14
 add-at : tie.Need-add-at
@@ -79,8 +69,8 @@ unfolding editOf
 lists-end-requires c κs = let x = at-small (c .before .before .before .before .before .before .before .before .before .before .before .before .before .before .before .before .before .before .before .before .before .before .before .before .before .before .pre .0) (c .before .before .before .before .before .before .before .before .before .before .before .before .before .before .before .before .before .kept-in .ensures) (c .before .before .before .before .before .before .before .before .before .before .before .before .before .before .before .before .new-lengths .ensures) (c .before .before .before .before .before .before .before .before .before .before .before .before .before .before .before .before .before .before .before .before .before .before .before .before .before .before .args .outtape .now) (c .before .before .before .before .before .before .before .before .before .before .before .before .before .before .before .before .before .before .before .before .before .before .before .before .before .before .args .outbytes .now) (c .before .before .before .before .before .before .before .before .before .before .before .before .before .before .before .before .before .before .before .before .before .before .before .before .before .before .args .work .now) (c .before .before .before .before .before .before .before .before .before .before .put-store .ensures) (c .before .before .before .before .before .before .before .before .before .before .put-store .kept .1 .1 .1 .1 .1 .1 .1 .1 .1 .1 .1 .1 .1 .0) (c .before .before .before .before .before .before .before .before .before .before .put-store .kept .1 .1 .1 .1 .1 .1 .1 .1 .1 .1 .1 .1 .1 .1 .0) (not-false _ (c .before .before .if2 .left)) refl in (small (c .before .before .before .before .before .before .before .before .before .before .before .before .before .before .before .before .before .before .before .before .before .before .before .before .before .before .pre .0) (c .before .before .before .before .before .before .before .before .before .before .before .before .before .before .before .before .before .kept-in .ensures), omega (arith, x, c .before .before .before .before .before .before .before .before .before .before .before .before .before .before .before .before .before .before .before .before .before .before .before .before .before .before .good))
 
 -- src/lib.rt:521:9
-refused-requires-3 : tie.Need-refused-requires-3
-refused-requires-3 c κs = search needs
+refused-output-requires-3 : tie.Need-refused-output-requires-3
+refused-output-requires-3 c κs = search needs
 
 -- src/lib.rt:521:9
 same-length-4 : tie.Need-same-length-4
@@ -97,7 +87,7 @@ same-length-6 c = c .before .before .before .before .before .before .before .bef
 -- src/lib.rt:521:9
 returns-3 : tie.Need-returns-3
 unfolding editOf
-returns-3 c = no-size (c .before .before .before .before .before .before .before .before .before .before .before .before .before .before .before .before .before .before .before .before .before .before .before .before .before .before .before .before .before .pre .0) (c .before .before .before .before .before .before .before .before .before .before .before .before .before .before .before .before .before .before .before .before .kept-in .ensures) (c .before .before .before .before .before .before .before .before .before .before .before .before .before .before .before .before .before .before .before .new-lengths .ensures) (c .before .before .before .before .before .before .before .before .before .before .before .before .before .before .before .before .before .before .before .before .before .before .before .before .before .before .before .before .before .args .outtape .now) (c .before .before .before .before .before .before .before .before .before .before .before .before .before .before .before .before .before .before .before .before .before .before .before .before .before .before .before .before .before .args .outbytes .now) (c .before .before .before .before .before .before .before .before .before .before .before .before .before .before .before .before .before .before .before .before .before .before .before .before .before .before .before .before .before .args .work .now) (c .before .before .before .before .before .before .before .before .before .before .before .before .before .put-store .ensures) (c .before .before .before .before .before .before .before .before .before .before .before .before .before .put-store .kept .1 .1 .1 .1 .1 .1 .1 .1 .1 .1 .1 .1 .1 .0) (c .before .before .before .before .before .before .before .before .before .before .before .before .before .put-store .kept .1 .1 .1 .1 .1 .1 .1 .1 .1 .1 .1 .1 .1 .1 .0) (not-false _ (c .before .before .before .before .before .if2 .left)) refl (c .before .before .before .before .before .before .before .before .before .before .before .before .before .put-store .kept .1 .1 .1 .1 .1 .1 .1 .1 .1 .1 .1 .1 .1 .1 .1 .0) (c .before .before .lists-end .ensures) (omega (arith, c .before .if3 .taken, c .before .before .before .before .before .before .before .before .before .before .before .before .before .put-store .kept .1 .1 .1 .1 .1 .1 .1 .1 .1 .1 .1 .1 .1 .0)) (c .refused3 .ensures)
+returns-3 c = no-size (c .before .before .before .before .before .before .before .before .before .before .before .before .before .before .before .before .before .before .before .before .before .before .before .before .before .before .before .before .before .pre .0) (c .before .before .before .before .before .before .before .before .before .before .before .before .before .before .before .before .before .before .before .before .kept-in .ensures) (c .before .before .before .before .before .before .before .before .before .before .before .before .before .before .before .before .before .before .before .new-lengths .ensures) (c .before .before .before .before .before .before .before .before .before .before .before .before .before .before .before .before .before .before .before .before .before .before .before .before .before .before .before .before .before .args .outtape .now) (c .before .before .before .before .before .before .before .before .before .before .before .before .before .before .before .before .before .before .before .before .before .before .before .before .before .before .before .before .before .args .outbytes .now) (c .before .before .before .before .before .before .before .before .before .before .before .before .before .before .before .before .before .before .before .before .before .before .before .before .before .before .before .before .before .args .work .now) (c .before .before .before .before .before .before .before .before .before .before .before .before .before .put-store .ensures) (c .before .before .before .before .before .before .before .before .before .before .before .before .before .put-store .kept .1 .1 .1 .1 .1 .1 .1 .1 .1 .1 .1 .1 .1 .0) (c .before .before .before .before .before .before .before .before .before .before .before .before .before .put-store .kept .1 .1 .1 .1 .1 .1 .1 .1 .1 .1 .1 .1 .1 .1 .0) (not-false _ (c .before .before .before .before .before .if2 .left)) refl (c .before .before .before .before .before .before .before .before .before .before .before .before .before .put-store .kept .1 .1 .1 .1 .1 .1 .1 .1 .1 .1 .1 .1 .1 .1 .1 .0) (c .before .before .lists-end .ensures) (omega (arith, c .before .if3 .taken, c .before .before .before .before .before .before .before .before .before .before .before .before .before .put-store .kept .1 .1 .1 .1 .1 .1 .1 .1 .1 .1 .1 .1 .1 .0)) (c .refused-output3 .ensures)
 
 -- src/lib.rt:523:5
 put-lists-requires : tie.Need-put-lists-requires
@@ -137,17 +127,17 @@ merge-books-spec =
     kept-in-requires
     new-lengths-requires
     room-for-requires
-    refused-requires
+    refused-output-requires
     returns
     put-store-requires
-    refused-requires-2
+    refused-output-requires-2
     same-length
     same-length-2
     same-length-3
     returns-2
     add-at
     lists-end-requires
-    refused-requires-3
+    refused-output-requires-3
     same-length-4
     same-length-5
     same-length-6

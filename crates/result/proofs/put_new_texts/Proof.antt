@@ -5,9 +5,6 @@ use native.Mathlib.Omega.{arith}
 use borrow.Author.Needs.{needs}
 use Rattle.result.proofs.put_new_texts.Statement.{statement}
 use Rattle.result.proofs.put_new_texts.Tie as tie
-use Rattle.result.proofs.put_new_texts.Reads as reads
-use Rattle.result.proofs.put_new_texts.Lts as lts
-use Rattle.result.proofs.put_texts.Reads as put-texts-reads
 
 -- src/lib.rt:115:16
 cast-text : tie.Need-cast-text

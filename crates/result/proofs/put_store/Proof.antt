@@ -1,4 +1,4 @@
-use Rattle.result.specs.declared.Lengths.{Lengths}
+use Rattle.merged_lists.specs.declared.Lengths.{Lengths}
 use Rattle.result.specs.Merging.{texts-inside, nodes-at, source-fits, pools-fit}
 use Rattle.result.specs.Stages.{store-told}
 use Rattle.result.specs.Books.{inside}
@@ -9,11 +9,6 @@ use native.Mathlib.Omega.{arith}
 use borrow.Author.Needs.{needs}
 use Rattle.result.proofs.put_store.Statement.{statement}
 use Rattle.result.proofs.put_store.Tie as tie
-use Rattle.result.proofs.put_store.Reads as reads
-use Rattle.result.proofs.put_store.Lts as lts
-use Rattle.result.proofs.graft_reading.Reads as graft-reading-reads
-use Rattle.result.proofs.put_head.Reads as put-head-reads
-use Rattle.result.proofs.put_new_texts.Reads as put-new-texts-reads
 
 -- src/lib.rt:325:5
 put-new-texts-requires : tie.Need-put-new-texts-requires

@@ -1,0 +1,3 @@
+pub mod Widths
+pub mod Sizes
+pub mod Lists

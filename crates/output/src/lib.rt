@@ -1,0 +1,47 @@
+// What a merge answers, document 01 section 7.
+ghost use mathlib.Core.Path.{_≡_};
+ghost use Prim.Native.Nat.{_-_};
+ghost use Rattle.output.specs.Answer.{noCounts, refusedOutput};
+
+// Section 7. What is returned: a number, or 0 and the region, old nodes kept, the reading's nodes, the seven counts, and how many bytes
+// of the two result buffers the book takes. All is 0 beside a number.
+pub struct IncrementalOutput {
+    pub number: u32,
+    pub start: u32,
+    pub end: u32,
+    pub reused: u32,
+    pub reread: u32,
+    pub stats: interner::InternStats,
+    pub tape: usize,
+    pub bytes: usize,
+}
+
+pub fn no_counts() -> interner::InternStats
+    ensures { λ r. ⌜ r ≡ noCounts ⌝ }
+{
+    interner::InternStats {
+        calls: 0,
+        cachehits: 0,
+        tablehits: 0,
+        allocs: 0,
+        longbypass: 0,
+        resizes: 0,
+        probesteps: 0,
+    }
+}
+
+// A refusal: its number, and 0 beside it.
+pub fn refused_output(n: u32) -> IncrementalOutput
+    ensures { λ r. ⌜ r ≡ refusedOutput n ⌝ }
+{
+    IncrementalOutput {
+        number: n,
+        start: 0,
+        end: 0,
+        reused: 0,
+        reread: 0,
+        stats: no_counts(),
+        tape: 0,
+        bytes: 0,
+    }
+}
