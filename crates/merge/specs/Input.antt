@@ -4,14 +4,14 @@ use Prim.Native.Nat.{ℕ, _+_, _-_, _≤_, _<_}
 use native.Mathlib.Omega.{arith}
 use mathlib.Core.Bool.{Bool, true, false, cond}
 use mathlib.Core.List.{List, [], _∷_}
-use lib.ListN.{length, take, getD, length-take}
+use lib.ListN.{length, take, length-take}
 use lib.Seq.{take-all, getD-take}
 use lib.Dec.{leb, ltb, eqb}
 use borrow.Author.Tests.{leb-true, leb-false, ltb-false, eqb-true, le-ltb, lt-ltb, ne-eqb, eq-eqb}
 use Rattle.model.specs.Lists.{all, sum}
 use Rattle.model.specs.Limits.{maxPart}
 use Rattle.model.specs.Bytes.{wordAt, part}
-use Rattle.model.specs.Refusal.{Checked, Checked.refused, Checked.accepted, _>>=_, refuse_if_}
+use Rattle.model.specs.Refusal.{Checked, Checked.refused, _>>=_, refuse_if_}
 use Rattle.model.specs.Merge.{Room, IncrementalOutput, merge}
 use Rattle.model.specs.Runs.{partLengths, asked, program}
 use Rattle.laws.specs.Lists.{both}

@@ -1,3 +1,2 @@
 pub mod Input
-pub mod Decimal
 pub mod Line

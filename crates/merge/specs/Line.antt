@@ -1,10 +1,9 @@
 -- The line that is printed.
-use mathlib.Core.Path.{_≡_, refl, ap, ap₂, _∙_}
-use Prim.Native.Nat.{ℕ, _+_, _≤_}
+use mathlib.Core.Path.{_≡_, refl, ap, _∙_}
+use Prim.Native.Nat.{ℕ}
 use native.Mathlib.Omega.{arith}
 use mathlib.Core.Bool.{cond}
 use mathlib.Core.List.{List, [], _++_, flatten, append-assoc, append-nil}
-use lib.ListN.{length, take}
 use lib.Dec.{eqb}
 use borrow.Author.Tests.{ne-eqb}
 use Rattle.model.specs.Lists.{ascii}
@@ -12,15 +11,9 @@ use Rattle.model.specs.Refusal.{Checked, Checked.refused, Checked.accepted}
 use Rattle.model.specs.Merge.{IncrementalOutput}
 use Rattle.model.specs.Runs.{decimal, line, program}
 use Rattle.laws.specs.Numbers.{UpTo, program-numbers}
-use Rattle.wire.specs.Overwrite.{overwrite, take-overwrite}
-use Rattle.io.specs.Digits.{digits as Digits·digits, Fewest}
+use Rattle.lines.specs.Text.{numbered, refusedLine}
 use Rattle.output.specs.Answer.{outputOf}
 use Rattle.output.specs.declared.IncrementalOutput.{IncrementalOutput as Output}
-use Rattle.merge.specs.Decimal.{decimal-digits}
-
--- a label and a number
-unfoldable pub numbered : List ℕ → ℕ → List ℕ
-numbered label n = label ++ decimal n
 
 -- P5's line
 unfoldable pub acceptedLine : Output → List ℕ
@@ -30,7 +23,7 @@ acceptedLine r =
 
 -- the line of an answer
 unfoldable pub lineOf : Output → List ℕ
-lineOf r = let refusal = numbered (ascii "refused ") (r .number) ++ ascii "\n" in cond (eqb (r .number) 0) (acceptedLine r) refusal
+lineOf r = let refusal = refusedLine (r .number) in cond (eqb (r .number) 0) (acceptedLine r) refusal
 
 flat : (a b c d e f g h i j k l m : List ℕ)
     → ((((((a ++ b) ++ (c ++ d)) ++ (e ++ f)) ++ (g ++ h)) ++ (i ++ j)) ++ (k ++ l)) ++ m ≡ a ++ (b ++ (c ++ (d ++ (e ++ (f ++ (g ++ (h ++ (i ++ (j ++ (k ++ (l ++ (m ++ []))))))))))))
@@ -38,7 +31,7 @@ flat a b c d e f g h i j k l m = simp (append-assoc, append-nil)
 
 -- It is the model's line of what the program answers.
 line-is : (x : Checked IncrementalOutput) → UpTo 18 x → lineOf (outputOf x) ≡ line x
-unfolding lineOf acceptedLine numbered outputOf line flatten
+unfolding lineOf acceptedLine refusedLine numbered outputOf line flatten
 line-is (refused n) h = rw (ne-eqb n 0 (λ e. omega (arith, e, h .0))) (append-assoc (ascii "refused ") (decimal n) (ascii "\n"))
 line-is (accepted m) h =
     flat (ascii "region ") (decimal (m .region .start)) (ascii " ") (decimal (m .region .end)) (ascii " reused ") (decimal (m .reusedNodes)) (ascii " reread ") (decimal (m .reparsedNodes))
@@ -47,22 +40,11 @@ line-is (accepted m) h =
 pub program-line : (s : List ℕ) {r : Output} → r ≡ outputOf (program s) → {l : List ℕ} → l ≡ lineOf r → l ≡ line (program s)
 program-line s e q = q ∙ ap lineOf e ∙ line-is (program s) (program-numbers s)
 
--- ---- the buffer: what stands before a place, and what is put there
-
-pub put-text : (d : List ℕ) (at : ℕ) (bs : List ℕ) {l : List ℕ} → at + length bs ≤ length d → l ≡ overwrite d at bs → take (at + length bs) l ≡ take at d ++ bs
-put-text d at bs h e = ap (take (at + length bs)) e ∙ take-overwrite d at bs h
-
--- a label, and the digits behind it
-pub put-number : (before label : List ℕ) (n k : ℕ) {labelled all digits : List ℕ} → labelled ≡ before ++ label → all ≡ labelled ++ digits
-    → digits ≡ Digits·digits 10 k n → Fewest 10 1 n k → all ≡ before ++ numbered label n
-unfolding numbered
-put-number before label n k p q e f = q ∙ ap₂ (λ (u v : List ℕ). u ++ v) p (e ∙ decimal-digits k n f) ∙ append-assoc before label (decimal n)
-
 -- ---- the returns of the code
 
-pub refused-line : (r : Output) {a b : List ℕ} → (r .number ≡ 0 → ⊥) → a ≡ numbered (ascii "refused ") (r .number) → b ≡ a ++ ascii "\n" → b ≡ lineOf r
+pub refused-line : (r : Output) {l : List ℕ} → (r .number ≡ 0 → ⊥) → l ≡ refusedLine (r .number) → l ≡ lineOf r
 unfolding lineOf
-refused-line r h p q = q ∙ rw (p, ne-eqb (r .number) 0 h) refl
+refused-line r h e = e ∙ rw (ne-eqb (r .number) 0 h) refl
 
 pub accepted-line : (r : Output) {l : List ℕ} → r .number ≡ 0 → l ≡ acceptedLine r → l ≡ lineOf r
 unfolding lineOf

@@ -6,8 +6,8 @@ use Rattle.merge.proofs.put_accepted.Statement.{statement}
 use Rattle.merge.proofs.put_accepted.Tie as tie
 use Rattle.merge.proofs.put_accepted.Reads as reads
 use Rattle.merge.proofs.put_accepted.Lts as lts
-use Rattle.merge.proofs.put_number.Reads as put-number-reads
-use Rattle.merge.proofs.put_text.Reads as put-text-reads
+use Rattle.lines.proofs.put_number.Reads as put-number-reads
+use Rattle.lines.proofs.put_text.Reads as put-text-reads
 
 -- src/main.rt:39:36
 slice-aggregate-put-number : tie.Need-slice-aggregate-put-number

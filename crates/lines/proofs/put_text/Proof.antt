@@ -1,10 +1,10 @@
 use mathlib.Core.Path.{refl}
-use Rattle.merge.specs.Line.{put-text}
+use Rattle.lines.specs.Text.{put-text}
 use borrow.Author.Needs.{needs}
-use Rattle.merge.proofs.put_text.Statement.{statement}
-use Rattle.merge.proofs.put_text.Tie as tie
-use Rattle.merge.proofs.put_text.Reads as reads
-use Rattle.merge.proofs.put_text.Lts as lts
+use Rattle.lines.proofs.put_text.Statement.{statement}
+use Rattle.lines.proofs.put_text.Tie as tie
+use Rattle.lines.proofs.put_text.Reads as reads
+use Rattle.lines.proofs.put_text.Lts as lts
 use Rattle.wire.proofs.copy_at.Reads as copy-at-reads
 
 -- src/main.rt:18:5

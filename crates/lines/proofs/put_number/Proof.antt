@@ -1,14 +1,14 @@
 use lib.ListN.{take}
 use native.Mathlib.Omega.{arith}
-use Rattle.merge.specs.Decimal.{digits-few}
-use Rattle.merge.specs.Line.{put-number}
+use Rattle.lines.specs.Decimal.{digits-few}
+use Rattle.lines.specs.Text.{put-number}
 use borrow.Author.Needs.{needs}
-use Rattle.merge.proofs.put_number.Statement.{statement}
-use Rattle.merge.proofs.put_number.Tie as tie
-use Rattle.merge.proofs.put_number.Reads as reads
-use Rattle.merge.proofs.put_number.Lts as lts
+use Rattle.lines.proofs.put_number.Statement.{statement}
+use Rattle.lines.proofs.put_number.Tie as tie
+use Rattle.lines.proofs.put_number.Reads as reads
+use Rattle.lines.proofs.put_number.Lts as lts
 use Rattle.io.proofs.decimal.Reads as decimal-reads
-use Rattle.merge.proofs.put_text.Reads as put-text-reads
+use Rattle.lines.proofs.put_text.Reads as put-text-reads
 
 -- src/main.rt:28:9
 decimal-requires : tie.Need-decimal-requires
