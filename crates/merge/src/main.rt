@@ -3,65 +3,11 @@
 use libc::STDIN_FILENO;
 use libc::STDOUT_FILENO;
 ghost use mathlib.Core.Path.{_≡_};
-ghost use mathlib.Core.List.{[], _∷_, _++_};
 ghost use Prim.Native.Nat.{_+_, _≤_};
 ghost use lib.ListN.{length, take};
 ghost use Rattle.model.specs.Runs.{asked, program, line};
-ghost use Rattle.output.specs.Answer.{outputOf, refusedOutput};
-ghost use Rattle.merge.specs.Input.{partsFit, inputNumber, Whole};
-ghost use Rattle.merge.specs.Line.{acceptedLine, lineOf};
-
-const HEAD: usize = 28;
-
-const MAX_PART: u32 = 65536;
-
-// ---- the input
-
-// Number 3. The lengths of the five parts.
-fn parts_fit(oldtape: u32, oldbytes: u32, replacement: u32, newtape: u32, newbytes: u32) -> bool
-    ensures { λ r. ⌜ r ≡ partsFit (oldtape ∷ oldbytes ∷ replacement ∷ newtape ∷ newbytes ∷ []) ⌝ }
-{
-    if MAX_PART < oldtape {
-        return false;
-    }
-    if MAX_PART < oldbytes {
-        return false;
-    }
-    if MAX_PART < replacement {
-        return false;
-    }
-    if MAX_PART < newtape {
-        return false;
-    }
-    newbytes <= MAX_PART
-}
-
-// Numbers 1 and 3 of the input, which precede all else; 0 for neither.
-fn input_refusal(input: &[u8]) -> u32
-    ensures { λ r. ⌜ r ≡ inputNumber (now (input .entry)) ⌝ }
-{
-    if input.len() < HEAD {
-        return 1;
-    }
-    let oldtape = wire::u32_at(input, 0);
-    let oldbytes = wire::u32_at(input, 4);
-    let replacement = wire::u32_at(input, 16);
-    let newtape = wire::u32_at(input, 20);
-    let newbytes = wire::u32_at(input, 24);
-    if !parts_fit(oldtape, oldbytes, replacement, newtape, newbytes) {
-        return 3;
-    }
-    let size = HEAD
-        + oldtape as usize
-        + oldbytes as usize
-        + replacement as usize
-        + newtape as usize
-        + newbytes as usize;
-    if input.len() != size {
-        return 1;
-    }
-    0
-}
+ghost use Rattle.output.specs.Answer.{outputOf};
+ghost use Rattle.runs.specs.Input.{Whole};
 
 // The merge that an input of the right length asks for.
 fn merge_parts(
@@ -74,13 +20,13 @@ fn merge_parts(
     requires { ⌜ (length (now outtape) ≡ 65536) × (length (now outbytes) ≡ 65536) × (length (now work) ≡ 16384) ⌝ }
     ensures { λ r. ⌜ r ≡ outputOf (asked (now (input .entry))) ⌝ }
 {
-    let oldbytes = HEAD + wire::u32_at(input, 0) as usize;
+    let oldbytes = runs::HEAD + wire::u32_at(input, 0) as usize;
     let replacement = oldbytes + wire::u32_at(input, 4) as usize;
     let newtape = replacement + wire::u32_at(input, 16) as usize;
     let newbytes = newtape + wire::u32_at(input, 20) as usize;
     let end = newbytes + wire::u32_at(input, 24) as usize;
     incremental::merge(
-        wire::between(input, HEAD, oldbytes),
+        wire::between(input, runs::HEAD, oldbytes),
         wire::between(input, oldbytes, replacement),
         wire::u32_at(input, 8),
         wire::u32_at(input, 12),
@@ -102,38 +48,11 @@ fn answer(
     requires { ⌜ (length (now outtape) ≡ 65536) × (length (now outbytes) ≡ 65536) × (length (now work) ≡ 16384) ⌝ }
     ensures { λ r. ⌜ r ≡ outputOf (program (now (input .entry))) ⌝ }
 {
-    let n = input_refusal(input);
+    let n = runs::input_refusal(input);
     if n != 0 {
         return output::refused_output(n);
     }
     merge_parts(input, outtape, outbytes, work)
-}
-
-// ---- the line
-
-// P5's line: region start, end; kept, reread nodes; intern calls, slots probed.
-fn put_accepted(out: &mut [u8], a: output::IncrementalOutput) -> usize
-    requires { ⌜ 160 ≤ length (now out) ⌝ }
-    ensures { λ r. ⌜ (r ≤ length (now (out .exit))) × (take r (now (out .exit)) ≡ acceptedLine a) ⌝ }
-{
-    let c = a.stats;
-    let start = lines::put_number(out, 0, b"region ", a.start as u64);
-    let end = lines::put_number(out, start, b" ", a.end as u64);
-    let reused = lines::put_number(out, end, b" reused ", a.reused as u64);
-    let reread = lines::put_number(out, reused, b" reread ", a.reread as u64);
-    let calls = lines::put_number(out, reread, b" calls ", c.calls);
-    let probes = lines::put_number(out, calls, b" probes ", c.probesteps);
-    lines::put_text(out, probes, b"\n")
-}
-
-fn put_line(out: &mut [u8], a: output::IncrementalOutput) -> usize
-    requires { ⌜ 160 ≤ length (now out) ⌝ }
-    ensures { λ r. ⌜ (r ≤ length (now (out .exit))) × (take r (now (out .exit)) ≡ lineOf a) ⌝ }
-{
-    if a.number != 0 {
-        return lines::put_refused(out, a.number);
-    }
-    put_accepted(out, a)
 }
 
 // The line of an input, in the first bytes of the buffer.
@@ -147,10 +66,10 @@ fn run(
     requires { ⌜ (length (now outtape) ≡ 65536) × (length (now outbytes) ≡ 65536) × (length (now work) ≡ 16384) × (160 ≤ length (now out)) ⌝ }
     ensures { λ r. ⌜ (r ≤ length (now (out .exit))) × (take r (now (out .exit)) ≡ line (program (now (input .entry)))) ⌝ }
 {
-    put_line(out, answer(input, outtape, outbytes, work))
+    runs::put_line(out, answer(input, outtape, outbytes, work))
 }
 
-// The first 327709 bytes are enough (`program-cut` in specs/Input.antt): 28, five parts of 65536, and one that shows a surplus.
+// The first 327709 bytes are enough (`program-cut` in crate `runs`): 28, five parts of 65536, and one that shows a surplus.
 fn main() {
     let mut input = [0u8; 327709];
     let mut outtape = [0u8; 65536];

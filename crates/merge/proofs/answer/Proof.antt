@@ -1,14 +1,9 @@
 use mathlib.Core.Path.{ap, sym, _∙_}
 use Rattle.output.specs.Answer.{outputOf}
-use Rattle.merge.specs.Input.{input-refused, input-asks, input-whole}
+use Rattle.runs.specs.Input.{input-refused, input-asks, input-whole}
 use borrow.Author.Needs.{needs}
 use Rattle.merge.proofs.answer.Statement.{statement}
 use Rattle.merge.proofs.answer.Tie as tie
-use Rattle.merge.proofs.answer.Reads as reads
-use Rattle.merge.proofs.answer.Lts as lts
-use Rattle.merge.proofs.input_refusal.Reads as input-refusal-reads
-use Rattle.merge.proofs.merge_parts.Reads as merge-parts-reads
-use Rattle.output.proofs.refused_output.Reads as refused-output-reads
 
 -- src/main.rt:153:9
 input-refusal-requires : tie.Need-input-refusal-requires

@@ -3,11 +3,6 @@ use lib.Seq.{length-take-le}
 use borrow.Author.Needs.{needs}
 use Rattle.merge.proofs.main.Statement.{statement}
 use Rattle.merge.proofs.main.Tie as tie
-use Rattle.merge.proofs.main.Reads as reads
-use Rattle.merge.proofs.main.Lts as lts
-use Rattle.io.proofs.read_full.Reads as read-full-reads
-use Rattle.io.proofs.write_all.Reads as write-all-reads
-use Rattle.merge.proofs.run.Reads as run-reads
 
 -- src/main.rt:229:41
 slice-aggregate-read-full : tie.Need-slice-aggregate-read-full

@@ -1,12 +1,7 @@
-use Rattle.merge.specs.Input.{asked-answer}
+use Rattle.runs.specs.Input.{asked-answer}
 use borrow.Author.Needs.{needs}
 use Rattle.merge.proofs.merge_parts.Statement.{statement}
 use Rattle.merge.proofs.merge_parts.Tie as tie
-use Rattle.merge.proofs.merge_parts.Reads as reads
-use Rattle.merge.proofs.merge_parts.Lts as lts
-use Rattle.incremental.proofs.merge.Reads as merge-reads
-use Rattle.wire.proofs.between.Reads as between-reads
-use Rattle.wire.proofs.u32_at.Reads as u32-at-reads
 
 -- src/main.rt:125:27
 u32-at-requires : tie.Need-u32-at-requires

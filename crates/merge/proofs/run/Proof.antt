@@ -1,11 +1,7 @@
-use Rattle.merge.specs.Line.{program-line}
+use Rattle.runs.specs.Line.{program-line}
 use borrow.Author.Needs.{needs}
 use Rattle.merge.proofs.run.Statement.{statement}
 use Rattle.merge.proofs.run.Tie as tie
-use Rattle.merge.proofs.run.Reads as reads
-use Rattle.merge.proofs.run.Lts as lts
-use Rattle.merge.proofs.answer.Reads as answer-reads
-use Rattle.merge.proofs.put_line.Reads as put-line-reads
 
 -- src/main.rt:219:19
 answer-requires : tie.Need-answer-requires

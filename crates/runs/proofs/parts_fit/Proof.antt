@@ -1,11 +1,9 @@
 use mathlib.Core.Path.{refl}
 use mathlib.Core.Bool.{and-true}
 use borrow.Author.Tests.{le-leb, lt-leb}
-use Rattle.merge.specs.Input.{partsFit}
-use Rattle.merge.proofs.parts_fit.Statement.{statement}
-use Rattle.merge.proofs.parts_fit.Tie as tie
-use Rattle.merge.proofs.parts_fit.Reads as reads
-use Rattle.merge.proofs.parts_fit.Lts as lts
+use Rattle.runs.specs.Input.{partsFit}
+use Rattle.runs.proofs.parts_fit.Statement.{statement}
+use Rattle.runs.proofs.parts_fit.Tie as tie
 
 -- src/main.rt:28:9
 returns : tie.Need-returns

@@ -1,11 +1,7 @@
-use Rattle.merge.specs.Line.{refused-line, accepted-line}
+use Rattle.runs.specs.Line.{refused-line, accepted-line}
 use borrow.Author.Needs.{needs}
-use Rattle.merge.proofs.put_line.Statement.{statement}
-use Rattle.merge.proofs.put_line.Tie as tie
-use Rattle.merge.proofs.put_line.Reads as reads
-use Rattle.merge.proofs.put_line.Lts as lts
-use Rattle.lines.proofs.put_refused.Reads as put-refused-reads
-use Rattle.merge.proofs.put_accepted.Reads as put-accepted-reads
+use Rattle.runs.proofs.put_line.Statement.{statement}
+use Rattle.runs.proofs.put_line.Tie as tie
 
 -- src/main.rt:158:9
 put-refused-requires : tie.Need-put-refused-requires

@@ -1,13 +1,9 @@
 use mathlib.Core.Path.{_∙_}
 use native.Mathlib.Omega.{arith}
-use Rattle.merge.specs.Line.{whole-line}
+use Rattle.runs.specs.Line.{whole-line}
 use borrow.Author.Needs.{needs}
-use Rattle.merge.proofs.put_accepted.Statement.{statement}
-use Rattle.merge.proofs.put_accepted.Tie as tie
-use Rattle.merge.proofs.put_accepted.Reads as reads
-use Rattle.merge.proofs.put_accepted.Lts as lts
-use Rattle.lines.proofs.put_number.Reads as put-number-reads
-use Rattle.lines.proofs.put_text.Reads as put-text-reads
+use Rattle.runs.proofs.put_accepted.Statement.{statement}
+use Rattle.runs.proofs.put_accepted.Tie as tie
 
 -- src/main.rt:39:36
 slice-aggregate-put-number : tie.Need-slice-aggregate-put-number

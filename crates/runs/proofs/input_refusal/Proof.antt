@@ -1,12 +1,8 @@
 use borrow.Author.Tests.{not-true, not-false}
-use Rattle.merge.specs.Input.{number-short, number-part, number-size, number-none}
+use Rattle.runs.specs.Input.{number-short, number-part, number-size, number-none}
 use borrow.Author.Needs.{needs}
-use Rattle.merge.proofs.input_refusal.Statement.{statement}
-use Rattle.merge.proofs.input_refusal.Tie as tie
-use Rattle.merge.proofs.input_refusal.Reads as reads
-use Rattle.merge.proofs.input_refusal.Lts as lts
-use Rattle.merge.proofs.parts_fit.Reads as parts-fit-reads
-use Rattle.wire.proofs.u32_at.Reads as u32-at-reads
+use Rattle.runs.proofs.input_refusal.Statement.{statement}
+use Rattle.runs.proofs.input_refusal.Tie as tie
 
 -- src/main.rt:47:9
 returns : tie.Need-returns
