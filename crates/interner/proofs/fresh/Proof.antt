@@ -9,22 +9,19 @@ use Rattle.interner.proofs.fresh.Statement.{statement}
 use Rattle.interner.proofs.fresh.Tie as tie
 use Rattle.interner.proofs.fresh.Reads as reads
 use Rattle.interner.proofs.fresh.Lts as lts
+use Rattle.table.proofs.put_start.Reads as put-start-reads
 
--- src/lib.rt:634:18
-cast-work : tie.Need-cast-work
-cast-work c = search needs
+-- src/lib.rt:207:5
+put-start-requires : tie.Need-put-start-requires
+put-start-requires c κs = search needs
 
--- src/lib.rt:634:5
-slice-write-work : tie.Need-slice-write-work
-slice-write-work c = search needs
-
--- src/lib.rt:629:1
+-- src/lib.rt:202:1
 same-length : tie.Need-same-length
 same-length c = search needs
 
--- src/lib.rt:629:1
+-- src/lib.rt:202:1
 returns : tie.Need-returns
-returns c = begun (c .args .work .now) (c .args .strs .now) (c .args .base) (c .pre .0) (c .pre .1 .0) (c .pre .1 .1)
+returns c = begun (c .before .before .before .before .before .before .args .work .now) (c .before .before .before .before .before .before .args .strs .now) (c .before .before .before .before .before .before .args .base) (c .before .before .before .before .before .before .pre .0) (c .before .before .before .before .before .before .pre .1) (c .before .before .put-start .ensures)
 
 pub fresh-spec : {M : Type 1} → statement M
-fresh-spec = tie.close (tie.spec cast-work slice-write-work same-length returns)
+fresh-spec = tie.close (tie.spec put-start-requires same-length returns)
