@@ -21,7 +21,7 @@ use Rattle.sizes.specs.Added.{Added}
 use Rattle.sizes.specs.InPlace.{innerAdds, bodyAdds, contentAdds, segmentRunAdds}
 use Rattle.graft.specs.Grafted.{layerFrom, Told}
 use Rattle.graft.specs.Widths.{node-six}
-use Rattle.graft.specs.Written.{sixOf, six-of, segmentWith}
+use Rattle.put_records.specs.Written.{sixOf, six-of, segmentWith}
 use Rattle.graft.specs.Walk.{Source, sourceStore, shownContents, shownSegments, Ready, StartTold, WordsTold, ContentsTold, SegmentsTold, segmentRunFrom, bodyFrom}
 use Rattle.graft.specs.Answers.{one-plain, one-segments, item-refused, item-made}
 use Rattle.graft.specs.Bodies.{one-zero, one-body, body-from}

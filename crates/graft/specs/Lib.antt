@@ -5,7 +5,6 @@ pub mod Runs
 pub mod Widths
 pub mod Walk
 pub mod Strings
-pub mod Written
 pub mod Rooms
 pub mod Answers
 pub mod Parts

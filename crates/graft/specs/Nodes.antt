@@ -19,7 +19,7 @@ use Rattle.sizes.specs.InPlace.{nodeAdds, bodyAdds}
 use Rattle.sizes.specs.Shown.{showInner}
 use Rattle.graft.specs.Grafted.{layerFrom}
 use Rattle.graft.specs.Widths.{node-six}
-use Rattle.graft.specs.Written.{sixOf, six-of, nodeWith}
+use Rattle.put_records.specs.Written.{sixOf, six-of, nodeWith}
 use Rattle.graft.specs.Walk.{sourceStore, Ready, WordsTold, bodyFrom}
 use Rattle.graft.specs.Answers.{told-none, item-refused, item-made}
 use Rattle.graft.specs.NodeItems.{shownOf, refsFrom, NodesTold}

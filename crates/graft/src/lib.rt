@@ -10,9 +10,8 @@ ghost use Rattle.model.specs.Lists.{all};
 ghost use Rattle.levels.specs.Below.{LevelsFit};
 ghost use mathlib.Core.List.{List};
 ghost use Rattle.model.specs.Store.{resolveStr};
-ghost use Rattle.model.specs.Tape.{recordAt, recordsAt, contentCodec, segmentCodec, nodeCodec, recordBytes};
+ghost use Rattle.model.specs.Tape.{recordAt, recordsAt, contentCodec, segmentCodec, nodeCodec};
 ghost use Rattle.model.specs.Graft.{graftStr};
-ghost use Rattle.wire.specs.Overwrite.{overwrite};
 ghost use Rattle.records.specs.Values.{bodyAt};
 ghost use Rattle.strings.specs.Starts.{lengthsIn};
 ghost use Rattle.strings.specs.Index.{Indexed};
@@ -21,7 +20,6 @@ ghost use Rattle.ids.specs.Tests.{bodyIn, nodeIn, contentIn, segmentIn, content
 ghost use Rattle.sizes.specs.InPlace.{innerAdds, bodyAdds, nodeAdds, nodesAdd, placeAdds, usedAdds, contentAdds, contentsAdd, contentRunAdds, segmentsAdd, segmentRunAdds};
 ghost use Rattle.graft.specs.Grafted.{layerFrom};
 ghost use Rattle.graft.specs.Runs.{withContents, withSegments};
-ghost use Rattle.graft.specs.Written.{wordsBytes, segmentWith, nodeHead, nodeWith};
 ghost use Rattle.graft.specs.Nodes.{nodeWords};
 ghost use Rattle.graft.specs.NodeItems.{shownOf, refsFrom, NodesTold};
 ghost use Rattle.graft.specs.Walk.{Ready, bodyFrom, placeFrom, contentRunFrom, segmentRunFrom, fieldFrom};
@@ -147,104 +145,6 @@ fn graft_string(
         return graft_str(tape, bytes, st, work, strs, p, m, id);
     }
     Start { mark: m, at: 0 }
-}
-
-fn put_content(out: &mut [u8], at: usize, tag: u8, first: u32, second: u32)
-    requires { ⌜ at + 10 ≤ length (now out) ⌝ }
-    ensures { λ _. ⌜ now (out .exit) ≡ overwrite (now (out .entry)) at (recordBytes contentCodec (record { tag = tag; first = first; second = second })) ⌝ }
-{
-    wire::put_u8(out, at, 4);
-    wire::put_u8(out, at + 1, tag);
-    wire::put_u32(out, at + 2, first);
-    wire::put_u32(out, at + 6, second);
-}
-
-fn put_words(out: &mut [u8], at: usize, words: [u32; 6])
-    requires { ⌜ at + 24 ≤ length (now out) ⌝ }
-    ensures { λ _. ⌜ now (out .exit) ≡ overwrite (now (out .entry)) at (wordsBytes words) ⌝ }
-{
-    wire::put_u32(out, at, words[0]);
-    wire::put_u32(out, at + 4, words[1]);
-    wire::put_u32(out, at + 8, words[2]);
-    wire::put_u32(out, at + 12, words[3]);
-    wire::put_u32(out, at + 16, words[4]);
-    wire::put_u32(out, at + 20, words[5]);
-}
-
-fn put_head(out: &mut [u8], at: usize, tag: u8, level: u8, kind: u8, variant: u8)
-    requires { ⌜ at + 5 ≤ length (now out) ⌝ }
-    ensures { λ _. ⌜ now (out .exit) ≡ overwrite (now (out .entry)) at (5 ∷ tag ∷ level ∷ kind ∷ variant ∷ []) ⌝ }
-{
-    wire::put_u8(out, at, 5);
-    wire::put_u8(out, at + 1, tag);
-    wire::put_u8(out, at + 2, level);
-    wire::put_u8(out, at + 3, kind);
-    wire::put_u8(out, at + 4, variant);
-}
-
-fn put_segment(
-    out: &mut [u8],
-    at: usize,
-    tag: u8,
-    level: u8,
-    kind: u8,
-    variant: u8,
-    first: u32,
-    second: u32,
-    words: [u32; 6],
-)
-    requires { ⌜ at + 37 ≤ length (now out) ⌝ }
-    ensures { λ _. ⌜ now (out .exit) ≡ overwrite (now (out .entry)) at (recordBytes segmentCodec (segmentWith tag level kind variant first second words)) ⌝ }
-{
-    put_head(out, at, tag, level, kind, variant);
-    wire::put_u32(out, at + 5, first);
-    wire::put_u32(out, at + 9, second);
-    put_words(out, at + 13, words);
-}
-
-fn put_node_head(
-    out: &mut [u8],
-    at: usize,
-    class: u8,
-    inline: u8,
-    start: u32,
-    stop: u32,
-    offset: u32,
-)
-    requires { ⌜ at + 15 ≤ length (now out) ⌝ }
-    ensures { λ _. ⌜ now (out .exit) ≡ overwrite (now (out .entry)) at (nodeHead class inline start stop offset) ⌝ }
-{
-    wire::put_u8(out, at, 6);
-    wire::put_u8(out, at + 1, class);
-    wire::put_u8(out, at + 2, inline);
-    wire::put_u32(out, at + 3, start);
-    wire::put_u32(out, at + 7, stop);
-    wire::put_u32(out, at + 11, offset);
-}
-
-pub fn put_node(
-    out: &mut [u8],
-    at: usize,
-    class: u8,
-    inline: u8,
-    start: u32,
-    stop: u32,
-    offset: u32,
-    kind: u8,
-    variant: u8,
-    first: u32,
-    second: u32,
-    words: [u32; 6],
-)
-    requires { ⌜ at + 49 ≤ length (now out) ⌝ }
-    ensures { λ _. ⌜ now (out .exit) ≡ overwrite (now (out .entry)) at (recordBytes nodeCodec (nodeWith class inline start stop offset kind variant first second words)) ⌝ }
-{
-    put_node_head(out, at, class, inline, start, stop, offset);
-    wire::put_u8(out, at + 15, kind);
-    wire::put_u8(out, at + 16, variant);
-    wire::put_u32(out, at + 17, first);
-    wire::put_u32(out, at + 21, second);
-    put_words(out, at + 25, words);
 }
 
 // A word set; behind the last there is none.
@@ -598,7 +498,7 @@ fn graft_content(
         if !k.ok {
             return k;
         }
-        put_content(out, place, 0, s.at, 0);
+        put_records::put_content(out, place, 0, s.at, 0);
         return k;
     }
     let s = graft_segment_run(
@@ -618,7 +518,7 @@ fn graft_content(
     if !k.ok {
         return k;
     }
-    put_content(out, place, 1, s.at, c.second);
+    put_records::put_content(out, place, 1, s.at, c.second);
     k
 }
 
@@ -733,7 +633,7 @@ fn graft_segment(
     let tag = tape[at + 1];
     let own = tape[at + 2];
     if level == 0 {
-        put_segment(out, place, tag, own, 0, 0, 0, 0, [0u32; 6]);
+        put_records::put_segment(out, place, tag, own, 0, 0, 0, 0, [0u32; 6]);
         return m;
     }
     let b = graft_body(tape, bytes, st, out, work, strs, p, m, at + 3, level - 1);
@@ -746,7 +646,7 @@ fn graft_segment(
     let second = wire::u32_at(tape, at + 9);
     let kind = tape[at + 3];
     let variant = tape[at + 4];
-    put_segment(out, place, tag, own, kind, variant, first, second, words);
+    put_records::put_segment(out, place, tag, own, kind, variant, first, second, words);
     k
 }
 
@@ -803,7 +703,7 @@ fn graft_node_at(
     let offset = wire::u32_at(tape, at + 11);
     let first = wire::u32_at(tape, at + 17);
     let second = wire::u32_at(tape, at + 21);
-    put_node(
+    put_records::put_node(
         out,
         to,
         tape[at + 1],

@@ -19,8 +19,6 @@ ghost use Rattle.merged_lists.specs.Sizes.{lengthsOf};
 ghost use Rattle.result.specs.Grafting.{offsetsOf, GraftTold};
 ghost use Rattle.result.specs.Stages.{textsOf, StoreTold};
 
-// ---- the byte buffer
-
 // Both new texts and the old strings, by the places of both books and the window.
 fn put_new_texts(
     out: &mut [u8],
@@ -54,12 +52,6 @@ fn put_new_texts(
         &bytes[first..bytes.len()],
     );
 }
-
-// ---- the tape up to the new layer
-
-// ---- sizes
-
-// ---- the new layer
 
 // What grafting wrote: the bytes of the new layer's records and of its strings, and the counts. Not ok where there is no room.
 pub struct Graft {
@@ -174,8 +166,6 @@ fn put_store(
         l.base,
     )
 }
-
-// ---- the merge
 
 // Number 18, and the merged book, of a book and a reading that passed 1 to 17.
 pub fn merge_books(

@@ -10,7 +10,7 @@ use Rattle.model.specs.Tape.{recordBytes, operandBytes, nodeCodec, pairCodec, c
 use Rattle.model.specs.Offset.{shifted, shiftU32}
 use Rattle.model.specs.Merge.{MergeWindow, nodeLocated, pairLocated, containerLocated, diagnosticLocated, shiftedPair, shiftedDiagnostic, movedOffset}
 use Rattle.wire.specs.Overwrite.{overwrite, Wrote}
-use Rattle.graft.specs.Written.{word-rest}
+use Rattle.put_records.specs.Written.{word-rest}
 use Rattle.splice.specs.Window.{sourceIn, normalizedIn}
 use Rattle.splice.specs.Parts.{asIn}
 use Rattle.splice.specs.declared.Part.{Part}

@@ -13,7 +13,7 @@ use Rattle.wire.specs.Overwrite.{overwrite, getD-behind}
 use Rattle.wire.specs.Words.{wordAt-behind}
 use Rattle.splice.specs.Parts.{Kind, PutUpTo, isIn, asIn, partOf, spanIn, part-reading, item-put, put-first, put-last, put-more}
 use Rattle.splice.specs.Counted.{reading-room}
-use Rattle.graft.specs.Written.{nodeWith, six-of}
+use Rattle.put_records.specs.Written.{nodeWith, six-of}
 use Rattle.splice.specs.declared.Part.the-variants.{Reading}
 
 module _ (d : List ℕ) (at : ℕ) (bs : List ℕ) (fits : at + length bs ≤ length d) (q : ℕ) (h : at + length bs ≤ q) where

@@ -47,7 +47,7 @@ fn put_node(out: &mut [u8], at: usize, n: records::SourceNode)
 {
     let body = n.body;
     let words = body.words;
-    graft::put_node(
+    put_records::put_node(
         out,
         at,
         n.class,

@@ -53,8 +53,8 @@ use Rattle.graft.proofs.inner_contents.Reads as inner-contents-reads
 use Rattle.graft.proofs.inner_segments.Reads as inner-segments-reads
 use Rattle.graft.proofs.pushed_contents.Reads as pushed-contents-reads
 use Rattle.graft.proofs.pushed_segments.Reads as pushed-segments-reads
-use Rattle.graft.proofs.put_content.Reads as put-content-reads
-use Rattle.graft.proofs.put_segment.Reads as put-segment-reads
+use Rattle.put_records.proofs.put_content.Reads as put-content-reads
+use Rattle.put_records.proofs.put_segment.Reads as put-segment-reads
 use Rattle.graft.proofs.with_words.Reads as with-words-reads
 use Rattle.graft.proofs.words_of.Reads as words-of-reads
 use Rattle.records.proofs.content_at.Reads as content-at-reads

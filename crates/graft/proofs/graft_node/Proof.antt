@@ -1,12 +1,8 @@
-use Prim.Native.Nat.{_+_}
 use native.Mathlib.Omega.{arith}
 use Rattle.graft.specs.Nodes.{node-bare, node-ready, node-known, node-told}
 use borrow.Author.Needs.{needs}
 use Rattle.graft.proofs.graft_node.Statement.{statement}
 use Rattle.graft.proofs.graft_node.Tie as tie
-use Rattle.graft.proofs.graft_node.Reads as reads
-use Rattle.graft.proofs.graft_node.Lts as lts
-use Rattle.graft.proofs.graft_body.Reads as graft-body-reads
 
 -- src/lib.rt:797:18
 add-if1 : tie.Need-add-if1

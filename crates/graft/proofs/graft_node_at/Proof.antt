@@ -4,11 +4,6 @@ use Rattle.graft.specs.Nodes.{ref-refused, ref-made}
 use borrow.Author.Needs.{needs}
 use Rattle.graft.proofs.graft_node_at.Statement.{statement}
 use Rattle.graft.proofs.graft_node_at.Tie as tie
-use Rattle.graft.proofs.graft_node_at.Reads as reads
-use Rattle.graft.proofs.graft_node_at.Lts as lts
-use Rattle.graft.proofs.graft_node.Reads as graft-node-reads
-use Rattle.graft.proofs.put_node.Reads as put-node-reads
-use Rattle.wire.proofs.u32_at.Reads as u32-at-reads
 
 -- src/lib.rt:794:9
 graft-node-requires : tie.Need-graft-node-requires

@@ -13,9 +13,6 @@ use Rattle.graft.specs.Loop.{ItemsUpTo, items-first, item-ready, item-kn
 use Rattle.graft.specs.Kinds.{node-grafts}
 use Rattle.graft.proofs.graft_nodes.Statement.{statement}
 use Rattle.graft.proofs.graft_nodes.Tie as tie
-use Rattle.graft.proofs.graft_nodes.Reads as reads
-use Rattle.graft.proofs.graft_nodes.Lts as lts
-use Rattle.graft.proofs.graft_node_at.Reads as graft-node-at-reads
 
 abbrev Inv-loop : tie.InvT-loop
 Inv-loop tape bytes st out₀ work₀ strs₀ p at count nodesat u₀ i₀ out work strs u i = (i ≤ count) × ItemsUpTo tape nodeCodec (λ (ns : List SourceNode). graftNodeRefs (shownOf tape bytes ns)) p u₀ at nodesat out₀ work₀ strs₀ out work strs u i × (length work ≡ length work₀) × (length strs ≡ length strs₀)

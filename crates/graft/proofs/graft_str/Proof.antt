@@ -3,12 +3,6 @@ use native.Mathlib.Omega.{arith}
 use borrow.Author.Needs.{needs}
 use Rattle.graft.proofs.graft_str.Statement.{statement}
 use Rattle.graft.proofs.graft_str.Tie as tie
-use Rattle.graft.proofs.graft_str.Reads as reads
-use Rattle.graft.proofs.graft_str.Lts as lts
-use Rattle.graft.proofs.start_of.Reads as start-of-reads
-use Rattle.graft.proofs.string_from.Reads as string-from-reads
-use Rattle.intern.proofs.intern.Reads as intern-reads
-use Rattle.strings.proofs.string_length.Reads as string-length-reads
 
 -- src/lib.rt:112:45
 sub-string-from : tie.Need-sub-string-from

@@ -3,9 +3,6 @@ use Rattle.graft.specs.Answers.{told-nothing}
 use borrow.Author.Needs.{needs}
 use Rattle.graft.proofs.graft_string.Statement.{statement}
 use Rattle.graft.proofs.graft_string.Tie as tie
-use Rattle.graft.proofs.graft_string.Reads as reads
-use Rattle.graft.proofs.graft_string.Lts as lts
-use Rattle.graft.proofs.graft_str.Reads as graft-str-reads
 
 -- src/lib.rt:157:9
 graft-str-requires : tie.Need-graft-str-requires

@@ -3,9 +3,6 @@ use Rattle.sizes.specs.Capped.{kept-none}
 use Rattle.sizes.specs.InPlace.{innerAdds, contentsAdd}
 use Rattle.graft.proofs.inner_contents.Statement.{statement}
 use Rattle.graft.proofs.inner_contents.Tie as tie
-use Rattle.graft.proofs.inner_contents.Reads as reads
-use Rattle.graft.proofs.inner_contents.Lts as lts
-use Rattle.sizes.proofs.contents_sizes.Reads as contents-sizes-reads
 
 -- src/lib.rt:284:9
 contents-sizes-requires : tie.Need-contents-sizes-requires

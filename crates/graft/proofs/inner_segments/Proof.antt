@@ -3,9 +3,6 @@ use Rattle.sizes.specs.Capped.{kept-none}
 use Rattle.sizes.specs.InPlace.{innerAdds, segmentsAdd}
 use Rattle.graft.proofs.inner_segments.Statement.{statement}
 use Rattle.graft.proofs.inner_segments.Tie as tie
-use Rattle.graft.proofs.inner_segments.Reads as reads
-use Rattle.graft.proofs.inner_segments.Lts as lts
-use Rattle.sizes.proofs.segments_sizes.Reads as segments-sizes-reads
 
 -- src/lib.rt:305:9
 segments-sizes-requires : tie.Need-segments-sizes-requires

@@ -4,8 +4,6 @@ use native.Mathlib.Omega.{arith}
 use borrow.Author.Needs.{needs}
 use Rattle.graft.proofs.set_word.Statement.{statement}
 use Rattle.graft.proofs.set_word.Tie as tie
-use Rattle.graft.proofs.set_word.Reads as reads
-use Rattle.graft.proofs.set_word.Lts as lts
 
 mul-w : tie.Need-mul-w
 mul-w c = search needs

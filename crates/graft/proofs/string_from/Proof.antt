@@ -5,10 +5,6 @@ use native.Mathlib.Omega.{arith}
 use borrow.Author.Needs.{needs}
 use Rattle.graft.proofs.string_from.Statement.{statement}
 use Rattle.graft.proofs.string_from.Tie as tie
-use Rattle.graft.proofs.string_from.Reads as reads
-use Rattle.graft.proofs.string_from.Lts as lts
-use Rattle.strings.proofs.string_start.Reads as string-start-reads
-use Rattle.wire.proofs.u32_at.Reads as u32-at-reads
 
 -- src/lib.rt:72:9
 string-start-requires : tie.Need-string-start-requires

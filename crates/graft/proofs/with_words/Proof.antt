@@ -2,9 +2,6 @@ use Rattle.graft.specs.Bodies.{words-string, words-optional, words-conte
 use borrow.Author.Needs.{needs}
 use Rattle.graft.proofs.with_words.Statement.{statement}
 use Rattle.graft.proofs.with_words.Tie as tie
-use Rattle.graft.proofs.with_words.Reads as reads
-use Rattle.graft.proofs.with_words.Lts as lts
-use Rattle.graft.proofs.set_word.Reads as set-word-reads
 
 set-word-requires : tie.Need-set-word-requires
 set-word-requires c κs = search needs

@@ -1,5 +1,5 @@
 use Rattle.layer.specs.Lengths.{string-written}
-use Rattle.graft.specs.Written.{length-word}
+use Rattle.put_records.specs.Written.{length-word}
 use Rattle.wire.specs.Overwrite.{Wrote, wrote-next}
 use Rattle.model.specs.Bytes.{wordBytes}
 use mathlib.Core.Path.{_≡_, refl, sym, ap, _∙_}

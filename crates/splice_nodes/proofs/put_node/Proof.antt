@@ -4,7 +4,7 @@ use Rattle.splice_nodes.proofs.put_node.Statement.{statement}
 use Rattle.splice_nodes.proofs.put_node.Tie as tie
 use Rattle.splice_nodes.proofs.put_node.Reads as reads
 use Rattle.splice_nodes.proofs.put_node.Lts as lts
-use Rattle.graft.proofs.put_node.Reads as put-node-reads
+use Rattle.put_records.proofs.put_node.Reads as put-node-reads
 
 -- src/lib.rt:50:5
 put-node-requires : tie.Need-put-node-requires

@@ -2,16 +2,12 @@ use Prim.Native.Nat.{_+_}
 use native.Mathlib.Omega.{arith}
 use Rattle.model.specs.Bytes.{wordBytes}
 use Rattle.wire.specs.Overwrite.{Wrote, wrote-next}
-use Rattle.graft.specs.Written.{node-head-written, length-word}
+use Rattle.put_records.specs.Written.{node-head-written, length-word}
 use mathlib.Core.List.{[], _∷_}
 use lib.ListN.{length-append}
 use borrow.Author.Needs.{needs}
-use Rattle.graft.proofs.put_node_head.Statement.{statement}
-use Rattle.graft.proofs.put_node_head.Tie as tie
-use Rattle.graft.proofs.put_node_head.Reads as reads
-use Rattle.graft.proofs.put_node_head.Lts as lts
-use Rattle.wire.proofs.put_u32.Reads as put-u32-reads
-use Rattle.wire.proofs.put_u8.Reads as put-u8-reads
+use Rattle.put_records.proofs.put_node_head.Statement.{statement}
+use Rattle.put_records.proofs.put_node_head.Tie as tie
 
 -- src/lib.rt:231:5
 put-u8-requires : tie.Need-put-u8-requires

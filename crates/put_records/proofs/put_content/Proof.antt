@@ -1,16 +1,12 @@
 use Rattle.model.specs.Bytes.{wordBytes}
 use Rattle.wire.specs.Overwrite.{Wrote, wrote-next}
-use Rattle.graft.specs.Written.{content-written, length-word}
+use Rattle.put_records.specs.Written.{content-written, length-word}
 use mathlib.Core.List.{[], _∷_}
 use Prim.Native.Nat.{_+_}
 use native.Mathlib.Omega.{arith}
 use borrow.Author.Needs.{needs}
-use Rattle.graft.proofs.put_content.Statement.{statement}
-use Rattle.graft.proofs.put_content.Tie as tie
-use Rattle.graft.proofs.put_content.Reads as reads
-use Rattle.graft.proofs.put_content.Lts as lts
-use Rattle.wire.proofs.put_u32.Reads as put-u32-reads
-use Rattle.wire.proofs.put_u8.Reads as put-u8-reads
+use Rattle.put_records.proofs.put_content.Statement.{statement}
+use Rattle.put_records.proofs.put_content.Tie as tie
 
 put-u8-requires : tie.Need-put-u8-requires
 put-u8-requires c κs = search needs

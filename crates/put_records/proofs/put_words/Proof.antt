@@ -1,15 +1,12 @@
 use Rattle.model.specs.Bytes.{wordBytes}
 use Rattle.wire.specs.Overwrite.{Wrote, wrote-next}
-use Rattle.graft.specs.Written.{words-written, length-word}
+use Rattle.put_records.specs.Written.{words-written, length-word}
 use Prim.Native.Nat.{_+_}
 use native.Mathlib.Omega.{arith}
 use lib.ListN.{getD, length-append}
 use borrow.Author.Needs.{needs}
-use Rattle.graft.proofs.put_words.Statement.{statement}
-use Rattle.graft.proofs.put_words.Tie as tie
-use Rattle.graft.proofs.put_words.Reads as reads
-use Rattle.graft.proofs.put_words.Lts as lts
-use Rattle.wire.proofs.put_u32.Reads as put-u32-reads
+use Rattle.put_records.proofs.put_words.Statement.{statement}
+use Rattle.put_records.proofs.put_words.Tie as tie
 
 array-read-put-u32 : tie.Need-array-read-put-u32
 array-read-put-u32 c = search needs

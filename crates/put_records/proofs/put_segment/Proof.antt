@@ -1,18 +1,13 @@
 use Rattle.model.specs.Bytes.{wordBytes}
 use Rattle.wire.specs.Overwrite.{Wrote, wrote-next}
-use Rattle.graft.specs.Written.{segment-written, length-word, length-words, wordsBytes}
+use Rattle.put_records.specs.Written.{segment-written, length-word, length-words, wordsBytes}
 use mathlib.Core.List.{[], _∷_}
 use Prim.Native.Nat.{_+_}
 use native.Mathlib.Omega.{arith}
 use lib.ListN.{length-append}
 use borrow.Author.Needs.{needs}
-use Rattle.graft.proofs.put_segment.Statement.{statement}
-use Rattle.graft.proofs.put_segment.Tie as tie
-use Rattle.graft.proofs.put_segment.Reads as reads
-use Rattle.graft.proofs.put_segment.Lts as lts
-use Rattle.graft.proofs.put_head.Reads as put-head-reads
-use Rattle.graft.proofs.put_words.Reads as put-words-reads
-use Rattle.wire.proofs.put_u32.Reads as put-u32-reads
+use Rattle.put_records.proofs.put_segment.Statement.{statement}
+use Rattle.put_records.proofs.put_segment.Tie as tie
 
 put-head-requires : tie.Need-put-head-requires
 put-head-requires c κs = search needs

@@ -3,11 +3,8 @@ use mathlib.Core.List.{[], _∷_}
 use Prim.Native.Nat.{_+_}
 use native.Mathlib.Omega.{arith}
 use borrow.Author.Needs.{needs}
-use Rattle.graft.proofs.put_head.Statement.{statement}
-use Rattle.graft.proofs.put_head.Tie as tie
-use Rattle.graft.proofs.put_head.Reads as reads
-use Rattle.graft.proofs.put_head.Lts as lts
-use Rattle.wire.proofs.put_u8.Reads as put-u8-reads
+use Rattle.put_records.proofs.put_head.Statement.{statement}
+use Rattle.put_records.proofs.put_head.Tie as tie
 
 put-u8-requires : tie.Need-put-u8-requires
 put-u8-requires c κs = search needs

@@ -2,18 +2,12 @@ use Prim.Native.Nat.{_+_}
 use native.Mathlib.Omega.{arith}
 use Rattle.model.specs.Bytes.{wordBytes}
 use Rattle.wire.specs.Overwrite.{Wrote, wrote-next}
-use Rattle.graft.specs.Written.{node-written, nodeHead, length-node-head, wordsBytes, length-words, length-word}
+use Rattle.put_records.specs.Written.{node-written, nodeHead, length-node-head, wordsBytes, length-words, length-word}
 use mathlib.Core.List.{[], _∷_}
 use lib.ListN.{length-append}
 use borrow.Author.Needs.{needs}
-use Rattle.graft.proofs.put_node.Statement.{statement}
-use Rattle.graft.proofs.put_node.Tie as tie
-use Rattle.graft.proofs.put_node.Reads as reads
-use Rattle.graft.proofs.put_node.Lts as lts
-use Rattle.graft.proofs.put_node_head.Reads as put-node-head-reads
-use Rattle.graft.proofs.put_words.Reads as put-words-reads
-use Rattle.wire.proofs.put_u32.Reads as put-u32-reads
-use Rattle.wire.proofs.put_u8.Reads as put-u8-reads
+use Rattle.put_records.proofs.put_node.Statement.{statement}
+use Rattle.put_records.proofs.put_node.Tie as tie
 
 -- src/lib.rt:256:5
 put-node-head-requires : tie.Need-put-node-head-requires
