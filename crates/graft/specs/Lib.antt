@@ -15,5 +15,4 @@ pub mod Loop
 pub mod Items
 pub mod Inner
 pub mod NodeItems
-pub mod Nodes
 pub mod Kinds

@@ -1,5 +1,5 @@
 // Document 01 section 5: the trees of the reading copied into one new layer of the result. Each string is interned; a run stands
-// behind all that its items push, and each item is written once, at its place.
+// behind all that its items push, and each item is written once, at its place. Crate `graft_nodes` does so for each node.
 ghost use mathlib.Core.Path.{_≡_};
 ghost use mathlib.Core.Bool.{true};
 ghost use mathlib.Core.List.{[], _∷_};
@@ -10,18 +10,16 @@ ghost use Rattle.model.specs.Lists.{all};
 ghost use Rattle.levels.specs.Below.{LevelsFit};
 ghost use mathlib.Core.List.{List};
 ghost use Rattle.model.specs.Store.{resolveStr};
-ghost use Rattle.model.specs.Tape.{recordAt, recordsAt, contentCodec, segmentCodec, nodeCodec};
+ghost use Rattle.model.specs.Tape.{recordAt, recordsAt, contentCodec, segmentCodec};
 ghost use Rattle.model.specs.Graft.{graftStr};
 ghost use Rattle.records.specs.Values.{bodyAt};
 ghost use Rattle.strings.specs.Starts.{lengthsIn};
 ghost use Rattle.strings.specs.Index.{Indexed};
 ghost use Rattle.interner.specs.State.{Good, stateOf, hasRoom};
-ghost use Rattle.ids.specs.Tests.{bodyIn, nodeIn, contentIn, segmentIn, contentsIn, segmentsIn, usedWell};
-ghost use Rattle.sizes.specs.InPlace.{innerAdds, bodyAdds, nodeAdds, nodesAdd, placeAdds, usedAdds, contentAdds, contentsAdd, contentRunAdds, segmentsAdd, segmentRunAdds};
+ghost use Rattle.ids.specs.Tests.{bodyIn, contentIn, segmentIn, contentsIn, segmentsIn, usedWell};
+ghost use Rattle.sizes.specs.InPlace.{innerAdds, bodyAdds, placeAdds, usedAdds, contentAdds, contentsAdd, contentRunAdds, segmentsAdd, segmentRunAdds};
 ghost use Rattle.graft.specs.Grafted.{layerFrom};
 ghost use Rattle.graft.specs.Runs.{withContents, withSegments};
-ghost use Rattle.graft.specs.Nodes.{nodeWords};
-ghost use Rattle.graft.specs.NodeItems.{shownOf, refsFrom, NodesTold};
 ghost use Rattle.graft.specs.Walk.{Ready, bodyFrom, placeFrom, contentRunFrom, segmentRunFrom, fieldFrom};
 ghost use Rattle.graft.specs.Walk.{sourceStore, Source, indexWords, stringFrom, shownContents, shownSegments, StartTold, idFrom, strStart, WordsTold, ContentsTold, SegmentsTold};
 
@@ -183,8 +181,6 @@ fn with_words(words: [u32; 6], i: usize, f: sizes::FieldWords, v: u32) -> Six
     Six { words: words }
 }
 
-// ---- parts of the walk
-
 fn words_of(mark: Mark, six: Six) -> Words
     ensures { λ r. ⌜ (r .mark ≡ mark) × (r .words ≡ six .words) ⌝ }
 {
@@ -270,8 +266,6 @@ fn pushed_segments(p: Plan, r: Mark, to: u32, len: u32) -> Start
         at: p.segments + to,
     }
 }
-
-// ---- the walk: nine functions that call each other, the level falling on each turn
 
 // Section 5. `graft_node`: the words of the body at `at`, whose runs are pushed.
 pub fn graft_body(
@@ -648,116 +642,4 @@ fn graft_segment(
     let variant = tape[at + 4];
     put_records::put_segment(out, place, tag, own, kind, variant, first, second, words);
     k
-}
-
-// Section 5. `graft_node_ref`: the words of the node at `at`. A node of class 2 or 3 has none; the levels in the runs of another are at most 32.
-pub fn graft_node(
-    tape: &[u8],
-    bytes: &[u8],
-    st: store::Store,
-    out: &mut [u8],
-    work: &mut [u32],
-    strs: &mut [u8],
-    p: Plan,
-    m: Mark,
-    at: usize,
-) -> Words
-    requires { ⌜ Ready (now tape) (now bytes) st p m (now out) (now work) (now strs) (nodeAdds (now tape) st (recordAt nodeCodec (now tape) at)) ⌝ }
-    requires { ⌜ (at + 49 ≤ length (now tape)) × (nodeIn st (recordAt nodeCodec (now tape) at) ≡ true) ⌝ }
-    ensures { λ r. ⌜ WordsTold p m (now (out .entry)) (now (work .entry)) (now (strs .entry)) (now (out .exit)) (now (work .exit)) (now (strs .exit)) r (nodeWords (now (tape .entry)) (now (bytes .entry)) (recordAt nodeCodec (now (tape .entry)) at) (layerFrom p (now (work .entry)) (now (strs .entry)) m)) ⌝ }
-{
-    if 2 <= tape[at + 1] {
-        return Words {
-            mark: m,
-            words: [0u32; 6],
-        };
-    }
-    graft_body(tape, bytes, st, out, work, strs, p, m, at + 15, 33)
-}
-
-// Section 5. `graft_node_ref`, its record written at `to` with the span of the reading.
-fn graft_node_at(
-    tape: &[u8],
-    bytes: &[u8],
-    st: store::Store,
-    out: &mut [u8],
-    work: &mut [u32],
-    strs: &mut [u8],
-    p: Plan,
-    m: Mark,
-    at: usize,
-    to: usize,
-) -> Mark
-    requires { ⌜ Ready (now tape) (now bytes) st p m (now out) (now work) (now strs) (nodeAdds (now tape) st (recordAt nodeCodec (now tape) at)) ⌝ }
-    requires { ⌜ (at + 49 ≤ length (now tape)) × (nodeIn st (recordAt nodeCodec (now tape) at) ≡ true) × (to + 49 ≤ length (now out)) ⌝ }
-    ensures { λ r. ⌜ NodesTold p m to (now (out .entry)) (now (work .entry)) (now (strs .entry)) (now (out .exit)) (now (work .exit)) (now (strs .exit)) r (refsFrom p (now (work .entry)) (now (strs .entry)) m (shownOf (now (tape .entry)) (now (bytes .entry)) (recordAt nodeCodec (now (tape .entry)) at ∷ []))) ⌝ }
-{
-    let w = graft_node(tape, bytes, st, out, work, strs, p, m, at);
-    let k = w.mark;
-    if !k.ok {
-        return k;
-    }
-    let words = w.words;
-    let start = wire::u32_at(tape, at + 3);
-    let stop = wire::u32_at(tape, at + 7);
-    let offset = wire::u32_at(tape, at + 11);
-    let first = wire::u32_at(tape, at + 17);
-    let second = wire::u32_at(tape, at + 21);
-    put_records::put_node(
-        out,
-        to,
-        tape[at + 1],
-        tape[at + 2],
-        start,
-        stop,
-        offset,
-        tape[at + 15],
-        tape[at + 16],
-        first,
-        second,
-        words,
-    );
-    k
-}
-
-// Section 5. The nodes of the reading, `count` of them from `at` on, their records from `nodesat` on.
-pub fn graft_nodes(
-    tape: &[u8],
-    bytes: &[u8],
-    st: store::Store,
-    out: &mut [u8],
-    work: &mut [u32],
-    strs: &mut [u8],
-    p: Plan,
-    m: Mark,
-    at: usize,
-    count: usize,
-    nodesat: usize,
-) -> Mark
-    requires { ⌜ Ready (now tape) (now bytes) st p m (now out) (now work) (now strs) (nodesAdd (now tape) st at count) ⌝ }
-    requires { ⌜ (at + 49 * count ≤ length (now tape)) × (all (nodeIn st) (recordsAt nodeCodec (now tape) at count) ≡ true) ⌝ }
-    requires { ⌜ (p .segmentsat + 37 * (m .segments + nodesAdd (now tape) st at count .segments) ≤ nodesat) × (nodesat + 49 * count ≤ length (now out)) ⌝ }
-    ensures { λ r. ⌜ NodesTold p m nodesat (now (out .entry)) (now (work .entry)) (now (strs .entry)) (now (out .exit)) (now (work .exit)) (now (strs .exit)) r (refsFrom p (now (work .entry)) (now (strs .entry)) m (shownOf (now (tape .entry)) (now (bytes .entry)) (recordsAt nodeCodec (now (tape .entry)) at count))) ⌝ }
-{
-    let mut u = m;
-    let mut i = 0;
-    while i < count {
-        u = graft_node_at(
-            tape,
-            bytes,
-            st,
-            out,
-            work,
-            strs,
-            p,
-            u,
-            at + 49 * i,
-            nodesat + 49 * i,
-        );
-        if !u.ok {
-            return u;
-        }
-        i += 1;
-    }
-    u
 }

@@ -225,7 +225,7 @@ fn walk(
         segments: 0,
         state: state,
     };
-    graft::graft_nodes(
+    graft_nodes::graft_nodes(
         tape,
         bytes,
         st,

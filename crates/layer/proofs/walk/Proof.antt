@@ -10,7 +10,7 @@ use Rattle.layer.proofs.walk.Statement.{statement}
 use Rattle.layer.proofs.walk.Tie as tie
 use Rattle.layer.proofs.walk.Reads as reads
 use Rattle.layer.proofs.walk.Lts as lts
-use Rattle.graft.proofs.graft_nodes.Reads as graft-nodes-reads
+use Rattle.graft_nodes.proofs.graft_nodes.Reads as graft-nodes-reads
 use Rattle.interner.proofs.fresh.Reads as fresh-reads
 use Rattle.layer.proofs.index_words.Reads as index-words-reads
 

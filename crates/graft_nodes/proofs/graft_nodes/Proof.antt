@@ -7,12 +7,12 @@ use mathlib.Core.List.{List}
 use Rattle.model.specs.Types.{SourceNode}
 use Rattle.model.specs.Tape.{nodeCodec}
 use Rattle.model.specs.Graft.{graftNodeRefs}
 use Rattle.graft.specs.Blocks.{Apart.beyond}
 use Rattle.graft.specs.NodeItems.{shownOf}
 use Rattle.graft.specs.Loop.{ItemsUpTo, items-first, item-ready, item-known, item-turn, items-more, items-refused, items-last}
 use Rattle.graft.specs.Kinds.{node-grafts}
-use Rattle.graft.proofs.graft_nodes.Statement.{statement}
-use Rattle.graft.proofs.graft_nodes.Tie as tie
+use Rattle.graft_nodes.proofs.graft_nodes.Statement.{statement}
+use Rattle.graft_nodes.proofs.graft_nodes.Tie as tie
 
 abbrev Inv-loop : tie.InvT-loop
 Inv-loop tape bytes st out₀ work₀ strs₀ p at count nodesat u₀ i₀ out work strs u i = (i ≤ count) × ItemsUpTo tape nodeCodec (λ (ns : List SourceNode). graftNodeRefs (shownOf tape bytes ns)) p u₀ at nodesat out₀ work₀ strs₀ out work strs u i × (length work ≡ length work₀) × (length strs ≡ length strs₀)

@@ -1,9 +1,9 @@
 use native.Mathlib.Omega.{arith}
 use borrow.Author.Tests.{not-true, not-false}
-use Rattle.graft.specs.Nodes.{ref-refused, ref-made}
+use Rattle.graft_nodes.specs.Nodes.{ref-refused, ref-made}
 use borrow.Author.Needs.{needs}
-use Rattle.graft.proofs.graft_node_at.Statement.{statement}
-use Rattle.graft.proofs.graft_node_at.Tie as tie
+use Rattle.graft_nodes.proofs.graft_node_at.Statement.{statement}
+use Rattle.graft_nodes.proofs.graft_node_at.Tie as tie
 
 -- src/lib.rt:794:9
 graft-node-requires : tie.Need-graft-node-requires

@@ -1,8 +1,8 @@
 use native.Mathlib.Omega.{arith}
-use Rattle.graft.specs.Nodes.{node-bare, node-ready, node-known, node-told}
+use Rattle.graft_nodes.specs.Nodes.{node-bare, node-ready, node-known, node-told}
 use borrow.Author.Needs.{needs}
-use Rattle.graft.proofs.graft_node.Statement.{statement}
-use Rattle.graft.proofs.graft_node.Tie as tie
+use Rattle.graft_nodes.proofs.graft_node.Statement.{statement}
+use Rattle.graft_nodes.proofs.graft_node.Tie as tie
 
 -- src/lib.rt:797:18
 add-if1 : tie.Need-add-if1
