@@ -26,7 +26,15 @@ pub struct Book<'a> {
     normalized: &'a str,
     /// The bytes of all strings.
     strings: &'a str,
-    /// Where each string begins in them, and at last where they end.
+    frame: Frame<'a>,
+}
+
+/// Where everything stands in a tape, and the lengths of what is in the byte buffer.
+#[derive(Debug, Clone)]
+struct Frame<'a> {
+    text: usize,
+    normalized: usize,
+    /// Where each string begins among the bytes of all strings, and at last where these end.
     starts: Vec<usize>,
     layers: Vec<LayerRecords<'a>>,
     nodes: Records<'a, SourceNode>,
@@ -39,7 +47,7 @@ pub struct Book<'a> {
 struct LayerRecords<'a> {
     /// The numbers of its first string, content and segment.
     first: [usize; 3],
-    strings: usize,
+    strings: Records<'a, StringLength>,
     contents: Records<'a, Content>,
     segments: Records<'a, Segment>,
 }
@@ -79,6 +87,49 @@ impl<'a> Tape<'a> {
     }
 }
 
+impl<'a> LayerRecords<'a> {
+    fn of(tape: &mut Tape<'a>, first: [usize; 3]) -> Option<Self> {
+        tape.byte(LAYER)?;
+        Some(Self { first, strings: tape.records()?, contents: tape.records()?, segments: tape.records()? })
+    }
+
+    /// The numbers of the first string, content and segment behind it.
+    fn behind(&self) -> [usize; 3] {
+        let [strings, contents, segments] = self.first;
+        [strings + self.strings.len(), contents + self.contents.len(), segments + self.segments.len()]
+    }
+}
+
+impl<'a> Frame<'a> {
+    /// None where the tape breaks the layout (number 1).
+    fn of(tape: &'a [u8]) -> Option<Self> {
+        let mut tape = Tape(tape);
+        tape.byte(HEAD)?;
+        let mut head = Operands::from(tape.take(8)?);
+        let (text, normalized) = (head.word()? as usize, head.word()? as usize);
+        let mut layers = vec![LayerRecords::of(&mut tape, [0; 3])?];
+        while tape.next_is(LAYER) {
+            let first = layers.last()?.behind();
+            layers.push(LayerRecords::of(&mut tape, first)?);
+        }
+        let starts = starts(&layers)?;
+        let (nodes, pairs, containers, diagnostics) = (tape.records()?, tape.records()?, tape.records()?, tape.records()?);
+        tape.byte(END)?;
+        tape.0.is_empty().then_some(Self { text, normalized, starts, layers, nodes, pairs, containers, diagnostics })
+    }
+}
+
+/// Where each string begins, and where the last ends.
+fn starts(layers: &[LayerRecords<'_>]) -> Option<Vec<usize>> {
+    let mut starts = vec![0_usize];
+    let mut end = 0_usize;
+    for StringLength(len) in layers.iter().flat_map(|layer| layer.strings.clone()) {
+        end = end.checked_add(len as usize)?;
+        starts.push(end);
+    }
+    Some(starts)
+}
+
 impl<'a> Book<'a> {
     /// A book, if [`check_book`](crate::check_book) accepts it.
     ///
@@ -104,54 +155,16 @@ impl<'a> Book<'a> {
 
     /// Of what is accepted. The errors are those of numbers 1 and 2, and do not arise.
     pub(crate) fn walk(stored: Stored<'a>) -> Result<Self, Refusal> {
-        let (lengths, layers, lists) = Self::tape(stored.tape).ok_or(Refusal::Layout)?;
+        let frame = Frame::of(stored.tape).ok_or(Refusal::Layout)?;
         let mut bytes = Tape(stored.bytes);
         let mut text = |len| str::from_utf8(bytes.take(len).ok_or(Refusal::Layout)?).map_err(|_| Refusal::NotUtf8);
-        let starts = lengths.starts().ok_or(Refusal::Layout)?;
-        let book = Self {
-            stored,
-            text: text(lengths.text)?,
-            normalized: text(lengths.normalized)?,
-            strings: text(starts.last().copied().unwrap_or(0))?,
-            starts,
-            layers,
-            nodes: lists.0,
-            pairs: lists.1,
-            containers: lists.2,
-            diagnostics: lists.3,
-        };
+        let (sanitized, normalized) = (text(frame.text)?, text(frame.normalized)?);
+        let strings = text(frame.starts.last().copied().unwrap_or(0))?;
         if !bytes.0.is_empty() {
             return Err(Refusal::Layout);
         }
-        let whole = book.starts.iter().all(|&start| book.strings.is_char_boundary(start));
-        if whole { Ok(book) } else { Err(Refusal::NotUtf8) }
-    }
-
-    #[expect(clippy::type_complexity, reason = "the parts of a tape, used once")]
-    fn tape(
-        tape: &'a [u8],
-    ) -> Option<(
-        TextLengths<'a>,
-        Vec<LayerRecords<'a>>,
-        (Records<'a, SourceNode>, Records<'a, PairLink>, Records<'a, ContainerPair>, Records<'a, Diagnostic>),
-    )> {
-        let mut tape = Tape(tape);
-        tape.byte(HEAD)?;
-        let mut head = Operands::from(tape.take(8)?);
-        let mut lengths = TextLengths { text: head.word()? as usize, normalized: head.word()? as usize, strings: Vec::new() };
-        let mut layers = Vec::new();
-        let mut first = [0; 3];
-        while tape.next_is(LAYER) {
-            tape.byte(LAYER)?;
-            let strings = tape.records::<StringLength>()?;
-            let layer = LayerRecords { first, strings: strings.len(), contents: tape.records()?, segments: tape.records()? };
-            first = [first[0] + layer.strings, first[1] + layer.contents.len(), first[2] + layer.segments.len()];
-            lengths.strings.push(strings);
-            layers.push(layer);
-        }
-        let lists = (tape.records()?, tape.records()?, tape.records()?, tape.records()?);
-        tape.byte(END)?;
-        (tape.0.is_empty() && !layers.is_empty()).then_some((lengths, layers, lists))
+        let whole = frame.starts.iter().all(|&start| strings.is_char_boundary(start));
+        if whole { Ok(Self { stored, text: sanitized, normalized, strings, frame }) } else { Err(Refusal::NotUtf8) }
     }
 
     /// Where it is stored.
@@ -175,74 +188,78 @@ impl<'a> Book<'a> {
     /// The layers, the oldest first; there is at least one.
     #[must_use]
     pub fn layers(&self) -> impl ExactSizeIterator<Item = Layer<'_, 'a>> {
-        self.layers.iter().map(|records| Layer { book: self, records })
+        self.frame.layers.iter().map(|records| Layer { book: self, records })
     }
 
     /// The strings of all layers, in the order of their ids.
     pub fn strings(&self) -> impl Iterator<Item = &'a str> {
-        let strings = self.strings;
-        self.starts.windows(2).map(move |pair| match *pair {
-            [start, end] => strings.get(start..end).unwrap_or_default(),
+        self.strings_between(0, self.string_count())
+    }
+
+    fn strings_between(&self, start: usize, end: usize) -> impl Iterator<Item = &'a str> {
+        let starts = self.frame.starts.get(start..=end).unwrap_or_default();
+        starts.windows(2).map(|pair| match *pair {
+            [start, end] => self.strings.get(start..end).unwrap_or_default(),
             _ => "",
         })
     }
 
     /// The contents of all layers.
     pub fn contents(&self) -> impl Iterator<Item = Content> {
-        self.layers.iter().flat_map(|layer| layer.contents.clone())
+        self.frame.layers.iter().flat_map(|layer| layer.contents.clone())
     }
 
     /// The segments of all layers.
     pub fn segments(&self) -> impl Iterator<Item = Segment> {
-        self.layers.iter().flat_map(|layer| layer.segments.clone())
+        self.frame.layers.iter().flat_map(|layer| layer.segments.clone())
     }
 
     /// How many strings there are.
     #[must_use]
     pub fn string_count(&self) -> usize {
-        self.starts.len().saturating_sub(1)
+        self.frame.starts.len().saturating_sub(1)
     }
 
     /// How many contents there are.
     #[must_use]
     pub fn content_count(&self) -> usize {
-        self.layers.last().map_or(0, |layer| layer.first[1] + layer.contents.len())
+        self.frame.layers.last().map_or(0, |layer| layer.behind()[1])
     }
 
     /// How many segments there are.
     #[must_use]
     pub fn segment_count(&self) -> usize {
-        self.layers.last().map_or(0, |layer| layer.first[2] + layer.segments.len())
+        self.frame.layers.last().map_or(0, |layer| layer.behind()[2])
     }
 
     /// The nodes, in the order of the text.
     #[must_use]
     pub fn nodes(&self) -> Records<'a, SourceNode> {
-        self.nodes.clone()
+        self.frame.nodes.clone()
     }
 
     /// The node at a place of the list.
     #[must_use]
     pub fn node(&self, place: usize) -> Option<SourceNode> {
-        self.nodes.at(place)
+        self.frame.nodes.at(place)
     }
 
     /// The pairs.
     #[must_use]
     pub fn pairs(&self) -> Records<'a, PairLink> {
-        self.pairs.clone()
+        self.frame.pairs.clone()
     }
 
     /// The containers.
     #[must_use]
     pub fn containers(&self) -> Records<'a, ContainerPair> {
-        self.containers.clone()
+        self.frame.containers.clone()
     }
 
     /// The diagnostics.
     #[must_use]
     pub fn diagnostics(&self) -> Records<'a, Diagnostic> {
-        self.diagnostics.clone()
+        self.frame.diagnostics.clone()
     }
 
     /// The part of the text that a span names. None where it lies outside of the text or cuts a character: the checks let a span do that.
@@ -261,7 +278,7 @@ impl<'a> Book<'a> {
     #[must_use]
     pub fn node_at_source(&self, offset: u32) -> Option<SourceNode> {
         // Nodes are in the order of the text (number 6), so this finds what `node_at_source` of the archive finds.
-        let (mut low, mut high) = (0, self.nodes.len());
+        let (mut low, mut high) = (0, self.frame.nodes.len());
         while low < high {
             let middle = low.midpoint(high);
             match self.node(middle) {
@@ -277,8 +294,8 @@ impl<'a> Book<'a> {
     #[must_use]
     pub fn resolve_str(&self, id: StrId) -> Option<&'a str> {
         let place = id.0 as usize;
-        let end = self.starts.get(place.checked_add(1)?)?;
-        self.strings.get(*self.starts.get(place)?..*end)
+        let end = self.frame.starts.get(place.checked_add(1)?)?;
+        self.strings.get(*self.frame.starts.get(place)?..*end)
     }
 
     /// The contents of a range. None where it lies outside of the pool or across layers; each range in an accepted book has its contents.
@@ -303,12 +320,12 @@ impl<'a> Book<'a> {
     ) -> Option<Records<'a, R>> {
         let (start, len) = (start as usize, len as usize);
         let first = |layer: &LayerRecords<'a>| layer.first.get(pool).copied().unwrap_or(0);
-        let last = self.layers.last()?;
+        let last = self.frame.layers.last()?;
         if len == 0 {
             return (start <= first(last) + records(last).len()).then(|| Records::new(&[]));
         }
-        let place = self.layers.partition_point(|layer| first(layer) <= start).checked_sub(1)?;
-        let layer = self.layers.get(place)?;
+        let place = self.frame.layers.partition_point(|layer| first(layer) <= start).checked_sub(1)?;
+        let layer = self.frame.layers.get(place)?;
         records(layer).part(start.checked_sub(first(layer))?, len)
     }
 
@@ -348,7 +365,7 @@ impl<'a> Book<'a> {
     ///
     /// Where the trees of all nodes of one of the books have more than `limit` contents and segments.
     pub fn shows_the_same(&self, other: &Book<'_>, limit: usize) -> Result<bool, TooLarge> {
-        let lists = (self.text, self.normalized, self.nodes.len()) == (other.text, other.normalized, other.nodes.len())
+        let lists = (self.text, self.normalized, self.frame.nodes.len()) == (other.text, other.normalized, other.frame.nodes.len())
             && self.pairs().eq(other.pairs())
             && self.containers().eq(other.containers())
             && self.diagnostics().eq(other.diagnostics());
@@ -366,29 +383,17 @@ impl<'a> Book<'a> {
     }
 }
 
-/// The lengths that a tape has.
-struct TextLengths<'a> {
-    text: usize,
-    normalized: usize,
-    strings: Vec<Records<'a, StringLength>>,
-}
-
-impl TextLengths<'_> {
-    fn starts(&self) -> Option<Vec<usize>> {
-        let mut starts = vec![0_usize];
-        let mut end = 0_usize;
-        for StringLength(len) in self.strings.iter().cloned().flatten() {
-            end = end.checked_add(len as usize)?;
-            starts.push(end);
-        }
-        Some(starts)
+impl<'a> From<&Book<'a>> for Stored<'a> {
+    fn from(book: &Book<'a>) -> Self {
+        book.stored()
     }
 }
 
 impl<'a> Layer<'_, 'a> {
     /// Its strings.
     pub fn strings(&self) -> impl Iterator<Item = &'a str> {
-        self.book.strings().skip(self.records.first[0]).take(self.records.strings)
+        let [first, ..] = self.records.first;
+        self.book.strings_between(first, first + self.records.strings.len())
     }
 
     /// Its contents.

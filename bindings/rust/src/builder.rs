@@ -31,29 +31,25 @@ use crate::syntax::{
 pub struct BookBuilder {
     text: String,
     normalized: String,
-    /// The layers that are done.
-    layers: Vec<Layer>,
-    /// The layer that is written.
-    layer: Layer,
-    /// How many strings, contents and segments the layers before have.
-    before: [usize; 3],
+    /// The bytes of all strings, and the length of each.
+    strings: String,
+    lengths: Vec<usize>,
+    contents: Vec<Content>,
+    segments: Vec<Segment>,
+    /// Where each layer but the last ends.
+    ends: Vec<Counts>,
     nodes: Vec<SourceNode>,
     pairs: Vec<PairLink>,
     containers: Vec<ContainerPair>,
     diagnostics: Vec<Diagnostic>,
 }
 
-#[derive(Debug, Clone, Default)]
-struct Layer {
-    strings: Vec<String>,
-    contents: Vec<Content>,
-    segments: Vec<Segment>,
-}
-
-impl Layer {
-    fn counts(&self) -> [usize; 3] {
-        [self.strings.len(), self.contents.len(), self.segments.len()]
-    }
+/// How many there are in each pool.
+#[derive(Debug, Clone, Copy, Default)]
+struct Counts {
+    strings: usize,
+    contents: usize,
+    segments: usize,
 }
 
 /// A number of the tape. One that has no place in a word is far above every limit; `stored` refuses it with 3.
@@ -76,9 +72,9 @@ impl BookBuilder {
             if place > 0 {
                 builder.layer();
             }
-            builder.layer.strings.extend(layer.strings().map(str::to_owned));
-            builder.layer.contents.extend(layer.contents());
-            builder.layer.segments.extend(layer.segments());
+            layer.strings().for_each(|string| _ = builder.string(string));
+            builder.contents.extend(layer.contents());
+            builder.segments.extend(layer.segments());
         }
         builder.raw_texts(book.text(), book.normalized());
         builder.nodes.extend(book.nodes());
@@ -90,27 +86,26 @@ impl BookBuilder {
 
     /// Begins a further layer. What was pushed stays in the layer before. A reading has one layer only.
     pub fn layer(&mut self) -> &mut Self {
-        let done = std::mem::take(&mut self.layer);
-        for (before, count) in self.before.iter_mut().zip(done.counts()) {
-            *before += count;
-        }
-        self.layers.push(done);
+        self.ends.push(self.counts());
         self
+    }
+
+    fn counts(&self) -> Counts {
+        Counts { strings: self.lengths.len(), contents: self.contents.len(), segments: self.segments.len() }
     }
 
     /// A new string of the layer; the same string twice is two strings.
     pub fn string(&mut self, string: &str) -> StrId {
-        let [before, ..] = self.before;
-        let id = StrId(word(before + self.layer.strings.len()));
-        self.layer.strings.push(string.to_owned());
+        let id = StrId(word(self.lengths.len()));
+        self.strings.push_str(string);
+        self.lengths.push(string.len());
         id
     }
 
     /// New contents of the layer.
     pub fn contents(&mut self, contents: &[Content]) -> ContentRange {
-        let [_, before, _] = self.before;
-        let start = word(before + self.layer.contents.len());
-        self.layer.contents.extend_from_slice(contents);
+        let start = word(self.contents.len());
+        self.contents.extend_from_slice(contents);
         ContentRange { start, len: word(contents.len()) }
     }
 
@@ -122,16 +117,18 @@ impl BookBuilder {
 
     /// New segments of the layer.
     pub fn segments(&mut self, segments: &[Segment]) -> SegRange {
-        let [.., before] = self.before;
-        let start = word(before + self.layer.segments.len());
-        self.layer.segments.extend_from_slice(segments);
+        let start = word(self.segments.len());
+        self.segments.extend_from_slice(segments);
         SegRange { start, len: word(segments.len()) }
     }
 
     /// The lowest level that a segment with this node may have: one above all levels in the runs that it names, as far as these are pushed.
     #[must_use]
     pub fn level_above(&self, node: &Node) -> u8 {
-        let contents = |range: ContentRange| self.contents_of(range).map(|content| self.content_level(content)).max().unwrap_or(0);
+        let contents = |range: ContentRange| {
+            let contents = run(&self.contents, range.start, range.len);
+            contents.iter().map(|content| self.content_level(*content)).max().unwrap_or(0)
+        };
         let inner = match *node {
             Node::Ruby { base: a, reading: b } | Node::MarginNote { base: a, note: b } => contents(a).max(contents(b)),
             Node::Format { target: range, .. } | Node::Heading { text: range } | Node::AngleQuote { content: range } => contents(range),
@@ -141,19 +138,9 @@ impl BookBuilder {
         inner.saturating_add(1)
     }
 
-    fn layers_pushed(&self) -> impl Iterator<Item = &Layer> {
-        self.layers.iter().chain([&self.layer])
-    }
-
-    fn contents_of(&self, range: ContentRange) -> impl Iterator<Item = Content> {
-        let all = self.layers_pushed().flat_map(|layer| layer.contents.iter().copied());
-        all.skip(range.start as usize).take(range.len as usize)
-    }
-
     fn content_level(&self, content: Content) -> u8 {
         let Content::Segments(range) = content else { return 0 };
-        let all = self.layers_pushed().flat_map(|layer| &layer.segments);
-        all.skip(range.start as usize).take(range.len as usize).map(|segment| segment.level).max().unwrap_or(0)
+        run(&self.segments, range.start, range.len).iter().map(|segment| segment.level).max().unwrap_or(0)
     }
 
     /// A segment with a node, of the lowest level that is right.
@@ -240,14 +227,16 @@ impl BookBuilder {
         put_head(tape, length(self.text.len())?, length(self.normalized.len())?);
         bytes.extend_from_slice(self.text.as_bytes());
         bytes.extend_from_slice(self.normalized.as_bytes());
-        for layer in self.layers_pushed() {
+        bytes.extend_from_slice(self.strings.as_bytes());
+        let mut start = Counts::default();
+        for end in self.ends.iter().copied().chain([self.counts()]) {
             tape.push(LAYER);
-            for string in &layer.strings {
-                StringLength(length(string.len())?).write(tape);
-                bytes.extend_from_slice(string.as_bytes());
+            for len in between(&self.lengths, start.strings, end.strings) {
+                StringLength(length(*len)?).write(tape);
             }
-            write_all(&layer.contents, tape);
-            write_all(&layer.segments, tape);
+            write_all(between(&self.contents, start.contents, end.contents), tape);
+            write_all(between(&self.segments, start.segments, end.segments), tape);
+            start = end;
         }
         write_all(&self.nodes, tape);
         write_all(&self.pairs, tape);
@@ -278,6 +267,15 @@ impl BookBuilder {
         calls::check_reading(&reading)?;
         Ok(reading)
     }
+}
+
+/// Of a pool, what a range names; nothing where it is not all there.
+fn run<T>(pool: &[T], start: u32, len: u32) -> &[T] {
+    between(pool, start as usize, (start as usize).saturating_add(len as usize))
+}
+
+fn between<T>(items: &[T], start: usize, end: usize) -> &[T] {
+    items.get(start..end).unwrap_or_default()
 }
 
 fn write_all<R: Record>(records: &[R], tape: &mut Vec<u8>) {

@@ -79,7 +79,7 @@ fn put_span(out: &mut Vec<u8>, span: Span) {
 }
 
 /// The length of a string.
-#[derive(Clone, Copy)]
+#[derive(Debug, Clone, Copy)]
 pub(crate) struct StringLength(pub u32);
 
 impl Record for StringLength {

@@ -156,7 +156,9 @@ fn random_merges() {
         let (start, end) = (r.below(text.len() + 1), r.below(text.len() + 1));
         let edit = Edit::new(start.min(end) as u32, start.max(end) as u32, r.text());
         let reading = reading_for(&old, edit, r);
-        match merge(&old, edit, &reading) {
+        let answer = merge(&old, edit, &reading);
+        assert_eq!(answer, lavish(&old, edit, &reading));
+        match answer {
             Ok(merged) => {
                 accepted += 1;
                 let book = Book::new(&merged.book).unwrap();
@@ -170,6 +172,16 @@ fn random_merges() {
         }
     }
     assert!(accepted > 100, "{accepted} {numbers:?}");
+}
+
+/// The same merge in buffers that are far too large: the memory that `merge` takes is enough.
+fn lavish(old: &StoredBook, edit: Edit<'_>, reading: &StoredBook) -> Result<Merged, Refusal> {
+    let (mut tape, mut bytes, mut work) = (vec![7; 1 << 16], vec![7; 1 << 16], vec![7; WORK_WORDS]);
+    let answer = raw::merge(old.as_stored(), edit, reading.as_stored(), Room::new(&mut tape, &mut bytes), &mut work)?;
+    tape.truncate(answer.book.tape);
+    bytes.truncate(answer.book.bytes);
+    let Merged { region, reused, reread, stats, .. } = answer;
+    Ok(Merged { book: StoredBook { tape, bytes }, region, reused, reread, stats })
 }
 
 /// A reading of the edit's region: random pools and nodes over the region's new text.
