@@ -54,22 +54,22 @@ enum aozora_refusal {
 static inline const char *aozora_refusal_message(uint32_t number) {
     switch (number) {
     case AOZORA_ACCEPTED: return "accepted";
-    case AOZORA_LAYOUT: return "the tape or the byte buffer is not laid out as a book or a reading: look at the order and sizes of the records, at kinds, tags and unused words, at the buffer's length, and at the layers";
+    case AOZORA_LAYOUT: return "the tape or the byte buffer is not laid out as a book or a reading: look at the order and the sizes of the records, at kinds, tags and unused words, at the buffer's length, and at the layers (a book has at least one, a reading exactly one)";
     case AOZORA_NOT_UTF8: return "a text, a normalized text, a string or the replacement is not UTF-8: look for a character that was cut in two";
     case AOZORA_OVER_LIMIT: return "a limit is passed: a text may have 16777215 bytes, a pool 1048575 items, another list 262143, a book 32 layers";
-    case AOZORA_ID_OR_RANGE: return "an id or a range points outside of its pool, or a range runs across two layers";
+    case AOZORA_ID_OR_RANGE: return "an id or a range points outside of its pool, or a range runs across two layers: look at the string ids and ranges of contents, segments and nodes";
     case AOZORA_LEVEL: return "a segment has a wrong level: it is 0 but for a Node segment, whose level is 1 to 32 and above all levels in the runs it names";
-    case AOZORA_PLACE: return "something lies at an impossible place: look at node spans, normalized offsets, pairs, containers and diagnostics";
-    case AOZORA_NORMALIZED_LENGTH: return "the normalized text is not as long as the text and the nodes' images make it";
+    case AOZORA_PLACE: return "something lies at an impossible place: look for empty, overlapping or unordered node spans, for spans past the text, for a normalized offset outside of its node's image, and at pairs, containers and diagnostics";
+    case AOZORA_NORMALIZED_LENGTH: return "the normalized text is not as long as the text and the nodes' images make it: an image has 3 bytes, or 7 with padding";
     case AOZORA_EDIT: return "the edit does not fit the text: its start is behind its end, its end behind the text, or one of them inside a character";
     case AOZORA_SAME_TEXT: return "the edit changes nothing: the replacement is what stands there already";
     case AOZORA_RUBY_FORMAT_DEPENDENCY: return "a Referenced Format that ends behind the edit's start has the base of an earlier Ruby as its target: parse the whole text";
     case AOZORA_WHOLE_TEXT: return "there is no safe cut around the edit, so the passage to reread would be the whole text: parse the whole text";
     case AOZORA_OTHER_TEXT: return "the reading is of another text than the corrected passage: ask for the region again and read that part of the new text";
     case AOZORA_UNBALANCED: return "the reading opens a block or warichu that it does not close, or closes one that it did not open: parse the whole text";
-    case AOZORA_UNCLOSED: return "the reading has a bracket without its partner: parse the whole text";
-    case AOZORA_NEW_RUBY_FORMAT_DEPENDENCY: return "the reading has a Ruby and a Referenced Format follows the passage, or a Referenced Format whose target is the base of an earlier Ruby: parse the whole text";
-    case AOZORA_CUT_IN_CHARACTER: return "the passage begins or ends inside a character of the normalized text";
+    case AOZORA_UNCLOSED: return "the reading has a bracket without its partner (UnclosedBracket or UnmatchedClose): parse the whole text";
+    case AOZORA_NEW_RUBY_FORMAT_DEPENDENCY: return "the reading has a Ruby and a Referenced Format follows the passage, or it has a Referenced Format whose target is the base of an earlier Ruby: parse the whole text";
+    case AOZORA_CUT_IN_CHARACTER: return "the passage begins or ends inside a character of the normalized text: the normalized text is not the images of the nodes";
     case AOZORA_LAYERS_FULL: return "the book has 32 layers already and the reading would add one: parse the whole text, which gives a book of one layer";
     case AOZORA_NO_ROOM: return "the result does not fit: a result buffer is too short, fewer than 16384 work words are lent, the merged book passes a limit, or its new layer has more than 3583 strings";
     default: return "not a number of document 01";

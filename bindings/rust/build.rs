@@ -9,8 +9,13 @@ fn main() {
         println!("cargo::error=the proved archive is for x86-64 Linux only");
         return;
     }
-    let dir = env::var_os("AOZORA_ARCHIVE_DIR")
-        .map_or_else(|| PathBuf::from(env::var_os("CARGO_MANIFEST_DIR").unwrap_or_default()).join("../../target/staticlib"), PathBuf::from);
+    let dir = env::var_os("AOZORA_ARCHIVE_DIR").map_or_else(
+        || {
+            PathBuf::from(env::var_os("CARGO_MANIFEST_DIR").unwrap_or_default())
+                .join("../../target/staticlib")
+        },
+        PathBuf::from,
+    );
     let archive = dir.join("libexports.a");
     println!("cargo::rerun-if-changed={}", archive.display());
     if !archive.is_file() {

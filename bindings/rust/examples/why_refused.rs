@@ -6,7 +6,11 @@ use std::process::ExitCode;
 use std::{env, fs};
 
 fn summary(book: &Book<'_>) {
-    println!("accepted: text {} bytes, normalized {} bytes", book.text().len(), book.normalized().len());
+    println!(
+        "accepted: text {} bytes, normalized {} bytes",
+        book.text().len(),
+        book.normalized().len()
+    );
     println!(
         "layers {}, strings {}, contents {}, segments {}",
         book.layers().len(),
@@ -33,7 +37,8 @@ fn summary(book: &Book<'_>) {
 
 fn main() -> ExitCode {
     let arguments: Vec<String> = env::args().skip(1).collect();
-    let (tape, bytes, reading) = match arguments.iter().map(String::as_str).collect::<Vec<_>>()[..] {
+    let (tape, bytes, reading) = match arguments.iter().map(String::as_str).collect::<Vec<_>>()[..]
+    {
         [tape, bytes] => (tape, bytes, false),
         [tape, bytes, "--reading"] => (tape, bytes, true),
         _ => {
@@ -49,7 +54,8 @@ fn main() -> ExitCode {
         }
     };
     let stored = Stored::new(&tape, &bytes);
-    let book: Result<Book<'_>, Refusal> = if reading { Book::reading(stored) } else { Book::new(stored) };
+    let book: Result<Book<'_>, Refusal> =
+        if reading { Book::reading(stored) } else { Book::new(stored) };
     match book {
         Ok(book) => {
             summary(&book);

@@ -5,20 +5,27 @@ use crate::record::{END, HEAD, LAYER, Operands, Record, StringLength};
 use crate::records::Records;
 use crate::refusal::Refusal;
 use crate::stored::Stored;
-use crate::syntax::{ContainerPair, Content, ContentRange, Diagnostic, PairLink, SegRange, Segment, SourceNode, Span, StrId};
+use crate::syntax::{
+    ContainerPair, Content, ContentRange, Diagnostic, PairLink, SegRange, Segment, SourceNode,
+    Span, StrId,
+};
 use crate::tree::{Shown, TooLarge, Tree};
 
-/// An accepted book or reading, where it is stored. Nothing of it is copied; only where its layers and strings begin is kept.
+/// An accepted book or reading, where it is stored. Nothing of it is copied; only where its layers
+/// and strings begin is kept.
 ///
-/// It is made only of what the proved [`check_book`](crate::check_book) or [`check_reading`](crate::check_reading) accepts. The reader itself is
-/// not proved. It trusts nothing silently: what it needs is tested again as the book is made, and these are the proved facts by which that never fails:
+/// It is made only of what the proved [`check_book`](crate::check_book) or
+/// [`check_reading`](crate::check_reading) accepts. The reader itself is not proved. It trusts
+/// nothing silently: what it needs is tested again as the book is made, and these are the proved
+/// facts by which that never fails:
 ///
 /// - the order and sizes of the records, kinds, tags and unused words: number 1;
 /// - both texts and each string are UTF-8: number 2;
 /// - ids and ranges of contents, segments and nodes have their string or run: number 4;
 /// - nothing is inside itself, and trees are at most 32 segments deep: number 5.
 ///
-/// The checks do not say that a span falls on characters (it may cut one), nor anything of the normalized text beyond its length and UTF-8.
+/// The checks do not say that a span falls on characters (it may cut one), nor anything of the
+/// normalized text beyond its length and UTF-8.
 #[derive(Debug, Clone)]
 pub struct Book<'a> {
     stored: Stored<'a>,
@@ -81,7 +88,8 @@ impl<'a> Tape<'a> {
 
     /// All records of this kind that stand here, if each has the shape of section 4.
     fn records<R: Record>(&mut self) -> Option<Records<'a, R>> {
-        let count = self.0.chunks(R::SIZE).take_while(|record| record.first() == Some(&R::COMMAND)).count();
+        let count =
+            self.0.chunks(R::SIZE).take_while(|record| record.first() == Some(&R::COMMAND)).count();
         let records = Records::new(self.take(count.checked_mul(R::SIZE)?)?);
         records.all_shaped().then_some(records)
     }
@@ -90,13 +98,22 @@ impl<'a> Tape<'a> {
 impl<'a> LayerRecords<'a> {
     fn of(tape: &mut Tape<'a>, first: [usize; 3]) -> Option<Self> {
         tape.byte(LAYER)?;
-        Some(Self { first, strings: tape.records()?, contents: tape.records()?, segments: tape.records()? })
+        Some(Self {
+            first,
+            strings: tape.records()?,
+            contents: tape.records()?,
+            segments: tape.records()?,
+        })
     }
 
     /// The numbers of the first string, content and segment behind it.
     fn behind(&self) -> [usize; 3] {
         let [strings, contents, segments] = self.first;
-        [strings + self.strings.len(), contents + self.contents.len(), segments + self.segments.len()]
+        [
+            strings + self.strings.len(),
+            contents + self.contents.len(),
+            segments + self.segments.len(),
+        ]
     }
 }
 
@@ -113,9 +130,19 @@ impl<'a> Frame<'a> {
             layers.push(LayerRecords::of(&mut tape, first)?);
         }
         let starts = starts(&layers)?;
-        let (nodes, pairs, containers, diagnostics) = (tape.records()?, tape.records()?, tape.records()?, tape.records()?);
+        let (nodes, pairs, containers, diagnostics) =
+            (tape.records()?, tape.records()?, tape.records()?, tape.records()?);
         tape.byte(END)?;
-        tape.0.is_empty().then_some(Self { text, normalized, starts, layers, nodes, pairs, containers, diagnostics })
+        tape.0.is_empty().then_some(Self {
+            text,
+            normalized,
+            starts,
+            layers,
+            nodes,
+            pairs,
+            containers,
+            diagnostics,
+        })
     }
 }
 
@@ -157,14 +184,20 @@ impl<'a> Book<'a> {
     pub(crate) fn walk(stored: Stored<'a>) -> Result<Self, Refusal> {
         let frame = Frame::of(stored.tape).ok_or(Refusal::Layout)?;
         let mut bytes = Tape(stored.bytes);
-        let mut text = |len| str::from_utf8(bytes.take(len).ok_or(Refusal::Layout)?).map_err(|_| Refusal::NotUtf8);
+        let mut text = |len| {
+            str::from_utf8(bytes.take(len).ok_or(Refusal::Layout)?).map_err(|_| Refusal::NotUtf8)
+        };
         let (sanitized, normalized) = (text(frame.text)?, text(frame.normalized)?);
         let strings = text(frame.starts.last().copied().unwrap_or(0))?;
         if !bytes.0.is_empty() {
             return Err(Refusal::Layout);
         }
         let whole = frame.starts.iter().all(|&start| strings.is_char_boundary(start));
-        if whole { Ok(Self { stored, text: sanitized, normalized, strings, frame }) } else { Err(Refusal::NotUtf8) }
+        if whole {
+            Ok(Self { stored, text: sanitized, normalized, strings, frame })
+        } else {
+            Err(Refusal::NotUtf8)
+        }
     }
 
     /// Where it is stored.
@@ -262,7 +295,8 @@ impl<'a> Book<'a> {
         self.frame.diagnostics.clone()
     }
 
-    /// The part of the text that a span names. None where it lies outside of the text or cuts a character: the checks let a span do that.
+    /// The part of the text that a span names. None where it lies outside of the text or cuts a
+    /// character: the checks let a span do that.
     #[must_use]
     pub fn source(&self, span: Span) -> Option<&'a str> {
         self.text.get(span.range())
@@ -274,10 +308,12 @@ impl<'a> Book<'a> {
         self.text.as_bytes().get(span.range())
     }
 
-    /// The node whose span has this offset of the text in it: the last that starts at or before it, if it ends behind it.
+    /// The node whose span has this offset of the text in it: the last that starts at or before it,
+    /// if it ends behind it.
     #[must_use]
     pub fn node_at_source(&self, offset: u32) -> Option<SourceNode> {
-        // Nodes are in the order of the text (number 6), so this finds what `node_at_source` of the archive finds.
+        // Nodes are in the order of the text (number 6), so this finds what `node_at_source` of the
+        // archive finds.
         let (mut low, mut high) = (0, self.frame.nodes.len());
         while low < high {
             let middle = low.midpoint(high);
@@ -290,7 +326,8 @@ impl<'a> Book<'a> {
         (offset < node.source_span.end).then_some(node)
     }
 
-    /// The string of an id. None where there is no such string; each id in an accepted book has one.
+    /// The string of an id. None where there is no such string; each id in an accepted book has
+    /// one.
     #[must_use]
     pub fn resolve_str(&self, id: StrId) -> Option<&'a str> {
         let place = id.0 as usize;
@@ -298,19 +335,22 @@ impl<'a> Book<'a> {
         self.strings.get(*self.frame.starts.get(place)?..*end)
     }
 
-    /// The contents of a range. None where it lies outside of the pool or across layers; each range in an accepted book has its contents.
+    /// The contents of a range. None where it lies outside of the pool or across layers; each range
+    /// in an accepted book has its contents.
     #[must_use]
     pub fn resolve_content_range(&self, range: ContentRange) -> Option<Records<'a, Content>> {
         self.run(range.start, range.len, 1, |layer| &layer.contents)
     }
 
-    /// The segments of a range. None where it lies outside of the pool or across layers; each range in an accepted book has its segments.
+    /// The segments of a range. None where it lies outside of the pool or across layers; each range
+    /// in an accepted book has its segments.
     #[must_use]
     pub fn resolve_seg_range(&self, range: SegRange) -> Option<Records<'a, Segment>> {
         self.run(range.start, range.len, 2, |layer| &layer.segments)
     }
 
-    /// Section 3: start and length together are at most the pool's count, and a run that is not empty lies in one layer.
+    /// Section 3: start and length together are at most the pool's count, and a run that is not
+    /// empty lies in one layer.
     fn run<R: Record>(
         &self,
         start: u32,
@@ -324,7 +364,8 @@ impl<'a> Book<'a> {
         if len == 0 {
             return (start <= first(last) + records(last).len()).then(|| Records::new(&[]));
         }
-        let place = self.frame.layers.partition_point(|layer| first(layer) <= start).checked_sub(1)?;
+        let place =
+            self.frame.layers.partition_point(|layer| first(layer) <= start).checked_sub(1)?;
         let layer = self.frame.layers.get(place)?;
         records(layer).part(start.checked_sub(first(layer))?, len)
     }
@@ -339,12 +380,14 @@ impl<'a> Book<'a> {
         }
     }
 
-    /// A node with strings in place of ids and lists in place of ranges. None of a block's open or close, which have no words.
+    /// A node with strings in place of ids and lists in place of ranges. None of a block's open or
+    /// close, which have no words.
     ///
     /// # Errors
     ///
-    /// Where the tree has more than [`MAX_TREE_ITEMS`](crate::MAX_TREE_ITEMS) contents and segments. A book may name its runs many times over: one of 1.5 kB can stand for
-    /// 2 to the 33 contents.
+    /// Where the tree has more than [`MAX_TREE_ITEMS`](crate::MAX_TREE_ITEMS) contents and
+    /// segments. A book may name its runs many times over: one of 1.5 kB can stand for 2 to the 33
+    /// contents.
     pub fn tree(&self, node: &SourceNode) -> Result<Option<Tree<'a>>, TooLarge> {
         self.tree_within(node, crate::tree::MAX_TREE_ITEMS)
     }
@@ -354,18 +397,25 @@ impl<'a> Book<'a> {
     /// # Errors
     ///
     /// Where the tree has more than `limit` contents and segments.
-    pub fn tree_within(&self, node: &SourceNode, limit: usize) -> Result<Option<Tree<'a>>, TooLarge> {
+    pub fn tree_within(
+        &self,
+        node: &SourceNode,
+        limit: usize,
+    ) -> Result<Option<Tree<'a>>, TooLarge> {
         Shown::new(self, limit).node_ref(node)
     }
 
-    /// Are the two books equal as section 7 says: both texts byte for byte; nodes, pairs, containers and diagnostics as lists, with strings in place of ids and
-    /// lists in place of ranges?
+    /// Are the two books equal as section 7 says: both texts byte for byte; nodes, pairs,
+    /// containers and diagnostics as lists, with strings in place of ids and lists in place of
+    /// ranges?
     ///
     /// # Errors
     ///
-    /// Where the trees of all nodes of one of the books have more than `limit` contents and segments.
+    /// Where the trees of all nodes of one of the books have more than `limit` contents and
+    /// segments.
     pub fn shows_the_same(&self, other: &Book<'_>, limit: usize) -> Result<bool, TooLarge> {
-        let lists = (self.text, self.normalized, self.frame.nodes.len()) == (other.text, other.normalized, other.frame.nodes.len())
+        let lists = (self.text, self.normalized, self.frame.nodes.len())
+            == (other.text, other.normalized, other.frame.nodes.len())
             && self.pairs().eq(other.pairs())
             && self.containers().eq(other.containers())
             && self.diagnostics().eq(other.diagnostics());
@@ -374,7 +424,9 @@ impl<'a> Book<'a> {
         }
         let (mut ours, mut theirs) = (Shown::new(self, limit), Shown::new(other, limit));
         for (a, b) in self.nodes().zip(other.nodes()) {
-            let places = |n: &SourceNode| (n.source_span, n.normalized_offset, n.node.class(), n.node.inline(), n.plain);
+            let places = |n: &SourceNode| {
+                (n.source_span, n.normalized_offset, n.node.class(), n.node.inline(), n.plain)
+            };
             if places(&a) != places(&b) || ours.node_ref(&a)? != theirs.node_ref(&b)? {
                 return Ok(false);
             }

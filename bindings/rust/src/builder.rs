@@ -6,14 +6,16 @@ use crate::record::{END, LAYER, Record, StringLength, put_head};
 use crate::refusal::Refusal;
 use crate::stored::StoredBook;
 use crate::syntax::{
-    ContainerPair, Content, ContentRange, Diagnostic, Node, NodeRef, NormalizedOffset, PairLink, Plain, SegRange, Segment, SegmentItem,
-    SourceNode, Span, StrId,
+    ContainerPair, Content, ContentRange, Diagnostic, Node, NodeRef, NormalizedOffset, PairLink,
+    Plain, SegRange, Segment, SegmentItem, SourceNode, Span, StrId,
 };
 
 /// Writes the tape and the byte buffer of a book or a reading.
 ///
-/// Texts and nodes are given in their order. [`text`](Self::text) and [`node`](Self::node) write the normalized text too and know all offsets; [`raw_texts`](Self::raw_texts) and
-/// [`raw_node`](Self::raw_node) take them as they are given. [`build`](Self::build) asks the proved `check_book`, so what it gives is a book.
+/// Texts and nodes are given in their order. [`text`](Self::text) and [`node`](Self::node) write
+/// the normalized text too and know all offsets; [`raw_texts`](Self::raw_texts) and
+/// [`raw_node`](Self::raw_node) take them as they are given. [`build`](Self::build) asks the proved
+/// `check_book`, so what it gives is a book.
 ///
 /// ```
 /// use aozora_incremental::{Book, BookBuilder, Node, NodeRef, Refusal};
@@ -52,7 +54,8 @@ struct Counts {
     segments: usize,
 }
 
-/// A number of the tape. One that has no place in a word is far above every limit; `stored` refuses it with 3.
+/// A number of the tape. One that has no place in a word is far above every limit; `stored` refuses
+/// it with 3.
 fn word(n: usize) -> u32 {
     u32::try_from(n).unwrap_or(u32::MAX)
 }
@@ -84,14 +87,19 @@ impl BookBuilder {
         builder
     }
 
-    /// Begins a further layer. What was pushed stays in the layer before. A reading has one layer only.
+    /// Begins a further layer. What was pushed stays in the layer before. A reading has one layer
+    /// only.
     pub fn layer(&mut self) -> &mut Self {
         self.ends.push(self.counts());
         self
     }
 
     fn counts(&self) -> Counts {
-        Counts { strings: self.lengths.len(), contents: self.contents.len(), segments: self.segments.len() }
+        Counts {
+            strings: self.lengths.len(),
+            contents: self.contents.len(),
+            segments: self.segments.len(),
+        }
     }
 
     /// A new string of the layer; the same string twice is two strings.
@@ -122,7 +130,8 @@ impl BookBuilder {
         SegRange { start, len: word(segments.len()) }
     }
 
-    /// The lowest level that a segment with this node may have: one above all levels in the runs that it names, as far as these are pushed.
+    /// The lowest level that a segment with this node may have: one above all levels in the runs
+    /// that it names, as far as these are pushed.
     #[must_use]
     pub fn level_above(&self, node: &Node) -> u8 {
         let contents = |range: ContentRange| {
@@ -130,8 +139,12 @@ impl BookBuilder {
             contents.iter().map(|content| self.content_level(*content)).max().unwrap_or(0)
         };
         let inner = match *node {
-            Node::Ruby { base: a, reading: b } | Node::MarginNote { base: a, note: b } => contents(a).max(contents(b)),
-            Node::Format { target: range, .. } | Node::Heading { text: range } | Node::AngleQuote { content: range } => contents(range),
+            Node::Ruby { base: a, reading: b } | Node::MarginNote { base: a, note: b } => {
+                contents(a).max(contents(b))
+            }
+            Node::Format { target: range, .. }
+            | Node::Heading { text: range }
+            | Node::AngleQuote { content: range } => contents(range),
             Node::Illustration(i) => i.caption.map_or(0, |caption| self.content_level(caption)),
             _ => 0,
         };
@@ -140,7 +153,11 @@ impl BookBuilder {
 
     fn content_level(&self, content: Content) -> u8 {
         let Content::Segments(range) = content else { return 0 };
-        run(&self.segments, range.start, range.len).iter().map(|segment| segment.level).max().unwrap_or(0)
+        run(&self.segments, range.start, range.len)
+            .iter()
+            .map(|segment| segment.level)
+            .max()
+            .unwrap_or(0)
     }
 
     /// A segment with a node, of the lowest level that is right.
@@ -154,7 +171,8 @@ impl BookBuilder {
         self.raw_texts(text, text)
     }
 
-    /// A node that stands for `source`, which goes into the text, and its image into the normalized text. Its plain words are 0.
+    /// A node that stands for `source`, which goes into the text, and its image into the normalized
+    /// text. Its plain words are 0.
     pub fn node(&mut self, source: &str, node: NodeRef) -> &mut Self {
         self.node_with_plain(source, node, [0; 2])
     }
@@ -250,7 +268,8 @@ impl BookBuilder {
     ///
     /// # Errors
     ///
-    /// The number that [`check_book`](crate::check_book) gives: 3 to 7, since the builder's types rule out 1 and 2.
+    /// The number that [`check_book`](crate::check_book) gives: 3 to 7, since the builder's types
+    /// rule out 1 and 2.
     pub fn build(&self) -> Result<StoredBook, Refusal> {
         let book = self.stored()?;
         calls::check_book(&book)?;
@@ -261,7 +280,8 @@ impl BookBuilder {
     ///
     /// # Errors
     ///
-    /// The number that [`check_reading`](crate::check_reading) gives: 1 where there is more than one layer, or 3 to 7.
+    /// The number that [`check_reading`](crate::check_reading) gives: 1 where there is more than
+    /// one layer, or 3 to 7.
     pub fn build_reading(&self) -> Result<StoredBook, Refusal> {
         let reading = self.stored()?;
         calls::check_reading(&reading)?;

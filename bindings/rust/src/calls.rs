@@ -26,9 +26,11 @@ pub fn check_reading<'a>(reading: impl Into<Stored<'a>>) -> Result<(), Refusal> 
     raw::check_reading(reading.into())
 }
 
-/// `diagnostics_allow_incremental`: has the book no diagnostic of kind `UnclosedBracket`, `UnmatchedClose` or `Other`?
+/// `diagnostics_allow_incremental`: has the book no diagnostic of kind `UnclosedBracket`,
+/// `UnmatchedClose` or `Other`?
 ///
-/// [`merge`] does not ask this; a caller that wants to parse the whole text in that case asks it first.
+/// [`merge`] does not ask this; a caller that wants to parse the whole text in that case asks it
+/// first.
 ///
 /// # Errors
 ///
@@ -37,16 +39,21 @@ pub fn diagnostics_allow_incremental<'a>(book: impl Into<Stored<'a>>) -> Result<
     raw::diagnostics_allow_incremental(book.into())
 }
 
-/// The place in [`Book::nodes`](crate::Book::nodes) of the node whose span has this offset of the text in it, if there is one.
+/// The place in [`Book::nodes`](crate::Book::nodes) of the node whose span has this offset of the
+/// text in it, if there is one.
 ///
 /// # Errors
 ///
 /// 1 to 7 where it is not a book.
-pub fn node_at_source<'a>(book: impl Into<Stored<'a>>, offset: u32) -> Result<Option<usize>, Refusal> {
+pub fn node_at_source<'a>(
+    book: impl Into<Stored<'a>>,
+    offset: u32,
+) -> Result<Option<usize>, Refusal> {
     raw::node_at_source(book.into(), offset)
 }
 
-/// The string of this number, if there is one. A [`Book`](crate::Book) gives many strings after one check.
+/// The string of this number, if there is one. A [`Book`](crate::Book) gives many strings after one
+/// check.
 ///
 /// # Errors
 ///
@@ -54,13 +61,15 @@ pub fn node_at_source<'a>(book: impl Into<Stored<'a>>, offset: u32) -> Result<Op
 pub fn lookup_str<'a>(book: impl Into<Stored<'a>>, id: StrId) -> Result<Option<&'a str>, Refusal> {
     let book = book.into();
     let place = raw::lookup_str(book, id)?;
-    // The contract of `lookup_str` gives the bytes of a string of the book, and number 2 that they are UTF-8.
+    // The contract of `lookup_str` gives the bytes of a string of the book, and number 2 that they
+    // are UTF-8.
     Ok(place.and_then(|place| str::from_utf8(book.bytes.get(place)?).ok()))
 }
 
 /// Records of the tape, from the place that the archive says.
 fn records<R: Record>(book: Stored<'_>, run: raw::Run) -> Records<'_, R> {
-    // The contracts of `lookup_contents` and `lookup_segments` give that so many records stand there; of an empty run the place says nothing.
+    // The contracts of `lookup_contents` and `lookup_segments` give that so many records stand
+    // there; of an empty run the place says nothing.
     let len = (run.count as usize).saturating_mul(R::SIZE);
     let end = run.place.saturating_add(len);
     Records::new(book.tape.get(run.place..end).unwrap_or_default())
@@ -71,7 +80,10 @@ fn records<R: Record>(book: Stored<'_>, run: raw::Run) -> Records<'_, R> {
 /// # Errors
 ///
 /// 1 to 7 where it is not a book.
-pub fn lookup_contents<'a>(book: impl Into<Stored<'a>>, range: ContentRange) -> Result<Option<Records<'a, Content>>, Refusal> {
+pub fn lookup_contents<'a>(
+    book: impl Into<Stored<'a>>,
+    range: ContentRange,
+) -> Result<Option<Records<'a, Content>>, Refusal> {
     let book = book.into();
     Ok(raw::lookup_contents(book, range)?.map(|run| records(book, run)))
 }
@@ -81,7 +93,10 @@ pub fn lookup_contents<'a>(book: impl Into<Stored<'a>>, range: ContentRange) -> 
 /// # Errors
 ///
 /// 1 to 7 where it is not a book.
-pub fn lookup_segments<'a>(book: impl Into<Stored<'a>>, range: SegRange) -> Result<Option<Records<'a, Segment>>, Refusal> {
+pub fn lookup_segments<'a>(
+    book: impl Into<Stored<'a>>,
+    range: SegRange,
+) -> Result<Option<Records<'a, Segment>>, Refusal> {
     let book = book.into();
     Ok(raw::lookup_segments(book, range)?.map(|run| records(book, run)))
 }
@@ -125,8 +140,9 @@ pub fn copy_book<'a>(book: impl Into<Stored<'a>>) -> Result<StoredBook, Refusal>
     Ok(copy)
 }
 
-/// The region of an edit, in offsets of the old text: the passage that has to be read again with the edit in it. [`Book::source`](crate::Book::source) or the text's bytes between its
-/// ends, with the edit applied, is what the reading has to be of.
+/// The region of an edit, in offsets of the old text: the passage that has to be read again with
+/// the edit in it. [`Book::source`](crate::Book::source) or the text's bytes between its ends, with
+/// the edit applied, is what the reading has to be of.
 ///
 /// # Errors
 ///
@@ -137,18 +153,23 @@ pub fn choose_region<'a>(book: impl Into<Stored<'a>>, edit: Edit<'_>) -> Result<
 
 /// Merges the reading of an edit's region into a book: the corrected book, in memory of its own.
 ///
-/// The result buffers grow to what the result needs: number 18 is left for a book that passes a limit, for a new layer of more than 3583 strings, and for
-/// a machine without memory.
+/// The result buffers grow to what the result needs: number 18 is left for a book that passes a
+/// limit, for a new layer of more than 3583 strings, and for a machine without memory.
 ///
 /// # Errors
 ///
 /// A number 1 to 18: [`Refusal`] says what each means.
-pub fn merge<'a, 'b>(book: impl Into<Stored<'a>>, edit: Edit<'_>, reading: impl Into<Stored<'b>>) -> Result<Merged, Refusal> {
+pub fn merge<'a, 'b>(
+    book: impl Into<Stored<'a>>,
+    edit: Edit<'_>,
+    reading: impl Into<Stored<'b>>,
+) -> Result<Merged, Refusal> {
     let (book, reading) = (book.into(), reading.into());
     let mut work = zeros(WORK_WORDS)?;
     let room = room::first(lengths(book), edit, reading);
     match merge_into(book, edit, reading, room, &mut work) {
-        // 18 comes last, so both tapes are accepted. A reading may name an item many times, and each time is stored.
+        // 18 comes last, so both tapes are accepted. A reading may name an item many times, and
+        // each time is stored.
         Err(Refusal::NoRoom) => {
             let room = room::enough(book, edit, reading).ok_or(Refusal::NoRoom)?;
             merge_into(book, edit, reading, room, &mut work)
@@ -157,7 +178,13 @@ pub fn merge<'a, 'b>(book: impl Into<Stored<'a>>, edit: Edit<'_>, reading: impl 
     }
 }
 
-fn merge_into(book: Stored<'_>, edit: Edit<'_>, reading: Stored<'_>, room: Lengths, work: &mut [u32]) -> Result<Merged, Refusal> {
+fn merge_into(
+    book: Stored<'_>,
+    edit: Edit<'_>,
+    reading: Stored<'_>,
+    room: Lengths,
+    work: &mut [u32],
+) -> Result<Merged, Refusal> {
     let mut out = buffers(room)?;
     let answer = raw::merge(book, edit, reading, lent(&mut out), work)?;
     Ok(cut(out, answer))
@@ -165,9 +192,11 @@ fn merge_into(book: Stored<'_>, edit: Edit<'_>, reading: Stored<'_>, room: Lengt
 
 /// Merges two corrections in both orders: four books. The one called earlier lies before the other.
 ///
-/// All four merges are made, whatever they answer; after a refused first merge the second is refused with 1. Where all four are accepted and the
-/// two regions are separate, it is proved that the final books are equal with strings in place of ids ([`Book::shows_the_same`](crate::Book::shows_the_same)), that the sums of
-/// `reread` are equal, and that each reference into the first book keeps its meaning.
+/// All four merges are made, whatever they answer; after a refused first merge the second is
+/// refused with 1. Where all four are accepted and the two regions are separate, it is proved that
+/// the final books are equal with strings in place of ids
+/// ([`Book::shows_the_same`](crate::Book::shows_the_same)), that the sums of `reread` are equal,
+/// and that each reference into the first book keeps its meaning.
 pub fn merge_both_orders<'a>(
     book: impl Into<Stored<'a>>,
     earlier: Correction<'_>,
@@ -208,7 +237,8 @@ fn accepted(answer: &Result<Merged, Refusal>) -> Option<Stored<'_>> {
     answer.as_ref().ok().map(|merged| merged.book.as_stored())
 }
 
-/// The rooms of the merges that were refused with 18, as large as they have to be; the others as they are. Each grows at most once.
+/// The rooms of the merges that were refused with 18, as large as they have to be; the others as
+/// they are. Each grows at most once.
 fn wanted_rooms(
     book: Stored<'_>,
     earlier: Correction<'_>,
@@ -216,15 +246,30 @@ fn wanted_rooms(
     answers: &Orders<Result<Merged, Refusal>>,
     rooms: Orders<Lengths>,
 ) -> Orders<Lengths> {
-    let wanted = |old: Option<Stored<'_>>, c: Correction<'_>, answer: &Result<Merged, Refusal>, room: Lengths| match (old, answer) {
-        (Some(old), Err(Refusal::NoRoom)) => room::enough(old, c.edit, c.reading).map_or(room, |enough| larger(room, enough)),
+    let wanted = |old: Option<Stored<'_>>,
+                  c: Correction<'_>,
+                  answer: &Result<Merged, Refusal>,
+                  room: Lengths| match (old, answer) {
+        (Some(old), Err(Refusal::NoRoom)) => {
+            room::enough(old, c.edit, c.reading).map_or(room, |enough| larger(room, enough))
+        }
         _ => room,
     };
     Orders {
         earlier_first: wanted(Some(book), earlier, &answers.earlier_first, rooms.earlier_first),
-        later_second: wanted(accepted(&answers.earlier_first), later, &answers.later_second, rooms.later_second),
+        later_second: wanted(
+            accepted(&answers.earlier_first),
+            later,
+            &answers.later_second,
+            rooms.later_second,
+        ),
         later_first: wanted(Some(book), later, &answers.later_first, rooms.later_first),
-        earlier_second: wanted(accepted(&answers.later_first), earlier, &answers.earlier_second, rooms.earlier_second),
+        earlier_second: wanted(
+            accepted(&answers.later_first),
+            earlier,
+            &answers.earlier_second,
+            rooms.earlier_second,
+        ),
     }
 }
 

@@ -1,9 +1,11 @@
 //! The entries of the archive: the only `unsafe` code of this crate.
 //!
-//! The archive is `libexports.a`, made of crates/exports; bindings/c/aozora.h declares the same for C. Each entry is proved there to meet its contract on
-//! every input. What a contract cannot say, because it is about pointers, is left to the caller in C: a pointer is not null and is valid for its
-//! length, and what is written overlaps with nothing else that is passed. Here the type of a slice gives all three: `as_ptr` of a slice is
-//! never null, it is valid for `len` items for the time of the call, and a `&mut` slice overlaps with no other. Nothing is kept behind a call.
+//! The archive is `libexports.a`, made of crates/exports; bindings/c/aozora.h declares the same for
+//! C. Each entry is proved there to meet its contract on every input. What a contract cannot say,
+//! because it is about pointers, is left to the caller in C: a pointer is not null and is valid for
+//! its length, and what is written overlaps with nothing else that is passed. Here the type of a
+//! slice gives all three: `as_ptr` of a slice is never null, it is valid for `len` items for the
+//! time of the call, and a `&mut` slice overlaps with no other. Nothing is kept behind a call.
 
 use crate::stored::{Correction, Edit, Orders, Room, Stored};
 
@@ -77,13 +79,54 @@ pub(crate) struct OrdersAnswer {
 }
 
 unsafe extern "C" {
-    fn aozora_check_book(tape: *const u8, tape_len: usize, bytes: *const u8, bytes_len: usize) -> u32;
-    fn aozora_check_reading(tape: *const u8, tape_len: usize, bytes: *const u8, bytes_len: usize) -> u32;
-    fn aozora_diagnostics_allow_incremental(tape: *const u8, tape_len: usize, bytes: *const u8, bytes_len: usize) -> AllowedAnswer;
-    fn aozora_node_at_source(tape: *const u8, tape_len: usize, bytes: *const u8, bytes_len: usize, offset: u32) -> NodeAnswer;
-    fn aozora_lookup_str(tape: *const u8, tape_len: usize, bytes: *const u8, bytes_len: usize, id: u32) -> StrAnswer;
-    fn aozora_lookup_contents(tape: *const u8, tape_len: usize, bytes: *const u8, bytes_len: usize, start: u32, len: u32) -> RangeAnswer;
-    fn aozora_lookup_segments(tape: *const u8, tape_len: usize, bytes: *const u8, bytes_len: usize, start: u32, len: u32) -> RangeAnswer;
+    fn aozora_check_book(
+        tape: *const u8,
+        tape_len: usize,
+        bytes: *const u8,
+        bytes_len: usize,
+    ) -> u32;
+    fn aozora_check_reading(
+        tape: *const u8,
+        tape_len: usize,
+        bytes: *const u8,
+        bytes_len: usize,
+    ) -> u32;
+    fn aozora_diagnostics_allow_incremental(
+        tape: *const u8,
+        tape_len: usize,
+        bytes: *const u8,
+        bytes_len: usize,
+    ) -> AllowedAnswer;
+    fn aozora_node_at_source(
+        tape: *const u8,
+        tape_len: usize,
+        bytes: *const u8,
+        bytes_len: usize,
+        offset: u32,
+    ) -> NodeAnswer;
+    fn aozora_lookup_str(
+        tape: *const u8,
+        tape_len: usize,
+        bytes: *const u8,
+        bytes_len: usize,
+        id: u32,
+    ) -> StrAnswer;
+    fn aozora_lookup_contents(
+        tape: *const u8,
+        tape_len: usize,
+        bytes: *const u8,
+        bytes_len: usize,
+        start: u32,
+        len: u32,
+    ) -> RangeAnswer;
+    fn aozora_lookup_segments(
+        tape: *const u8,
+        tape_len: usize,
+        bytes: *const u8,
+        bytes_len: usize,
+        start: u32,
+        len: u32,
+    ) -> RangeAnswer;
     fn aozora_copy_book(
         tape: *const u8,
         tape_len: usize,
@@ -169,42 +212,105 @@ unsafe extern "C" {
 }
 
 pub(crate) fn check_book(book: Stored<'_>) -> u32 {
-    // SAFETY: both pointers are those of borrowed slices: not null, valid for their lengths; nothing is written.
-    unsafe { aozora_check_book(book.tape.as_ptr(), book.tape.len(), book.bytes.as_ptr(), book.bytes.len()) }
+    // SAFETY: both pointers are those of borrowed slices: not null, valid for their lengths;
+    // nothing is written.
+    unsafe {
+        aozora_check_book(
+            book.tape.as_ptr(),
+            book.tape.len(),
+            book.bytes.as_ptr(),
+            book.bytes.len(),
+        )
+    }
 }
 
 pub(crate) fn check_reading(reading: Stored<'_>) -> u32 {
-    // SAFETY: both pointers are those of borrowed slices: not null, valid for their lengths; nothing is written.
-    unsafe { aozora_check_reading(reading.tape.as_ptr(), reading.tape.len(), reading.bytes.as_ptr(), reading.bytes.len()) }
+    // SAFETY: both pointers are those of borrowed slices: not null, valid for their lengths;
+    // nothing is written.
+    unsafe {
+        aozora_check_reading(
+            reading.tape.as_ptr(),
+            reading.tape.len(),
+            reading.bytes.as_ptr(),
+            reading.bytes.len(),
+        )
+    }
 }
 
 pub(crate) fn diagnostics_allow_incremental(book: Stored<'_>) -> AllowedAnswer {
-    // SAFETY: both pointers are those of borrowed slices: not null, valid for their lengths; nothing is written.
-    unsafe { aozora_diagnostics_allow_incremental(book.tape.as_ptr(), book.tape.len(), book.bytes.as_ptr(), book.bytes.len()) }
+    // SAFETY: both pointers are those of borrowed slices: not null, valid for their lengths;
+    // nothing is written.
+    unsafe {
+        aozora_diagnostics_allow_incremental(
+            book.tape.as_ptr(),
+            book.tape.len(),
+            book.bytes.as_ptr(),
+            book.bytes.len(),
+        )
+    }
 }
 
 pub(crate) fn node_at_source(book: Stored<'_>, offset: u32) -> NodeAnswer {
-    // SAFETY: both pointers are those of borrowed slices: not null, valid for their lengths; nothing is written.
-    unsafe { aozora_node_at_source(book.tape.as_ptr(), book.tape.len(), book.bytes.as_ptr(), book.bytes.len(), offset) }
+    // SAFETY: both pointers are those of borrowed slices: not null, valid for their lengths;
+    // nothing is written.
+    unsafe {
+        aozora_node_at_source(
+            book.tape.as_ptr(),
+            book.tape.len(),
+            book.bytes.as_ptr(),
+            book.bytes.len(),
+            offset,
+        )
+    }
 }
 
 pub(crate) fn lookup_str(book: Stored<'_>, id: u32) -> StrAnswer {
-    // SAFETY: both pointers are those of borrowed slices: not null, valid for their lengths; nothing is written.
-    unsafe { aozora_lookup_str(book.tape.as_ptr(), book.tape.len(), book.bytes.as_ptr(), book.bytes.len(), id) }
+    // SAFETY: both pointers are those of borrowed slices: not null, valid for their lengths;
+    // nothing is written.
+    unsafe {
+        aozora_lookup_str(
+            book.tape.as_ptr(),
+            book.tape.len(),
+            book.bytes.as_ptr(),
+            book.bytes.len(),
+            id,
+        )
+    }
 }
 
 pub(crate) fn lookup_contents(book: Stored<'_>, start: u32, len: u32) -> RangeAnswer {
-    // SAFETY: both pointers are those of borrowed slices: not null, valid for their lengths; nothing is written.
-    unsafe { aozora_lookup_contents(book.tape.as_ptr(), book.tape.len(), book.bytes.as_ptr(), book.bytes.len(), start, len) }
+    // SAFETY: both pointers are those of borrowed slices: not null, valid for their lengths;
+    // nothing is written.
+    unsafe {
+        aozora_lookup_contents(
+            book.tape.as_ptr(),
+            book.tape.len(),
+            book.bytes.as_ptr(),
+            book.bytes.len(),
+            start,
+            len,
+        )
+    }
 }
 
 pub(crate) fn lookup_segments(book: Stored<'_>, start: u32, len: u32) -> RangeAnswer {
-    // SAFETY: both pointers are those of borrowed slices: not null, valid for their lengths; nothing is written.
-    unsafe { aozora_lookup_segments(book.tape.as_ptr(), book.tape.len(), book.bytes.as_ptr(), book.bytes.len(), start, len) }
+    // SAFETY: both pointers are those of borrowed slices: not null, valid for their lengths;
+    // nothing is written.
+    unsafe {
+        aozora_lookup_segments(
+            book.tape.as_ptr(),
+            book.tape.len(),
+            book.bytes.as_ptr(),
+            book.bytes.len(),
+            start,
+            len,
+        )
+    }
 }
 
 pub(crate) fn copy_book(book: Stored<'_>, room: Room<'_>) -> CopyAnswer {
-    // SAFETY: all pointers are those of borrowed slices: not null, valid for their lengths; the two that are written are borrowed `&mut`, so they overlap with nothing that is passed.
+    // SAFETY: all pointers are those of borrowed slices: not null, valid for their lengths; the two
+    // that are written are borrowed `&mut`, so they overlap with nothing that is passed.
     unsafe {
         aozora_copy_book(
             book.tape.as_ptr(),
@@ -220,7 +326,8 @@ pub(crate) fn copy_book(book: Stored<'_>, room: Room<'_>) -> CopyAnswer {
 }
 
 pub(crate) fn choose_region(book: Stored<'_>, edit: Edit<'_>, words: &mut [u32]) -> RegionAnswer {
-    // SAFETY: all pointers are those of borrowed slices: not null, valid for their lengths; the words are borrowed `&mut`, so they overlap with nothing that is passed.
+    // SAFETY: all pointers are those of borrowed slices: not null, valid for their lengths; the
+    // words are borrowed `&mut`, so they overlap with nothing that is passed.
     unsafe {
         aozora_choose_region(
             book.tape.as_ptr(),
@@ -237,8 +344,15 @@ pub(crate) fn choose_region(book: Stored<'_>, edit: Edit<'_>, words: &mut [u32])
     }
 }
 
-pub(crate) fn merge(book: Stored<'_>, edit: Edit<'_>, reading: Stored<'_>, room: Room<'_>, work: &mut [u32]) -> MergeAnswer {
-    // SAFETY: all pointers are those of borrowed slices: not null, valid for their lengths; the three that are written are borrowed `&mut`, so they overlap with nothing that is passed.
+pub(crate) fn merge(
+    book: Stored<'_>,
+    edit: Edit<'_>,
+    reading: Stored<'_>,
+    room: Room<'_>,
+    work: &mut [u32],
+) -> MergeAnswer {
+    // SAFETY: all pointers are those of borrowed slices: not null, valid for their lengths; the
+    // three that are written are borrowed `&mut`, so they overlap with nothing that is passed.
     unsafe {
         aozora_merge(
             book.tape.as_ptr(),
@@ -270,7 +384,9 @@ pub(crate) fn merge_both_orders(
     rooms: Orders<Room<'_>>,
     work: &mut [u32],
 ) -> OrdersAnswer {
-    // SAFETY: all pointers are those of borrowed slices: not null, valid for their lengths; the nine that are written are each borrowed `&mut`, so they overlap with nothing else that is passed.
+    // SAFETY: all pointers are those of borrowed slices: not null, valid for their lengths; the
+    // nine that are written are each borrowed `&mut`, so they overlap with nothing else that is
+    // passed.
     unsafe {
         aozora_merge_both_orders(
             book.tape.as_ptr(),
@@ -331,7 +447,8 @@ mod tests {
 
     macro_rules! layout {
         ($($c:literal $rust:ty { $($field:ident),+ })+) => {
-            /// One line for each struct: its name, size and alignment, and of each field name, offset and size.
+            /// One line for each struct: its name, size and alignment, and of each field name,
+            /// offset and size.
             fn ours() -> String {
                 let mut out = String::new();
                 $(
@@ -373,7 +490,11 @@ mod tests {
         std::fs::write(dir.join("layout.c"), program()).unwrap();
         let header = Path::new(env!("CARGO_MANIFEST_DIR")).join("../c");
         let mut cc = Command::new("cc");
-        cc.args(["-std=c11", "-Wall", "-Werror", "-I"]).arg(header).arg("-o").arg(dir.join("layout")).arg(dir.join("layout.c"));
+        cc.args(["-std=c11", "-Wall", "-Werror", "-I"])
+            .arg(header)
+            .arg("-o")
+            .arg(dir.join("layout"))
+            .arg(dir.join("layout.c"));
         assert!(cc.status().unwrap().success());
         let theirs = Command::new(dir.join("layout")).output().unwrap().stdout;
         std::fs::remove_dir_all(&dir).unwrap();

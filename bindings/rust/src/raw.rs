@@ -1,7 +1,8 @@
-//! The entries as they are: on buffers that the caller lends, with answers in numbers. Nothing here allocates.
+//! The entries as they are: on buffers that the caller lends, with answers in numbers. Nothing here
+//! allocates.
 //!
-//! Each function is one call of the proved archive and a conversion of its answer. The functions of the crate's root do the same with memory of their own, and
-//! answer with strings and records.
+//! Each function is one call of the proved archive and a conversion of its answer. The functions of
+//! the crate's root do the same with memory of their own, and answer with strings and records.
 
 use std::ops::Range;
 
@@ -28,7 +29,8 @@ pub fn check_reading(reading: Stored<'_>) -> Result<(), Refusal> {
     Refusal::of_answer(ffi::check_reading(reading))
 }
 
-/// `diagnostics_allow_incremental` of a book: has it no diagnostic of a kind from `UnclosedBracket` on? The merge does not ask it; a caller may.
+/// `diagnostics_allow_incremental` of a book: has it no diagnostic of a kind from `UnclosedBracket`
+/// on? The merge does not ask it; a caller may.
 ///
 /// # Errors
 ///
@@ -90,7 +92,8 @@ pub fn lookup_segments(book: Stored<'_>, range: SegRange) -> Result<Option<Run>,
     run(&ffi::lookup_segments(book, range.start, range.len))
 }
 
-/// Copies a book. Both buffers are written whole: the copy and zeros behind it, or zeros after a refusal.
+/// Copies a book. Both buffers are written whole: the copy and zeros behind it, or zeros after a
+/// refusal.
 ///
 /// # Errors
 ///
@@ -100,8 +103,8 @@ pub fn copy_book(book: Stored<'_>, room: Room<'_>) -> Result<Lengths, Refusal> {
     Refusal::of_answer(answer.number).map(|()| Lengths { tape: answer.tape, bytes: answer.bytes })
 }
 
-/// The region of an edit, in offsets of the old text: what has to be read again. The words may be any number, also none; more make it faster. They come
-/// back as zeros.
+/// The region of an edit, in offsets of the old text: what has to be read again. The words may be
+/// any number, also none; more make it faster. They come back as zeros.
 ///
 /// # Errors
 ///
@@ -130,21 +133,29 @@ fn merged(answer: &ffi::MergeAnswer) -> Result<Merged<Lengths>, Refusal> {
     })
 }
 
-/// Merges the reading of an edit's region into a book. The two result buffers are written whole: the merged book and zeros behind it, or zeros after a
-/// refusal. `work` are [`WORK_WORDS`](crate::WORK_WORDS) words or more, and come back as zeros.
+/// Merges the reading of an edit's region into a book. The two result buffers are written whole:
+/// the merged book and zeros behind it, or zeros after a refusal. `work` are
+/// [`WORK_WORDS`](crate::WORK_WORDS) words or more, and come back as zeros.
 ///
 /// # Errors
 ///
 /// A number 1 to 18.
-pub fn merge(book: Stored<'_>, edit: Edit<'_>, reading: Stored<'_>, room: Room<'_>, work: &mut [u32]) -> Result<Merged<Lengths>, Refusal> {
+pub fn merge(
+    book: Stored<'_>,
+    edit: Edit<'_>,
+    reading: Stored<'_>,
+    room: Room<'_>,
+    work: &mut [u32],
+) -> Result<Merged<Lengths>, Refusal> {
     merged(&ffi::merge(book, edit, reading, room, work))
 }
 
-/// Merges two corrections, of which the one called earlier lies before the other, in both orders: four merges, all of which are made whatever they
-/// answer. After a refused first merge its book is empty, and the second is refused with 1.
+/// Merges two corrections, of which the one called earlier lies before the other, in both orders:
+/// four merges, all of which are made whatever they answer. After a refused first merge its book is
+/// empty, and the second is refused with 1.
 ///
-/// Where all four are accepted and the two regions are separate, the two final books are equal, the sums of `reread` too, and each reference into the
-/// first book keeps its meaning.
+/// Where all four are accepted and the two regions are separate, the two final books are equal, the
+/// sums of `reread` too, and each reference into the first book keeps its meaning.
 pub fn merge_both_orders(
     book: Stored<'_>,
     earlier: Correction<'_>,

@@ -1,16 +1,19 @@
-//! The records of a tape, each of a fixed size: document 01, section 4; docs/FORMAT.md has the table.
+//! The records of a tape, each of a fixed size: document 01, section 4; docs/FORMAT.md has the
+//! table.
 
 use crate::syntax::{
-    ContainerPair, Content, ContentRange, Diagnostic, DiagnosticKind, Directive, DirectiveKind, ForwardOrigin, ForwardPayload, Gaiji,
-    GaijiCanonical, Illustration, NO_STRING, Node, NodeKind, NodeRef, NormalizedOffset, PairKind, PairLink, Plain, SegRange, Segment,
-    SegmentItem, SourceNode, Span, StrId,
+    ContainerPair, Content, ContentRange, Diagnostic, DiagnosticKind, Directive, DirectiveKind,
+    ForwardOrigin, ForwardPayload, Gaiji, GaijiCanonical, Illustration, NO_STRING, Node, NodeKind,
+    NodeRef, NormalizedOffset, PairKind, PairLink, Plain, SegRange, Segment, SegmentItem,
+    SourceNode, Span, StrId,
 };
 
 pub(crate) const HEAD: u8 = 1;
 pub(crate) const LAYER: u8 = 2;
 pub(crate) const END: u8 = 10;
 
-/// Sealed: the module is private. A kind of record: its command byte, its size with that byte, and both directions.
+/// Sealed: the module is private. A kind of record: its command byte, its size with that byte, and
+/// both directions.
 pub trait Record: Sized + Copy {
     const COMMAND: u8;
     const SIZE: usize;
@@ -201,14 +204,20 @@ fn format_of(tag: u8, words: [u32; 6]) -> Option<Node> {
         (3, id) => ForwardPayload::QuotedTarget(StrId(id)),
         _ => return None,
     };
-    Some(Node::Format { target: contents(start, len), origin: ForwardOrigin::from_number(tag / 4)?, payload })
+    Some(Node::Format {
+        target: contents(start, len),
+        origin: ForwardOrigin::from_number(tag / 4)?,
+        payload,
+    })
 }
 
 fn gaiji_of(tag: u8, words: [u32; 6]) -> Option<Gaiji> {
     let (hint, canonical) = match (tag, words) {
         (0, [hint, 0, 0, 0, 0, 0]) => (hint, GaijiCanonical::MenKuTen),
         (1, [hint, 0, 0, 0, 0, 0]) => (hint, GaijiCanonical::Unicode),
-        (2, [hint, mencode, 0, 0, 0, 0]) => (hint, GaijiCanonical::Unresolved { mencode: missing(mencode) }),
+        (2, [hint, mencode, 0, 0, 0, 0]) => {
+            (hint, GaijiCanonical::Unresolved { mencode: missing(mencode) })
+        }
         _ => return None,
     };
     Some(Gaiji { hint: StrId(hint), canonical })
@@ -238,7 +247,9 @@ fn directive_of(tag: u8, words: [u32; 6]) -> Option<Directive> {
 
 fn node_of(kind: NodeKind, tag: u8, words: [u32; 6]) -> Option<Node> {
     match (kind, tag, words) {
-        (NodeKind::Ruby, 0, [b, n, r, m, 0, 0]) => Some(Node::Ruby { base: contents(b, n), reading: contents(r, m) }),
+        (NodeKind::Ruby, 0, [b, n, r, m, 0, 0]) => {
+            Some(Node::Ruby { base: contents(b, n), reading: contents(r, m) })
+        }
         (NodeKind::Format, ..) => format_of(tag, words),
         (NodeKind::Gaiji, ..) => gaiji_of(tag, words).map(Node::Gaiji),
         (NodeKind::Line, 0, [0, 0, 0, 0, 0, 0]) => Some(Node::Line),
@@ -247,12 +258,18 @@ fn node_of(kind: NodeKind, tag: u8, words: [u32; 6]) -> Option<Node> {
         (NodeKind::BodyEnd, 0, [0, 0, 0, 0, 0, 0]) => Some(Node::BodyEnd),
         (NodeKind::ForcedBreak, 0, [0, 0, 0, 0, 0, 0]) => Some(Node::ForcedBreak),
         (NodeKind::Heading, 0, [s, n, 0, 0, 0, 0]) => Some(Node::Heading { text: contents(s, n) }),
-        (NodeKind::HeadingHint, 0, [id, 0, 0, 0, 0, 0]) => Some(Node::HeadingHint { target: StrId(id) }),
+        (NodeKind::HeadingHint, 0, [id, 0, 0, 0, 0, 0]) => {
+            Some(Node::HeadingHint { target: StrId(id) })
+        }
         (NodeKind::Illustration, ..) => illustration_of(tag, words).map(Node::Illustration),
         (NodeKind::Kaeriten, 0, [id, 0, 0, 0, 0, 0]) => Some(Node::Kaeriten { mark: StrId(id) }),
         (NodeKind::Directive, ..) => directive_of(tag, words).map(Node::Directive),
-        (NodeKind::AngleQuote, 0, [s, n, 0, 0, 0, 0]) => Some(Node::AngleQuote { content: contents(s, n) }),
-        (NodeKind::MarginNote, 0, [b, n, s, m, 0, 0]) => Some(Node::MarginNote { base: contents(b, n), note: contents(s, m) }),
+        (NodeKind::AngleQuote, 0, [s, n, 0, 0, 0, 0]) => {
+            Some(Node::AngleQuote { content: contents(s, n) })
+        }
+        (NodeKind::MarginNote, 0, [b, n, s, m, 0, 0]) => {
+            Some(Node::MarginNote { base: contents(b, n), note: contents(s, m) })
+        }
         _ => None,
     }
 }
@@ -272,7 +289,17 @@ fn illustration_words(i: &Illustration) -> (u8, [u32; 6]) {
         Some(Content::Plain(id)) => (1, id.0, 0),
         Some(Content::Segments(range)) => (2, range.start, range.len),
     };
-    (tag, [i.file.0, optional(i.number), optional(i.dimensions), optional(i.description), first, second])
+    (
+        tag,
+        [
+            i.file.0,
+            optional(i.number),
+            optional(i.dimensions),
+            optional(i.description),
+            first,
+            second,
+        ],
+    )
 }
 
 fn directive_words(directive: Directive) -> (u8, [u32; 6]) {
@@ -295,7 +322,9 @@ fn words_of(node: &Node) -> (u8, [u32; 6]) {
             (origin.number() * 4 + tag, [target.start, target.len, string, 0, 0, 0])
         }
         Node::Gaiji(gaiji) => gaiji_words(&gaiji),
-        Node::Line | Node::PageBreak | Node::SectionBreak | Node::BodyEnd | Node::ForcedBreak => (0, [0; 6]),
+        Node::Line | Node::PageBreak | Node::SectionBreak | Node::BodyEnd | Node::ForcedBreak => {
+            (0, [0; 6])
+        }
         Node::Heading { text } => range(text),
         Node::HeadingHint { target } => string(target),
         Node::Illustration(illustration) => illustration_words(&illustration),
@@ -327,7 +356,9 @@ impl Record for Segment {
         let (tag, body) = match self.item {
             SegmentItem::Text(id) => (0, Body::of_text(id, self.plain)),
             SegmentItem::Gaiji(gaiji) => (1, Body::of_node(&Node::Gaiji(gaiji), self.plain)),
-            SegmentItem::Directive(directive) => (2, Body::of_node(&Node::Directive(directive), self.plain)),
+            SegmentItem::Directive(directive) => {
+                (2, Body::of_node(&Node::Directive(directive), self.plain))
+            }
             SegmentItem::Node(node) => (3, Body::of_node(&node, self.plain)),
         };
         out.push(tag);
@@ -360,7 +391,10 @@ impl Record for SourceNode {
         out.push(u8::from(self.node.inline()));
         put_span(out, self.source_span);
         put_word(out, self.normalized_offset.0);
-        let body = self.node.node().map_or_else(|| Body::of_block(self.plain), |node| Body::of_node(node, self.plain));
+        let body = self
+            .node
+            .node()
+            .map_or_else(|| Body::of_block(self.plain), |node| Body::of_node(node, self.plain));
         body.encode(out);
     }
 }
@@ -385,7 +419,11 @@ impl Record for ContainerPair {
     const SIZE: usize = 13;
 
     fn decode(mut o: Operands<'_>) -> Option<Self> {
-        Some(Self { plain: o.word()?, open: NormalizedOffset(o.word()?), close: NormalizedOffset(o.word()?) })
+        Some(Self {
+            plain: o.word()?,
+            open: NormalizedOffset(o.word()?),
+            close: NormalizedOffset(o.word()?),
+        })
     }
 
     fn encode(&self, out: &mut Vec<u8>) {
@@ -400,7 +438,12 @@ impl Record for Diagnostic {
     const SIZE: usize = 18;
 
     fn decode(mut o: Operands<'_>) -> Option<Self> {
-        Some(Self { kind: DiagnosticKind::from_number(o.byte()?)?, code_rank: o.word()?, span: o.span()?, plain: o.word()? })
+        Some(Self {
+            kind: DiagnosticKind::from_number(o.byte()?)?,
+            code_rank: o.word()?,
+            span: o.span()?,
+            plain: o.word()?,
+        })
     }
 
     fn encode(&self, out: &mut Vec<u8>) {

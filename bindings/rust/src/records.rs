@@ -5,8 +5,9 @@ use std::marker::PhantomData;
 
 use crate::record::Record;
 
-/// A run of records of one kind, read as they are asked for: of [`Content`](crate::Content), [`Segment`](crate::Segment),
-/// [`SourceNode`](crate::SourceNode), [`PairLink`](crate::PairLink), [`ContainerPair`](crate::ContainerPair) or [`Diagnostic`](crate::Diagnostic).
+/// A run of records of one kind, read as they are asked for: of [`Content`](crate::Content),
+/// [`Segment`](crate::Segment), [`SourceNode`](crate::SourceNode), [`PairLink`](crate::PairLink),
+/// [`ContainerPair`](crate::ContainerPair) or [`Diagnostic`](crate::Diagnostic).
 #[derive(Debug, Clone)]
 pub struct Records<'a, R> {
     tape: &'a [u8],
@@ -21,7 +22,8 @@ impl<'a, R: Record> Records<'a, R> {
 
     /// Is each of them a record of section 4?
     pub(crate) fn all_shaped(&self) -> bool {
-        self.tape.len().is_multiple_of(R::SIZE) && self.tape.chunks(R::SIZE).all(|record| R::at(record).is_some())
+        self.tape.len().is_multiple_of(R::SIZE)
+            && self.tape.chunks(R::SIZE).all(|record| R::at(record).is_some())
     }
 
     /// Some of them, if there are so many.
@@ -42,7 +44,8 @@ impl<R: Record> Iterator for Records<'_, R> {
     fn next(&mut self) -> Option<R> {
         let (first, rest) = self.tape.split_at_checked(R::SIZE)?;
         self.tape = rest;
-        // Each record was looked at when the book was made, or the proved lookup says that it is one.
+        // Each record was looked at when the book was made, or the proved lookup says that it is
+        // one.
         R::at(first)
     }
 
@@ -52,7 +55,8 @@ impl<R: Record> Iterator for Records<'_, R> {
     }
 
     fn nth(&mut self, n: usize) -> Option<R> {
-        self.tape = n.checked_mul(R::SIZE).and_then(|skip| self.tape.get(skip..)).unwrap_or_default();
+        self.tape =
+            n.checked_mul(R::SIZE).and_then(|skip| self.tape.get(skip..)).unwrap_or_default();
         self.next()
     }
 }

@@ -3,20 +3,25 @@
 use std::error::Error;
 use std::fmt;
 
-/// Why a call was refused: one variant for each number of the table "Returned numbers" of document 01.
+/// Why a call was refused: one variant for each number of the table "Returned numbers" of document
+/// 01.
 ///
-/// Every entry is proved to answer a result, or the first of these whose condition holds. The order is: the old book, 1 to 7; the edit, 8; the
-/// replacement, 2; the new text, 3; then 9, 10, 11; the reading, 1 to 7; then 12 to 18. So a number from 1 to 7 may be about the book or about the
-/// reading; [`check_book`](crate::check_book) and [`check_reading`](crate::check_reading) tell which.
+/// Every entry is proved to answer a result, or the first of these whose condition holds. The order
+/// is: the old book, 1 to 7; the edit, 8; the replacement, 2; the new text, 3; then 9, 10, 11; the
+/// reading, 1 to 7; then 12 to 18. So a number from 1 to 7 may be about the book or about the
+/// reading; [`check_book`](crate::check_book) and [`check_reading`](crate::check_reading) tell
+/// which.
 #[derive(Debug, Clone, Copy, PartialEq, Eq, PartialOrd, Ord, Hash)]
 #[repr(u32)]
 pub enum Refusal {
-    /// 1: a tape or byte buffer breaks the layout; a book has no layer; a reading has not exactly one layer.
+    /// 1: a tape or byte buffer breaks the layout; a book has no layer; a reading has not exactly
+    /// one layer.
     Layout = 1,
     /// 2: a text, normalized text, string or replacement is not UTF-8.
     NotUtf8 = 2,
-    /// 3: a text or normalized text is over [`MAX_TEXT`](crate::MAX_TEXT) bytes, a pool over [`MAX_POOL`](crate::MAX_POOL), another list over
-    /// [`MAX_LIST`](crate::MAX_LIST), or there are more than [`MAX_LAYERS`](crate::MAX_LAYERS) layers.
+    /// 3: a text or normalized text is over [`MAX_TEXT`](crate::MAX_TEXT) bytes, a pool over
+    /// [`MAX_POOL`](crate::MAX_POOL), another list over [`MAX_LIST`](crate::MAX_LIST), or there are
+    /// more than [`MAX_LAYERS`](crate::MAX_LAYERS) layers.
     OverLimit = 3,
     /// 4: an id or range lies outside of its pool, or a range across layers.
     IdOrRange = 4,
@@ -46,8 +51,8 @@ pub enum Refusal {
     CutInCharacter = 16,
     /// 17: the reading has nodes and the old book has 32 layers.
     LayersFull = 17,
-    /// 18: the result passes a limit of 3, its new layer has more than 3583 strings, a result buffer is too short, or fewer than
-    /// [`WORK_WORDS`](crate::WORK_WORDS) work words are lent.
+    /// 18: the result passes a limit of 3, its new layer has more than 3583 strings, a result
+    /// buffer is too short, or fewer than [`WORK_WORDS`](crate::WORK_WORDS) work words are lent.
     NoRoom = 18,
 }
 
@@ -111,7 +116,9 @@ impl Refusal {
             Self::Edit => {
                 "the edit does not fit the text: its start is behind its end, its end behind the text, or one of them inside a character"
             }
-            Self::SameText => "the edit changes nothing: the replacement is what stands there already",
+            Self::SameText => {
+                "the edit changes nothing: the replacement is what stands there already"
+            }
             Self::RubyFormatDependency => {
                 "a Referenced Format that ends behind the edit's start has the base of an earlier Ruby as its target: parse the whole text"
             }
@@ -124,7 +131,9 @@ impl Refusal {
             Self::Unbalanced => {
                 "the reading opens a block or warichu that it does not close, or closes one that it did not open: parse the whole text"
             }
-            Self::Unclosed => "the reading has a bracket without its partner (UnclosedBracket or UnmatchedClose): parse the whole text",
+            Self::Unclosed => {
+                "the reading has a bracket without its partner (UnclosedBracket or UnmatchedClose): parse the whole text"
+            }
             Self::NewRubyFormatDependency => {
                 "the reading has a Ruby and a Referenced Format follows the passage, or it has a Referenced Format whose target is the base of an earlier \
                  Ruby: parse the whole text"
@@ -151,7 +160,8 @@ impl Refusal {
     }
 }
 
-/// The contracts of the archive give 0 to 18 only; another number means that another library was linked under its name.
+/// The contracts of the archive give 0 to 18 only; another number means that another library was
+/// linked under its name.
 #[expect(clippy::unreachable, reason = "the contracts of all entries exclude it")]
 fn stranger(number: u32) -> Refusal {
     unreachable!("the linked archive answered {number}, which the contract of every entry excludes")

@@ -1,35 +1,44 @@
-//! How long the result buffers of a merge have to be. Not proved, and nothing rests on it but memory: where it said too little, the merge would be
-//! refused with 18.
+//! How long the result buffers of a merge have to be. Not proved, and nothing rests on it but
+//! memory: where it said too little, the merge would be refused with 18.
 
 use crate::book::Book;
 use crate::stored::{Edit, Lengths, Stored};
 use crate::syntax::{
-    Content, ContentRange, ForwardPayload, GaijiCanonical, MAX_LEVEL, MAX_NEW_STRINGS, MAX_POOL, Node, SegRange, Segment, SegmentItem,
-    StrId,
+    Content, ContentRange, ForwardPayload, GaijiCanonical, MAX_LEVEL, MAX_NEW_STRINGS, MAX_POOL,
+    Node, SegRange, Segment, SegmentItem, StrId,
 };
 
 /// A longer string goes past the interner's table, and is stored again each time.
 const INTERN_LENGTH_LIMIT: usize = 64;
 
-/// Enough where the reading names none of its items twice: then each of them is stored once, behind the old ones.
+/// Enough where the reading names none of its items twice: then each of them is stored once, behind
+/// the old ones.
 pub(crate) fn first(book: Lengths, edit: Edit<'_>, reading: Stored<'_>) -> Lengths {
     Lengths {
         tape: book.tape.saturating_add(reading.tape.len()),
-        bytes: book.bytes.saturating_add(reading.bytes.len()).saturating_add(edit.replacement.len()),
+        bytes: book
+            .bytes
+            .saturating_add(reading.bytes.len())
+            .saturating_add(edit.replacement.len()),
     }
 }
 
-/// What is certainly enough, of a book and a reading that are accepted. None where the result passes a limit, so that no room is enough.
+/// What is certainly enough, of a book and a reading that are accepted. None where the result
+/// passes a limit, so that no room is enough.
 pub(crate) fn enough(book: Stored<'_>, edit: Edit<'_>, reading: Stored<'_>) -> Option<Lengths> {
     let old = Book::walk(book).ok()?;
     let new = Book::walk(reading).ok()?;
     let grafted = Costs::of(&new).nodes(&new);
-    let pushed = |count: u64, old: usize| usize::try_from(count).ok().filter(|n| n.saturating_add(old) <= MAX_POOL);
+    let pushed = |count: u64, old: usize| {
+        usize::try_from(count).ok().filter(|n| n.saturating_add(old) <= MAX_POOL)
+    };
     let contents = pushed(grafted.contents, old.content_count())?;
     let segments = pushed(grafted.segments, old.segment_count())?;
     let least = first(Lengths { tape: book.tape.len(), bytes: book.bytes.len() }, edit, reading);
     let longest = new.strings().map(str::len).max().unwrap_or(0);
-    let long = usize::try_from(grafted.long_bytes).unwrap_or(usize::MAX).min(MAX_NEW_STRINGS.saturating_mul(longest));
+    let long = usize::try_from(grafted.long_bytes)
+        .unwrap_or(usize::MAX)
+        .min(MAX_NEW_STRINGS.saturating_mul(longest));
     Some(Lengths {
         tape: least.tape.saturating_add(1 + 5 * MAX_NEW_STRINGS + 10 * contents + 37 * segments),
         bytes: least.bytes.saturating_add(long),
@@ -44,7 +53,8 @@ struct Cost {
     long_bytes: u64,
 }
 
-/// More than any limit, and so much below the end of `u64` that a sum over a pool of [`MAX_POOL`] items has room.
+/// More than any limit, and so much below the end of `u64` that a sum over a pool of [`MAX_POOL`]
+/// items has room.
 const MOST: u64 = 1 << 40;
 
 impl Cost {
@@ -66,7 +76,11 @@ impl Cost {
     }
 
     fn at_most(self, most: u64) -> Self {
-        Self { contents: self.contents.min(most), segments: self.segments.min(most), long_bytes: self.long_bytes.min(most) }
+        Self {
+            contents: self.contents.min(most),
+            segments: self.segments.min(most),
+            long_bytes: self.long_bytes.min(most),
+        }
     }
 }
 
@@ -81,7 +95,9 @@ impl Costs {
     fn of(reading: &Book<'_>) -> Self {
         let mut costs = Self { contents: Vec::new(), segments: Vec::new() };
         for level in 0..=MAX_LEVEL {
-            let segments = sums(reading.segments().map(|s| if s.level <= level { costs.segment(reading, &s) } else { Cost::default() }));
+            let segments = sums(reading.segments().map(|s| {
+                if s.level <= level { costs.segment(reading, &s) } else { Cost::default() }
+            }));
             costs.segments = segments;
             costs.contents = sums(reading.contents().map(|c| costs.content(reading, c)));
         }
@@ -129,7 +145,9 @@ impl Costs {
         let string = |id| Self::string(reading, id);
         let optional = |id: Option<StrId>| id.map(string).unwrap_or_default();
         match *node {
-            Node::Ruby { base: a, reading: b } | Node::MarginNote { base: a, note: b } => self.contents(a).plus(self.contents(b)),
+            Node::Ruby { base: a, reading: b } | Node::MarginNote { base: a, note: b } => {
+                self.contents(a).plus(self.contents(b))
+            }
             Node::Format { target, payload, .. } => self.contents(target).plus(match payload {
                 ForwardPayload::AccentBody(id) | ForwardPayload::QuotedTarget(id) => string(id),
                 ForwardPayload::None | ForwardPayload::NestedSource => Cost::default(),
@@ -138,8 +156,14 @@ impl Costs {
                 GaijiCanonical::Unresolved { mencode } => optional(mencode),
                 GaijiCanonical::MenKuTen | GaijiCanonical::Unicode => Cost::default(),
             }),
-            Node::Line | Node::PageBreak | Node::SectionBreak | Node::BodyEnd | Node::ForcedBreak => Cost::default(),
-            Node::Heading { text: range } | Node::AngleQuote { content: range } => self.contents(range),
+            Node::Line
+            | Node::PageBreak
+            | Node::SectionBreak
+            | Node::BodyEnd
+            | Node::ForcedBreak => Cost::default(),
+            Node::Heading { text: range } | Node::AngleQuote { content: range } => {
+                self.contents(range)
+            }
             Node::HeadingHint { target: id } | Node::Kaeriten { mark: id } => string(id),
             Node::Illustration(i) => {
                 let caption = i.caption.map(|c| self.content(reading, c)).unwrap_or_default();

@@ -4,8 +4,8 @@ use std::fmt;
 
 use crate::syntax::Span;
 
-/// A book or a reading as it is stored: a tape of records and a byte buffer with text, normalized text and strings. It may be anything; each entry
-/// checks it.
+/// A book or a reading as it is stored: a tape of records and a byte buffer with text, normalized
+/// text and strings. It may be anything; each entry checks it.
 #[derive(Debug, Clone, Copy, PartialEq, Eq, Hash)]
 pub struct Stored<'a> {
     /// The records.
@@ -22,7 +22,8 @@ impl<'a> Stored<'a> {
     }
 }
 
-/// The same in memory of its own: what a merge, a copy or a [`BookBuilder`](crate::BookBuilder) gives.
+/// The same in memory of its own: what a merge, a copy or a [`BookBuilder`](crate::BookBuilder)
+/// gives.
 #[derive(Debug, Clone, PartialEq, Eq, Hash, Default)]
 pub struct StoredBook {
     /// The records.
@@ -93,7 +94,8 @@ impl<'a> Correction<'a> {
     }
 }
 
-/// Two buffers that are lent for a result. They are written whole: the result and zeros behind it, or zeros after a refusal.
+/// Two buffers that are lent for a result. They are written whole: the result and zeros behind it,
+/// or zeros after a refusal.
 #[derive(Debug)]
 pub struct Room<'a> {
     /// For the tape.
@@ -119,7 +121,8 @@ pub struct Lengths {
     pub bytes: usize,
 }
 
-/// The counts of the string interner, all 0 where the merge added no layer. `calls` is the sum of cache hits, table hits and allocs.
+/// The counts of the string interner, all 0 where the merge added no layer. `calls` is the sum of
+/// cache hits, table hits and allocs.
 #[derive(Debug, Clone, Copy, PartialEq, Eq, Hash, Default)]
 pub struct InternStats {
     /// Calls.
@@ -138,7 +141,8 @@ pub struct InternStats {
     pub probe_steps: u64,
 }
 
-/// What a merge answers; `B` is the merged book, or the lengths of it in the buffers that were lent.
+/// What a merge answers; `B` is the merged book, or the lengths of it in the buffers that were
+/// lent.
 #[derive(Debug, Clone, Copy, PartialEq, Eq, Hash, Default)]
 pub struct Merged<B = StoredBook> {
     /// The merged book.
@@ -156,7 +160,13 @@ pub struct Merged<B = StoredBook> {
 impl<B> Merged<B> {
     /// The same with another book.
     pub(crate) fn with<C>(self, book: C) -> Merged<C> {
-        Merged { book, region: self.region, reused: self.reused, reread: self.reread, stats: self.stats }
+        Merged {
+            book,
+            region: self.region,
+            reused: self.reused,
+            reread: self.reread,
+            stats: self.stats,
+        }
     }
 }
 
@@ -165,7 +175,11 @@ impl<B> fmt::Display for Merged<B> {
     fn fmt(&self, f: &mut fmt::Formatter<'_>) -> fmt::Result {
         let Span { start, end } = self.region;
         let InternStats { calls, probe_steps, .. } = self.stats;
-        write!(f, "region {start} {end} reused {} reread {} calls {calls} probes {probe_steps}", self.reused, self.reread)
+        write!(
+            f,
+            "region {start} {end} reused {} reread {} calls {calls} probes {probe_steps}",
+            self.reused, self.reread
+        )
     }
 }
 

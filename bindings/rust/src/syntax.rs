@@ -1,7 +1,9 @@
-//! What a book holds, as values: the kinds, tags and fields of document 01, section 4, under the names of the Rust.
+//! What a book holds, as values: the kinds, tags and fields of document 01, section 4, under the
+//! names of the Rust.
 //!
-//! [`Node`], [`Content`] and [`Segment`] have the kind of their references as parameters. As stored, a reference is a [`StrId`], a [`ContentRange`] or
-//! a [`SegRange`]; in a [`Tree`](crate::Tree) it is the string or the list itself.
+//! [`Node`], [`Content`] and [`Segment`] have the kind of their references as parameters. As
+//! stored, a reference is a [`StrId`], a [`ContentRange`] or a [`SegRange`]; in a
+//! [`Tree`](crate::Tree) it is the string or the list itself.
 
 use std::fmt;
 
@@ -128,7 +130,8 @@ macro_rules! numbered {
 }
 
 numbered! {
-    /// The kind of a node: the number of a body on the tape is one more than its place here, since 0 is text.
+    /// The kind of a node: the number of a body on the tape is one more than its place here, since
+    /// 0 is text.
     NodeKind {
         /// A base with its reading.
         Ruby,
@@ -164,7 +167,8 @@ numbered! {
 }
 
 numbered! {
-    /// Where the target of a forward format comes from. What each means is the parser's affair; the merge asks only for `Referenced` (numbers 10 and 15).
+    /// Where the target of a forward format comes from. What each means is the parser's affair; the
+    /// merge asks only for `Referenced` (numbers 10 and 15).
     ForwardOrigin {
         /// The format takes text back that stands before its bracket.
         Reclaimed,
@@ -178,7 +182,8 @@ numbered! {
 }
 
 numbered! {
-    /// What an annotation is. What each means is the parser's affair; the cuts and the merge ask only for the two of warichu (section 6, number 13).
+    /// What an annotation is. What each means is the parser's affair; the cuts and the merge ask
+    /// only for the two of warichu (section 6, number 13).
     DirectiveKind {
         /// `NonCanonical` of the Rust.
         NonCanonical,
@@ -312,7 +317,8 @@ pub struct Illustration<S = StrId, G = SegRange> {
     pub description: Option<S>,
 }
 
-/// What stands in a text at a node; `S`, `C` and `G` are what it has for a string, for a run of contents and for a run of segments.
+/// What stands in a text at a node; `S`, `C` and `G` are what it has for a string, for a run of
+/// contents and for a run of segments.
 #[derive(Debug, Clone, Copy, PartialEq, Eq, Hash)]
 pub enum Node<S = StrId, C = ContentRange, G = SegRange> {
     /// A base with its reading.
@@ -437,7 +443,8 @@ impl Segment {
         Self::new(SegmentItem::Text(id))
     }
 
-    /// A node of a level; [`BookBuilder::level_above`](crate::BookBuilder::level_above) gives the lowest that is right.
+    /// A node of a level; [`BookBuilder::level_above`](crate::BookBuilder::level_above) gives the
+    /// lowest that is right.
     #[must_use]
     pub const fn node(level: u8, node: Node) -> Self {
         Self { level, item: SegmentItem::Node(node), plain: [0; 2] }
@@ -459,7 +466,8 @@ pub enum NodeRef<N = Node> {
     BlockLeaf(N),
     /// Opens a block.
     BlockOpen {
-        /// The exporter's value of `is_inline`: the block opens in a line, and its image has no padding.
+        /// The exporter's value of `is_inline`: the block opens in a line, and its image has no
+        /// padding.
         inline: bool,
     },
     /// Closes a block.
@@ -502,7 +510,9 @@ impl<N> NodeRef<N> {
     #[must_use]
     pub const fn padding(&self) -> u32 {
         match self {
-            Self::BlockLeaf(_) | Self::BlockOpen { inline: false } | Self::BlockClose { inline: false } => 2,
+            Self::BlockLeaf(_)
+            | Self::BlockOpen { inline: false }
+            | Self::BlockClose { inline: false } => 2,
             _ => 0,
         }
     }
@@ -513,8 +523,8 @@ impl<N> NodeRef<N> {
         NORMALIZED_SENTINEL_BYTE_LEN + 2 * self.padding()
     }
 
-    /// The character that a [`BookBuilder`](crate::BookBuilder) writes for it into the normalized text. Nothing reads it again: of the normalized text
-    /// only the length and UTF-8 are checked.
+    /// The character that a [`BookBuilder`](crate::BookBuilder) writes for it into the normalized
+    /// text. Nothing reads it again: of the normalized text only the length and UTF-8 are checked.
     #[must_use]
     pub const fn sentinel(&self) -> char {
         match self {

@@ -5,12 +5,12 @@ use std::fmt;
 
 use crate::book::Book;
 use crate::syntax::{
-    Content, ContentRange, Directive, ForwardPayload, Gaiji, GaijiCanonical, Illustration, MAX_POOL, Node, NodeRef, Plain, SegRange,
-    Segment, SegmentItem, SourceNode, StrId,
+    Content, ContentRange, Directive, ForwardPayload, Gaiji, GaijiCanonical, Illustration,
+    MAX_POOL, Node, NodeRef, Plain, SegRange, Segment, SegmentItem, SourceNode, StrId,
 };
 
-/// How many contents and segments [`Book::tree`] shows at most: as many as both pools may have, so that the tree of a node that names nothing twice is always
-/// shown.
+/// How many contents and segments [`Book::tree`] shows at most: as many as both pools may have, so
+/// that the tree of a node that names nothing twice is always shown.
 pub const MAX_TREE_ITEMS: usize = 2 * MAX_POOL;
 
 /// A tree that has more contents and segments than the limit.
@@ -71,7 +71,9 @@ impl<'b, 'a> Shown<'b, 'a> {
 
     pub(crate) fn node_ref(&mut self, node: &SourceNode) -> Result<Option<Tree<'a>>, TooLarge> {
         match &node.node {
-            NodeRef::Inline(inner) | NodeRef::BlockLeaf(inner) => Ok(Some(Tree { node: self.node(inner)?, plain: node.plain })),
+            NodeRef::Inline(inner) | NodeRef::BlockLeaf(inner) => {
+                Ok(Some(Tree { node: self.node(inner)?, plain: node.plain }))
+            }
             NodeRef::BlockOpen { .. } | NodeRef::BlockClose { .. } => Ok(None),
         }
     }
@@ -93,7 +95,8 @@ impl<'b, 'a> Shown<'b, 'a> {
         contents.map(|content| self.content(content)).collect()
     }
 
-    /// Number 4: the range has its segments. Number 5: their nodes name segments of lower levels, so this ends.
+    /// Number 4: the range has its segments. Number 5: their nodes name segments of lower levels,
+    /// so this ends.
     fn segments(&mut self, range: SegRange) -> Result<Vec<TreeSegment<'a>>, TooLarge> {
         let Some(segments) = self.book.resolve_seg_range(range) else { return Ok(Vec::new()) };
         self.spend(segments.len())?;
@@ -121,7 +124,9 @@ impl<'b, 'a> Shown<'b, 'a> {
         let canonical = match gaiji.canonical {
             GaijiCanonical::MenKuTen => GaijiCanonical::MenKuTen,
             GaijiCanonical::Unicode => GaijiCanonical::Unicode,
-            GaijiCanonical::Unresolved { mencode } => GaijiCanonical::Unresolved { mencode: mencode.map(|id| self.string(id)) },
+            GaijiCanonical::Unresolved { mencode } => {
+                GaijiCanonical::Unresolved { mencode: mencode.map(|id| self.string(id)) }
+            }
         };
         Gaiji { hint: self.string(gaiji.hint), canonical }
     }
@@ -139,7 +144,10 @@ impl<'b, 'a> Shown<'b, 'a> {
         }
     }
 
-    fn illustration(&mut self, i: &Illustration) -> Result<Illustration<&'a str, Vec<TreeSegment<'a>>>, TooLarge> {
+    fn illustration(
+        &mut self,
+        i: &Illustration,
+    ) -> Result<Illustration<&'a str, Vec<TreeSegment<'a>>>, TooLarge> {
         Ok(Illustration {
             file: self.string(i.file),
             number: i.number.map(|id| self.string(id)),
@@ -151,10 +159,14 @@ impl<'b, 'a> Shown<'b, 'a> {
 
     fn node(&mut self, node: &Node) -> Result<TreeNode<'a>, TooLarge> {
         Ok(match node {
-            Node::Ruby { base, reading } => Node::Ruby { base: self.contents(*base)?, reading: self.contents(*reading)? },
-            Node::Format { target, origin, payload } => {
-                Node::Format { target: self.contents(*target)?, origin: *origin, payload: self.payload(*payload) }
+            Node::Ruby { base, reading } => {
+                Node::Ruby { base: self.contents(*base)?, reading: self.contents(*reading)? }
             }
+            Node::Format { target, origin, payload } => Node::Format {
+                target: self.contents(*target)?,
+                origin: *origin,
+                payload: self.payload(*payload),
+            },
             Node::Gaiji(gaiji) => Node::Gaiji(self.gaiji(gaiji)),
             Node::Line => Node::Line,
             Node::PageBreak => Node::PageBreak,
@@ -163,11 +175,15 @@ impl<'b, 'a> Shown<'b, 'a> {
             Node::ForcedBreak => Node::ForcedBreak,
             Node::Heading { text } => Node::Heading { text: self.contents(*text)? },
             Node::HeadingHint { target } => Node::HeadingHint { target: self.string(*target) },
-            Node::Illustration(illustration) => Node::Illustration(self.illustration(illustration)?),
+            Node::Illustration(illustration) => {
+                Node::Illustration(self.illustration(illustration)?)
+            }
             Node::Kaeriten { mark } => Node::Kaeriten { mark: self.string(*mark) },
             Node::Directive(directive) => Node::Directive(self.directive(*directive)),
             Node::AngleQuote { content } => Node::AngleQuote { content: self.contents(*content)? },
-            Node::MarginNote { base, note } => Node::MarginNote { base: self.contents(*base)?, note: self.contents(*note)? },
+            Node::MarginNote { base, note } => {
+                Node::MarginNote { base: self.contents(*base)?, note: self.contents(*note)? }
+            }
         })
     }
 }
@@ -277,9 +293,13 @@ impl Lines<'_, '_> {
                 self.contents("target", target)?;
                 match payload {
                     ForwardPayload::None => Ok(()),
-                    ForwardPayload::NestedSource => self.deeper(|lines| lines.line(format_args!("NestedSource"))),
+                    ForwardPayload::NestedSource => {
+                        self.deeper(|lines| lines.line(format_args!("NestedSource")))
+                    }
                     ForwardPayload::AccentBody(string) => self.string("AccentBody", Some(string)),
-                    ForwardPayload::QuotedTarget(string) => self.string("QuotedTarget", Some(string)),
+                    ForwardPayload::QuotedTarget(string) => {
+                        self.string("QuotedTarget", Some(string))
+                    }
                 }
             }
             Node::Heading { text } => self.contents("text", text),

@@ -21,16 +21,25 @@ fn p5() {
     let merged = merge(&old, Edit::new(4, 5, "x"), &reading).unwrap();
     assert_eq!(merged.to_string(), "region 4 8 reused 0 reread 1 calls 2 probes 2");
     let stats = InternStats { calls: 2, allocs: 2, probe_steps: 2, ..InternStats::default() };
-    assert_eq!((merged.region, merged.reused, merged.reread, merged.stats), (Span::new(4, 8), 0, 1, stats));
+    assert_eq!(
+        (merged.region, merged.reused, merged.reread, merged.stats),
+        (Span::new(4, 8), 0, 1, stats)
+    );
     assert_eq!((merged.book.tape.len(), merged.book.bytes.len()), (91, 23));
 
     let book = Book::new(&merged.book).unwrap();
     assert_eq!((book.text(), book.normalized()), ("aa\n\nxb\n\ncc", "aa\n\n\u{E001}\n\ncc"));
     assert_eq!(book.layers().len(), 2);
     let node = book.nodes().next().unwrap();
-    assert_eq!((book.source(node.source_span), node.normalized_offset), (Some("xb"), NormalizedOffset(4)));
+    assert_eq!(
+        (book.source(node.source_span), node.normalized_offset),
+        (Some("xb"), NormalizedOffset(4))
+    );
     let tree = book.tree(&node).unwrap().unwrap();
-    assert_eq!(tree.node, Node::Ruby { base: vec![Content::Plain("x")], reading: vec![Content::Plain("b")] });
+    assert_eq!(
+        tree.node,
+        Node::Ruby { base: vec![Content::Plain("x")], reading: vec![Content::Plain("b")] }
+    );
     assert_eq!(tree.to_string(), "Ruby\n  base:\n    \"x\"\n  reading:\n    \"b\"");
 }
 
@@ -42,7 +51,8 @@ fn p5_is_written_as_it_is_stored() {
     let lengths = [(); 7].map(|()| parts.word());
     assert_eq!((lengths[2], lengths[3]), (4, 5));
     let mut part = |i: usize| parts.take(lengths[i] as usize);
-    let (tape, bytes, replacement, reading_tape, reading_bytes) = (part(0), part(1), part(4), part(5), part(6));
+    let (tape, bytes, replacement, reading_tape, reading_bytes) =
+        (part(0), part(1), part(4), part(5), part(6));
     assert_eq!(plain(ABC).as_stored(), Stored::new(tape, bytes));
     assert_eq!(ruby_reading().as_stored(), Stored::new(reading_tape, reading_bytes));
     assert_eq!(replacement, b"x");
@@ -64,7 +74,8 @@ fn p6_to_p8_merged() {
         ("aa\n\nbb", 3, 3, "\n", "aa\n\n\n", "region 0 4 reused 0 reread 0 calls 0 probes 0"),
         ("aa\n", 3, 3, "x", "x", "region 3 3 reused 0 reread 0 calls 0 probes 0"),
     ] {
-        let merged = merge(&plain(text), Edit::new(start, end, replacement), &plain(reading)).unwrap();
+        let merged =
+            merge(&plain(text), Edit::new(start, end, replacement), &plain(reading)).unwrap();
         assert_eq!(merged.to_string(), answer);
         let mut new = text.to_owned();
         new.replace_range(start as usize..end as usize, replacement);
@@ -101,7 +112,10 @@ impl Pair {
     }
 
     fn corrections(&self) -> (Correction<'_>, Correction<'_>) {
-        (Correction::new(Edit::new(0, 1, "xé"), &self.first), Correction::new(Edit::new(8, 10, "c"), &self.last))
+        (
+            Correction::new(Edit::new(0, 1, "xé"), &self.first),
+            Correction::new(Edit::new(8, 10, "c"), &self.last),
+        )
     }
 }
 
@@ -114,10 +128,14 @@ fn both_orders() {
 
     assert_eq!((earlier_first.region, earlier_second.region), (Span::new(0, 4), Span::new(0, 4)));
     assert_eq!((later_first.region, later_second.region), (Span::new(8, 10), Span::new(10, 12)));
-    assert_eq!(earlier_first.reread + later_second.reread, later_first.reread + earlier_second.reread);
+    assert_eq!(
+        earlier_first.reread + later_second.reread,
+        later_first.reread + earlier_second.reread
+    );
     assert_eq!(earlier_first.reread + later_second.reread, 2);
 
-    let (one, other) = (Book::new(&later_second.book).unwrap(), Book::new(&earlier_second.book).unwrap());
+    let (one, other) =
+        (Book::new(&later_second.book).unwrap(), Book::new(&earlier_second.book).unwrap());
     assert_eq!(one.shows_the_same(&other, MAX_TREE_ITEMS), Ok(true));
     assert_ne!(later_second.book, earlier_second.book, "the layers are numbered otherwise");
     let before = Book::new(&pair.old).unwrap();
@@ -149,7 +167,11 @@ fn both_orders_are_four_merges() {
 fn refused_in_one_order_only() {
     let old = plain(ABC);
     let (first, last) = (plain("aax\n"), plain("yb\n\n"));
-    let orders = merge_both_orders(&old, Correction::new(Edit::new(2, 3, "x"), &first), Correction::new(Edit::new(4, 5, "y"), &last));
+    let orders = merge_both_orders(
+        &old,
+        Correction::new(Edit::new(2, 3, "x"), &first),
+        Correction::new(Edit::new(4, 5, "y"), &last),
+    );
     assert_eq!(orders.later_second.as_ref().unwrap_err(), &Refusal::OtherText);
     assert!(orders.later_first.is_ok());
     assert!(orders.all().is_err());

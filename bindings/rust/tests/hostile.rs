@@ -27,7 +27,12 @@ fn small() -> StoredBook {
     );
     b.pair(PairLink { kind: PairKind::Quote, open: Span::new(0, 1), close: Span::new(1, 2) });
     b.container(ContainerPair { plain: 5, open: NormalizedOffset(0), close: NormalizedOffset(3) });
-    b.diagnostic(Diagnostic { kind: DiagnosticKind::UnresolvedGaiji, code_rank: 9, span: Span::new(0, 2), plain: 6 });
+    b.diagnostic(Diagnostic {
+        kind: DiagnosticKind::UnresolvedGaiji,
+        code_rank: 9,
+        span: Span::new(0, 2),
+        plain: 6,
+    });
     b.layer();
     b.plain("x");
     b.build().unwrap()
@@ -46,7 +51,10 @@ fn ask(stored: Stored<'_>, r: &mut Random) -> Result<(), Refusal> {
     assert_eq!(copy_book(stored).map(|_| ()), number);
     match choose_region(stored, edit) {
         Err(refusal) if !later => assert_eq!(Err(refusal), number),
-        region => assert!(later && region.is_ok_and(|r| r.start <= r.end) || region.is_err_and(|e| e.number() > 7)),
+        region => assert!(
+            later && region.is_ok_and(|r| r.start <= r.end)
+                || region.is_err_and(|e| e.number() > 7)
+        ),
     }
     if let Ok(merged) = merge(stored, edit, &plain("x")) {
         read_all(&Book::new(&merged.book).unwrap(), r);
@@ -66,7 +74,8 @@ fn read(stored: Stored<'_>, r: &mut Random) -> Result<(), Refusal> {
     Ok(())
 }
 
-/// Each byte of the tape and of the byte buffer, changed to each other value; all entries are asked for some of these values.
+/// Each byte of the tape and of the byte buffer, changed to each other value; all entries are asked
+/// for some of these values.
 #[test]
 fn each_byte_changed() {
     let r = &mut Random::new(7);
@@ -81,7 +90,11 @@ fn each_byte_changed() {
                     Some(place) => &mut changed.bytes[place],
                 };
                 *byte = value;
-                let answer = if value < 12 || value % 25 == 0 { ask(changed.as_stored(), r) } else { read(changed.as_stored(), r) };
+                let answer = if value < 12 || value % 25 == 0 {
+                    ask(changed.as_stored(), r)
+                } else {
+                    read(changed.as_stored(), r)
+                };
                 match answer {
                     Ok(()) => accepted += 1,
                     Err(refusal) => refused[refusal.number() as usize] += 1,
@@ -177,7 +190,13 @@ fn random_merges() {
 /// The same merge in buffers that are far too large: the memory that `merge` takes is enough.
 fn lavish(old: &StoredBook, edit: Edit<'_>, reading: &StoredBook) -> Result<Merged, Refusal> {
     let (mut tape, mut bytes, mut work) = (vec![7; 1 << 16], vec![7; 1 << 16], vec![7; WORK_WORDS]);
-    let answer = raw::merge(old.as_stored(), edit, reading.as_stored(), Room::new(&mut tape, &mut bytes), &mut work)?;
+    let answer = raw::merge(
+        old.as_stored(),
+        edit,
+        reading.as_stored(),
+        Room::new(&mut tape, &mut bytes),
+        &mut work,
+    )?;
     tape.truncate(answer.book.tape);
     bytes.truncate(answer.book.bytes);
     let Merged { region, reused, reread, stats, .. } = answer;

@@ -6,7 +6,8 @@ mod common;
 use aozora_incremental::*;
 use common::plain;
 
-/// A reading of "x\n\n" whose only node names the same run twice, level by level: 2 to the `levels` texts.
+/// A reading of "x\n\n" whose only node names the same run twice, level by level: 2 to the `levels`
+/// texts.
 fn doubling(levels: usize, text: &str) -> StoredBook {
     let mut b = BookBuilder::new();
     let (s, t) = (b.string(text), b.string("other"));
@@ -58,12 +59,18 @@ fn both_orders() {
     let old = plain("a\n\nb\n\nc\n\n");
     let (first, last) = (doubling(9, "語"), doubling(8, &"長".repeat(30)));
     let later = Edit::new(6, 7, "x");
-    let orders = merge_both_orders(&old, Correction::new(edit(), &first), Correction::new(later, &last)).all().unwrap();
+    let orders =
+        merge_both_orders(&old, Correction::new(edit(), &first), Correction::new(later, &last))
+            .all()
+            .unwrap();
     assert_eq!(orders.earlier_first, merge(&old, edit(), &first).unwrap());
     assert_eq!(orders.later_second, merge(&orders.earlier_first.book, later, &last).unwrap());
     assert_eq!(orders.later_first, merge(&old, later, &last).unwrap());
     assert_eq!(orders.earlier_second, merge(&orders.later_first.book, edit(), &first).unwrap());
-    let (one, other) = (Book::new(&orders.later_second.book).unwrap(), Book::new(&orders.earlier_second.book).unwrap());
+    let (one, other) = (
+        Book::new(&orders.later_second.book).unwrap(),
+        Book::new(&orders.earlier_second.book).unwrap(),
+    );
     assert_eq!(one.shows_the_same(&other, MAX_TREE_ITEMS), Ok(true));
 }
 
@@ -71,7 +78,14 @@ fn both_orders() {
 fn both_orders_that_pass_a_limit() {
     let old = plain("a\n\nb\n\nc\n\n");
     let (first, last) = (doubling(20, "語"), doubling(1, "語"));
-    let orders = merge_both_orders(&old, Correction::new(edit(), &first), Correction::new(Edit::new(6, 7, "x"), &last));
+    let orders = merge_both_orders(
+        &old,
+        Correction::new(edit(), &first),
+        Correction::new(Edit::new(6, 7, "x"), &last),
+    );
     let numbers = orders.map(|answer| answer.map_or_else(Refusal::number, |_| 0));
-    assert_eq!(numbers, Orders { earlier_first: 18, later_second: 1, later_first: 0, earlier_second: 18 });
+    assert_eq!(
+        numbers,
+        Orders { earlier_first: 18, later_second: 1, later_first: 0, earlier_second: 18 }
+    );
 }

@@ -40,7 +40,11 @@ fn ruby(b: &mut BookBuilder, base: &str) -> NodeRef {
 }
 
 fn format(b: &mut BookBuilder, target: &str) -> NodeRef {
-    inline(Node::Format { target: b.plain(target), origin: ForwardOrigin::Referenced, payload: ForwardPayload::None })
+    inline(Node::Format {
+        target: b.plain(target),
+        origin: ForwardOrigin::Referenced,
+        payload: ForwardPayload::None,
+    })
 }
 
 fn diagnostic(kind: DiagnosticKind, start: u32, end: u32) -> Diagnostic {
@@ -60,8 +64,18 @@ fn reached() -> Vec<(u32, Refusal)> {
     case(2, check_book(Stored::new(&[1, 1, 0, 0, 0, 1, 0, 0, 0, 2, 10], b"\x80a")).unwrap_err());
     case(3, p5(&layers(33), x(), &reading));
     case(4, p5(&built(|b| _ = b.text(ABC).contents(&[Content::Plain(StrId(0))])), x(), &reading));
-    case(5, p5(&built(|b| _ = b.text(ABC).segments(&[Segment::node(0, Node::Line)])), x(), &reading));
-    case(6, p5(&built(|b| _ = b.text(ABC).diagnostic(diagnostic(DiagnosticKind::Other, 1, 1))), x(), &reading));
+    case(
+        5,
+        p5(&built(|b| _ = b.text(ABC).segments(&[Segment::node(0, Node::Line)])), x(), &reading),
+    );
+    case(
+        6,
+        p5(
+            &built(|b| _ = b.text(ABC).diagnostic(diagnostic(DiagnosticKind::Other, 1, 1))),
+            x(),
+            &reading,
+        ),
+    );
     case(7, p5(&built(|b| _ = b.raw_texts(ABC, "")), x(), &reading));
     case(8, p5(&old, Edit::new(5, 4, "x"), &reading));
     case(8, p5(&old, Edit::new(4, 11, "x"), &reading));
@@ -75,20 +89,34 @@ fn reached() -> Vec<(u32, Refusal)> {
     case(10, p5(&dependent, Edit::new(3, 3, "x"), &reading));
     case(11, p5(&plain("abc"), Edit::new(0, 1, "x"), &reading));
     case(12, p5(&old, x(), &plain("xc\n\n")));
-    case(13, p5(&old, x(), &built(|b| _ = b.node("x", NodeRef::BlockOpen { inline: false }).text("b\n\n"))));
+    case(
+        13,
+        p5(
+            &old,
+            x(),
+            &built(|b| _ = b.node("x", NodeRef::BlockOpen { inline: false }).text("b\n\n")),
+        ),
+    );
     for kind in [DiagnosticKind::UnclosedBracket, DiagnosticKind::UnmatchedClose] {
-        case(14, p5(&old, x(), &built(|b| _ = b.text("xb\n\n").diagnostic(diagnostic(kind, 0, 1)))));
+        case(
+            14,
+            p5(&old, x(), &built(|b| _ = b.text("xb\n\n").diagnostic(diagnostic(kind, 0, 1)))),
+        );
     }
     let behind = built(|b| {
         let format = format(b, "q");
         b.text("aa\n\nbb\n\n").node("c", format).text("c");
     });
     case(15, p5(&behind, x(), &reading));
-    case(16, p5(&built(|b| _ = b.raw_texts("aaa\n\nb", "漢漢")), Edit::new(5, 6, "x"), &plain("x")));
+    case(
+        16,
+        p5(&built(|b| _ = b.raw_texts("aaa\n\nb", "漢漢")), Edit::new(5, 6, "x"), &plain("x")),
+    );
     case(17, p5(&layers(32), x(), &reading));
     case(18, copied_short());
     let strings = built(|b| {
-        let contents: Vec<Content> = (0..3584).map(|i| Content::Plain(b.string(&i.to_string()))).collect();
+        let contents: Vec<Content> =
+            (0..3584).map(|i| Content::Plain(b.string(&i.to_string()))).collect();
         let content = b.contents(&contents);
         b.node("xb", inline(Node::AngleQuote { content })).text("\n\n");
     });
@@ -138,7 +166,7 @@ fn numbers_and_messages() {
     assert_eq!(messages.len(), 18);
 }
 
-/// The enum of the C header has the same names and numbers.
+/// The C header has the same names, numbers and messages.
 #[test]
 fn the_header_has_the_same_numbers() {
     let header = String::from_utf8(common::file("bindings/c/aozora.h")).unwrap();
@@ -151,24 +179,47 @@ fn the_header_has_the_same_numbers() {
             name.extend(c.to_uppercase());
         }
         let line = format!("    AOZORA_{name} = {}", refusal.number());
-        assert!(header.lines().any(|l| l.strip_prefix(&line).is_some_and(|rest| rest.starts_with([',', ' ']))), "{line}");
-        assert!(header.contains(&format!("case AOZORA_{name}: return \"")));
+        assert!(
+            header
+                .lines()
+                .any(|l| l.strip_prefix(&line).is_some_and(|rest| rest.starts_with([',', ' ']))),
+            "{line}"
+        );
+        let message = format!("case AOZORA_{name}: return \"{}\";", refusal.message());
+        assert!(header.contains(&message), "{message}");
     }
 }
 
-/// After a refusal every lent buffer is zeros; accepted, all behind the result is, and all work words.
+/// After a refusal every lent buffer is zeros; accepted, all behind the result is, and all work
+/// words.
 #[test]
 fn lent_buffers() {
     let (old, reading) = (plain(ABC), ruby_reading());
     let mut work = vec![7; WORK_WORDS];
     let (mut tape, mut bytes) = ([7; 256], [7; 256]);
-    let merged = raw::merge(old.as_stored(), x(), reading.as_stored(), Room::new(&mut tape, &mut bytes), &mut work).unwrap();
+    let merged = raw::merge(
+        old.as_stored(),
+        x(),
+        reading.as_stored(),
+        Room::new(&mut tape, &mut bytes),
+        &mut work,
+    )
+    .unwrap();
     assert_eq!(merged.book, Lengths { tape: 91, bytes: 23 });
     assert!(tape[91..].iter().chain(&bytes[23..]).all(|&b| b == 0) && work.iter().all(|&w| w == 0));
-    assert_eq!(merge(&old, x(), &reading).unwrap().book.as_stored(), Stored::new(&tape[..91], &bytes[..23]));
+    assert_eq!(
+        merge(&old, x(), &reading).unwrap().book.as_stored(),
+        Stored::new(&tape[..91], &bytes[..23])
+    );
 
     let (mut tape, mut bytes, mut few) = ([7; 256], [7; 256], vec![7; WORK_WORDS - 1]);
-    let refusal = raw::merge(old.as_stored(), x(), reading.as_stored(), Room::new(&mut tape, &mut bytes), &mut few);
+    let refusal = raw::merge(
+        old.as_stored(),
+        x(),
+        reading.as_stored(),
+        Room::new(&mut tape, &mut bytes),
+        &mut few,
+    );
     assert_eq!(refusal, Err(Refusal::NoRoom));
     assert!(tape.iter().chain(&bytes).all(|&b| b == 0) && few.iter().all(|&w| w == 0));
 
@@ -183,7 +234,10 @@ fn lent_buffers() {
 fn diagnostics() {
     for kind in DiagnosticKind::ALL {
         let book = built(|b| _ = b.text("a").diagnostic(diagnostic(*kind, 0, 1)));
-        assert_eq!(diagnostics_allow_incremental(&book), Ok(*kind < DiagnosticKind::UnclosedBracket));
+        assert_eq!(
+            diagnostics_allow_incremental(&book),
+            Ok(*kind < DiagnosticKind::UnclosedBracket)
+        );
     }
     assert_eq!(diagnostics_allow_incremental(&plain("")), Ok(true));
 }

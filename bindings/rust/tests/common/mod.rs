@@ -29,7 +29,9 @@ pub fn file(path: &str) -> Vec<u8> {
 
 /// The hash of section 2, which the stored outputs show results by.
 pub fn fx_hash(bytes: &[u8]) -> u64 {
-    bytes.iter().fold(0, |h: u64, &b| (h.rotate_left(5) ^ u64::from(b)).wrapping_mul(0x517c_c1b7_2722_0a95))
+    bytes
+        .iter()
+        .fold(0, |h: u64, &b| (h.rotate_left(5) ^ u64::from(b)).wrapping_mul(0x517c_c1b7_2722_0a95))
 }
 
 /// Parts of a file, from the front.
@@ -62,8 +64,15 @@ pub fn cases(input: &[u8]) -> Vec<Case<'_>> {
     while !parts.0.is_empty() {
         let [label, tape, bytes, start, end, replacement] = [(); 6].map(|()| parts.word());
         let mut part = |len: u32| parts.take(len as usize);
-        let (label, tape, bytes, replacement) = (part(label), part(tape), part(bytes), part(replacement));
-        out.push(Case { label: str::from_utf8(label).unwrap(), book: Stored::new(tape, bytes), start, end, replacement });
+        let (label, tape, bytes, replacement) =
+            (part(label), part(tape), part(bytes), part(replacement));
+        out.push(Case {
+            label: str::from_utf8(label).unwrap(),
+            book: Stored::new(tape, bytes),
+            start,
+            end,
+            replacement,
+        });
     }
     out
 }
@@ -135,27 +144,40 @@ pub fn read_all(book: &Book<'_>, random: &mut Random) -> usize {
     for (place, node) in book.nodes().enumerate() {
         assert_eq!(book.node(place), Some(node));
         assert_eq!(book.node_at_source(node.source_span.start), Some(node));
-        assert_eq!(book.source_bytes(node.source_span).unwrap().len(), node.source_span.len() as usize);
+        assert_eq!(
+            book.source_bytes(node.source_span).unwrap().len(),
+            node.source_span.len() as usize
+        );
         see(book.source(node.source_span).map_or(0, str::len));
         if let Ok(Some(tree)) = book.tree_within(&node, 10_000) {
             see(tree.to_string().len() + format!("{tree:?}").len());
         }
     }
-    see(book.pairs().rev().count() + book.containers().rev().count() + book.diagnostics().rev().count());
+    see(book.pairs().rev().count()
+        + book.containers().rev().count()
+        + book.diagnostics().rev().count());
     for _ in 0..4 {
         let (a, b) = (random.word(), random.word());
-        let (contents, segments) = (ContentRange { start: a, len: b }, SegRange { start: a, len: b });
+        let (contents, segments) =
+            (ContentRange { start: a, len: b }, SegRange { start: a, len: b });
         let stored = book.stored();
         assert_eq!(lookup_str(stored, StrId(a)).unwrap(), book.resolve_str(StrId(a)));
         let lists = |l: Option<Records<'_, Content>>| l.map(|l| l.collect::<Vec<_>>());
-        assert_eq!(lists(lookup_contents(stored, contents).unwrap()), lists(book.resolve_content_range(contents)));
+        assert_eq!(
+            lists(lookup_contents(stored, contents).unwrap()),
+            lists(book.resolve_content_range(contents))
+        );
         let lists = |l: Option<Records<'_, Segment>>| l.map(|l| l.collect::<Vec<_>>());
-        assert_eq!(lists(lookup_segments(stored, segments).unwrap()), lists(book.resolve_seg_range(segments)));
+        assert_eq!(
+            lists(lookup_segments(stored, segments).unwrap()),
+            lists(book.resolve_seg_range(segments))
+        );
         let node = node_at_source(stored, a).unwrap();
         assert_eq!(node.and_then(|place| book.node(place)), book.node_at_source(a));
         see(book.source(Span::new(a, b)).map_or(0, str::len));
         see(book.content_range_as_plain(contents).map_or(0, str::len));
-        see(book.node(a as usize).map_or(0, |_| 1) + book.source_bytes(Span::new(a, b)).map_or(0, <[u8]>::len));
+        see(book.node(a as usize).map_or(0, |_| 1)
+            + book.source_bytes(Span::new(a, b)).map_or(0, <[u8]>::len));
     }
     seen
 }
@@ -201,10 +223,18 @@ fn lists(b: &mut BookBuilder, r: &mut Random) {
     };
     for _ in 0..r.below(4) {
         if let Some(&[a, e, c, d]) = places(r, text, 4).as_deref() {
-            b.pair(PairLink { kind: r.pick(PairKind::ALL), open: Span::new(a, e), close: Span::new(c, d) });
+            b.pair(PairLink {
+                kind: r.pick(PairKind::ALL),
+                open: Span::new(a, e),
+                close: Span::new(c, d),
+            });
         }
         if let Some(&[open, close]) = places(r, normalized, 2).as_deref() {
-            b.container(ContainerPair { plain: r.word(), open: NormalizedOffset(open), close: NormalizedOffset(close) });
+            b.container(ContainerPair {
+                plain: r.word(),
+                open: NormalizedOffset(open),
+                close: NormalizedOffset(close),
+            });
         }
         if let Some(&[start, end]) = places(r, text, 2).as_deref() {
             b.diagnostic(Diagnostic {
@@ -261,7 +291,8 @@ impl Made {
 
     /// A range whose levels are all below.
     fn range(&self, r: &mut Random, below: u8) -> ContentRange {
-        let fit: Vec<ContentRange> = self.contents.iter().filter(|c| c.1 < below).map(|c| c.0).collect();
+        let fit: Vec<ContentRange> =
+            self.contents.iter().filter(|c| c.1 < below).map(|c| c.0).collect();
         if fit.is_empty() { ContentRange { start: 0, len: 0 } } else { r.pick(&fit) }
     }
 
@@ -292,7 +323,9 @@ impl Made {
     /// A node whose runs have levels below.
     fn node(&self, r: &mut Random, below: u8) -> Node {
         match r.pick(NodeKind::ALL) {
-            NodeKind::Ruby => Node::Ruby { base: self.range(r, below), reading: self.range(r, below) },
+            NodeKind::Ruby => {
+                Node::Ruby { base: self.range(r, below), reading: self.range(r, below) }
+            }
             NodeKind::Format => {
                 let payload = match r.below(4) {
                     0 => ForwardPayload::None,
@@ -300,7 +333,11 @@ impl Made {
                     2 => ForwardPayload::AccentBody(self.string(r)),
                     _ => ForwardPayload::QuotedTarget(self.string(r)),
                 };
-                Node::Format { target: self.range(r, below), origin: r.pick(ForwardOrigin::ALL), payload }
+                Node::Format {
+                    target: self.range(r, below),
+                    origin: r.pick(ForwardOrigin::ALL),
+                    payload,
+                }
             }
             NodeKind::Gaiji => Node::Gaiji(self.gaiji(r)),
             NodeKind::Line => Node::Line,
@@ -323,7 +360,9 @@ impl Made {
             NodeKind::Kaeriten => Node::Kaeriten { mark: self.string(r) },
             NodeKind::Directive => Node::Directive(self.directive(r)),
             NodeKind::AngleQuote => Node::AngleQuote { content: self.range(r, below) },
-            NodeKind::MarginNote => Node::MarginNote { base: self.range(r, below), note: self.range(r, below) },
+            NodeKind::MarginNote => {
+                Node::MarginNote { base: self.range(r, below), note: self.range(r, below) }
+            }
         }
     }
 }
