@@ -5,13 +5,13 @@ use std::fmt;
 
 use crate::book::Book;
 use crate::syntax::{
-    Content, ContentRange, Directive, ForwardPayload, Gaiji, GaijiCanonical, Illustration,
-    MAX_POOL, Node, NodeRef, Plain, SegRange, Segment, SegmentItem, SourceNode, StrId,
+    Content, ContentRange, Directive, ForwardPayload, Gaiji, GaijiCanonical, Illustration, Node,
+    NodeRef, Plain, SegRange, Segment, SegmentItem, SourceNode, StrId,
 };
 
-/// How many contents and segments [`Book::tree`] shows at most: as many as both pools may have, so
-/// that the tree of a node that names nothing twice is always shown.
-pub const MAX_TREE_ITEMS: usize = 2 * MAX_POOL;
+/// How many contents and segments [`Book::tree`] shows at most. [`Book::tree_within`] takes another
+/// limit.
+pub const MAX_TREE_ITEMS: usize = 65_536;
 
 /// A tree that has more contents and segments than the limit.
 #[derive(Debug, Clone, Copy, PartialEq, Eq, Hash)]

@@ -4,7 +4,7 @@
 mod common;
 
 use aozora_incremental::*;
-use common::{ABC, Random, plain, random_book, read_all, ruby_reading};
+use common::{ABC, Random, plain, random_book, read_all, rounds, ruby_reading};
 
 /// A small book with a record of each kind.
 fn small() -> StoredBook {
@@ -124,7 +124,7 @@ fn each_length() {
 #[test]
 fn random_bytes() {
     let r = &mut Random::new(11);
-    for _ in 0..20_000 {
+    for _ in 0..rounds(20_000) {
         let (mut tape, bytes) = (r.bytes(120), r.bytes(40));
         if let Some(first) = tape.first_mut() {
             *first = r.pick(&[1, 1, 1, *first]);
@@ -137,8 +137,8 @@ fn random_bytes() {
 #[test]
 fn damaged_random_books() {
     let (mut accepted, mut refused) = (0, 0);
-    for seed in 0..1500 {
-        let r = &mut Random::new(seed + 1_000_000);
+    for seed in 0..rounds(1500) {
+        let r = &mut Random::new(seed + (1 << 40));
         let layers = 1 + r.below(3);
         let mut book = random_book(r, layers).build().unwrap();
         for _ in 0..=r.below(4) {
@@ -161,8 +161,8 @@ fn damaged_random_books() {
 #[test]
 fn random_merges() {
     let (mut accepted, mut numbers) = (0, std::collections::BTreeMap::new());
-    for seed in 0..3000 {
-        let r = &mut Random::new(seed + 2_000_000);
+    for seed in 0..rounds(3000) {
+        let r = &mut Random::new(seed + (2 << 40));
         let layers = 1 + r.below(3);
         let old = random_book(r, layers).build().unwrap();
         let text = Book::new(&old).unwrap().text();

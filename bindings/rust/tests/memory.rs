@@ -36,7 +36,7 @@ fn shared_runs() {
         assert_eq!(merged.stats.allocs, 2);
         let book = Book::new(&merged.book).unwrap();
         let node = book.node(0).unwrap();
-        assert!(book.tree(&node).unwrap().is_some());
+        assert!(book.tree_within(&node, 1 << 18).unwrap().is_some());
     }
     // 2 to the 20 texts and as many others pass the limit of a pool
     assert_eq!(merge(&old, edit(), &doubling(20, "語")), Err(Refusal::NoRoom));

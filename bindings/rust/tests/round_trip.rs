@@ -4,7 +4,7 @@
 mod common;
 
 use aozora_incremental::*;
-use common::{Random, file, plain, random_book, read_all};
+use common::{Random, file, plain, random_book, read_all, rounds};
 
 fn rebuilt(stored: Stored<'_>) -> StoredBook {
     let book = Book::new(stored).unwrap();
@@ -258,7 +258,7 @@ fn fields_of_lists() {
 
 #[test]
 fn random_books_are_never_refused() {
-    for seed in 0..1500 {
+    for seed in 0..rounds(1500) {
         let r = &mut Random::new(seed);
         let layers = 1 + r.below(4);
         let stored = random_book(r, layers)

@@ -77,6 +77,12 @@ pub fn cases(input: &[u8]) -> Vec<Case<'_>> {
     out
 }
 
+/// How many rounds a random test makes: AOZORA_ROUNDS times as many as usual.
+pub fn rounds(usual: u64) -> u64 {
+    let times = std::env::var("AOZORA_ROUNDS").map_or(1, |n| n.parse().unwrap());
+    usual * times
+}
+
 /// Numbers that are the same in each run.
 pub struct Random(u64);
 
