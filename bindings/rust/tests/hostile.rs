@@ -4,7 +4,7 @@
 mod common;
 
 use aozora_incremental::*;
-use common::{ABC, Random, plain, random_book, read_all, rounds, ruby_reading};
+use common::{ABC, Random, lavish, plain, random_book, read_all, rounds, ruby_reading};
 
 /// A small book with a record of each kind.
 fn small() -> StoredBook {
@@ -170,7 +170,7 @@ fn random_merges() {
         let edit = Edit::new(start.min(end) as u32, start.max(end) as u32, r.text());
         let reading = reading_for(&old, edit, r);
         let answer = merge(&old, edit, &reading);
-        assert_eq!(answer, lavish(&old, edit, &reading));
+        assert_eq!(answer, lavish(&old, edit, &reading, 1 << 16));
         match answer {
             Ok(merged) => {
                 accepted += 1;
@@ -185,22 +185,6 @@ fn random_merges() {
         }
     }
     assert!(accepted > 100, "{accepted} {numbers:?}");
-}
-
-/// The same merge in buffers that are far too large: the memory that `merge` takes is enough.
-fn lavish(old: &StoredBook, edit: Edit<'_>, reading: &StoredBook) -> Result<Merged, Refusal> {
-    let (mut tape, mut bytes, mut work) = (vec![7; 1 << 16], vec![7; 1 << 16], vec![7; WORK_WORDS]);
-    let answer = raw::merge(
-        old.as_stored(),
-        edit,
-        reading.as_stored(),
-        Room::new(&mut tape, &mut bytes),
-        &mut work,
-    )?;
-    tape.truncate(answer.book.tape);
-    bytes.truncate(answer.book.bytes);
-    let Merged { region, reused, reread, stats, .. } = answer;
-    Ok(Merged { book: StoredBook { tape, bytes }, region, reused, reread, stats })
 }
 
 /// A reading of the edit's region: random pools and nodes over the region's new text.

@@ -4,14 +4,14 @@
 mod common;
 
 use aozora_incremental::*;
-use common::plain;
+use common::{lavish, plain};
 
 /// A reading of "x\n\n" whose only node names the same run twice, level by level: 2 to the `levels`
-/// texts.
-fn doubling(levels: usize, text: &str) -> StoredBook {
+/// times what `inner` gives, between other texts.
+fn doubled(levels: usize, inner: impl FnOnce(&mut BookBuilder) -> Segment) -> StoredBook {
     let mut b = BookBuilder::new();
-    let (s, t) = (b.string(text), b.string("other"));
-    let mut run = b.segments(&[Segment::text(s), Segment::text(t)]);
+    let (inner, other) = (inner(&mut b), b.string("other"));
+    let mut run = b.segments(&[inner, Segment::text(other)]);
     for _ in 0..levels {
         let twice = b.contents(&[Content::Segments(run), Content::Segments(run)]);
         let node = b.node_segment(Node::AngleQuote { content: twice });
@@ -20,6 +20,10 @@ fn doubling(levels: usize, text: &str) -> StoredBook {
     let content = b.contents(&[Content::Segments(run)]);
     b.node("x", NodeRef::Inline(Node::AngleQuote { content })).text("\n\n");
     b.build_reading().unwrap()
+}
+
+fn doubling(levels: usize, text: &str) -> StoredBook {
+    doubled(levels, |b| Segment::text(b.string(text)))
 }
 
 fn edit() -> Edit<'static> {
@@ -88,4 +92,81 @@ fn both_orders_that_pass_a_limit() {
         numbers,
         Orders { earlier_first: 18, later_second: 1, later_first: 0, earlier_second: 18 }
     );
+}
+
+/// Every field of every kind counts: a run of many contents or segments, or a long string.
+#[test]
+fn every_field() {
+    let old = plain("a\n\nb\n\nc");
+    let long = "長".repeat(100);
+    let none = |file| Illustration {
+        file,
+        number: None,
+        dimensions: None,
+        caption: None,
+        description: None,
+    };
+    let empty = ContentRange::default();
+    let origin = ForwardOrigin::Detached;
+    let ranges: [fn(ContentRange, SegRange, StrId) -> Node; 8] = [
+        |base, _, _| Node::Ruby { base, reading: ContentRange::default() },
+        |reading, _, _| Node::Ruby { base: ContentRange::default(), reading },
+        |target, _, _| Node::Format {
+            target,
+            origin: ForwardOrigin::Detached,
+            payload: ForwardPayload::None,
+        },
+        |text, _, _| Node::Heading { text },
+        |content, _, _| Node::AngleQuote { content },
+        |base, _, _| Node::MarginNote { base, note: ContentRange::default() },
+        |note, _, _| Node::MarginNote { base: ContentRange::default(), note },
+        |_, run, file| {
+            let caption = Some(Content::Segments(run));
+            Node::Illustration(Illustration {
+                file,
+                number: None,
+                dimensions: None,
+                caption,
+                description: None,
+            })
+        },
+    ];
+    for (place, make) in ranges.into_iter().enumerate() {
+        let reading = doubled(6, |b| {
+            let s = b.string("s");
+            let contents = b.contents(&[Content::Plain(s); 50]);
+            let segments = b.segments(&[Segment::text(s); 50]);
+            b.node_segment(make(contents, segments, s))
+        });
+        let merged = merge(&old, edit(), &reading);
+        assert_eq!(merged, lavish(&old, edit(), &reading, 1 << 20), "{place}");
+        assert!(merged.unwrap().book.tape.len() > 64 * 50 * 10);
+    }
+    let format = |payload| Node::Format { target: empty, origin, payload };
+    let gaiji = |hint, canonical| Node::Gaiji(Gaiji { hint, canonical });
+    let strings: Vec<Box<dyn Fn(StrId, StrId) -> Node>> = vec![
+        Box::new(|s, _| Node::HeadingHint { target: s }),
+        Box::new(|s, _| Node::Kaeriten { mark: s }),
+        Box::new(|s, _| Node::Directive(Directive { raw: s, kind: DirectiveKind::Sic })),
+        Box::new(|s, _| gaiji(s, GaijiCanonical::Unicode)),
+        Box::new(|s, t| gaiji(t, GaijiCanonical::Unresolved { mencode: Some(s) })),
+        Box::new(|s, _| format(ForwardPayload::AccentBody(s))),
+        Box::new(|s, _| format(ForwardPayload::QuotedTarget(s))),
+        Box::new(|s, _| Node::Illustration(none(s))),
+        Box::new(|s, t| Node::Illustration(Illustration { number: Some(s), ..none(t) })),
+        Box::new(|s, t| Node::Illustration(Illustration { dimensions: Some(s), ..none(t) })),
+        Box::new(|s, t| Node::Illustration(Illustration { description: Some(s), ..none(t) })),
+        Box::new(|s, t| {
+            Node::Illustration(Illustration { caption: Some(Content::Plain(s)), ..none(t) })
+        }),
+    ];
+    for (place, make) in strings.iter().enumerate() {
+        let reading = doubled(6, |b| {
+            let (s, t) = (b.string(&long), b.string("t"));
+            b.node_segment(make(s, t))
+        });
+        let merged = merge(&old, edit(), &reading);
+        assert_eq!(merged, lavish(&old, edit(), &reading, 1 << 20), "{place}");
+        assert!(merged.unwrap().book.bytes.len() > 64 * long.len());
+    }
 }

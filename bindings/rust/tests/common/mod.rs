@@ -126,6 +126,22 @@ impl Random {
     }
 }
 
+/// The same merge in buffers that are far too large: the memory that `merge` takes is enough.
+pub fn lavish(
+    old: &StoredBook,
+    edit: Edit<'_>,
+    reading: &StoredBook,
+    room: usize,
+) -> Result<Merged, Refusal> {
+    let (mut tape, mut bytes, mut work) = (vec![7; room], vec![7; room], vec![7; WORK_WORDS]);
+    let room = Room::new(&mut tape, &mut bytes);
+    let answer = raw::merge(old.as_stored(), edit, reading.as_stored(), room, &mut work)?;
+    tape.truncate(answer.book.tape);
+    bytes.truncate(answer.book.bytes);
+    let Merged { region, reused, reread, stats, .. } = answer;
+    Ok(Merged { book: StoredBook { tape, bytes }, region, reused, reread, stats })
+}
+
 /// Asks a book for everything that the reader has. How many items it saw.
 pub fn read_all(book: &Book<'_>, random: &mut Random) -> usize {
     let mut seen = 0;
