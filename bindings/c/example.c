@@ -31,9 +31,9 @@ static const uint8_t reading_tape[] = {
 };
 #define READING_BYTES "xb\n\n" "\xEE\x80\x81\n\n" "x" "b"
 
-/* The reading of the passage 8..10 with `yy` in place of `cc`: no nodes. */
-static const uint8_t last_tape[] = { 1, 2, 0, 0, 0, 2, 0, 0, 0, 2, 10 };
-#define LAST_BYTES "yy" "yy"
+/* The reading of the passage 0..4 with `yyy` in place of the first `a`: no nodes. */
+static const uint8_t first_tape[] = { 1, 6, 0, 0, 0, 6, 0, 0, 0, 2, 10 };
+#define FIRST_BYTES "yyya\n\n" "yyya\n\n"
 
 static uint32_t work[AOZORA_WORK_WORDS];
 
@@ -57,7 +57,7 @@ static void merge_p5(void) {
     aozora_merge_answer a = aozora_merge(SLICE(tape), STR(BYTES), 4, 5, STR("x"), SLICE(reading_tape), STR(READING_BYTES), SLICE(out_tape), SLICE(out_bytes), WORDS(work));
     line("P5", a);
     text("the merged text", out_bytes, 10);
-    printf("it is a book: %u\n", (unsigned)aozora_check_book(out_tape, a.tape, out_bytes, a.bytes));
+    printf("check_book of it: %u\n", (unsigned)aozora_check_book(out_tape, a.tape, out_bytes, a.bytes));
     aozora_node n = aozora_node_at_source(out_tape, a.tape, out_bytes, a.bytes, 5);
     aozora_range c = aozora_lookup_contents(out_tape, a.tape, out_bytes, a.bytes, 0, 1);
     aozora_str s = aozora_lookup_str(out_tape, a.tape, out_bytes, a.bytes, 1);
@@ -82,16 +82,16 @@ static void why_refused(void) {
 static void both_orders(void) {
     uint8_t t1[256], b1[256], t2[256], b2[256], t3[256], b3[256], t4[256], b4[256];
     aozora_orders_answer o = aozora_merge_both_orders(SLICE(tape), STR(BYTES),
-        4, 5, STR("x"), SLICE(reading_tape), STR(READING_BYTES), 8, 10, STR("yy"), SLICE(last_tape), STR(LAST_BYTES),
+        0, 1, STR("yyy"), SLICE(first_tape), STR(FIRST_BYTES), 4, 5, STR("x"), SLICE(reading_tape), STR(READING_BYTES),
         SLICE(t1), SLICE(b1), SLICE(t2), SLICE(b2), SLICE(t3), SLICE(b3), SLICE(t4), SLICE(b4), WORDS(work));
     line("earlier first", o.earlier_first);
-    line("then the later", o.later_second);
-    text("the text", b2, 10);
+    line("then the later, moved by 2", o.later_second);
+    text("the text", b2, 12);
     line("later first", o.later_first);
     line("then the earlier", o.earlier_second);
-    text("the text", b4, 10);
+    text("the text", b4, 12);
     printf("reread: %u and %u\n", (unsigned)(o.earlier_first.reread + o.later_second.reread), (unsigned)(o.later_first.reread + o.earlier_second.reread));
-    /* one layer is added in each order, so here even the bytes are the same; in general only what they show is */
+    /* one of them has nodes, so each order adds one layer and even the bytes are the same; in general only what they show is */
     printf("the final books: %s\n", o.later_second.tape == o.earlier_second.tape && o.later_second.bytes == o.earlier_second.bytes
            && memcmp(t2, t4, o.later_second.tape) == 0 && memcmp(b2, b4, o.later_second.bytes) == 0 ? "the same bytes" : "not the same bytes");
 }

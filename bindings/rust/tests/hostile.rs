@@ -187,6 +187,30 @@ fn random_merges() {
     assert!(accepted > 100, "{accepted} {numbers:?}");
 }
 
+/// The pools of a random book, and nodes that name them.
+fn pools(b: &mut BookBuilder, r: &mut Random) -> Vec<SourceNode> {
+    let pools = random_book(r, 1).build().unwrap();
+    let pools = Book::new(&pools).unwrap();
+    for layer in pools.layers() {
+        layer.strings().for_each(|s| _ = b.string(s));
+        b.contents(&layer.contents().collect::<Vec<_>>());
+        b.segments(&layer.segments().collect::<Vec<_>>());
+    }
+    pools.nodes().filter(|n| n.node.node().is_some()).collect()
+}
+
+/// A text, with nodes over some of its characters.
+fn with_nodes(b: &mut BookBuilder, text: &str, nodes: &mut Vec<SourceNode>, r: &mut Random) {
+    for c in text.chars() {
+        let mut buffer = [0; 4];
+        let c = c.encode_utf8(&mut buffer);
+        match nodes.pop_if(|_| c != "\n" && r.below(2) == 0) {
+            Some(node) => b.node_with_plain(c, node.node, node.plain),
+            None => b.text(c),
+        };
+    }
+}
+
 /// A reading of the edit's region: random pools and nodes over the region's new text.
 fn reading_for(old: &StoredBook, edit: Edit<'_>, r: &mut Random) -> StoredBook {
     let Ok(region) = choose_region(old, edit) else { return plain("") };
@@ -195,21 +219,45 @@ fn reading_for(old: &StoredBook, edit: Edit<'_>, r: &mut Random) -> StoredBook {
     text += str::from_utf8(edit.replacement).unwrap();
     text += book.source(Span::new(edit.end, region.end)).unwrap();
     let mut reading = BookBuilder::new();
-    let pools = random_book(r, 1).build().unwrap();
-    let pools = Book::new(&pools).unwrap();
-    for layer in pools.layers() {
-        layer.strings().for_each(|s| _ = reading.string(s));
-        reading.contents(&layer.contents().collect::<Vec<_>>());
-        reading.segments(&layer.segments().collect::<Vec<_>>());
-    }
-    let mut nodes = pools.nodes().filter(|n| n.node.node().is_some());
-    for c in text.chars() {
-        let mut buffer = [0; 4];
-        let c = c.encode_utf8(&mut buffer);
-        match nodes.next().filter(|_| r.below(2) == 0) {
-            Some(node) => reading.node_with_plain(c, node.node, node.plain),
-            None => reading.text(c),
-        };
-    }
+    let mut nodes = pools(&mut reading, r);
+    with_nodes(&mut reading, &text, &mut nodes, r);
     reading.build_reading().unwrap()
+}
+
+/// Demand 3, on random pairs of corrections of the first and the last of some passages. It is
+/// proved; here it tests `Book::shows_the_same` and the order of all those arguments.
+#[test]
+fn random_orders() {
+    let mut accepted = 0;
+    for seed in 0..rounds(1000) {
+        let r = &mut Random::new(seed + (3 << 40));
+        let mut b = BookBuilder::new();
+        let mut nodes = pools(&mut b, r);
+        with_nodes(&mut b, "あa人\n\nbé\n\nccc\n\n", &mut nodes, r);
+        let old = b.build().unwrap();
+        let last = (b.text_len() - 5 + r.below(3)) as u32;
+        let (one, two) = (Edit::new(0, 3, r.text()), Edit::new(last, last, r.text()));
+        let (first, second) = (reading_for(&old, one, r), reading_for(&old, two, r));
+        let orders =
+            merge_both_orders(&old, Correction::new(one, &first), Correction::new(two, &second));
+        let Ok(orders) = orders.all() else { continue };
+        accepted += 1;
+        let [before, a, z] = [&old, &orders.later_second.book, &orders.earlier_second.book]
+            .map(|book| Book::new(book).unwrap());
+        assert_eq!(a.shows_the_same(&z, 1 << 20), Ok(true));
+        assert_eq!(
+            orders.earlier_first.reread + orders.later_second.reread,
+            orders.later_first.reread + orders.earlier_second.reread
+        );
+        for book in [a, z] {
+            assert_eq!(before.shows_the_same(&book, 1 << 20), Ok(false));
+            assert!(book.strings().zip(before.strings()).all(|(s, t)| s == t));
+            assert!(book.contents().zip(before.contents()).all(|(s, t)| s == t));
+            assert!(book.segments().zip(before.segments()).all(|(s, t)| s == t));
+            assert!(book.string_count() >= before.string_count());
+            assert!(book.content_count() >= before.content_count());
+            assert!(book.segment_count() >= before.segment_count());
+        }
+    }
+    assert!(accepted > 100, "{accepted}");
 }
