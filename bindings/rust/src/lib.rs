@@ -33,8 +33,7 @@
 //! 1. **An answer, always.** Any bytes and numbers give a result or one [`Refusal`], under its
 //!    stated condition. After a refusal every lent buffer is zeros.
 //! 2. **The right answer.** Results equal the definitions of document 01: region, nodes kept and
-//!    reread, counts, and every byte of the merged book. One exception: a merged book of more than
-//!    4294967295 bytes of texts and strings is refused with 18.
+//!    reread, counts, and every byte of the merged book.
 //! 3. **Either way round.** Two corrections of separate passages may come in either order: the same
 //!    passages are reread, the final books are equal with strings in place of ids, the sums of
 //!    reread nodes are equal, and every reference given out for the first book still shows what it
