@@ -154,7 +154,9 @@ pub fn choose_region<'a>(book: impl Into<Stored<'a>>, edit: Edit<'_>) -> Result<
 /// Merges the reading of an edit's region into a book: the corrected book, in memory of its own.
 ///
 /// The result buffers grow to what the result needs: number 18 is left for a book that passes a
-/// limit, for a new layer of more than 3583 strings, and for a machine without memory.
+/// limit, for a new layer of more than 3583 strings, and for a machine without memory. A small
+/// reading can stand for a large result; where it comes from a stranger, [`merge_within`] bounds
+/// the memory.
 ///
 /// # Errors
 ///
@@ -164,15 +166,29 @@ pub fn merge<'a, 'b>(
     edit: Edit<'_>,
     reading: impl Into<Stored<'b>>,
 ) -> Result<Merged, Refusal> {
+    merge_within(book, edit, reading, Lengths { tape: usize::MAX, bytes: usize::MAX })
+}
+
+/// As [`merge`], with result buffers of at most so many bytes: a longer result is refused with 18.
+///
+/// # Errors
+///
+/// A number 1 to 18: [`Refusal`] says what each means.
+pub fn merge_within<'a, 'b>(
+    book: impl Into<Stored<'a>>,
+    edit: Edit<'_>,
+    reading: impl Into<Stored<'b>>,
+    limit: Lengths,
+) -> Result<Merged, Refusal> {
     let (book, reading) = (book.into(), reading.into());
     let mut work = zeros(WORK_WORDS)?;
-    let room = room::first(lengths(book), edit, reading);
+    let room = smaller(limit, room::first(lengths(book), edit, reading));
     match merge_into(book, edit, reading, room, &mut work) {
         // 18 comes last, so both tapes are accepted. A reading may name an item many times, and
         // each time is stored.
         Err(Refusal::NoRoom) => {
-            let room = room::enough(book, edit, reading).ok_or(Refusal::NoRoom)?;
-            merge_into(book, edit, reading, room, &mut work)
+            let enough = room::enough(book, edit, reading).ok_or(Refusal::NoRoom)?;
+            merge_into(book, edit, reading, smaller(limit, enough), &mut work)
         }
         answer => answer,
     }
@@ -196,7 +212,8 @@ fn merge_into(
 /// refused with 1. Where all four are accepted and the two regions are separate, it is proved that
 /// the final books are equal with strings in place of ids
 /// ([`Book::shows_the_same`](crate::Book::shows_the_same)), that the sums of `reread` are equal,
-/// and that each reference into the first book keeps its meaning.
+/// and that each reference into the first book keeps its meaning. The buffers grow as those of
+/// [`merge`]; [`raw::merge_both_orders`] takes yours.
 pub fn merge_both_orders<'a>(
     book: impl Into<Stored<'a>>,
     earlier: Correction<'_>,
@@ -271,6 +288,10 @@ fn wanted_rooms(
             rooms.earlier_second,
         ),
     }
+}
+
+fn smaller(a: Lengths, b: Lengths) -> Lengths {
+    Lengths { tape: a.tape.min(b.tape), bytes: a.bytes.min(b.bytes) }
 }
 
 fn larger(a: Lengths, b: Lengths) -> Lengths {

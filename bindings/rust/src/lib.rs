@@ -60,8 +60,8 @@
 //!
 //! # Memory
 //!
-//! The functions here allocate what they need. Those of [`raw`] do the same on buffers that the
-//! caller lends, and allocate nothing.
+//! The functions here allocate what they need; [`merge_within`] takes a limit. Those of [`raw`] do
+//! the same on buffers that the caller lends, and allocate nothing.
 //!
 //! # Building
 //!
@@ -97,7 +97,8 @@ pub use book::{Book, Layer};
 pub use builder::BookBuilder;
 pub use calls::{
     check_book, check_reading, choose_region, copy_book, diagnostics_allow_incremental,
-    lookup_contents, lookup_segments, lookup_str, merge, merge_both_orders, node_at_source,
+    lookup_contents, lookup_segments, lookup_str, merge, merge_both_orders, merge_within,
+    node_at_source,
 };
 pub use records::Records;
 pub use refusal::{NotARefusal, Refusal};

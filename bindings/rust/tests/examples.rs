@@ -181,29 +181,31 @@ fn refused_in_one_order_only() {
 #[test]
 fn shows_the_same() {
     // one Ruby with this base and reading, behind so many strings and contents that nothing names
-    let book = |unused: usize, base: &[&str], reading: &str, plain: Plain| {
+    let book = |unused: usize, base: &[&str], reading: &str, plain: Plain, inner: Plain| {
         let mut b = BookBuilder::new();
         for _ in 0..unused {
             b.plain("unused");
         }
         let ids: Vec<StrId> = base.iter().map(|s| b.string(s)).collect();
-        let run = b.segments(&ids.iter().map(|&s| Segment::text(s)).collect::<Vec<_>>());
+        let segment = |&s: &StrId| Segment::text(s).with_plain(inner);
+        let run = b.segments(&ids.iter().map(segment).collect::<Vec<_>>());
         let base = b.contents(&[Content::Segments(run)]);
         let node = NodeRef::Inline(Node::Ruby { base, reading: b.plain(reading) });
         b.text("a").node_with_plain("b", node, plain).build().unwrap()
     };
-    let one = book(0, &["x", "y"], "r", [1, 2]);
+    let one = book(0, &["x", "y"], "r", [1, 2], [3, 4]);
     let same = |other: &StoredBook| {
         Book::new(&one).unwrap().shows_the_same(&Book::new(other).unwrap(), 100)
     };
     assert_eq!(same(&one), Ok(true));
-    assert_eq!(same(&book(3, &["x", "y"], "r", [1, 2])), Ok(true));
+    assert_eq!(same(&book(3, &["x", "y"], "r", [1, 2], [3, 4])), Ok(true));
     for other in [
-        book(0, &["x", "y"], "s", [1, 2]),
-        book(0, &["x", "z"], "r", [1, 2]),
-        book(0, &["xy"], "r", [1, 2]),
-        book(0, &["x", "y", ""], "r", [1, 2]),
-        book(0, &["x", "y"], "r", [1, 3]),
+        book(0, &["x", "y"], "s", [1, 2], [3, 4]),
+        book(0, &["x", "z"], "r", [1, 2], [3, 4]),
+        book(0, &["xy"], "r", [1, 2], [3, 4]),
+        book(0, &["x", "y", ""], "r", [1, 2], [3, 4]),
+        book(0, &["x", "y"], "r", [1, 3], [3, 4]),
+        book(0, &["x", "y"], "r", [1, 2], [3, 5]),
     ] {
         assert_eq!(same(&other), Ok(false));
     }

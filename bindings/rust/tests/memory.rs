@@ -94,6 +94,21 @@ fn both_orders_that_pass_a_limit() {
     );
 }
 
+#[test]
+fn within_a_limit() {
+    let (old, reading) = (plain("a\n\nb\n\nc"), doubling(8, "語"));
+    let merged = merge(&old, edit(), &reading).unwrap();
+    let exact = Lengths { tape: merged.book.tape.len(), bytes: merged.book.bytes.len() };
+    assert_eq!(merge_within(&old, edit(), &reading, exact), Ok(merged));
+    for limit in [
+        Lengths { tape: exact.tape - 1, ..exact },
+        Lengths { bytes: exact.bytes - 1, ..exact },
+        Lengths::default(),
+    ] {
+        assert_eq!(merge_within(&old, edit(), &reading, limit), Err(Refusal::NoRoom));
+    }
+}
+
 /// Every field of every kind counts: a run of many contents or segments, or a long string.
 #[test]
 fn every_field() {
