@@ -162,7 +162,10 @@ pub fn read_all(book: &Book<'_>, random: &mut Random) -> usize {
             Content::Segments(range) => see(book.resolve_seg_range(range).unwrap().count()),
         }
     }
-    assert_eq!(book.nodes().count(), book.nodes().len());
+    let nodes: Vec<SourceNode> = book.nodes().collect();
+    assert_eq!(nodes.len(), book.nodes().len());
+    assert!(book.nodes().rev().eq(nodes.iter().rev().copied()));
+    assert!((0..=nodes.len()).all(|place| book.nodes().nth(place) == nodes.get(place).copied()));
     for (place, node) in book.nodes().enumerate() {
         assert_eq!(book.node(place), Some(node));
         assert_eq!(book.node_at_source(node.source_span.start), Some(node));
