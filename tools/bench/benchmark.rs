@@ -4,7 +4,7 @@ use std::hint::black_box;
 use std::sync::Arc;
 use std::time::Instant;
 
-use oracle::judge::{edited, reparse};
+use oracle::judge::{Merged, edited, reparse};
 use oracle::tape::{Book as RustBook, Reading as RustReading};
 
 include!("archive.rs");
@@ -17,8 +17,8 @@ include!("document.rs");
 #[derive(Clone, Copy)]
 struct Times { best: f64, median: f64, calls: usize }
 
-// What is timed. The first three are the merge: with result buffers of just the size and 16384 work words, with buffers twice the size, with
-// 262144 words; the last two of these are timed on books of all sizes alone.
+// What is timed. The first three are the merge: with result buffers of just the size and 16384 work words; with buffers of twice the size; with
+// 262144 words. The second and the third are timed where the size of the book varies, and only there.
 const MERGE: usize = 0;
 const TWICE: usize = 1;
 const WORDS: usize = 2;
@@ -28,8 +28,7 @@ const REPARSE: usize = 5;
 const TAPES: usize = 6;
 const SIDES: usize = 7;
 
-// `faults`: of one merge, and of one `reparse`
-struct Row { shown: Vec<(Group, String)>, text: usize, nodes: usize, bytes: usize, times: [Option<Times>; SIDES], faults: (u64, u64) }
+struct Row { shown: Vec<(Group, String)>, text: usize, nodes: usize, bytes: usize, times: [Option<Times>; SIDES] }
 
 impl Row {
     fn median(&self, side: usize) -> f64 { self.times[side].map_or(f64::NAN, |t| t.median) }
@@ -55,24 +54,14 @@ fn clock<T>(f: impl FnOnce() -> T) -> f64 {
     seconds
 }
 
-// Page faults of a call: pages that the kernel hands out fresh.
-fn faults<T>(f: impl FnOnce() -> T) -> u64 {
-    let so_far = || std::fs::read_to_string("/proc/self/stat").unwrap().rsplit(')').next().unwrap().split(' ').nth(8).unwrap().parse::<u64>().unwrap();
-    let before = so_far();
-    let value = black_box(f());
-    let all = so_far() - before;
-    drop(value);
-    all
-}
-
-type Side<'a> = (usize, Box<dyn FnMut() -> f64 + 'a>);
-
 // What the clock itself takes; it is taken off every time.
 fn clock_cost() -> f64 {
     let mut v: Vec<f64> = (0..10001).map(|_| clock(|| ())).collect();
     v.sort_by(f64::total_cmp);
     v[5000]
 }
+
+type Side<'a> = (usize, Box<dyn FnMut() -> f64 + 'a>);
 
 // The sides take turns, in five rounds, so that a slow moment of the machine falls on all of them; three rounds where a call takes longer than the
 // time of its turn. A turn is one call at least and 500 at most. The first two calls of a side (one, if it is long) count for nothing.
@@ -105,9 +94,11 @@ fn in_rust(c: &Case) -> InRust {
     InRust { reading: RustReading::read(&c.reading.0, &c.reading.1).unwrap(), source, book }
 }
 
-fn with_tapes(c: &Case) -> Tape {
+// from tape to tape; all that was built is handed back too, to be freed outside the clock
+fn with_tapes(c: &Case) -> (Tape, Merged, InRust) {
     let r = in_rust(c);
-    reparse(&r.book, r.source, c.edit.0..c.edit.1, r.reading.lexed()).unwrap().merged(&r.book, &r.reading).book.write()
+    let m = reparse(&r.book, Arc::clone(&r.source), c.edit.0..c.edit.1, r.reading.lexed()).unwrap().merged(&r.book, &r.reading);
+    (m.book.write(), m, r)
 }
 
 fn ours(c: &Case, o: &mut Buffers) -> Answer { merge(&c.book, c.edit, c.replacement.as_bytes(), &c.reading, o) }
@@ -118,10 +109,8 @@ fn agree(label: &str, c: &Case) -> Answer {
     let mut o = Buffers::new(c.book.0.len() + 4 * c.reading.0.len() + 4096, c.book.1.len() + 2 * c.reading.1.len() + 4096);
     let a = ours(c, &mut o);
     assert_eq!(a.number, 0, "{label}");
-    let r = in_rust(c);
-    let m = reparse(&r.book, r.source, c.edit.0..c.edit.1, r.reading.lexed()).expect(label).merged(&r.book, &r.reading);
+    let ((tape, bytes), m, _) = with_tapes(c);
     assert_eq!((m.region.start, m.region.end, m.reused, m.reread, m.counts()), (a.start, a.end, a.reused, a.reread, a.counts), "{label}");
-    let (tape, bytes) = m.book.write();
     assert!(tape == o.tape[..a.tape] && bytes == o.bytes[..a.bytes], "{label}: tape and bytes");
     assert!(o.tape[a.tape..].iter().chain(&o.bytes[a.bytes..]).all(|b| *b == 0), "{label}: zeros behind the result");
     a
@@ -147,9 +136,7 @@ fn time(entry: &Entry, seconds: f64, cost: f64) -> Row {
     }
     let times = measure(seconds, cost, &mut sides);
     drop(sides);
-    let (source, lexed) = (Arc::clone(&r.source), r.reading.lexed());
-    let faults = (faults(|| ours(&c, &mut exact)), faults(|| reparse(&r.book, source, c.edit.0..c.edit.1, lexed)));
-    Row { shown: entry.shown.clone(), text: r.book.text().len(), nodes: c.nodes, bytes: c.book.0.len() + c.book.1.len(), times, faults }
+    Row { shown: entry.shown.clone(), text: r.book.text().len(), nodes: c.nodes, bytes: c.book.0.len() + c.book.1.len(), times }
 }
 
 fn main() {

@@ -42,7 +42,7 @@ fn thousands(n: usize) -> String {
 fn line(r: &Row) -> String {
     let all: Vec<String> = [MERGE, CHECK, REGION, REPARSE, TAPES].map(|i| duration(r.median(i))).into();
     let calls: usize = r.times.iter().flatten().map(|t| t.calls).sum();
-    format!("{:?}: {} ({calls} calls)", r.shown[0].1, all.join(", "))
+    format!("{}: {} ({calls} calls)", name_of(r), all.join(", "))
 }
 
 fn shown(rows: &[Row], group: Group) -> Vec<(&str, &Row)> {
@@ -193,8 +193,7 @@ fn write(template: &str, docs: &str, rows: &[Row], p: &Profile, run: &Run) {
         ("words-16384", duration(formats.median(MERGE))),
         ("words-262144", duration(formats.median(WORDS))),
         ("words-rust", duration(formats.median(REPARSE))),
-        ("faults-ours", thousands(largest.faults.0 as usize)),
-        ("faults-rust", thousands(largest.faults.1 as usize)),
+        ("words-ratio", figures(formats.ratio(WORDS, REPARSE))),
         ("clock", duration(run.clock)),
         ("profile", profile_table(p)),
     ];

@@ -14,7 +14,7 @@ const LEFT: f64 = 78.0;
 const TOP: f64 = 62.0;
 const WIDTH: f64 = 300.0;
 const HEIGHT: f64 = 330.0;
-const GAP: f64 = 24.0;
+const GAP: f64 = 36.0;
 
 fn text_at(x: f64, y: f64, anchor: &str, more: &str, s: &str) -> String { format!("<text x=\"{x:.1}\" y=\"{y:.1}\" text-anchor=\"{anchor}\" {more}>{s}</text>\n") }
 
