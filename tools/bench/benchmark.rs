@@ -142,7 +142,7 @@ fn time(entry: &Entry, seconds: f64, cost: f64) -> Row {
 fn main() {
     let args: Vec<String> = std::env::args().collect();
     let [_, template, docs] = &args[..] else { panic!("benchmark TEMPLATE DOCS") };
-    let budget: f64 = std::env::var("BUDGET").map_or(100.0, |s| s.parse().expect("BUDGET in seconds"));
+    let budget: f64 = std::env::var("BUDGET").map_or(130.0, |s| s.parse().expect("BUDGET in seconds"));
     let run = Run { start: Instant::now(), load: load(), clock: clock_cost() };
     let cases = all_cases();
     let mut rows = Vec::new();
