@@ -1,7 +1,6 @@
 // Times the entries on whole books. check_book on books of 100 kB, 1 MB and 16 MB text: the time per byte is of tape and byte buffer
 // together. choose_region where its search or number 10 has much to do, beside check_book of the same book, which is a part of it.
 // Best and median of 15 runs each.
-use std::time::Instant;
 unsafe extern "C" {
     fn rt_check_book(t: *const u8, tn: usize, d: *const u8, dn: usize) -> u32;
     fn rt_choose_region(t: *const u8, tn: usize, d: *const u8, dn: usize, start: u32, end: u32, r: *const u8, rn: usize, w: *mut u32, wn: usize) -> u64;
@@ -117,7 +116,7 @@ fn main() {
     measure("20,000 rubies, no formats", &rubies(20000, 0), 0);
     measure("20,000 rubies, 2,000 referenced formats", &rubies(20000, 2000), 0);
     for n in [1000, 10000, 100000] {
-        let b = contained(n, |b| b.block("［ここから字下げ］", 2));
+        let b = contained(n, |b| { b.block("［ここから字下げ］", 2); });
         measure(&format!("a block container over {n} paragraphs, edit at the end"), &b, b.text.len() - 1);
         let b = contained(n, |b| b.directive("［割り注］", 4));
         measure(&format!("an unclosed warichu over {n} paragraphs, edit at the end"), &b, b.text.len() - 1);

@@ -1,4 +1,4 @@
-"""Section 4 of document 01 and its numbers 1 to 7: a tape and its bytes read as a book of tools/oracle/gen.py, or refused."""
+"""Section 4 of document 01 and its numbers 1 to 7: a tape and its bytes read as a book of gen.py, or refused."""
 from gen import NONE, Body, Book, Layer, Node, Seg
 from graft import POOL, fields
 

@@ -1,4 +1,4 @@
-"""Sections 2 and 5 of document 01 over the books of tools/oracle/gen.py: the interner with its seven counts, and the graft of a book's
+"""Sections 2 and 5 of document 01 over the books of gen.py: the interner with its seven counts, and the graft of a book's
 nodes into one new layer."""
 from gen import NONE, Body, Layer, Node, Seg
 

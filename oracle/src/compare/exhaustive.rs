@@ -1,0 +1,146 @@
+//! Every short text over "a", a newline and "あ", every edit; and every place for one or two records in a few texts. The Rust alone is the judge, but for
+//! an edit inside a character or one that ends before it starts (8).
+use crate::book::*;
+use crate::books::boundaries;
+use crate::run::Compare;
+use oracle::tape;
+
+fn texts(length: usize) -> Vec<String> {
+    let mut all = vec![String::new()];
+    let mut first = 0;
+    for _ in 0..length {
+        let last = all.len();
+        for i in first..last {
+            all.extend(["a", "\n", "あ"].map(|c| format!("{}{c}", all[i])));
+        }
+        first = last;
+    }
+    all
+}
+
+const NEW: [&str; 5] = ["", "a", "\n", "あ", "\n\n"];
+
+/// The merge of a plain reading, where there is a region.
+fn merge(compare: &mut Compare, class: &'static str, book: &tape::Book, c: &mut Case, region: [u32; 2]) {
+    let (start, end) = (c.start as usize, c.end as usize);
+    let text = book.text().as_bytes();
+    let new = [&text[..start], &c.replacement, &text[end..]].concat();
+    let reading = Book::plain(&new[region[0] as usize..region[1] as usize + new.len() - text.len()]);
+    (c.rtape, c.rbytes) = (reading.tape(), reading.bytes());
+    compare.merge(class, c, book, [c.tape.len(), 2 * new.len() + c.bytes.len(), 16384]);
+}
+
+/// Every edit of a book: regions, and merges if asked for.
+fn edits(compare: &mut Compare, classes: [&'static str; 2], old: &Book, marks: &[usize], new: &[&str], merges: bool) {
+    let mut c = Case::new(old, 0, 0, b"", &Book::plain(b""));
+    let book = tape::Book::read(&c.tape, &c.bytes).expect("a short book");
+    for (i, start) in marks.iter().enumerate() {
+        for end in &marks[i.saturating_sub(1)..] {
+            for s in new {
+                (c.start, c.end, c.replacement) = (*start as u32, *end as u32, s.as_bytes().to_vec());
+                let region = compare.region(classes[0], &c, &book, (start * 7 + end) % 40);
+                if let Some(region) = region.filter(|_| merges) {
+                    merge(compare, classes[1], &book, &mut c, region);
+                }
+            }
+        }
+    }
+}
+
+fn node(class: u8, inline: u8, start: usize, end: usize, body: Body) -> Node {
+    Node { class, inline, start: start as u32, end: end as u32, offset: 0, body }
+}
+
+/// A PageBreak inline and as a leaf, both opens, both closes, a warichu opened and closed.
+fn sorts(start: usize, end: usize) -> Vec<Node> {
+    let mark = |tag| Body::new(13, tag, &[0]);
+    let at = |class, inline, body| node(class, inline, start, end, body);
+    let block = Body::default;
+    vec![
+        at(0, 0, Body::new(5, 0, &[])),
+        at(1, 0, Body::new(5, 0, &[])),
+        at(2, 0, block()),
+        at(2, 1, block()),
+        at(3, 0, block()),
+        at(3, 1, block()),
+        at(0, 0, mark(4)),
+        at(0, 0, mark(5)),
+        at(1, 0, mark(4)),
+    ]
+}
+
+fn with_nodes(text: &[u8], nodes: Vec<Node>) -> Book {
+    let mut b = Book { nodes, ..Book::plain(text) };
+    b.layers[0].strings.push(b"w".to_vec());
+    b.lay();
+    b
+}
+
+fn spans(marks: &[usize]) -> impl Iterator<Item = (usize, usize)> + '_ {
+    marks.iter().flat_map(|a| marks.iter().filter(move |b| *b > a).map(move |b| (*a, *b)))
+}
+
+pub fn all(compare: &mut Compare, length: usize) {
+    let classes = ["short texts, regions", "short texts, merges"];
+    for text in texts(length) {
+        let every: Vec<usize> = (0..=text.len()).collect();
+        edits(compare, classes, &Book::plain(text.as_bytes()), &every, &NEW, true);
+    }
+    one_record(compare, length - 2);
+    two_nodes(compare);
+    records_across_regions(compare);
+}
+
+/// One node or one pair anywhere in a short text.
+fn one_record(compare: &mut Compare, length: usize) {
+    let classes = ["short texts with one node", ""];
+    for text in texts(length).iter().map(String::as_bytes) {
+        let marks = boundaries(text);
+        for (start, end) in spans(&marks) {
+            for n in sorts(start, end) {
+                edits(compare, classes, &with_nodes(text, vec![n]), &marks, &["x"], false);
+            }
+        }
+        for ((a, b), (c, d)) in spans(&marks).flat_map(|x| spans(&marks).map(move |y| (x, y))).filter(|(x, y)| x.1 <= y.0) {
+            let pairs = vec![Pair { kind: 0, at: [a, b, c, d].map(|n| n as u32) }];
+            edits(compare, ["short texts with one pair", ""], &Book { pairs, ..Book::plain(text) }, &marks, &["x"], false);
+        }
+    }
+}
+
+const FOUR: &[u8] = b"a\n\na\n\na\n\na";
+
+/// Two one-byte nodes of every two sorts anywhere in four passages.
+fn two_nodes(compare: &mut Compare) {
+    let marks: Vec<usize> = (0..=FOUR.len()).collect();
+    for (i, j) in spans(&marks[..FOUR.len()]) {
+        for a in sorts(i, i + 1) {
+            for b in sorts(j, j + 1) {
+                edits(compare, ["two nodes in four passages", ""], &with_nodes(FOUR, vec![a.clone(), b]), &marks, &["x"], false);
+            }
+        }
+    }
+}
+
+/// Merges of four passages with one node, pair, container or diagnostic anywhere.
+fn records_across_regions(compare: &mut Compare) {
+    let classes = ["one record in four passages, regions", "one record in four passages, merges"];
+    let marks: Vec<usize> = (0..=FOUR.len()).collect();
+    let new = ["x", "", "\n"];
+    for (start, end) in spans(&marks) {
+        let at = [start, end].map(|n| n as u32);
+        for n in sorts(start, end) {
+            edits(compare, classes, &with_nodes(FOUR, vec![n]), &marks, &new, true);
+        }
+        if end < FOUR.len() {
+            let containers = vec![Container { plain: NONE, open: at[0], close: at[1] }];
+            edits(compare, classes, &Book { containers, ..Book::plain(FOUR) }, &marks, &new, true);
+        }
+        let diagnostics = vec![Diagnostic { kind: 4, rank: 1, start: at[0], end: at[1], plain: NONE }];
+        edits(compare, classes, &Book { diagnostics, ..Book::plain(FOUR) }, &marks, &new, true);
+        if start + 1 < end {
+            let pairs = vec![Pair { kind: 4, at: [at[0], at[0] + 1, at[1] - 1, at[1]] }];
+            edits(compare, classes, &Book { pairs, ..Book::plain(FOUR) }, &marks, &new, true);
+        }
+    }
+}

@@ -1,0 +1,342 @@
+//! One case through both sides, and what was found.
+use crate::archive::{self, Archive};
+use crate::book::{Answer, Case, Room};
+use crate::doc01;
+use crate::books::Rng;
+use oracle::judge::{self, Answer as Said, Merged, judge};
+use oracle::tape::{Book, Reading};
+use std::collections::HashMap;
+use std::panic::{AssertUnwindSafe, catch_unwind};
+use std::path::Path;
+
+#[derive(Clone, Default)]
+pub struct Tally {
+    pub cases: u64,
+    pub accepted: u64,
+    pub refused: [u64; 19],
+    /// cases that were put to the Rust
+    pub rust: u64,
+    pub differences: u64,
+}
+
+pub enum Outcome {
+    Merged { answer: Box<Answer>, rust: Box<Merged> },
+    Refused(u32),
+}
+
+#[derive(Default)]
+pub struct Compare {
+    archive: Archive,
+    classes: Vec<(&'static str, Tally)>,
+    aims: HashMap<&'static str, u64>,
+    pub differences: u64,
+    /// the two listed differences
+    keys_moved: u64,
+    earlier_counts: u64,
+    lookups: u64,
+    regions: u64,
+    /// what accepted merges met
+    met: [u64; MET.len()],
+}
+
+const MET: [&str; 18] = [
+    "a new layer", "a cache hit", "a table hit", "a string over 64 bytes", "a table of 512", "a table of 1024 or more", "more probes than strings asked of the table",
+    "level 32 in the new layer", "runs in runs, 8 deep or more", "runs in runs, 32 deep", "32 layers in the result", "an empty region", "a region at the text's start", "a region at its end",
+    "an old node dropped", "an old pair dropped", "an old container dropped", "an old diagnostic dropped",
+];
+
+/// How deep the runs of the reading's nodes go.
+fn depth(reading: &doc01::Pools, b: &crate::book::Body) -> usize {
+    let inner = |(a, n): (u32, u32)| reading.segments(a, n).iter().map(|s| if s.tag == 3 { 1 + depth(reading, &s.body) } else { 1 }).max().unwrap_or(0);
+    reading.runs(b).into_iter().map(inner).max().unwrap_or(0)
+}
+
+/// A graft of more items than this is not put to the Rust, which has no limit.
+const MOST: u64 = 3_000_000;
+
+fn hex(b: &[u8]) -> String {
+    if b.is_empty() { "-".to_owned() } else { b.iter().map(|x| format!("{x:02x}")).collect() }
+}
+
+fn short(a: &Result<Answer, u32>) -> String {
+    match a {
+        Ok(a) => format!("{} counts {:?} tape {} bytes {}", a.line(), a.counts, hex(&a.tape), hex(&a.bytes)),
+        Err(n) => format!("refused {n}"),
+    }
+}
+
+fn answer_of(m: &Merged) -> Answer {
+    let (tape, bytes) = m.book.write();
+    Answer { region: [m.region.start, m.region.end], reused: m.reused, reread: m.reread, counts: m.counts(), tape, bytes }
+}
+
+/// What is lent to a case that does not say: what the answer needs and a little more, or any little for a refusal.
+fn room(answer: &Result<Answer, u32>, r: &mut Rng) -> Room {
+    let more = *r.pick(&[0, 1, 7, 64, 300]);
+    match answer {
+        Ok(a) => [a.tape.len() + more, a.bytes.len() + *r.pick(&[0, 1, 7, 64]), 16384 + *r.pick(&[0, 0, 1, 9])],
+        Err(_) => [r.below(200), r.below(200), *r.pick(&[16384, 16384, 0, 100, 16383])],
+    }
+}
+
+impl Compare {
+    pub fn new() -> Self {
+        Self::default()
+    }
+    pub fn tally(&mut self, class: &'static str) -> &mut Tally {
+        let at = self.classes.iter().position(|c| c.0 == class).unwrap_or_else(|| {
+            self.classes.push((class, Tally::default()));
+            self.classes.len() - 1
+        });
+        &mut self.classes[at].1
+    }
+    pub fn accepted(&mut self, class: &'static str) -> u64 {
+        self.tally(class).accepted
+    }
+    /// The first ones are shown whole.
+    pub fn differ(&mut self, class: &'static str, what: &str, c: Option<&Case>) {
+        self.differences += 1;
+        self.tally(class).differences += 1;
+        if self.differences <= 20 {
+            println!("DIFFERENCE, {class}: {what}");
+            if let Some(c) = c {
+                let input = c.input();
+                println!("  room {:?} input of {} bytes {}", c.room, input.len(), hex(&input[..input.len().min(20_000)]));
+            }
+        }
+    }
+
+    fn ours(&mut self, c: &Case, room: Room) -> Result<Result<Answer, u32>, String> {
+        let archive = &mut self.archive;
+        catch_unwind(AssertUnwindSafe(|| archive.merge(c, room))).map_err(|e| e.downcast_ref::<&str>().map_or("panic".to_owned(), |s| (*s).to_owned()))
+    }
+
+    pub fn run_aimed(&mut self, class: &'static str, name: &'static str, c: &Case, aim: Option<u32>, r: &mut Rng) {
+        *self.aims.entry(name).or_default() += u64::from(aim.is_some());
+        self.run(class, c, aim, None, r);
+    }
+
+    /// `aim`: the number that the case was made for. `book`: the old book in the Rust's types, if it is there already.
+    pub fn run(&mut self, class: &'static str, c: &Case, aim: Option<u32>, book: Option<&Book>, r: &mut Rng) -> Outcome {
+        let said = doc01::merge_in_any_room(c);
+        let room = c.room.unwrap_or_else(|| room(&said, r));
+        let said = doc01::in_room(said, room);
+        let number = said.as_ref().err().copied().unwrap_or(0);
+        let t = self.tally(class);
+        t.cases += 1;
+        match number {
+            0 => t.accepted += 1,
+            n => t.refused[n as usize] += 1,
+        }
+        match self.ours(c, room) {
+            Err(what) => self.differ(class, &what, Some(c)),
+            Ok(ours) if ours != said => self.differ(class, &format!("ours {} document 01 {}", short(&ours), short(&said)), Some(c)),
+            Ok(_) => {}
+        }
+        if aim.is_some_and(|n| n != number) {
+            self.differ(class, &format!("made for {aim:?}, is {number}"), Some(c));
+        }
+        if (1..=8).contains(&number) {
+            return Outcome::Refused(number);
+        }
+        let read;
+        let book = match book {
+            Some(book) => book,
+            None => {
+                let Some(book) = Book::read(&c.tape, &c.bytes) else {
+                    self.differ(class, "the Rust's types have no such book", Some(c));
+                    return Outcome::Refused(number);
+                };
+                read = book;
+                if read.write() != (c.tape.clone(), c.bytes.clone()) {
+                    self.differ(class, "read and written again, another tape", Some(c));
+                }
+                &read
+            }
+        };
+        self.lookups(class, c, book, r);
+        self.rust(class, c, book, room, said)
+    }
+
+    fn lookups(&mut self, class: &'static str, c: &Case, book: &Book, r: &mut Rng) {
+        let offset = r.below(book.text().len() + 2) as u32;
+        let theirs = (judge::node_at_source(book, offset), judge::diagnostics_allow_incremental(book));
+        let ours = (archive::node_at_source(&c.tape, &c.bytes, offset), archive::diagnostics_allow_incremental(&c.tape, &c.bytes));
+        self.lookups += 1;
+        if ours != theirs {
+            self.differ(class, &format!("lookups at {offset}: ours {ours:?} the Rust's {theirs:?}"), Some(c));
+        }
+    }
+
+    /// The Rust's answer, where `said` is accepted or a number above 8.
+    fn rust(&mut self, class: &'static str, c: &Case, book: &Book, room: Room, said: Result<Answer, u32>) -> Outcome {
+        let (edit, replacement) = (c.start as usize..c.end as usize, std::str::from_utf8(&c.replacement).expect("passed number 2"));
+        let number = said.as_ref().err().copied().unwrap_or(0);
+        if (9..=11).contains(&number) {
+            self.tally(class).rust += 1;
+            let theirs = catch_unwind(AssertUnwindSafe(|| judge::region(book, edit, replacement)));
+            if !matches!(theirs, Ok(Err(n)) if n == number) {
+                self.differ(class, &format!("refused {number}, the Rust {theirs:?}"), Some(c));
+            }
+            return Outcome::Refused(number);
+        }
+        if number == 18 && doc01::read(&c.rtape, &c.rbytes).is_ok_and(|b| doc01::adds(&b).iter().any(|n| *n > MOST)) {
+            return Outcome::Refused(number);
+        }
+        self.tally(class).rust += 1;
+        let Some(reading) = Reading::read(&c.rtape, &c.rbytes) else {
+            self.differ(class, "the Rust's types have no such reading", Some(c));
+            return Outcome::Refused(number);
+        };
+        let theirs = judge(book, edit, replacement, &reading);
+        match (said, theirs) {
+            (Ok(a), Said::Merged(m)) => {
+                self.keys_moved += u64::from(m.keys_moved);
+                self.meet(c, &a);
+                self.earlier_counts += u64::from(m.counts != m.counts());
+                let b = answer_of(&m);
+                if a != b {
+                    self.differ(class, &format!("ours {} the Rust {}", short(&Ok(a.clone())), short(&Ok(b))), Some(c));
+                }
+                return Outcome::Merged { answer: Box::new(a), rust: m };
+            }
+            (Err(n @ (13..=16)), Said::None(m)) if n == m => {}
+            (Err(12), Said::OtherText) => {}
+            (Err(17), Said::Merged(m)) if m.book.layers() == 33 && m.new_layer => {}
+            (Err(18), Said::Merged(m)) if over(&answer_of(&m), room) => {}
+            (said, theirs) => {
+                let theirs = match theirs {
+                    Said::Merged(m) => short(&Ok(answer_of(&m))),
+                    other => format!("{other:?}"),
+                };
+                self.differ(class, &format!("ours {} the Rust {theirs}", short(&said)), Some(c));
+            }
+        }
+        Outcome::Refused(number)
+    }
+
+    fn meet(&mut self, c: &Case, a: &Answer) {
+        let [old, reading, new] = [(&c.tape, &c.bytes), (&c.rtape, &c.rbytes), (&a.tape, &a.bytes)].map(|(t, b)| doc01::read(t, b).expect("a book"));
+        let pools = doc01::Pools::of(&reading);
+        let deep = reading.nodes.iter().filter(|n| n.class < 2).map(|n| depth(&pools, &n.body)).max().unwrap_or(0);
+        let (n, fresh) = (a.counts, new.layers.len() > old.layers.len());
+        let level = new.layers.last().filter(|_| fresh).is_some_and(|l| l.segments.iter().any(|s| s.level == 32));
+        let met = [
+            fresh, n[1] > 0, n[2] > 0, n[4] > 0, n[5] > 0, n[5] > 1, n[6] > n[0] - n[1] - n[4],
+            level, deep >= 8, deep >= 32, new.layers.len() == 32, a.region[0] == a.region[1], a.region[0] == 0, a.region[1] as usize == old.text.len(),
+            (a.reused as usize) < old.nodes.len(), new.pairs.len() < old.pairs.len() + reading.pairs.len(),
+            new.containers.len() < old.containers.len() + reading.containers.len(), new.diagnostics.len() < old.diagnostics.len() + reading.diagnostics.len(),
+        ];
+        for (count, met) in self.met.iter_mut().zip(met) {
+            *count += u64::from(met);
+        }
+    }
+
+    /// The region alone, of ours and of the Rust.
+    pub fn region(&mut self, class: &'static str, c: &Case, book: &Book, words: usize) -> Option<[u32; 2]> {
+        let ours = self.archive.region(&c.tape, &c.bytes, c.start, c.end, &c.replacement, words);
+        self.regions += 1;
+        let (edit, replacement) = (c.start as usize..c.end as usize, std::str::from_utf8(&c.replacement).expect("generated text"));
+        let on_edges = book.text().is_char_boundary(edit.start) && book.text().is_char_boundary(edit.end);
+        let theirs = if edit.start > edit.end || !on_edges { Err(8) } else { judge::region(book, edit, replacement).map(|r| [r.start as u32, r.end as u32]) };
+        let t = self.tally(class);
+        t.cases += 1;
+        match theirs {
+            Ok(_) => t.accepted += 1,
+            Err(n) => t.refused[n as usize] += 1,
+        }
+        t.rust += u64::from(theirs != Err(8));
+        if ours != theirs {
+            self.differ(class, &format!("region: ours {ours:?} the Rust {theirs:?}"), Some(c));
+        }
+        ours.ok()
+    }
+
+    /// A merge without document 01's check: ours and the Rust.
+    pub fn merge(&mut self, class: &'static str, c: &Case, book: &Book, room: Room) {
+        let reading = Reading::read(&c.rtape, &c.rbytes).expect("a generated reading");
+        let (edit, replacement) = (c.start as usize..c.end as usize, std::str::from_utf8(&c.replacement).expect("generated text"));
+        let theirs = match judge(book, edit, replacement, &reading) {
+            Said::Merged(m) => Ok(answer_of(&m)),
+            Said::None(n) => Err(n),
+            other => {
+                self.differ(class, &format!("the Rust {other:?}"), Some(c));
+                return;
+            }
+        };
+        let t = self.tally(class);
+        t.cases += 1;
+        t.rust += 1;
+        match &theirs {
+            Ok(_) => t.accepted += 1,
+            Err(n) => t.refused[*n as usize] += 1,
+        }
+        match self.ours(c, room) {
+            Err(what) => self.differ(class, &what, Some(c)),
+            Ok(ours) if ours != theirs => self.differ(class, &format!("ours {} the Rust {}", short(&ours), short(&theirs)), Some(c)),
+            Ok(_) => {}
+        }
+    }
+
+    /// The inputs of the program `merge` in a folder, and its lines.
+    pub fn files(&mut self, folder: &Path) {
+        let class = "files of oracle/cases";
+        let mut names: Vec<_> = std::fs::read_dir(folder).expect("oracle/cases").map(|e| e.expect("an entry").path()).filter(|p| p.extension().is_some_and(|e| e == "in")).collect();
+        names.sort();
+        for path in names {
+            let (input, line) = (std::fs::read(&path).expect("a case"), std::fs::read_to_string(path.with_extension("out")).expect("its line"));
+            let said = doc01::program(&input) + "\n";
+            if said != line {
+                self.differ(class, &format!("{path:?}: {line:?}, document 01 {said:?}"), None);
+            }
+            let Some(c) = Case::of_input(&input) else {
+                let t = self.tally(class);
+                t.cases += 1;
+                t.refused[if line == "refused 3\n" { 3 } else { 1 }] += 1;
+                continue;
+            };
+            let c = Case { room: Some([65536, 65536, 16384]), ..c };
+            let ours = match self.run(class, &c, None, None, &mut Rng::new(0, 0)) {
+                Outcome::Merged { answer, .. } => answer.line(),
+                Outcome::Refused(n) => format!("refused {n}"),
+            };
+            if ours + "\n" != line {
+                self.differ(class, &format!("{path:?}: {line:?}"), Some(&c));
+            }
+        }
+    }
+
+    pub fn table(&self, seed: u64, count: u64) {
+        println!("seed {seed}, {count} books\n");
+        println!("| class | cases | accepted | put to the Rust | refused: number (times) | differences |\n|---|---|---|---|---|---|");
+        let mut all = Tally::default();
+        for (name, t) in &self.classes {
+            row(name, t);
+            all.cases += t.cases;
+            all.accepted += t.accepted;
+            all.rust += t.rust;
+            all.differences += t.differences;
+            for (a, b) in all.refused.iter_mut().zip(t.refused) {
+                *a += b;
+            }
+        }
+        row("together", &all);
+        println!("\nlisted differences: equal keys in another order {}, counts of an earlier merge {}", self.keys_moved, self.earlier_counts);
+        println!("lookups: {}, regions alone: {}", self.lookups, self.regions);
+        let met: Vec<String> = MET.iter().zip(self.met).map(|(what, n)| format!("{what} {n}")).collect();
+        println!("accepted merges with {}", met.join(", "));
+        let unmet: Vec<&str> = crate::damage::ALL.iter().map(|d| d.0).filter(|n| self.aims.get(n).is_none_or(|k| *k == 0)).collect();
+        println!("damages that were never possible: {unmet:?}");
+    }
+}
+
+fn row(name: &str, t: &Tally) {
+    let numbers: Vec<String> = (1..19).filter(|n| t.refused[*n] > 0).map(|n| format!("{n} ({})", t.refused[n])).collect();
+    println!("| {name} | {} | {} | {} | {} | {} |", t.cases, t.accepted, t.rust, numbers.join(", "), t.differences);
+}
+
+/// Whether the Rust's result is one of those that document 01 refuses with 18.
+fn over(a: &Answer, room: Room) -> bool {
+    let lent = a.tape.len() > room[0] || a.bytes.len() > room[1] || room[2] < 16384;
+    lent || a.counts[3] > 3583 || doc01::read(&a.tape, &a.bytes).is_ok_and(|b| !doc01::within_limits(&b))
+}

@@ -1,0 +1,157 @@
+// The benchmark: the proved merge, tape to tape, beside the Rust's reparse on the same inputs, in one process. benchmark TEMPLATE DOCS writes
+// DOCS/BENCHMARKS.md and DOCS/benchmarks.svg and prints the tables. BUDGET is the number of seconds that the timed calls take together, about.
+use std::hint::black_box;
+use std::sync::Arc;
+use std::time::Instant;
+
+use oracle::judge::{Merged, edited, reparse};
+use oracle::tape::{Book as RustBook, Reading as RustReading};
+
+include!("archive.rs");
+include!("book.rs");
+include!("cases.rs");
+include!("plot.rs");
+include!("document.rs");
+
+// in seconds
+#[derive(Clone, Copy)]
+struct Times { best: f64, median: f64, calls: usize }
+
+// What is timed. The first three are the merge: with result buffers of just the size and 16384 work words; with buffers of twice the size; with
+// 262144 words. The second and the third are timed where the size of the book varies, and only there.
+const MERGE: usize = 0;
+const TWICE: usize = 1;
+const WORDS: usize = 2;
+const CHECK: usize = 3;
+const REGION: usize = 4;
+const REPARSE: usize = 5;
+const TAPES: usize = 6;
+const SIDES: usize = 7;
+
+struct Row { shown: Vec<(Group, String)>, text: usize, nodes: usize, bytes: usize, times: [Option<Times>; SIDES] }
+
+impl Row {
+    fn median(&self, side: usize) -> f64 { self.times[side].map_or(f64::NAN, |t| t.median) }
+    fn ratio(&self, a: usize, b: usize) -> f64 { self.median(a) / self.median(b) }
+}
+
+unsafe extern "C" { fn clock_gettime(clock: i32, time: *mut [i64; 2]) -> i32; }
+
+// Processor time of this thread, its page faults included: what else runs on the machine counts little.
+fn now() -> f64 {
+    const THREAD_CPUTIME: i32 = 3;
+    let mut time = [0; 2];
+    assert_eq!(unsafe { clock_gettime(THREAD_CPUTIME, &mut time) }, 0);
+    time[0] as f64 + time[1] as f64 * 1e-9
+}
+
+// what the call answers is dropped outside the clock
+fn clock<T>(f: impl FnOnce() -> T) -> f64 {
+    let start = now();
+    let value = black_box(f());
+    let seconds = now() - start;
+    drop(value);
+    seconds
+}
+
+// What the clock itself takes; it is taken off every time.
+fn clock_cost() -> f64 {
+    let mut v: Vec<f64> = (0..10001).map(|_| clock(|| ())).collect();
+    v.sort_by(f64::total_cmp);
+    v[5000]
+}
+
+type Side<'a> = (usize, Box<dyn FnMut() -> f64 + 'a>);
+
+// The sides take turns, in five rounds, so that a slow moment of the machine falls on all of them; three rounds where a call takes longer than the
+// time of its turn. A turn is one call at least and 500 at most. The first two calls of a side (one, if it is long) count for nothing.
+fn measure(seconds: f64, cost: f64, sides: &mut [Side]) -> [Option<Times>; SIDES] {
+    let turn = seconds / (5 * sides.len()) as f64;
+    let mut taken = vec![Vec::new(); SIDES];
+    let mut rounds = [5; SIDES];
+    for (i, side) in sides.iter_mut() {
+        if side() > turn { rounds[*i] = 3; } else { side(); }
+    }
+    for round in 0..5 {
+        for (i, side) in sides.iter_mut().filter(|(i, _)| round < rounds[*i]) {
+            let start = Instant::now();
+            for _ in 0..500 { taken[*i].push(side()); if start.elapsed().as_secs_f64() >= turn { break; } }
+        }
+    }
+    core::array::from_fn(|i| {
+        let v = &mut taken[i];
+        v.sort_by(f64::total_cmp);
+        v.first().map(|best| Times { best: best - cost, median: v[v.len() / 2] - cost, calls: v.len() })
+    })
+}
+
+// a case in the Rust's types
+struct InRust { book: RustBook, reading: RustReading, source: Arc<str> }
+
+fn in_rust(c: &Case) -> InRust {
+    let book = RustBook::read(&c.book.0, &c.book.1).unwrap();
+    let source = edited(book.text(), &(c.edit.0..c.edit.1), c.replacement);
+    InRust { reading: RustReading::read(&c.reading.0, &c.reading.1).unwrap(), source, book }
+}
+
+// from tape to tape; all that was built is handed back too, to be freed outside the clock
+fn with_tapes(c: &Case) -> (Tape, Merged, InRust) {
+    let r = in_rust(c);
+    let m = reparse(&r.book, Arc::clone(&r.source), c.edit.0..c.edit.1, r.reading.lexed()).unwrap().merged(&r.book, &r.reading);
+    (m.book.write(), m, r)
+}
+
+fn ours(c: &Case, o: &mut Buffers) -> Answer { merge(&c.book, c.edit, c.replacement.as_bytes(), &c.reading, o) }
+
+// Both sides on one case: they must agree in the region, the nodes kept and reread, the seven counts, the tape and the bytes. The answer has the
+// lengths that a caller has to lend.
+fn agree(label: &str, c: &Case) -> Answer {
+    let mut o = Buffers::new(c.book.0.len() + 4 * c.reading.0.len() + 4096, c.book.1.len() + 2 * c.reading.1.len() + 4096);
+    let a = ours(c, &mut o);
+    assert_eq!(a.number, 0, "{label}");
+    let ((tape, bytes), m, _) = with_tapes(c);
+    assert_eq!((m.region.start, m.region.end, m.reused, m.reread, m.counts()), (a.start, a.end, a.reused, a.reread, a.counts), "{label}");
+    assert!(tape == o.tape[..a.tape] && bytes == o.bytes[..a.bytes], "{label}: tape and bytes");
+    assert!(o.tape[a.tape..].iter().chain(&o.bytes[a.bytes..]).all(|b| *b == 0), "{label}: zeros behind the result");
+    a
+}
+
+fn time(entry: &Entry, seconds: f64, cost: f64) -> Row {
+    let c = (entry.make)();
+    let a = agree(&entry.shown[0].1, &c);
+    let (mut exact, mut twice, mut more) = (Buffers::new(a.tape, a.bytes), Buffers::new(2 * a.tape, 2 * a.bytes), Buffers::new(a.tape, a.bytes));
+    more.work = vec![7; 262144];
+    let mut words = vec![7; 16384];
+    let r = in_rust(&c);
+    let mut sides: Vec<Side> = vec![
+        (MERGE, Box::new(|| clock(|| ours(&c, &mut exact)))),
+        (CHECK, Box::new(|| clock(|| check_book(&c.book)))),
+        (REGION, Box::new(|| clock(|| choose_region(&c.book, c.edit, c.replacement.as_bytes(), &mut words)))),
+        (REPARSE, Box::new(|| { let (source, lexed) = (Arc::clone(&r.source), r.reading.lexed()); clock(|| reparse(&r.book, source, c.edit.0..c.edit.1, lexed)) })),
+        (TAPES, Box::new(|| clock(|| with_tapes(&c)))),
+    ];
+    if let Group::Sizes(_) = entry.shown[0].0 {
+        sides.push((TWICE, Box::new(|| clock(|| ours(&c, &mut twice)))));
+        sides.push((WORDS, Box::new(|| clock(|| ours(&c, &mut more)))));
+    }
+    let times = measure(seconds, cost, &mut sides);
+    drop(sides);
+    Row { shown: entry.shown.clone(), text: r.book.text().len(), nodes: c.nodes, bytes: c.book.0.len() + c.book.1.len(), times }
+}
+
+fn main() {
+    let args: Vec<String> = std::env::args().collect();
+    let [_, template, docs] = &args[..] else { panic!("benchmark TEMPLATE DOCS") };
+    let budget: f64 = std::env::var("BUDGET").map_or(130.0, |s| s.parse().expect("BUDGET in seconds"));
+    let run = Run { start: Instant::now(), load: load(), clock: clock_cost() };
+    let cases = all_cases();
+    let mut rows = Vec::new();
+    for entry in &cases {
+        let row = time(entry, budget / cases.len() as f64, run.clock);
+        eprintln!("{}", line(&row));
+        rows.push(row);
+    }
+    let largest = cases.iter().find(|e| e.shown[0] == (Group::Sizes(Kind::Ruby), "16 MB".to_string())).unwrap();
+    let profile = profile(&(largest.make)(), 4);
+    write(template, docs, &rows, &profile, &run);
+}
