@@ -29,15 +29,7 @@ fn refused_output(n: u32) -> IncrementalOutput
         end: 0,
         reused: 0,
         reread: 0,
-        stats: interner::InternStats {
-            calls: 0,
-            cachehits: 0,
-            tablehits: 0,
-            allocs: 0,
-            longbypass: 0,
-            resizes: 0,
-            probesteps: 0,
-        },
+        stats: stats::none(),
         tape: 0,
         bytes: 0,
     }

@@ -7,6 +7,7 @@ use lib.Dec.{lit≤}
 use lib.ListN.{length, getD, take, set, length-set}
 use lib.Seq.{getD-set-same}
 use Rattle.table.specs.Layout.{taken, startsOf, stringsUpTo}
+use Rattle.stats.specs.Counts.{noStats}
 use Rattle.interner.specs.State.{Fresh}
 use Rattle.table.specs.Sizes.{none}
 use Rattle.table.specs.Views.{length-part, getD-part}
@@ -24,7 +25,7 @@ module _ (work strs : List ℕ) (base : ℕ) (room : 16384 ≤ length work) (fit
   first-start : getD (startsOf 0 new) 0 0 ≡ base
   first-start = getD-part 8192 8193 new 0 0 (lit≤ tt) ∙ getD-set-same work 8192 base 0 (omega (arith, room))
 
-  pub begun : Fresh work strs base new (record { slots = 0; occupied = 0; count = 0; base = base; used = base; last = 0; stats = record { calls = 0; cachehits = 0; tablehits = 0; allocs = 0; longbypass = 0; resizes = 0; probesteps = 0 } })
+  pub begun : Fresh work strs base new (record { slots = 0; occupied = 0; count = 0; base = base; used = base; last = 0; stats = noStats })
   unfolding taken stringsUpTo flatten
   begun =
       record {

@@ -66,22 +66,13 @@ fn input_refusal(input: &[u8]) -> u32
 fn refused(n: u32) -> result::IncrementalOutput
     ensures { λ r. ⌜ r ≡ refusedOutput n ⌝ }
 {
-    let none = interner::InternStats {
-        calls: 0,
-        cachehits: 0,
-        tablehits: 0,
-        allocs: 0,
-        longbypass: 0,
-        resizes: 0,
-        probesteps: 0,
-    };
     result::IncrementalOutput {
         number: n,
         start: 0,
         end: 0,
         reused: 0,
         reread: 0,
-        stats: none,
+        stats: stats::none(),
         tape: 0,
         bytes: 0,
     }

@@ -20,7 +20,7 @@ ghost use Rattle.tape.specs.Placed.{PlacesFit};
 ghost use Rattle.layer.specs.Source.{SourceFits};
 ghost use Rattle.layer.specs.Layered.{graftedInto};
 ghost use Rattle.result.specs.Parts.{headBytes};
-ghost use Rattle.result.specs.Answer.{noCounts, refusedOutput, roomOf, Written};
+ghost use Rattle.result.specs.Answer.{refusedOutput, roomOf, Written};
 ghost use Rattle.result.specs.Books.{Books, bookIn};
 ghost use Rattle.result.specs.Checked.{resultChecked};
 ghost use Rattle.result.specs.Sizes.{sidesOf, keptOf, Few, Small, totalOf, listsFit, roomFor, lengthsOf, listsEnd};
@@ -42,7 +42,7 @@ pub struct IncrementalOutput {
     pub end: u32,
     pub reused: u32,
     pub reread: u32,
-    pub stats: interner::InternStats,
+    pub stats: stats::InternStats,
     pub tape: usize,
     pub bytes: usize,
 }
@@ -257,7 +257,7 @@ pub struct Graft {
     pub ok: bool,
     pub len: usize,
     pub bytes: usize,
-    pub stats: interner::InternStats,
+    pub stats: stats::InternStats,
 }
 
 // The reading's nodes grafted behind the old layers, if it has any: their records from `at` on, new strings from `base` on.
@@ -283,7 +283,7 @@ fn graft_reading(
             ok: true,
             len: 0,
             bytes: 0,
-            stats: no_counts(),
+            stats: stats::none(),
         };
     }
     let o = layer::Offsets {
@@ -297,7 +297,7 @@ fn graft_reading(
             ok: false,
             len: 0,
             bytes: 0,
-            stats: no_counts(),
+            stats: stats::none(),
         };
     }
     let state = l.state;
@@ -307,20 +307,6 @@ fn graft_reading(
         len: l.len,
         bytes: state.used - base,
         stats: stats,
-    }
-}
-
-fn no_counts() -> interner::InternStats
-    ensures { λ r. ⌜ r ≡ noCounts ⌝ }
-{
-    interner::InternStats {
-        calls: 0,
-        cachehits: 0,
-        tablehits: 0,
-        allocs: 0,
-        longbypass: 0,
-        resizes: 0,
-        probesteps: 0,
     }
 }
 
@@ -610,7 +596,7 @@ fn refused() -> IncrementalOutput
         end: 0,
         reused: 0,
         reread: 0,
-        stats: no_counts(),
+        stats: stats::none(),
         tape: 0,
         bytes: 0,
     }
@@ -620,7 +606,7 @@ fn output_of(
     w: splice::Window,
     s: Sides,
     reread: usize,
-    stats: interner::InternStats,
+    stats: stats::InternStats,
     tape: usize,
     bytes: usize,
 ) -> IncrementalOutput

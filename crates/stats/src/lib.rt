@@ -1,5 +1,6 @@
-// `InternStats`, section 2 of document 01: the seven counts of the interner. The record is lent to the function that owns a count, and
-// only that one changes it. A call of the interner ends in one of four ways; each is a function by value over these.
+// `InternStats`, section 2 of document 01: the seven counts of the interner. Each thing that is counted has a function to which the record
+// is lent, and which changes its own counts and no other. A call of the interner ends in one of four ways; each is a function by value
+// that lends a local to these.
 ghost use mathlib.Core.Path.{_≡_};
 ghost use Prim.Native.Nat.{_+_, _^_, _<_, _≤_};
 ghost use Rattle.stats.specs.Counts.{noStats, plusCall, plusCacheHit, plusBypass, plusTableHit, plusAlloc, plusResizes, plusProbes, Counted};
