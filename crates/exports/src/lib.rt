@@ -19,7 +19,6 @@ ghost use Rattle.lookup.specs.Copying.{copiedOf, copyInto};
 ghost use Rattle.edit.specs.Numbers.{editOf};
 ghost use Rattle.region.specs.Chosen.{chosenOf};
 ghost use Rattle.result.specs.Answer.{roomOf, Merged};
-ghost use Rattle.incremental.specs.Stages.{usedOf};
 ghost use Rattle.orders.specs.Orders.{storedOf, correctionOf, MergedBothOrders};
 ghost use Rattle.exports.specs.Answers.{allowedAnswer, nodeAnswer, rangeAnswer, rangeRead, strAnswer, strRead, copyAnswer, regionAnswer, outputRead, ordersRead};
 
@@ -369,7 +368,7 @@ pub extern "C" fn aozora_merge(
 ) -> MergeAnswer
     ensures { λ r. ⌜ Merged
         (merge (record { tape = now (tape .entry); bytes = now (bytes .entry) }) (editOf start end (now (replacement .entry))) (record { tape = now (readingtape .entry); bytes = now (readingbytes .entry) })
-        (usedOf (roomOf (now (outtape .entry)) (now (outbytes .entry)) (now (work .entry)))))
+        (roomOf (now (outtape .entry)) (now (outbytes .entry)) (now (work .entry))))
         (roomOf (now (outtape .entry)) (now (outbytes .entry)) (now (work .entry))) (outputRead r) (now (outtape .exit)) (now (outbytes .exit)) (now (work .exit)) ⌝ }
 {
     merge_answer(incremental::merge(

@@ -59,7 +59,7 @@ pub record Made (p : Plan) (m : Mark) (out work strs out′ work′ strs′ : Li
   pub wrote : out′ ≡ laid p m out g
   pub base : r .state .base ≡ m .state .base
   pub kept : take (m .state .base) strs′ ≡ take (m .state .base) strs
-  pub free : drop 11776 work′ ≡ drop 11776 work
+  pub free : drop 15360 work′ ≡ drop 15360 work
   pub long : length strs′ ≡ length strs
 
 -- every answer: not ok exactly where the defined strings have no room

@@ -52,7 +52,7 @@ stringFrom t id = wordAt t 1 + wordAt t 5 + sum (take id (allLengths t (places t
 
 -- the work words behind the interner's: the index of the source's strings
 abbrev pub indexWords : List ℕ → List ℕ
-indexWords work = take (16384 - 11776) (drop 11776 work)
+indexWords work = take (16384 - 15360) (drop 15360 work)
 
 -- the trees of the contents, or segments, that stand from `at` on
 abbrev pub shownContents : ℕ → List ℕ → List ℕ → List Content → NewLayer → With (List Content)

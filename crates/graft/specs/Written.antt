@@ -1,6 +1,6 @@
 -- Records as they are written, part by part.
 use mathlib.Core.Path.{_≡_, refl, sym, ap, _∙_}
-use Prim.Native.Nat.{ℕ}
+use Prim.Native.Nat.{ℕ, _+_, _*_, _%_, _/_}
 use native.Mathlib.Omega.{arith}
 use mathlib.Core.List.{List, [], _∷_, _++_, append-nil, append-assoc}
 use lib.ListN.{length, getD}
@@ -16,6 +16,19 @@ wordsBytes ws = wordBytes (getD ws 0 0) ++ (wordBytes (getD ws 1 0) ++ (wordByte
 pub length-word : (n : ℕ) → length (wordBytes n) ≡ 4
 unfolding wordBytes
 length-word n = refl
+
+digit : (x y k : ℕ) → x ≡ 256 * k + y → y % 256 ≡ x % 256
+digit x y k e = omega (arith, e)
+
+-- a word's bytes are those of its rest by 2 to the 32
+pub word-rest : (n : ℕ) → wordBytes (n % 4294967296) ≡ wordBytes n
+unfolding wordBytes
+word-rest n =
+    let a : n % 4294967296 % 256 ≡ n % 256 = digit n (n % 4294967296) (16777216 * (n / 4294967296)) (omega arith) in
+    let b : n % 4294967296 / 256 % 256 ≡ n / 256 % 256 = digit (n / 256) (n % 4294967296 / 256) (65536 * (n / 4294967296)) (omega arith) in
+    let e : n % 4294967296 / 65536 % 256 ≡ n / 65536 % 256 = digit (n / 65536) (n % 4294967296 / 65536) (256 * (n / 4294967296)) (omega arith) in
+    let f : n % 4294967296 / 16777216 % 256 ≡ n / 16777216 % 256 = digit (n / 16777216) (n % 4294967296 / 16777216) (n / 4294967296) (omega arith) in
+    rw (a, b, e, f) refl
 
 pub content-written : (d l : List ℕ) (at tag first second : ℕ) → Wrote d at ((((4 ∷ []) ++ (tag ∷ [])) ++ wordBytes first) ++ wordBytes second) l
     → l ≡ overwrite d at (recordBytes contentCodec (record { tag = tag; first = first; second = second }))

@@ -108,7 +108,7 @@ fn graft_str(
     requires { ⌜ (id < st .totals .strings) × (m .state .stats .calls < 2 ^ 32) × (p .strings + 2 ^ 12 < 2 ^ 32) ⌝ }
     ensures { λ r. ⌜ ((out : List ℕ) → StartTold p m out (now (work .entry)) (now (strs .entry)) out (now (work .exit)) (now (strs .exit)) r (graftStr (resolveStr (sourceStore (now (tape .entry)) (now (bytes .entry))) id) (layerFrom p (now (work .entry)) (now (strs .entry)) m))) ⌝ }
 {
-    let from = string_from(tape, bytes, st, &work[11776..16384], id);
+    let from = string_from(tape, bytes, st, &work[15360..16384], id);
     let len = strings::string_length(tape, st, id);
     let state = m.state;
     let a = intern::intern(work, strs, state, &bytes[from..from + len]);

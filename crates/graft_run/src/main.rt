@@ -5,7 +5,7 @@ use libc::STDIN_FILENO;
 use libc::STDOUT_FILENO;
 ghost use mathlib.Core.Path.{_≡_};
 ghost use mathlib.Core.Bool.{true, false};
-ghost use Prim.Native.Nat.{_+_, _*_, _≤_, _<_, _^_};
+ghost use Prim.Native.Nat.{_+_, _*_, _≤_};
 ghost use lib.ListN.{length};
 ghost use Rattle.tape.specs.Accepted.{Accepted};
 ghost use Rattle.layer.specs.Layered.{OffsetsFit};
@@ -83,7 +83,7 @@ fn graft(
 )
     requires { ⌜ Accepted (now tape) (now bytes) ⌝ }
     requires { ⌜ OffsetsFit o ⌝ }
-    requires { ⌜ (16384 ≤ length (now work)) × (length (now strs) < 2 ^ 32) ⌝ }
+    requires { ⌜ 16384 ≤ length (now work) ⌝ }
 {
     let p = places::places_of(tape, bytes);
     let st = store::store_of(tape, p.layers);
@@ -121,7 +121,7 @@ fn show_graft(
     strs: &mut [u8],
     o: layer::Offsets,
 )
-    requires { ⌜ (16384 ≤ length (now work)) × (length (now strs) < 2 ^ 32) ⌝ }
+    requires { ⌜ 16384 ≤ length (now work) ⌝ }
 {
     let n = tape::check_book(tape, bytes);
     if n != 0 {
@@ -155,7 +155,7 @@ fn show_lent(
     end: u32,
     o: layer::Offsets,
 )
-    requires { ⌜ (16384 ≤ length (now work)) × (length (now strs) < 2 ^ 32) ⌝ }
+    requires { ⌜ 16384 ≤ length (now work) ⌝ }
 {
     let n = lent(start, out.len());
     let m = lent(end, strs.len());

@@ -1,12 +1,11 @@
 -- What each stage of `merge` is given and answers, and the laws for its returns.
-use mathlib.Core.Path.{_≡_, refl, sym, ap, ap₂, _∙_, subst}
-use Prim.Native.Nat.{ℕ, zero, suc, _+_, _-_, _^_, _≤_, _<_, min}
+use mathlib.Core.Path.{_≡_, refl, sym, ap, ap₂, _∙_}
+use Prim.Native.Nat.{ℕ, _-_, _≤_}
 use native.Mathlib.Omega.{arith}
 use mathlib.Core.Bool.{Bool, true, false, true≢false}
-use mathlib.Core.List.{List, [], _∷_, _++_, append-nil}
-use lib.ListN.{length, take, drop, length-take, length-replicate, length-append, length-drop, drop-of-length-le}
+use mathlib.Core.List.{List, _++_, append-nil}
+use lib.ListN.{length, take, drop, length-take, length-replicate, drop-of-length-le}
 use native.Mathlib.Nat.{sub-zero}
-use lib.Seq.{length-take-le}
 use Rattle.model.specs.Offset.{Span}
 use Rattle.model.specs.Types.{LexOutput}
 use Rattle.model.specs.Refusal.{Checked, Checked.refused, Checked.accepted, _>>=_, numberOf}
@@ -14,7 +13,7 @@ use Rattle.model.specs.Tape.{places, bookAt}
 use Rattle.model.specs.WellFormed.{checkBook, checkReading}
 use Rattle.model.specs.Region.{Edit, chosenRegion}
 use Rattle.model.specs.Merge.{Stored, Room, IncrementalOutput, merge, mergeBooks, tapeBuffer, textBuffer, workBuffer, padded}
-use Rattle.wire.specs.Overwrite.{overwrite, zeros, overwrite-all, overwrite-tail}
+use Rattle.wire.specs.Overwrite.{overwrite, zeros, overwrite-tail}
 use Rattle.places.specs.declared.Places.{Places}
 use Rattle.places.specs.Found.{placesOf}
 use Rattle.store.specs.declared.Store.{Store}
@@ -29,10 +28,6 @@ use Rattle.result.specs.Answer.{refusedOutput, outputOf, roomOf, Merged, Writte
 
 abbrev pub regionOf : ℕ → ℕ → Span
 regionOf start end = record { start = start; end = end }
-
--- Work words have 32 bits and hold places of the byte buffer, so that at most 4294967295 bytes of it are used.
-abbrev pub usedOf : Room → Room
-usedOf room = record { tapeBytes = room .tapeBytes; textBytes = min (room .textBytes) 4294967295; workWords = room .workWords }
 
 -- the merge that is asked for
 abbrev pub asked : List ℕ → List ℕ → Edit → List ℕ → List ℕ → Room → Checked IncrementalOutput
@@ -78,12 +73,6 @@ cleared out n h e = let z : length (zeros (length out - n)) ≡ length out - n =
 head-short : (n : ℕ) (l b : List ℕ) → length b ≡ n → take n l ≡ b → n ≤ length l
 head-short n l b e f = let h = ap length f in let k = length-take n l in omega (arith, e, h, k)
 
--- a first part of a first part
-take-front : (n : ℕ) (l m : List ℕ) → n ≤ length l → take n (l ++ m) ≡ take n l
-take-front zero l m h = refl
-take-front (suc n) [] m h = absurd (omega (arith, h))
-take-front (suc n) (b ∷ l) m h = ap (λ (x : List ℕ). b ∷ x) (take-front n l m (omega (arith, h)))
-
 module _ {out text work out₁ text₁ work₁ : List ℕ} {r : Output} where
   -- the result is within the buffers
   pub tape-within : (asked : Checked IncrementalOutput) → Written asked r out text work out₁ text₁ work₁ → r .tape ≤ length out₁
@@ -102,67 +91,34 @@ module _ {out text work out₁ text₁ work₁ : List ℕ} {r : Output} where
       let h = head-short (length (a .output .bytes)) text₁ (a .output .bytes) refl (w .bytes a refl) in
       omega (arith, e, h)
 
-  -- Cleared behind the result. `text` is the part of the byte buffer `whole` that is lent, `rest` what lies behind it.
-  pub merged : (asked : Checked IncrementalOutput) → Written asked r out text work out₁ text₁ work₁ → {out′ text′ work′ : List ℕ} (whole rest : List ℕ) → length (text₁ ++ rest) ≡ length whole
-      → out′ ≡ overwrite out₁ (r .tape) (zeros (length out₁ - r .tape)) → text′ ≡ overwrite (text₁ ++ rest) (r .bytes) (zeros (length (text₁ ++ rest) - r .bytes)) → work′ ≡ zeros (length work₁)
-      → Merged asked (roomOf out whole work) r out′ text′ work′
+  -- cleared behind the result
+  pub merged : (asked : Checked IncrementalOutput) → Written asked r out text work out₁ text₁ work₁ → {out′ text′ work′ : List ℕ}
+      → out′ ≡ overwrite out₁ (r .tape) (zeros (length out₁ - r .tape)) → text′ ≡ overwrite text₁ (r .bytes) (zeros (length text₁ - r .bytes)) → work′ ≡ zeros (length work₁)
+      → Merged asked (roomOf out text work) r out′ text′ work′
   unfolding tapeBuffer textBuffer workBuffer outputOf padded
-  merged (refused n) w whole rest k x y z =
+  merged (refused n) w x y z =
       let e : r .tape ≡ 0 = ap (λ (q : Output). q .tape) (w .answer) in
       let f : r .bytes ≡ 0 = ap (λ (q : Output). q .bytes) (w .answer) in
       record {
         answer = w .answer;
         tape = cleared out₁ (r .tape) (tape-within (refused n) w) x ∙ rw (e, sub-zero, w .tapeLength) refl;
-        bytes = cleared (text₁ ++ rest) (r .bytes) (omega (arith, f)) y ∙ rw (f, sub-zero, k) refl;
+        bytes = cleared text₁ (r .bytes) (bytes-within (refused n) w) y ∙ rw (f, sub-zero, w .textLength) refl;
         words = z ∙ ap zeros (w .wordsLength);
       }
-  merged (accepted a) w whole rest k x y z =
+  merged (accepted a) w x y z =
       let e : r .tape ≡ length (a .output .tape) = ap (λ (q : Output). q .tape) (w .answer) in
       let f : r .bytes ≡ length (a .output .bytes) = ap (λ (q : Output). q .bytes) (w .answer) in
-      let h = bytes-within (accepted a) w in
-      let first : take (r .bytes) (text₁ ++ rest) ≡ a .output .bytes = take-front (r .bytes) text₁ rest h ∙ ap (λ (n : ℕ). take n text₁) f ∙ w .bytes a refl in
       record {
         answer = w .answer;
         tape = cleared out₁ (r .tape) (tape-within (accepted a) w) x ∙ rw (e, w .tape a refl, w .tapeLength) refl;
-        bytes = cleared (text₁ ++ rest) (r .bytes) (let n = length-append text₁ rest in omega (arith, h, n)) y ∙ rw (first, f, k) refl;
+        bytes = cleared text₁ (r .bytes) (bytes-within (accepted a) w) y ∙ rw (f, w .bytes a refl, w .textLength) refl;
         words = z ∙ ap zeros (w .wordsLength);
       }
 
--- ---- the part of the byte buffer that is lent
-
-module _ (whole : List ℕ) {used : ℕ} (u : used ≡ min (length whole) 4294967295) where
-  abbrev part : List ℕ
-  part = take (used - 0) whole
-
-  part-length : length part ≡ min (length whole) 4294967295
-  part-length = let n = length-take (used - 0) whole in omega (arith, n, u)
-
-  module _ {out work out₁ text₁ work₁ : List ℕ} {r : Output} (ask : Room → Checked IncrementalOutput) (w : Written (ask (roomOf out part work)) r out part work out₁ text₁ work₁) where
-    -- the buffer with the lent part as it comes back
-    abbrev back : List ℕ
-    back = text₁ ++ drop (used - 0) whole
-
-    back-length : length back ≡ length whole
-    back-length =
-        let a = length-append text₁ (drop (used - 0) whole) in
-        let b = length-drop (used - 0) whole in
-        let e = part-length in
-        omega (arith, a, b, e, u, w .textLength)
-
-    pub whole-within : r .bytes ≤ length back
-    whole-within = let n = length-append text₁ (drop (used - 0) whole) in let h = bytes-within (ask (roomOf out part work)) w in omega (arith, n, h)
-
-    -- all words, from the first on
-    pub words-cleared : {n : ℕ} {work′ : List ℕ} → n ≡ length work₁ → work′ ≡ take 0 work₁ ++ (zeros (n - 0) ++ drop n work₁) → work′ ≡ zeros (length work₁)
-    words-cleared {n} e f =
-        f ∙ ap₂ (λ (x y : List ℕ). x ++ y) (ap zeros (sub-zero n ∙ e)) (drop-of-length-le work₁ {i = n} (omega (arith, e))) ∙ append-nil (zeros (length work₁))
-
-    pub merged-lent : {out′ text′ work′ : List ℕ}
-        → out′ ≡ overwrite out₁ (r .tape) (zeros (length out₁ - r .tape)) → text′ ≡ overwrite back (r .bytes) (zeros (length back - r .bytes)) → work′ ≡ zeros (length work₁)
-        → Merged (ask (usedOf (roomOf out whole work))) (roomOf out whole work) r out′ text′ work′
-    merged-lent {out′} {text′} {work′} x y z =
-        subst (λ (n : ℕ). Merged (ask (record { tapeBytes = length out; textBytes = n; workWords = length work })) (roomOf out whole work) r out′ text′ work′) part-length
-        (merged (ask (roomOf out part work)) w whole (drop (used - 0) whole) back-length x y z)
+-- all words, from the first on
+pub words-cleared : (work : List ℕ) {n : ℕ} {work′ : List ℕ} → n ≡ length work → work′ ≡ take 0 work ++ (zeros (n - 0) ++ drop n work) → work′ ≡ zeros (length work)
+words-cleared work {n} e f =
+    f ∙ ap₂ (λ (x y : List ℕ). x ++ y) (ap zeros (sub-zero n ∙ e)) (drop-of-length-le work {i = n} (omega (arith, e))) ∙ append-nil (zeros (length work))
 
 -- ---- the answer of `chosen_region`
 

@@ -6,7 +6,7 @@ use span::NormalizedOffset;
 use span::SourceOffset;
 use splice::Window;
 ghost use mathlib.Core.Path.{_≡_};
-ghost use Prim.Native.Nat.{_+_, _*_, _≤_, _<_, _^_, min};
+ghost use Prim.Native.Nat.{_+_, _*_, _≤_, _<_, _^_};
 ghost use lib.ListN.{length};
 ghost use Rattle.model.specs.Tape.{recordsAt, nodeCodec, places as placesIn, bookAt};
 ghost use Rattle.model.specs.Region.{Edit};
@@ -18,7 +18,7 @@ ghost use Rattle.region.specs.Held.{Held};
 ghost use Rattle.splice.specs.Window.{windowValue};
 ghost use Rattle.incremental.specs.Numbers.{cutNumber, readingNumber};
 ghost use Rattle.incremental.specs.Window.{windowFrom};
-ghost use Rattle.incremental.specs.Stages.{usedOf, asked, Given, Read, regionOf, askedReading};
+ghost use Rattle.incremental.specs.Stages.{asked, Given, Read, regionOf, askedReading};
 
 fn refused_output(n: u32) -> IncrementalOutput
     ensures { λ r. ⌜ r ≡ refusedOutput n ⌝ }
@@ -181,7 +181,6 @@ fn merge_read(
     work: &mut [u32],
 ) -> IncrementalOutput
     requires { ⌜ Read (now tape) (now bytes) p st (editOf start end (now replacement)) (regionOf from to) (now readingtape) (now readingbytes) q own ⌝ }
-    requires { ⌜ length (now outbytes) < 2 ^ 32 ⌝ }
     ensures { λ r. ⌜ Written (mergeBooks (bookAt (now (tape .entry)) (placesIn (now (tape .entry))) (now (bytes .entry))) (editOf start end (now (replacement .entry))) (regionOf from to) (bookAt (now (readingtape .entry)) (placesIn (now (readingtape .entry))) (now (readingbytes .entry))) (roomOf (now (outtape .entry)) (now (outbytes .entry)) (now (work .entry)))) r (now (outtape .entry)) (now (outbytes .entry)) (now (work .entry)) (now (outtape .exit)) (now (outbytes .exit)) (now (work .exit)) ⌝ }
 {
     let nstart = normalized_cut(tape, p.nodes, SourceOffset(from));
@@ -243,7 +242,6 @@ fn merge_reading(
     work: &mut [u32],
 ) -> IncrementalOutput
     requires { ⌜ Given (now tape) (now bytes) p st (editOf start end (now replacement)) (regionOf from to) ⌝ }
-    requires { ⌜ length (now outbytes) < 2 ^ 32 ⌝ }
     ensures { λ r. ⌜ Written (askedReading (bookAt (now (tape .entry)) (placesIn (now (tape .entry))) (now (bytes .entry))) (editOf start end (now (replacement .entry))) (regionOf from to) (now (readingtape .entry)) (now (readingbytes .entry)) (roomOf (now (outtape .entry)) (now (outbytes .entry)) (now (work .entry)))) r (now (outtape .entry)) (now (outbytes .entry)) (now (work .entry)) (now (outtape .exit)) (now (outbytes .exit)) (now (work .exit)) ⌝ }
 {
     let n = tape::check_reading(readingtape, readingbytes);
@@ -285,7 +283,6 @@ fn merge_checked(
     outbytes: &mut [u8],
     work: &mut [u32],
 ) -> IncrementalOutput
-    requires { ⌜ length (now outbytes) < 2 ^ 32 ⌝ }
     ensures { λ r. ⌜ Written (asked (now (tape .entry)) (now (bytes .entry)) (editOf start end (now (replacement .entry))) (now (readingtape .entry)) (now (readingbytes .entry)) (roomOf (now (outtape .entry)) (now (outbytes .entry)) (now (work .entry)))) r (now (outtape .entry)) (now (outbytes .entry)) (now (work .entry)) (now (outtape .exit)) (now (outbytes .exit)) (now (work .exit)) ⌝ }
 {
     let n = tape::check_book(tape, bytes);
@@ -322,16 +319,6 @@ fn merge_checked(
     }
 }
 
-// How many bytes of the byte buffer are used.
-fn used_bytes(len: usize) -> usize
-    ensures { λ r. ⌜ r ≡ min len 4294967295 ⌝ }
-{
-    if len < 4294967295 {
-        return len;
-    }
-    4294967295
-}
-
 // `merge`: the merged book in both result buffers, zeros behind it, and zeros in all work words; after a refusal zeros everywhere.
 pub fn merge(
     tape: &[u8],
@@ -345,9 +332,8 @@ pub fn merge(
     outbytes: &mut [u8],
     work: &mut [u32],
 ) -> IncrementalOutput
-    ensures { λ r. ⌜ Merged (asked (now (tape .entry)) (now (bytes .entry)) (editOf start end (now (replacement .entry))) (now (readingtape .entry)) (now (readingbytes .entry)) (usedOf (roomOf (now (outtape .entry)) (now (outbytes .entry)) (now (work .entry))))) (roomOf (now (outtape .entry)) (now (outbytes .entry)) (now (work .entry))) r (now (outtape .exit)) (now (outbytes .exit)) (now (work .exit)) ⌝ }
+    ensures { λ r. ⌜ Merged (asked (now (tape .entry)) (now (bytes .entry)) (editOf start end (now (replacement .entry))) (now (readingtape .entry)) (now (readingbytes .entry)) (roomOf (now (outtape .entry)) (now (outbytes .entry)) (now (work .entry)))) (roomOf (now (outtape .entry)) (now (outbytes .entry)) (now (work .entry))) r (now (outtape .exit)) (now (outbytes .exit)) (now (work .exit)) ⌝ }
 {
-    let used = used_bytes(outbytes.len());
     let r = merge_checked(
         tape,
         bytes,
@@ -357,7 +343,7 @@ pub fn merge(
         readingtape,
         readingbytes,
         outtape,
-        &mut outbytes[0..used],
+        outbytes,
         work,
     );
     wire::zero_from(outtape, r.tape);

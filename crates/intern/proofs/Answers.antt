@@ -2,7 +2,7 @@
 use mathlib.Core.Path.{_≡_, refl, sym, ap, _∙_, subst}
 use mathlib.Core.Bool.{Bool, true, false, cond, _&&_, false≢true}
 use mathlib.Core.List.{List, [], _∷_, _++_, flatten}
-use Prim.Native.Nat.{ℕ, suc, _+_, _-_, _<_, _≤_}
+use Prim.Native.Nat.{ℕ, suc, _+_, _-_, _*_, _<_, _≤_}
 use native.Mathlib.Omega.{arith}
 use borrow.Author.Tests.{eq-eqb, ne-eqb, lt-ltb, le-ltb}
 use lib.Dec.{leb}
@@ -10,7 +10,7 @@ use lib.ListN.{length, getD, take, drop, set, length-set, length-append}
 use lib.Seq.{drop-set-lt, drop-drop}
 use Rattle.model.specs.Intern.{StrInterner, InternStats, Interned, Probe, holds, grows, tableFor, plusStats, cacheHit, bypass, tableHit, tableAlloc, tableCall, intern}
 use Rattle.model.specs.Limits.{maxNewStrings}
-use Rattle.table.specs.Layout.{taken, tableOf, startsOf, stringsUpTo, Starts, Entries}
+use Rattle.table.specs.Layout.{taken, wideWords, tableOf, startsOf, stringsUpTo, Starts, Entries}
 use Rattle.table.specs.Views.{part-in}
 use Rattle.table.specs.Strings.{length-strings}
 use Rattle.table.specs.Roomy.{taken-set, set-entries}
@@ -38,7 +38,7 @@ module _ (work strs : List ℕ) (st : Interner) (g : Good work strs st) where
         ok = room-same work strs st g;
         refused = λ e. absurd (false≢true (sym e));
         answered = λ _. record {
-          good = record { words = g .words; small = g .small; size = g .size; entries = g .entries; number = g .number; most = g .most; known = le; end = g .end; fits = g .fits; begins = g .begins; laid = g .laid; counts = adds .counted };
+          good = record { words = g .words; size = g .size; entries = g .entries; number = g .number; most = g .most; known = le; end = g .end; fits = g .fits; begins = g .begins; laid = g .laid; counts = adds .counted };
           state = ap (λ (x : InternStats). record { strings = strings; table = tableOf (st .slots) work; occupied = st .occupied; last = slot; stats = x }) (adds .is);
           id = refl;
           base = refl;
@@ -100,7 +100,7 @@ module _ (work strs : List ℕ) (st : Interner) (g : Good work strs st) where
         high = drop-set-lt 8192 work′ (t .slots - 256 + at) (t .count) (omega (arith, size-hi (a .good .size), lt-t))
 
         starts : startsOf (t .count) new ≡ startsOf (t .count) work′
-        starts = ap (λ (l : List ℕ). take (8192 + t .count + 1 - 8192) l) high
+        starts = ap (λ (l : List ℕ). wideWords (take (8192 + 2 * t .count + 2 - 8192) l)) high
 
         table-new : tableOf (t .slots) new ≡ set (tableOf (t .slots) work′) at (t .count)
         table-new = part-in (t .slots - 256) (t .slots - 256 + t .slots) work′ at (t .count) (omega (arith, lt-t))
@@ -112,7 +112,6 @@ module _ (work strs : List ℕ) (st : Interner) (g : Good work strs st) where
         entered-good =
             record {
               words = record { room = subst (λ (m : ℕ). 16384 ≤ m) (sym (length-set work′ (t .slots - 256 + at) (t .count))) (a .good .words .room); few = a .good .words .few; starts = subst (λ (l : List ℕ). Starts l (length strs′)) (sym starts) (a .good .words .starts) };
-              small = a .good .small;
               size = a .good .size;
               entries = subst (λ (l : List ℕ). Entries l (t .count + 1)) (sym table-new) (set-entries (t .count + 1) (tableOf (t .slots) work′) at (t .count) (a .good .entries) (omega arith));
               number = ap taken table-new ∙ taken-set (tableOf (t .slots) work′) at (t .count) (subst (λ (m : ℕ). at < m) (sym (size-length work′ (a .good .size) (a .good .words .room))) lt-t) empty-t (λ e. omega (arith, e, a .count)) ∙ omega (arith, a .good .number);
@@ -155,7 +154,7 @@ module _ (work strs : List ℕ) (st : Interner) (g : Good work strs st) where
                 id = id ∙ sym (count-is work strs st g);
                 base = ap (λ (x : Interner). x .base) state ∙ a .base;
                 kept = a .kept;
-                free = drop-set-lt 11776 work′ (t .slots - 256 + at) (t .count) (omega (arith, size-hi (a .good .size), lt-t)) ∙ a .free;
+                free = drop-set-lt 15360 work′ (t .slots - 256 + at) (t .count) (omega (arith, size-hi (a .good .size), lt-t)) ∙ a .free;
               };
             })
 
@@ -208,7 +207,7 @@ module _ (work strs : List ℕ) (st : Interner) (g : Good work strs st) where
     intern-told w work′ strs′ u r resized hb le y hr h =
         let base : u .base ≡ st .base = ap (λ (x : Interner). x .base) (y .is) in
         let used : u .used ≡ st .used = ap (λ (x : Interner). x .used) (y .is) in
-        let free : drop 11776 w ≡ drop 11776 work = sym (drop-drop 3584 8192 w) ∙ ap (λ (l : List ℕ). drop 3584 l) (y .high) ∙ drop-drop 3584 8192 work in
+        let free : drop 15360 w ≡ drop 15360 work = sym (drop-drop 7168 8192 w) ∙ ap (λ (l : List ℕ). drop 7168 l) (y .high) ∙ drop-drop 7168 8192 work in
         subst (λ (a : Interned). Told work strs st work′ strs′ r a) (ready-call w u resized y hr ∙ intern-table hb le)
         (record {
           refused = λ e. let q = h .refused e in record { id = q .id; state = q .state ∙ ap (λ (x : Interner). withSlots x (r .state .slots)) (y .is) };

@@ -11,14 +11,14 @@ use Rattle.interner.specs.declared.StrInterner.{StrInterner as Interner}
 use Rattle.interner.specs.State.{stateOf, Good, hasRoom, withSlots, firstProbe}
 use Rattle.intern.specs.declared.Answer.{Answer}
 
--- The code's answer r is the defined answer a. Of the buffers nothing is changed below `used`, nor from word 11776 on.
+-- The code's answer r is the defined answer a. Of the buffers nothing is changed below `used`, nor from word 15360 on.
 pub record Answered (work strs : List ℕ) (st : Interner) (work′ strs′ : List ℕ) (r : Answer) (a : Interned) : Type 0 where
   pub good : Good work′ strs′ (r .state)
   pub state : stateOf work′ strs′ (r .state) ≡ a .state
   pub id : r .id ≡ a .id
   pub base : r .state .base ≡ st .base
   pub kept : take (st .used) strs′ ≡ take (st .used) strs
-  pub free : drop 11776 work′ ≡ drop 11776 work
+  pub free : drop 15360 work′ ≡ drop 15360 work
 
 -- A refusal leaves the interner as it was, but for a table that may have grown.
 pub record Refused (st : Interner) (r : Answer) : Type 0 where

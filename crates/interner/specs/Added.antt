@@ -1,19 +1,20 @@
 -- A new string: its bytes behind the others, and its end among the starts. Assumes nothing.
 use mathlib.Core.Path.{_≡_, refl, sym, ap, _∙_, subst}
 use mathlib.Core.List.{List, [], _∷_, _++_, append-assoc, append-nil, flatten}
-use Prim.Native.Nat.{ℕ, zero, suc, _+_, _-_, _<_, _≤_}
+use Prim.Native.Nat.{ℕ, zero, suc, _+_, _-_, _*_, _<_, _≤_}
 use native.Mathlib.Omega.{arith}
 use native.Mathlib.Decide.{ℕ-discrete}
 use native.Mathlib.Numerals.{add-one}
-use lib.ListN.{length, getD, take, drop, set, length-set}
-use lib.Seq.{length-take-le, ext-getD, take-take, take-append-le, getD-set-same, getD-set-other, drop-set-lt}
+use lib.ListN.{length, getD, take, drop}
+use lib.Seq.{length-take-le, ext-getD, take-take, take-append-le}
 use Rattle.wire.specs.Overwrite.{overwrite, length-overwrite, take-overwrite, getD-overwrite, getD-before}
 use Rattle.stats.specs.declared.InternStats.{InternStats as Counters}
 use Rattle.stats.specs.Counts.{Counted, statsOf}
 use Rattle.interner.specs.declared.StrInterner.{StrInterner as Interner}
-use Rattle.table.specs.Layout.{taken, part, tableOf, startsOf, stringAt, stringsUpTo, Starts}
+use Rattle.table.specs.Layout.{taken, part, tableOf, startsOf, startIn, withStart, stringAt, stringsUpTo, Starts}
 use Rattle.interner.specs.State.{stateOf, Good, allocated, Alloced}
-use Rattle.table.specs.Views.{length-part, getD-part, part-high}
+use Rattle.table.specs.Views.{length-part, getD-part}
+use Rattle.table.specs.Wide.{starts-number, start-is, length-start, start-put, start-other, start-low, start-high}
 use Rattle.table.specs.Cleared.{part-ext}
 use Rattle.table.specs.Strings.{length-strings, strings-ext}
 use Rattle.table.specs.Sizes.{size-hi, starts-length}
@@ -59,7 +60,7 @@ module _ (work strs s : List ℕ) (st : Interner) (g : Good work strs st) (few :
   n = st .count
 
   abbrev new : List ℕ
-  new = set work (8192 + n + 1) (st .used + length s)
+  new = withStart work (n + 1) (st .used + length s)
 
   abbrev st′ : Interner
   st′ = record { slots = st .slots; occupied = st .occupied; count = n + 1; base = st .base; used = st .used + length s; last = n + 1; stats = c }
@@ -76,20 +77,18 @@ module _ (work strs s : List ℕ) (st : Interner) (g : Good work strs st) (few :
   bytes-length : length v ≡ length strs
   bytes-length = ap length is ∙ length-overwrite strs (st .used) s fits
 
-  -- the starts: the old ones, and one more
-  at-new : (k : ℕ) → k < n + 2 → getD new-starts k 0 ≡ getD new (8192 + k) 0
-  at-new k lt = getD-part 8192 (8192 + (n + 1) + 1) new k 0 (omega arith)
+  new-room : 16384 ≤ length new
+  new-room = omega (arith, room, length-start work (n + 1) (st .used + length s))
 
-  at-old : (k : ℕ) → k < n + 1 → getD old-starts k 0 ≡ getD work (8192 + k) 0
-  at-old k lt = getD-part 8192 (8192 + n + 1) work k 0 (omega arith)
+  -- the starts: the old ones, and one more
+  at-new : (k : ℕ) → k < n + 2 → getD new-starts k 0 ≡ startIn new k
+  at-new k lt = start-is new (n + 1) (omega (arith, new-room)) k (omega arith)
 
   kept : (k : ℕ) → k < n + 1 → getD new-starts k 0 ≡ getD old-starts k 0
-  kept k lt = at-new k (omega arith) ∙ getD-set-other work (8192 + n + 1) (8192 + k) (st .used + length s) 0 (λ e. let z : ⊥ = omega (arith, e) in z) ∙ sym (at-old k lt)
+  kept k lt = at-new k (omega arith) ∙ start-other work (n + 1) (st .used + length s) k (λ e. let z : ⊥ = omega (arith, e) in z) ∙ sym (start-is work n (omega (arith, room)) k (omega arith))
 
   added : getD new-starts (n + 1) 0 ≡ st .used + length s
-  added =
-      let q : 8192 + (n + 1) ≡ 8192 + n + 1 = omega arith in
-      at-new (n + 1) (omega arith) ∙ ap (λ (j : ℕ). getD new j 0) q ∙ getD-set-same work (8192 + n + 1) (st .used + length s) 0 (omega (arith, room))
+  added = at-new (n + 1) (omega arith) ∙ start-put work (n + 1) (st .used + length s) (omega (arith, room))
 
   last-start : getD new-starts n 0 ≡ st .used
   last-start = kept n (omega arith) ∙ g .end
@@ -98,7 +97,7 @@ module _ (work strs s : List ℕ) (st : Interner) (g : Good work strs st) (few :
   old-length = starts-length work (length strs) n (g .words)
 
   new-length : length new-starts ≡ n + 1 + 1
-  new-length = length-part 8192 (8192 + (n + 1) + 1) new (omega arith) (omega (arith, room, length-set work (8192 + n + 1) (st .used + length s))) ∙ omega arith
+  new-length = starts-number new (n + 1) (omega (arith, new-room))
 
   rises : Starts new-starts (length v)
   rises k lt =
@@ -114,7 +113,7 @@ module _ (work strs s : List ℕ) (st : Interner) (g : Good work strs st) (few :
       ]
 
   table-same : tableOf (st .slots) new ≡ tableOf (st .slots) work
-  table-same = part-high (st .slots - 256) (st .slots - 256 + st .slots) work (8192 + n + 1) (st .used + length s) (omega arith) (omega (arith, size-hi (g .size)))
+  table-same = start-low work (n + 1) (st .used + length s) (st .slots - 256) (st .slots - 256 + st .slots) (omega arith) (omega (arith, size-hi (g .size)))
 
   -- the strings: the old ones, and s
   string-kept : (k : ℕ) → k < n → stringAt new-starts v k ≡ stringAt old-starts strs k
@@ -152,8 +151,7 @@ module _ (work strs s : List ℕ) (st : Interner) (g : Good work strs st) (few :
   added-good : Good new v st′
   added-good =
       record {
-        words = record { room = omega (arith, room, length-set work (8192 + n + 1) (st .used + length s)); few = omega arith; starts = rises };
-        small = omega (arith, bytes-length, g .small);
+        words = record { room = new-room; few = omega arith; starts = rises };
         size = g .size;
         entries = λ k lt. subst (λ (l : List ℕ). getD l k 0 < n + 1 + 1) (sym table-same) (let h : getD (tableOf (st .slots) work) k 0 < n + 1 = g .entries k (subst (λ (l : List ℕ). k < length l) table-same lt) in omega arith);
         number = ap taken table-same ∙ g .number;
@@ -169,9 +167,9 @@ module _ (work strs s : List ℕ) (st : Interner) (g : Good work strs st) (few :
   added-state : stateOf new v st′ ≡ allocated (stateOf work strs st) s (statsOf c)
   added-state = λ i. record { strings = strings-more i; table = table-same i; occupied = st .occupied; last = (let e : n + 1 ≡ suc (length (stringsUpTo n old-starts strs)) = omega (arith, length-strings old-starts strs n) in e) i; stats = statsOf c }
 
-  pub alloced : Alloced work strs st s c new v st′
-  alloced =
-      record {
+  pub alloced : {work′ : List ℕ} → work′ ≡ new → Alloced work strs st s c work′ v st′
+  alloced e =
+      rw e (record {
         good = added-good;
         state = added-state;
         slots = refl;
@@ -180,5 +178,5 @@ module _ (work strs s : List ℕ) (st : Interner) (g : Good work strs st) (few :
         base = refl;
         kept = ap (λ (l : List ℕ). take (st .used) l) is ∙ written-kept strs s (st .used) fits (st .used) (omega arith);
         table = table-same;
-        free = drop-set-lt 11776 work (8192 + n + 1) (st .used + length s) (omega arith);
-      }
+        free = start-high work (n + 1) (st .used + length s) 15360 (omega arith);
+      })

@@ -2,15 +2,15 @@
 use mathlib.Core.Path.{_≡_}
 use mathlib.Core.Bool.{Bool, _&&_}
 use mathlib.Core.List.{List, [], _∷_, _++_, flatten}
-use Prim.Native.Nat.{ℕ, suc, _+_, _*_, _%_, _^_, _<_, _≤_}
+use Prim.Native.Nat.{ℕ, suc, _+_, _*_, _%_, _<_, _≤_}
 use lib.Dec.{leb}
-use lib.ListN.{length, getD, take, drop, set}
+use lib.ListN.{length, getD, take, drop}
 use Rattle.model.specs.Intern.{InternStats, StrInterner, Probe, fxHash, probe, tableFor, freshInterner}
 use Rattle.model.specs.Limits.{maxNewStrings}
 use Rattle.stats.specs.declared.InternStats.{InternStats as Counters}
 use Rattle.stats.specs.Counts.{statsOf, Counted}
 use Rattle.interner.specs.declared.StrInterner.{StrInterner as Interner}
-use Rattle.table.specs.Layout.{tableOf, startsOf, stringsUpTo, Work, Entries, taken}
+use Rattle.table.specs.Layout.{tableOf, startsOf, withStart, stringsUpTo, Work, Entries, taken}
 use Rattle.table.specs.Sizes.{Size}
 
 -- ---- the state
@@ -27,7 +27,6 @@ stateOf work strs st = record {
 -- What holds between calls. `laid`: the strings stand one behind the other from `base` up to `used`.
 pub record Good (work strs : List ℕ) (st : Interner) : Type 0 where
   pub words : Work work (length strs) (st .count)
-  pub small : length strs < 2 ^ 32
   pub size : Size (st .slots)
   pub entries : Entries (tableOf (st .slots) work) (st .count + 1)
   pub number : taken (tableOf (st .slots) work) ≡ st .occupied
@@ -49,12 +48,12 @@ hasRoom size base t = leb (length (t .strings)) maxNewStrings && leb (base + len
 abbrev pub withSlots : Interner → ℕ → Interner
 withSlots st n = record { slots = n; occupied = st .occupied; count = st .count; base = st .base; used = st .used; last = st .last; stats = st .stats }
 
--- A new layer: no strings, from `base` on; one word is written.
+-- A new layer: no strings, from `base` on; its first start is written.
 pub record Fresh (work strs : List ℕ) (base : ℕ) (work′ : List ℕ) (r : Interner) : Type 0 where
   pub good : Good work′ strs r
   pub state : stateOf work′ strs r ≡ freshInterner
   pub begins : r .base ≡ base
-  pub words : work′ ≡ set work 8192 base
+  pub words : work′ ≡ withStart work 0 base
 
 -- ---- the steps of a call
 
@@ -88,7 +87,7 @@ pub record Alloced (work strs : List ℕ) (st : Interner) (s : List ℕ) (c : Co
   pub base : r .base ≡ st .base
   pub kept : take (st .used) strs′ ≡ take (st .used) strs
   pub table : tableOf (st .slots) work′ ≡ tableOf (st .slots) work
-  pub free : drop 11776 work′ ≡ drop 11776 work
+  pub free : drop 15360 work′ ≡ drop 15360 work
 
 abbrev pub withEntry : Interner → Interner
 withEntry st = record { slots = st .slots; occupied = st .occupied + 1; count = st .count; base = st .base; used = st .used; last = st .last; stats = st .stats }

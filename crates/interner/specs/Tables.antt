@@ -10,7 +10,7 @@ use lib.ListN.{length, getD, take, drop, replicate, length-replicate}
 use Rattle.model.specs.Lists.{isEmpty}
 use Rattle.model.specs.Intern.{grows, tableFor, moveSlots}
 use Rattle.interner.specs.declared.StrInterner.{StrInterner as Interner}
-use Rattle.table.specs.Layout.{taken, tableOf, startsOf, stringsUpTo, stringsOf, Starts, Entries}
+use Rattle.table.specs.Layout.{taken, wideWords, tableOf, startsOf, stringsUpTo, stringsOf, Starts, Entries}
 use Rattle.interner.specs.State.{stateOf, Good, Ready, withSlots, withTable}
 use Rattle.table.specs.Sizes.{Size, size256, isDue, size-lo, size-grows, size-double, size-length, strings-all, is-empty, due-full, due-not}
 use Rattle.table.specs.Cleared.{cleared-length, cleared-part, cleared-high}
@@ -27,13 +27,12 @@ grows-is work strs st g =
 -- ---- another table
 module _ (work strs : List ℕ) (st : Interner) (v : List ℕ) (g : Good work strs st) (len : length v ≡ length work) (high : drop 8192 v ≡ drop 8192 work) (n : ℕ) where
   starts-same : startsOf (st .count) v ≡ startsOf (st .count) work
-  starts-same = ap (λ (l : List ℕ). take (8192 + st .count + 1 - 8192) l) high
+  starts-same = ap (λ (l : List ℕ). wideWords (take (8192 + 2 * st .count + 2 - 8192) l)) high
 
   retable : Size n → Entries (tableOf n v) (st .count + 1) → taken (tableOf n v) ≡ st .occupied → Good v strs (withSlots st n)
   retable sz e number =
       record {
         words = record { room = rw len (g .words .room); few = g .words .few; starts = subst (λ (l : List ℕ). Starts l (length strs)) (sym starts-same) (g .words .starts) };
-        small = g .small;
         size = sz;
         entries = e;
         number = number;

@@ -75,7 +75,7 @@ pub fn lookup(work: &[u32], strs: &[u8], st: StrInterner, s: &[u8]) -> Probed
     let slots = st.slots;
     let off = slots - INITIAL_CAPACITY;
     let end = off + slots;
-    let last = STARTS + st.count + 1;
+    let last = STARTS + 2 * st.count + 2;
     let from = table::slot_of(hash::fx_hash(s), slots);
     table::probe(&work[off..end], &work[STARTS..last], strs, s, from)
 }
@@ -109,7 +109,7 @@ pub fn resolve<'a>(work: &[u32], strs: &'a [u8], st: StrInterner, id: u32) -> &'
     requires { ⌜ id < st .count ⌝ }
     ensures { λ r. ⌜ now r ≡ getD (stateOf (now (work .entry)) (now (strs .entry)) st .strings) id [] ⌝ }
 {
-    let end = STARTS + st.count + 1;
+    let end = STARTS + 2 * st.count + 2;
     table::string_at(&work[STARTS..end], strs, id)
 }
 
@@ -153,7 +153,7 @@ pub fn alloc(
     let count = st.count;
     let end = used + s.len();
     wire::copy_at(strs, used, s);
-    work[STARTS + count + 1] = end as u32;
+    table::put_start(work, count + 1, end);
     StrInterner {
         slots: st.slots,
         occupied: st.occupied,
@@ -171,10 +171,10 @@ pub fn alloc(
 // at its first use.
 pub fn fresh(work: &mut [u32], strs: &[u8], base: usize) -> StrInterner
     requires { ⌜ minWorkWords ≤ length (now work) ⌝ }
-    requires { ⌜ (base ≤ length (now strs)) × (length (now strs) < 2 ^ 32) ⌝ }
+    requires { ⌜ base ≤ length (now strs) ⌝ }
     ensures { λ r. ⌜ Fresh (now (work .entry)) (now (strs .entry)) base (now (work .exit)) r ⌝ }
 {
-    work[STARTS] = base as u32;
+    table::put_start(work, 0, base);
     StrInterner {
         slots: 0,
         occupied: 0,

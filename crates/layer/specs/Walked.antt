@@ -4,8 +4,8 @@ use Prim.Native.Nat.{ℕ, _+_, _-_, _*_, _≤_, _<_, _^_}
 use native.Mathlib.Omega.{arith}
 use mathlib.Core.Bool.{true}
 use mathlib.Core.List.{List, [], _++_}
-use lib.ListN.{length, take, drop, set, length-drop}
-use lib.Seq.{length-take-le, take-at, drop-at, drop-set-lt}
+use lib.ListN.{length, take, drop, length-drop}
+use lib.Seq.{length-take-le, take-at, drop-at}
 use Rattle.model.specs.Limits.{minWorkWords}
 use Rattle.model.specs.Types.{SourceNode}
 use Rattle.model.specs.Intern.{StrInterner}
@@ -17,6 +17,8 @@ use Rattle.store.specs.declared.Store.{Store}
 use Rattle.store.specs.Lengths.{book-lengths}
 use Rattle.strings.specs.Starts.{lengthsIn}
 use Rattle.strings.specs.Index.{indexIn, Indexed, index-length, index-written}
+use Rattle.table.specs.Layout.{withStart}
+use Rattle.table.specs.Wide.{start-high}
 use Rattle.interner.specs.declared.StrInterner.{StrInterner as Interner}
 use Rattle.interner.specs.State.{stateOf, Good, hasRoom, Fresh}
 use Rattle.interner.specs.Room.{room-same}
@@ -43,16 +45,16 @@ freshMark r = record { ok = true; contents = 0; segments = 0; state = r }
 
 -- the words lent for the index, as they come back
 pub index-there : (lengths work : List ℕ) → minWorkWords ≤ length work → {ys : List ℕ} → ys ≡ overwrite (indexWords work) 0 (indexIn lengths (indexWords work))
-    → Indexed lengths (indexWords (take 11776 work ++ (ys ++ drop (16384 - 11776) (drop 11776 work))))
+    → Indexed lengths (indexWords (take 15360 work ++ (ys ++ drop (16384 - 15360) (drop 15360 work))))
 index-there lengths work h {ys} e =
-    let n : length ys ≡ 16384 - 11776 = index-length lengths (indexWords work) e ∙ length-take-le (16384 - 11776) (drop 11776 work) (rw length-drop (omega (arith, h))) in
-    let rest = drop (16384 - 11776) (drop 11776 work) in
+    let n : length ys ≡ 16384 - 15360 = index-length lengths (indexWords work) e ∙ length-take-le (16384 - 15360) (drop 15360 work) (rw length-drop (omega (arith, h))) in
+    let rest = drop (16384 - 15360) (drop 15360 work) in
     index-written lengths (indexWords work)
-    (ap (λ (l : List ℕ). take (16384 - 11776) l) (drop-at (take 11776 work) (ys ++ rest) 11776 (length-take-le 11776 work (omega (arith, h)))) ∙ take-at ys rest (16384 - 11776) n ∙ e)
+    (ap (λ (l : List ℕ). take (16384 - 15360) l) (drop-at (take 15360 work) (ys ++ rest) 15360 (length-take-le 15360 work (omega (arith, h)))) ∙ take-at ys rest (16384 - 15360) n ∙ e)
 
 -- a fresh interner writes before it
-index-kept : (t work₀ : List ℕ) (base : ℕ) {work : List ℕ} → work ≡ set work₀ 8192 base → Indexed (lengthsIn t) (indexWords work₀) → Indexed (lengthsIn t) (indexWords work)
-index-kept t work₀ base e i = rw (ap indexWords e ∙ ap (λ (l : List ℕ). take (16384 - 11776) l) (drop-set-lt 11776 work₀ 8192 base (omega arith))) i
+index-kept : (t work₀ : List ℕ) (base : ℕ) {work : List ℕ} → work ≡ withStart work₀ 0 base → Indexed (lengthsIn t) (indexWords work₀) → Indexed (lengthsIn t) (indexWords work)
+index-kept t work₀ base e i = rw (ap indexWords e ∙ ap (λ (l : List ℕ). take (16384 - 15360) l) (start-high work₀ 0 base 15360 (omega arith))) i
 
 -- ---- the walk
 

@@ -5,12 +5,13 @@ use table::STARTS;
 ghost use mathlib.Core.Path.{_≡_};
 ghost use mathlib.Core.Bool.{false, _&&_};
 ghost use mathlib.Core.List.{_∷_, _++_};
-ghost use Prim.Native.Nat.{_+_, _-_, _*_, _^_, _≤_, _<_};
+ghost use Prim.Native.Nat.{_+_, _-_, _*_, _%_, _^_, _≤_, _<_};
 ghost use lib.Dec.{leb};
-ghost use lib.ListN.{length, getD, take, drop};
+ghost use lib.ListN.{length, take, drop};
 ghost use Rattle.model.specs.Limits.{maxPool, maxList, maxNewStrings, minWorkWords};
 ghost use Rattle.model.specs.Tape.{recordBytes, recordsBytes, stringCodec};
 ghost use Rattle.wire.specs.Overwrite.{overwrite};
+ghost use Rattle.table.specs.Layout.{startIn};
 ghost use Rattle.strings.specs.Starts.{lengthsIn, Readable};
 ghost use Rattle.strings.specs.Index.{Indexed};
 ghost use Rattle.graft.specs.Walk.{indexWords};
@@ -51,13 +52,15 @@ fn put_string(out: &mut [u8], at: usize, n: u32)
     wire::put_u32(out, at + 1, n);
 }
 
-// The length of string k: from its start up to the next.
+// The length of string k, from its start up to the next, as a word.
 fn string_length(work: &[u32], k: usize) -> u32
-    requires { ⌜ 8192 + k + 1 < length (now work) ⌝ }
-    requires { ⌜ getD (now work) (8192 + k) 0 ≤ getD (now work) (8192 + k + 1) 0 ⌝ }
-    ensures { λ r. ⌜ r ≡ newLength (now (work .entry)) k ⌝ }
+    requires { ⌜ 8192 + 2 * (k + 1) + 1 < length (now work) ⌝ }
+    requires { ⌜ startIn (now work) k ≤ startIn (now work) (k + 1) ⌝ }
+    ensures { λ r. ⌜ r ≡ newLength (now (work .entry)) k % 4294967296 ⌝ }
 {
-    work[STARTS + k + 1] - work[STARTS + k]
+    let start = table::wide_at(work, STARTS + 2 * k);
+    let end = table::wide_at(work, STARTS + 2 * (k + 1));
+    ((end - start) % 4294967296) as u32
 }
 
 // The records of the layer's strings.
@@ -185,7 +188,7 @@ fn index_words(tape: &[u8], st: store::Store, room: usize, work: &mut [u32])
     requires { ⌜ minWorkWords ≤ length (now work) ⌝ }
     ensures { λ _. ⌜ Indexed (lengthsIn (now (tape .entry))) (indexWords (now (work .exit))) ⌝ }
 {
-    strings::index_strings(tape, st, room, &mut work[11776..16384]);
+    strings::index_strings(tape, st, room, &mut work[15360..16384]);
 }
 
 // Section 5. The source's nodes, grafted into a layer that has nothing yet.
@@ -203,7 +206,7 @@ fn walk(
 ) -> graft::Mark
     requires { ⌜ SourceFits (now tape) (now bytes) p st ⌝ }
     requires { ⌜ WalkRoom plan nodesat (p .nodes .count) (length (now out)) (sourceAdds (now tape) (now bytes)) ⌝ }
-    requires { ⌜ (minWorkWords ≤ length (now work)) × (base ≤ length (now strs)) × (length (now strs) < 2 ^ 32) ⌝ }
+    requires { ⌜ (minWorkWords ≤ length (now work)) × (base ≤ length (now strs)) ⌝ }
     ensures { λ r. ⌜ Walked plan base nodesat (now (out .entry)) (now (strs .entry)) (now (out .exit)) (now (work .exit)) (now (strs .exit)) r (graftedInto (now (tape .entry)) (now (bytes .entry)) (offsetsOf plan)) ⌝ }
 {
     index_words(tape, st, bytes.len(), work);
@@ -269,7 +272,7 @@ fn graft_sized(
     s: sizes::Sizes,
 ) -> Layer
     requires { ⌜ SourceFits (now tape) (now bytes) p st × OffsetsFit o × Exact (roomLeft o) (sourceAdds (now tape) (now bytes)) s ⌝ }
-    requires { ⌜ (minWorkWords ≤ length (now work)) × (base ≤ length (now strs)) × (length (now strs) < 2 ^ 32) × (at ≤ length (now out)) ⌝ }
+    requires { ⌜ (minWorkWords ≤ length (now work)) × (base ≤ length (now strs)) × (at ≤ length (now out)) ⌝ }
     ensures { λ r. ⌜ LayerTold (now (out .entry)) (now (strs .entry)) (now (out .exit)) (now (strs .exit)) at base o r (graftedInto (now (tape .entry)) (now (bytes .entry)) o) ⌝ }
 {
     let len = layer_length(s.contents, s.segments);
@@ -301,7 +304,7 @@ pub fn graft_layer(
     base: usize,
 ) -> Layer
     requires { ⌜ SourceFits (now tape) (now bytes) p st × OffsetsFit o ⌝ }
-    requires { ⌜ (minWorkWords ≤ length (now work)) × (base ≤ length (now strs)) × (length (now strs) < 2 ^ 32) × (at ≤ length (now out)) ⌝ }
+    requires { ⌜ (minWorkWords ≤ length (now work)) × (base ≤ length (now strs)) × (at ≤ length (now out)) ⌝ }
     ensures { λ r. ⌜ LayerTold (now (out .entry)) (now (strs .entry)) (now (out .exit)) (now (strs .exit)) at base o r (graftedInto (now (tape .entry)) (now (bytes .entry)) o) ⌝ }
 {
     let s = sizes::reading_sizes(tape, st, p, room_left(o));

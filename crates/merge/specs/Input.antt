@@ -17,7 +17,6 @@ use Rattle.model.specs.Runs.{partLengths, asked, program}
 use Rattle.laws.specs.Lists.{both}
 use Rattle.wire.specs.Loops.{by-bool}
 use Rattle.edit.specs.Numbers.{editOf}
-use Rattle.incremental.specs.Stages.{usedOf}
 use Rattle.result.specs.Answer.{Merged, outputOf, refusedOutput}
 use Rattle.result.specs.declared.IncrementalOutput.{IncrementalOutput as Output}
 
@@ -122,7 +121,7 @@ pub asked-answer : (s : List ℕ) {a b c d e start end : ℕ} → a ≡ wordAt s
     → oldTape ≡ part s 28 (28 + a - 28) → oldBytes ≡ part s (28 + a) (28 + a + b - (28 + a)) → replacement ≡ part s (28 + a + b) (28 + a + b + c - (28 + a + b))
     → newTape ≡ part s (28 + a + b + c) (28 + a + b + c + d - (28 + a + b + c)) → newBytes ≡ part s (28 + a + b + c + d) (28 + a + b + c + d + e - (28 + a + b + c + d))
     → {room : Room} {r : Output} {out text work : List ℕ} → room .tapeBytes ≡ 65536 → room .textBytes ≡ 65536 → room .workWords ≡ 16384
-    → Merged (merge (record { tape = oldTape; bytes = oldBytes }) (editOf start end replacement) (record { tape = newTape; bytes = newBytes }) (usedOf room)) room r out text work
+    → Merged (merge (record { tape = oldTape; bytes = oldBytes }) (editOf start end replacement) (record { tape = newTape; bytes = newBytes }) room) room r out text work
     → r ≡ outputOf (asked s)
 unfolding asked editOf
 asked-answer s {a} {b} {c} {d} {e} p q st en v t u f₁ f₂ f₃ f₄ f₅ k₁ k₂ k₃ m =

@@ -18,7 +18,6 @@ use Rattle.commute.specs.Demand3.{demand3}
 use Rattle.edit.specs.Numbers.{editOf}
 use Rattle.result.specs.Answer.{Merged, outputOf, outputTape, outputBytes}
 use Rattle.result.specs.declared.IncrementalOutput.{IncrementalOutput as Output}
-use Rattle.incremental.specs.Stages.{usedOf}
 use Rattle.orders.specs.declared.BothOrders.{BothOrders as Answers}
 use Rattle.orders.specs.Moved.{cutBehind, cutMoved, moved-exact}
 
@@ -31,7 +30,7 @@ correctionOf start end replacement tape bytes = record { edit = editOf start end
 
 -- the merge of a correction, in buffers of that room
 abbrev pub mergeOf : Stored → Correction → Room → Checked IncrementalOutput
-mergeOf book c room = merge book (c .edit) (c .reading) (usedOf room)
+mergeOf book c room = merge book (c .edit) (c .reading) room
 
 -- what is stored by a merge: nothing where it is refused
 unfoldable pub resultOf : Checked IncrementalOutput → Stored
@@ -48,7 +47,7 @@ pub record MergedInOrder (book : Stored) (first second : Correction) (room₁ ro
 pub record CallsCommute (book : LexOutput) (stored : Stored) (earlier later : Correction) (room₁ room₂ room₃ room₄ : Room)
     (r : Answers) (out₁ out₂ out₃ out₄ : Stored) (work : List ℕ) : Type 0 where
   pub orders : BothOrders stored earlier later
-  pub rooms : (orders .room₁ ≡ usedOf room₁) × (orders .room₂ ≡ usedOf room₂) × (orders .room₃ ≡ usedOf room₃) × (orders .room₄ ≡ usedOf room₄)
+  pub rooms : (orders .room₁ ≡ room₁) × (orders .room₂ ≡ room₂) × (orders .room₃ ≡ room₃) × (orders .room₄ ≡ room₄)
   pub earlierFirst : Merged (accepted (orders .earlierFirst)) room₁ (r .earlierfirst) (out₁ .tape) (out₁ .bytes) work
   pub laterSecond : Merged (accepted (orders .laterSecond)) room₂ (r .latersecond) (out₂ .tape) (out₂ .bytes) work
   pub laterFirst : Merged (accepted (orders .laterFirst)) room₃ (r .laterfirst) (out₃ .tape) (out₃ .bytes) work
@@ -152,10 +151,10 @@ module _ (stored : Stored) (earlier later : Correction) (bytes : StoredBytes sto
       let v₃ = merged-value (n .one) (merge-numbers _ _ _ _) z₃ in
       let v₄ = merged-value (n .two) (merge-numbers _ _ _ _) z₄ in
       let orders : BothOrders stored earlier later = record {
-        room₁ = usedOf room₁;
-        room₂ = usedOf room₂;
-        room₃ = usedOf room₃;
-        room₄ = usedOf room₄;
+        room₁ = room₁;
+        room₂ = room₂;
+        room₃ = room₃;
+        room₄ = room₄;
         earlierFirst = v₁ .0;
         laterSecond = v₂ .0;
         laterFirst = v₃ .0;

@@ -275,7 +275,7 @@ fn graft_reading(
 ) -> Graft
     requires { ⌜ SourceFits (now tape) (now bytes) p st ⌝ }
     requires { ⌜ (below .strings ≤ maxPool) × (below .contents ≤ maxPool) × (below .segments ≤ maxPool) ⌝ }
-    requires { ⌜ (minWorkWords ≤ length (now work)) × (base ≤ length (now strs)) × (length (now strs) < 2 ^ 32) × (at ≤ length (now out)) ⌝ }
+    requires { ⌜ (minWorkWords ≤ length (now work)) × (base ≤ length (now strs)) × (at ≤ length (now out)) ⌝ }
     ensures { λ r. ⌜ GraftTold (now (out .entry)) (now (strs .entry)) (now (out .exit)) (now (strs .exit)) at base (offsetsOf below) (isEmpty (bookIn (now (tape .entry)) (now (bytes .entry)) .sourceNodes)) r (graftedInto (now (tape .entry)) (now (bytes .entry)) (offsetsOf below)) ⌝ }
 {
     if p.nodes.count == 0 {
@@ -331,7 +331,7 @@ fn put_store(
 ) -> Graft
     requires { ⌜ Books (now tape) (now bytes) p st (editOf start end (now replacement)) (windowValue w) (now readingtape) (now readingbytes) q rst ⌝ }
     requires { ⌜ l ≡ lengthsOf p q start end (length (now replacement)) (w .nstart) (w .nend) (length (now bytes)) ⌝ }
-    requires { ⌜ (minWorkWords ≤ length (now work)) × (l .normalized ≤ maxText) × (l .base ≤ length (now outbytes)) × (length (now outbytes) < 2 ^ 32) × (p .nodes .at ≤ length (now outtape)) ⌝ }
+    requires { ⌜ (minWorkWords ≤ length (now work)) × (l .normalized ≤ maxText) × (l .base ≤ length (now outbytes)) × (p .nodes .at ≤ length (now outtape)) ⌝ }
     ensures { λ r. ⌜ StoreTold (bookIn (now (tape .entry)) (now (bytes .entry))) (editOf start end (now (replacement .entry))) (bookIn (now (readingtape .entry)) (now (readingbytes .entry))) (windowValue w) (now (outtape .entry)) (now (outbytes .entry)) (now (outtape .exit)) (now (outbytes .exit)) (p .nodes .at) (l .base) (offsetsOf (st .totals)) r ⌝ }
 {
     put_new_texts(
@@ -625,8 +625,7 @@ fn output_of(
     }
 }
 
-// Number 18, and the merged book, of a book and a reading that passed 1 to 17. The interner keeps places in the byte buffer as u32, so the
-// buffer has fewer than 2 ^ 32 bytes.
+// Number 18, and the merged book, of a book and a reading that passed 1 to 17.
 pub fn merge_books(
     tape: &[u8],
     bytes: &[u8],
@@ -645,7 +644,6 @@ pub fn merge_books(
     work: &mut [u32],
 ) -> IncrementalOutput
     requires { ⌜ Books (now tape) (now bytes) p st (editOf start end (now replacement)) (windowValue w) (now readingtape) (now readingbytes) q rst ⌝ }
-    requires { ⌜ length (now outbytes) < 2 ^ 32 ⌝ }
     ensures { λ r. ⌜ Written (resultChecked (bookIn (now (tape .entry)) (now (bytes .entry))) (editOf start end (now (replacement .entry))) (bookIn (now (readingtape .entry)) (now (readingbytes .entry))) (windowValue w) (roomOf (now (outtape .entry)) (now (outbytes .entry)) (now (work .entry)))) r (now (outtape .entry)) (now (outbytes .entry)) (now (work .entry)) (now (outtape .exit)) (now (outbytes .exit)) (now (work .exit)) ⌝ }
 {
     let k = kept_in(tape, p, w);

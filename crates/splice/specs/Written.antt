@@ -1,7 +1,6 @@
 -- Records as they are written, and moved.
 use mathlib.Core.Path.{_≡_, refl, ap, _∙_}
-use Prim.Native.Nat.{ℕ, _+_, _*_, _%_, _/_}
-use native.Mathlib.Omega.{arith}
+use Prim.Native.Nat.{ℕ, _+_}
 use mathlib.Core.Option.{Option, none, some, Option·getD}
 use lib.IntN.{ℤ}
 use mathlib.Core.List.{List, [], _∷_, _++_, append-nil, append-assoc}
@@ -11,6 +10,7 @@ use Rattle.model.specs.Tape.{recordBytes, operandBytes, nodeCodec, pairCodec, c
 use Rattle.model.specs.Offset.{shifted, shiftU32}
 use Rattle.model.specs.Merge.{MergeWindow, nodeLocated, pairLocated, containerLocated, diagnosticLocated, shiftedPair, shiftedDiagnostic, movedOffset}
 use Rattle.wire.specs.Overwrite.{overwrite, Wrote}
+use Rattle.graft.specs.Written.{word-rest}
 use Rattle.splice.specs.Window.{sourceIn, normalizedIn}
 use Rattle.splice.specs.Parts.{asIn}
 use Rattle.splice.specs.declared.Part.{Part}
@@ -24,19 +24,6 @@ pub four-written : (d l : List ℕ) (at command kind a b e f : ℕ) → Wrote d 
     → l ≡ overwrite d at (fourBytes command kind a b e f)
 unfolding fourBytes
 four-written d l at command kind a b e f w = w .is ∙ ap (overwrite d at) (simp (append-assoc, append-nil))
-
-digit : (x y k : ℕ) → x ≡ 256 * k + y → y % 256 ≡ x % 256
-digit x y k e = omega (arith, e)
-
--- a word's bytes are those of its rest by 2 to the 32
-pub word-rest : (n : ℕ) → wordBytes (n % 4294967296) ≡ wordBytes n
-unfolding wordBytes
-word-rest n =
-    let a : n % 4294967296 % 256 ≡ n % 256 = digit n (n % 4294967296) (16777216 * (n / 4294967296)) (omega arith) in
-    let b : n % 4294967296 / 256 % 256 ≡ n / 256 % 256 = digit (n / 256) (n % 4294967296 / 256) (65536 * (n / 4294967296)) (omega arith) in
-    let e : n % 4294967296 / 65536 % 256 ≡ n / 65536 % 256 = digit (n / 65536) (n % 4294967296 / 65536) (256 * (n / 4294967296)) (omega arith) in
-    let f : n % 4294967296 / 16777216 % 256 ≡ n / 16777216 % 256 = digit (n / 16777216) (n % 4294967296 / 16777216) (n / 4294967296) (omega arith) in
-    rw (a, b, e, f) refl
 
 -- ---- the kinds
 

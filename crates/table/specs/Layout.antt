@@ -1,8 +1,8 @@
 -- Where the interner's table and strings stand among the lent words and bytes.
 use mathlib.Core.Path.{_≡_}
 use mathlib.Core.List.{List, [], _∷_, _++_}
-use Prim.Native.Nat.{ℕ, zero, suc, _+_, _-_, _%_, _<_, _≤_}
-use lib.ListN.{length, getD, take, drop}
+use Prim.Native.Nat.{ℕ, zero, suc, _+_, _-_, _*_, _/_, _%_, _<_, _≤_}
+use lib.ListN.{length, getD, take, drop, set}
 use Rattle.model.specs.Intern.{Probe, emptySlot, fxHash}
 use Rattle.model.specs.Limits.{maxNewStrings, minWorkWords}
 use Rattle.table.specs.declared.Probed.{Probed}
@@ -15,9 +15,27 @@ part a e l = take (e - a) (drop a l)
 abbrev pub tableOf : ℕ → List ℕ → List ℕ
 tableOf n work = part (n - 256) (n - 256 + n) work
 
--- The places where count strings start stand from 8192 on, and one more: the end of the last.
+-- a number in two words, its low 32 bits first
+abbrev pub wideAt : List ℕ → ℕ → ℕ
+wideAt words at = getD words at 0 + 4294967296 * getD words (at + 1) 0
+
+-- the numbers in words, two words each
+unfoldable pub wideWords : List ℕ → List ℕ
+wideWords [] = []
+wideWords (low ∷ []) = []
+wideWords (low ∷ high ∷ rest) = (low + 4294967296 * high) ∷ wideWords rest
+
+-- The places where count strings start stand from 8192 on, two words each, and one more: the end of the last.
 abbrev pub startsOf : ℕ → List ℕ → List ℕ
-startsOf count work = part 8192 (8192 + count + 1) work
+startsOf count work = wideWords (part 8192 (8192 + 2 * count + 2) work)
+
+-- where string k starts
+abbrev pub startIn : List ℕ → ℕ → ℕ
+startIn work k = wideAt work (8192 + 2 * k)
+
+-- the words with v as the start of string k
+unfoldable pub withStart : List ℕ → ℕ → ℕ → List ℕ
+withStart work k v = set (set work (8192 + 2 * k) (v % 4294967296)) (8192 + 2 * k + 1) (v / 4294967296)
 
 -- string k of those that begin at `starts` in `bytes`
 abbrev pub stringAt : List ℕ → List ℕ → ℕ → List ℕ

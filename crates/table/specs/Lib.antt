@@ -1,7 +1,8 @@
 pub mod Layout
+pub mod Views
+pub mod Wide
 pub mod Strings
 pub mod Slots
-pub mod Views
 pub mod Cleared
 pub mod Moved
 pub mod Roomy

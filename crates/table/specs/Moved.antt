@@ -7,7 +7,7 @@ use native.Mathlib.Numerals.{add-one}
 use lib.ListN.{length, take, drop, set, getD, replicate, length-set, drop-of-length-le}
 use lib.Seq.{drop-cons, drop-set-lt}
 use Rattle.model.specs.Intern.{fxHash, emptySlot, moveSlots}
-use Rattle.table.specs.Layout.{Work, Starts, stringsOf, tableOf, startsOf, slotFor}
+use Rattle.table.specs.Layout.{Work, Starts, wideWords, stringsOf, tableOf, startsOf, slotFor}
 use Rattle.table.specs.Views.{part-in, part-high, getD-part, table-length}
 
 -- the slot that the code found
@@ -45,7 +45,7 @@ module _ (strs work₀ : List ℕ) (count n : ℕ) where
 
   module _ (lo : 256 ≤ n) (hi : n ≤ 2048) (room : 16384 ≤ length work₀) (work : List ℕ) (i : ℕ) (m : Moved work i) where
     pub starts-same : startsOf count work ≡ startsOf count work₀
-    starts-same = ap (λ (l : List ℕ). take (8192 + count + 1 - 8192) l) (m .high)
+    starts-same = ap (λ (l : List ℕ). wideWords (take (8192 + 2 * count + 2 - 8192) l)) (m .high)
 
     pub moved-work : {size : ℕ} → Work work₀ size count → Work work size count
     moved-work {size} w = record { room = rw (m .len) (w .room); few = w .few; starts = subst (λ (l : List ℕ). Starts l size) (sym starts-same) (w .starts) }
@@ -94,6 +94,6 @@ module _ (strs work₀ : List ℕ) (count n : ℕ) where
 pub grown : (strs w v x : List ℕ) (count n : ℕ) → tableOf n v ≡ tableOf n w → drop 8192 v ≡ drop 8192 w → tableOf (n * 2) v ≡ replicate (n * 2) 0 → x ≡ moveSlots (stringsOf (startsOf count v) strs) (tableOf n v) (tableOf (n * 2) v) → x ≡ moveSlots (stringsOf (startsOf count w) strs) (tableOf n w) (replicate (n * 2) 0)
 grown strs w v x count n old high new is =
     is
-    ∙ ap (λ (l : List ℕ). moveSlots (stringsOf (take (8192 + count + 1 - 8192) l) strs) (tableOf n v) (tableOf (n * 2) v)) high
+    ∙ ap (λ (l : List ℕ). moveSlots (stringsOf (wideWords (take (8192 + 2 * count + 2 - 8192) l)) strs) (tableOf n v) (tableOf (n * 2) v)) high
     ∙ ap (λ (l : List ℕ). moveSlots (stringsOf (startsOf count w) strs) l (tableOf (n * 2) v)) old
     ∙ ap (λ (l : List ℕ). moveSlots (stringsOf (startsOf count w) strs) (tableOf n w) l) new

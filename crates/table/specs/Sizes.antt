@@ -10,7 +10,8 @@ use lib.ListN.{length}
 use Rattle.model.specs.Lists.{isEmpty}
 use Rattle.model.specs.Limits.{loadFactorNumerator, loadFactorDenominator}
 use Rattle.table.specs.Layout.{tableOf, startsOf, stringsUpTo, stringsOf, Work}
-use Rattle.table.specs.Views.{length-part, table-length}
+use Rattle.table.specs.Views.{table-length}
+use Rattle.table.specs.Wide.{starts-number}
 
 -- how many slots a table has: none before its first use
 pub data Size : ℕ → Type 0 where
@@ -70,7 +71,7 @@ pub starts-length : (work : List ℕ) (size count : ℕ) → Work work size coun
 starts-length work size count w =
     let a = w .room in
     let b = w .few in
-    length-part 8192 (8192 + count + 1) work (omega arith) (omega arith) ∙ omega arith
+    starts-number work count (omega arith)
 
 -- the strings by the number of starts are the strings by their number
 pub strings-all : (work strs : List ℕ) (size count : ℕ) → Work work size count → stringsOf (startsOf count work) strs ≡ stringsUpTo count (startsOf count work) strs

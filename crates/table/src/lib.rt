@@ -2,14 +2,15 @@
 // A layer's strings stand in a lent byte buffer, one behind the other; a slot holds 0, or a string's id plus 1.
 //
 // Work words: a table of n slots stands at n - 256, so that the tables of 256 to 4096 slots lie side by side up to 7936; the
-// starts stand from 8192 on, one more than there are strings. The words from 11776 on are free for others.
+// starts stand from 8192 on, one more than there are strings, two words each: a byte buffer may be longer than 32 bits count.
+// The words from 15360 on are free for others.
 ghost use mathlib.Core.Path.{_≡_};
 ghost use mathlib.Core.Bool.{cond};
 ghost use mathlib.Core.List.{_++_, []};
 ghost use Prim.Native.Nat.{_+_, _*_, _-_, _%_, _<_, _≤_};
 ghost use lib.ListN.{length, getD, take, drop, set, replicate};
 ghost use Rattle.model.specs.Intern.{emptySlot, moveSlots, probe as probeOfModel};
-ghost use Rattle.table.specs.Layout.{probeOf, stringsOf, Starts, Entries, Work, tableOf, startsOf, slotFor};
+ghost use Rattle.table.specs.Layout.{probeOf, wideAt, wideWords, withStart, stringsOf, Starts, Entries, Work, tableOf, startsOf, slotFor};
 ghost use Rattle.table.specs.Sizes.{isDue};
 
 pub const INITIAL_CAPACITY: usize = 256;
@@ -20,6 +21,9 @@ const LOAD_FACTOR_DENOMINATOR: usize = 8;
 
 // where the strings' places begin among the work words
 pub const STARTS: usize = 8192;
+
+// what the second word of a place counts
+const HIGH: usize = 4294967296;
 
 // Where a probe ended: the slot's place and content, and how many slots were inspected.
 pub struct Probed {
@@ -36,15 +40,39 @@ pub fn wide(x: u32) -> usize
     x as usize
 }
 
+fn joined(low: u32, high: u32) -> usize
+    ensures { λ r. ⌜ r ≡ low + 4294967296 * high ⌝ }
+{
+    low as usize + HIGH * (high as usize)
+}
+
+// The number in two words, its low 32 bits first.
+pub fn wide_at(words: &[u32], at: usize) -> usize
+    requires { ⌜ at + 1 < length (now words) ⌝ }
+    ensures { λ r. ⌜ r ≡ wideAt (now (words .entry)) at ⌝ }
+{
+    joined(words[at], words[at + 1])
+}
+
+// The place v as the start of string k.
+pub fn put_start(work: &mut [u32], k: usize, v: usize)
+    requires { ⌜ 8192 + 2 * k + 1 < length (now work) ⌝ }
+    ensures { λ _. ⌜ now (work .exit) ≡ withStart (now (work .entry)) k v ⌝ }
+{
+    let at = STARTS + 2 * k;
+    work[at] = (v % HIGH) as u32;
+    work[at + 1] = (v / HIGH) as u32;
+}
+
 // The bytes of string id, by the places where the strings start.
 pub fn string_at<'a>(starts: &[u32], strs: &'a [u8], id: u32) -> &'a [u8]
-    requires { ⌜ Starts (now starts) (length (now strs)) ⌝ }
-    requires { ⌜ id + 1 < length (now starts) ⌝ }
-    ensures { λ r. ⌜ now r ≡ getD (stringsOf (now (starts .entry)) (now (strs .entry))) id [] ⌝ }
+    requires { ⌜ Starts (wideWords (now starts)) (length (now strs)) ⌝ }
+    requires { ⌜ id + 1 < length (wideWords (now starts)) ⌝ }
+    ensures { λ r. ⌜ now r ≡ getD (stringsOf (wideWords (now (starts .entry))) (now (strs .entry))) id [] ⌝ }
 {
     let i = wide(id);
-    let a = wide(starts[i]);
-    let z = wide(starts[i + 1]);
+    let a = wide_at(starts, 2 * i);
+    let z = wide_at(starts, 2 * (i + 1));
     &strs[a..z]
 }
 
@@ -67,9 +95,9 @@ pub fn slot_of(h: u64, n: usize) -> usize
 // From the slot `from` on: the first that is empty or holds s. A slot holds 0, or a string's id plus 1.
 pub fn probe(table: &[u32], starts: &[u32], strs: &[u8], s: &[u8], from: usize) -> Probed
     requires { ⌜ from < length (now table) ⌝ }
-    requires { ⌜ Starts (now starts) (length (now strs)) ⌝ }
-    requires { ⌜ Entries (now table) (length (now starts)) ⌝ }
-    ensures { λ r. ⌜ probeOf r ≡ probeOfModel (length (now (table .entry))) (stringsOf (now (starts .entry)) (now (strs .entry))) (now (table .entry)) (now (s .entry)) from 0 ⌝ }
+    requires { ⌜ Starts (wideWords (now starts)) (length (now strs)) ⌝ }
+    requires { ⌜ Entries (now table) (length (wideWords (now starts))) ⌝ }
+    ensures { λ r. ⌜ probeOf r ≡ probeOfModel (length (now (table .entry))) (stringsOf (wideWords (now (starts .entry))) (now (strs .entry))) (now (table .entry)) (now (s .entry)) from 0 ⌝ }
 {
     let n = table.len();
     let mut at = from;
@@ -138,7 +166,7 @@ fn place(work: &mut [u32], strs: &[u8], count: usize, n: usize, e: u32)
 {
     let off = n - INITIAL_CAPACITY;
     let end = off + n;
-    let last = STARTS + count + 1;
+    let last = STARTS + 2 * count + 2;
     let h = slot_of(
         hash::fx_hash(string_at(&work[STARTS..last], strs, e - 1)),
         n,

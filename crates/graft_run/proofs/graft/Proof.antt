@@ -21,7 +21,7 @@ store-of-requires c κs = accepted-store (c .before .before .before .before .bef
 
 -- src/main.rt:91:9
 graft-layer-requires : tie.Need-graft-layer-requires
-graft-layer-requires c κs = ((source-fits (c .before .before .before .before .before .before .before .before .before .before .pre .0) (c .before .before .before .before .places-of .ensures) (c .before .before .before .store-of .ensures), c .before .before .before .before .before .before .before .before .before .before .pre .1 .0), (omega (arith, c .before .before .before .before .before .before .before .before .before .before .pre .1 .1 .0), omega arith, c .before .before .before .before .before .before .before .before .before .before .pre .1 .1 .1, omega arith))
+graft-layer-requires c κs = ((source-fits (c .before .before .before .before .before .before .before .before .before .before .pre .0) (c .before .before .before .before .places-of .ensures) (c .before .before .before .store-of .ensures), c .before .before .before .before .before .before .before .before .before .before .pre .1 .0), (omega (arith, c .before .before .before .before .before .before .before .before .before .before .pre .1 .1), omega arith, omega arith))
 
 -- src/main.rt:92:5
 put-answer-requires : tie.Need-put-answer-requires

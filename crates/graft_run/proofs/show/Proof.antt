@@ -38,7 +38,7 @@ slice-aggregate-show-lent-3 c = search needs
 
 -- src/main.rt:172:5
 show-lent-requires : tie.Need-show-lent-requires
-show-lent-requires c κs = (omega arith, omega arith)
+show-lent-requires c κs = omega arith
 
 -- src/main.rt:173:9
 slice-aggregate-say-2 : tie.Need-slice-aggregate-say-2

@@ -1,71 +1,50 @@
 use mathlib.Core.Path.{refl}
-use Rattle.incremental.specs.Stages.{tape-within, whole-within, words-cleared, merged-lent, asked}
+use Rattle.incremental.specs.Stages.{tape-within, bytes-within, words-cleared, merged}
 use borrow.Author.Needs.{needs}
 use Rattle.incremental.proofs.merge.Statement.{statement}
 use Rattle.incremental.proofs.merge.Tie as tie
 use Rattle.incremental.proofs.merge.Reads as reads
 use Rattle.incremental.proofs.merge.Lts as lts
 use Rattle.incremental.proofs.merge_checked.Reads as merge-checked-reads
-use Rattle.incremental.proofs.used_bytes.Reads as used-bytes-reads
 use Rattle.table.proofs.clear_part.Reads as clear-part-reads
 use Rattle.wire.proofs.zero_from.Reads as zero-from-reads
 
--- src/lib.rt:385:9
-used-bytes-requires : tie.Need-used-bytes-requires
-used-bytes-requires c κs = search needs
-
--- src/lib.rt:395:9
-sub-merge-checked : tie.Need-sub-merge-checked
-sub-merge-checked c = search needs
-
--- src/lib.rt:395:9
-part-merge-checked-start : tie.Need-part-merge-checked-start
-part-merge-checked-start c = search needs
-
--- src/lib.rt:395:9
-part-merge-checked-end : tie.Need-part-merge-checked-end
-part-merge-checked-end c = search needs
-
--- src/lib.rt:386:9
+-- src/lib.rt:345:9
 merge-checked-requires : tie.Need-merge-checked-requires
 merge-checked-requires c κs = search needs
 
--- src/lib.rt:398:5
+-- src/lib.rt:357:5
 zero-from-requires : tie.Need-zero-from-requires
 zero-from-requires c κs = tape-within _ (c .before .before .before .before .before .before .before .merge-checked .ensures)
 
--- src/lib.rt:399:5
+-- src/lib.rt:358:5
 zero-from-requires-2 : tie.Need-zero-from-requires-2
-zero-from-requires-2 c κs = whole-within _ (c .before .before .before .before .before .before .before .before .before .before .before .before .before .before .before .used-bytes .ensures) (asked _ _ _ _ _) (c .before .before .before .before .before .before .before .before .before .before .before .merge-checked .ensures)
+zero-from-requires-2 c κs = bytes-within _ (c .before .before .before .before .before .before .before .before .before .before .before .merge-checked .ensures)
 
--- src/lib.rt:401:5
+-- src/lib.rt:360:5
 clear-part-requires : tie.Need-clear-part-requires
 clear-part-requires c κs = search needs
 
--- src/lib.rt:371:1
+-- src/lib.rt:331:1
 same-length : tie.Need-same-length
 same-length c = search needs
 
--- src/lib.rt:371:1
+-- src/lib.rt:331:1
 same-length-2 : tie.Need-same-length-2
 same-length-2 c = search needs
 
--- src/lib.rt:371:1
+-- src/lib.rt:331:1
 same-length-3 : tie.Need-same-length-3
 same-length-3 c = search needs
 
--- src/lib.rt:371:1
+-- src/lib.rt:331:1
 returns : tie.Need-returns
-returns c = merged-lent _ (c .before .before .before .before .before .before .before .before .before .before .before .before .before .before .before .before .before .before .before .before .before .before .used-bytes .ensures) (asked _ _ _ _ _) (c .before .before .before .before .before .before .before .before .before .before .before .before .before .before .before .before .before .before .merge-checked .ensures) (c .before .before .before .before .before .before .before .before .before .before .zero-from .ensures) (c .before .before .before .before .before .before .zero-from2 .ensures) (words-cleared _ (c .before .before .before .before .before .before .before .before .before .before .before .before .before .before .before .before .before .before .before .before .before .before .used-bytes .ensures) (asked _ _ _ _ _) (c .before .before .before .before .before .before .before .before .before .before .before .before .before .before .before .before .before .before .merge-checked .ensures) refl (c .before .before .clear-part .ensures))
+returns c = merged _ (c .before .before .before .before .before .before .before .before .before .before .before .before .before .before .before .before .before .before .merge-checked .ensures) (c .before .before .before .before .before .before .before .before .before .before .zero-from .ensures) (c .before .before .before .before .before .before .zero-from2 .ensures) (words-cleared (c .before .before .before .before .before .before .before .before .before .before .before .before .before .before .before .before .before .before .merge-checked .last .1 .1 .1 .1 .1 .1 .1 .1 .1 .0) refl (c .before .before .clear-part .ensures))
 
 pub merge-spec : {M : Type 1} → statement M
 merge-spec =
     tie.close
     (tie.spec
-    used-bytes-requires
-    sub-merge-checked
-    part-merge-checked-start
-    part-merge-checked-end
     merge-checked-requires
     zero-from-requires
     zero-from-requires-2

@@ -66,7 +66,7 @@ enum-known-found-2 c = search needs
 
 -- src/lib.rt:87:13
 merge-reading-requires : tie.Need-merge-reading-requires
-merge-reading-requires c κs = (edit-chosen _ _ (c .before .before .before .before .before .before .before .before .before .before .before .before .before .before .before .before .before .check-book .ensures) (c .before .before .before .before .before .before .before .before .before .before .before .before .before .before .before .before .if1 .left) _ (c .before .before .before .before .before .before .before .before .chosen-region .ensures) (c .before .before .before .before .found2 .given .1) (c .before .before .before .before .before .before .before .before .before .before .before .before .before .before .before .places-of .ensures) (c .before .before .before .before .before .before .before .before .before .before .before .before .before .before .store-of .ensures), c .before .before .before .before .before .before .before .before .before .before .before .before .before .before .before .before .before .before .before .before .before .before .before .before .before .before .pre)
+merge-reading-requires c κs = edit-chosen _ _ (c .before .before .before .before .before .before .before .before .before .before .before .before .before .before .before .before .before .check-book .ensures) (c .before .before .before .before .before .before .before .before .before .before .before .before .before .before .before .before .if1 .left) _ (c .before .before .before .before .before .before .before .before .chosen-region .ensures) (c .before .before .before .before .found2 .given .1) (c .before .before .before .before .before .before .before .before .before .before .before .before .before .before .before .places-of .ensures) (c .before .before .before .before .before .before .before .before .before .before .before .before .before .before .store-of .ensures)
 
 -- src/lib.rt:87:13
 same-length-2 : tie.Need-same-length-2

@@ -34,7 +34,7 @@ store-of-requires c κs = reading-store _ _ (c .before .before .check-reading .e
 
 -- src/lib.rt:299:5
 merge-read-requires : tie.Need-merge-read-requires
-merge-read-requires c κs = (reading-read _ _ (c .before .before .before .before .before .before .check-reading .ensures) (c .before .before .before .before .before .if1 .left) (c .before .before .before .before .before .before .before .before .before .before .before .before .before .before .before .pre .0) (c .before .before .before .before .places-of .ensures) (c .before .before .before .store-of .ensures), c .before .before .before .before .before .before .before .before .before .before .before .before .before .before .before .pre .1)
+merge-read-requires c κs = reading-read _ _ (c .before .before .before .before .before .before .check-reading .ensures) (c .before .before .before .before .before .if1 .left) (c .before .before .before .before .before .before .before .before .before .before .before .before .before .before .before .pre) (c .before .before .before .before .places-of .ensures) (c .before .before .before .store-of .ensures)
 
 -- src/lib.rt:274:1
 same-length : tie.Need-same-length

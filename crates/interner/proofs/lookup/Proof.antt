@@ -25,6 +25,10 @@ add-end : tie.Need-add-end
 add-end c = record { fits = omega (arith, size-lo (c .before .before .before .pre .0 .size) (λ e. let p = c .before .before .before .pre .1 in let z : ⊥ = omega (arith, e) in z), size-hi (c .before .before .before .pre .0 .size), c .before .before .before .pre .0 .words .room, c .before .before .before .pre .0 .words .few) }
 
 -- src/lib.rt:503:16
+mul-last : tie.Need-mul-last
+mul-last c = search needs
+
+-- src/lib.rt:503:16
 add-last : tie.Need-add-last
 add-last c = search needs
 
@@ -85,6 +89,7 @@ lookup-spec =
     (tie.spec
     sub-off
     add-end
+    mul-last
     add-last
     add-last-2
     fx-hash-requires

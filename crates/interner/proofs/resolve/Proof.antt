@@ -1,3 +1,4 @@
+use Rattle.table.specs.Sizes.{starts-length}
 use Rattle.interner.specs.Lookups.{resolved}
 use mathlib.Core.Path.{_≡_, refl, sym, ap, _∙_}
 use mathlib.Core.List.{List, [], _∷_, _++_}
@@ -10,6 +11,10 @@ use Rattle.interner.proofs.resolve.Tie as tie
 use Rattle.interner.proofs.resolve.Reads as reads
 use Rattle.interner.proofs.resolve.Lts as lts
 use Rattle.table.proofs.string_at.Reads as string-at-reads
+
+-- src/lib.rt:500:15
+mul-end : tie.Need-mul-end
+mul-end c = search needs
 
 -- src/lib.rt:500:15
 add-end : tie.Need-add-end
@@ -33,7 +38,7 @@ part-string-at-end c = search needs
 
 -- src/lib.rt:501:5
 string-at-requires : tie.Need-string-at-requires
-string-at-requires c κs = search needs
+string-at-requires c κs = (c .before .before .before .before .pre .0 .words .starts, omega (arith, starts-length (c .before .before .before .before .args .work .now) (length (c .before .before .before .before .args .strs .now)) (c .before .before .before .before .args .st .count) (c .before .before .before .before .pre .0 .words), c .before .before .before .before .pre .1))
 
 -- src/lib.rt:495:1
 returns : tie.Need-returns
@@ -43,6 +48,7 @@ pub resolve-spec : {M : Type 1} → statement M
 resolve-spec =
     tie.close
     (tie.spec
+    mul-end
     add-end
     add-end-2
     sub-string-at

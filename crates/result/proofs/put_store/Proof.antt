@@ -34,11 +34,11 @@ cast-put-head-2 c = search needs
 
 -- src/lib.rt:326:5
 put-head-requires : tie.Need-put-head-requires
-put-head-requires c κs = (nodes-at (c .before .before .before .before .before .before .before .before .before .before .before .before .before .before .before .pre .0) .0, nodes-at (c .before .before .before .before .before .before .before .before .before .before .before .before .before .before .before .pre .0) .1, omega (arith, c .before .before .before .before .before .before .before .before .before .before .before .before .before .before .before .pre .1 .1 .4))
+put-head-requires c κs = (nodes-at (c .before .before .before .before .before .before .before .before .before .before .before .before .before .before .before .pre .0) .0, nodes-at (c .before .before .before .before .before .before .before .before .before .before .before .before .before .before .before .pre .0) .1, omega (arith, c .before .before .before .before .before .before .before .before .before .before .before .before .before .before .before .pre .1 .1 .3))
 
 -- src/lib.rt:327:5
 graft-reading-requires : tie.Need-graft-reading-requires
-graft-reading-requires c κs = (source-fits (c .before .before .before .before .before .before .before .before .before .before .before .before .before .before .before .before .before .before .before .before .before .pre .0), (pools-fit (c .before .before .before .before .before .before .before .before .before .before .before .before .before .before .before .before .before .before .before .before .before .pre .0), (omega (arith, c .before .before .before .before .before .before .before .before .before .before .before .before .before .before .before .before .before .before .before .before .before .pre .1 .1 .0), omega (arith, c .before .before .before .before .before .before .before .before .before .before .before .before .before .before .before .before .before .before .before .before .before .pre .1 .1 .2, c .before .before .before .before .before .before .before .before .before .before .before .put-new-texts .kept .0), omega (arith, c .before .before .before .before .before .before .before .before .before .before .before .before .before .before .before .before .before .before .before .before .before .pre .1 .1 .3, c .before .before .before .before .before .before .before .before .before .before .before .put-new-texts .kept .0), omega (arith, c .before .before .before .before .before .before .before .before .before .before .before .before .before .before .before .before .before .before .before .before .before .pre .1 .1 .4, c .before .before .before .before .before .put-head .kept .0))))
+graft-reading-requires c κs = (source-fits (c .before .before .before .before .before .before .before .before .before .before .before .before .before .before .before .before .before .before .before .before .before .pre .0), (pools-fit (c .before .before .before .before .before .before .before .before .before .before .before .before .before .before .before .before .before .before .before .before .before .pre .0), (omega (arith, c .before .before .before .before .before .before .before .before .before .before .before .before .before .before .before .before .before .before .before .before .before .pre .1 .1 .0), omega (arith, c .before .before .before .before .before .before .before .before .before .before .before .before .before .before .before .before .before .before .before .before .before .pre .1 .1 .2, c .before .before .before .before .before .before .before .before .before .before .before .put-new-texts .kept .0), omega (arith, c .before .before .before .before .before .before .before .before .before .before .before .before .before .before .before .before .before .before .before .before .before .pre .1 .1 .3, c .before .before .before .before .before .put-head .kept .0))))
 
 -- src/lib.rt:302:1
 same-length : tie.Need-same-length
@@ -55,7 +55,7 @@ same-length-3 c = search needs
 -- src/lib.rt:302:1
 returns : tie.Need-returns
 unfolding editOf
-returns c = store-told (c .before .before .before .before .before .before .before .before .before .before .before .before .before .before .before .before .before .before .before .before .before .before .before .before .before .before .before .before .pre .0) (c .before .before .before .before .before .before .before .before .before .before .before .before .before .before .before .before .before .before .before .before .before .before .before .before .before .before .before .before .pre .1 .0) (c .before .before .before .before .before .before .before .before .before .before .before .before .before .before .before .before .before .before .before .before .before .before .before .before .before .before .before .before .args .outtape .now) (c .before .before .before .before .before .before .before .before .before .before .before .before .before .before .before .before .before .before .before .before .before .before .before .before .before .before .before .before .args .outbytes .now) (c .before .before .before .before .before .before .before .before .before .before .before .before .before .before .before .before .before .before .before .before .before .before .before .before .before .before .before .before .pre .1 .1 .4) (c .before .before .before .before .before .before .before .before .before .before .before .before .before .before .before .before .before .before .before .before .before .before .before .before .before .before .before .before .pre .1 .1 .2) (c .before .before .before .before .before .before .before .before .before .before .before .before .before .before .before .before .before .before .put-new-texts .ensures) (c .before .before .before .before .before .before .before .before .before .before .before .before .put-head .ensures) (c .before .before .before .before .before .before .graft-reading .ensures)
+returns c = store-told (c .before .before .before .before .before .before .before .before .before .before .before .before .before .before .before .before .before .before .before .before .before .before .before .before .before .before .before .before .pre .0) (c .before .before .before .before .before .before .before .before .before .before .before .before .before .before .before .before .before .before .before .before .before .before .before .before .before .before .before .before .pre .1 .0) (c .before .before .before .before .before .before .before .before .before .before .before .before .before .before .before .before .before .before .before .before .before .before .before .before .before .before .before .before .args .outtape .now) (c .before .before .before .before .before .before .before .before .before .before .before .before .before .before .before .before .before .before .before .before .before .before .before .before .before .before .before .before .args .outbytes .now) (c .before .before .before .before .before .before .before .before .before .before .before .before .before .before .before .before .before .before .before .before .before .before .before .before .before .before .before .before .pre .1 .1 .3) (c .before .before .before .before .before .before .before .before .before .before .before .before .before .before .before .before .before .before .before .before .before .before .before .before .before .before .before .before .pre .1 .1 .2) (c .before .before .before .before .before .before .before .before .before .before .before .before .before .before .before .before .before .before .put-new-texts .ensures) (c .before .before .before .before .before .before .before .before .before .before .before .before .put-head .ensures) (c .before .before .before .before .before .before .graft-reading .ensures)
 
 pub put-store-spec : {M : Type 1} → statement M
 put-store-spec =

@@ -1,4 +1,4 @@
-use Rattle.table.specs.Layout.{Starts, Entries}
+use Rattle.table.specs.Layout.{wideWords, Starts, Entries}
 use Rattle.table.specs.Moved.{grown}
 use Rattle.table.specs.Cleared.{new-length, new-old, new-high, new-table}
 use mathlib.Core.Path.{subst}
@@ -41,7 +41,7 @@ move-slots-requires c κs = (
   record {
     room = rw (new-length (c .before .before .before .before .before .before .before .args .work .now) (c .before .before .before .before .before .before .before .args .n) (c .before .before .before .before .before .before .before .pre .1 .0 .0) (c .before .before .before .before .before .before .before .pre .1 .0 .1) (c .before .before .before .before .before .before .before .pre .0 .room) _ (c .before .before .before .clear-part .ensures)) (c .before .before .before .before .before .before .before .pre .0 .room);
     few = c .before .before .before .before .before .before .before .pre .0 .few;
-    starts = subst (λ (l : List ℕ). Starts (take (8192 + c .before .before .before .before .before .before .before .args .count + 1 - 8192) l) (length (c .before .before .before .before .before .before .before .args .strs .now))) (sym (new-high (c .before .before .before .before .before .before .before .args .work .now) (c .before .before .before .before .before .before .before .args .n) (c .before .before .before .before .before .before .before .pre .1 .0 .0) (c .before .before .before .before .before .before .before .pre .1 .0 .1) (c .before .before .before .before .before .before .before .pre .0 .room) _ (c .before .before .before .clear-part .ensures))) (c .before .before .before .before .before .before .before .pre .0 .starts);
+    starts = subst (λ (l : List ℕ). Starts (wideWords (take (8192 + 2 * c .before .before .before .before .before .before .before .args .count + 2 - 8192) l)) (length (c .before .before .before .before .before .before .before .args .strs .now))) (sym (new-high (c .before .before .before .before .before .before .before .args .work .now) (c .before .before .before .before .before .before .before .args .n) (c .before .before .before .before .before .before .before .pre .1 .0 .0) (c .before .before .before .before .before .before .before .pre .1 .0 .1) (c .before .before .before .before .before .before .before .pre .0 .room) _ (c .before .before .before .clear-part .ensures))) (c .before .before .before .before .before .before .before .pre .0 .starts);
   },
   (c .before .before .before .before .before .before .before .pre .1 .0, subst (λ (l : List ℕ). Entries l (c .before .before .before .before .before .before .before .args .count + 1)) (sym (new-old (c .before .before .before .before .before .before .before .args .work .now) (c .before .before .before .before .before .before .before .args .n) (c .before .before .before .before .before .before .before .pre .1 .0 .0) (c .before .before .before .before .before .before .before .pre .1 .0 .1) (c .before .before .before .before .before .before .before .pre .0 .room) _ (c .before .before .before .clear-part .ensures))) (c .before .before .before .before .before .before .before .pre .1 .1)),
 )

@@ -1,3 +1,4 @@
+use Rattle.table.specs.Sizes.{starts-length}
 use Rattle.table.specs.Moved.{slot-found}
 use Rattle.table.specs.Layout.{stringsOf, tableOf, startsOf, slotFor}
 use Rattle.table.specs.Views.{table-length}
@@ -26,6 +27,10 @@ add-end : tie.Need-add-end
 add-end c = search needs
 
 -- src/lib.rt:275:16
+mul-last : tie.Need-mul-last
+mul-last c = search needs
+
+-- src/lib.rt:275:16
 add-last : tie.Need-add-last
 add-last c = search needs
 
@@ -51,7 +56,7 @@ sub-string-at-2 c = search needs
 
 -- src/lib.rt:276:29
 string-at-requires : tie.Need-string-at-requires
-string-at-requires c κs = search needs
+string-at-requires c κs = (c .before .before .before .before .pre .0 .starts, omega (arith, starts-length (c .before .before .before .before .args .work .now) (length (c .before .before .before .before .args .strs .now)) (c .before .before .before .before .args .count) (c .before .before .before .before .pre .0), c .before .before .before .before .pre .1 .1))
 
 -- src/lib.rt:276:21
 fx-hash-requires : tie.Need-fx-hash-requires
@@ -110,6 +115,7 @@ place-spec =
     (tie.spec
     sub-off
     add-end
+    mul-last
     add-last
     add-last-2
     sub-string-at

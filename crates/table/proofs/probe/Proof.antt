@@ -1,5 +1,5 @@
 use Rattle.table.specs.Slots.{turn-first, turn-empty, turn-hit, turn-on, turn-none}
-use Rattle.table.specs.Layout.{stringsOf}
+use Rattle.table.specs.Layout.{wideWords, stringsOf}
 use Rattle.model.specs.Intern.{Probe, probe}
 use Rattle.model.specs.Lists.{same}
 use mathlib.Core.Path.{_≡_, refl, sym, ap, _∙_}
@@ -17,14 +17,14 @@ use Rattle.table.proofs.string_at.Reads as string-at-reads
 use Rattle.wire.proofs.same.Reads as same-reads
 
 abbrev Inv-loop : tie.InvT-loop
-Inv-loop table starts strs s from n at₀ steps₀ at steps = (steps ≤ n) × (n ≡ length table) × (at < n) × (probe (n - steps) (stringsOf starts strs) table s at steps ≡ probe (length table) (stringsOf starts strs) table s from 0)
+Inv-loop table starts strs s from n at₀ steps₀ at steps = (steps ≤ n) × (n ≡ length table) × (at < n) × (probe (n - steps) (stringsOf (wideWords starts) strs) table s at steps ≡ probe (length table) (stringsOf (wideWords starts) strs) table s from 0)
 
 abbrev μ-loop : tie.MeasureT-loop
 μ-loop table starts strs s from n at₀ steps₀ at steps = n - steps
 
 -- src/lib.rt:200:5
 loop-holds : tie.Need-loop-holds Inv-loop μ-loop
-loop-holds c = (omega arith, refl, c .before .before .before .before .pre .0, turn-first (stringsOf (c .before .before .before .before .args .starts .now) (c .before .before .before .before .args .strs .now)) (c .before .before .before .before .args .s .now) (c .before .before .before .before .args .table .now) _ _)
+loop-holds c = (omega arith, refl, c .before .before .before .before .pre .0, turn-first (stringsOf (wideWords (c .before .before .before .before .args .starts .now)) (c .before .before .before .before .args .strs .now)) (c .before .before .before .before .args .s .now) (c .before .before .before .before .args .table .now) _ _)
 
 -- src/lib.rt:201:17
 mul-e : tie.Need-mul-e Inv-loop μ-loop
@@ -40,7 +40,7 @@ add-steps c = search needs
 
 -- src/lib.rt:204:13
 returns : tie.Need-returns Inv-loop μ-loop
-returns c = sym (turn-empty (stringsOf (c .before .before .before .before .before .before .before .before .args .starts .now) (c .before .before .before .before .before .before .before .before .args .strs .now)) (c .before .before .before .before .before .before .before .before .args .s .now) (c .before .before .before .before .before .before .before .before .args .table .now) _ _ _ (c .before .before .loop-test .taken) (c .if1 .taken)) ∙ c .before .before .before .loop .inv .3
+returns c = sym (turn-empty (stringsOf (wideWords (c .before .before .before .before .before .before .before .before .args .starts .now)) (c .before .before .before .before .before .before .before .before .args .strs .now)) (c .before .before .before .before .before .before .before .before .args .s .now) (c .before .before .before .before .before .before .before .before .args .table .now) _ _ _ (c .before .before .loop-test .taken) (c .if1 .taken)) ∙ c .before .before .before .loop .inv .3
 
 -- src/lib.rt:210:45
 sub-string-at : tie.Need-sub-string-at Inv-loop μ-loop
@@ -56,7 +56,7 @@ same-requires c κs = search needs
 
 -- src/lib.rt:211:13
 returns-2 : tie.Need-returns-2 Inv-loop μ-loop
-returns-2 c = sym (turn-hit (stringsOf (c .before .before .before .before .before .before .before .before .before .before .before .args .starts .now) (c .before .before .before .before .before .before .before .before .before .before .before .args .strs .now)) (c .before .before .before .before .before .before .before .before .before .before .before .args .s .now) (c .before .before .before .before .before .before .before .before .before .before .before .args .table .now) _ _ _ (c .before .before .before .before .before .loop-test .taken) (c .before .before .before .if1 .left) (ap (λ (l : List ℕ). same l (c .before .before .before .before .before .before .before .before .before .before .before .args .s .now)) (sym (c .before .before .string-at .ensures)) ∙ sym (c .before .same .ensures) ∙ c .if2 .taken)) ∙ c .before .before .before .before .before .before .loop .inv .3
+returns-2 c = sym (turn-hit (stringsOf (wideWords (c .before .before .before .before .before .before .before .before .before .before .before .args .starts .now)) (c .before .before .before .before .before .before .before .before .before .before .before .args .strs .now)) (c .before .before .before .before .before .before .before .before .before .before .before .args .s .now) (c .before .before .before .before .before .before .before .before .before .before .before .args .table .now) _ _ _ (c .before .before .before .before .before .loop-test .taken) (c .before .before .before .if1 .left) (ap (λ (l : List ℕ). same l (c .before .before .before .before .before .before .before .before .before .before .before .args .s .now)) (sym (c .before .before .string-at .ensures)) ∙ sym (c .before .same .ensures) ∙ c .if2 .taken)) ∙ c .before .before .before .before .before .before .loop .inv .3
 
 -- src/lib.rt:217:9
 next-slot-requires : tie.Need-next-slot-requires Inv-loop μ-loop
@@ -68,11 +68,11 @@ loop-less c = search needs
 
 -- src/lib.rt:200:5
 loop-again : tie.Need-loop-again Inv-loop μ-loop
-loop-again c = (omega arith, c .before .before .before .before .before .before .before .loop .inv .1, c .next-slot .ensures .1, turn-on (stringsOf (c .before .before .before .before .before .before .before .before .before .before .before .before .args .starts .now) (c .before .before .before .before .before .before .before .before .before .before .before .before .args .strs .now)) (c .before .before .before .before .before .before .before .before .before .before .before .before .args .s .now) (c .before .before .before .before .before .before .before .before .before .before .before .before .args .table .now) _ _ _ (c .before .before .before .before .before .before .loop-test .taken) (c .next-slot .ensures .0) (c .before .before .before .before .if1 .left) (ap (λ (l : List ℕ). same l (c .before .before .before .before .before .before .before .before .before .before .before .before .args .s .now)) (sym (c .before .before .before .string-at .ensures)) ∙ sym (c .before .before .same .ensures) ∙ c .before .if2 .left) ∙ c .before .before .before .before .before .before .before .loop .inv .3)
+loop-again c = (omega arith, c .before .before .before .before .before .before .before .loop .inv .1, c .next-slot .ensures .1, turn-on (stringsOf (wideWords (c .before .before .before .before .before .before .before .before .before .before .before .before .args .starts .now)) (c .before .before .before .before .before .before .before .before .before .before .before .before .args .strs .now)) (c .before .before .before .before .before .before .before .before .before .before .before .before .args .s .now) (c .before .before .before .before .before .before .before .before .before .before .before .before .args .table .now) _ _ _ (c .before .before .before .before .before .before .loop-test .taken) (c .next-slot .ensures .0) (c .before .before .before .before .if1 .left) (ap (λ (l : List ℕ). same l (c .before .before .before .before .before .before .before .before .before .before .before .before .args .s .now)) (sym (c .before .before .before .string-at .ensures)) ∙ sym (c .before .before .same .ensures) ∙ c .before .if2 .left) ∙ c .before .before .before .before .before .before .before .loop .inv .3)
 
 -- src/lib.rt:191:1
 returns-3 : tie.Need-returns-3 Inv-loop μ-loop
-returns-3 c = sym (turn-none (stringsOf (c .before .before .before .before .before .before .args .starts .now) (c .before .before .before .before .before .before .args .strs .now)) (c .before .before .before .before .before .before .args .s .now) (c .before .before .before .before .before .before .args .table .now) _ _ _ (c .loop-test .left)) ∙ c .before .loop .inv .3
+returns-3 c = sym (turn-none (stringsOf (wideWords (c .before .before .before .before .before .before .args .starts .now)) (c .before .before .before .before .before .before .args .strs .now)) (c .before .before .before .before .before .before .args .s .now) (c .before .before .before .before .before .before .args .table .now) _ _ _ (c .loop-test .left)) ∙ c .before .loop .inv .3
 
 pub probe-spec : {M : Type 1} → statement M
 probe-spec =
