@@ -15,34 +15,37 @@ use Rattle.table.specs.Views.{part-in}
 use Rattle.table.specs.Strings.{length-strings}
 use Rattle.table.specs.Roomy.{taken-set, set-entries}
 use Rattle.table.specs.Sizes.{size-hi, size-lo, size-length}
-use Rattle.interner.specs.declared.InternStats.{InternStats as Counters}
+use Rattle.stats.specs.declared.InternStats.{InternStats as Counters}
+use Rattle.stats.specs.Counts.{statsOf}
+use Rattle.stats.specs.Ways.{Adds}
 use Rattle.interner.specs.declared.StrInterner.{StrInterner as Interner}
-use Rattle.interner.specs.State.{statsOf, stateOf, Good, hasRoom, Ready, Alloced, allocated, withTable, withSlots, withEntry, firstProbe}
+use Rattle.interner.specs.State.{stateOf, Good, hasRoom, Ready, Alloced, allocated, withTable, withSlots, withEntry, firstProbe}
 use Rattle.interner.specs.Room.{room-same, room-more, count-is}
 use Rattle.intern.specs.declared.Answer.{Answer}
-use Rattle.intern.specs.Told.{Told, Known, probedCall}
+use Rattle.intern.specs.Told.{Told, knownAnswer, probedCall}
 
 module _ (work strs : List ℕ) (st : Interner) (g : Good work strs st) where
   abbrev strings : List (List ℕ)
   strings = stringsUpTo (st .count) (startsOf (st .count) work) strs
 
   -- ---- a string that is there
-  pub known-told : (slot : ℕ) (by : Counters) (r : Answer) → slot ≤ st .count → Known st slot by r → (c : InternStats) → statsOf by ≡ c
-      → Told work strs st work strs r (record { id = slot - 1; state = record { strings = strings; table = tableOf (st .slots) work; occupied = st .occupied; last = slot; stats = plusStats (statsOf (st .stats)) c } })
+  pub known-told : (slot : ℕ) (c : Counters) (one : InternStats) → Adds (st .stats) c one → slot ≤ st .count → (r : Answer) → r ≡ knownAnswer st slot c
+      → Told work strs st work strs r (record { id = slot - 1; state = record { strings = strings; table = tableOf (st .slots) work; occupied = st .occupied; last = slot; stats = plusStats (statsOf (st .stats)) one } })
   unfolding hasRoom
-  known-told slot by r le k c hc =
-      record {
-        ok = k .ok ∙ room-same work strs st g;
-        refused = λ e. absurd (false≢true (sym e ∙ k .ok));
+  known-told slot c one adds le r is =
+      subst (λ (x : Answer). Told work strs st work strs x (record { id = slot - 1; state = record { strings = strings; table = tableOf (st .slots) work; occupied = st .occupied; last = slot; stats = plusStats (statsOf (st .stats)) one } })) (sym is)
+      (record {
+        ok = room-same work strs st g;
+        refused = λ e. absurd (false≢true (sym e));
         answered = λ _. record {
-          good = subst (Good work strs) (sym (k .state)) (record { words = g .words; size = g .size; entries = g .entries; number = g .number; most = g .most; known = le; end = g .end; fits = g .fits; begins = g .begins; laid = g .laid; counts = k .counts });
-          state = ap (stateOf work strs) (k .state) ∙ ap (λ (x : InternStats). record { strings = strings; table = tableOf (st .slots) work; occupied = st .occupied; last = slot; stats = x }) (k .stats ∙ ap (plusStats (statsOf (st .stats))) hc);
-          id = k .id;
-          base = ap (λ (x : Interner). x .base) (k .state);
+          good = record { words = g .words; size = g .size; entries = g .entries; number = g .number; most = g .most; known = le; end = g .end; fits = g .fits; begins = g .begins; laid = g .laid; counts = adds .counted };
+          state = ap (λ (x : InternStats). record { strings = strings; table = tableOf (st .slots) work; occupied = st .occupied; last = slot; stats = x }) (adds .is);
+          id = refl;
+          base = refl;
           kept = refl;
           free = refl;
         };
-      }
+      })
 
   -- ---- a new string
   refusal : (work′ strs′ : List ℕ) (r : Answer) (a : Interned) → r .ok ≡ false → r .id ≡ 0 → r .state ≡ st → r .ok ≡ hasRoom (length strs) (st .base) (a .state) → Told work strs st work′ strs′ r a
@@ -62,8 +65,8 @@ module _ (work strs : List ℕ) (st : Interner) (g : Good work strs st) where
     unfolding tableAlloc
     alloc-refused work′ strs′ r resized p hb hr id state = refusal work′ strs′ r _ hr id state (hr ∙ sym hb ∙ room-more work strs st g b s room _ refl)
 
-    module _ (has : b ≡ true) (work′ strs′ : List ℕ) (c by : Counters) (stats : statsOf c ≡ plusStats (statsOf (st .stats)) (statsOf by)) (t : Interner) (a : Alloced work strs st s c work′ strs′ t) where
-      pub bypass-told : (r : Answer) → statsOf by ≡ record { calls = 1; cacheHits = 0; tableHits = 0; allocs = 1; longBypass = 1; resizes = 0; probeSteps = 0 } → r .ok ≡ true → r .id ≡ st .count → r .state ≡ t
+    module _ (has : b ≡ true) (work′ strs′ : List ℕ) (c : Counters) (one : InternStats) (adds : Adds (st .stats) c one) (t : Interner) (a : Alloced work strs st s c work′ strs′ t) where
+      pub bypass-told : (r : Answer) → one ≡ record { calls = 1; cacheHits = 0; tableHits = 0; allocs = 1; longBypass = 1; resizes = 0; probeSteps = 0 } → r .ok ≡ true → r .id ≡ st .count → r .state ≡ t
           → Told work strs st work′ strs′ r (bypass (stateOf work strs st) s)
       unfolding bypass
       bypass-told r hby ok id state =
@@ -72,7 +75,7 @@ module _ (work strs : List ℕ) (st : Interner) (g : Good work strs st) where
             refused = λ e. absurd (false≢true (sym e ∙ ok));
             answered = λ _. record {
               good = subst (Good work′ strs′) (sym state) (a .good);
-              state = ap (stateOf work′ strs′) state ∙ a .state ∙ ap (allocated (stateOf work strs st) s) (stats ∙ ap (plusStats (statsOf (st .stats))) hby);
+              state = ap (stateOf work′ strs′) state ∙ a .state ∙ ap (allocated (stateOf work strs st) s) (adds .is ∙ ap (plusStats (statsOf (st .stats))) hby);
               id = id ∙ sym (count-is work strs st g);
               base = ap (λ (x : Interner). x .base) state ∙ a .base;
               kept = a .kept;
@@ -133,7 +136,7 @@ module _ (work strs : List ℕ) (st : Interner) (g : Good work strs st) where
           stats = statsOf (t .stats);
         }
 
-        pub alloc-told : (r : Answer) (work″ : List ℕ) (resized : ℕ) (p : Probe) → p .at ≡ at → statsOf by ≡ record { calls = 1; cacheHits = 0; tableHits = 0; allocs = 1; longBypass = 0; resizes = resized; probeSteps = p .steps } → work″ ≡ new
+        pub alloc-told : (r : Answer) (work″ : List ℕ) (resized : ℕ) (p : Probe) → p .at ≡ at → one ≡ record { calls = 1; cacheHits = 0; tableHits = 0; allocs = 1; longBypass = 0; resizes = resized; probeSteps = p .steps } → work″ ≡ new
             → r .ok ≡ true → r .id ≡ st .count → r .state ≡ withEntry t
             → Told work strs st work″ strs′ r (tableAlloc (stateOf work strs st) (tableOf (st .slots) work) resized p s)
         unfolding tableAlloc
@@ -147,7 +150,7 @@ module _ (work strs : List ℕ) (st : Interner) (g : Good work strs st) where
                 good = subst (Good new strs′) (sym state) entered-good;
                 state =
                     ap (stateOf new strs′) state ∙ entered-state ∙ ap entered (a .state)
-                    ∙ (λ i. record { strings = strings ++ (s ∷ []); table = set (tableOf (st .slots) work) (sym hat i) (more i); occupied = st .occupied + 1; last = suc (length strings); stats = (stats ∙ ap (plusStats (statsOf (st .stats))) hby) i });
+                    ∙ (λ i. record { strings = strings ++ (s ∷ []); table = set (tableOf (st .slots) work) (sym hat i) (more i); occupied = st .occupied + 1; last = suc (length strings); stats = (adds .is ∙ ap (plusStats (statsOf (st .stats))) hby) i });
                 id = id ∙ sym (count-is work strs st g);
                 base = ap (λ (x : Interner). x .base) state ∙ a .base;
                 kept = a .kept;
@@ -169,19 +172,19 @@ module _ (work strs : List ℕ) (st : Interner) (g : Good work strs st) where
         let z : firstProbe (stateOf work strs st) s .slot ≡ 0 → ⊥ = λ e. ne (ap (λ (q : Probe). q .slot) is ∙ e) in
         ap (λ (q : Probe). tableHit (stateOf work strs st) (tableOf (st .slots) work) resized q) is ∙ sym (rw (ne-eqb _ _ z) refl)
 
-    pub hit-told : (by : Counters) (r : Answer) → (p .slot ≡ 0 → ⊥) → p .slot ≤ st .count → Known st (p .slot) by r → statsOf by ≡ record { calls = 1; cacheHits = 0; tableHits = 1; allocs = 0; longBypass = 0; resizes = resized; probeSteps = p .steps }
+    pub hit-told : (c : Counters) → Adds (st .stats) c (record { calls = 1; cacheHits = 0; tableHits = 1; allocs = 0; longBypass = 0; resizes = resized; probeSteps = p .steps }) → (r : Answer) → (p .slot ≡ 0 → ⊥) → p .slot ≤ st .count → r ≡ knownAnswer st (p .slot) c
         → Told work strs st work strs r (probedCall (stateOf work strs st) resized s)
     unfolding tableHit
-    hit-told by r ne le k hby = subst (λ (a : Interned). Told work strs st work strs r a) (call-hit ne) (known-told (p .slot) by r le k _ hby)
+    hit-told c adds r ne le k = subst (λ (a : Interned). Told work strs st work strs r a) (call-hit ne) (known-told (p .slot) c _ adds le r k)
 
   -- ---- the whole call
   module _ (s : List ℕ) (b : Bool) (is-last : b ≡ holds strings (st .last) s) where
-    pub intern-cached : (by : Counters) (r : Answer) → b ≡ true → Known st (st .last) by r → statsOf by ≡ record { calls = 1; cacheHits = 1; tableHits = 0; allocs = 0; longBypass = 0; resizes = 0; probeSteps = 0 }
+    pub intern-cached : (c : Counters) → Adds (st .stats) c (record { calls = 1; cacheHits = 1; tableHits = 0; allocs = 0; longBypass = 0; resizes = 0; probeSteps = 0 }) → (r : Answer) → b ≡ true → r ≡ knownAnswer st (st .last) c
         → Told work strs st work strs r (intern (stateOf work strs st) s)
     unfolding intern cacheHit
-    intern-cached by r hb k hby =
+    intern-cached c adds r hb k =
         let e : cacheHit (stateOf work strs st) ≡ intern (stateOf work strs st) s = sym (rw (sym is-last ∙ hb) refl) in
-        subst (λ (a : Interned). Told work strs st work strs r a) e (known-told (st .last) by r (g .known) k _ hby)
+        subst (λ (a : Interned). Told work strs st work strs r a) e (known-told (st .last) c _ adds (g .known) r k)
 
     pub intern-bypass : (work′ strs′ : List ℕ) (r : Answer) → b ≡ false → 64 < length s → Told work strs st work′ strs′ r (bypass (stateOf work strs st) s) → Told work strs st work′ strs′ r (intern (stateOf work strs st) s)
     unfolding intern

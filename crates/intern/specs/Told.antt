@@ -5,10 +5,10 @@ use mathlib.Core.List.{List}
 use Prim.Native.Nat.{ℕ, _-_}
 use lib.Dec.{eqb}
 use lib.ListN.{length, take, drop}
-use Rattle.model.specs.Intern.{StrInterner, Interned, tableHit, tableAlloc, plusStats}
-use Rattle.interner.specs.declared.InternStats.{InternStats as Counters}
+use Rattle.model.specs.Intern.{StrInterner, Interned, tableHit, tableAlloc}
+use Rattle.stats.specs.declared.InternStats.{InternStats as Counters}
 use Rattle.interner.specs.declared.StrInterner.{StrInterner as Interner}
-use Rattle.interner.specs.State.{statsOf, Counted, stateOf, Good, hasRoom, withSlots, firstProbe}
+use Rattle.interner.specs.State.{stateOf, Good, hasRoom, withSlots, firstProbe}
 use Rattle.intern.specs.declared.Answer.{Answer}
 
 -- The code's answer r is the defined answer a. Of the buffers nothing is changed below `used`, nor from word 15360 on.
@@ -38,13 +38,6 @@ unfoldable pub probedCall : StrInterner → ℕ → List ℕ → Interned
 probedCall t resized s =
     cond (eqb (firstProbe t s .slot) 0) (tableAlloc t (t .table) resized (firstProbe t s) s) (tableHit t (t .table) resized (firstProbe t s))
 
-abbrev pub withLast : Interner → ℕ → Counters → Interner
-withLast st last c = record { slots = st .slots; occupied = st .occupied; count = st .count; base = st .base; used = st .used; last = last; stats = c }
-
--- the answer for a string that is there, one less than `slot`; `by` is counted
-pub record Known (st : Interner) (slot : ℕ) (by : Counters) (r : Answer) : Type 0 where
-  pub ok : r .ok ≡ true
-  pub id : r .id ≡ slot - 1
-  pub state : r .state ≡ withLast st slot (r .state .stats)
-  pub stats : statsOf (r .state .stats) ≡ plusStats (statsOf (st .stats)) (statsOf by)
-  pub counts : Counted (r .state .stats)
+-- the answer for a string that is there, one less than `slot`; c are the counts behind it
+abbrev pub knownAnswer : Interner → ℕ → Counters → Answer
+knownAnswer st slot c = record { ok = true; id = slot - 1; state = record { slots = st .slots; occupied = st .occupied; count = st .count; base = st .base; used = st .used; last = slot; stats = c } }

@@ -1,15 +1,15 @@
 // A call of the interner, section 2 of document 01: each is proved equal to model's `intern`, id, strings, table, last answer and
 // counts. The state is crate `interner`'s.
-use interner::InternStats;
 use interner::StrInterner;
+use stats::InternStats;
 use table::Probed;
 ghost use mathlib.Core.Path.{_≡_};
 ghost use Prim.Native.Nat.{_+_, _*_, _^_, _<_, _≤_};
 ghost use lib.ListN.{length, getD};
 ghost use Rattle.model.specs.Intern.{tableAlloc, bypass as bypassOfModel, intern as internOfModel};
 ghost use Rattle.table.specs.Layout.{probeOf, tableOf};
-ghost use Rattle.interner.specs.State.{Counted, OneCall, stateOf, Good};
-ghost use Rattle.intern.specs.Told.{Told, Known, probedCall};
+ghost use Rattle.interner.specs.State.{stateOf, Good};
+ghost use Rattle.intern.specs.Told.{Told, knownAnswer, probedCall};
 
 const INTERN_LENGTH_LIMIT: usize = 64;
 
@@ -21,15 +21,10 @@ pub struct Answer {
 }
 
 // The answer for a string that is there: its slot's content is one more than its id.
-fn known(st: StrInterner, slot: u32, by: InternStats) -> Answer
+fn known(st: StrInterner, slot: u32, stats: InternStats) -> Answer
     requires { ⌜ 0 < slot ⌝ }
-    requires { ⌜ Counted (st .stats) ⌝ }
-    requires { ⌜ st .stats .calls < 2 ^ 32 ⌝ }
-    requires { ⌜ OneCall by ⌝ }
-    ensures { λ r. ⌜ Known st slot by r ⌝ }
+    ensures { λ r. ⌜ r ≡ knownAnswer st slot stats ⌝ }
 {
-    let c = st.stats;
-    let stats = interner::plus_stats(c, by);
     Answer {
         ok: true,
         id: slot - 1,
@@ -54,16 +49,7 @@ fn bypass(work: &mut [u32], strs: &mut [u8], st: StrInterner, s: &[u8]) -> Answe
     let count = st.count;
     let c = st.stats;
     if interner::has_room(strs.len(), count, st.used, s.len()) {
-        let by = InternStats {
-            calls: 1,
-            cachehits: 0,
-            tablehits: 0,
-            allocs: 1,
-            longbypass: 1,
-            resizes: 0,
-            probesteps: 0,
-        };
-        let t = interner::alloc(work, strs, st, s, interner::plus_stats(c, by));
+        let t = interner::alloc(work, strs, st, s, stats::bypass(c));
         return Answer {
             ok: true,
             id: count as u32,
@@ -95,16 +81,7 @@ fn table_alloc(
     let c = st.stats;
     let at = p.at;
     if interner::has_room(strs.len(), count, st.used, s.len()) {
-        let by = InternStats {
-            calls: 1,
-            cachehits: 0,
-            tablehits: 0,
-            allocs: 1,
-            longbypass: 0,
-            resizes: resized,
-            probesteps: p.steps,
-        };
-        let t = interner::alloc(work, strs, st, s, interner::plus_stats(c, by));
+        let t = interner::alloc(work, strs, st, s, stats::table_alloc(c, resized, p.steps));
         let u = interner::enter(work, t, at);
         return Answer {
             ok: true,
@@ -128,19 +105,11 @@ fn table_call(work: &mut [u32], strs: &mut [u8], st: StrInterner, s: &[u8], resi
 {
     let p = interner::lookup(work, strs, st, s);
     let slot = p.slot;
+    let c = st.stats;
     if slot == 0 {
         return table_alloc(work, strs, st, s, p, resized);
     }
-    let by = InternStats {
-        calls: 1,
-        cachehits: 0,
-        tablehits: 1,
-        allocs: 0,
-        longbypass: 0,
-        resizes: resized,
-        probesteps: p.steps,
-    };
-    known(st, slot, by)
+    known(st, slot, stats::table_hit(c, resized, p.steps))
 }
 
 // `intern`. The calls are to be below 2 to the 32, so that no count of 64 bits wraps: what a caller keeps by `answered-calls`.
@@ -151,17 +120,9 @@ pub fn intern(work: &mut [u32], strs: &mut [u8], st: StrInterner, s: &[u8]) -> A
     ensures { λ r. ⌜ Told (now (work .entry)) (now (strs .entry)) st (now (work .exit)) (now (strs .exit)) r (internOfModel (stateOf (now (work .entry)) (now (strs .entry)) st) (now (s .entry))) ⌝ }
 {
     let last = st.last;
+    let c = st.stats;
     if interner::is_last(work, strs, st, s) {
-        let by = InternStats {
-            calls: 1,
-            cachehits: 1,
-            tablehits: 0,
-            allocs: 0,
-            longbypass: 0,
-            resizes: 0,
-            probesteps: 0,
-        };
-        return known(st, last as u32, by);
+        return known(st, last as u32, stats::cache_hit(c));
     }
     if INTERN_LENGTH_LIMIT < s.len() {
         return bypass(work, strs, st, s);

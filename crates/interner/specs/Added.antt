@@ -8,10 +8,11 @@ use native.Mathlib.Numerals.{add-one}
 use lib.ListN.{length, getD, take, drop}
 use lib.Seq.{length-take-le, ext-getD, take-take, take-append-le}
 use Rattle.wire.specs.Overwrite.{overwrite, length-overwrite, take-overwrite, getD-overwrite, getD-before}
-use Rattle.interner.specs.declared.InternStats.{InternStats as Counters}
+use Rattle.stats.specs.declared.InternStats.{InternStats as Counters}
+use Rattle.stats.specs.Counts.{Counted, statsOf}
 use Rattle.interner.specs.declared.StrInterner.{StrInterner as Interner}
 use Rattle.table.specs.Layout.{taken, part, tableOf, startsOf, startIn, withStart, stringAt, stringsUpTo, Starts}
-use Rattle.interner.specs.State.{Counted, statsOf, stateOf, Good, allocated, Alloced}
+use Rattle.interner.specs.State.{stateOf, Good, allocated, Alloced}
 use Rattle.table.specs.Views.{length-part, getD-part}
 use Rattle.table.specs.Wide.{starts-number, start-is, length-start, start-put, start-other, start-low, start-high}
 use Rattle.table.specs.Cleared.{part-ext}

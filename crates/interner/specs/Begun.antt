@@ -6,6 +6,7 @@ use native.Mathlib.Omega.{arith}
 use lib.Dec.{lit≤}
 use lib.ListN.{length, getD, take}
 use Rattle.table.specs.Layout.{taken, startsOf, withStart, stringsUpTo}
+use Rattle.stats.specs.Counts.{noStats}
 use Rattle.interner.specs.declared.StrInterner.{StrInterner as Interner}
 use Rattle.interner.specs.State.{Fresh}
 use Rattle.table.specs.Sizes.{none}
@@ -25,7 +26,7 @@ module _ (work strs : List ℕ) (base : ℕ) (room : 16384 ≤ length work) (fit
   first-start = start-is new 0 (omega (arith, room-new)) 0 (lit≤ tt) ∙ start-put work 0 base (omega (arith, room))
 
   abbrev none-yet : Interner
-  none-yet = record { slots = 0; occupied = 0; count = 0; base = base; used = base; last = 0; stats = record { calls = 0; cachehits = 0; tablehits = 0; allocs = 0; longbypass = 0; resizes = 0; probesteps = 0 } }
+  none-yet = record { slots = 0; occupied = 0; count = 0; base = base; used = base; last = 0; stats = noStats }
 
   pub begun : {work′ : List ℕ} → work′ ≡ new → Fresh work strs base work′ none-yet
   unfolding taken stringsUpTo flatten

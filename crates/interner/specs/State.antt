@@ -7,42 +7,11 @@ use lib.Dec.{leb}
 use lib.ListN.{length, getD, take, drop}
 use Rattle.model.specs.Intern.{InternStats, StrInterner, Probe, fxHash, probe, tableFor, freshInterner}
 use Rattle.model.specs.Limits.{maxNewStrings}
-use Rattle.interner.specs.declared.InternStats.{InternStats as Counters}
+use Rattle.stats.specs.declared.InternStats.{InternStats as Counters}
+use Rattle.stats.specs.Counts.{statsOf, Counted}
 use Rattle.interner.specs.declared.StrInterner.{StrInterner as Interner}
 use Rattle.table.specs.Layout.{tableOf, startsOf, withStart, stringsUpTo, Work, Entries, taken}
 use Rattle.table.specs.Sizes.{Size}
-
--- ---- the counts
-
-abbrev pub statsOf : Counters → InternStats
-statsOf c = record {
-  calls = c .calls;
-  cacheHits = c .cachehits;
-  tableHits = c .tablehits;
-  allocs = c .allocs;
-  longBypass = c .longbypass;
-  resizes = c .resizes;
-  probeSteps = c .probesteps;
-}
-
--- No count passes the calls, and a call inspects 4096 slots at most. So no sum of 64 bits wraps while the calls are below 2 ^ 32.
-pub record Counted (c : Counters) : Type 0 where
-  pub cachehits : c .cachehits ≤ c .calls
-  pub tablehits : c .tablehits ≤ c .calls
-  pub allocs : c .allocs ≤ c .calls
-  pub longbypass : c .longbypass ≤ c .calls
-  pub resizes : c .resizes ≤ c .calls
-  pub probesteps : c .probesteps ≤ 4096 * c .calls
-
--- what one call adds
-pub record OneCall (c : Counters) : Type 0 where
-  pub calls : c .calls ≡ 1
-  pub cachehits : c .cachehits ≤ 1
-  pub tablehits : c .tablehits ≤ 1
-  pub allocs : c .allocs ≤ 1
-  pub longbypass : c .longbypass ≤ 1
-  pub resizes : c .resizes ≤ 1
-  pub probesteps : c .probesteps ≤ 4096
 
 -- ---- the state
 

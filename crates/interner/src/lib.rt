@@ -2,6 +2,7 @@
 // byte buffer, one behind the other from the place `base` on; the table and the places where strings start stand in lent work
 // words, as crate `table` lays them out; everything else is a `StrInterner` by value. Ids are of the layer alone: the first
 // string is 0.
+use stats::InternStats;
 use table::INITIAL_CAPACITY;
 use table::Probed;
 use table::STARTS;
@@ -12,22 +13,12 @@ ghost use Prim.Native.Nat.{_+_, _-_, _^_, _<_, _≤_};
 ghost use lib.Dec.{leb};
 ghost use lib.ListN.{length, getD, set};
 ghost use Rattle.model.specs.Limits.{maxNewStrings, minWorkWords};
-ghost use Rattle.model.specs.Intern.{plusStats, holds};
+ghost use Rattle.model.specs.Intern.{holds};
+ghost use Rattle.stats.specs.Counts.{Counted};
 ghost use Rattle.table.specs.Layout.{probeOf};
-ghost use Rattle.interner.specs.State.{statsOf, Counted, OneCall, stateOf, Good, Fresh, Ready, withSlots, withEntry, Alloced, firstProbe};
+ghost use Rattle.interner.specs.State.{stateOf, Good, Fresh, Ready, withSlots, withEntry, Alloced, firstProbe};
 
 const MAX_NEW_STRINGS: usize = 3583;
-
-// `InternStats`: the seven counts, by the Rust's names without their underscores, which a clause would have to quote.
-pub struct InternStats {
-    pub calls: u64,
-    pub cachehits: u64,
-    pub tablehits: u64,
-    pub allocs: u64,
-    pub longbypass: u64,
-    pub resizes: u64,
-    pub probesteps: u64,
-}
 
 // `StrInterner`, beside the words and bytes: slots of the table (0 before its first use) and how many are taken; how many strings
 // there are, where in the buffer they begin and end; one more than the last answer's id (0: none).
@@ -39,27 +30,6 @@ pub struct StrInterner {
     pub used: usize,
     pub last: usize,
     pub stats: InternStats,
-}
-
-// ---- counts
-
-// The counts with those of one call added.
-pub fn plus_stats(a: InternStats, b: InternStats) -> InternStats
-    requires { ⌜ Counted a ⌝ }
-    requires { ⌜ a .calls < 2 ^ 32 ⌝ }
-    requires { ⌜ OneCall b ⌝ }
-    ensures { λ r. ⌜ statsOf r ≡ plusStats (statsOf a) (statsOf b) ⌝ }
-    ensures { λ r. ⌜ Counted r ⌝ }
-{
-    InternStats {
-        calls: a.calls + b.calls,
-        cachehits: a.cachehits + b.cachehits,
-        tablehits: a.tablehits + b.tablehits,
-        allocs: a.allocs + b.allocs,
-        longbypass: a.longbypass + b.longbypass,
-        resizes: a.resizes + b.resizes,
-        probesteps: a.probesteps + b.probesteps,
-    }
 }
 
 // ---- the table
@@ -212,14 +182,6 @@ pub fn fresh(work: &mut [u32], strs: &[u8], base: usize) -> StrInterner
         base: base,
         used: base,
         last: 0,
-        stats: InternStats {
-            calls: 0,
-            cachehits: 0,
-            tablehits: 0,
-            allocs: 0,
-            longbypass: 0,
-            resizes: 0,
-            probesteps: 0,
-        },
+        stats: stats::none(),
     }
 }

@@ -16,7 +16,8 @@ use Rattle.model.specs.Graft.{layerOf, With}
 use Rattle.laws.specs.Lists.{both}
 use Rattle.wire.specs.Loops.{by-bool}
 use Rattle.wire.specs.Overwrite.{overwrite}
-use Rattle.interner.specs.State.{stateOf, statsOf, hasRoom}
+use Rattle.interner.specs.State.{stateOf, hasRoom}
+use Rattle.stats.specs.Counts.{statsOf}
 use Rattle.interner.specs.Room.{count-is}
 use Rattle.sizes.specs.declared.Room.{Room}
 use Rattle.sizes.specs.declared.Sizes.{Sizes}

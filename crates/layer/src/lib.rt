@@ -146,15 +146,7 @@ fn refused() -> Layer
             base: 0,
             used: 0,
             last: 0,
-            stats: interner::InternStats {
-                calls: 0,
-                cachehits: 0,
-                tablehits: 0,
-                allocs: 0,
-                longbypass: 0,
-                resizes: 0,
-                probesteps: 0,
-            },
+            stats: stats::none(),
         },
     }
 }

@@ -365,7 +365,7 @@ pub fn output_of(
     w: splice::Window,
     s: Sides,
     reread: usize,
-    stats: interner::InternStats,
+    stats: stats::InternStats,
     tape: usize,
     bytes: usize,
 ) -> output::IncrementalOutput

@@ -6,7 +6,8 @@ use lib.ListN.{length, take}
 use Rattle.model.specs.Intern.{InternStats}
 use Rattle.model.specs.Refusal.{Checked, Checked.refused, Checked.accepted}
 use Rattle.model.specs.Merge.{Room, IncrementalOutput, tapeBuffer, textBuffer, workBuffer}
-use Rattle.interner.specs.declared.InternStats.{InternStats as Counters}
+use Rattle.stats.specs.declared.InternStats.{InternStats as Counters}
+use Rattle.stats.specs.Counts.{noStats}
 use Rattle.output.specs.declared.IncrementalOutput.{IncrementalOutput as Output}
 
 -- the seven counts as the code has them
@@ -21,11 +22,8 @@ countersOf s = record {
   probesteps = s .probeSteps;
 }
 
-abbrev pub noCounts : Counters
-noCounts = record { calls = 0; cachehits = 0; tablehits = 0; allocs = 0; longbypass = 0; resizes = 0; probesteps = 0 }
-
 abbrev pub refusedOutput : ℕ → Output
-refusedOutput n = record { number = n; start = 0; end = 0; reused = 0; reread = 0; stats = noCounts; tape = 0; bytes = 0 }
+refusedOutput n = record { number = n; start = 0; end = 0; reused = 0; reread = 0; stats = noStats; tape = 0; bytes = 0 }
 
 abbrev pub outputBy : ℕ → ℕ → ℕ → ℕ → Counters → ℕ → ℕ → Output
 outputBy start end reused reread stats tape bytes = record { number = 0; start = start; end = end; reused = reused; reread = reread; stats = stats; tape = tape; bytes = bytes }

@@ -1,7 +1,7 @@
 // What a merge answers, document 01 section 7.
 ghost use mathlib.Core.Path.{_≡_};
 ghost use Prim.Native.Nat.{_-_};
-ghost use Rattle.output.specs.Answer.{noCounts, refusedOutput};
+ghost use Rattle.output.specs.Answer.{refusedOutput};
 
 // Section 7. What is returned: a number, or 0 and the region, old nodes kept, the reading's nodes, the seven counts, and how many bytes
 // of the two result buffers the book takes. All is 0 beside a number.
@@ -11,23 +11,9 @@ pub struct IncrementalOutput {
     pub end: u32,
     pub reused: u32,
     pub reread: u32,
-    pub stats: interner::InternStats,
+    pub stats: stats::InternStats,
     pub tape: usize,
     pub bytes: usize,
-}
-
-pub fn no_counts() -> interner::InternStats
-    ensures { λ r. ⌜ r ≡ noCounts ⌝ }
-{
-    interner::InternStats {
-        calls: 0,
-        cachehits: 0,
-        tablehits: 0,
-        allocs: 0,
-        longbypass: 0,
-        resizes: 0,
-        probesteps: 0,
-    }
 }
 
 // A refusal: its number, and 0 beside it.
@@ -40,7 +26,7 @@ pub fn refused_output(n: u32) -> IncrementalOutput
         end: 0,
         reused: 0,
         reread: 0,
-        stats: no_counts(),
+        stats: stats::none(),
         tape: 0,
         bytes: 0,
     }

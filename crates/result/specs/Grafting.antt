@@ -14,7 +14,7 @@ use Rattle.model.specs.Tree.{shownNode, shownNodes}
 use Rattle.model.specs.Graft.{With, graftNodeRefs}
 use Rattle.model.specs.Merge.{grafted}
 use Rattle.wire.specs.Overwrite.{overwrite, overwrite-nil}
-use Rattle.interner.specs.State.{statsOf}
+use Rattle.stats.specs.Counts.{statsOf, noStats}
 use Rattle.places.specs.declared.Places.{Places}
 use Rattle.store.specs.declared.Store.{Store}
 use Rattle.store.specs.Lengths.{book-lengths}
@@ -25,7 +25,6 @@ use Rattle.layer.specs.declared.Layer.{Layer}
 use Rattle.layer.specs.Answers.{LayerTold}
 use Rattle.layer.specs.Layered.{newLayer, graftedInto, layerRecords, layerOk}
 use Rattle.result.specs.declared.Graft.{Graft}
-use Rattle.output.specs.Answer.{noCounts}
 use Rattle.result.specs.Parts.{newLayerBytes, newStringBytes}
 
 -- ---- definitions
@@ -65,7 +64,7 @@ module _ (t d : List ℕ) (o : Offsets) where
       go (n ∷ ns) q = absurd (true≢false (sym q))
 
   -- nothing is written
-  pub graft-none : (out strs : List ℕ) (at base : ℕ) → base ≤ length strs → isEmpty nodes ≡ true → (r : Graft) → r .ok ≡ true → r .len ≡ 0 → r .bytes ≡ 0 → r .stats ≡ noCounts
+  pub graft-none : (out strs : List ℕ) (at base : ℕ) → base ≤ length strs → isEmpty nodes ≡ true → (r : Graft) → r .ok ≡ true → r .len ≡ 0 → r .bytes ≡ 0 → r .stats ≡ noStats
       → GraftTold out strs out strs at base o (isEmpty nodes) r (graftedInto t d o)
   unfolding graftOk newLayerBytes newStringBytes newLayer recordsBytes flatten
   graft-none out strs at base h e r ok len bytes stats =

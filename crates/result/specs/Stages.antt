@@ -19,8 +19,8 @@ use Rattle.model.specs.Merge.{IncrementalOutput, MergeWindow, grafted, mergedBo
 use Rattle.laws.specs.Checks.{same-accepted}
 use Rattle.laws.specs.Splice.{splice}
 use Rattle.wire.specs.Overwrite.{overwrite, length-overwrite, overwrite-next, take-overwrite}
-use Rattle.interner.specs.State.{statsOf}
-use Rattle.interner.specs.declared.InternStats.{InternStats as Counters}
+use Rattle.stats.specs.Counts.{statsOf}
+use Rattle.stats.specs.declared.InternStats.{InternStats as Counters}
 use Rattle.places.specs.declared.Places.{Places}
 use Rattle.places.specs.Found.{found}
 use Rattle.store.specs.declared.Store.{Store}

@@ -58,7 +58,7 @@ pub struct Graft {
     pub ok: bool,
     pub len: usize,
     pub bytes: usize,
-    pub stats: interner::InternStats,
+    pub stats: stats::InternStats,
 }
 
 // The reading's nodes grafted behind the old layers, if it has any: their records from `at` on, new strings from `base` on.
@@ -84,7 +84,7 @@ fn graft_reading(
             ok: true,
             len: 0,
             bytes: 0,
-            stats: output::no_counts(),
+            stats: stats::none(),
         };
     }
     let o = layer::Offsets {
@@ -98,7 +98,7 @@ fn graft_reading(
             ok: false,
             len: 0,
             bytes: 0,
-            stats: output::no_counts(),
+            stats: stats::none(),
         };
     }
     let state = l.state;

@@ -1,6 +1,5 @@
 use Rattle.interner.specs.Room.{room-there}
 use Rattle.intern.proofs.Answers.{bypass-told, bypass-refused}
-use lib.Dec.{lit≤}
 use mathlib.Core.Path.{_≡_, refl, sym, ap, _∙_}
 use mathlib.Core.List.{List, [], _∷_, _++_}
 use Prim.Native.Nat.{ℕ, zero, suc, _+_, _-_, _*_, _%_, _/_, _^_, _≤_, _<_}
@@ -13,23 +12,24 @@ use Rattle.intern.proofs.bypass.Reads as reads
 use Rattle.intern.proofs.bypass.Lts as lts
 use Rattle.interner.proofs.alloc.Reads as alloc-reads
 use Rattle.interner.proofs.has_room.Reads as has-room-reads
-use Rattle.interner.proofs.plus_stats.Reads as plus-stats-reads
+use Rattle.stats.proofs.bypass.Reads as bypass-reads
+use Rattle.stats.specs.Ways.{adds-bypass}
 
 -- src/lib.rt:516:8
 has-room-requires : tie.Need-has-room-requires
 has-room-requires c κs = search needs
 
 -- src/lib.rt:526:42
-plus-stats-requires : tie.Need-plus-stats-requires
-plus-stats-requires c κs = search needs
+bypass-requires : tie.Need-bypass-requires
+bypass-requires c κs = search needs
 
 -- src/lib.rt:526:13
 alloc-requires : tie.Need-alloc-requires
-alloc-requires c κs = (c .before .before .before .before .before .before .before .before .before .pre .0, (room-there _ _ _ _ (sym (c .before .before .before .before .has-room .ensures) ∙ c .before .before .before .if1 .taken), c .plus-stats .ensures .1))
+alloc-requires c κs = (c .before .before .before .before .before .before .before .before .before .pre .0, (room-there _ _ _ _ (sym (c .before .before .before .before .has-room .ensures) ∙ c .before .before .before .if1 .taken), adds-bypass _ _ (c .before .before .before .before .before .before .before .before .before .pre .0 .counts) (c .bypass .ensures) .counted))
 
 -- src/lib.rt:529:17
-cast-t17 : tie.Need-cast-t17
-cast-t17 c = search needs
+cast-t16 : tie.Need-cast-t16
+cast-t16 c = search needs
 
 -- src/lib.rt:527:9
 same-length : tie.Need-same-length
@@ -41,7 +41,7 @@ same-length-2 c = search needs
 
 -- src/lib.rt:527:9
 returns : tie.Need-returns
-returns c = bypass-told (c .before .before .before .before .before .before .before .before .before .before .before .before .before .before .args .work .now) (c .before .before .before .before .before .before .before .before .before .before .before .before .before .before .args .strs .now) (c .before .before .before .before .before .before .before .before .before .before .before .before .before .before .args .st) (c .before .before .before .before .before .before .before .before .before .before .before .before .before .before .pre .0) (c .before .before .before .before .before .before .before .before .before .before .before .before .before .before .args .s .now) _ (c .before .before .before .before .before .before .before .before .before .has-room .ensures) (c .before .before .before .before .before .before .before .before .if1 .taken) _ _ _ _ (c .before .before .before .before .before .plus-stats .ensures .0) _ (c .before .before .before .before .alloc .ensures) _ refl refl refl refl
+returns c = bypass-told (c .before .before .before .before .before .before .before .before .before .before .before .before .before .before .args .work .now) (c .before .before .before .before .before .before .before .before .before .before .before .before .before .before .args .strs .now) (c .before .before .before .before .before .before .before .before .before .before .before .before .before .before .args .st) (c .before .before .before .before .before .before .before .before .before .before .before .before .before .before .pre .0) (c .before .before .before .before .before .before .before .before .before .before .before .before .before .before .args .s .now) _ (c .before .before .before .before .before .before .before .before .before .has-room .ensures) (c .before .before .before .before .before .before .before .before .if1 .taken) _ _ _ _ (adds-bypass _ _ (c .before .before .before .before .before .before .before .before .before .before .before .before .before .before .pre .0 .counts) (c .before .before .before .before .before .bypass .ensures)) _ (c .before .before .before .before .alloc .ensures) _ refl refl refl refl
 
 -- src/lib.rt:509:1
 returns-2 : tie.Need-returns-2
@@ -52,9 +52,9 @@ bypass-spec =
     tie.close
     (tie.spec
     has-room-requires
-    plus-stats-requires
+    bypass-requires
     alloc-requires
-    cast-t17
+    cast-t16
     same-length
     same-length-2
     returns

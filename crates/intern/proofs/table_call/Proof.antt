@@ -1,9 +1,9 @@
 use Rattle.interner.specs.Lookups.{probe-in}
 use Rattle.intern.proofs.Answers.{call-alloc, hit-told}
 use Rattle.intern.specs.Told.{Told}
+use Rattle.stats.specs.Ways.{adds-table-hit}
 use Rattle.table.specs.Layout.{probeOf}
 use Rattle.model.specs.Intern.{Interned}
-use lib.Dec.{lit≤}
 use mathlib.Core.Path.{subst}
 use mathlib.Core.Path.{_≡_, refl, sym, ap, _∙_}
 use mathlib.Core.List.{List, [], _∷_, _++_}
@@ -26,8 +26,8 @@ lookup-requires c κs = search needs
 -- src/lib.rt:585:9
 table-alloc-requires : tie.Need-table-alloc-requires
 table-alloc-requires c κs =
-    let in-table = probe-in (c .before .before .before .before .before .before .before .before .before .args .work .now) (c .before .before .before .before .before .before .before .before .before .args .strs .now) (c .before .before .before .before .before .before .before .before .before .args .st) (c .before .before .before .before .before .before .before .before .before .pre .0) (c .before .before .before .before .before .before .before .before .before .args .s .now) (c .before .before .before .before .before .before .before .before .before .pre .1 .0 .0) (c .before .before .before .before .before .before .before .before .before .pre .1 .0 .1) (probeOf (c .before .before .before .lookup .result)) (c .before .before .before .lookup .ensures) in
-    (c .before .before .before .before .before .before .before .before .before .pre .0, ((c .before .before .before .before .before .before .before .before .before .pre .1 .0 .0, c .before .before .before .before .before .before .before .before .before .pre .1 .1 .0, c .before .before .before .before .before .before .before .before .before .pre .1 .1 .1), (in-table .0, in-table .2, in-table .3 ∙ c .before .before .if1 .taken)))
+    let in-table = probe-in (c .before .before .before .before .before .before .before .before .before .before .args .work .now) (c .before .before .before .before .before .before .before .before .before .before .args .strs .now) (c .before .before .before .before .before .before .before .before .before .before .args .st) (c .before .before .before .before .before .before .before .before .before .before .pre .0) (c .before .before .before .before .before .before .before .before .before .before .args .s .now) (c .before .before .before .before .before .before .before .before .before .before .pre .1 .0 .0) (c .before .before .before .before .before .before .before .before .before .before .pre .1 .0 .1) (probeOf (c .before .before .before .before .lookup .result)) (c .before .before .before .before .lookup .ensures) in
+    (c .before .before .before .before .before .before .before .before .before .before .pre .0, ((c .before .before .before .before .before .before .before .before .before .before .pre .1 .0 .0, c .before .before .before .before .before .before .before .before .before .before .pre .1 .1 .0, c .before .before .before .before .before .before .before .before .before .before .pre .1 .1 .1), (in-table .0, in-table .2, in-table .3 ∙ c .before .before .if1 .taken)))
 
 -- src/lib.rt:585:9
 same-length : tie.Need-same-length
@@ -39,14 +39,18 @@ same-length-2 c = search needs
 
 -- src/lib.rt:585:9
 returns : tie.Need-returns
-returns c = subst (λ (a : Interned). Told (c .before .before .before .before .before .before .before .before .before .before .before .before .before .before .args .work .now) (c .before .before .before .before .before .before .before .before .before .before .before .before .before .before .args .strs .now) (c .before .before .before .before .before .before .before .before .before .before .before .before .before .before .args .st) (c .before .before .before .before .table-alloc .last .0) (c .before .before .before .before .table-alloc .last .1 .0) (c .before .before .before .before .table-alloc .result) a) (call-alloc (c .before .before .before .before .before .before .before .before .before .before .before .before .before .before .args .work .now) (c .before .before .before .before .before .before .before .before .before .before .before .before .before .before .args .strs .now) (c .before .before .before .before .before .before .before .before .before .before .before .before .before .before .args .st) (c .before .before .before .before .before .before .before .before .before .before .before .before .before .before .pre .0) (c .before .before .before .before .before .before .before .before .before .before .before .before .before .before .args .s .now) (c .before .before .before .before .before .before .before .before .before .before .before .before .before .before .args .resized) (probeOf (c .before .before .before .before .before .before .before .before .lookup .result)) (c .before .before .before .before .before .before .before .before .lookup .ensures) (c .before .before .before .before .before .before .before .if1 .taken)) (c .before .before .before .before .table-alloc .ensures)
+returns c = subst (λ (a : Interned). Told (c .before .before .before .before .before .before .before .before .before .before .before .before .before .before .before .args .work .now) (c .before .before .before .before .before .before .before .before .before .before .before .before .before .before .before .args .strs .now) (c .before .before .before .before .before .before .before .before .before .before .before .before .before .before .before .args .st) (c .before .before .before .before .table-alloc .last .0) (c .before .before .before .before .table-alloc .last .1 .0) (c .before .before .before .before .table-alloc .result) a) (call-alloc (c .before .before .before .before .before .before .before .before .before .before .before .before .before .before .before .args .work .now) (c .before .before .before .before .before .before .before .before .before .before .before .before .before .before .before .args .strs .now) (c .before .before .before .before .before .before .before .before .before .before .before .before .before .before .before .args .st) (c .before .before .before .before .before .before .before .before .before .before .before .before .before .before .before .pre .0) (c .before .before .before .before .before .before .before .before .before .before .before .before .before .before .before .args .s .now) (c .before .before .before .before .before .before .before .before .before .before .before .before .before .before .before .args .resized) (probeOf (c .before .before .before .before .before .before .before .before .before .lookup .result)) (c .before .before .before .before .before .before .before .before .before .lookup .ensures) (c .before .before .before .before .before .before .before .if1 .taken)) (c .before .before .before .before .table-alloc .ensures)
+
+-- src/lib.rt:111:22
+table-hit-requires : tie.Need-table-hit-requires
+table-hit-requires c κs =
+    let in-table = probe-in (c .before .before .before .before .before .before .before .before .args .work .now) (c .before .before .before .before .before .before .before .before .args .strs .now) (c .before .before .before .before .before .before .before .before .args .st) (c .before .before .before .before .before .before .before .before .pre .0) (c .before .before .before .before .before .before .before .before .args .s .now) (c .before .before .before .before .before .before .before .before .pre .1 .0 .0) (c .before .before .before .before .before .before .before .before .pre .1 .0 .1) (probeOf (c .before .before .lookup .result)) (c .before .before .lookup .ensures) in
+    (c .before .before .before .before .before .before .before .before .pre .0 .counts, c .before .before .before .before .before .before .before .before .pre .1 .1 .0, c .before .before .before .before .before .before .before .before .pre .1 .1 .1, in-table .2)
 
 -- src/lib.rt:596:5
 known-requires : tie.Need-known-requires
 known-requires c κs =
-    let in-table = probe-in (c .before .before .before .before .before .before .before .args .work .now) (c .before .before .before .before .before .before .before .args .strs .now) (c .before .before .before .before .before .before .before .args .st) (c .before .before .before .before .before .before .before .pre .0) (c .before .before .before .before .before .before .before .args .s .now) (c .before .before .before .before .before .before .before .pre .1 .0 .0) (c .before .before .before .before .before .before .before .pre .1 .0 .1) (probeOf (c .before .lookup .result)) (c .before .lookup .ensures) in
-    let ne = c .if1 .left in
-    (omega arith, (c .before .before .before .before .before .before .before .pre .0 .counts, (c .before .before .before .before .before .before .before .pre .1 .1 .0, record { calls = refl; cachehits = lit≤ tt; tablehits = lit≤ tt; allocs = lit≤ tt; longbypass = lit≤ tt; resizes = c .before .before .before .before .before .before .before .pre .1 .1 .1; probesteps = in-table .2 })))
+    let ne = c .before .if1 .left in omega arith
 
 -- src/lib.rt:576:1
 same-length-3 : tie.Need-same-length-3
@@ -59,8 +63,8 @@ same-length-4 c = search needs
 -- src/lib.rt:576:1
 returns-2 : tie.Need-returns-2
 returns-2 c =
-    let in-table = probe-in (c .before .before .before .before .before .before .before .before .args .work .now) (c .before .before .before .before .before .before .before .before .args .strs .now) (c .before .before .before .before .before .before .before .before .args .st) (c .before .before .before .before .before .before .before .before .pre .0) (c .before .before .before .before .before .before .before .before .args .s .now) (c .before .before .before .before .before .before .before .before .pre .1 .0 .0) (c .before .before .before .before .before .before .before .before .pre .1 .0 .1) (probeOf (c .before .before .lookup .result)) (c .before .before .lookup .ensures) in
-    hit-told (c .before .before .before .before .before .before .before .before .args .work .now) (c .before .before .before .before .before .before .before .before .args .strs .now) (c .before .before .before .before .before .before .before .before .args .st) (c .before .before .before .before .before .before .before .before .pre .0) (c .before .before .before .before .before .before .before .before .args .s .now) (c .before .before .before .before .before .before .before .before .args .resized) (probeOf (c .before .before .lookup .result)) (c .before .before .lookup .ensures) _ _ (c .before .if1 .left) (in-table .1) (c .known .ensures) refl
+    let in-table = probe-in (c .before .before .before .before .before .before .before .before .before .before .args .work .now) (c .before .before .before .before .before .before .before .before .before .before .args .strs .now) (c .before .before .before .before .before .before .before .before .before .before .args .st) (c .before .before .before .before .before .before .before .before .before .before .pre .0) (c .before .before .before .before .before .before .before .before .before .before .args .s .now) (c .before .before .before .before .before .before .before .before .before .before .pre .1 .0 .0) (c .before .before .before .before .before .before .before .before .before .before .pre .1 .0 .1) (probeOf (c .before .before .before .before .lookup .result)) (c .before .before .before .before .lookup .ensures) in
+    hit-told (c .before .before .before .before .before .before .before .before .before .before .args .work .now) (c .before .before .before .before .before .before .before .before .before .before .args .strs .now) (c .before .before .before .before .before .before .before .before .before .before .args .st) (c .before .before .before .before .before .before .before .before .before .before .pre .0) (c .before .before .before .before .before .before .before .before .before .before .args .s .now) (c .before .before .before .before .before .before .before .before .before .before .args .resized) (probeOf (c .before .before .before .before .lookup .result)) (c .before .before .before .before .lookup .ensures) _ (adds-table-hit _ _ (c .before .before .before .before .before .before .before .before .before .before .pre .0 .counts) _ _ (c .before .before .before .before .before .before .before .before .before .before .pre .1 .1 .1) (in-table .2) (c .before .table-hit .ensures)) _ (c .before .before .if1 .left) (in-table .1) (c .known .ensures)
 
 pub table-call-spec : {M : Type 1} → statement M
 table-call-spec =
@@ -71,6 +75,7 @@ table-call-spec =
     same-length
     same-length-2
     returns
+    table-hit-requires
     known-requires
     same-length-3
     same-length-4

@@ -1,0 +1,4 @@
+mod Forms
+mod Steps
+mod Thin
+mod Ways
