@@ -107,6 +107,16 @@ module _ (t d : List ℕ) (f : Frame t d) where
       string-at t st refl behind id k
       ∙ ap₂ (λ (n : ℕ) (l : List ℕ). take n l) (sym (length-at t st refl id k)) (drop-drop (startIn t id) (wordAt t 1 + wordAt t 5) d)
 
+  -- the model's answer, inside the pool and past it
+  pub lookup-in : (id : ℕ) → id < length (lengthsIn t)
+      → lookupStr (bookAt t (places t) d) id ≡ some (part d (wordAt t 1 + wordAt t 5 + startIn t id) (getD (lengthsIn t) id 0))
+  unfolding lookupStr
+  lookup-in id h = item-in strings id [] (omega (arith, h, strings-many)) ∙ ap {B = Option (List ℕ)} some (string-is id h)
+
+  pub lookup-out : (id : ℕ) → length (lengthsIn t) ≤ id → lookupStr (bookAt t (places t) d) id ≡ none
+  unfolding lookupStr
+  lookup-out id h = item-out strings id (omega (arith, h, strings-many))
+
   shown-here : (id : ℕ) → strShown d (strAtOf (accepted (lookupStrSpan (bookAt t (places t) d) id))) ≡ accepted (lookupStr (bookAt t (places t) d) id)
   unfolding strShown strAtOf strIf spanFrom stringSpan lookupStr
   shown-here id =

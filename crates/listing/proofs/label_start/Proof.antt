@@ -1,0 +1,36 @@
+use Rattle.listing.specs.Coded.{start-none, start-read}
+use mathlib.Core.Path.{_≡_, refl, sym, ap, _∙_}
+use mathlib.Core.List.{List, [], _∷_, _++_}
+use Prim.Native.Nat.{ℕ, zero, suc, _+_, _-_, _*_, _%_, _/_, _^_, _≤_, _<_}
+use native.Mathlib.Omega.{arith}
+use lib.ListN.{length, getD, take, drop, set, replicate, length-set, length-take, length-drop, length-append, length-replicate}
+use borrow.Author.Needs.{needs}
+use Rattle.listing.proofs.label_start.Statement.{statement}
+use Rattle.listing.proofs.label_start.Tie as tie
+use Rattle.listing.proofs.label_start.Reads as reads
+use Rattle.listing.proofs.label_start.Lts as lts
+use Rattle.listing.proofs.wide16.Reads as wide16-reads
+
+-- src/lib.rt:284:9
+returns : tie.Need-returns
+returns c = start-none _ (c .if1 .taken)
+
+-- src/lib.rt:286:12
+mul-wide16 : tie.Need-mul-wide16
+mul-wide16 c = search needs
+
+-- src/lib.rt:286:12
+array-read-wide16 : tie.Need-array-read-wide16
+array-read-wide16 c = search needs
+
+-- src/lib.rt:286:5
+wide16-requires : tie.Need-wide16-requires
+wide16-requires c κs = search needs
+
+-- src/lib.rt:280:1
+returns-2 : tie.Need-returns-2
+returns-2 c = start-read (c .before .before .args .i) (omega (arith, c .before .if1 .left)) (c .wide16 .ensures)
+
+pub label-start-spec : {M : Type 1} → statement M
+label-start-spec =
+    tie.close (tie.spec returns mul-wide16 array-read-wide16 wide16-requires returns-2)

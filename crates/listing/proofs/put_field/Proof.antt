@@ -1,0 +1,32 @@
+use Rattle.listing.specs.Lines.{field-put}
+use mathlib.Core.Path.{_≡_, refl, sym, ap, _∙_}
+use mathlib.Core.List.{List, [], _∷_, _++_}
+use Prim.Native.Nat.{ℕ, zero, suc, _+_, _-_, _*_, _%_, _/_, _^_, _≤_, _<_}
+use native.Mathlib.Omega.{arith}
+use lib.ListN.{length, getD, take, drop, set, replicate, length-set, length-take, length-drop, length-append, length-replicate}
+use borrow.Author.Needs.{needs}
+use Rattle.listing.proofs.put_field.Statement.{statement}
+use Rattle.listing.proofs.put_field.Tie as tie
+use Rattle.listing.proofs.put_field.Reads as reads
+use Rattle.listing.proofs.put_field.Lts as lts
+use Rattle.listing.proofs.field_piece.Reads as field-piece-reads
+use Rattle.listing.proofs.put_piece.Reads as put-piece-reads
+
+-- src/lib.rt:401:9
+field-piece-requires : tie.Need-field-piece-requires
+field-piece-requires c κs = search needs
+
+-- src/lib.rt:394:5
+put-piece-requires : tie.Need-put-piece-requires
+put-piece-requires c κs = search needs
+
+-- src/lib.rt:377:1
+same-length : tie.Need-same-length
+same-length c = search needs
+
+-- src/lib.rt:377:1
+returns : tie.Need-returns
+returns c = (c .before .before .put-piece .ensures .0, field-put _ _ _ _ _ _ (take (c .before .before .before .before .before .before .before .before .before .args .at) (c .before .before .before .before .before .before .before .before .before .args .out .now)) (c .before .before .before .field-piece .ensures) (c .before .before .put-piece .ensures .1))
+
+pub put-field-spec : {M : Type 1} → statement M
+put-field-spec = tie.close (tie.spec field-piece-requires put-piece-requires same-length returns)
