@@ -436,7 +436,7 @@ fn diagnostic_as_in(d: records::Diagnostic, w: Window, part: Part) -> records::D
     }
 }
 
-fn put_diagnostic(out: &mut [u8], at: usize, d: records::Diagnostic)
+pub fn put_diagnostic(out: &mut [u8], at: usize, d: records::Diagnostic)
     requires { ⌜ at + 18 ≤ length (now out) ⌝ }
     ensures { λ _. ⌜ now (out .exit) ≡ overwrite (now (out .entry)) at (recordBytes diagnosticCodec (diagnosticOf d)) ⌝ }
 {
