@@ -51,6 +51,10 @@ nodesAllowFrom blocks warichu ns o =
 abbrev pub depthsZero : ℕ → ℕ → Bool
 depthsZero blocks warichu = eqb blocks 0 && eqb warichu 0
 
+-- a close at depth 0
+unfoldable pub closesNothing : Bool → ℕ → Bool
+closesNothing closes d = closes && eqb d 0
+
 -- ---- one node
 
 -- nodes from k on say nothing of an offset at or before k
@@ -217,3 +221,30 @@ nodes-in-order {size} h = record { size = size; inside = h .inside; order = h .o
 
 pub in-order-nodes : {ns : List SourceNode} → (h : InOrder ns) → NodesIn (h .size) ns
 in-order-nodes h = record { inside = h .inside; order = h .order }
+
+-- ---- `nodes_allow_cut`: every node that was passed ends at or before o
+
+pub record Upto (t : List ℕ) (r : Run) (o i blocks warichu : ℕ) : Type 0 where
+  pub size : ℕ
+  pub from : ℕ
+  pub by : from ≤ o
+  pub walked : Walked size t r i from blocks warichu
+
+pub upto-none : (t : List ℕ) (r : Run) (o : ℕ) → InOrder (nodesOf t r) → Upto t r o 0 0 0
+upto-none t r o h = record { size = h .size; from = 0; by = omega arith; walked = walked-none (h .size) t r (in-order-nodes h) }
+
+module _ {t : List ℕ} {r : Run} {o i blocks warichu : ℕ} (u : Upto t r o i blocks warichu) where
+  pub upto-rest : r .count ≤ i → (x : Bool) → x ≡ depthsZero blocks warichu → x ≡ nodesAllowCut (nodesOf t r) o
+  upto-rest h x e = e ∙ sym (walked-rest (u .walked) h o (u .by))
+
+  module _ (h : i < r .count) (start : ℕ) (q : start ≡ nodeAt t r i .sourceSpan .start) where
+    pub upto-gap : o ≤ start → (x : Bool) → x ≡ depthsZero blocks warichu → x ≡ nodesAllowCut (nodesOf t r) o
+    upto-gap g x e = e ∙ sym (walked-gap (u .walked) h start (nodeAt t r i .sourceSpan .end) q refl o (u .by) g)
+
+    module _ (end : ℕ) (q₁ : end ≡ nodeAt t r i .sourceSpan .end) where
+      pub upto-across : start < o → o < end → false ≡ nodesAllowCut (nodesOf t r) o
+      upto-across g b = sym (walked-across (u .walked) h start end q q₁ o g b)
+
+      pub upto-more : end ≤ o → (blocks′ warichu′ : ℕ) → blocks′ ≡ depthBehind isBlockOpen isBlockClose blocks (nodeAt t r i)
+          → warichu′ ≡ depthBehind isWarichuOpen isWarichuClose warichu (nodeAt t r i) → Upto t r o (i + 1) blocks′ warichu′
+      upto-more g blocks′ warichu′ e f = record { size = u .size; from = end; by = g; walked = walked-more (u .walked) h start end q q₁ blocks′ warichu′ e f }

@@ -2,9 +2,4 @@ pub mod Safe
 pub mod Offsets
 pub mod Pairs
 pub mod Gaps
-pub mod EndSearch
-pub mod Unmatched
-pub mod Blank
-pub mod StartSearch
-pub mod Walks
 pub mod Examples

@@ -99,7 +99,7 @@ fn is_string<'a>(
     if strings::string_length(tape, st, id) != s.len() {
         return false;
     }
-    wire::same(s, strings::resolve_str(tape, st, words, old, new, id))
+    compare::same(s, strings::resolve_str(tape, st, words, old, new, id))
 }
 
 fn is_plain<'a>(

@@ -11,7 +11,7 @@ use borrow.Author.Tests.{eq-eqb}
 use Rattle.model.specs.Lists.{same}
 use Rattle.model.specs.Region.{Edit, edited}
 use Rattle.laws.specs.Checks.{same-eq}
-use Rattle.wire.specs.Compare.{same-refl}
+use Rattle.compare.specs.Compare.{same-refl}
 use Rattle.wire.specs.Loops.{by-bool}
 
 same-behind : (a b c : List ℕ) → same (a ++ b) (a ++ c) ≡ same b c

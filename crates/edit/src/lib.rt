@@ -47,7 +47,7 @@ pub fn unchanged(text: &[u8], start: u32, end: u32, replacement: &[u8]) -> bool
     if replacement.len() != to - from {
         return false;
     }
-    wire::same(replacement, &text[from..to])
+    compare::same(replacement, &text[from..to])
 }
 
 // Numbers 8, 2, 3, 9 of an edit, 0 where none refuses it.

@@ -23,8 +23,8 @@ use Rattle.lookup.specs.declared.RangeAt.{RangeAt}
 use Rattle.lookup.specs.declared.RangeAt.the-variants as range-at
 use Rattle.lookup.specs.declared.StrAt.{StrAt}
 use Rattle.lookup.specs.declared.StrAt.the-variants as str-at
-use Rattle.lookup.specs.declared.Copied.{Copied}
-use Rattle.lookup.specs.declared.Copied.the-variants as copied
+use Rattle.copy.specs.declared.Copied.{Copied}
+use Rattle.copy.specs.declared.Copied.the-variants as copied
 use Rattle.lookup.specs.Ranges.{rangeIf, rangeAtOf}
 use Rattle.lookup.specs.Strings.{strIf, strAtOf, strShown}
 use Rattle.region.specs.declared.Chosen.{Chosen}

@@ -15,7 +15,7 @@ ghost use Rattle.store.specs.Standing.{contentPlace, segmentPlace};
 ghost use Rattle.lookup.specs.Asked.{allowedOf, nodeAtOf};
 ghost use Rattle.lookup.specs.Ranges.{contentsOk, segmentsOk, rangeAtOf, rangeShown};
 ghost use Rattle.lookup.specs.Strings.{strAtOf, strShown};
-ghost use Rattle.lookup.specs.Copying.{copiedOf, copyInto};
+ghost use Rattle.copy.specs.Copying.{copiedOf, copyInto};
 ghost use Rattle.edit.specs.Numbers.{editOf};
 ghost use Rattle.region.specs.Chosen.{chosenOf};
 ghost use Rattle.output.specs.Answer.{roomOf, Merged};
@@ -190,16 +190,16 @@ fn str_answer(a: lookup::StrAt) -> StrAnswer
     }
 }
 
-fn copy_answer(a: lookup::Copied) -> CopyAnswer
+fn copy_answer(a: copy::Copied) -> CopyAnswer
     ensures { λ r. ⌜ r ≡ copyAnswer a ⌝ }
 {
     match a {
-        lookup::Copied::Refused(n) => CopyAnswer {
+        copy::Copied::Refused(n) => CopyAnswer {
             number: n,
             tape: 0,
             bytes: 0,
         },
-        lookup::Copied::Copied(tape, bytes) => CopyAnswer {
+        copy::Copied::Copied(tape, bytes) => CopyAnswer {
             number: 0,
             tape: tape,
             bytes: bytes,
@@ -335,7 +335,7 @@ pub extern "C" fn aozora_copy_book(
         × (now (outtape .exit) ≡ copiedTape (length (now (outtape .entry))) copy)
         × (now (outbytes .exit) ≡ copiedBytes (length (now (outbytes .entry))) copy)) ⌝ }
 {
-    copy_answer(lookup::copy_book(tape, bytes, outtape, outbytes))
+    copy_answer(copy::copy_book(tape, bytes, outtape, outbytes))
 }
 
 #[no_mangle]

@@ -122,7 +122,7 @@ pub fn is_last(work: &[u32], strs: &[u8], st: StrInterner, s: &[u8]) -> bool
     if last == 0 {
         return false;
     }
-    wire::same(resolve(work, strs, st, (last - 1) as u32), s)
+    compare::same(resolve(work, strs, st, (last - 1) as u32), s)
 }
 
 // Whether there is room for one string more, of n bytes, in a buffer of `size` bytes.

@@ -6,7 +6,7 @@ use mathlib.Core.List.{List, [], _∷_, _++_, append-assoc}
 use lib.ListN.{length, take, drop, length-append, length-drop}
 use lib.Seq.{length-take-le}
 use Rattle.wire.specs.Overwrite.{overwrite, length-overwrite, overwrite-next}
-use Rattle.wire.specs.Moved.{overwrite-swap, overwrite-covered, overwrite-part}
+use Rattle.wire.specs.Apart.{overwrite-swap, overwrite-covered, overwrite-part}
 use Rattle.graft.specs.Blocks.{blocks}
 
 -- the n bytes behind the place `at` moved up, and rs between them and a byte there

@@ -84,7 +84,7 @@ fn lay_out(out: &mut [u8], work: &[u32], at: usize, n: usize, count: usize)
     requires { ⌜ (at + 1 + n + 5 * count ≤ length (now out)) × (count ≤ maxNewStrings) ⌝ }
     ensures { λ _. ⌜ now (out .exit) ≡ overwrite (now (out .entry)) at (2 ∷ (recordsBytes stringCodec (newLengths (now (work .entry)) count) ++ take n (drop (at + 1) (now (out .entry))))) ⌝ }
 {
-    wire::move_up(out, at + 1, n, 5 * count);
+    moves::move_up(out, at + 1, n, 5 * count);
     wire::put_u8(out, at, 2);
     put_lengths(out, at + 1, work, count);
 }

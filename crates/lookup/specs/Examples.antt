@@ -3,7 +3,6 @@
 use mathlib.Core.Path.{_≡_, refl}
 use Prim.Native.Nat.{ℕ}
 use mathlib.Core.List.{List, []}
-use lib.ListN.{length}
 use Rattle.model.specs.Tape.{tapeOf, bytesOf}
 use Rattle.model.specs.Lookup.{askBook, diagnosticsAllowIncremental, nodeAtSource, lookupStrSpan}
 use Rattle.model.specs.Examples.{rubyReading}
@@ -15,11 +14,9 @@ use Rattle.lookup.specs.declared.Allowed.the-variants as allowed
 use Rattle.lookup.specs.declared.NodeAt.the-variants as node-at
 use Rattle.lookup.specs.declared.RangeAt.the-variants as range-at
 use Rattle.lookup.specs.declared.StrAt.the-variants as str-at
-use Rattle.lookup.specs.declared.Copied.the-variants as copied
 use Rattle.lookup.specs.Asked.{allowedOf, nodeAtOf}
 use Rattle.lookup.specs.Ranges.{rangeIf, rangeAtOf, contentsOk}
 use Rattle.lookup.specs.Strings.{strIf, strAtOf}
-use Rattle.lookup.specs.Copying.{copiedOf, copyInto}
 
 abbrev t : List ℕ
 t = tapeOf rubyReading
@@ -43,11 +40,6 @@ contents : (rangeAtOf (askBook t d (contentsOk 0 2)) (contentPlace (storeAt t) 0
     × (rangeAtOf (askBook t d (contentsOk 1 2)) (contentPlace (storeAt t) 1) 2 ≡ range-at.Nothing)
 unfolding computed rangeAtOf rangeIf storeAt startsOf layerOf contentPlace
 contents = (refl, refl)
-
--- room for the bytes, and one too few
-copy : (copiedOf (copyInto t d (length t) 11) ≡ copied.Copied (length t) 11) × (copiedOf (copyInto t d (length t) 10) ≡ copied.Refused 18)
-unfolding computed copiedOf copyInto
-copy = (refl, refl)
 
 -- no diagnostics; no book
 allow : (allowedOf (askBook t d (λ b. diagnosticsAllowIncremental (b .diagnostics))) ≡ allowed.Yes)

@@ -2,12 +2,8 @@
 // without an answer says none. No entry has a `requires`; specs/ says for each case of an answer which number and values it is.
 ghost use mathlib.Core.Path.{_≡_};
 ghost use Prim.Native.Nat.{_≤_, _<_, _^_};
-ghost use lib.ListN.{length};
-ghost use Rattle.model.specs.Refusal.{numberOf};
-ghost use Rattle.model.specs.Merge.{padded};
 ghost use Rattle.model.specs.Tape.{contentCodec, segmentCodec};
 ghost use Rattle.model.specs.Lookup.{askBook, diagnosticsAllowIncremental, nodeAtSource, lookupContents, lookupSegments, lookupStr, lookupStrSpan};
-ghost use Rattle.model.specs.Lookup.{copiedTape, copiedBytes};
 ghost use Rattle.store.specs.Stored.{storeAt};
 ghost use Rattle.store.specs.Pools.{rangeIn};
 ghost use Rattle.store.specs.Standing.{contentPlace, segmentPlace};
@@ -15,7 +11,6 @@ ghost use Rattle.lookup.specs.Asked.{allowedOf, nodeAtOf, nodeFound};
 ghost use Rattle.lookup.specs.Ranges.{contentsOk, segmentsOk, rangeIf, rangeAtOf, rangeShown};
 ghost use Rattle.strings.specs.Starts.{lengthsIn, Readable};
 ghost use Rattle.lookup.specs.Strings.{strIf, strAtOf, strShown, spanFrom};
-ghost use Rattle.lookup.specs.Copying.{copiedOf, copyInto};
 
 pub enum Allowed {
     Refused(u32),
@@ -42,12 +37,6 @@ pub enum StrAt {
     Refused(u32),
     At(usize, usize),
     Nothing,
-}
-
-// How many bytes of the two result buffers the copy takes.
-pub enum Copied {
-    Refused(u32),
-    Copied(usize, usize),
 }
 
 // `diagnostics_allow_incremental` of a book.
@@ -161,48 +150,4 @@ pub fn lookup_str(tape: &[u8], bytes: &[u8], id: u32) -> StrAt
     let st = store::store_of(tape, p.layers);
     let from = p.text as usize + p.normalized as usize;
     str_in(tape, st, bytes.len(), from, id)
-}
-
-// 1 to 7, then 18 for a short buffer; 0 for neither.
-fn copy_refusal(tape: &[u8], bytes: &[u8], taperoom: usize, bytesroom: usize) -> u32
-    ensures { λ r. ⌜ r ≡ numberOf (copyInto (now (tape .entry)) (now (bytes .entry)) taperoom bytesroom) ⌝ }
-{
-    let n = tape::check_book(tape, bytes);
-    if n != 0 {
-        return n;
-    }
-    if taperoom < tape.len() {
-        return 18;
-    }
-    if bytesroom < bytes.len() {
-        return 18;
-    }
-    0
-}
-
-// `s` from the buffer's start on, and zeros behind it.
-fn copy_padded(out: &mut [u8], s: &[u8])
-    requires { ⌜ length (now s) ≤ length (now out) ⌝ }
-    ensures { λ _. ⌜ now (out .exit) ≡ padded (length (now (out .entry))) (now (s .entry)) ⌝ }
-{
-    wire::copy_at(out, 0, s);
-    wire::zero_from(out, s.len());
-}
-
-// A book read and written again, which is the same bytes: both buffers copied, or cleared after a refusal.
-pub fn copy_book(tape: &[u8], bytes: &[u8], outtape: &mut [u8], outbytes: &mut [u8]) -> Copied
-    ensures { λ r. ⌜ (let copy = copyInto (now (tape .entry)) (now (bytes .entry)) (length (now (outtape .entry))) (length (now (outbytes .entry))) in
-        (r ≡ copiedOf copy)
-        × (now (outtape .exit) ≡ copiedTape (length (now (outtape .entry))) copy)
-        × (now (outbytes .exit) ≡ copiedBytes (length (now (outbytes .entry))) copy)) ⌝ }
-{
-    let n = copy_refusal(tape, bytes, outtape.len(), outbytes.len());
-    if n != 0 {
-        wire::zero_from(outtape, 0);
-        wire::zero_from(outbytes, 0);
-        return Copied::Refused(n);
-    }
-    copy_padded(outtape, tape);
-    copy_padded(outbytes, bytes);
-    Copied::Copied(tape.len(), bytes.len())
 }

@@ -23,7 +23,7 @@ use Rattle.records.specs.Runs.{run-length}
 use Rattle.splice.specs.Spliced.{spliced-length, spliced-written, records-stand}
 use Rattle.diagnostics.specs.Sorted.{sort-length}
 use Rattle.diagnostics.specs.Runs.{Diagnostics, written-diagnostics}
-use Rattle.wire.specs.Moved.{overwrite-covered, overwrite-part}
+use Rattle.wire.specs.Apart.{overwrite-covered, overwrite-part}
 use Rattle.places.specs.declared.Places.{Places}
 use Rattle.tape.specs.Placed.{PlacesFit, fit-nodes, fit-pairs, fit-containers, fit-diagnostics}
 use Rattle.merged_lists.specs.declared.Kept.{Kept}

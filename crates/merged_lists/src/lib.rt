@@ -180,7 +180,7 @@ fn put_nodes(
     requires { ⌜ to + 49 * totalOf (sidesOf nodeLocated (windowValue w) (recordsAt nodeCodec (now tape) (run .at) (run .count))) reading ≤ length (now out) ⌝ }
     ensures { λ _. ⌜ now (out .exit) ≡ overwrite (now (out .entry)) to (nodeBytes (windowValue w) (recordsAt nodeCodec (now (tape .entry)) (run .at) (run .count)) (recordsAt nodeCodec (now (out .entry)) to reading)) ⌝ }
 {
-    wire::move_up(out, to, 49 * reading, 49 * before);
+    moves::move_up(out, to, 49 * reading, 49 * before);
     splice_nodes::put_before_nodes(tape, run.at, run.count, w, out, to);
     splice_nodes::place_nodes(out, to + 49 * before, reading, w);
     splice_nodes::put_behind_nodes(
@@ -209,8 +209,8 @@ fn put_pairs(
     requires { ⌜ to + 18 * totalOf (sidesOf pairLocated (windowValue w) (recordsAt pairCodec (now tape) (run .at) (run .count))) (reading .count) ≤ length (now out) ⌝ }
     ensures { λ _. ⌜ now (out .exit) ≡ overwrite (now (out .entry)) to (pairBytes (windowValue w) (recordsAt pairCodec (now (tape .entry)) (run .at) (run .count)) (recordsAt pairCodec (now (readingtape .entry)) (reading .at) (reading .count))) ⌝ }
 {
-    splice::put_before_pairs(tape, run.at, run.count, w, out, to);
-    splice::put_placed_pairs(
+    splice_lists::put_before_pairs(tape, run.at, run.count, w, out, to);
+    splice_lists::put_placed_pairs(
         readingtape,
         reading.at,
         reading.count,
@@ -218,7 +218,7 @@ fn put_pairs(
         out,
         to + 18 * before,
     );
-    splice::put_behind_pairs(
+    splice_lists::put_behind_pairs(
         tape,
         run.at,
         run.count,
@@ -244,8 +244,8 @@ fn put_containers(
     requires { ⌜ to + 13 * totalOf (sidesOf containerLocated (windowValue w) (recordsAt containerCodec (now tape) (run .at) (run .count))) (reading .count) ≤ length (now out) ⌝ }
     ensures { λ _. ⌜ now (out .exit) ≡ overwrite (now (out .entry)) to (containerBytes (windowValue w) (recordsAt containerCodec (now (tape .entry)) (run .at) (run .count)) (recordsAt containerCodec (now (readingtape .entry)) (reading .at) (reading .count))) ⌝ }
 {
-    splice::put_before_containers(tape, run.at, run.count, w, out, to);
-    splice::put_placed_containers(
+    splice_lists::put_before_containers(tape, run.at, run.count, w, out, to);
+    splice_lists::put_placed_containers(
         readingtape,
         reading.at,
         reading.count,
@@ -253,7 +253,7 @@ fn put_containers(
         out,
         to + 13 * before,
     );
-    splice::put_behind_containers(
+    splice_lists::put_behind_containers(
         tape,
         run.at,
         run.count,
@@ -263,7 +263,7 @@ fn put_containers(
     );
 }
 
-// `merge_diagnostics`: `all` of them, sorted where they stand.
+// `merge_diagnostics`: `all` of them, sorted.
 fn put_diagnostics(
     tape: &[u8],
     run: places::Run,
@@ -281,8 +281,8 @@ fn put_diagnostics(
     requires { ⌜ allOf (recordFits diagnosticCodec) (spliced diagnosticLocated (windowValue w) (recordsAt diagnosticCodec (now tape) (run .at) (run .count)) (recordsAt diagnosticCodec (now readingtape) (reading .at) (reading .count))) ≡ true ⌝ }
     ensures { λ _. ⌜ now (out .exit) ≡ overwrite (now (out .entry)) to (diagnosticBytes (windowValue w) (recordsAt diagnosticCodec (now (tape .entry)) (run .at) (run .count)) (recordsAt diagnosticCodec (now (readingtape .entry)) (reading .at) (reading .count))) ⌝ }
 {
-    splice::put_before_diagnostics(tape, run.at, run.count, w, out, to);
-    splice::put_placed_diagnostics(
+    splice_lists::put_before_diagnostics(tape, run.at, run.count, w, out, to);
+    splice_lists::put_placed_diagnostics(
         readingtape,
         reading.at,
         reading.count,
@@ -290,7 +290,7 @@ fn put_diagnostics(
         out,
         to + 18 * before,
     );
-    splice::put_behind_diagnostics(
+    splice_lists::put_behind_diagnostics(
         tape,
         run.at,
         run.count,
@@ -298,7 +298,7 @@ fn put_diagnostics(
         out,
         to + 18 * before + 18 * reading.count,
     );
-    diagnostics::sort_diagnostics(out, to, all);
+    diagnostic_slice::sort_diagnostics(out, to, all);
 }
 
 // The four lists from `at` on, where the grafted nodes stand, and command 10.

@@ -12,7 +12,7 @@ use Rattle.model.specs.Region.{isBlockOpen, isBlockClose, isWarichuOpen, isWari
 use Rattle.model.specs.Merge.{balancedFrom, balancedNodes, isUnclosed}
 use Rattle.records.specs.Runs.{run-cons, run-none}
 use Rattle.cuts.specs.Gaps.{depthsZero, depth-small}
-use Rattle.cuts.specs.Unmatched.{closesNothing}
+use Rattle.cuts.specs.Gaps.{closesNothing}
 
 -- ---- number 14, one diagnostic
 

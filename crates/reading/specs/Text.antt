@@ -13,7 +13,7 @@ use Rattle.model.specs.Lists.{same}
 use Rattle.model.specs.Bytes.{part}
 use Rattle.model.specs.Region.{edited, behindEdit}
 use Rattle.laws.specs.Splice.{splice, drop-take, take-splice-rest}
-use Rattle.wire.specs.Compare.{same-length}
+use Rattle.compare.specs.Compare.{same-length}
 use Rattle.edit.specs.Numbers.{editOf}
 use Rattle.edit.specs.Same.{parts}
 

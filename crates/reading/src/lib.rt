@@ -37,13 +37,13 @@ pub fn is_region_text(
         return false;
     }
     let there = reading.len() - behind;
-    if !wire::same(&reading[0..before], &text[from as usize..start as usize]) {
+    if !compare::same(&reading[0..before], &text[from as usize..start as usize]) {
         return false;
     }
-    if !wire::same(&reading[before..there], replacement) {
+    if !compare::same(&reading[before..there], replacement) {
         return false;
     }
-    wire::same(
+    compare::same(
         &reading[there..reading.len()],
         &text[end as usize..to as usize],
     )

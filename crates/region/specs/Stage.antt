@@ -16,8 +16,8 @@ use Rattle.model.specs.Region.{Edit, balancedRegion, isWhole, hasRubyFormatDepe
 use Rattle.places.specs.declared.Places.{Places}
 use Rattle.store.specs.declared.Store.{Store}
 use Rattle.edit.specs.Numbers.{editOf, editNumber, edit-inside}
-use Rattle.cuts.specs.declared.Region.{Region as Cuts}
-use Rattle.cuts.specs.Safe.{balancedIn, regionOf, balanced-bounds, region-of-book}
+use Rattle.balanced_region.specs.declared.Region.{Region as Cuts}
+use Rattle.balanced_region.specs.Ends.{balancedIn, regionOf, balanced-bounds, region-of-book}
 use Rattle.cuts.specs.Gaps.{NodesIn}
 use Rattle.region.specs.declared.Chosen.{Chosen}
 use Rattle.region.specs.declared.Chosen.the-variants.{Refused, Region}

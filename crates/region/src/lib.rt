@@ -26,7 +26,7 @@ pub enum Chosen {
 }
 
 // Number 11. The region would be the whole text.
-fn is_whole(text: u32, r: cuts::Region) -> bool
+fn is_whole(text: u32, r: balanced_region::Region) -> bool
     ensures { λ r′. ⌜ r′ ≡ wholeText text (r .start) (r .end) ⌝ }
 {
     if r.start != 0 {
@@ -98,7 +98,14 @@ pub fn chosen_region(
     if depends(tape, bytes, p, st, words, base, start) {
         return Chosen::Refused(10);
     }
-    let r = cuts::balanced_region(tape, text, p.nodes, p.pairs, start as usize, end as usize);
+    let r = balanced_region::balanced_region(
+        tape,
+        text,
+        p.nodes,
+        p.pairs,
+        start as usize,
+        end as usize,
+    );
     if is_whole(p.text, r) {
         return Chosen::Refused(11);
     }

@@ -37,7 +37,7 @@ use Rattle.splice.specs.Spliced.{spliced-length, records-stand}
 use Rattle.diagnostics.specs.Sorted.{sort-length}
 use Rattle.layer.specs.declared.Offsets.{Offsets}
 use Rattle.layer.specs.Layered.{Above, layerRecords, layer-fits, layer-ok}
-use Rattle.wire.specs.Moved.{overwrite-covered}
+use Rattle.wire.specs.Apart.{overwrite-covered}
 use Rattle.merged_lists.specs.declared.Kept.{Kept}
 use Rattle.merged_lists.specs.declared.Lengths.{Lengths}
 use Rattle.result.specs.Checked.{resultChecked, merge-passed, ResultFacts, result-facts, result-ok}

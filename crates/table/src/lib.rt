@@ -112,7 +112,7 @@ pub fn probe(table: &[u32], starts: &[u32], strs: &[u8], s: &[u8], from: usize) 
                 steps: steps as u64,
             };
         }
-        if wire::same(string_at(starts, strs, e - 1), s) {
+        if compare::same(string_at(starts, strs, e - 1), s) {
             return Probed {
                 at: at,
                 slot: e,

@@ -25,12 +25,12 @@ fn put_hex(s: &[u8]) {
     }
 }
 
-fn put_copied(a: lookup::Copied) {
+fn put_copied(a: copy::Copied) {
     match a {
-        lookup::Copied::Refused(n) => {
+        copy::Copied::Refused(n) => {
             put(b"refused ", n as u64);
         }
-        lookup::Copied::Copied(tape, bytes) => {
+        copy::Copied::Copied(tape, bytes) => {
             put(b"", tape as u64);
             put(b" ", bytes as u64);
         }
@@ -42,7 +42,7 @@ fn copy(tape: &[u8], bytes: &[u8]) {
     let mut outtape = [7u8; 2048];
     let mut outbytes = [7u8; 64];
     say(b"  copy: ");
-    put_copied(lookup::copy_book(tape, bytes, &mut outtape, &mut outbytes));
+    put_copied(copy::copy_book(tape, bytes, &mut outtape, &mut outbytes));
     say(b", ");
     put_hex(wire::between(&outtape, 0, 16));
     say(b" ");

@@ -1,3 +1,1 @@
-pub mod Chars
-pub mod Leads
 pub mod Skips

@@ -10,8 +10,8 @@ use lib.ListN.{length, getD, drop}
 use lib.Dec.{ltb, leb}
 use Rattle.model.specs.Utf8.{Utf8State, tail2, within, utf8First, utf8Step, utf8}
 use Rattle.wire.specs.Loops.{allUpTo, by-bool}
-use Rattle.utf8.specs.Chars.{charLen, asks, len-1, three-whole, char-next, char-none, char-fits}
-use Rattle.utf8.specs.Leads.{lead-1, lead-3}
+use Rattle.chars.specs.Chars.{charLen, asks, len-1, three-whole, char-next, char-none, char-fits}
+use Rattle.chars.specs.Leads.{lead-1, lead-3}
 
 -- between the places `at` and r there are whole characters, so that the rest is UTF-8 from either
 pub record Skipped (s : List ℕ) (at r : ℕ) : Type 0 where

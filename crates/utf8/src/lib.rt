@@ -1,124 +1,13 @@
-// UTF-8 by RFC 3629, for document 01's returned numbers 2 (a text is not UTF-8), 8 and 16 (a place inside a character). The
-// model reads the bytes by a machine; this code walks by characters. specs/Chars.antt: from `between` a whole character leads
-// back to `between`, and what is none to a state that never comes back. specs/Leads.antt: what each first byte asks for.
-// specs/Skips.antt: runs of ASCII, and of three bytes, are skipped together.
+// UTF-8 by RFC 3629, for document 01's returned numbers 2 (a text is not UTF-8), 8 and 16 (a place inside a character): a walk by
+// characters. specs/Skips.antt: runs of ASCII, and of three bytes, are skipped together.
 ghost use mathlib.Core.Path.{_≡_};
-ghost use mathlib.Core.Bool.{cond, _&&_};
+ghost use mathlib.Core.Bool.{_&&_};
 ghost use Prim.Native.Nat.{_+_, _≤_, _<_};
-ghost use lib.ListN.{length, getD, drop};
+ghost use lib.ListN.{length, getD};
 ghost use lib.Dec.{ltb};
-ghost use Rattle.model.specs.Utf8.{utf8, isCharBoundary, utf8First, utf8Step, within as isWithin, tail1, tail2, bad};
+ghost use Rattle.model.specs.Utf8.{utf8, isCharBoundary};
 ghost use Rattle.wire.specs.Loops.{allUpTo};
-ghost use Rattle.utf8.specs.Chars.{charLen};
 ghost use Rattle.utf8.specs.Skips.{Skipped, Step, asciiAt, isThree};
-
-fn within(lo: u8, hi: u8, b: u8) -> bool
-    ensures { λ r. ⌜ r ≡ isWithin lo hi b ⌝ }
-{
-    if b < lo {
-        return false;
-    }
-    b <= hi
-}
-
-// The second byte of three, whose range the first one narrows.
-fn second_of_three(a: u8, b: u8) -> bool
-    requires { ⌜ (0xe0 ≤ a) × (a < 0xf0) ⌝ }
-    ensures { λ r. ⌜ utf8Step (utf8First a) b ≡ cond r tail1 bad ⌝ }
-{
-    if a == 0xe0 {
-        return within(0xa0, 0xbf, b);
-    }
-    if a == 0xed {
-        return within(0x80, 0x9f, b);
-    }
-    within(0x80, 0xbf, b)
-}
-
-fn second_of_four(a: u8, b: u8) -> bool
-    requires { ⌜ (0xf0 ≤ a) × (a < 0xf5) ⌝ }
-    ensures { λ r. ⌜ utf8Step (utf8First a) b ≡ cond r tail2 bad ⌝ }
-{
-    if a == 0xf0 {
-        return within(0x90, 0xbf, b);
-    }
-    if a == 0xf4 {
-        return within(0x80, 0x8f, b);
-    }
-    within(0x80, 0xbf, b)
-}
-
-fn two(s: &[u8], at: usize) -> usize
-    requires { ⌜ (at < length (now s)) × (0xc2 ≤ getD (now s) at 0) × (getD (now s) at 0 < 0xe0) ⌝ }
-    ensures { λ r. ⌜ r ≡ charLen (drop at (now (s .entry))) ⌝ }
-{
-    if s.len() - at < 2 {
-        return 0;
-    }
-    if !within(0x80, 0xbf, s[at + 1]) {
-        return 0;
-    }
-    2
-}
-
-fn three(s: &[u8], at: usize) -> usize
-    requires { ⌜ (at < length (now s)) × (0xe0 ≤ getD (now s) at 0) × (getD (now s) at 0 < 0xf0) ⌝ }
-    ensures { λ r. ⌜ r ≡ charLen (drop at (now (s .entry))) ⌝ }
-{
-    if s.len() - at < 3 {
-        return 0;
-    }
-    if !second_of_three(s[at], s[at + 1]) {
-        return 0;
-    }
-    if !within(0x80, 0xbf, s[at + 2]) {
-        return 0;
-    }
-    3
-}
-
-fn four(s: &[u8], at: usize) -> usize
-    requires { ⌜ (at < length (now s)) × (0xf0 ≤ getD (now s) at 0) × (getD (now s) at 0 < 0xf5) ⌝ }
-    ensures { λ r. ⌜ r ≡ charLen (drop at (now (s .entry))) ⌝ }
-{
-    if s.len() - at < 4 {
-        return 0;
-    }
-    if !second_of_four(s[at], s[at + 1]) {
-        return 0;
-    }
-    if !within(0x80, 0xbf, s[at + 2]) {
-        return 0;
-    }
-    if !within(0x80, 0xbf, s[at + 3]) {
-        return 0;
-    }
-    4
-}
-
-// How many bytes the character at `at` has, 0 where there is none.
-fn char_len(s: &[u8], at: usize) -> usize
-    requires { ⌜ at < length (now s) ⌝ }
-    ensures { λ r. ⌜ r ≡ charLen (drop at (now (s .entry))) ⌝ }
-{
-    let b = s[at];
-    if b < 0x80 {
-        return 1;
-    }
-    if b < 0xc2 {
-        return 0;
-    }
-    if b < 0xe0 {
-        return two(s, at);
-    }
-    if b < 0xf0 {
-        return three(s, at);
-    }
-    if b < 0xf5 {
-        return four(s, at);
-    }
-    0
-}
 
 // A single `&` and no branches, so that LLVM tests the bytes together.
 fn four_ascii(a: u8, b: u8, c: u8, d: u8) -> bool
@@ -189,7 +78,7 @@ fn ascii_end(s: &[u8], at: usize) -> usize
 fn is_three(a: u8, b: u8, c: u8) -> bool
     ensures { λ r. ⌜ r ≡ isThree a b c ⌝ }
 {
-    within(0xe1, 0xec, a) & within(0x80, 0xbf, b) & within(0x80, 0xbf, c)
+    chars::within(0xe1, 0xec, a) & chars::within(0x80, 0xbf, b) & chars::within(0x80, 0xbf, c)
 }
 
 // Behind the characters E1-EC 80-BF 80-BF from `at` on.
@@ -226,7 +115,7 @@ fn three_len(s: &[u8], at: usize) -> usize
     if at < end {
         return end - at;
     }
-    char_len(s, at)
+    chars::char_len(s, at)
 }
 
 // How many bytes the next characters have, one or many, 0 where there is none.
@@ -237,10 +126,10 @@ fn step_len(s: &[u8], at: usize) -> usize
     if s[at] < 0x80 {
         return ascii_len(s, at);
     }
-    if within(0xe1, 0xec, s[at]) {
+    if chars::within(0xe1, 0xec, s[at]) {
         return three_len(s, at);
     }
-    char_len(s, at)
+    chars::char_len(s, at)
 }
 
 pub fn is_utf8(s: &[u8]) -> bool
@@ -263,5 +152,5 @@ pub fn is_char_boundary(s: &[u8], at: usize) -> bool
     if s.len() < at {
         return false;
     }
-    !within(0x80, 0xbf, wire::byte_at(s, at))
+    !chars::within(0x80, 0xbf, wire::byte_at(s, at))
 }

@@ -1,7 +1,5 @@
 pub mod Overwrite
 pub mod Words
 pub mod Loops
-pub mod Runs
-pub mod Compare
 pub mod Parts
-pub mod Moved
+pub mod Apart

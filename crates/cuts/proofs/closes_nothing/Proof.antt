@@ -1,6 +1,6 @@
 use mathlib.Core.Path.{refl}
 use borrow.Author.Tests.{not-true, not-false}
-use Rattle.cuts.specs.Unmatched.{closesNothing}
+use Rattle.cuts.specs.Gaps.{closesNothing}
 use Rattle.cuts.proofs.closes_nothing.Statement.{statement}
 use Rattle.cuts.proofs.closes_nothing.Tie as tie
 use Rattle.cuts.proofs.closes_nothing.Reads as reads

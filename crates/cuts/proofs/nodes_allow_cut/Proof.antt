@@ -1,6 +1,6 @@
 use Prim.Native.Nat.{_-_}
 use native.Mathlib.Omega.{arith}
-use Rattle.cuts.specs.Walks.{Upto, upto-none, upto-gap, upto-across, upto-more, upto-rest}
+use Rattle.cuts.specs.Gaps.{Upto, upto-none, upto-gap, upto-across, upto-more, upto-rest}
 use Rattle.cuts.proofs.nodes_allow_cut.Statement.{statement}
 use Rattle.cuts.proofs.nodes_allow_cut.Tie as tie
 use Rattle.cuts.proofs.nodes_allow_cut.Reads as reads

@@ -9,7 +9,7 @@ use Rattle.dependency.proofs.is_string.Reads as reads
 use Rattle.dependency.proofs.is_string.Lts as lts
 use Rattle.strings.proofs.resolve_str.Reads as resolve-str-reads
 use Rattle.strings.proofs.string_length.Reads as string-length-reads
-use Rattle.wire.proofs.same.Reads as same-reads
+use Rattle.compare.proofs.same.Reads as same-reads
 
 -- src/lib.rt:70:8
 string-length-requires : tie.Need-string-length-requires

@@ -6,7 +6,7 @@ use Rattle.edit.proofs.unchanged.Statement.{statement}
 use Rattle.edit.proofs.unchanged.Tie as tie
 use Rattle.edit.proofs.unchanged.Reads as reads
 use Rattle.edit.proofs.unchanged.Lts as lts
-use Rattle.wire.proofs.same.Reads as same-reads
+use Rattle.compare.proofs.same.Reads as same-reads
 
 -- src/lib.rt:47:29
 sub-if1 : tie.Need-sub-if1

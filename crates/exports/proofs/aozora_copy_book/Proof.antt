@@ -6,7 +6,7 @@ use Rattle.exports.proofs.aozora_copy_book.Tie as tie
 use Rattle.exports.proofs.aozora_copy_book.Reads as reads
 use Rattle.exports.proofs.aozora_copy_book.Lts as lts
 use Rattle.exports.proofs.copy_answer.Reads as copy-answer-reads
-use Rattle.lookup.proofs.copy_book.Reads as copy-book-reads
+use Rattle.copy.proofs.copy_book.Reads as copy-book-reads
 
 -- src/lib.rt:269:17
 copy-book-requires : tie.Need-copy-book-requires

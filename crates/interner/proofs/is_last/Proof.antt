@@ -10,7 +10,7 @@ use Rattle.interner.proofs.is_last.Tie as tie
 use Rattle.interner.proofs.is_last.Reads as reads
 use Rattle.interner.proofs.is_last.Lts as lts
 use Rattle.interner.proofs.resolve.Reads as resolve-reads
-use Rattle.wire.proofs.same.Reads as same-reads
+use Rattle.compare.proofs.same.Reads as same-reads
 
 -- src/lib.rt:511:9
 returns : tie.Need-returns

@@ -11,7 +11,7 @@ use Rattle.layer.proofs.lay_out.Statement.{statement}
 use Rattle.layer.proofs.lay_out.Tie as tie
 use Rattle.layer.proofs.lay_out.Reads as reads
 use Rattle.layer.proofs.lay_out.Lts as lts
-use Rattle.wire.proofs.move_up.Reads as move-up-reads
+use Rattle.moves.proofs.move_up.Reads as move-up-reads
 use Rattle.layer.proofs.put_lengths.Reads as put-lengths-reads
 use Rattle.wire.proofs.put_u8.Reads as put-u8-reads
 

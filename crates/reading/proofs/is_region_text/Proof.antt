@@ -7,7 +7,7 @@ use Rattle.reading.proofs.is_region_text.Statement.{statement}
 use Rattle.reading.proofs.is_region_text.Tie as tie
 use Rattle.reading.proofs.is_region_text.Reads as reads
 use Rattle.reading.proofs.is_region_text.Lts as lts
-use Rattle.wire.proofs.same.Reads as same-reads
+use Rattle.compare.proofs.same.Reads as same-reads
 
 -- src/lib.rt:27:19
 sub-before : tie.Need-sub-before

@@ -1,3 +1,4 @@
+use mathlib.Core.Path.{refl}
 use Rattle.records.specs.Values.{bodyAt}
 use borrow.Author.Needs.{needs}
 use Rattle.records.proofs.body_at.Statement.{statement}
@@ -85,7 +86,7 @@ u32-at-requires-8 c κs = search needs
 -- src/lib.rt:65:1
 returns : tie.Need-returns
 unfolding bodyAt
-returns c = cc
+returns c = rw (c .before .before .before .before .before .before .before .before .before .u32-at .ensures, c .before .before .before .before .before .before .before .before .u32-at2 .ensures, c .before .before .before .before .before .before .before .u32-at3 .ensures, c .before .before .before .before .before .before .u32-at4 .ensures, c .before .before .before .before .before .u32-at5 .ensures, c .before .before .before .before .u32-at6 .ensures, c .before .u32-at7 .ensures, c .u32-at8 .ensures) refl
 
 pub body-at-spec : {M : Type 1} → statement M
 body-at-spec =

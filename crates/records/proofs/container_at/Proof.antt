@@ -1,3 +1,4 @@
+use mathlib.Core.Path.{refl}
 use Rattle.model.specs.Tape.{recordAt, operandsAt, containerCodec}
 use borrow.Author.Needs.{needs}
 use Rattle.records.proofs.container_at.Statement.{statement}
@@ -33,7 +34,7 @@ u32-at-requires-3 c κs = search needs
 -- src/lib.rt:137:1
 returns : tie.Need-returns
 unfolding recordAt operandsAt containerCodec
-returns c = cc
+returns c = rw (c .before .before .u32-at .ensures, c .before .u32-at2 .ensures, c .u32-at3 .ensures) refl
 
 pub container-at-spec : {M : Type 1} → statement M
 container-at-spec =

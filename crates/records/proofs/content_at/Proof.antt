@@ -1,3 +1,4 @@
+use mathlib.Core.Path.{refl}
 use Rattle.model.specs.Tape.{recordAt, operandsAt, contentCodec}
 use borrow.Author.Needs.{needs}
 use Rattle.records.proofs.content_at.Statement.{statement}
@@ -33,7 +34,7 @@ u32-at-requires-2 c κs = search needs
 -- src/lib.rt:86:1
 returns : tie.Need-returns
 unfolding recordAt operandsAt contentCodec
-returns c = cc
+returns c = rw (c .before .u32-at .ensures, c .u32-at2 .ensures) refl
 
 pub content-at-spec : {M : Type 1} → statement M
 content-at-spec =

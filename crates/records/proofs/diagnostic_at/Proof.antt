@@ -1,3 +1,4 @@
+use mathlib.Core.Path.{refl}
 use Rattle.model.specs.Tape.{recordAt, operandsAt, diagnosticCodec}
 use borrow.Author.Needs.{needs}
 use Rattle.records.proofs.diagnostic_at.Statement.{statement}
@@ -49,7 +50,7 @@ u32-at-requires-4 c κs = search needs
 -- src/lib.rt:148:1
 returns : tie.Need-returns
 unfolding recordAt operandsAt diagnosticCodec
-returns c = cc
+returns c = rw (c .before .before .before .u32-at .ensures, c .before .before .u32-at2 .ensures, c .before .u32-at3 .ensures, c .u32-at4 .ensures) refl
 
 pub diagnostic-at-spec : {M : Type 1} → statement M
 diagnostic-at-spec =

@@ -1,3 +1,4 @@
+use mathlib.Core.Path.{refl}
 use Rattle.model.specs.Tape.{recordAt, operandsAt, pairCodec}
 use borrow.Author.Needs.{needs}
 use Rattle.records.proofs.pair_at.Statement.{statement}
@@ -49,7 +50,7 @@ u32-at-requires-4 c κs = search needs
 -- src/lib.rt:124:1
 returns : tie.Need-returns
 unfolding recordAt operandsAt pairCodec
-returns c = cc
+returns c = rw (c .before .before .before .u32-at .ensures, c .before .before .u32-at2 .ensures, c .before .u32-at3 .ensures, c .u32-at4 .ensures) refl
 
 pub pair-at-spec : {M : Type 1} → statement M
 pair-at-spec =

@@ -6,7 +6,7 @@ use Rattle.region.proofs.chosen_region.Statement.{statement}
 use Rattle.region.proofs.chosen_region.Tie as tie
 use Rattle.region.proofs.chosen_region.Reads as reads
 use Rattle.region.proofs.chosen_region.Lts as lts
-use Rattle.cuts.proofs.balanced_region.Reads as balanced-region-reads
+use Rattle.balanced_region.proofs.balanced_region.Reads as balanced-region-reads
 use Rattle.edit.proofs.edit_refusal.Reads as edit-refusal-reads
 use Rattle.region.proofs.depends.Reads as depends-reads
 use Rattle.region.proofs.is_whole.Reads as is-whole-reads

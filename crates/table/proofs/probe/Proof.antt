@@ -14,7 +14,7 @@ use Rattle.table.proofs.probe.Reads as reads
 use Rattle.table.proofs.probe.Lts as lts
 use Rattle.table.proofs.next_slot.Reads as next-slot-reads
 use Rattle.table.proofs.string_at.Reads as string-at-reads
-use Rattle.wire.proofs.same.Reads as same-reads
+use Rattle.compare.proofs.same.Reads as same-reads
 
 abbrev Inv-loop : tie.InvT-loop
 Inv-loop table starts strs s from n at₀ steps₀ at steps = (steps ≤ n) × (n ≡ length table) × (at < n) × (probe (n - steps) (stringsOf (wideWords starts) strs) table s at steps ≡ probe (length table) (stringsOf (wideWords starts) strs) table s from 0)

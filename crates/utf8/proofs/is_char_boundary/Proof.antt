@@ -6,7 +6,7 @@ use Rattle.utf8.proofs.is_char_boundary.Statement.{statement}
 use Rattle.utf8.proofs.is_char_boundary.Tie as tie
 use Rattle.utf8.proofs.is_char_boundary.Reads as reads
 use Rattle.utf8.proofs.is_char_boundary.Lts as lts
-use Rattle.utf8.proofs.within.Reads as within-reads
+use Rattle.chars.proofs.within.Reads as within-reads
 use Rattle.wire.proofs.byte_at.Reads as byte-at-reads
 
 -- src/lib.rt:137:9

@@ -4,7 +4,7 @@ use Rattle.utf8.proofs.is_three.Statement.{statement}
 use Rattle.utf8.proofs.is_three.Tie as tie
 use Rattle.utf8.proofs.is_three.Reads as reads
 use Rattle.utf8.proofs.is_three.Lts as lts
-use Rattle.utf8.proofs.within.Reads as within-reads
+use Rattle.chars.proofs.within.Reads as within-reads
 
 -- src/lib.rt:155:5
 within-requires : tie.Need-within-requires

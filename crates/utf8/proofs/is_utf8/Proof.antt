@@ -1,5 +1,5 @@
 use Rattle.model.specs.Utf8.{utf8}
-use Rattle.utf8.specs.Chars.{utf8-end}
+use Rattle.chars.specs.Chars.{utf8-end}
 use mathlib.Core.Path.{_≡_, refl, sym, _∙_}
 use Prim.Native.Nat.{_-_}
 use native.Mathlib.Omega.{arith}

@@ -5,9 +5,9 @@ use Rattle.utf8.proofs.step_len.Tie as tie
 use Rattle.utf8.proofs.step_len.Reads as reads
 use Rattle.utf8.proofs.step_len.Lts as lts
 use Rattle.utf8.proofs.ascii_len.Reads as ascii-len-reads
-use Rattle.utf8.proofs.char_len.Reads as char-len-reads
+use Rattle.chars.proofs.char_len.Reads as char-len-reads
 use Rattle.utf8.proofs.three_len.Reads as three-len-reads
-use Rattle.utf8.proofs.within.Reads as within-reads
+use Rattle.chars.proofs.within.Reads as within-reads
 
 -- src/lib.rt:200:8
 shared-slice-read-if1 : tie.Need-shared-slice-read-if1

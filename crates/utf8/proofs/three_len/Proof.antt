@@ -4,7 +4,7 @@ use Rattle.utf8.proofs.three_len.Statement.{statement}
 use Rattle.utf8.proofs.three_len.Tie as tie
 use Rattle.utf8.proofs.three_len.Reads as reads
 use Rattle.utf8.proofs.three_len.Lts as lts
-use Rattle.utf8.proofs.char_len.Reads as char-len-reads
+use Rattle.chars.proofs.char_len.Reads as char-len-reads
 use Rattle.utf8.proofs.three_end.Reads as three-end-reads
 
 -- src/lib.rt:188:9

@@ -1,0 +1,448 @@
+// The two ends of a region, document 01 section 6, over the text, the nodes and the pairs of a book's tape. They are not found by
+// asking `safe_cut` of each newline: an offset that the nodes allow lies in a gap between two of them behind which both depths are 0,
+// so one walk over the nodes meets all of them, and the pairs are walked only for an offset that text and nodes allow. The end is
+// found by one walk. For the start one walk counts the depths and one goes back from gap to gap; depths can be counted backwards
+// only as far as the last close without an open. Before such a close one walk finds the last offset that text and nodes allow, and
+// the search begins again there: so walks are added only where such a close lies between two offsets that pairs refuse.
+ghost use mathlib.Core.Path.{_≡_};
+ghost use Prim.Native.Nat.{_+_, _-_, _*_, _≤_, _<_, max, min};
+ghost use lib.ListN.{length};
+ghost use Rattle.model.specs.Tape.{recordAt, nodeCodec};
+ghost use Rattle.model.specs.Region.{blankLineBefore, isBlockOpen, isBlockClose, isWarichuOpen, isWarichuClose, depthBehind, across};
+ghost use Rattle.bounds.specs.Search.{InOrder};
+ghost use Rattle.balanced_region.specs.Ends.{regionEndIn, regionStartIn, regionOf, balancedIn};
+ghost use Rattle.cuts.specs.Offsets.{firstIn, lastFrom};
+ghost use Rattle.cuts.specs.Pairs.{pairsOf, startOr, endOr};
+ghost use Rattle.cuts.specs.Gaps.{nodesOf, NodesIn};
+ghost use Rattle.balanced_region.specs.EndSearch.{nextTry, textPairsAllow, gapFirst};
+ghost use Rattle.balanced_region.specs.Unmatched.{isUnmatched, lastUnmatched, depthsPast, depthsBefore, noDepths, gapFrom, Front};
+ghost use Rattle.balanced_region.specs.Blank.{gapBlank, lastAllowed};
+ghost use Rattle.balanced_region.specs.StartSearch.{earlierTry, lastTry, gapLast, lastCut, endsBehindNewline};
+
+// Where they start, else the offset itself.
+fn start_or(a: cuts::Across, o: usize) -> usize
+    ensures { λ r. ⌜ r ≡ startOr a o ⌝ }
+{
+    match a {
+        cuts::Across::Pair(start, _) => start as usize,
+        cuts::Across::Nothing => o,
+    }
+}
+
+fn end_or(a: cuts::Across, o: usize) -> usize
+    ensures { λ r. ⌜ r ≡ endOr a o ⌝ }
+{
+    match a {
+        cuts::Across::Pair(_, end) => end as usize,
+        cuts::Across::Nothing => o,
+    }
+}
+
+// The next offset to try for a cut that text and pairs allow: where a pair lies across, all up to its end are refused.
+fn next_try(tape: &[u8], text: &[u8], pairs: places::Run, o: usize) -> usize
+    requires { ⌜ (pairs .at + 18 * pairs .count ≤ length (now tape)) × (o ≤ length (now text)) ⌝ }
+    ensures { λ r. ⌜ r ≡ nextTry (now (text .entry)) (pairsOf (now (tape .entry)) pairs) o ⌝ }
+{
+    if !cuts::blank_line_before(text, o) {
+        return o + 1;
+    }
+    end_or(cuts::pair_across(tape, pairs, o), o)
+}
+
+// The first offset from lo on and before hi that text and pairs allow, else hi.
+fn first_cut_in(tape: &[u8], text: &[u8], pairs: places::Run, lo: usize, hi: usize) -> usize
+    requires { ⌜ (pairs .at + 18 * pairs .count ≤ length (now tape)) × (hi ≤ length (now text)) ⌝ }
+    ensures { λ r. ⌜ r ≡ firstIn (textPairsAllow (now (text .entry)) (pairsOf (now (tape .entry)) pairs)) (hi - lo) hi ⌝ }
+{
+    let mut c = lo;
+    while c < hi {
+        let next = next_try(tape, text, pairs, c);
+        if next == c {
+            return c;
+        }
+        c = next;
+    }
+    hi
+}
+
+fn later(a: usize, b: usize) -> usize
+    ensures { λ r. ⌜ r ≡ max a b ⌝ }
+{
+    if a < b {
+        return b;
+    }
+    a
+}
+
+// The same of the gap that begins at `from`, behind `o`, where the nodes before it leave these depths.
+fn gap_first(
+    tape: &[u8],
+    text: &[u8],
+    pairs: places::Run,
+    from: usize,
+    o: usize,
+    hi: usize,
+    blocks: usize,
+    warichu: usize,
+) -> usize
+    requires { ⌜ (pairs .at + 18 * pairs .count ≤ length (now tape)) × (hi ≤ length (now text)) × (o ≤ length (now text)) ⌝ }
+    ensures { λ r. ⌜ r ≡ gapFirst (now (text .entry)) (pairsOf (now (tape .entry)) pairs) blocks warichu (max from (o + 1)) hi ⌝ }
+{
+    if !cuts::depths_zero(blocks, warichu) {
+        return hi;
+    }
+    first_cut_in(tape, text, pairs, later(from, o + 1), hi)
+}
+
+// Section 6. End: the first safe offset after a newline at or behind an offset, else the length.
+pub fn region_end(
+    tape: &[u8],
+    text: &[u8],
+    nodes: places::Run,
+    pairs: places::Run,
+    o: usize,
+) -> usize
+    requires { ⌜ (nodes .at + 49 * nodes .count ≤ length (now tape)) × (pairs .at + 18 * pairs .count ≤ length (now tape)) × (o ≤ length (now text)) ⌝ }
+    requires { ⌜ NodesIn (length (now text)) (nodesOf (now tape) nodes) ⌝ }
+    ensures { λ r. ⌜ r ≡ regionEndIn (now (text .entry)) (nodesOf (now (tape .entry)) nodes) (pairsOf (now (tape .entry)) pairs) (length (now (text .entry)) - o) o ⌝ }
+{
+    let mut from: usize = 0;
+    let mut blocks: usize = 0;
+    let mut warichu: usize = 0;
+    let mut i = 0;
+    while i < nodes.count {
+        let p = nodes.at + 49 * i;
+        let start = records::node_start(tape, p) as usize;
+        let c = gap_first(tape, text, pairs, from, o, start + 1, blocks, warichu);
+        if c <= start {
+            return c;
+        }
+        from = records::node_end(tape, p) as usize;
+        blocks = cuts::block_depth(tape, p, blocks);
+        warichu = cuts::warichu_depth(tape, p, warichu);
+        i += 1;
+    }
+    gap_first(tape, text, pairs, from, o, text.len(), blocks, warichu)
+}
+
+// The depths counted backwards: the same over a node with open and close exchanged, unless the node closes at depth 0.
+fn block_before(tape: &[u8], at: usize, depth: usize) -> usize
+    requires { ⌜ (at + 49 ≤ length (now tape)) × (depth < 9223372036854775808) ⌝ }
+    ensures { λ r. ⌜ r ≡ depthBehind isBlockClose isBlockOpen depth (recordAt nodeCodec (now (tape .entry)) at) ⌝ }
+{
+    cuts::depth_behind(
+        cuts::is_block_close(tape, at),
+        cuts::is_block_open(tape, at),
+        depth,
+    )
+}
+
+fn warichu_before(tape: &[u8], at: usize, depth: usize) -> usize
+    requires { ⌜ (at + 49 ≤ length (now tape)) × (depth < 9223372036854775808) ⌝ }
+    ensures { λ r. ⌜ r ≡ depthBehind isWarichuClose isWarichuOpen depth (recordAt nodeCodec (now (tape .entry)) at) ⌝ }
+{
+    cuts::depth_behind(
+        cuts::is_warichu_close(tape, at),
+        cuts::is_warichu_open(tape, at),
+        depth,
+    )
+}
+
+// What a number of nodes leave: both depths, and how many there are up to and with the last that closes at depth 0. Behind that
+// one every close has its open.
+pub struct Depths {
+    pub count: usize,
+    pub blocks: usize,
+    pub warichu: usize,
+    pub unmatched: usize,
+}
+
+// Is the node a close without an open?
+fn is_unmatched(tape: &[u8], at: usize, d: Depths) -> bool
+    requires { ⌜ at + 49 ≤ length (now tape) ⌝ }
+    ensures { λ r. ⌜ r ≡ isUnmatched d (recordAt nodeCodec (now (tape .entry)) at) ⌝ }
+{
+    if cuts::closes_nothing(cuts::is_block_close(tape, at), d.blocks) {
+        return true;
+    }
+    cuts::closes_nothing(cuts::is_warichu_close(tape, at), d.warichu)
+}
+
+fn last_unmatched(tape: &[u8], at: usize, d: Depths) -> usize
+    requires { ⌜ (at + 49 ≤ length (now tape)) × (d .count < 9223372036854775808) ⌝ }
+    ensures { λ r. ⌜ r ≡ lastUnmatched d (recordAt nodeCodec (now (tape .entry)) at) ⌝ }
+{
+    if is_unmatched(tape, at, d) {
+        return d.count + 1;
+    }
+    d.unmatched
+}
+
+fn depths_past(tape: &[u8], at: usize, d: Depths) -> Depths
+    requires { ⌜ (at + 49 ≤ length (now tape)) × (d .count < 9223372036854775808) × (d .blocks < 9223372036854775808) × (d .warichu < 9223372036854775808) ⌝ }
+    ensures { λ r. ⌜ r ≡ depthsPast d (recordAt nodeCodec (now (tape .entry)) at) ⌝ }
+{
+    Depths {
+        count: d.count + 1,
+        blocks: cuts::block_depth(tape, at, d.blocks),
+        warichu: cuts::warichu_depth(tape, at, d.warichu),
+        unmatched: last_unmatched(tape, at, d),
+    }
+}
+
+// The depths behind the nodes that start before `bound`.
+fn depths_before(tape: &[u8], nodes: places::Run, bound: usize) -> Depths
+    requires { ⌜ nodes .at + 49 * nodes .count ≤ length (now tape) ⌝ }
+    ensures { λ r. ⌜ r ≡ depthsBefore bound noDepths (nodesOf (now (tape .entry)) nodes) ⌝ }
+{
+    let mut d = Depths {
+        count: 0,
+        blocks: 0,
+        warichu: 0,
+        unmatched: 0,
+    };
+    while d.count < nodes.count {
+        let p = nodes.at + 49 * d.count;
+        if bound <= records::node_start(tape, p) as usize {
+            return d;
+        }
+        d = depths_past(tape, p, d);
+    }
+    d
+}
+
+// The next offset to try, downwards, for a cut that text and pairs allow: where a pair lies across, all from its start on are refused.
+fn earlier_try(tape: &[u8], text: &[u8], pairs: places::Run, o: usize) -> usize
+    requires { ⌜ (pairs .at + 18 * pairs .count ≤ length (now tape)) × (o ≤ length (now text)) × (1 ≤ o) ⌝ }
+    ensures { λ r. ⌜ r ≡ earlierTry (now (text .entry)) (pairsOf (now (tape .entry)) pairs) o ⌝ }
+{
+    if !cuts::blank_line_before(text, o) {
+        return o - 1;
+    }
+    start_or(cuts::pair_across(tape, pairs, o), o)
+}
+
+// The tries from `hi` down to the first that text and pairs allow or that lies before lo.
+fn last_try(tape: &[u8], text: &[u8], pairs: places::Run, lo: usize, hi: usize) -> usize
+    requires { ⌜ (pairs .at + 18 * pairs .count ≤ length (now tape)) × (hi ≤ length (now text)) × (1 ≤ lo) ⌝ }
+    ensures { λ r. ⌜ r ≡ lastTry (now (text .entry)) (pairsOf (now (tape .entry)) pairs) lo hi hi ⌝ }
+{
+    let mut c = hi;
+    while lo <= c {
+        let next = earlier_try(tape, text, pairs, c);
+        if next == c {
+            return c;
+        }
+        c = next;
+    }
+    c
+}
+
+fn earlier(a: usize, b: usize) -> usize
+    ensures { λ r. ⌜ r ≡ min a b ⌝ }
+{
+    if a < b {
+        return a;
+    }
+    b
+}
+
+// The same of a gap where the nodes before it leave these depths.
+fn gap_last(
+    tape: &[u8],
+    text: &[u8],
+    pairs: places::Run,
+    lo: usize,
+    hi: usize,
+    blocks: usize,
+    warichu: usize,
+) -> usize
+    requires { ⌜ (pairs .at + 18 * pairs .count ≤ length (now tape)) × (hi ≤ length (now text)) × (1 ≤ lo) ⌝ }
+    ensures { λ r. ⌜ r ≡ gapLast (now (text .entry)) (pairsOf (now (tape .entry)) pairs) blocks warichu lo hi ⌝ }
+{
+    if !cuts::depths_zero(blocks, warichu) {
+        return earlier(lo - 1, hi);
+    }
+    last_try(tape, text, pairs, lo, hi)
+}
+
+// Where the gap behind i nodes begins; that before the first node at 1, since 0 needs no search.
+fn gap_from(tape: &[u8], nodes: places::Run, i: usize) -> usize
+    requires { ⌜ (nodes .at + 49 * nodes .count ≤ length (now tape)) × (i ≤ nodes .count) ⌝ }
+    ensures { λ r. ⌜ r ≡ gapFrom (now (tape .entry)) nodes i ⌝ }
+{
+    if i == 0 {
+        return 1;
+    }
+    records::node_end(tape, nodes.at + 49 * (i - 1)) as usize
+}
+
+// The last cut at or before `bound`, behind the last unmatched close, else 0.
+fn last_cut(
+    tape: &[u8],
+    text: &[u8],
+    nodes: places::Run,
+    pairs: places::Run,
+    d: Depths,
+    bound: usize,
+) -> usize
+    requires { ⌜ (nodes .at + 49 * nodes .count ≤ length (now tape)) × (pairs .at + 18 * pairs .count ≤ length (now tape)) × (bound ≤ length (now text)) ⌝ }
+    requires { ⌜ InOrder (nodesOf (now tape) nodes) ⌝ }
+    requires { ⌜ Front (now tape) nodes bound d ⌝ }
+    ensures { λ r. ⌜ r ≡ lastCut (now (text .entry)) (nodesOf (now (tape .entry)) nodes) (pairsOf (now (tape .entry)) pairs) (gapFrom (now (tape .entry)) nodes (d .unmatched)) bound ⌝ }
+{
+    let mut i = d.count;
+    let mut blocks = d.blocks;
+    let mut warichu = d.warichu;
+    let mut hi = bound;
+    while d.unmatched < i {
+        let lo = gap_from(tape, nodes, i);
+        let c = gap_last(tape, text, pairs, lo, hi, blocks, warichu);
+        if lo <= c {
+            return c;
+        }
+        i -= 1;
+        let p = nodes.at + 49 * i;
+        hi = earlier(c, records::node_start(tape, p) as usize);
+        blocks = block_before(tape, p, blocks);
+        warichu = warichu_before(tape, p, warichu);
+    }
+    let lo = gap_from(tape, nodes, i);
+    let c = gap_last(tape, text, pairs, lo, hi, blocks, warichu);
+    if lo <= c {
+        return c;
+    }
+    0
+}
+
+// The last blank line from lo on and before hi, else d.
+fn last_blank(text: &[u8], lo: usize, hi: usize, d: usize) -> usize
+    requires { ⌜ hi ≤ length (now text) + 1 ⌝ }
+    ensures { λ r. ⌜ r ≡ lastFrom (blankLineBefore (now (text .entry))) (hi - lo) lo d ⌝ }
+{
+    let mut c = hi;
+    while lo < c {
+        if cuts::blank_line_before(text, c - 1) {
+            return c - 1;
+        }
+        c -= 1;
+    }
+    d
+}
+
+// The same of a gap where the nodes before it leave these depths.
+fn gap_blank(text: &[u8], lo: usize, hi: usize, blocks: usize, warichu: usize, d: usize) -> usize
+    requires { ⌜ hi ≤ length (now text) + 1 ⌝ }
+    ensures { λ r. ⌜ r ≡ gapBlank (now (text .entry)) blocks warichu lo hi d ⌝ }
+{
+    if !cuts::depths_zero(blocks, warichu) {
+        return d;
+    }
+    last_blank(text, lo, hi, d)
+}
+
+// The last offset at or before `bound` that text and nodes allow, else 0.
+fn last_allowed(tape: &[u8], text: &[u8], nodes: places::Run, bound: usize) -> usize
+    requires { ⌜ (nodes .at + 49 * nodes .count ≤ length (now tape)) × (bound ≤ length (now text)) ⌝ }
+    requires { ⌜ InOrder (nodesOf (now tape) nodes) ⌝ }
+    ensures { λ r. ⌜ r ≡ lastAllowed (now (text .entry)) (nodesOf (now (tape .entry)) nodes) bound ⌝ }
+{
+    let mut from: usize = 0;
+    let mut blocks: usize = 0;
+    let mut warichu: usize = 0;
+    let mut last: usize = 0;
+    let mut i = 0;
+    while i < nodes.count {
+        let p = nodes.at + 49 * i;
+        let start = records::node_start(tape, p) as usize;
+        if bound <= start {
+            return gap_blank(text, from, bound + 1, blocks, warichu, last);
+        }
+        last = gap_blank(text, from, start + 1, blocks, warichu, last);
+        from = records::node_end(tape, p) as usize;
+        blocks = cuts::block_depth(tape, p, blocks);
+        warichu = cuts::warichu_depth(tape, p, warichu);
+        i += 1;
+    }
+    gap_blank(text, from, bound + 1, blocks, warichu, last)
+}
+
+// The length behind a newline.
+fn ends_behind_newline(text: &[u8], o: usize) -> bool
+    requires { ⌜ o ≤ length (now text) ⌝ }
+    ensures { λ r. ⌜ r ≡ endsBehindNewline (now (text .entry)) o ⌝ }
+{
+    if o != text.len() {
+        return false;
+    }
+    if o < 1 {
+        return false;
+    }
+    text[o - 1] == 10
+}
+
+// Section 6. Start: the last safe offset after a newline, at or before an offset, else 0.
+pub fn region_start(
+    tape: &[u8],
+    text: &[u8],
+    nodes: places::Run,
+    pairs: places::Run,
+    o: usize,
+) -> usize
+    requires { ⌜ (nodes .at + 49 * nodes .count ≤ length (now tape)) × (pairs .at + 18 * pairs .count ≤ length (now tape)) × (o ≤ length (now text)) ⌝ }
+    requires { ⌜ InOrder (nodesOf (now tape) nodes) ⌝ }
+    ensures { λ r. ⌜ r ≡ regionStartIn (now (text .entry)) (nodesOf (now (tape .entry)) nodes) (pairsOf (now (tape .entry)) pairs) o ⌝ }
+{
+    if ends_behind_newline(text, o) {
+        return o;
+    }
+    let mut bound = o;
+    let mut front = nodes.count;
+    while 0 < bound {
+        let d = depths_before(
+            tape,
+            places::Run {
+                at: nodes.at,
+                count: front,
+            },
+            bound,
+        );
+        let c = last_cut(tape, text, nodes, pairs, d, bound);
+        if 0 < c {
+            return c;
+        }
+        if d.unmatched == 0 {
+            return 0;
+        }
+        front = d.unmatched - 1;
+        let start = records::node_start(tape, nodes.at + 49 * front) as usize;
+        bound = last_allowed(tape, text, nodes, earlier(bound, start));
+    }
+    0
+}
+
+// Offsets of the old text.
+pub struct Region {
+    pub start: usize,
+    pub end: usize,
+}
+
+// Section 6. `balanced_region` of the edit from `start` to `end`.
+pub fn balanced_region(
+    tape: &[u8],
+    text: &[u8],
+    nodes: places::Run,
+    pairs: places::Run,
+    start: usize,
+    end: usize,
+) -> Region
+    requires { ⌜ (nodes .at + 49 * nodes .count ≤ length (now tape)) × (pairs .at + 18 * pairs .count ≤ length (now tape)) ⌝ }
+    requires { ⌜ (start ≤ length (now text)) × (end ≤ length (now text)) ⌝ }
+    requires { ⌜ NodesIn (length (now text)) (nodesOf (now tape) nodes) ⌝ }
+    ensures { λ r. ⌜ regionOf r ≡ balancedIn (now (text .entry)) (nodesOf (now (tape .entry)) nodes) (pairsOf (now (tape .entry)) pairs) start end ⌝ }
+{
+    Region {
+        start: region_start(tape, text, nodes, pairs, start),
+        end: region_end(tape, text, nodes, pairs, end),
+    }
+}

@@ -1,0 +1,30 @@
+use Rattle.wire.specs.Overwrite.{overwrite}
+use Rattle.splice.specs.Counted.{before-room}
+use Rattle.splice.specs.Parts.{part-before}
+use Rattle.model.specs.Types.{ContainerPair}
+use Rattle.model.specs.Merge.{containerLocated}
+use Rattle.model.specs.Tape.{recordsAt, recordsBytes, containerCodec}
+use Rattle.splice.specs.Window.{windowValue}
+use mathlib.Core.Path.{ap, _∙_}
+use mathlib.Core.List.{List}
+use borrow.Author.Needs.{needs}
+use Rattle.splice_lists.proofs.put_before_containers.Statement.{statement}
+use Rattle.splice_lists.proofs.put_before_containers.Tie as tie
+use Rattle.splice_lists.proofs.put_before_containers.Reads as reads
+use Rattle.splice_lists.proofs.put_before_containers.Lts as lts
+use Rattle.splice_lists.proofs.put_containers.Reads as put-containers-reads
+
+-- src/lib.rt:402:5
+put-containers-requires : tie.Need-put-containers-requires
+put-containers-requires c κs = (c .before .before .before .pre .0, before-room containerLocated (windowValue (c .before .before .before .args .w)) (recordsAt containerCodec (c .before .before .before .args .tape .now) (c .before .before .before .args .at) (c .before .before .before .args .count)) (c .before .before .before .args .to) 13 _ (c .before .before .before .pre .1))
+
+-- src/lib.rt:390:1
+same-length : tie.Need-same-length
+same-length c = search needs
+
+-- src/lib.rt:390:1
+returns : tie.Need-returns
+returns c = c .before .before .put-containers .ensures ∙ ap (λ (x : List ContainerPair). overwrite (c .before .before .before .before .before .before .args .out .now) (c .before .before .before .before .before .before .args .to) (recordsBytes containerCodec x)) (part-before containerLocated (windowValue (c .before .before .before .before .before .before .args .w)) (recordsAt containerCodec (c .before .before .before .before .before .before .args .tape .now) (c .before .before .before .before .before .before .args .at) (c .before .before .before .before .before .before .args .count)))
+
+pub put-before-containers-spec : {M : Type 1} → statement M
+put-before-containers-spec = tie.close (tie.spec put-containers-requires same-length returns)

@@ -1,0 +1,71 @@
+use Rattle.splice.specs.Kinds.{pair-kind}
+use Rattle.splice.specs.Parts.{PutUpTo, put-first, put-last, put-room, put-more}
+use Rattle.model.specs.Merge.{pairLocated}
+use Rattle.model.specs.Tape.{pairCodec}
+use Rattle.splice.specs.Window.{windowValue}
+use mathlib.Core.Path.{refl}
+use Prim.Native.Nat.{_+_, _-_, _*_, _≤_}
+use native.Mathlib.Omega.{arith}
+use Rattle.splice_lists.proofs.put_pairs.Statement.{statement}
+use Rattle.splice_lists.proofs.put_pairs.Tie as tie
+use Rattle.splice_lists.proofs.put_pairs.Reads as reads
+use Rattle.splice_lists.proofs.put_pairs.Lts as lts
+use Rattle.splice_lists.proofs.put_pair_item.Reads as put-pair-item-reads
+
+abbrev Inv-loop : tie.InvT-loop
+Inv-loop tape at count w part out₀ to next₀ i₀ out next i = (i ≤ count) × PutUpTo pairCodec pairLocated (windowValue w) part tape at out₀ to i next out
+
+abbrev μ-loop : tie.MeasureT-loop
+μ-loop tape at count w part out₀ to next₀ i₀ out next i = count - i
+
+-- src/lib.rt:207:5
+loop-holds : tie.Need-loop-holds Inv-loop μ-loop
+loop-holds c = (omega arith, put-first pair-kind (windowValue (c .before .before .args .w)) (c .before .before .args .part) (c .before .before .args .tape .now) (c .before .before .args .at) (c .before .before .args .out .now) (c .before .before .args .to))
+
+-- src/lib.rt:208:41
+mul-put-pair-item : tie.Need-mul-put-pair-item Inv-loop μ-loop
+mul-put-pair-item c = omega (arith, c .before .before .before .before .pre .0, c .before .before .before .before .good)
+
+-- src/lib.rt:208:36
+add-put-pair-item : tie.Need-add-put-pair-item Inv-loop μ-loop
+add-put-pair-item c = omega (arith, c .before .before .before .before .pre .0, c .before .before .before .before .good)
+
+-- src/lib.rt:208:9
+put-pair-item-requires : tie.Need-put-pair-item-requires Inv-loop μ-loop
+put-pair-item-requires c κs = (omega (arith, c .before .before .before .before .before .pre .0), put-room pair-kind (windowValue (c .before .before .before .before .before .args .w)) (c .before .before .before .before .before .args .part) (c .before .before .before .before .before .args .tape .now) (c .before .before .before .before .before .args .at) (c .before .before .before .before .before .args .out .now) (c .before .before .before .before .before .args .to) (c .before .before .loop .inv .1) (c .before .before .before .before .before .args .count) (c .before .loop-test .taken) (c .before .before .before .before .before .pre .1) (c .before .before .before .before .before .args .at + 18 * c .before .before .loop .i) refl)
+
+-- src/lib.rt:209:9
+add-i : tie.Need-add-i Inv-loop μ-loop
+add-i c = omega arith
+
+-- src/lib.rt:207:5
+loop-less : tie.Need-loop-less Inv-loop μ-loop
+loop-less c = omega arith
+
+-- src/lib.rt:207:5
+loop-again : tie.Need-loop-again Inv-loop μ-loop
+loop-again c = (omega arith, put-more pair-kind (windowValue (c .before .before .before .before .before .before .before .before .args .w)) (c .before .before .before .before .before .before .before .before .args .part) (c .before .before .before .before .before .before .before .before .args .tape .now) (c .before .before .before .before .before .before .before .before .args .at) (c .before .before .before .before .before .before .before .before .args .out .now) (c .before .before .before .before .before .before .before .before .args .to) (c .before .before .before .before .before .loop .inv .1) (c .before .before .before .before .before .before .before .before .args .count) (c .before .before .before .before .loop-test .taken) (c .before .before .before .before .before .before .before .before .pre .1) (c .before .before .before .before .before .before .before .before .args .at + 18 * c .before .before .before .before .before .loop .i) refl (c .before .before .put-pair-item .ensures .0) (c .before .before .put-pair-item .ensures .1))
+
+-- src/lib.rt:192:1
+same-length : tie.Need-same-length Inv-loop μ-loop
+same-length c = c .before .loop .inv .1 .long
+
+-- src/lib.rt:192:1
+returns : tie.Need-returns Inv-loop μ-loop
+returns c = put-last pair-kind (windowValue (c .before .before .before .before .args .w)) (c .before .before .before .before .args .part) (c .before .before .before .before .args .tape .now) (c .before .before .before .before .args .at) (c .before .before .before .before .args .out .now) (c .before .before .before .before .args .to) (c .before .loop .inv .1) (c .before .before .before .before .args .count) (omega arith)
+
+pub put-pairs-spec : {M : Type 1} → statement M
+put-pairs-spec =
+    tie.close
+    (tie.spec
+    Inv-loop
+    μ-loop
+    loop-holds
+    mul-put-pair-item
+    add-put-pair-item
+    put-pair-item-requires
+    add-i
+    loop-less
+    loop-again
+    same-length
+    returns)
