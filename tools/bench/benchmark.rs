@@ -35,7 +35,18 @@ impl Row {
     fn ratio(&self, a: usize, b: usize) -> f64 { self.median(a) / self.median(b) }
 }
 
-unsafe extern "C" { fn clock_gettime(clock: i32, time: *mut [i64; 2]) -> i32; }
+unsafe extern "C" {
+    fn clock_gettime(clock: i32, time: *mut [i64; 2]) -> i32;
+    fn mallopt(what: i32, value: i32) -> i32;
+}
+
+// What the Rust frees stays in the process, so that its next call finds pages that were touched before, as our lent buffers are. By its own choice
+// glibc gives large parts back to the kernel or not, which makes times of large books differ from run to run.
+fn keep_memory() {
+    const TRIM_THRESHOLD: i32 = -1;
+    const MMAP_MAX: i32 = -4;
+    assert!(unsafe { mallopt(TRIM_THRESHOLD, i32::MAX) == 1 && mallopt(MMAP_MAX, 0) == 1 });
+}
 
 // Processor time of this thread, its page faults included: what else runs on the machine counts little.
 fn now() -> f64 {
@@ -143,6 +154,7 @@ fn main() {
     let args: Vec<String> = std::env::args().collect();
     let [_, template, docs] = &args[..] else { panic!("benchmark TEMPLATE DOCS") };
     let budget: f64 = std::env::var("BUDGET").map_or(130.0, |s| s.parse().expect("BUDGET in seconds"));
+    keep_memory();
     let run = Run { start: Instant::now(), load: load(), clock: clock_cost() };
     let cases = all_cases();
     let mut rows = Vec::new();
