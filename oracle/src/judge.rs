@@ -108,7 +108,7 @@ impl Merged {
 // ---- which test said no. `reparse` answers None and no more; its tests are private. Each probe below is a call of `reparse` that is None for one
 // reason alone.
 
-/// A book without layers of its own, from parts.
+/// A book from parts.
 fn made(text: &str, normalized: String, nodes: Vec<SourceNode>, store: Arc<NodeStore>) -> LexOutput {
     LexOutput::new(normalized, Arc::<str>::from(text), false, Registry::empty(), Vec::new(), Vec::new(), nodes, Vec::new(), store)
 }
@@ -133,9 +133,11 @@ fn taken(reading: RegionOutput) -> bool {
     ask(&plain, Arc::from("z\n\nx"), 3..4, Some(reading)).0.is_some()
 }
 
-/// The same book with a normalized text in which every offset is between characters.
+/// The same nodes and pairs, so the same region, under a normalized text in which every offset is between characters.
 fn with_ascii(book: &LexOutput) -> LexOutput {
-    made(&book.sanitized, "z".repeat(book.normalized.len()), book.source_nodes.clone(), Arc::clone(&book.store))
+    let mut ascii = made(&book.sanitized, "z".repeat(book.normalized.len()), book.source_nodes.clone(), Arc::clone(&book.store));
+    ascii.pairs.clone_from(&book.pairs);
+    ascii
 }
 
 fn reason_before_lexing(book: &LexOutput, source: &str, edit: usize) -> u32 {
@@ -226,4 +228,9 @@ pub fn diagnostics_allow_incremental(book: &Book) -> bool {
 /// `Span::shifted` of an empty span.
 pub fn shifted(offset: u32, by: i64) -> u32 {
     Span::new(offset, offset).shifted(by).start
+}
+
+/// The Rust's `fx_hash`.
+pub fn fx_hash(bytes: &[u8]) -> u64 {
+    crate::syntax::ast::intern::fx_hash(bytes)
 }

@@ -1,7 +1,8 @@
 // Reads cases from standard input and prints what a merge returns, with a hash of the result's tape and one of its bytes, or the number of
 // the refusal; then how many bytes and words are not zero behind the result in the three lent buffers, none of which is zero before.
 // A case's replacement begins with five words: the lengths of those buffers, of the edit's replacement and of the reading's tape; these
-// two follow, and the reading's bytes. tools/cases/make writes the cases, and from document 01 the output that is stored beside them.
+// two follow, and the reading's bytes. tools/cases/make writes the cases, and from document 01 the output that is stored beside them; the
+// output of a case whose label begins with "Rust" is the Rust's own answer (oracle/sample).
 use libc::STDIN_FILENO;
 use libc::STDOUT_FILENO;
 use output::IncrementalOutput;
@@ -189,7 +190,7 @@ fn show_all(input: &[u8]) {
 }
 
 fn main() {
-    let mut input = [0u8; 65536];
+    let mut input = [0u8; 262144];
     let n = io::read_full(STDIN_FILENO, &mut input);
     show_all(&input[..n]);
 }

@@ -374,9 +374,9 @@ impl Gen<'_> {
             };
             p.segments[i] = Seg { tag: 3, level: i.min(32) as u8, body };
         }
-        // above 32 a run would hold a level of its own
-        for i in 33..most {
-            p.segments[i].body = Body::new(5, 0, &[]);
+        // above 32 a run would hold a level of its own, and the segments behind were made for other contents
+        for i in most.min(33)..p.segments.len() {
+            p.segments[i] = Seg { tag: 3, level: 32, body: Body::new(5, 0, &[]) };
         }
     }
 

@@ -84,6 +84,11 @@ fn unused(b: &Body) -> Vec<usize> {
     (0..6).filter(|i| !used.contains(i)).collect()
 }
 
+/// nothing where the range is damaged already
+fn part<T>(of: &[T], start: u32, len: u32) -> &[T] {
+    of.get(start as usize..start as usize + len as usize).unwrap_or(&[])
+}
+
 fn counts(b: &Book) -> [u32; 3] {
     [b.strings() as u32, b.contents() as u32, b.segments() as u32]
 }
@@ -154,9 +159,9 @@ pub const ALL: &[(&str, u32, Damage)] = &[
         let all: Vec<Seg> = d.book.layers.iter().flat_map(|l| l.segments.clone()).collect();
         let named: Vec<Content> = d.book.layers.iter().flat_map(|l| l.contents.clone()).collect();
         let high = |b: &Body| -> u8 {
-            let runs = words(b)[2].iter().flat_map(|i| &named[b.words[*i] as usize..][..b.words[*i + 1] as usize]).filter(|c| c.0 == 1).map(|c| (c.1, c.2));
+            let runs = words(b)[2].iter().flat_map(|i| part(&named, b.words[*i], b.words[*i + 1])).filter(|c| c.0 == 1).map(|c| (c.1, c.2));
             let caption = words(b)[3].iter().map(|i| (b.words[*i], b.words[*i + 1]));
-            runs.chain(caption).flat_map(|(a, n)| &all[a as usize..][..n as usize]).map(|s| s.level).max().unwrap_or(0)
+            runs.chain(caption).flat_map(|(a, n)| part(&all, a, n)).map(|s| s.level).max().unwrap_or(0)
         };
         let s = segment(r, d, |s| s.tag == 3 && high(&s.body) > 0)?;
         s.level = high(&s.body); Some(())
@@ -164,7 +169,7 @@ pub const ALL: &[(&str, u32, Damage)] = &[
     ("empty node", 6, |r, d| { let n = node(r, d, |_| true)?; n.end = n.start; Some(()) }),
     ("node that ends before it starts", 6, |r, d| { let n = node(r, d, |n| n.start > 0)?; n.end = n.start - 1; Some(()) }),
     ("node past the text", 6, |r, d| { let n = d.book.text.len() as u32; d.book.nodes.last_mut()?.end = *r.pick(&[n + 1, NONE]); Some(()) }),
-    ("nodes that overlap", 6, |_, d| { if d.book.nodes.len() < 2 { return None; } d.book.nodes[1].start = d.book.nodes[0].end - 1; Some(()) }),
+    ("nodes that overlap", 6, |_, d| { if d.book.nodes.len() < 2 { return None; } d.book.nodes[1].start = d.book.nodes[0].end.saturating_sub(1); Some(()) }),
     ("nodes out of order", 6, |_, d| { if d.book.nodes.len() < 2 { return None; } d.book.nodes.swap(0, 1); Some(()) }),
     ("offset outside the image", 6, |r, d| {
         if d.book.nodes.is_empty() { return None; }
@@ -177,7 +182,7 @@ pub const ALL: &[(&str, u32, Damage)] = &[
         let n = d.book.text.len() as u32;
         let p = some(r, &mut d.book.pairs, |_| true)?;
         let [a, e, c, z] = p.at;
-        p.at = *r.pick(&[[a, a, c, z], [a, e, c, c], [a, c + 1, c, c + 1], [a, e, c, n + 1], [c, z, a, e], [a, e, c, NONE]]); Some(())
+        p.at = *r.pick(&[[a, a, c, z], [a, e, c, c], [a, c.saturating_add(1), c, c.saturating_add(1)], [a, e, c, n + 1], [c, z, a, e], [a, e, c, NONE]]); Some(())
     }),
     ("container", 6, |r, d| {
         let n = d.book.norm.len() as u32;

@@ -7,12 +7,15 @@ mod doc01;
 mod exhaustive;
 mod limits;
 mod run;
+mod sample;
 
 use book::{Book, Case, Layer, NONE};
 use books::{Gen, Profile, Rng, boundaries, profiles};
 use damage::Damaged;
 use oracle::judge;
 use run::{Compare, Outcome};
+use sample::Sample;
+use std::path::Path;
 
 /// A book, an edit, a reading of the region that the Rust chooses; a short one where there is no region.
 struct Base {
@@ -211,7 +214,12 @@ fn one(compare: &mut Compare, profile: &Profile, seed: u64, i: u64) {
 }
 
 fn main() {
-    std::panic::set_hook(Box::new(|_| {}));
+    // the Rust's panics are answers; ours are not
+    std::panic::set_hook(Box::new(|p| {
+        if p.location().is_some_and(|l| l.file().contains("src/compare/")) {
+            eprintln!("{p}");
+        }
+    }));
     let number = |name: &str, default: u64| -> u64 {
         let args: Vec<String> = std::env::args().collect();
         args.iter().position(|a| a == name).and_then(|i| args.get(i + 1)?.parse().ok()).unwrap_or(default)
@@ -220,6 +228,10 @@ fn main() {
     let (seed, count) = (number("--seed", 1), number("--count", 150_000));
     let mut compare = Compare::new();
     let classes = profiles();
+    let folder = std::env::args().skip_while(|a| a != "--sample").nth(1);
+    if let Some(folder) = folder {
+        return sample(&mut compare, &classes, Path::new(&folder));
+    }
     for i in 0..count {
         one(&mut compare, &classes[i as usize % classes.len()], seed, i);
     }
@@ -233,6 +245,21 @@ fn main() {
     compare.files(&cases());
     compare.table(seed, count);
     std::process::exit(i32::from(compare.differences > 0));
+}
+
+/// A fixed seed, so that the sample is the same each time.
+fn sample(compare: &mut Compare, classes: &[Profile], folder: &Path) {
+    compare.sample = Some(Sample::default());
+    // the smallest cases for each thing first
+    for (round, most) in [250, 400, 700, 1500].into_iter().enumerate() {
+        compare.sample.as_mut().expect("a sample").most = most;
+        for i in 0..6000 {
+            one(compare, &classes[i as usize % classes.len()], 2026 + round as u64, i);
+        }
+    }
+    if compare.differences == 0 {
+        compare.sample.take().expect("a sample").write(folder);
+    }
 }
 
 /// oracle/cases

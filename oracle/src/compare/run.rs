@@ -2,6 +2,7 @@
 use crate::archive::{self, Archive};
 use crate::book::{Answer, Case, Room};
 use crate::doc01;
+use crate::sample::Sample;
 use crate::books::Rng;
 use oracle::judge::{self, Answer as Said, Merged, judge};
 use oracle::tape::{Book, Reading};
@@ -37,6 +38,7 @@ pub struct Compare {
     regions: u64,
     /// what accepted merges met
     met: [u64; MET.len()],
+    pub sample: Option<Sample>,
 }
 
 const MET: [&str; 18] = [
@@ -178,6 +180,9 @@ impl Compare {
             if !matches!(theirs, Ok(Err(n)) if n == number) {
                 self.differ(class, &format!("refused {number}, the Rust {theirs:?}"), Some(c));
             }
+            if let (Some(sample), Ok(Err(n))) = (&mut self.sample, theirs) {
+                sample.offer(class, c, room, Err(n), &[]);
+            }
             return Outcome::Refused(number);
         }
         if number == 18 && doc01::read(&c.rtape, &c.rbytes).is_ok_and(|b| doc01::adds(&b).iter().any(|n| *n > MOST)) {
@@ -192,15 +197,22 @@ impl Compare {
         match (said, theirs) {
             (Ok(a), Said::Merged(m)) => {
                 self.keys_moved += u64::from(m.keys_moved);
-                self.meet(c, &a);
+                let met = self.meet(c, &a);
                 self.earlier_counts += u64::from(m.counts != m.counts());
                 let b = answer_of(&m);
+                if let Some(sample) = &mut self.sample {
+                    sample.offer(class, c, room, Ok(&b), &met);
+                }
                 if a != b {
                     self.differ(class, &format!("ours {} the Rust {}", short(&Ok(a.clone())), short(&Ok(b))), Some(c));
                 }
                 return Outcome::Merged { answer: Box::new(a), rust: m };
             }
-            (Err(n @ (13..=16)), Said::None(m)) if n == m => {}
+            (Err(n @ (13..=16)), Said::None(m)) if n == m => {
+                if let Some(sample) = &mut self.sample {
+                    sample.offer(class, c, room, Err(m), &[]);
+                }
+            }
             (Err(12), Said::OtherText) => {}
             (Err(17), Said::Merged(m)) if m.book.layers() == 33 && m.new_layer => {}
             (Err(18), Said::Merged(m)) if over(&answer_of(&m), room) => {}
@@ -215,7 +227,7 @@ impl Compare {
         Outcome::Refused(number)
     }
 
-    fn meet(&mut self, c: &Case, a: &Answer) {
+    fn meet(&mut self, c: &Case, a: &Answer) -> Vec<&'static str> {
         let [old, reading, new] = [(&c.tape, &c.bytes), (&c.rtape, &c.rbytes), (&a.tape, &a.bytes)].map(|(t, b)| doc01::read(t, b).expect("a book"));
         let pools = doc01::Pools::of(&reading);
         let deep = reading.nodes.iter().filter(|n| n.class < 2).map(|n| depth(&pools, &n.body)).max().unwrap_or(0);
@@ -230,6 +242,7 @@ impl Compare {
         for (count, met) in self.met.iter_mut().zip(met) {
             *count += u64::from(met);
         }
+        MET.iter().zip(met).filter(|(_, met)| *met).map(|(what, _)| *what).collect()
     }
 
     /// The region alone, of ours and of the Rust.
