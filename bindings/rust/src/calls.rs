@@ -148,7 +148,8 @@ pub fn copy_book<'a>(book: impl Into<Stored<'a>>) -> Result<StoredBook, Refusal>
 ///
 /// A number 1 to 11; from 9 on the whole text has to be parsed, or nothing is to do.
 pub fn choose_region<'a>(book: impl Into<Stored<'a>>, edit: Edit<'_>) -> Result<Span, Refusal> {
-    raw::choose_region(book.into(), edit, &mut zeros(WORK_WORDS)?)
+    let book = book.into();
+    raw::choose_region(book, edit, &mut zeros(work_words(book))?)
 }
 
 /// Merges the reading of an edit's region into a book: the corrected book, in memory of its own.
@@ -181,7 +182,7 @@ pub fn merge_within<'a, 'b>(
     limit: Lengths,
 ) -> Result<Merged, Refusal> {
     let (book, reading) = (book.into(), reading.into());
-    let mut work = zeros(WORK_WORDS)?;
+    let mut work = zeros(work_words(book))?;
     let room = smaller(limit, room::first(lengths(book), edit, reading));
     match merge_into(book, edit, reading, room, &mut work) {
         // 18 comes last, so both tapes are accepted. A reading may name an item many times, and
@@ -192,6 +193,12 @@ pub fn merge_within<'a, 'b>(
         }
         answer => answer,
     }
+}
+
+/// More words than a merge has to be lent make number 10 much faster for a book with many Rubies: two
+/// for each node, whose record has 49 bytes.
+fn work_words(book: Stored<'_>) -> usize {
+    WORK_WORDS.max(book.tape.len() / 24)
 }
 
 fn merge_into(
@@ -243,7 +250,7 @@ fn both_orders_into(
     later: Correction<'_>,
     rooms: Orders<Lengths>,
 ) -> Orders<Result<Merged, Refusal>> {
-    let (Ok(mut out), Ok(mut work)) = (rooms.map(buffers).all(), zeros(WORK_WORDS)) else {
+    let (Ok(mut out), Ok(mut work)) = (rooms.map(buffers).all(), zeros(work_words(book))) else {
         return rooms.map(|_| Err(Refusal::NoRoom));
     };
     let answers = raw::merge_both_orders(book, earlier, later, out.as_mut().map(lent), &mut work);
