@@ -228,7 +228,8 @@ fn run(input: &[u8], words: &mut [u32], out: &mut [u8])
     );
 }
 
-// Enough are the first 196629 bytes: eight, two parts of 65536, twelve, a part of 65536, and one that shows a surplus.
+// The first 196629 bytes are enough (`inspect-cut` in specs/Cut.antt): eight, two parts of 65536, twelve, a part of 65536, and one that shows
+// a surplus.
 fn main() {
     let mut input = [0u8; 196629];
     let mut words = [0u32; 8192];
