@@ -3,8 +3,8 @@ use mathlib.Core.Path.{_≡_, refl, sym, ap, _∙_}
 use Prim.Native.Nat.{ℕ, zero, suc, _+_, _-_, _*_, _≤_, _<_}
 use native.Mathlib.Omega.{arith}
 use mathlib.Core.Bool.{Bool, true, cond, not, _&&_, _||_}
-use mathlib.Core.List.{List, [], _∷_, _++_, map, flatten}
-use lib.ListN.{length, getD, take, drop, List·getD-eq-default}
+use mathlib.Core.List.{List, [], _∷_}
+use lib.ListN.{length, getD, List·getD-eq-default}
 use lib.Dec.{leb, ltb, eqb}
 use borrow.Author.Tests.{leb-true, leb-false, ltb-true, ltb-false, eq-eqb}
 use Rattle.wire.specs.Loops.{by-bool, allUpTo, all-at}

@@ -1,11 +1,10 @@
 -- The returns of the code that puts an item and a line.
 use mathlib.Core.Path.{_≡_, refl, sym, ap, ap₂, _∙_}
-use Prim.Native.Nat.{ℕ, zero, suc, _+_, _-_, _*_, _≤_, _<_}
+use Prim.Native.Nat.{ℕ, zero, suc, _+_, _-_, _≤_, _<_}
 use native.Mathlib.Omega.{arith}
-use native.Mathlib.Numerals.{add-one}
-use mathlib.Core.Bool.{Bool, cond}
+use mathlib.Core.Bool.{Bool}
 use mathlib.Core.List.{List, [], _∷_, _++_, map, flatten, append-assoc, append-nil}
-use lib.ListN.{length, getD, take, set, replicate}
+use lib.ListN.{getD}
 use lib.Dec.{ltb, eqb}
 use borrow.Author.Tests.{ne-eqb, ltb-false}
 use Rattle.model.specs.Lists.{ascii, tabulate}
@@ -23,7 +22,7 @@ use Rattle.listing.specs.declared.Piece.{Piece}
 use Rattle.listing.specs.Table.{Field, labels, rows}
 use Rattle.listing.specs.Coded.{rowStarts, codedField, codedRow, row-coded, rows-short, starts-few}
 use Rattle.listing.specs.Pieces.{valueOf, pieceItem}
-use Rattle.listing.specs.Listing.{Value, Item, stringBytes, valueBytes, itemBytes, shown, rowFor, rowOf, numberIn, fieldBytes, lineAt}
+use Rattle.listing.specs.Listing.{Item, stringBytes, valueBytes, itemBytes, shown, rowFor, rowOf, numberIn, fieldBytes, lineAt}
 
 -- ---- a value
 

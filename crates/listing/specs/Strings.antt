@@ -1,15 +1,14 @@
 -- A book that passed 1 to 7 and its store: what the code that prints it asks, and the string of an id.
-use mathlib.Core.Path.{_≡_, refl, sym, ap, ap₂, _∙_}
-use Prim.Native.Nat.{ℕ, _+_, _-_, _*_, _≤_, _<_, _^_}
+use mathlib.Core.Path.{_≡_, refl, sym, ap, _∙_}
+use Prim.Native.Nat.{ℕ, _+_, _-_, _≤_, _<_}
 use native.Mathlib.Omega.{arith}
 use mathlib.Core.Option.{Option, none, some}
 use mathlib.Core.List.{List, [], _++_, append-assoc}
-use lib.ListN.{length, getD, take, drop, length-take, length-drop}
+use lib.ListN.{length, getD, drop, length-take, length-drop}
 use Rattle.model.specs.Lists.{ascii}
 use Rattle.model.specs.Bytes.{wordAt, part}
 use Rattle.model.specs.Tape.{places, bookAt}
 use Rattle.model.specs.Lookup.{lookupStr}
-use Rattle.model.specs.Runs.{decimal}
 use Rattle.places.specs.Found.{found}
 use Rattle.store.specs.declared.Store.{Store}
 use Rattle.store.specs.Stored.{storeAt}
@@ -42,10 +41,11 @@ module _ {t d : List ℕ} {st : Store} (f : Printable t d st) where
       → {x : List ℕ} → x ≡ part d (a + b + start) (a + b + start + n - (a + b + start))
       → (length x ≤ 65536) × (lookupStr (bookAt t (places t) d) id ≡ some x)
   string-there id h {a} {b} {start} {n} p q r s {x} e =
-      let z : a + b + start + n - (a + b + start) ≡ n = omega arith in
-      (text-short d (a + b + start) (a + b + start + n - (a + b + start)) (f .short) e,
-      lookup-in t d (f .passed .framing) id (omega (arith, h, strings-count (printable-readable .store)))
-      ∙ ap {B = Option (List ℕ)} some (sym (e ∙ rw (z, p, q, r, s) refl)))
+      let z : a + b + start + n - (a + b + start) ≡ n = omega arith in (
+        text-short d (a + b + start) (a + b + start + n - (a + b + start)) (f .short) e,
+        lookup-in t d (f .passed .framing) id (omega (arith, h, strings-count (printable-readable .store)))
+            ∙ ap {B = Option (List ℕ)} some (sym (e ∙ rw (z, p, q, r, s) refl)),
+      )
 
   pub string-none : (id : ℕ) → st .totals .strings ≤ id → lookupStr (bookAt t (places t) d) id ≡ none
   string-none id h = lookup-out t d (f .passed .framing) id (omega (arith, h, strings-count (printable-readable .store)))

@@ -1,10 +1,9 @@
 -- From record to record: the numbers stay small, and the place grows.
-use mathlib.Core.Path.{_≡_, refl, sym, ap, _∙_}
+use mathlib.Core.Path.{_≡_, refl, _∙_}
 use Prim.Native.Nat.{ℕ, zero, suc, _+_, _≤_, _<_}
 use native.Mathlib.Omega.{arith}
-use mathlib.Core.Bool.{cond}
 use mathlib.Core.List.{List, [], _∷_}
-use lib.ListN.{length, getD, set, replicate, List·getD-eq-default}
+use lib.ListN.{getD, set, replicate, List·getD-eq-default}
 use lib.Dec.{ltb}
 use borrow.Author.Tests.{lt-ltb, le-ltb}
 use Rattle.model.specs.Bytes.{byteAt}

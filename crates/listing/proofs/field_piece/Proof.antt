@@ -1,11 +1,10 @@
 use Rattle.listing.specs.Table.{Shows}
-use Rattle.listing.specs.Listing.{Item, shown}
+use Rattle.listing.specs.Listing.{shown}
 use Rattle.listing.specs.Coded.{place-small, word-number, field-read}
-use mathlib.Core.Path.{_≡_, refl, sym, ap, _∙_}
-use mathlib.Core.List.{List, [], _∷_, _++_}
-use Prim.Native.Nat.{ℕ, zero, suc, _+_, _-_, _*_, _%_, _/_, _^_, _≤_, _<_}
+use mathlib.Core.Path.{refl}
+use mathlib.Core.List.{List}
+use Prim.Native.Nat.{ℕ}
 use native.Mathlib.Omega.{arith}
-use lib.ListN.{length, getD, take, drop, set, replicate, length-set, length-take, length-drop, length-append, length-replicate}
 use borrow.Author.Needs.{needs}
 use Rattle.listing.proofs.field_piece.Statement.{statement}
 use Rattle.listing.proofs.field_piece.Tie as tie

@@ -1,11 +1,7 @@
 use Rattle.listing.specs.Table.{sizes}
 use Rattle.listing.specs.Coded.{size-small}
 use Rattle.listing.specs.Walk.{number-few, next-none, next-read}
-use mathlib.Core.Path.{_≡_, refl, sym, ap, _∙_}
-use mathlib.Core.List.{List, [], _∷_, _++_}
-use Prim.Native.Nat.{ℕ, zero, suc, _+_, _-_, _*_, _%_, _/_, _^_, _≤_, _<_}
 use native.Mathlib.Omega.{arith}
-use lib.ListN.{length, getD, take, drop, set, replicate, length-set, length-take, length-drop, length-append, length-replicate}
 use borrow.Author.Needs.{needs}
 use Rattle.listing.proofs.next_line.Statement.{statement}
 use Rattle.listing.proofs.next_line.Tie as tie

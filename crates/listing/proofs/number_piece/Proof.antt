@@ -1,10 +1,5 @@
 use Rattle.listing.specs.Pieces.{pieceItem, valueOf}
-use mathlib.Core.Path.{_≡_, refl, sym, ap, _∙_}
-use mathlib.Core.List.{List, [], _∷_, _++_}
-use Prim.Native.Nat.{ℕ, zero, suc, _+_, _-_, _*_, _%_, _/_, _^_, _≤_, _<_}
-use native.Mathlib.Omega.{arith}
-use borrow.Author.Needs.{needs}
-use lib.ListN.{length, getD, take, drop, set, replicate, length-set, length-take, length-drop, length-append, length-replicate}
+use mathlib.Core.Path.{refl}
 use Rattle.listing.proofs.number_piece.Statement.{statement}
 use Rattle.listing.proofs.number_piece.Tie as tie
 use Rattle.listing.proofs.number_piece.Reads as reads

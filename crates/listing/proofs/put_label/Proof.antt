@@ -1,9 +1,9 @@
 use Rattle.listing.specs.Coded.{label-part, label-short}
-use mathlib.Core.Path.{_≡_, refl, sym, ap, _∙_}
-use mathlib.Core.List.{List, [], _∷_, _++_}
-use Prim.Native.Nat.{ℕ, zero, suc, _+_, _-_, _*_, _%_, _/_, _^_, _≤_, _<_}
+use mathlib.Core.Path.{ap, _∙_}
+use mathlib.Core.List.{List, _++_}
+use Prim.Native.Nat.{ℕ}
 use native.Mathlib.Omega.{arith}
-use lib.ListN.{length, getD, take, drop, set, replicate, length-set, length-take, length-drop, length-append, length-replicate}
+use lib.ListN.{length, take}
 use borrow.Author.Needs.{needs}
 use Rattle.listing.proofs.put_label.Statement.{statement}
 use Rattle.listing.proofs.put_label.Tie as tie

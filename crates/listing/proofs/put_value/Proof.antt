@@ -1,10 +1,9 @@
 use Rattle.listing.specs.Lines.{value-number, value-string, value-text, value-none}
 use Rattle.listing.specs.Strings.{text-short}
-use mathlib.Core.Path.{_≡_, refl, sym, ap, _∙_}
-use mathlib.Core.List.{List, [], _∷_, _++_}
-use Prim.Native.Nat.{ℕ, zero, suc, _+_, _-_, _*_, _%_, _/_, _^_, _≤_, _<_}
+use mathlib.Core.Path.{refl}
+use Prim.Native.Nat.{_-_}
 use native.Mathlib.Omega.{arith}
-use lib.ListN.{length, getD, take, drop, set, replicate, length-set, length-take, length-drop, length-append, length-replicate}
+use lib.ListN.{take}
 use borrow.Author.Needs.{needs}
 use Rattle.listing.proofs.put_value.Statement.{statement}
 use Rattle.listing.proofs.put_value.Tie as tie

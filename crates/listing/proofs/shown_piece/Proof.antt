@@ -1,9 +1,6 @@
 use Rattle.listing.specs.Pieces.{shown-ordinal, shown-own, shown-byte, shown-word, shown-name, shown-string, shown-body, shown-edit}
-use mathlib.Core.Path.{_≡_, refl, sym, ap, _∙_}
-use mathlib.Core.List.{List, [], _∷_, _++_}
-use Prim.Native.Nat.{ℕ, zero, suc, _+_, _-_, _*_, _%_, _/_, _^_, _≤_, _<_}
+use mathlib.Core.Path.{refl, _∙_}
 use native.Mathlib.Omega.{arith}
-use lib.ListN.{length, getD, take, drop, set, replicate, length-set, length-take, length-drop, length-append, length-replicate}
 use borrow.Author.Needs.{needs}
 use Rattle.listing.proofs.shown_piece.Statement.{statement}
 use Rattle.listing.proofs.shown_piece.Tie as tie

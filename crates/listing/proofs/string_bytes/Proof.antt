@@ -1,11 +1,8 @@
 use Rattle.strings.specs.Starts.{start-most}
 use Rattle.lookup.specs.Strings.{str-inside}
 use Rattle.listing.specs.Strings.{printable-readable, string-there}
-use mathlib.Core.Path.{_≡_, refl, sym, ap, _∙_}
-use mathlib.Core.List.{List, [], _∷_, _++_}
-use Prim.Native.Nat.{ℕ, zero, suc, _+_, _-_, _*_, _%_, _/_, _^_, _≤_, _<_}
+use mathlib.Core.Path.{refl, _∙_}
 use native.Mathlib.Omega.{arith}
-use lib.ListN.{length, getD, take, drop, set, replicate, length-set, length-take, length-drop, length-append, length-replicate}
 use borrow.Author.Needs.{needs}
 use Rattle.listing.proofs.string_bytes.Statement.{statement}
 use Rattle.listing.proofs.string_bytes.Tie as tie
