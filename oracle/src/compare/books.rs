@@ -100,7 +100,7 @@ pub fn profiles() -> Vec<Profile> {
         Profile { name: "rubies and formats", strings: Strings::Dependent, plain: 95, pools: [4, 6, 1], nodes: 16, passages: [3, 9], foreign: 1, ..MIXED },
         Profile { name: "strings that share slots", strings: Strings::Colliding, pools: [9, 9, 2], kinds: &[1, 14, 15, 9], plain: 90, ..MIXED },
         Profile { name: "strings of 0 to 65 bytes", strings: Strings::Long, pools: [8, 9, 3], plain: 70, ..MIXED },
-        Profile { name: "tables that grow", strings: Strings::Many, pools: [700, 700, 2], kinds: &[14, 1, 9], plain: 99, passages: [2, 4], nodes: 6, others: [1, 1], graft: 4000, ..MIXED },
+        Profile { name: "tables that grow", layers: [1, 2], strings: Strings::Many, pools: [1300, 1300, 2], kinds: &[14, 1, 9], plain: 99, passages: [2, 4], nodes: 6, others: [1, 1], graft: 4000, ..MIXED },
         Profile { name: "pairs, containers, diagnostics", others: [12, 60], nodes: 5, passages: [2, 8], ..MIXED },
         Profile { name: "text start and end", passages: [0, 3], nodes: 3, edges: true, ..MIXED },
         Profile { name: "blocks and warichu", kinds: &[13], nodes: 12, passages: [3, 9], others: [1, 1], ..MIXED },
@@ -220,7 +220,7 @@ impl Pools {
 impl Gen<'_> {
     fn content_range(&mut self, p: &Pools, level: u8) -> [u32; 2] {
         let most = match self.p.strings {
-            Strings::Many => 700,
+            Strings::Many => 1300,
             Strings::Colliding | Strings::Long => 6,
             Strings::Dependent => 1,
             _ => 1 + self.r.below(2) * self.r.below(3),

@@ -20,18 +20,21 @@ fn texts(length: usize) -> Vec<String> {
 
 const NEW: [&str; 5] = ["", "a", "\n", "あ", "\n\n"];
 
-/// The merge of a plain reading, where there is a region.
-fn merge(compare: &mut Compare, class: &'static str, book: &tape::Book, c: &mut Case, region: [u32; 2]) {
+/// What a reading of this text is.
+type Read = fn(&[u8]) -> Book;
+
+/// The merge of a reading, where there is a region.
+fn merge(compare: &mut Compare, class: &'static str, book: &tape::Book, c: &mut Case, region: [u32; 2], read: Read) {
     let (start, end) = (c.start as usize, c.end as usize);
     let text = book.text().as_bytes();
     let new = [&text[..start], &c.replacement, &text[end..]].concat();
-    let reading = Book::plain(&new[region[0] as usize..region[1] as usize + new.len() - text.len()]);
+    let reading = read(&new[region[0] as usize..region[1] as usize + new.len() - text.len()]);
     (c.rtape, c.rbytes) = (reading.tape(), reading.bytes());
-    compare.merge(class, c, book, [c.tape.len(), 2 * new.len() + c.bytes.len(), 16384]);
+    compare.merge(class, c, book, [c.tape.len() + c.rtape.len(), 2 * new.len() + c.bytes.len() + c.rbytes.len(), 16384]);
 }
 
-/// Every edit of a book: regions, and merges if asked for.
-fn edits(compare: &mut Compare, classes: [&'static str; 2], old: &Book, marks: &[usize], new: &[&str], merges: bool) {
+/// Every edit of a book: regions, and merges if there are readings.
+fn edits(compare: &mut Compare, classes: [&'static str; 2], old: &Book, marks: &[usize], new: &[&str], read: Option<Read>) {
     let mut c = Case::new(old, 0, 0, b"", &Book::plain(b""));
     let book = tape::Book::read(&c.tape, &c.bytes).expect("a short book");
     for (i, start) in marks.iter().enumerate() {
@@ -39,8 +42,8 @@ fn edits(compare: &mut Compare, classes: [&'static str; 2], old: &Book, marks: &
             for s in new {
                 (c.start, c.end, c.replacement) = (*start as u32, *end as u32, s.as_bytes().to_vec());
                 let region = compare.region(classes[0], &c, &book, (start * 7 + end) % 40);
-                if let Some(region) = region.filter(|_| merges) {
-                    merge(compare, classes[1], &book, &mut c, region);
+                if let (Some(region), Some(read)) = (region, read) {
+                    merge(compare, classes[1], &book, &mut c, region, read);
                 }
             }
         }
@@ -84,11 +87,12 @@ pub fn all(compare: &mut Compare, length: usize) {
     let classes = ["short texts, regions", "short texts, merges"];
     for text in texts(length) {
         let every: Vec<usize> = (0..=text.len()).collect();
-        edits(compare, classes, &Book::plain(text.as_bytes()), &every, &NEW, true);
+        edits(compare, classes, &Book::plain(text.as_bytes()), &every, &NEW, Some(Book::plain));
     }
     one_record(compare, length - 2);
     two_nodes(compare);
     records_across_regions(compare);
+    dependencies(compare);
 }
 
 /// One node or one pair anywhere in a short text.
@@ -98,12 +102,12 @@ fn one_record(compare: &mut Compare, length: usize) {
         let marks = boundaries(text);
         for (start, end) in spans(&marks) {
             for n in sorts(start, end) {
-                edits(compare, classes, &with_nodes(text, vec![n]), &marks, &["x"], false);
+                edits(compare, classes, &with_nodes(text, vec![n]), &marks, &["x"], None);
             }
         }
         for ((a, b), (c, d)) in spans(&marks).flat_map(|x| spans(&marks).map(move |y| (x, y))).filter(|(x, y)| x.1 <= y.0) {
             let pairs = vec![Pair { kind: 0, at: [a, b, c, d].map(|n| n as u32) }];
-            edits(compare, ["short texts with one pair", ""], &Book { pairs, ..Book::plain(text) }, &marks, &["x"], false);
+            edits(compare, ["short texts with one pair", ""], &Book { pairs, ..Book::plain(text) }, &marks, &["x"], None);
         }
     }
 }
@@ -116,7 +120,7 @@ fn two_nodes(compare: &mut Compare) {
     for (i, j) in spans(&marks[..FOUR.len()]) {
         for a in sorts(i, i + 1) {
             for b in sorts(j, j + 1) {
-                edits(compare, ["two nodes in four passages", ""], &with_nodes(FOUR, vec![a.clone(), b]), &marks, &["x"], false);
+                edits(compare, ["two nodes in four passages", ""], &with_nodes(FOUR, vec![a.clone(), b]), &marks, &["x"], None);
             }
         }
     }
@@ -130,17 +134,49 @@ fn records_across_regions(compare: &mut Compare) {
     for (start, end) in spans(&marks) {
         let at = [start, end].map(|n| n as u32);
         for n in sorts(start, end) {
-            edits(compare, classes, &with_nodes(FOUR, vec![n]), &marks, &new, true);
+            edits(compare, classes, &with_nodes(FOUR, vec![n]), &marks, &new, Some(Book::plain));
         }
         if end < FOUR.len() {
             let containers = vec![Container { plain: NONE, open: at[0], close: at[1] }];
-            edits(compare, classes, &Book { containers, ..Book::plain(FOUR) }, &marks, &new, true);
+            edits(compare, classes, &Book { containers, ..Book::plain(FOUR) }, &marks, &new, Some(Book::plain));
         }
         let diagnostics = vec![Diagnostic { kind: 4, rank: 1, start: at[0], end: at[1], plain: NONE }];
-        edits(compare, classes, &Book { diagnostics, ..Book::plain(FOUR) }, &marks, &new, true);
+        edits(compare, classes, &Book { diagnostics, ..Book::plain(FOUR) }, &marks, &new, Some(Book::plain));
         if start + 1 < end {
             let pairs = vec![Pair { kind: 4, at: [at[0], at[0] + 1, at[1] - 1, at[1]] }];
-            edits(compare, classes, &Book { pairs, ..Book::plain(FOUR) }, &marks, &new, true);
+            edits(compare, classes, &Book { pairs, ..Book::plain(FOUR) }, &marks, &new, Some(Book::plain));
+        }
+    }
+}
+
+/// A Ruby or a Referenced Format of "a"; the first content is "a".
+fn linked(text: &[u8], nodes: &[(u8, usize, usize)]) -> Book {
+    let body = |kind: u8| if kind == 1 { Body::new(1, 0, &[0, 1, 0, 0]) } else { Body::new(2, 4, &[0, 1]) };
+    let mut b = with_nodes(text, nodes.iter().map(|(kind, start, end)| node(0, 0, *start, *end, body(*kind))).collect());
+    b.layers[0] = Layer { strings: vec![b"a".to_vec()], contents: vec![(0, 0, 0)], segments: vec![] };
+    b
+}
+
+fn ruby_first(text: &[u8]) -> Book {
+    linked(text, if text.is_empty() { &[] } else { &[(1, 0, 1)] })
+}
+
+fn format_first(text: &[u8]) -> Book {
+    linked(text, if text.is_empty() { &[] } else { &[(2, 0, 1)] })
+}
+
+/// 10: a Ruby and a Format of one string anywhere. 15: one of them anywhere, the other in the reading.
+fn dependencies(compare: &mut Compare) {
+    let marks: Vec<usize> = (0..=FOUR.len()).collect();
+    for (i, j) in spans(&marks) {
+        for (k, l) in spans(&marks).filter(|x| x.0 >= j) {
+            for (first, second) in [(1, 2), (2, 1)] {
+                edits(compare, ["a Ruby and a Format in four passages", ""], &linked(FOUR, &[(first, i, j), (second, k, l)]), &marks, &["x"], None);
+            }
+        }
+        let classes = ["a Ruby or a Format, regions", "a Ruby or a Format, the other in the reading"];
+        for (kind, read) in [(1, format_first as Read), (2, ruby_first), (1, ruby_first), (2, format_first)] {
+            edits(compare, classes, &linked(FOUR, &[(kind, i, j)]), &marks, &["x"], Some(read));
         }
     }
 }

@@ -1,7 +1,9 @@
 //! The limits of numbers 3 and 18: each list exactly full, and one more.
-use crate::book::*;
+use crate::book::{Body, Book, Case, Container, Content, Diagnostic, Layer, Node, Pair, Seg};
 use crate::books::Rng;
 use crate::run::Compare;
+use oracle::judge::{Answer, judge};
+use oracle::tape;
 
 const CLASS: &str = "limits";
 const TEXT: usize = 16_777_215;
@@ -36,6 +38,16 @@ fn put_edit(compare: &mut Compare, old: &Book, start: u32, end: u32, reading: &B
     if number == 0 && compare.accepted(CLASS) == before {
         compare.differ(CLASS, "made to be accepted, is not", None);
     }
+    if number == 3 && !rust_accepts(&case) {
+        compare.differ(CLASS, "the Rust has this limit too", None);
+    }
+}
+
+/// docs/DIFFERENCES.md: the Rust has no limits of 3
+fn rust_accepts(c: &Case) -> bool {
+    let book = tape::Book::read(&c.tape, &c.bytes).expect("a book of the Rust's");
+    let reading = tape::Reading::read(&c.rtape, &c.rbytes).expect("a reading of the Rust's");
+    matches!(judge(&book, c.start as usize..c.end as usize, "x", &reading), Answer::Merged(_))
 }
 
 /// A reading of the first passage with one AngleQuote of the first `len` contents.

@@ -3,6 +3,7 @@ mod archive;
 mod book;
 mod books;
 mod damage;
+mod differences;
 mod doc01;
 mod exhaustive;
 mod limits;
@@ -226,6 +227,9 @@ fn main() {
     };
     let flag = |name: &str| std::env::args().any(|a| a == name);
     let (seed, count) = (number("--seed", 1), number("--count", 150_000));
+    if flag("--differences") {
+        return differences::all();
+    }
     let mut compare = Compare::new();
     let classes = profiles();
     let folder = std::env::args().skip_while(|a| a != "--sample").nth(1);
