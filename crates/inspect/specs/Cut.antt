@@ -6,7 +6,7 @@ use mathlib.Core.Bool.{Bool, true, false, cond, not, _&&_}
 use mathlib.Core.Option.{Option}
 use mathlib.Core.List.{List, [], _∷_}
 use lib.ListN.{length, take, length-take}
-use lib.Seq.{take-all, getD-take}
+use lib.Seq.{take-all}
 use lib.Dec.{leb, ltb, eqb}
 use borrow.Author.Tests.{leb-true, leb-false, le-ltb, ne-eqb}
 use Rattle.model.specs.Limits.{maxPart}
@@ -16,6 +16,7 @@ use Rattle.model.specs.Refusal.{Checked, Checked.refused, _>>=_, refuse_if_}
 use Rattle.laws.specs.Lists.{both}
 use Rattle.wire.specs.Loops.{by-bool}
 use Rattle.lines.specs.Text.{refusedLine}
+use Rattle.lines.specs.Input.{same-word}
 use Rattle.inspect.specs.Inspect.{behind, askedBehind, asked, linesOf, inspect}
 
 abbrev fits : List ℕ → Bool
@@ -46,11 +47,6 @@ long-asked x h =
     rw (u, a, v, w, b, y) refl)
     (λ b. rw (u, a, v, w, b) refl))
     (λ a. rw (le-ltb (length x) 8 (omega (arith, h)), a) refl)
-
-same-word : (s : List ℕ) (n p : ℕ) → p + 4 ≤ n → wordAt (take n s) p ≡ wordAt s p
-unfolding wordAt
-same-word s n p h =
-    rw (getD-take n s p 0 (omega arith), getD-take n s (p + 1) 0 (omega arith), getD-take n s (p + 2) 0 (omega arith), getD-take n s (p + 3) 0 (omega arith)) refl
 
 same-number : (s : List ℕ) → longNumber (take 196629 s) ≡ longNumber s
 same-number s =

@@ -5,7 +5,7 @@ use native.Mathlib.Omega.{arith}
 use mathlib.Core.Bool.{Bool, true, false, cond}
 use mathlib.Core.List.{List, [], _∷_}
 use lib.ListN.{length, take, length-take}
-use lib.Seq.{take-all, getD-take}
+use lib.Seq.{take-all}
 use lib.Dec.{leb, ltb, eqb}
 use borrow.Author.Tests.{leb-true, leb-false, ltb-false, eqb-true, le-ltb, lt-ltb, ne-eqb, eq-eqb}
 use Rattle.model.specs.Lists.{all, sum}
@@ -16,6 +16,7 @@ use Rattle.model.specs.Merge.{Room, IncrementalOutput, merge}
 use Rattle.model.specs.Runs.{partLengths, asked, program}
 use Rattle.laws.specs.Lists.{both}
 use Rattle.wire.specs.Loops.{by-bool}
+use Rattle.lines.specs.Input.{same-word}
 use Rattle.edit.specs.Numbers.{editOf}
 use Rattle.output.specs.Answer.{Merged, outputOf, refusedOutput}
 use Rattle.output.specs.declared.IncrementalOutput.{IncrementalOutput as Output}
@@ -133,11 +134,6 @@ asked-answer s {a} {b} {c} {d} {e} p q st en v t u f₁ f₂ f₃ f₄ f₅ k₁
     m .answer ∙ rw (g₁, g₂, g₃, g₄, g₅, p, q, st, en, v, t, u, k₁, k₂, k₃) refl
 
 -- ---- how much has to be read
-
-same-word : (s : List ℕ) (n p : ℕ) → p + 4 ≤ n → wordAt (take n s) p ≡ wordAt s p
-unfolding wordAt
-same-word s n p h =
-    rw (getD-take n s p 0 (omega arith), getD-take n s (p + 1) 0 (omega arith), getD-take n s (p + 2) 0 (omega arith), getD-take n s (p + 3) 0 (omega arith)) refl
 
 same-lengths : (s : List ℕ) (n : ℕ) → 28 ≤ n → partLengths (take n s) ≡ partLengths s
 unfolding partLengths
