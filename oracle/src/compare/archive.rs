@@ -39,8 +39,6 @@ struct AllowedAnswer {
 
 #[link(name = "exports", kind = "static")]
 unsafe extern "C" {
-    fn aozora_check_book(tape: *const u8, tape_len: usize, bytes: *const u8, bytes_len: usize) -> u32;
-    fn aozora_check_reading(tape: *const u8, tape_len: usize, bytes: *const u8, bytes_len: usize) -> u32;
     fn aozora_node_at_source(tape: *const u8, tape_len: usize, bytes: *const u8, bytes_len: usize, offset: u32) -> NodeAnswer;
     fn aozora_diagnostics_allow_incremental(tape: *const u8, tape_len: usize, bytes: *const u8, bytes_len: usize) -> AllowedAnswer;
     #[rustfmt::skip]
@@ -64,7 +62,7 @@ pub struct Archive {
 }
 
 fn zeros(s: &[u8]) -> bool {
-    // a memcmp is faster than a loop that stops at the first
+    // no early exit, so that it is done many bytes at a time
     s.iter().fold(0, |a, b| a | b) == 0
 }
 
@@ -109,14 +107,6 @@ impl Archive {
         assert!(self.work.iter().all(|w| *w == 0), "a word is not zero");
         if a.number == 0 { Ok([a.start, a.end]) } else { Err(a.number) }
     }
-}
-
-pub fn check_book(tape: &[u8], bytes: &[u8]) -> u32 {
-    unsafe { aozora_check_book(tape.as_ptr(), tape.len(), bytes.as_ptr(), bytes.len()) }
-}
-
-pub fn check_reading(tape: &[u8], bytes: &[u8]) -> u32 {
-    unsafe { aozora_check_reading(tape.as_ptr(), tape.len(), bytes.as_ptr(), bytes.len()) }
 }
 
 pub fn node_at_source(tape: &[u8], bytes: &[u8], offset: u32) -> Option<usize> {

@@ -36,6 +36,7 @@ pub struct Compare {
     earlier_counts: u64,
     lookups: u64,
     regions: u64,
+    regions_of_books: u64,
     /// what accepted merges met
     met: [u64; MET.len()],
     pub sample: Option<Sample>,
@@ -126,9 +127,13 @@ impl Compare {
         let number = said.as_ref().err().copied().unwrap_or(0);
         let t = self.tally(class);
         t.cases += 1;
+        let turn = t.cases;
         match number {
             0 => t.accepted += 1,
             n => t.refused[n as usize] += 1,
+        }
+        if turn % 4 == 0 {
+            self.region_of_book(class, c, (turn % 60) as usize);
         }
         match self.ours(c, room) {
             Err(what) => self.differ(class, &what, Some(c)),
@@ -245,6 +250,16 @@ impl Compare {
         MET.iter().zip(met).filter(|(_, met)| *met).map(|(what, _)| *what).collect()
     }
 
+    /// The region alone, of ours and by document 01, which the Rust judges where it is asked for the merge.
+    fn region_of_book(&mut self, class: &'static str, c: &Case, words: usize) {
+        self.regions_of_books += 1;
+        let said = doc01::choose_region(&c.tape, &c.bytes, c.start, c.end, &c.replacement).map(|r| r.map(|n| n as u32));
+        let ours = self.archive.region(&c.tape, &c.bytes, c.start, c.end, &c.replacement, words);
+        if ours != said {
+            self.differ(class, &format!("region: ours {ours:?} document 01 {said:?}"), Some(c));
+        }
+    }
+
     /// The region alone, of ours and of the Rust.
     pub fn region(&mut self, class: &'static str, c: &Case, book: &Book, words: usize) -> Option<[u32; 2]> {
         let ours = self.archive.region(&c.tape, &c.bytes, c.start, c.end, &c.replacement, words);
@@ -335,7 +350,7 @@ impl Compare {
         }
         row("together", &all);
         println!("\nlisted differences: equal keys in another order {}, counts of an earlier merge {}", self.keys_moved, self.earlier_counts);
-        println!("lookups: {}, regions alone: {}", self.lookups, self.regions);
+        println!("lookups: {}, regions alone: {}, regions of books by document 01: {}", self.lookups, self.regions, self.regions_of_books);
         let met: Vec<String> = MET.iter().zip(self.met).map(|(what, n)| format!("{what} {n}")).collect();
         println!("accepted merges with {}", met.join(", "));
         let unmet: Vec<&str> = crate::damage::ALL.iter().map(|d| d.0).filter(|n| self.aims.get(n).is_none_or(|k| *k == 0)).collect();
