@@ -178,13 +178,8 @@ fn merge_run() {
 /// The inputs of the program with the Rust's answers.
 #[test]
 fn oracle_cases() {
-    let folder = ["oracle/cases", "tools/oracle/cases"]
-        .map(|f| repository().join(f))
-        .into_iter()
-        .find(|f| f.is_dir())
-        .unwrap();
     let mut count = 0;
-    for entry in std::fs::read_dir(folder).unwrap() {
+    for entry in std::fs::read_dir(repository().join("oracle/cases")).unwrap() {
         let input = entry.unwrap().path();
         if input.extension().is_some_and(|e| e == "in") {
             let expected = std::fs::read_to_string(input.with_extension("out")).unwrap();
