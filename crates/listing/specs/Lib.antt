@@ -5,3 +5,4 @@ pub mod Pieces
 pub mod Strings
 pub mod Lines
 pub mod Walk
+pub mod Operands
