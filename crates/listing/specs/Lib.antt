@@ -6,3 +6,4 @@ pub mod Strings
 pub mod Lines
 pub mod Walk
 pub mod Operands
+pub mod Examples
