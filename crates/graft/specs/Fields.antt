@@ -27,7 +27,7 @@ use Rattle.sizes.specs.declared.FieldWords.{FieldWords}
 use Rattle.graft.specs.Rebased.{rebased, behind, steps-fields}
 use Rattle.graft.specs.Grafted.{layerFrom, Told, Sized, Roomy, empty-sized, next-layer, told-then, refused-then}
 use Rattle.graft.specs.Widths.{fields-sized}
-use Rattle.graft.specs.Parts.{Parts, all-first, fields-then}
+use Rattle.graft.specs.Parts.{fields-then}
 use Rattle.graft.specs.Walk.{Source, sourceStore, Ready, StartTold, WordsTold, bodyFrom, placeFrom, contentRunFrom, segmentRunFrom, fieldFrom, idFrom, wordsWith}
 use Rattle.graft.specs.Rooms.{ready-item, space-left, roomy, fields-add}
 use Rattle.graft.specs.Answers.{told-none}
@@ -36,6 +36,7 @@ use Rattle.graft.specs.declared.Plan.{Plan}
 use Rattle.graft.specs.declared.Mark.{Mark}
 use Rattle.graft.specs.declared.Start.{Start}
 use Rattle.graft.specs.declared.Words.{Words}
+use Rattle.put_records.specs.Runs.{Parts, all-first}
 
 -- ---- places in parts
 

@@ -4,9 +4,9 @@ use mathlib.Core.Path.{_≡_, refl, sym, ap, ap₂, _∙_}
 use Prim.Native.Nat.{ℕ, _+_, _*_, _≤_}
 use native.Mathlib.Omega.{arith}
 use mathlib.Core.Bool.{true, false, true≢false}
-use mathlib.Core.List.{List, [], _∷_, _++_, append-assoc, flatten}
+use mathlib.Core.List.{List, [], flatten}
 use lib.ListN.{length, take, drop, length-append}
-use Rattle.model.specs.Tape.{Codec, recordBytes, recordsBytes, contentCodec, segmentCodec}
+use Rattle.model.specs.Tape.{recordsBytes, contentCodec, segmentCodec}
 use Rattle.model.specs.Graft.{NewLayer}
 use Rattle.wire.specs.Loops.{by-bool}
 use Rattle.interner.specs.State.{stateOf, Good, hasRoom}
@@ -14,6 +14,7 @@ use Rattle.graft.specs.Rebased.{rebased, behind, SameOffsets}
 use Rattle.graft.specs.Blocks.{blocks, blocks-then}
 use Rattle.graft.specs.declared.Plan.{Plan}
 use Rattle.graft.specs.declared.Mark.{Mark}
+use Rattle.put_records.specs.Runs.{bytes-append}
 
 -- the layer so far, by the code's numbers: its numbers begin behind what was pushed
 abbrev pub layerFrom : Plan → List ℕ → List ℕ → Mark → NewLayer
@@ -68,11 +69,6 @@ pub record Told (p : Plan) (m : Mark) (out work strs out′ work′ strs′ : Li
   pub made : r .ok ≡ true → Made p m out work strs out′ work′ strs′ r g
 
 -- ---- bytes of two runs
-
-pub bytes-append : {A : Type 0} (k : Codec A) (xs ys : List A) → recordsBytes k (xs ++ ys) ≡ recordsBytes k xs ++ recordsBytes k ys
-unfolding recordsBytes flatten
-bytes-append k [] ys = refl
-bytes-append k (x ∷ xs) ys = ap (λ (l : List ℕ). recordBytes k x ++ l) (bytes-append k xs ys) ∙ sym (append-assoc (recordBytes k x) (recordsBytes k xs) (recordsBytes k ys))
 
 -- ---- a step, and the next
 

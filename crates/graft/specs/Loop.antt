@@ -23,10 +23,10 @@ use Rattle.graft.specs.Runs.{ItemsSoFar, ItemsTold, Clear, items-then}
 use Rattle.graft.specs.Walk.{Ready}
 use Rattle.graft.specs.Rooms.{ready-item, space-left, roomy}
 use Rattle.graft.specs.Answers.{told-none}
-use Rattle.graft.specs.Parts.{all-first}
-use Rattle.graft.specs.Records.{records-more, records-parts, records-in, records-add}
+use Rattle.graft.specs.Records.{records-add}
 use Rattle.graft.specs.declared.Plan.{Plan}
 use Rattle.graft.specs.declared.Mark.{Mark}
+use Rattle.put_records.specs.Runs.{all-first, records-more, records-parts, records-in}
 
 -- A kind of record of the source t, of `size` bytes: the graft of a list of them, what number 4 says of each, and what it adds.
 pub record Grafts {A : Type 0} (t : List ℕ) (k : Codec A) (size : ℕ) (run : List A → NewLayer → With (List A)) (known : A → Bool) (adds : A → Added) (sum : ℕ → ℕ → Added) : Type 0 where

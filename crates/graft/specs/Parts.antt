@@ -1,12 +1,9 @@
--- Lists in two parts: a first part of a list, and the model's graft of one part behind the other.
-use mathlib.Core.Path.{_≡_, refl, sym, ap, _∙_}
-use Prim.Native.Nat.{ℕ, zero, suc, _+_, _≤_}
-use native.Mathlib.Omega.{arith}
-use mathlib.Core.Bool.{true}
+-- Lists in two parts: the model's graft of one part behind the other.
+use mathlib.Core.Path.{_≡_, refl, ap}
+use Prim.Native.Nat.{ℕ, _+_}
 use mathlib.Core.List.{List, [], _∷_, _++_}
 use lib.ListN.{length, set}
 use lib.Dec.{eqb}
-use Rattle.model.specs.Lists.{all, tabulate}
 use Rattle.model.specs.Limits.{noString}
 use Rattle.model.specs.Types.{Body, Content, Segment}
 use Rattle.model.specs.Store.{NodeStore, resolveStr, resolveContentRange, resolveSegRange}
@@ -14,26 +11,7 @@ use Rattle.model.specs.WellFormed.{wordOf}
 use Rattle.model.specs.Tape.{Field, Field.str, Field.optStr, Field.contentRange, Field.segRange}
 use Rattle.model.specs.Tree.{Tree, showSegments, showContents, showFields}
 use Rattle.model.specs.Graft.{NewLayer, With, graftStr, pushContents, pushSegments, graftNode, graftFields, graftContents, graftSegments}
-use Rattle.laws.specs.Lists.{both}
-use Rattle.laws.specs.Keep.{all-append-is}
 use Rattle.wire.specs.Loops.{by-bool}
-
--- a first part of a list
-pub record Parts {A : Type 0} (xs whole : List A) : Type 0 where
-  pub rest : List A
-  pub is : whole ≡ xs ++ rest
-
-pub tabulate-parts : {A : Type 0} (i n : ℕ) (f : ℕ → A) → i ≤ n → Parts (tabulate i f) (tabulate n f)
-tabulate-parts zero n f h = record { rest = tabulate n f; is = refl }
-tabulate-parts (suc i) zero f h = absurd (omega arith)
-tabulate-parts (suc i) (suc n) f h =
-    let r = tabulate-parts i n (λ (k : ℕ). f (suc k)) (omega arith) in
-    record { rest = r .rest; is = ap (λ (l : List _). f 0 ∷ l) (r .is) }
-
-pub all-first : {A : Type 0} (p : A → _) {xs whole : List A} → Parts xs whole → all p whole ≡ true → all p xs ≡ true
-all-first p {xs} {whole} r h = both (all p xs) (all p (r .rest)) (sym (all-append-is p xs (r .rest)) ∙ sym (ap (all p) (r .is)) ∙ h) .0
-
--- ---- the graft of both parts
 
 module _ (show : Body → Tree) (s : NodeStore) where
   pub fields-then : (b : Body) (xs ys : List Field) (ws : List ℕ) (f : NewLayer)

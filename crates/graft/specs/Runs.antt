@@ -13,9 +13,10 @@ use Rattle.wire.specs.Overwrite.{overwrite, overwrite-next}
 use Rattle.interner.specs.State.{hasRoom}
 use Rattle.graft.specs.Rebased.{behind}
 use Rattle.graft.specs.Blocks.{blocks, length-blocks, Apart, apart-less, apart-inside, items-apart, push-first, push-second}
-use Rattle.graft.specs.Grafted.{contentAt, segmentAt, laid, Sized, Roomy, Made, made-then, bytes-append}
+use Rattle.graft.specs.Grafted.{contentAt, segmentAt, laid, Sized, Roomy, Made, made-then}
 use Rattle.graft.specs.declared.Plan.{Plan}
 use Rattle.graft.specs.declared.Mark.{Mark}
+use Rattle.put_records.specs.Runs.{bytes-append}
 
 -- the items so far, their records from the byte `place` on; `made` is the walk without the items, on the tape `under` them
 pub record ItemsSoFar {A : Type 0} (k : Codec A) (p : Plan) (m : Mark) (place : ℕ) (out work strs out′ work′ strs′ : List ℕ) (r : Mark) (items : List A) (g : NewLayer) : Type 0 where

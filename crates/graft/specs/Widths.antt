@@ -11,7 +11,8 @@ use Rattle.model.specs.Tape.{recordBytes, recordsBytes, operandBytes, contentCo
 use Rattle.model.specs.Tree.{Tree, Tree.tree, Fields, Fields.done, Fields.text, Fields.absent, Fields.contents, Fields.segments}
 use Rattle.model.specs.Tree.{Contents, Contents.noContent, Contents.plain, Contents.segmented, Segments, Segments.noSegment, Segments.segment}
 use Rattle.model.specs.Graft.{NewLayer, graftStr, pushContents, pushSegments, graftNode, graftFields, graftContents, graftSegments}
-use Rattle.graft.specs.Grafted.{Sized, bytes-append}
+use Rattle.graft.specs.Grafted.{Sized}
+use Rattle.put_records.specs.Runs.{bytes-append}
 
 content-width : (c : Content) → length (recordBytes contentCodec c) ≡ 10
 unfolding recordBytes operandBytes contentCodec wordBytes

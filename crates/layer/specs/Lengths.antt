@@ -13,8 +13,8 @@ use Rattle.table.specs.Layout.{startIn, startsOf, stringAt, stringsUpTo}
 use Rattle.table.specs.Wide.{starts-number, start-is}
 use Rattle.interner.specs.declared.StrInterner.{StrInterner as Interner}
 use Rattle.interner.specs.State.{stateOf, Good}
-use Rattle.graft.specs.Grafted.{bytes-append}
 use Rattle.put_records.specs.Written.{word-rest}
+use Rattle.put_records.specs.Runs.{bytes-append}
 
 -- the length of string k
 abbrev pub newLength : List ℕ → ℕ → ℕ

@@ -18,7 +18,6 @@ use Rattle.laws.specs.Located.{isBefore, isBehind}
 use Rattle.laws.specs.Fits.{recordFits}
 use Rattle.laws.specs.Records.{diagnostic-lawful}
 use Rattle.wire.specs.Overwrite.{overwrite, length-overwrite, overwrite-next, drop-overwrite, Wrote, wrote-next}
-use Rattle.graft.specs.Grafted.{bytes-append}
 use Rattle.records.specs.Runs.{run-length}
 use Rattle.splice.specs.Spliced.{spliced-length, spliced-written, records-stand}
 use Rattle.diagnostics.specs.Sorted.{sort-length}
@@ -29,6 +28,7 @@ use Rattle.tape.specs.Placed.{PlacesFit, fit-nodes, fit-pairs, fit-containers, 
 use Rattle.merged_lists.specs.declared.Kept.{Kept}
 use Rattle.merged_lists.specs.Sizes.{sidesOf, keptOf, totalOf, Small, listsEnd}
 use Rattle.merged_lists.specs.Widths.{sixWords, nodes-width, nodes-six, spliced-six, pairs-width, containers-width, diagnostics-width, records-moved}
+use Rattle.put_records.specs.Runs.{bytes-append}
 
 -- ---- definitions
 

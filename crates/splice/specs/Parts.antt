@@ -14,10 +14,9 @@ use Rattle.laws.specs.Lists.{map-append}
 use Rattle.laws.specs.Keep.{keep-append}
 use Rattle.wire.specs.Overwrite.{overwrite, Wrote, wrote-none, wrote-next, overwrite-nil, length-overwrite}
 use Rattle.wire.specs.Loops.{by-bool}
-use Rattle.graft.specs.Records.{records-more, records-parts}
-use Rattle.graft.specs.Grafted.{bytes-append}
 use Rattle.splice.specs.declared.Part.{Part}
 use Rattle.splice.specs.declared.Part.the-variants.{Before, Reading, Behind}
+use Rattle.put_records.specs.Runs.{records-more, records-parts, bytes-append}
 
 -- is what lies from start to end in this part, with the region from `from` to `to`?
 unfoldable pub spanIn : Part → ℕ → ℕ → ℕ → ℕ → Bool

@@ -14,9 +14,9 @@ use Rattle.laws.specs.Fits.{recordFits}
 use Rattle.laws.specs.Records.{Lawful, record-length, record-stands}
 use Rattle.wire.specs.Overwrite.{overwrite, Wrote, wrote-next}
 use Rattle.records.specs.Runs.{run-cons, run-none, run-length}
-use Rattle.graft.specs.Grafted.{bytes-append}
 use Rattle.splice.specs.Parts.{Kind, part-before, part-reading, part-behind, bytes-long}
 use Rattle.splice.specs.declared.Part.the-variants.{Before, Reading, Behind}
+use Rattle.put_records.specs.Runs.{bytes-append}
 
 -- ---- lengths
 
