@@ -181,6 +181,8 @@ fn with_words(words: [u32; 6], i: usize, f: sizes::FieldWords, v: u32) -> Six
     Six { words: words }
 }
 
+// ---- parts of the walk
+
 fn words_of(mark: Mark, six: Six) -> Words
     ensures { λ r. ⌜ (r .mark ≡ mark) × (r .words ≡ six .words) ⌝ }
 {
@@ -266,6 +268,8 @@ fn pushed_segments(p: Plan, r: Mark, to: u32, len: u32) -> Start
         at: p.segments + to,
     }
 }
+
+// ---- the walk: nine functions that call each other, the level falling on each turn
 
 // Section 5. `graft_node`: the words of the body at `at`, whose runs are pushed.
 pub fn graft_body(

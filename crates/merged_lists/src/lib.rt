@@ -18,11 +18,11 @@ ghost use Rattle.merged_lists.specs.Sizes.{sidesOf, keptOf, Few, Small, 
 ghost use Rattle.merged_lists.specs.Lists.{listsOf, Lists, nodeBytes, pairBytes, containerBytes, diagnosticBytes};
 ghost use Rattle.output.specs.Answer.{outputBy};
 
-pub const MAX_TEXT: usize = 16777215;
+const MAX_TEXT: usize = 16777215;
 
-pub const MAX_LIST: usize = 262143;
+const MAX_LIST: usize = 262143;
 
-pub const MIN_WORK_WORDS: usize = 16384;
+const MIN_WORK_WORDS: usize = 16384;
 
 // How many old elements of a list are kept before the region, and behind it.
 pub struct Sides {
@@ -357,8 +357,6 @@ pub fn put_lists(
     );
     wire::put_u8(out, diagnosticsat + 18 * count, 10);
 }
-
-// ---- the answer
 
 // Section 7. reused: old nodes kept on either side; reread: the reading's.
 pub fn output_of(

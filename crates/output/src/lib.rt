@@ -1,6 +1,5 @@
 // What a merge answers, document 01 section 7.
 ghost use mathlib.Core.Path.{_≡_};
-ghost use Prim.Native.Nat.{_-_};
 ghost use Rattle.output.specs.Answer.{refusedOutput};
 
 // Section 7. What is returned: a number, or 0 and the region, old nodes kept, the reading's nodes, the seven counts, and how many bytes
