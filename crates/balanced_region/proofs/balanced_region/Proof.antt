@@ -8,15 +8,12 @@ use Rattle.balanced_region.proofs.balanced_region.Lts as lts
 use Rattle.balanced_region.proofs.region_end.Reads as region-end-reads
 use Rattle.balanced_region.proofs.region_start.Reads as region-start-reads
 
--- src/lib.rt:438:16
 region-start-requires : tie.Need-region-start-requires
 region-start-requires c κs = search needs
 
--- src/lib.rt:439:14
 region-end-requires : tie.Need-region-end-requires
 region-end-requires c κs = search needs
 
--- src/lib.rt:431:1
 returns : tie.Need-returns
 unfolding balancedIn
 returns c = rw (c .before .region-start .ensures, c .region-end .ensures) refl

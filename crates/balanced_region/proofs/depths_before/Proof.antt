@@ -14,43 +14,33 @@ Inv-loop tape nodes bound d₀ d = Passing tape nodes bound d
 abbrev μ-loop : tie.MeasureT-loop
 μ-loop tape nodes bound d₀ d = nodes .count - d .count
 
--- src/lib.rt:409:5
 loop-holds : tie.Need-loop-holds Inv-loop μ-loop
 loop-holds c = passing-none _ _ _
 
--- src/lib.rt:410:28
 mul-p : tie.Need-mul-p Inv-loop μ-loop
 mul-p c = omega arith
 
--- src/lib.rt:410:17
 add-p : tie.Need-add-p Inv-loop μ-loop
 add-p c = omega arith
 
--- src/lib.rt:411:21
 node-start-requires : tie.Need-node-start-requires Inv-loop μ-loop
 node-start-requires c κs = omega arith
 
--- src/lib.rt:411:21
 cast-if2 : tie.Need-cast-if2 Inv-loop μ-loop
 cast-if2 c = omega arith
 
--- src/lib.rt:412:13
 returns : tie.Need-returns Inv-loop μ-loop
 returns c = passing-stop (c .before .before .before .before .before .before .before .loop .inv) (c .before .before .before .before .if1 .taken) _ (c .before .node-start .ensures) (c .if2 .taken)
 
--- src/lib.rt:414:9
 depths-past-requires : tie.Need-depths-past-requires Inv-loop μ-loop
 depths-past-requires c κs = omega arith
 
--- src/lib.rt:409:5
 loop-less : tie.Need-loop-less Inv-loop μ-loop
 loop-less c = omega (arith, past-count _ _ _ (c .depths-past .ensures))
 
--- src/lib.rt:409:5
 loop-again : tie.Need-loop-again Inv-loop μ-loop
 loop-again c = passing-more (c .before .before .before .before .before .before .before .before .loop .inv) (c .before .before .before .before .before .if1 .taken) _ (c .before .before .node-start .ensures) (c .before .if2 .left) _ (c .depths-past .ensures)
 
--- src/lib.rt:399:1
 returns-2 : tie.Need-returns-2 Inv-loop μ-loop
 returns-2 c = passing-done (c .before .before .before .loop .inv) (c .if1 .left)
 

@@ -9,23 +9,18 @@ use Rattle.cuts.proofs.block_depth.Reads as block-depth-reads
 use Rattle.balanced_region.proofs.last_unmatched.Reads as last-unmatched-reads
 use Rattle.cuts.proofs.warichu_depth.Reads as warichu-depth-reads
 
--- src/lib.rt:391:16
 add-t4 : tie.Need-add-t4
 add-t4 c = search needs
 
--- src/lib.rt:392:17
 block-depth-requires : tie.Need-block-depth-requires
 block-depth-requires c κs = search needs
 
--- src/lib.rt:393:18
 warichu-depth-requires : tie.Need-warichu-depth-requires
 warichu-depth-requires c κs = search needs
 
--- src/lib.rt:394:20
 last-unmatched-requires : tie.Need-last-unmatched-requires
 last-unmatched-requires c κs = search needs
 
--- src/lib.rt:386:1
 returns : tie.Need-returns
 unfolding depthsPast
 returns c = rw (c .before .before .block-depth .ensures, c .before .warichu-depth .ensures, c .last-unmatched .ensures) refl

@@ -10,27 +10,21 @@ use Rattle.cuts.proofs.blank_line_before.Reads as blank-line-before-reads
 use Rattle.cuts.proofs.pair_across.Reads as pair-across-reads
 use Rattle.balanced_region.proofs.start_or.Reads as start-or-reads
 
--- src/lib.rt:424:9
 blank-line-before-requires : tie.Need-blank-line-before-requires
 blank-line-before-requires c κs = search needs
 
--- src/lib.rt:425:16
 sub-result : tie.Need-sub-result
 sub-result c = search needs
 
--- src/lib.rt:425:9
 returns : tie.Need-returns
 returns c = earlier-no-line _ _ _ _ (c .before .blank-line-before .ensures) (not-true _ (c .if1 .taken))
 
--- src/lib.rt:427:14
 pair-across-requires : tie.Need-pair-across-requires
 pair-across-requires c κs = search needs
 
--- src/lib.rt:427:5
 start-or-requires : tie.Need-start-or-requires
 start-or-requires c κs = search needs
 
--- src/lib.rt:420:1
 returns-2 : tie.Need-returns-2
 returns-2 c = c .start-or .ensures ∙ earlier-pair _ _ _ _ (c .before .before .before .blank-line-before .ensures) (not-false _ (c .before .before .if1 .left)) _ (c .before .pair-across .ensures)
 

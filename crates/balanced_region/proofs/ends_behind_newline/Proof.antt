@@ -8,21 +8,17 @@ use Rattle.balanced_region.proofs.ends_behind_newline.Tie as tie
 use Rattle.balanced_region.proofs.ends_behind_newline.Reads as reads
 use Rattle.balanced_region.proofs.ends_behind_newline.Lts as lts
 
--- src/lib.rt:374:9
 returns : tie.Need-returns
 unfolding endsBehindNewline
 returns c = rw (ne-eqb _ _ (c .if1 .taken)) refl
 
--- src/lib.rt:377:9
 returns-2 : tie.Need-returns-2
 unfolding endsBehindNewline
 returns-2 c = rw (lt-leb 1 _ (c .if2 .taken), and-false) refl
 
--- src/lib.rt:379:5
 shared-slice-read-result : tie.Need-shared-slice-read-result
 shared-slice-read-result c = search needs
 
--- src/lib.rt:369:1
 returns-3 : tie.Need-returns-3
 unfolding endsBehindNewline
 returns-3 c = rw (eq-eqb _ _ (c .before .before .if1 .left), le-leb 1 _ (c .before .if2 .left)) refl

@@ -14,27 +14,21 @@ Inv-loop tape text pairs lo hi c₀ c = Tried (textPairsAllow text (pairsOf tape
 abbrev μ-loop : tie.MeasureT-loop
 μ-loop tape text pairs lo hi c₀ c = hi - c
 
--- src/lib.rt:261:5
 loop-holds : tie.Need-loop-holds Inv-loop μ-loop
 loop-holds c = tried-start _ _
 
--- src/lib.rt:262:13
 next-try-requires : tie.Need-next-try-requires Inv-loop μ-loop
 next-try-requires c κs = omega arith
 
--- src/lib.rt:264:13
 returns : tie.Need-returns Inv-loop μ-loop
 returns c = tried-found _ _ (c .before .before .before .loop .inv) _ (c .before .next-try .ensures) _ (c .before .before .loop-test .taken) (c .if1 .taken)
 
--- src/lib.rt:261:5
 loop-less : tie.Need-loop-less Inv-loop μ-loop
 loop-less c = omega (arith, try-rises _ _ _ _ (c .before .next-try .ensures) (c .if1 .left))
 
--- src/lib.rt:261:5
 loop-again : tie.Need-loop-again Inv-loop μ-loop
 loop-again c = tried-more _ _ (c .before .before .before .loop .inv) _ (c .before .next-try .ensures)
 
--- src/lib.rt:256:1
 returns-2 : tie.Need-returns-2 Inv-loop μ-loop
 returns-2 c = tried-none (c .before .loop .inv) _ (c .loop-test .left)
 

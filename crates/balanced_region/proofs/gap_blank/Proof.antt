@@ -8,19 +8,15 @@ use Rattle.balanced_region.proofs.gap_blank.Lts as lts
 use Rattle.cuts.proofs.depths_zero.Reads as depths-zero-reads
 use Rattle.balanced_region.proofs.last_blank.Reads as last-blank-reads
 
--- src/lib.rt:336:9
 depths-zero-requires : tie.Need-depths-zero-requires
 depths-zero-requires c κs = search needs
 
--- src/lib.rt:337:9
 returns : tie.Need-returns
 returns c = blank-closed _ _ _ _ _ _ _ (c .before .depths-zero .ensures) (not-true _ (c .if1 .taken))
 
--- src/lib.rt:339:5
 last-blank-requires : tie.Need-last-blank-requires
 last-blank-requires c κs = search needs
 
--- src/lib.rt:332:1
 returns-2 : tie.Need-returns-2
 returns-2 c = blank-open _ _ _ _ _ _ _ (c .before .before .depths-zero .ensures) (not-false _ (c .before .if1 .left)) _ (c .last-blank .ensures)
 

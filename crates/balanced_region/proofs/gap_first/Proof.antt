@@ -9,27 +9,21 @@ use Rattle.balanced_region.proofs.first_cut_in.Reads as first-cut-in-re
 use Rattle.cuts.proofs.depths_zero.Reads as depths-zero-reads
 use Rattle.balanced_region.proofs.later.Reads as later-reads
 
--- src/lib.rt:285:9
 depths-zero-requires : tie.Need-depths-zero-requires
 depths-zero-requires c κs = search needs
 
--- src/lib.rt:286:9
 returns : tie.Need-returns
 returns c = gap-closed _ _ _ _ _ _ _ (c .before .depths-zero .ensures) (not-true _ (c .if1 .taken))
 
--- src/lib.rt:288:49
 add-later : tie.Need-add-later
 add-later c = search needs
 
--- src/lib.rt:288:37
 later-requires : tie.Need-later-requires
 later-requires c κs = search needs
 
--- src/lib.rt:288:5
 first-cut-in-requires : tie.Need-first-cut-in-requires
 first-cut-in-requires c κs = search needs
 
--- src/lib.rt:281:1
 returns-2 : tie.Need-returns-2
 returns-2 c = gap-open _ _ _ _ _ _ _ (c .before .before .before .depths-zero .ensures) (not-false _ (c .before .before .if1 .left)) _ (c .before .later .ensures) _ (c .first-cut-in .ensures)
 

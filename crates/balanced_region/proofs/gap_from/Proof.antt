@@ -6,31 +6,24 @@ use Rattle.balanced_region.proofs.gap_from.Reads as reads
 use Rattle.balanced_region.proofs.gap_from.Lts as lts
 use Rattle.records.proofs.node_end.Reads as node-end-reads
 
--- src/lib.rt:480:9
 returns : tie.Need-returns
 returns c = gap-first-node _ _ _ (c .if1 .taken)
 
--- src/lib.rt:482:46
 sub-node-end : tie.Need-sub-node-end
 sub-node-end c = search needs
 
--- src/lib.rt:482:40
 mul-node-end : tie.Need-mul-node-end
 mul-node-end c = search needs
 
--- src/lib.rt:482:29
 add-node-end : tie.Need-add-node-end
 add-node-end c = search needs
 
--- src/lib.rt:482:5
 node-end-requires : tie.Need-node-end-requires
 node-end-requires c κs = search needs
 
--- src/lib.rt:482:5
 cast-result : tie.Need-cast-result
 cast-result c = search needs
 
--- src/lib.rt:475:1
 returns-2 : tie.Need-returns-2
 returns-2 c = gap-behind _ _ _ (c .before .before .if1 .left) _ (c .node-end .ensures)
 

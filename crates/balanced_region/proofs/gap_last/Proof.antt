@@ -9,27 +9,21 @@ use Rattle.cuts.proofs.depths_zero.Reads as depths-zero-reads
 use Rattle.balanced_region.proofs.earlier.Reads as earlier-reads
 use Rattle.balanced_region.proofs.last_try.Reads as last-try-reads
 
--- src/lib.rt:468:9
 depths-zero-requires : tie.Need-depths-zero-requires
 depths-zero-requires c κs = search needs
 
--- src/lib.rt:469:24
 sub-earlier : tie.Need-sub-earlier
 sub-earlier c = search needs
 
--- src/lib.rt:469:9
 earlier-requires : tie.Need-earlier-requires
 earlier-requires c κs = search needs
 
--- src/lib.rt:469:9
 returns : tie.Need-returns
 returns c = last-closed _ _ _ _ _ _ _ (c .before .before .depths-zero .ensures) (not-true _ (c .before .if1 .taken)) _ (c .earlier .ensures)
 
--- src/lib.rt:471:5
 last-try-requires : tie.Need-last-try-requires
 last-try-requires c κs = search needs
 
--- src/lib.rt:456:1
 returns-2 : tie.Need-returns-2
 returns-2 c = last-open _ _ _ _ _ _ _ (c .before .before .depths-zero .ensures) (not-false _ (c .before .if1 .left)) _ (c .last-try .ensures)
 

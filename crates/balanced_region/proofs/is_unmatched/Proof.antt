@@ -8,27 +8,21 @@ use Rattle.cuts.proofs.closes_nothing.Reads as closes-nothing-reads
 use Rattle.cuts.proofs.is_block_close.Reads as is-block-close-reads
 use Rattle.cuts.proofs.is_warichu_close.Reads as is-warichu-close-reads
 
--- src/lib.rt:370:23
 is-block-close-requires : tie.Need-is-block-close-requires
 is-block-close-requires c κs = search needs
 
--- src/lib.rt:370:8
 closes-nothing-requires : tie.Need-closes-nothing-requires
 closes-nothing-requires c κs = search needs
 
--- src/lib.rt:371:9
 returns : tie.Need-returns
 returns c = unmatched-block _ _ _ (c .before .before .is-block-close .ensures) _ (c .before .closes-nothing .ensures) (c .if1 .taken)
 
--- src/lib.rt:373:20
 is-warichu-close-requires : tie.Need-is-warichu-close-requires
 is-warichu-close-requires c κs = search needs
 
--- src/lib.rt:373:5
 closes-nothing-requires-2 : tie.Need-closes-nothing-requires-2
 closes-nothing-requires-2 c κs = search needs
 
--- src/lib.rt:366:1
 returns-2 : tie.Need-returns-2
 returns-2 c = unmatched-warichu _ _ _ (c .before .before .before .before .is-block-close .ensures) _ (c .before .before .before .closes-nothing .ensures) (c .before .before .if1 .left) _ (c .before .is-warichu-close .ensures) _ (c .closes-nothing2 .ensures)
 

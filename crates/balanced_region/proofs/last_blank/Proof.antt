@@ -15,39 +15,30 @@ Inv-loop text lo hi d c₀ c = (c ≤ hi) × (lastFrom (blankLineBefore text) (c
 abbrev μ-loop : tie.MeasureT-loop
 μ-loop text lo hi d c₀ c = c - lo
 
--- src/lib.rt:322:5
 loop-holds : tie.Need-loop-holds Inv-loop μ-loop
 loop-holds c = (omega arith, refl)
 
--- src/lib.rt:323:36
 sub-blank-line-before : tie.Need-sub-blank-line-before Inv-loop μ-loop
 sub-blank-line-before c = omega arith
 
--- src/lib.rt:323:12
 blank-line-before-requires : tie.Need-blank-line-before-requires Inv-loop μ-loop
 blank-line-before-requires c κs = omega arith
 
--- src/lib.rt:324:20
 sub-result : tie.Need-sub-result Inv-loop μ-loop
 sub-result c = omega arith
 
--- src/lib.rt:324:13
 returns : tie.Need-returns Inv-loop μ-loop
 returns c = sym (last-stop _ _ _ _ (c .before .before .loop-test .taken) (sym (c .before .blank-line-before .ensures) ∙ c .if1 .taken)) ∙ c .before .before .before .loop .inv .1
 
--- src/lib.rt:326:9
 sub-c : tie.Need-sub-c Inv-loop μ-loop
 sub-c c = omega arith
 
--- src/lib.rt:322:5
 loop-less : tie.Need-loop-less Inv-loop μ-loop
 loop-less c = omega arith
 
--- src/lib.rt:322:5
 loop-again : tie.Need-loop-again Inv-loop μ-loop
 loop-again c = (omega arith, sym (last-turn _ _ _ _ (c .before .before .loop-test .taken) (sym (c .before .blank-line-before .ensures) ∙ c .if1 .left)) ∙ c .before .before .before .loop .inv .1)
 
--- src/lib.rt:317:1
 returns-2 : tie.Need-returns-2 Inv-loop μ-loop
 returns-2 c = sym (last-done _ _ _ _ (c .loop-test .left)) ∙ c .before .loop .inv .1
 

@@ -18,75 +18,57 @@ Inv-loop tape text nodes pairs d bound i₀ blocks₀ warichu₀ hi₀ i blocks 
 abbrev μ-loop : tie.MeasureT-loop
 μ-loop tape text nodes pairs d bound i₀ blocks₀ warichu₀ hi₀ i blocks warichu hi = i
 
--- src/lib.rt:503:5
 loop-holds : tie.Need-loop-holds Inv-loop μ-loop
 loop-holds c = down-none (c .before .before .pre .1 .0) (c .before .before .pre .1 .1)
 
--- src/lib.rt:504:13
 gap-from-requires : tie.Need-gap-from-requires Inv-loop μ-loop
 gap-from-requires c κs = omega arith
 
--- src/lib.rt:505:13
 gap-last-requires : tie.Need-gap-last-requires Inv-loop μ-loop
 gap-last-requires c κs = (c .before .before .before .before .before .before .pre .0 .1, omega arith, down-positive (c .before .before .before .before .before .before .pre .1 .0) (c .before .before .before .before .before .before .pre .1 .1) (c .before .before .before .loop .inv) _ (c .gap-from .ensures))
 
--- src/lib.rt:507:13
 returns : tie.Need-returns Inv-loop μ-loop
 returns c = down-found (c .before .before .before .before .before .before .before .before .pre .1 .0) (c .before .before .before .before .before .before .before .before .pre .1 .1) (c .before .before .before .before .before .loop .inv) _ (c .before .before .gap-from .ensures) _ (c .before .gap-last .ensures) (c .if2 .taken)
 
--- src/lib.rt:509:9
 sub-i : tie.Need-sub-i Inv-loop μ-loop
 sub-i c = omega arith
 
--- src/lib.rt:510:28
 mul-p : tie.Need-mul-p Inv-loop μ-loop
 mul-p c = omega arith
 
--- src/lib.rt:510:17
 add-p : tie.Need-add-p Inv-loop μ-loop
 add-p c = omega arith
 
--- src/lib.rt:511:25
 node-start-requires : tie.Need-node-start-requires Inv-loop μ-loop
 node-start-requires c κs = omega arith
 
--- src/lib.rt:511:25
 cast-earlier : tie.Need-cast-earlier Inv-loop μ-loop
 cast-earlier c = omega arith
 
--- src/lib.rt:511:9
 earlier-requires : tie.Need-earlier-requires Inv-loop μ-loop
 earlier-requires c κs = omega arith
 
--- src/lib.rt:512:9
 block-before-requires : tie.Need-block-before-requires Inv-loop μ-loop
 block-before-requires c κs = omega arith
 
--- src/lib.rt:513:9
 warichu-before-requires : tie.Need-warichu-before-requires Inv-loop μ-loop
 warichu-before-requires c κs = omega arith
 
--- src/lib.rt:503:5
 loop-less : tie.Need-loop-less Inv-loop μ-loop
 loop-less c = omega arith
 
--- src/lib.rt:503:5
 loop-again : tie.Need-loop-again Inv-loop μ-loop
 loop-again c = down-more (c .before .before .before .before .before .before .before .before .before .before .before .before .before .pre .1 .0) (c .before .before .before .before .before .before .before .before .before .before .before .before .before .pre .1 .1) (c .before .before .before .before .before .before .before .before .before .before .loop .inv) _ (c .before .before .before .before .before .before .before .gap-from .ensures) _ (c .before .before .before .before .before .before .gap-last .ensures) (c .before .before .before .before .before .if2 .left) _ refl (c .before .before .before .before .before .before .before .before .if1 .taken) _ (c .before .before .before .node-start .ensures) _ (c .before .before .earlier .ensures) _ _ (c .before .block-before .ensures) (c .warichu-before .ensures)
 
--- src/lib.rt:515:9
 gap-from-requires-2 : tie.Need-gap-from-requires-2 Inv-loop μ-loop
 gap-from-requires-2 c κs = omega arith
 
--- src/lib.rt:516:9
 gap-last-requires-2 : tie.Need-gap-last-requires-2 Inv-loop μ-loop
 gap-last-requires-2 c κs = (c .before .before .before .before .before .before .pre .0 .1, omega arith, down-positive (c .before .before .before .before .before .before .pre .1 .0) (c .before .before .before .before .before .before .pre .1 .1) (c .before .before .before .loop .inv) _ (c .gap-from2 .ensures))
 
--- src/lib.rt:518:9
 returns-2 : tie.Need-returns-2 Inv-loop μ-loop
 returns-2 c = down-found (c .before .before .before .before .before .before .before .before .pre .1 .0) (c .before .before .before .before .before .before .before .before .pre .1 .1) (c .before .before .before .before .before .loop .inv) _ (c .before .before .gap-from2 .ensures) _ (c .before .gap-last2 .ensures) (c .if3 .taken)
 
--- src/lib.rt:486:1
 returns-3 : tie.Need-returns-3 Inv-loop μ-loop
 returns-3 c = down-done (c .before .before .before .before .before .before .before .before .pre .1 .0) (c .before .before .before .before .before .before .before .before .pre .1 .1) (c .before .before .before .before .before .loop .inv) _ (c .before .before .gap-from2 .ensures) _ (c .before .gap-last2 .ensures) (c .before .before .before .if1 .left) (c .if3 .left)
 

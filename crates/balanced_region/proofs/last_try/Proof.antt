@@ -13,27 +13,21 @@ Inv-loop tape text pairs lo hi c₀ c = Trying text (pairsOf tape pairs) lo hi c
 abbrev μ-loop : tie.MeasureT-loop
 μ-loop tape text pairs lo hi c₀ c = c
 
--- src/lib.rt:436:5
 loop-holds : tie.Need-loop-holds Inv-loop μ-loop
 loop-holds c = trying-start _ _ _ _
 
--- src/lib.rt:437:13
 earlier-try-requires : tie.Need-earlier-try-requires Inv-loop μ-loop
 earlier-try-requires c κs = omega arith
 
--- src/lib.rt:439:13
 returns : tie.Need-returns Inv-loop μ-loop
 returns c = trying-found _ _ _ (c .before .before .before .loop .inv) _ (c .before .earlier-try .ensures) (c .if1 .taken)
 
--- src/lib.rt:436:5
 loop-less : tie.Need-loop-less Inv-loop μ-loop
 loop-less c = trying-falls _ _ _ (c .before .before .before .loop .inv) _ (c .before .earlier-try .ensures) (c .if1 .left)
 
--- src/lib.rt:436:5
 loop-again : tie.Need-loop-again Inv-loop μ-loop
 loop-again c = trying-more _ _ _ (c .before .before .before .loop .inv) _ (c .before .earlier-try .ensures) (omega arith) (c .before .before .loop-test .taken) (c .if1 .left)
 
--- src/lib.rt:431:1
 returns-2 : tie.Need-returns-2 Inv-loop μ-loop
 returns-2 c = trying-done _ _ _ (c .before .loop .inv) (omega arith)
 

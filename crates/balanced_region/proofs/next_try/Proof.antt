@@ -10,27 +10,21 @@ use Rattle.cuts.proofs.blank_line_before.Reads as blank-line-before-reads
 use Rattle.balanced_region.proofs.end_or.Reads as end-or-reads
 use Rattle.cuts.proofs.pair_across.Reads as pair-across-reads
 
--- src/lib.rt:249:9
 blank-line-before-requires : tie.Need-blank-line-before-requires
 blank-line-before-requires c κs = search needs
 
--- src/lib.rt:250:16
 add-result : tie.Need-add-result
 add-result c = search needs
 
--- src/lib.rt:250:9
 returns : tie.Need-returns
 returns c = try-no-line _ _ _ _ (c .before .blank-line-before .ensures) (not-true _ (c .if1 .taken))
 
--- src/lib.rt:252:12
 pair-across-requires : tie.Need-pair-across-requires
 pair-across-requires c κs = search needs
 
--- src/lib.rt:252:5
 end-or-requires : tie.Need-end-or-requires
 end-or-requires c κs = search needs
 
--- src/lib.rt:245:1
 returns-2 : tie.Need-returns-2
 returns-2 c = c .end-or .ensures ∙ try-pair _ _ _ _ (c .before .before .before .blank-line-before .ensures) (not-false _ (c .before .before .if1 .left)) _ (c .before .pair-across .ensures)
 

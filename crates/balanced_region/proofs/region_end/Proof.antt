@@ -17,71 +17,54 @@ Inv-loop tape text nodes pairs o from₀ blocks₀ warichu₀ i₀ from blocks w
 abbrev μ-loop : tie.MeasureT-loop
 μ-loop tape text nodes pairs o from₀ blocks₀ warichu₀ i₀ from blocks warichu i = nodes .count - i
 
--- src/lib.rt:301:5
 loop-holds : tie.Need-loop-holds Inv-loop μ-loop
 loop-holds c = end-walk-none _ _ _ _ _ (c .before .before .pre .1)
 
--- src/lib.rt:302:28
 mul-p : tie.Need-mul-p Inv-loop μ-loop
 mul-p c = omega arith
 
--- src/lib.rt:302:17
 add-p : tie.Need-add-p Inv-loop μ-loop
 add-p c = omega arith
 
--- src/lib.rt:303:21
 node-start-requires : tie.Need-node-start-requires Inv-loop μ-loop
 node-start-requires c κs = omega arith
 
--- src/lib.rt:303:21
 cast-start : tie.Need-cast-start Inv-loop μ-loop
 cast-start c = omega arith
 
--- src/lib.rt:304:55
 add-gap-first : tie.Need-add-gap-first Inv-loop μ-loop
 add-gap-first c = omega arith
 
--- src/lib.rt:304:13
 gap-first-requires : tie.Need-gap-first-requires Inv-loop μ-loop
 gap-first-requires c κs = omega (arith, end-walk-inside (c .before .before .before .before .loop .inv) (c .before .before .if1 .taken) _ (c .node-start .ensures))
 
--- src/lib.rt:306:13
 returns : tie.Need-returns Inv-loop μ-loop
 returns c = end-walk-found (c .before .before .before .before .before .before .loop .inv) (c .before .before .before .before .if1 .taken) _ (c .before .before .node-start .ensures) _ (c .before .gap-first .ensures) (c .before .before .before .before .before .before .before .before .before .pre .0 .2) (c .if2 .taken)
 
--- src/lib.rt:308:16
 node-end-requires : tie.Need-node-end-requires Inv-loop μ-loop
 node-end-requires c κs = omega arith
 
--- src/lib.rt:308:16
 cast-from : tie.Need-cast-from Inv-loop μ-loop
 cast-from c = omega arith
 
--- src/lib.rt:309:9
 block-depth-requires : tie.Need-block-depth-requires Inv-loop μ-loop
 block-depth-requires c κs = omega arith
 
--- src/lib.rt:310:9
 warichu-depth-requires : tie.Need-warichu-depth-requires Inv-loop μ-loop
 warichu-depth-requires c κs = omega arith
 
--- src/lib.rt:311:9
 add-i : tie.Need-add-i Inv-loop μ-loop
 add-i c = omega arith
 
--- src/lib.rt:301:5
 loop-less : tie.Need-loop-less Inv-loop μ-loop
 loop-less c = omega arith
 
--- src/lib.rt:301:5
 loop-again : tie.Need-loop-again Inv-loop μ-loop
 loop-again c = end-walk-more (c .before .before .before .before .before .before .before .before .before .loop .inv) (c .before .before .before .before .before .before .before .if1 .taken) _ (c .before .before .before .before .before .node-start .ensures) _ (c .before .before .before .before .gap-first .ensures) (c .before .before .before .if2 .left) _ (c .before .before .node-end .ensures) _ _ (c .before .block-depth .ensures) (c .warichu-depth .ensures)
 
--- src/lib.rt:313:5
 gap-first-requires-2 : tie.Need-gap-first-requires-2 Inv-loop μ-loop
 gap-first-requires-2 c κs = omega arith
 
--- src/lib.rt:292:1
 returns-2 : tie.Need-returns-2 Inv-loop μ-loop
 returns-2 c = end-walk-done (c .before .before .before .loop .inv) (c .before .if1 .left) (c .before .before .before .before .before .before .pre .0 .2) _ (c .gap-first2 .ensures)
 

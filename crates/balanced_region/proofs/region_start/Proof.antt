@@ -19,71 +19,54 @@ Inv-loop tape text nodes pairs o bound₀ front₀ bound front = StartWalk text 
 abbrev μ-loop : tie.MeasureT-loop
 μ-loop tape text nodes pairs o bound₀ front₀ bound front = front
 
--- src/lib.rt:638:8
 ends-behind-newline-requires : tie.Need-ends-behind-newline-requires Inv-loop μ-loop
 ends-behind-newline-requires c κs = omega arith
 
--- src/lib.rt:639:9
 returns : tie.Need-returns Inv-loop μ-loop
 returns c = start-end _ _ _ _ (sym (c .before .ends-behind-newline .ensures) ∙ c .if1 .taken)
 
--- src/lib.rt:643:5
 loop-holds : tie.Need-loop-holds Inv-loop μ-loop
 loop-holds c = start-walk-none _ _ _ _ _ (c .before .before .before .before .pre .0 .2) _ (c .before .ends-behind-newline .ensures) (c .if1 .left)
 
--- src/lib.rt:644:13
 depths-before-requires : tie.Need-depths-before-requires Inv-loop μ-loop
 depths-before-requires c κs = omega arith
 
--- src/lib.rt:652:13
 last-cut-requires : tie.Need-last-cut-requires Inv-loop μ-loop
 last-cut-requires c κs = ((c .before .before .before .before .before .before .before .pre .0 .0, c .before .before .before .before .before .before .before .pre .0 .1, omega arith), (c .before .before .before .before .before .before .before .pre .1, start-front (c .before .before .loop .inv) _ (c .depths-before .ensures)))
 
--- src/lib.rt:654:13
 returns-2 : tie.Need-returns-2 Inv-loop μ-loop
 returns-2 c = start-walk-found (c .before .before .before .before .loop .inv) _ (c .before .before .depths-before .ensures) (c .before .before .before .before .before .before .before .before .before .pre .1) _ (c .before .last-cut .ensures) (c .if2 .taken)
 
--- src/lib.rt:657:13
 returns-3 : tie.Need-returns-3 Inv-loop μ-loop
 returns-3 c = start-walk-first (c .before .before .before .before .before .before .loop .inv) _ (c .before .before .before .before .depths-before .ensures) (c .before .before .before .before .before .before .before .before .before .before .before .pre .1) _ (c .before .before .before .last-cut .ensures) (c .before .before .if2 .left) (c .if3 .taken)
 
--- src/lib.rt:659:17
 sub-front : tie.Need-sub-front Inv-loop μ-loop
 sub-front c = omega arith
 
--- src/lib.rt:660:58
 mul-node-start : tie.Need-mul-node-start Inv-loop μ-loop
 mul-node-start c = omega (arith, c .before .if3 .left, start-falls (c .before .before .before .before .before .before .before .loop .inv) _ (c .before .before .before .before .before .depths-before .ensures))
 
--- src/lib.rt:660:47
 add-node-start : tie.Need-add-node-start Inv-loop μ-loop
 add-node-start c = omega (arith, c .before .before .if3 .left, start-falls (c .before .before .before .before .before .before .before .before .loop .inv) _ (c .before .before .before .before .before .before .depths-before .ensures))
 
--- src/lib.rt:660:21
 node-start-requires : tie.Need-node-start-requires Inv-loop μ-loop
 node-start-requires c κs = omega (arith, c .before .before .if3 .left, start-falls (c .before .before .before .before .before .before .before .before .loop .inv) _ (c .before .before .before .before .before .before .depths-before .ensures))
 
--- src/lib.rt:660:21
 cast-start : tie.Need-cast-start Inv-loop μ-loop
 cast-start c = omega arith
 
--- src/lib.rt:661:49
 earlier-requires : tie.Need-earlier-requires Inv-loop μ-loop
 earlier-requires c κs = omega arith
 
--- src/lib.rt:661:9
 last-allowed-requires : tie.Need-last-allowed-requires Inv-loop μ-loop
 last-allowed-requires c κs = ((c .before .before .before .before .before .before .before .before .before .before .before .before .before .before .before .pre .0 .0, omega (arith, c .earlier .ensures)), c .before .before .before .before .before .before .before .before .before .before .before .before .before .before .before .pre .1)
 
--- src/lib.rt:643:5
 loop-less : tie.Need-loop-less Inv-loop μ-loop
 loop-less c = omega (arith, c .before .before .before .before .before .if3 .left, start-falls (c .before .before .before .before .before .before .before .before .before .before .before .loop .inv) _ (c .before .before .before .before .before .before .before .before .before .depths-before .ensures))
 
--- src/lib.rt:643:5
 loop-again : tie.Need-loop-again Inv-loop μ-loop
 loop-again c = start-walk-more (c .before .before .before .before .before .before .before .before .before .before .before .loop .inv) _ (c .before .before .before .before .before .before .before .before .before .depths-before .ensures) (c .before .before .before .before .before .before .before .before .before .before .before .before .before .before .before .before .pre .1) _ (c .before .before .before .before .before .before .before .before .last-cut .ensures) (c .before .before .before .before .before .before .before .if2 .left) (c .before .before .before .before .before .if3 .left) _ refl _ (c .before .before .node-start .ensures) _ (c .before .earlier .ensures) _ (c .last-allowed .ensures)
 
--- src/lib.rt:627:1
 returns-4 : tie.Need-returns-4 Inv-loop μ-loop
 returns-4 c = start-walk-done (c .before .loop .inv) (c .loop-test .left)
 

@@ -7,39 +7,30 @@ use Rattle.bloom.proofs.bits_of.Reads as reads
 use Rattle.bloom.proofs.bits_of.Lts as lts
 use Rattle.bloom.proofs.power.Reads as power-reads
 
--- src/lib.rt:18:19
 cast-power : tie.Need-cast-power
 cast-power c = search needs
 
--- src/lib.rt:18:13
 power-requires : tie.Need-power-requires
 power-requires c κs = search needs
 
--- src/lib.rt:18:44
 cast-power-2 : tie.Need-cast-power-2
 cast-power-2 c = search needs
 
--- src/lib.rt:18:38
 power-requires-2 : tie.Need-power-requires-2
 power-requires-2 c κs = search needs
 
--- src/lib.rt:19:19
 cast-power-3 : tie.Need-cast-power-3
 cast-power-3 c = search needs
 
--- src/lib.rt:19:13
 power-requires-3 : tie.Need-power-requires-3
 power-requires-3 c κs = search needs
 
--- src/lib.rt:19:51
 cast-power-4 : tie.Need-cast-power-4
 cast-power-4 c = search needs
 
--- src/lib.rt:19:45
 power-requires-4 : tie.Need-power-requires-4
 power-requires-4 c κs = search needs
 
--- src/lib.rt:15:1
 returns : tie.Need-returns
 unfolding hashBits
 returns c = rw (c .before .before .before .power .ensures, c .before .before .power2 .ensures, c .before .power3 .ensures, c .power4 .ensures) refl

@@ -9,39 +9,30 @@ use Rattle.bloom.proofs.insert.Lts as lts
 use Rattle.bloom.proofs.bits_of.Reads as bits-of-reads
 use Rattle.bloom.proofs.place_of.Reads as place-of-reads
 
--- src/lib.rt:35:9
 returns : tie.Need-returns
 returns c = sym (inserted-none _ _ _ (c .if1 .taken))
 
--- src/lib.rt:37:9
 place-of-requires : tie.Need-place-of-requires
 place-of-requires c κs = search needs
 
--- src/lib.rt:38:13
 mul-w : tie.Need-mul-w
 mul-w c = let p = found-inside (c .before .before .before .args .words .now) (c .before .before .before .args .base) (c .before .before .before .args .h) (c .before .if1 .left) in omega (arith, p, c .place-of .ensures)
 
--- src/lib.rt:38:13
 slice-read-w : tie.Need-slice-read-w
 slice-read-w c = let p = found-inside (c .before .before .before .before .args .words .now) (c .before .before .before .before .args .base) (c .before .before .before .before .args .h) (c .before .before .if1 .left) in omega (arith, p, c .before .place-of .ensures)
 
--- src/lib.rt:39:20
 bits-of-requires : tie.Need-bits-of-requires
 bits-of-requires c κs = search needs
 
--- src/lib.rt:39:5
 mul-words : tie.Need-mul-words
 mul-words c = let p = found-inside (c .before .before .before .before .before .args .words .now) (c .before .before .before .before .before .args .base) (c .before .before .before .before .before .args .h) (c .before .before .before .if1 .left) in omega (arith, p, c .before .before .place-of .ensures)
 
--- src/lib.rt:39:5
 slice-write-words : tie.Need-slice-write-words
 slice-write-words c = let p = found-inside (c .before .before .before .before .before .args .words .now) (c .before .before .before .before .before .args .base) (c .before .before .before .before .before .args .h) (c .before .before .before .if1 .left) in omega (arith, p, c .before .before .place-of .ensures)
 
--- src/lib.rt:31:1
 same-length : tie.Need-same-length
 same-length c = search needs
 
--- src/lib.rt:31:1
 returns-2 : tie.Need-returns-2
 returns-2 c = inserted-at _ _ _ (c .before .before .before .if1 .left) (c .before .before .place-of .ensures) (c .bits-of .ensures)
 

@@ -9,27 +9,21 @@ use Rattle.bloom.proofs.may_contain.Lts as lts
 use Rattle.bloom.proofs.bits_of.Reads as bits-of-reads
 use Rattle.bloom.proofs.place_of.Reads as place-of-reads
 
--- src/lib.rt:46:9
 returns : tie.Need-returns
 returns c = sym (found-none _ _ _ (c .if1 .taken))
 
--- src/lib.rt:48:9
 place-of-requires : tie.Need-place-of-requires
 place-of-requires c κs = search needs
 
--- src/lib.rt:49:13
 mul-w : tie.Need-mul-w
 mul-w c = let p = found-inside (c .before .before .before .args .words .now) (c .before .before .before .args .base) (c .before .before .before .args .h) (c .before .if1 .left) in omega (arith, p, c .place-of .ensures)
 
--- src/lib.rt:49:13
 shared-slice-read-w : tie.Need-shared-slice-read-w
 shared-slice-read-w c = let p = found-inside (c .before .before .before .before .args .words .now) (c .before .before .before .before .args .base) (c .before .before .before .before .args .h) (c .before .before .if1 .left) in omega (arith, p, c .before .place-of .ensures)
 
--- src/lib.rt:50:9
 bits-of-requires : tie.Need-bits-of-requires
 bits-of-requires c κs = search needs
 
--- src/lib.rt:42:1
 returns-2 : tie.Need-returns-2
 returns-2 c = found-at _ _ _ (c .before .before .before .if1 .left) (c .before .before .place-of .ensures) (c .bits-of .ensures)
 

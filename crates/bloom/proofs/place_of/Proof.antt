@@ -7,20 +7,16 @@ use Rattle.bloom.proofs.place_of.Tie as tie
 use Rattle.bloom.proofs.place_of.Reads as reads
 use Rattle.bloom.proofs.place_of.Lts as lts
 
--- src/lib.rt:27:24
 sub-result : tie.Need-sub-result
 sub-result c = search needs
 
--- src/lib.rt:27:13
 rem-result : tie.Need-rem-result
 rem-result c = search needs
 
--- src/lib.rt:27:5
 add-result : tie.Need-add-result
 unfolding hashPlace
 add-result c = let p = place-inside (c .args .base) (c .args .len) (c .args .h) (c .pre) in omega (arith, p)
 
--- src/lib.rt:23:1
 returns : tie.Need-returns
 unfolding hashPlace
 returns c = refl

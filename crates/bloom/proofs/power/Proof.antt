@@ -5,11 +5,9 @@ use Rattle.bloom.proofs.power.Tie as tie
 use Rattle.bloom.proofs.power.Reads as reads
 use Rattle.bloom.proofs.power.Lts as lts
 
--- src/lib.rt:12:5
 shl-result : tie.Need-shl-result
 shl-result c = search needs
 
--- src/lib.rt:8:1
 returns : tie.Need-returns
 returns c = power-fits _ (c .pre)
 

@@ -5,15 +5,12 @@ use Rattle.bounds.proofs.container_ok.Tie as tie
 use Rattle.bounds.proofs.container_ok.Reads as reads
 use Rattle.bounds.proofs.container_ok.Lts as lts
 
--- src/lib.rt:43:9
 returns : tie.Need-returns
 returns c = container-turned _ _ (c .if1 .taken)
 
--- src/lib.rt:45:6
 cast-result : tie.Need-cast-result
 cast-result c = search needs
 
--- src/lib.rt:39:1
 returns-2 : tie.Need-returns-2
 returns-2 c = container-goes-on _ _ (c .before .if1 .left)
 

@@ -8,15 +8,12 @@ use Rattle.bounds.proofs.container_placed.Lts as lts
 use Rattle.bounds.proofs.container_ok.Reads as container-ok-reads
 use Rattle.records.proofs.container_at.Reads as container-at-reads
 
--- src/lib.rt:59:18
 container-at-requires : tie.Need-container-at-requires
 container-at-requires c κs = search needs
 
--- src/lib.rt:59:5
 container-ok-requires : tie.Need-container-ok-requires
 container-ok-requires c κs = search needs
 
--- src/lib.rt:55:1
 returns : tie.Need-returns
 returns c = c .container-ok .ensures ∙ ap (containerOk (c .before .before .before .args .size)) (c .before .container-at .ensures)
 

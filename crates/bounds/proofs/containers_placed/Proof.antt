@@ -18,41 +18,32 @@ Inv-loop tape at count size i₀ i = (i ≤ count) × Passed (testAt containerCo
 abbrev μ-loop : tie.MeasureT-loop
 μ-loop tape at count size i₀ i = count - i
 
--- src/lib.rt:89:5
 loop-holds : tie.Need-loop-holds Inv-loop μ-loop
 loop-holds c = (omega arith, passed-none _)
 
--- src/lib.rt:90:41
 mul-container-placed : tie.Need-mul-container-placed Inv-loop μ-loop
 mul-container-placed c = omega arith
 
--- src/lib.rt:90:36
 add-container-placed : tie.Need-add-container-placed Inv-loop μ-loop
 add-container-placed c = omega arith
 
--- src/lib.rt:90:13
 container-placed-requires : tie.Need-container-placed-requires Inv-loop μ-loop
 container-placed-requires c κs = omega arith
 
--- src/lib.rt:91:13
 returns : tie.Need-returns Inv-loop μ-loop
 unfolding containerCodec
 returns c = run-failed containerCodec (containerOk (c .before .before .before .before .before .args .size)) (c .before .before .before .before .before .args .tape .now) (c .before .before .before .before .before .args .at) (c .before .before .before .loop .i) _ refl _ (c .before .container-placed .ensures) _ (c .before .before .loop-test .taken) (not-true _ (c .if1 .taken))
 
--- src/lib.rt:93:9
 add-i : tie.Need-add-i Inv-loop μ-loop
 add-i c = omega arith
 
--- src/lib.rt:89:5
 loop-less : tie.Need-loop-less Inv-loop μ-loop
 loop-less c = omega arith
 
--- src/lib.rt:89:5
 loop-again : tie.Need-loop-again Inv-loop μ-loop
 unfolding containerCodec
 loop-again c = (omega arith, run-more containerCodec (containerOk (c .before .before .before .before .before .args .size)) (c .before .before .before .before .before .args .tape .now) (c .before .before .before .before .before .args .at) (c .before .before .before .loop .i) _ refl _ (c .before .container-placed .ensures) (not-false _ (c .if1 .left)) (c .before .before .before .loop .inv .1))
 
--- src/lib.rt:84:1
 returns-2 : tie.Need-returns-2 Inv-loop μ-loop
 returns-2 c = run-passed containerCodec (containerOk (c .before .before .before .args .size)) (c .before .before .before .args .tape .now) (c .before .before .before .args .at) _ (c .before .loop .i) (omega arith) (c .before .loop .inv .1)
 

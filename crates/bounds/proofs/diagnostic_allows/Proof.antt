@@ -6,15 +6,12 @@ use Rattle.bounds.proofs.diagnostic_allows.Tie as tie
 use Rattle.bounds.proofs.diagnostic_allows.Reads as reads
 use Rattle.bounds.proofs.diagnostic_allows.Lts as lts
 
--- src/lib.rt:116:10
 add-result : tie.Need-add-result
 add-result c = search needs
 
--- src/lib.rt:116:5
 shared-slice-read-result : tie.Need-shared-slice-read-result
 shared-slice-read-result c = search needs
 
--- src/lib.rt:112:1
 returns : tie.Need-returns
 unfolding recordAt operandsAt diagnosticCodec
 returns c = refl

@@ -8,27 +8,21 @@ use Rattle.bounds.proofs.diagnostic_placed.Lts as lts
 use Rattle.bounds.proofs.span_ok.Reads as span-ok-reads
 use Rattle.wire.proofs.u32_at.Reads as u32-at-reads
 
--- src/lib.rt:66:32
 add-u32-at : tie.Need-add-u32-at
 add-u32-at c = search needs
 
--- src/lib.rt:66:13
 u32-at-requires : tie.Need-u32-at-requires
 u32-at-requires c κs = search needs
 
--- src/lib.rt:66:60
 add-u32-at-2 : tie.Need-add-u32-at-2
 add-u32-at-2 c = search needs
 
--- src/lib.rt:66:41
 u32-at-requires-2 : tie.Need-u32-at-requires-2
 u32-at-requires-2 c κs = search needs
 
--- src/lib.rt:66:5
 span-ok-requires : tie.Need-span-ok-requires
 span-ok-requires c κs = search needs
 
--- src/lib.rt:62:1
 returns : tie.Need-returns
 unfolding recordAt operandsAt diagnosticCodec
 returns c = c .span-ok .ensures ∙ rw (c .before .before .u32-at .ensures, c .before .u32-at2 .ensures) refl

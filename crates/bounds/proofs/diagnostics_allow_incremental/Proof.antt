@@ -19,41 +19,32 @@ Inv-loop tape at count i₀ i = (i ≤ count) × Passed (testAt diagnosticCodec 
 abbrev μ-loop : tie.MeasureT-loop
 μ-loop tape at count i₀ i = count - i
 
--- src/lib.rt:124:5
 loop-holds : tie.Need-loop-holds Inv-loop μ-loop
 loop-holds c = (omega arith, passed-none _)
 
--- src/lib.rt:125:42
 mul-diagnostic-allows : tie.Need-mul-diagnostic-allows Inv-loop μ-loop
 mul-diagnostic-allows c = omega arith
 
--- src/lib.rt:125:37
 add-diagnostic-allows : tie.Need-add-diagnostic-allows Inv-loop μ-loop
 add-diagnostic-allows c = omega arith
 
--- src/lib.rt:125:13
 diagnostic-allows-requires : tie.Need-diagnostic-allows-requires Inv-loop μ-loop
 diagnostic-allows-requires c κs = omega arith
 
--- src/lib.rt:126:13
 returns : tie.Need-returns Inv-loop μ-loop
 unfolding diagnosticCodec diagnosticsAllowIncremental
 returns c = run-failed diagnosticCodec allowsIncremental (c .before .before .before .before .before .args .tape .now) (c .before .before .before .before .before .args .at) (c .before .before .before .loop .i) _ refl _ (c .before .diagnostic-allows .ensures) _ (c .before .before .loop-test .taken) (not-true _ (c .if1 .taken))
 
--- src/lib.rt:128:9
 add-i : tie.Need-add-i Inv-loop μ-loop
 add-i c = omega arith
 
--- src/lib.rt:124:5
 loop-less : tie.Need-loop-less Inv-loop μ-loop
 loop-less c = omega arith
 
--- src/lib.rt:124:5
 loop-again : tie.Need-loop-again Inv-loop μ-loop
 unfolding diagnosticCodec
 loop-again c = (omega arith, run-more diagnosticCodec allowsIncremental (c .before .before .before .before .before .args .tape .now) (c .before .before .before .before .before .args .at) (c .before .before .before .loop .i) _ refl _ (c .before .diagnostic-allows .ensures) (not-false _ (c .if1 .left)) (c .before .before .before .loop .inv .1))
 
--- src/lib.rt:119:1
 returns-2 : tie.Need-returns-2 Inv-loop μ-loop
 unfolding diagnosticsAllowIncremental
 returns-2 c = run-passed diagnosticCodec allowsIncremental (c .before .before .before .args .tape .now) (c .before .before .before .args .at) _ (c .before .loop .i) (omega arith) (c .before .loop .inv .1)

@@ -18,41 +18,32 @@ Inv-loop tape at count size i₀ i = (i ≤ count) × Passed (testAt diagnosticC
 abbrev μ-loop : tie.MeasureT-loop
 μ-loop tape at count size i₀ i = count - i
 
--- src/lib.rt:103:5
 loop-holds : tie.Need-loop-holds Inv-loop μ-loop
 loop-holds c = (omega arith, passed-none _)
 
--- src/lib.rt:104:42
 mul-diagnostic-placed : tie.Need-mul-diagnostic-placed Inv-loop μ-loop
 mul-diagnostic-placed c = omega arith
 
--- src/lib.rt:104:37
 add-diagnostic-placed : tie.Need-add-diagnostic-placed Inv-loop μ-loop
 add-diagnostic-placed c = omega arith
 
--- src/lib.rt:104:13
 diagnostic-placed-requires : tie.Need-diagnostic-placed-requires Inv-loop μ-loop
 diagnostic-placed-requires c κs = omega arith
 
--- src/lib.rt:105:13
 returns : tie.Need-returns Inv-loop μ-loop
 unfolding diagnosticCodec
 returns c = run-failed diagnosticCodec (diagnosticInside (c .before .before .before .before .before .args .size)) (c .before .before .before .before .before .args .tape .now) (c .before .before .before .before .before .args .at) (c .before .before .before .loop .i) _ refl _ (c .before .diagnostic-placed .ensures) _ (c .before .before .loop-test .taken) (not-true _ (c .if1 .taken))
 
--- src/lib.rt:107:9
 add-i : tie.Need-add-i Inv-loop μ-loop
 add-i c = omega arith
 
--- src/lib.rt:103:5
 loop-less : tie.Need-loop-less Inv-loop μ-loop
 loop-less c = omega arith
 
--- src/lib.rt:103:5
 loop-again : tie.Need-loop-again Inv-loop μ-loop
 unfolding diagnosticCodec
 loop-again c = (omega arith, run-more diagnosticCodec (diagnosticInside (c .before .before .before .before .before .args .size)) (c .before .before .before .before .before .args .tape .now) (c .before .before .before .before .before .args .at) (c .before .before .before .loop .i) _ refl _ (c .before .diagnostic-placed .ensures) (not-false _ (c .if1 .left)) (c .before .before .before .loop .inv .1))
 
--- src/lib.rt:98:1
 returns-2 : tie.Need-returns-2 Inv-loop μ-loop
 returns-2 c = run-passed diagnosticCodec (diagnosticInside (c .before .before .before .args .size)) (c .before .before .before .args .tape .now) (c .before .before .before .args .at) _ (c .before .loop .i) (omega arith) (c .before .loop .inv .1)
 

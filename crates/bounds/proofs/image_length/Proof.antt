@@ -10,35 +10,27 @@ use Rattle.bounds.proofs.image_length.Reads as reads
 use Rattle.bounds.proofs.image_length.Lts as lts
 use Rattle.bounds.proofs.standalone_padding.Reads as standalone-padding-reads
 
--- src/lib.rt:154:37
 add-standalone-padding : tie.Need-add-standalone-padding
 add-standalone-padding c = search needs
 
--- src/lib.rt:154:32
 shared-slice-read-standalone-padding : tie.Need-shared-slice-read-standalone-padding
 shared-slice-read-standalone-padding c = search needs
 
--- src/lib.rt:154:51
 add-standalone-padding-2 : tie.Need-add-standalone-padding-2
 add-standalone-padding-2 c = search needs
 
--- src/lib.rt:154:46
 shared-slice-read-standalone-padding-2 : tie.Need-shared-slice-read-standalone-padding-2
 shared-slice-read-standalone-padding-2 c = search needs
 
--- src/lib.rt:154:13
 standalone-padding-requires : tie.Need-standalone-padding-requires
 standalone-padding-requires c κs = search needs
 
--- src/lib.rt:154:9
 mul-result : tie.Need-mul-result
 mul-result c = rw (c .standalone-padding .ensures) (omega (arith, padding-small (getD (c .before .before .before .before .args .tape .now) (c .before .before .before .before .args .at + 1) 0) (getD (c .before .before .before .before .args .tape .now) (c .before .before .before .before .args .at + 2) 0)))
 
--- src/lib.rt:154:5
 add-result : tie.Need-add-result
 add-result c = rw (c .standalone-padding .ensures) (omega (arith, padding-small (getD (c .before .before .before .before .args .tape .now) (c .before .before .before .before .args .at + 1) 0) (getD (c .before .before .before .before .args .tape .now) (c .before .before .before .before .args .at + 2) 0)))
 
--- src/lib.rt:150:1
 returns : tie.Need-returns
 unfolding recordAt operandsAt nodeCodec
 returns c = rw (c .standalone-padding .ensures) (image-of (recordAt nodeCodec (c .before .before .before .before .args .tape .now) (c .before .before .before .before .args .at)))

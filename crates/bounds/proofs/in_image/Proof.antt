@@ -6,24 +6,19 @@ use Rattle.bounds.proofs.in_image.Tie as tie
 use Rattle.bounds.proofs.in_image.Reads as reads
 use Rattle.bounds.proofs.in_image.Lts as lts
 
--- src/lib.rt:174:17
 add-place : tie.Need-add-place
 add-place c = search needs
 
--- src/lib.rt:175:17
 add-begin : tie.Need-add-begin
 add-begin c = search needs
 
--- src/lib.rt:177:9
 returns : tie.Need-returns
 unfolding inImage
 returns c = simp (lt-leb _ _ (c .if1 .taken))
 
--- src/lib.rt:179:13
 add-result : tie.Need-add-result
 add-result c = search needs
 
--- src/lib.rt:170:1
 returns-2 : tie.Need-returns-2
 unfolding inImage
 returns-2 c = simp (le-leb _ _ (c .if1 .left))

@@ -9,35 +9,27 @@ use Rattle.bounds.proofs.node_at_source.Lts as lts
 use Rattle.bounds.proofs.starts_by.Reads as starts-by-reads
 use Rattle.records.proofs.node_end.Reads as node-end-reads
 
--- src/lib.rt:267:9
 starts-by-requires : tie.Need-starts-by-requires
 starts-by-requires c κs = search needs
 
--- src/lib.rt:269:9
 returns : tie.Need-returns
 returns c = node-none (c .before .before .before .args .tape .now) (c .before .before .before .args .at) (c .before .starts-by .ensures) (c .if1 .taken)
 
--- src/lib.rt:271:13
 sub-i : tie.Need-sub-i
 sub-i c = search needs
 
--- src/lib.rt:272:46
 mul-node-end : tie.Need-mul-node-end
 mul-node-end c = search needs
 
--- src/lib.rt:272:41
 add-node-end : tie.Need-add-node-end
 add-node-end c = search needs
 
--- src/lib.rt:272:17
 node-end-requires : tie.Need-node-end-requires
 node-end-requires c κs = search needs
 
--- src/lib.rt:262:1
 returns-2 : tie.Need-returns-2
 returns-2 c = node-there (c .before .before .before .before .before .args .tape .now) (c .before .before .before .before .before .args .at) (c .before .before .before .starts-by .ensures) _ (omega (arith, c .before .before .if1 .left)) _ (c .before .node-end .ensures) (c .if2 .taken)
 
--- src/lib.rt:262:1
 returns-3 : tie.Need-returns-3
 returns-3 c = node-past (c .before .before .before .before .before .args .tape .now) (c .before .before .before .before .before .args .at) (c .before .before .before .starts-by .ensures) (c .before .before .before .starts-by .result - 1) (omega (arith, c .before .before .if1 .left)) _ (c .before .node-end .ensures) (c .if2 .left)
 

@@ -13,39 +13,30 @@ use Rattle.records.proofs.node_end.Reads as node-end-reads
 use Rattle.records.proofs.node_offset.Reads as node-offset-reads
 use Rattle.records.proofs.node_start.Reads as node-start-reads
 
--- src/lib.rt:194:9
 node-start-requires : tie.Need-node-start-requires
 node-start-requires c κs = search needs
 
--- src/lib.rt:196:9
 returns : tie.Need-returns
 returns c = placed-before _ _ _ _ _ _ (c .before .node-start .ensures) (c .if1 .taken)
 
--- src/lib.rt:198:24
 node-end-requires : tie.Need-node-end-requires
 node-end-requires c κs = search needs
 
--- src/lib.rt:198:9
 span-ok-requires : tie.Need-span-ok-requires
 span-ok-requires c κs = search needs
 
--- src/lib.rt:199:9
 returns-2 : tie.Need-returns-2
 returns-2 c = placed-span _ _ _ _ _ _ (c .before .before .before .before .node-start .ensures) _ (c .before .before .node-end .ensures) _ (c .before .span-ok .ensures) (not-true _ (c .if2 .taken))
 
--- src/lib.rt:203:9
 node-offset-requires : tie.Need-node-offset-requires
 node-offset-requires c κs = search needs
 
--- src/lib.rt:204:9
 image-length-requires : tie.Need-image-length-requires
 image-length-requires c κs = search needs
 
--- src/lib.rt:201:5
 in-image-requires : tie.Need-in-image-requires
 in-image-requires c κs = (rw (c .image-length .ensures) (image-small _), c .before .before .before .before .before .before .before .before .pre .1, c .before .before .before .before .before .before .before .before .pre .2)
 
--- src/lib.rt:183:1
 returns-3 : tie.Need-returns-3
 returns-3 c = c .in-image .ensures ∙ placed-image _ _ _ _ _ _ (c .before .before .before .before .before .before .before .node-start .ensures) _ (c .before .before .before .before .before .node-end .ensures) _ (c .before .before .before .before .span-ok .ensures) (c .before .before .before .before .before .before .if1 .left) (not-false _ (c .before .before .before .if2 .left)) _ _ (c .before .before .node-offset .ensures) (c .before .image-length .ensures)
 

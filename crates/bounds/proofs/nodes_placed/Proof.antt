@@ -19,59 +19,45 @@ Inv-loop tape at count size from₀ images₀ spans₀ i₀ from images spans i 
 abbrev μ-loop : tie.MeasureT-loop
 μ-loop tape at count size from₀ images₀ spans₀ i₀ from images spans i = count - i
 
--- src/lib.rt:224:5
 loop-holds : tie.Need-loop-holds Inv-loop μ-loop
 loop-holds c = walked-none _ _ _ _
 
--- src/lib.rt:225:22
 mul-p : tie.Need-mul-p Inv-loop μ-loop
 mul-p c = omega arith
 
--- src/lib.rt:225:17
 add-p : tie.Need-add-p Inv-loop μ-loop
 add-p c = omega arith
 
--- src/lib.rt:226:13
 node-placed-requires : tie.Need-node-placed-requires Inv-loop μ-loop
 node-placed-requires c κs = omega arith
 
--- src/lib.rt:227:13
 returns : tie.Need-returns Inv-loop μ-loop
 returns c = walked-fails (c .before .before .before .loop .inv) (c .before .before .loop-test .taken) (sym (c .before .node-placed .ensures) ∙ not-true _ (c .if1 .taken))
 
--- src/lib.rt:229:19
 image-length-requires : tie.Need-image-length-requires Inv-loop μ-loop
 image-length-requires c κs = omega arith
 
--- src/lib.rt:229:9
 add-images : tie.Need-add-images Inv-loop μ-loop
 add-images c = omega (arith, c .image-length .ensures, image-small (recordAt nodeCodec (c .before .before .before .before .before .before .args .tape .now) (c .before .before .before .before .before .before .args .at + 49 * c .before .before .before .before .loop .i)))
 
--- src/lib.rt:230:18
 span-length-requires : tie.Need-span-length-requires Inv-loop μ-loop
 span-length-requires c κs = omega arith
 
--- src/lib.rt:230:9
 add-spans : tie.Need-add-spans Inv-loop μ-loop
 add-spans c = let f = placed-facts _ _ _ _ _ (sym (c .before .before .before .node-placed .ensures) ∙ not-false _ (c .before .before .if1 .left)) in omega (arith, c .span-length .ensures, f .0, f .1, f .2, f .3)
 
--- src/lib.rt:231:9
 node-end-requires : tie.Need-node-end-requires Inv-loop μ-loop
 node-end-requires c κs = omega arith
 
--- src/lib.rt:232:9
 add-i : tie.Need-add-i Inv-loop μ-loop
 add-i c = omega arith
 
--- src/lib.rt:224:5
 loop-less : tie.Need-loop-less Inv-loop μ-loop
 loop-less c = omega arith
 
--- src/lib.rt:224:5
 loop-again : tie.Need-loop-again Inv-loop μ-loop
 loop-again c = walked-more (c .before .before .before .before .before .before .loop .inv) (c .before .before .before .before .before .loop-test .taken) _ _ _ (sym (c .before .before .before .before .node-placed .ensures) ∙ not-false _ (c .before .before .before .if1 .left)) (c .node-end .ensures) (c .before .before .image-length .ensures) (c .before .span-length .ensures) (omega arith)
 
--- src/lib.rt:216:1
 returns-2 : tie.Need-returns-2 Inv-loop μ-loop
 returns-2 c = walked-done (c .before .loop .inv) (omega arith)
 

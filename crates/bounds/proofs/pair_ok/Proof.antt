@@ -8,23 +8,18 @@ use Rattle.bounds.proofs.pair_ok.Reads as reads
 use Rattle.bounds.proofs.pair_ok.Lts as lts
 use Rattle.bounds.proofs.span_ok.Reads as span-ok-reads
 
--- src/lib.rt:30:9
 span-ok-requires : tie.Need-span-ok-requires
 span-ok-requires c κs = search needs
 
--- src/lib.rt:31:9
 returns : tie.Need-returns
 returns c = pair-opening _ _ (sym (c .before .span-ok .ensures) ∙ not-true _ (c .if1 .taken))
 
--- src/lib.rt:33:9
 span-ok-requires-2 : tie.Need-span-ok-requires-2
 span-ok-requires-2 c κs = search needs
 
--- src/lib.rt:34:9
 returns-2 : tie.Need-returns-2
 returns-2 c = pair-closing _ _ (sym (c .before .span-ok2 .ensures) ∙ not-true _ (c .if2 .taken))
 
--- src/lib.rt:27:1
 returns-3 : tie.Need-returns-3
 returns-3 c = pair-goes-on _ _ (sym (c .before .before .before .before .span-ok .ensures) ∙ not-false _ (c .before .before .before .if1 .left)) (sym (c .before .before .span-ok2 .ensures) ∙ not-false _ (c .before .if2 .left))
 

@@ -8,15 +8,12 @@ use Rattle.bounds.proofs.pair_placed.Lts as lts
 use Rattle.bounds.proofs.pair_ok.Reads as pair-ok-reads
 use Rattle.records.proofs.pair_at.Reads as pair-at-reads
 
--- src/lib.rt:52:13
 pair-at-requires : tie.Need-pair-at-requires
 pair-at-requires c κs = search needs
 
--- src/lib.rt:52:5
 pair-ok-requires : tie.Need-pair-ok-requires
 pair-ok-requires c κs = search needs
 
--- src/lib.rt:48:1
 returns : tie.Need-returns
 returns c = c .pair-ok .ensures ∙ ap (pairOk (c .before .before .before .args .size)) (c .before .pair-at .ensures)
 

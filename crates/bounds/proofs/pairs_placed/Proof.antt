@@ -18,41 +18,32 @@ Inv-loop tape at count size i₀ i = (i ≤ count) × Passed (testAt pairCodec (
 abbrev μ-loop : tie.MeasureT-loop
 μ-loop tape at count size i₀ i = count - i
 
--- src/lib.rt:74:5
 loop-holds : tie.Need-loop-holds Inv-loop μ-loop
 loop-holds c = (omega arith, passed-none _)
 
--- src/lib.rt:75:36
 mul-pair-placed : tie.Need-mul-pair-placed Inv-loop μ-loop
 mul-pair-placed c = omega arith
 
--- src/lib.rt:75:31
 add-pair-placed : tie.Need-add-pair-placed Inv-loop μ-loop
 add-pair-placed c = omega arith
 
--- src/lib.rt:75:13
 pair-placed-requires : tie.Need-pair-placed-requires Inv-loop μ-loop
 pair-placed-requires c κs = omega arith
 
--- src/lib.rt:76:13
 returns : tie.Need-returns Inv-loop μ-loop
 unfolding pairCodec
 returns c = run-failed pairCodec (pairOk (c .before .before .before .before .before .args .size)) (c .before .before .before .before .before .args .tape .now) (c .before .before .before .before .before .args .at) (c .before .before .before .loop .i) _ refl _ (c .before .pair-placed .ensures) _ (c .before .before .loop-test .taken) (not-true _ (c .if1 .taken))
 
--- src/lib.rt:78:9
 add-i : tie.Need-add-i Inv-loop μ-loop
 add-i c = omega arith
 
--- src/lib.rt:74:5
 loop-less : tie.Need-loop-less Inv-loop μ-loop
 loop-less c = omega arith
 
--- src/lib.rt:74:5
 loop-again : tie.Need-loop-again Inv-loop μ-loop
 unfolding pairCodec
 loop-again c = (omega arith, run-more pairCodec (pairOk (c .before .before .before .before .before .args .size)) (c .before .before .before .before .before .args .tape .now) (c .before .before .before .before .before .args .at) (c .before .before .before .loop .i) _ refl _ (c .before .pair-placed .ensures) (not-false _ (c .if1 .left)) (c .before .before .before .loop .inv .1))
 
--- src/lib.rt:69:1
 returns-2 : tie.Need-returns-2 Inv-loop μ-loop
 returns-2 c = run-passed pairCodec (pairOk (c .before .before .before .args .size)) (c .before .before .before .args .tape .now) (c .before .before .before .args .at) _ (c .before .loop .i) (omega arith) (c .before .loop .inv .1)
 

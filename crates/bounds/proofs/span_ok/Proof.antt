@@ -4,11 +4,9 @@ use Rattle.bounds.proofs.span_ok.Tie as tie
 use Rattle.bounds.proofs.span_ok.Reads as reads
 use Rattle.bounds.proofs.span_ok.Lts as lts
 
--- src/lib.rt:22:9
 returns : tie.Need-returns
 returns c = span-empty _ _ (c .if1 .taken)
 
--- src/lib.rt:18:1
 returns-2 : tie.Need-returns-2
 returns-2 c = span-goes-on _ _ (c .if1 .left)
 

@@ -5,22 +5,18 @@ use Rattle.bounds.proofs.standalone_padding.Tie as tie
 use Rattle.bounds.proofs.standalone_padding.Reads as reads
 use Rattle.bounds.proofs.standalone_padding.Lts as lts
 
--- src/lib.rt:138:9
 returns : tie.Need-returns
 unfolding paddingOf
 returns c = simp (eq-eqb _ _ (c .if1 .taken))
 
--- src/lib.rt:141:9
 returns-2 : tie.Need-returns-2
 unfolding paddingOf
 returns-2 c = simp (ne-eqb _ _ (c .before .if1 .left), eq-eqb _ _ (c .if2 .taken))
 
--- src/lib.rt:144:9
 returns-3 : tie.Need-returns-3
 unfolding paddingOf
 returns-3 c = simp (ne-eqb _ _ (c .before .before .if1 .left), ne-eqb _ _ (c .before .if2 .left), eq-eqb _ _ (c .if3 .taken))
 
--- src/lib.rt:134:1
 returns-4 : tie.Need-returns-4
 unfolding paddingOf
 returns-4 c = simp (ne-eqb _ _ (c .before .before .if1 .left), ne-eqb _ _ (c .before .if2 .left), ne-eqb _ _ (c .if3 .left))

@@ -14,53 +14,41 @@ Inv-loop tape at count offset lo₀ hi₀ lo hi = Split (startOf tape at) count 
 abbrev μ-loop : tie.MeasureT-loop
 μ-loop tape at count offset lo₀ hi₀ lo hi = hi - lo
 
--- src/lib.rt:250:5
 loop-holds : tie.Need-loop-holds Inv-loop μ-loop
 loop-holds c = split-start _ _ _
 
--- src/lib.rt:251:25
 sub-mid : tie.Need-sub-mid Inv-loop μ-loop
 sub-mid c = omega arith
 
--- src/lib.rt:251:19
 add-mid : tie.Need-add-mid Inv-loop μ-loop
 add-mid c = omega arith
 
--- src/lib.rt:252:43
 mul-node-start : tie.Need-mul-node-start Inv-loop μ-loop
 mul-node-start c = omega arith
 
--- src/lib.rt:252:38
 add-node-start : tie.Need-add-node-start Inv-loop μ-loop
 add-node-start c = omega arith
 
--- src/lib.rt:252:12
 node-start-requires : tie.Need-node-start-requires Inv-loop μ-loop
 node-start-requires c κs = omega arith
 
--- src/lib.rt:253:18
 add-lo : tie.Need-add-lo Inv-loop μ-loop
 add-lo c = omega arith
 
--- src/lib.rt:250:5
 loop-less : tie.Need-loop-less Inv-loop μ-loop
 loop-less c = omega arith
 
--- src/lib.rt:250:5
 loop-again : tie.Need-loop-again Inv-loop μ-loop
 unfolding startOf
 loop-again c = split-up (in-order-sorted (c .before .before .before .before .before .args .tape .now) (c .before .before .before .before .before .args .at) (c .before .before .before .before .before .args .count) (c .before .before .before .before .before .pre .1)) (c .before .before .before .loop .inv) _ (omega arith) (omega arith) (omega (arith, c .before .node-start .ensures))
 
--- src/lib.rt:250:5
 loop-less-2 : tie.Need-loop-less-2 Inv-loop μ-loop
 loop-less-2 c = omega arith
 
--- src/lib.rt:250:5
 loop-again-2 : tie.Need-loop-again-2 Inv-loop μ-loop
 unfolding startOf
 loop-again-2 c = split-down (in-order-sorted (c .before .before .before .before .before .args .tape .now) (c .before .before .before .before .before .args .at) (c .before .before .before .before .before .args .count) (c .before .before .before .before .before .pre .1)) (c .before .before .before .loop .inv) _ (omega arith) (omega arith) (omega (arith, c .before .node-start .ensures))
 
--- src/lib.rt:243:1
 returns : tie.Need-returns Inv-loop μ-loop
 returns c = let e : c .before .loop .hi ≡ c .before .loop .lo = omega arith in rw e at (c .before .loop .inv)
 

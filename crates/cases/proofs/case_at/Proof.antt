@@ -8,55 +8,42 @@ use Rattle.cases.proofs.behind.Reads as behind-reads
 use Rattle.wire.proofs.between.Reads as between-reads
 use Rattle.wire.proofs.u32_or_zero.Reads as u32-or-zero-reads
 
--- src/lib.rt:53:9
 behind-requires : tie.Need-behind-requires
 behind-requires c κs = search needs
 
--- src/lib.rt:54:9
 between-requires : tie.Need-between-requires
 between-requires c κs = search needs
 
--- src/lib.rt:55:37
 u32-or-zero-requires : tie.Need-u32-or-zero-requires
 u32-or-zero-requires c κs = search needs
 
--- src/lib.rt:55:9
 behind-requires-2 : tie.Need-behind-requires-2
 behind-requires-2 c κs = search needs
 
--- src/lib.rt:56:37
 u32-or-zero-requires-2 : tie.Need-u32-or-zero-requires-2
 u32-or-zero-requires-2 c κs = search needs
 
--- src/lib.rt:56:9
 behind-requires-3 : tie.Need-behind-requires-3
 behind-requires-3 c κs = search needs
 
--- src/lib.rt:57:44
 u32-or-zero-requires-3 : tie.Need-u32-or-zero-requires-3
 u32-or-zero-requires-3 c κs = search needs
 
--- src/lib.rt:57:9
 behind-requires-4 : tie.Need-behind-requires-4
 behind-requires-4 c κs = search needs
 
--- src/lib.rt:63:42
 u32-or-zero-requires-4 : tie.Need-u32-or-zero-requires-4
 u32-or-zero-requires-4 c κs = search needs
 
--- src/lib.rt:63:15
 behind-requires-5 : tie.Need-behind-requires-5
 behind-requires-5 c κs = search needs
 
--- src/lib.rt:64:16
 u32-or-zero-requires-5 : tie.Need-u32-or-zero-requires-5
 u32-or-zero-requires-5 c κs = search needs
 
--- src/lib.rt:65:14
 u32-or-zero-requires-6 : tie.Need-u32-or-zero-requires-6
 u32-or-zero-requires-6 c κs = search needs
 
--- src/lib.rt:50:1
 returns : tie.Need-returns
 unfolding caseAt
 returns c = cc

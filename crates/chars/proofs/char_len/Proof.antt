@@ -9,43 +9,33 @@ use Rattle.chars.proofs.four.Reads as four-reads
 use Rattle.chars.proofs.three.Reads as three-reads
 use Rattle.chars.proofs.two.Reads as two-reads
 
--- src/lib.rt:100:13
 shared-slice-read-b : tie.Need-shared-slice-read-b
 shared-slice-read-b c = search needs
 
--- src/lib.rt:102:9
 returns : tie.Need-returns
 returns c = len-1 _ _ (c .before .before .before .pre) (lead-1 _ (c .if1 .taken))
 
--- src/lib.rt:105:9
 returns-2 : tie.Need-returns-2
 returns-2 c = len-bad _ _ (c .before .before .before .before .pre) (lead-low _ (c .before .if1 .left) (c .if2 .taken))
 
--- src/lib.rt:108:9
 two-requires : tie.Need-two-requires
 two-requires c κs = search needs
 
--- src/lib.rt:108:9
 returns-3 : tie.Need-returns-3
 returns-3 c = search needs
 
--- src/lib.rt:111:9
 three-requires : tie.Need-three-requires
 three-requires c κs = search needs
 
--- src/lib.rt:111:9
 returns-4 : tie.Need-returns-4
 returns-4 c = search needs
 
--- src/lib.rt:114:9
 four-requires : tie.Need-four-requires
 four-requires c κs = search needs
 
--- src/lib.rt:114:9
 returns-5 : tie.Need-returns-5
 returns-5 c = search needs
 
--- src/lib.rt:96:1
 returns-6 : tie.Need-returns-6
 returns-6 c = len-bad _ _ (c .before .before .before .before .before .before .before .pre) (lead-high _ (c .if5 .left))
 

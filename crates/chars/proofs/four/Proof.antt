@@ -13,69 +13,53 @@ use Rattle.chars.proofs.four.Lts as lts
 use Rattle.chars.proofs.second_of_four.Reads as second-of-four-reads
 use Rattle.chars.proofs.within.Reads as within-reads
 
--- src/lib.rt:80:8
 sub-if1 : tie.Need-sub-if1
 sub-if1 c = search needs
 
--- src/lib.rt:81:9
 returns : tie.Need-returns
 returns c =
     let q : asks (utf8First (getD (c .before .before .args .s .now) (c .before .before .args .at) 0)) ≡ 3 = asks-4 _ (c .before .before .pre .1) (c .before .before .pre .2) in
     len-short _ _ (c .before .before .pre .0) (omega (arith, q)) (omega (arith, q))
 
--- src/lib.rt:83:24
 shared-slice-read-second-of-four : tie.Need-shared-slice-read-second-of-four
 shared-slice-read-second-of-four c = search needs
 
--- src/lib.rt:83:33
 add-second-of-four : tie.Need-add-second-of-four
 add-second-of-four c = search needs
 
--- src/lib.rt:83:31
 shared-slice-read-second-of-four-2 : tie.Need-shared-slice-read-second-of-four-2
 shared-slice-read-second-of-four-2 c = search needs
 
--- src/lib.rt:83:9
 second-of-four-requires : tie.Need-second-of-four-requires
 second-of-four-requires c κs = search needs
 
--- src/lib.rt:84:9
 returns-2 : tie.Need-returns-2
 returns-2 c = four-second (c .before .before .before .before .before .before .args .s .now) (c .before .before .before .before .before .before .args .at) (omega arith) (asks-4 _ (c .before .before .before .before .before .before .pre .1) (c .before .before .before .before .before .before .pre .2)) (c .before .second-of-four .result) (c .before .second-of-four .ensures) (not-true _ (c .if2 .taken))
 
--- src/lib.rt:86:30
 add-within : tie.Need-add-within
 add-within c = search needs
 
--- src/lib.rt:86:28
 shared-slice-read-within : tie.Need-shared-slice-read-within
 shared-slice-read-within c = search needs
 
--- src/lib.rt:86:9
 within-requires : tie.Need-within-requires
 within-requires c κs = search needs
 
--- src/lib.rt:87:9
 returns-3 : tie.Need-returns-3
 returns-3 c = four-third (c .before .before .before .before .before .before .before .before .before .args .s .now) (c .before .before .before .before .before .before .before .before .before .args .at) (omega arith) (asks-4 _ (c .before .before .before .before .before .before .before .before .before .pre .1) (c .before .before .before .before .before .before .before .before .before .pre .2)) (c .before .before .before .before .second-of-four .result) (c .before .before .before .before .second-of-four .ensures) (not-false _ (c .before .before .before .if2 .left)) (sym (c .before .within .ensures) ∙ not-true _ (c .if3 .taken))
 
--- src/lib.rt:89:30
 add-within-2 : tie.Need-add-within-2
 add-within-2 c = search needs
 
--- src/lib.rt:89:28
 shared-slice-read-within-2 : tie.Need-shared-slice-read-within-2
 shared-slice-read-within-2 c = search needs
 
--- src/lib.rt:89:9
 within-requires-2 : tie.Need-within-requires-2
 within-requires-2 c κs = search needs
 
--- src/lib.rt:90:9
 returns-4 : tie.Need-returns-4
 returns-4 c = four-fourth (c .before .before .before .before .before .before .before .before .before .before .before .before .args .s .now) (c .before .before .before .before .before .before .before .before .before .before .before .before .args .at) (omega arith) (asks-4 _ (c .before .before .before .before .before .before .before .before .before .before .before .before .pre .1) (c .before .before .before .before .before .before .before .before .before .before .before .before .pre .2)) (c .before .before .before .before .before .before .before .second-of-four .result) (c .before .before .before .before .before .before .before .second-of-four .ensures) (not-false _ (c .before .before .before .before .before .before .if2 .left)) (sym (c .before .before .before .before .within .ensures) ∙ not-false _ (c .before .before .before .if3 .left)) (sym (c .before .within2 .ensures) ∙ not-true _ (c .if4 .taken))
 
--- src/lib.rt:76:1
 returns-5 : tie.Need-returns-5
 returns-5 c = four-whole (c .before .before .before .before .before .before .before .before .before .before .before .before .args .s .now) (c .before .before .before .before .before .before .before .before .before .before .before .before .args .at) (omega arith) (asks-4 _ (c .before .before .before .before .before .before .before .before .before .before .before .before .pre .1) (c .before .before .before .before .before .before .before .before .before .before .before .before .pre .2)) (c .before .before .before .before .before .before .before .second-of-four .result) (c .before .before .before .before .before .before .before .second-of-four .ensures) (not-false _ (c .before .before .before .before .before .before .if2 .left)) (sym (c .before .before .before .before .within .ensures) ∙ not-false _ (c .before .before .before .if3 .left)) (sym (c .before .within2 .ensures) ∙ not-false _ (c .if4 .left))
 

@@ -8,29 +8,23 @@ use Rattle.chars.proofs.second_of_four.Reads as reads
 use Rattle.chars.proofs.second_of_four.Lts as lts
 use Rattle.chars.proofs.within.Reads as within-reads
 
--- src/lib.rt:39:9
 within-requires : tie.Need-within-requires
 within-requires c κs = search needs
 
--- src/lib.rt:39:9
 returns : tie.Need-returns
 unfolding utf8Step
 returns c = rw (lead-f0 _ (c .before .if1 .taken), c .within .ensures) refl
 
--- src/lib.rt:42:9
 within-requires-2 : tie.Need-within-requires-2
 within-requires-2 c κs = search needs
 
--- src/lib.rt:42:9
 returns-2 : tie.Need-returns-2
 unfolding utf8Step
 returns-2 c = rw (lead-f4 _ (c .before .if2 .taken), c .within2 .ensures) refl
 
--- src/lib.rt:44:5
 within-requires-3 : tie.Need-within-requires-3
 within-requires-3 c κs = search needs
 
--- src/lib.rt:34:1
 returns-3 : tie.Need-returns-3
 unfolding utf8Step
 returns-3 c = rw (lead-4 _ (c .before .before .before .pre .0) (c .before .before .before .pre .1) (c .before .before .if1 .left) (c .before .if2 .left), c .within3 .ensures) refl

@@ -12,33 +12,26 @@ use Rattle.chars.proofs.two.Reads as reads
 use Rattle.chars.proofs.two.Lts as lts
 use Rattle.chars.proofs.within.Reads as within-reads
 
--- src/lib.rt:51:8
 sub-if1 : tie.Need-sub-if1
 sub-if1 c = search needs
 
--- src/lib.rt:52:9
 returns : tie.Need-returns
 returns c =
     let q : asks (utf8First (getD (c .before .before .args .s .now) (c .before .before .args .at) 0)) ≡ 1 = ap asks (lead-2 _ (c .before .before .pre .1) (c .before .before .pre .2)) in
     len-short _ _ (c .before .before .pre .0) (omega (arith, q)) (omega (arith, q))
 
--- src/lib.rt:54:30
 add-within : tie.Need-add-within
 add-within c = search needs
 
--- src/lib.rt:54:28
 shared-slice-read-within : tie.Need-shared-slice-read-within
 shared-slice-read-within c = search needs
 
--- src/lib.rt:54:9
 within-requires : tie.Need-within-requires
 within-requires c κs = search needs
 
--- src/lib.rt:55:9
 returns-2 : tie.Need-returns-2
 returns-2 c = two-second (c .before .before .before .before .before .args .s .now) (c .before .before .before .before .before .args .at) (omega arith) (lead-2 _ (c .before .before .before .before .before .pre .1) (c .before .before .before .before .before .pre .2)) (sym (c .before .within .ensures) ∙ not-true _ (c .if2 .taken))
 
--- src/lib.rt:47:1
 returns-3 : tie.Need-returns-3
 returns-3 c = two-whole (c .before .before .before .before .before .args .s .now) (c .before .before .before .before .before .args .at) (omega arith) (lead-2 _ (c .before .before .before .before .before .pre .1) (c .before .before .before .before .before .pre .2)) (sym (c .before .within .ensures) ∙ not-false _ (c .if2 .left))
 

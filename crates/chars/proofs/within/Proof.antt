@@ -5,11 +5,9 @@ use Rattle.chars.proofs.within.Tie as tie
 use Rattle.chars.proofs.within.Reads as reads
 use Rattle.chars.proofs.within.Lts as lts
 
--- src/lib.rt:15:9
 returns : tie.Need-returns
 returns c = rw (lt-leb _ _ (c .if1 .taken)) refl
 
--- src/lib.rt:11:1
 returns-2 : tie.Need-returns-2
 returns-2 c = rw (le-leb _ _ (c .if1 .left)) refl
 

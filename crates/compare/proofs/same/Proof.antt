@@ -18,43 +18,33 @@ Inv-loop a b at₀ at = (at ≤ length a) × (length a ≡ length b) × (same a 
 abbrev μ-loop : tie.MeasureT-loop
 μ-loop a b at₀ at = length a - at
 
--- src/lib.rt:140:9
 returns : tie.Need-returns Inv-loop μ-loop
 returns c = sym (same-length (c .before .before .before .args .a .now) (c .before .before .before .args .b .now) (c .if1 .taken))
 
--- src/lib.rt:143:5
 loop-holds : tie.Need-loop-holds Inv-loop μ-loop
 loop-holds c = (omega arith, c .if1 .left, refl)
 
--- src/lib.rt:143:17
 sub-loop : tie.Need-sub-loop Inv-loop μ-loop
 sub-loop c = omega arith
 
--- src/lib.rt:144:13
 same-16-requires : tie.Need-same-16-requires Inv-loop μ-loop
 same-16-requires c κs = omega arith
 
--- src/lib.rt:145:13
 returns-2 : tie.Need-returns-2 Inv-loop μ-loop
 returns-2 c = sym (c .before .before .before .loop .inv .2 ∙ sixteen-differs (c .before .before .before .before .before .before .before .args .a .now) (c .before .before .before .before .before .before .before .args .b .now) (c .before .before .before .loop .at) (omega arith) (omega arith) _ (c .before .same-16 .ensures) (not-true _ (c .if2 .taken)))
 
--- src/lib.rt:147:9
 add-at : tie.Need-add-at Inv-loop μ-loop
 add-at c = omega arith
 
--- src/lib.rt:143:5
 loop-less : tie.Need-loop-less Inv-loop μ-loop
 loop-less c = omega arith
 
--- src/lib.rt:143:5
 loop-again : tie.Need-loop-again Inv-loop μ-loop
 loop-again c = (omega arith, c .before .before .before .loop .inv .1, c .before .before .before .loop .inv .2 ∙ sixteen-turn (c .before .before .before .before .before .before .before .args .a .now) (c .before .before .before .before .before .before .before .args .b .now) (c .before .before .before .loop .at) (omega arith) (omega arith) _ (c .before .same-16 .ensures) (not-false _ (c .if2 .left)))
 
--- src/lib.rt:149:5
 same-from-requires : tie.Need-same-from-requires Inv-loop μ-loop
 same-from-requires c κs = omega arith
 
--- src/lib.rt:136:1
 returns-3 : tie.Need-returns-3 Inv-loop μ-loop
 returns-3 c = c .same-from .ensures ∙ sym (c .before .before .loop .inv .2)
 

@@ -15,35 +15,27 @@ Inv-loop a b from i₀ i = (i ≤ length a) × (same (drop from a) (drop from b)
 abbrev μ-loop : tie.MeasureT-loop
 μ-loop a b from i₀ i = length a - i
 
--- src/lib.rt:127:5
 loop-holds : tie.Need-loop-holds Inv-loop μ-loop
 loop-holds c = (c .pre .0, refl)
 
--- src/lib.rt:128:12
 shared-slice-read-if1 : tie.Need-shared-slice-read-if1 Inv-loop μ-loop
 shared-slice-read-if1 c = omega (arith, c .before .before .before .pre .1)
 
--- src/lib.rt:128:20
 shared-slice-read-if1-2 : tie.Need-shared-slice-read-if1-2 Inv-loop μ-loop
 shared-slice-read-if1-2 c = omega (arith, c .before .before .before .before .pre .1)
 
--- src/lib.rt:129:13
 returns : tie.Need-returns Inv-loop μ-loop
 returns c = sym (c .before .before .before .before .loop .inv .1 ∙ same-differs _ _ _ (c .before .before .before .loop-test .taken) (omega (arith, c .before .before .before .before .before .pre .1)) (c .if1 .taken))
 
--- src/lib.rt:131:9
 add-i : tie.Need-add-i Inv-loop μ-loop
 add-i c = omega (arith, c .before .before .before .before .before .pre .1)
 
--- src/lib.rt:127:5
 loop-less : tie.Need-loop-less Inv-loop μ-loop
 loop-less c = omega (arith, c .before .before .before .before .before .pre .1)
 
--- src/lib.rt:127:5
 loop-again : tie.Need-loop-again Inv-loop μ-loop
 loop-again c = (omega arith, c .before .before .before .before .loop .inv .1 ∙ same-turn _ _ _ (c .before .before .before .loop-test .taken) (omega (arith, c .before .before .before .before .before .pre .1)) (c .if1 .left))
 
--- src/lib.rt:122:1
 returns-2 : tie.Need-returns-2 Inv-loop μ-loop
 returns-2 c = sym (c .before .loop .inv .1 ∙ same-done _ _ _ (c .loop-test .left) (omega (arith, c .before .before .pre .1)))
 

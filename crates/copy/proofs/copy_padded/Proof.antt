@@ -9,19 +9,15 @@ use Rattle.copy.proofs.copy_padded.Lts as lts
 use Rattle.wire.proofs.copy_at.Reads as copy-at-reads
 use Rattle.wire.proofs.zero_from.Reads as zero-from-reads
 
--- src/lib.rt:149:5
 copy-at-requires : tie.Need-copy-at-requires
 copy-at-requires c κs = search needs
 
--- src/lib.rt:150:5
 zero-from-requires : tie.Need-zero-from-requires
 zero-from-requires c κs = search needs
 
--- src/lib.rt:145:1
 same-length : tie.Need-same-length
 same-length c = search needs
 
--- src/lib.rt:145:1
 returns : tie.Need-returns
 unfolding padded
 returns c = wrote-padded (record { is = c .before .before .before .before .before .before .copy-at .ensures }) _ (c .before .before .zero-from .ensures) refl (c .before .before .before .before .before .before .before .before .before .before .pre)

@@ -7,23 +7,18 @@ use Rattle.copy.proofs.copy_refusal.Reads as reads
 use Rattle.copy.proofs.copy_refusal.Lts as lts
 use Rattle.tape.proofs.check_book.Reads as check-book-reads
 
--- src/lib.rt:131:9
 check-book-requires : tie.Need-check-book-requires
 check-book-requires c κs = search needs
 
--- src/lib.rt:133:9
 returns : tie.Need-returns
 returns c = number-book _ _ _ _ (c .before .check-book .ensures) (c .if1 .taken)
 
--- src/lib.rt:136:9
 returns-2 : tie.Need-returns-2
 returns-2 c = number-no-tape _ _ _ _ (c .before .before .check-book .ensures) (record { byte = λ i h. omega (arith, c .before .before .before .before .shared-slice-known .given i) }) (c .before .if1 .left) (c .if2 .taken)
 
--- src/lib.rt:139:9
 returns-3 : tie.Need-returns-3
 returns-3 c = number-no-bytes _ _ _ _ (c .before .before .before .check-book .ensures) (record { byte = λ i h. omega (arith, c .before .before .before .before .before .shared-slice-known .given i) }) (c .before .before .if1 .left) (c .if3 .taken)
 
--- src/lib.rt:128:1
 returns-4 : tie.Need-returns-4
 returns-4 c = number-none _ _ _ _ (c .before .before .before .check-book .ensures) (record { byte = λ i h. omega (arith, c .before .before .before .before .before .shared-slice-known .given i) }) (c .before .before .if1 .left) (c .before .if2 .left) (c .if3 .left)
 

@@ -7,29 +7,23 @@ use Rattle.cuts.proofs.blank_line_before.Tie as tie
 use Rattle.cuts.proofs.blank_line_before.Reads as reads
 use Rattle.cuts.proofs.blank_line_before.Lts as lts
 
--- src/lib.rt:21:9
 returns : tie.Need-returns
 unfolding blankLineBefore
 returns c = rw (lt-leb 2 _ (c .if1 .taken)) refl
 
--- src/lib.rt:23:8
 shared-slice-read-if2 : tie.Need-shared-slice-read-if2
 shared-slice-read-if2 c = search needs
 
--- src/lib.rt:24:9
 returns-2 : tie.Need-returns-2
 unfolding blankLineBefore
 returns-2 c = rw (le-leb 2 _ (c .before .before .if1 .left), ne-eqb _ 10 (c .if2 .taken)) refl
 
--- src/lib.rt:26:10
 sub-result : tie.Need-sub-result
 sub-result c = search needs
 
--- src/lib.rt:26:5
 shared-slice-read-result : tie.Need-shared-slice-read-result
 shared-slice-read-result c = search needs
 
--- src/lib.rt:16:1
 returns-3 : tie.Need-returns-3
 unfolding blankLineBefore
 returns-3 c = rw (le-leb 2 _ (c .before .before .before .if1 .left), eq-eqb _ 10 (c .before .if2 .left)) refl

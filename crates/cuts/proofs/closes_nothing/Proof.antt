@@ -6,12 +6,10 @@ use Rattle.cuts.proofs.closes_nothing.Tie as tie
 use Rattle.cuts.proofs.closes_nothing.Reads as reads
 use Rattle.cuts.proofs.closes_nothing.Lts as lts
 
--- src/lib.rt:360:9
 returns : tie.Need-returns
 unfolding closesNothing
 returns c = rw (not-true (c .before .args .closes) (c .if1 .taken)) refl
 
--- src/lib.rt:356:1
 returns-2 : tie.Need-returns-2
 unfolding closesNothing
 returns-2 c = rw (not-false (c .before .args .closes) (c .if1 .left)) refl

@@ -7,27 +7,21 @@ use Rattle.cuts.proofs.depth_behind.Tie as tie
 use Rattle.cuts.proofs.depth_behind.Reads as reads
 use Rattle.cuts.proofs.depth_behind.Lts as lts
 
--- src/lib.rt:78:16
 add-result : tie.Need-add-result
 add-result c = search needs
 
--- src/lib.rt:78:9
 returns : tie.Need-returns
 returns c = rw (c .if1 .taken) refl
 
--- src/lib.rt:81:9
 returns-2 : tie.Need-returns-2
 returns-2 c = let e = not-true (c .before .before .args .closes) (c .if2 .taken) in rw (c .before .if1 .left, e) refl
 
--- src/lib.rt:84:9
 returns-3 : tie.Need-returns-3
 returns-3 c = let e = not-false (c .before .before .before .args .closes) (c .before .if2 .left) in rw (c .before .before .if1 .left, e) (omega arith)
 
--- src/lib.rt:86:5
 sub-result : tie.Need-sub-result
 sub-result c = search needs
 
--- src/lib.rt:73:1
 returns-4 : tie.Need-returns-4
 returns-4 c = let e = not-false (c .before .before .before .args .closes) (c .before .if2 .left) in rw (c .before .before .if1 .left, e) refl
 

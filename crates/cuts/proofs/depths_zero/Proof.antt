@@ -5,11 +5,9 @@ use Rattle.cuts.proofs.depths_zero.Tie as tie
 use Rattle.cuts.proofs.depths_zero.Reads as reads
 use Rattle.cuts.proofs.depths_zero.Lts as lts
 
--- src/lib.rt:194:9
 returns : tie.Need-returns
 returns c = rw (ne-eqb _ 0 (c .if1 .taken)) refl
 
--- src/lib.rt:190:1
 returns-2 : tie.Need-returns-2
 returns-2 c = rw (eq-eqb _ 0 (c .if1 .left)) refl
 

@@ -5,11 +5,9 @@ use Rattle.cuts.proofs.is_across.Tie as tie
 use Rattle.cuts.proofs.is_across.Reads as reads
 use Rattle.cuts.proofs.is_across.Lts as lts
 
--- src/lib.rt:135:9
 returns : tie.Need-returns
 returns c = rw (le-ltb _ _ (c .if1 .taken)) refl
 
--- src/lib.rt:131:1
 returns-2 : tie.Need-returns-2
 returns-2 c = rw (lt-ltb _ _ (c .if1 .left)) refl
 

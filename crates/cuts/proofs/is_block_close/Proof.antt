@@ -6,15 +6,12 @@ use Rattle.cuts.proofs.is_block_close.Tie as tie
 use Rattle.cuts.proofs.is_block_close.Reads as reads
 use Rattle.cuts.proofs.is_block_close.Lts as lts
 
--- src/lib.rt:42:10
 add-result : tie.Need-add-result
 add-result c = search needs
 
--- src/lib.rt:42:5
 shared-slice-read-result : tie.Need-shared-slice-read-result
 shared-slice-read-result c = search needs
 
--- src/lib.rt:38:1
 returns : tie.Need-returns
 unfolding recordAt operandsAt nodeCodec
 returns c = refl

@@ -6,15 +6,12 @@ use Rattle.cuts.proofs.is_block_open.Tie as tie
 use Rattle.cuts.proofs.is_block_open.Reads as reads
 use Rattle.cuts.proofs.is_block_open.Lts as lts
 
--- src/lib.rt:35:10
 add-result : tie.Need-add-result
 add-result c = search needs
 
--- src/lib.rt:35:5
 shared-slice-read-result : tie.Need-shared-slice-read-result
 shared-slice-read-result c = search needs
 
--- src/lib.rt:31:1
 returns : tie.Need-returns
 unfolding recordAt operandsAt nodeCodec
 returns c = refl

@@ -7,41 +7,32 @@ use Rattle.cuts.proofs.is_directive.Tie as tie
 use Rattle.cuts.proofs.is_directive.Reads as reads
 use Rattle.cuts.proofs.is_directive.Lts as lts
 
--- src/lib.rt:49:18
 add-if1 : tie.Need-add-if1
 add-if1 c = search needs
 
--- src/lib.rt:49:13
 shared-slice-read-if1 : tie.Need-shared-slice-read-if1
 shared-slice-read-if1 c = search needs
 
--- src/lib.rt:50:9
 returns : tie.Need-returns
 unfolding recordAt operandsAt nodeCodec
 returns c = rw (le-ltb _ 2 (c .if1 .taken)) refl
 
--- src/lib.rt:52:13
 add-if2 : tie.Need-add-if2
 add-if2 c = search needs
 
--- src/lib.rt:52:8
 shared-slice-read-if2 : tie.Need-shared-slice-read-if2
 shared-slice-read-if2 c = search needs
 
--- src/lib.rt:53:9
 returns-2 : tie.Need-returns-2
 unfolding recordAt operandsAt nodeCodec
 returns-2 c = rw (lt-ltb _ 2 (c .before .before .if1 .left), ne-eqb _ 13 (c .if2 .taken)) refl
 
--- src/lib.rt:55:10
 add-result : tie.Need-add-result
 add-result c = search needs
 
--- src/lib.rt:55:5
 shared-slice-read-result : tie.Need-shared-slice-read-result
 shared-slice-read-result c = search needs
 
--- src/lib.rt:45:1
 returns-3 : tie.Need-returns-3
 unfolding recordAt operandsAt nodeCodec
 returns-3 c = rw (lt-ltb _ 2 (c .before .before .before .if1 .left), eq-eqb _ 13 (c .before .if2 .left)) refl

@@ -6,20 +6,16 @@ use Rattle.cuts.proofs.is_nothing.Tie as tie
 use Rattle.cuts.proofs.is_nothing.Reads as reads
 use Rattle.cuts.proofs.is_nothing.Lts as lts
 
--- src/lib.rt:162:31
 enum-told : tie.Need-enum-told
 enum-told c = search needs
 
--- src/lib.rt:163:28
 enum-told-2 : tie.Need-enum-told-2
 enum-told-2 c = search needs
 
--- src/lib.rt:158:1
 returns : tie.Need-returns
 unfolding isNothing
 returns c = rw (c .enum-told .given .1) refl
 
--- src/lib.rt:158:1
 returns-2 : tie.Need-returns-2
 unfolding isNothing
 returns-2 c = rw (c .enum-told2 .given .1) refl

@@ -8,28 +8,22 @@ use Rattle.cuts.proofs.joined.Lts as lts
 use Rattle.cuts.proofs.greatest.Reads as greatest-reads
 use Rattle.cuts.proofs.least.Reads as least-reads
 
--- src/lib.rt:161:22
 enum-known-a : tie.Need-enum-known-a
 enum-known-a c = search needs
 
--- src/lib.rt:161:51
 least-requires : tie.Need-least-requires
 least-requires c κs = search needs
 
--- src/lib.rt:161:72
 greatest-requires : tie.Need-greatest-requires
 greatest-requires c κs = search needs
 
--- src/lib.rt:162:28
 enum-told : tie.Need-enum-told
 enum-told c = search needs
 
--- src/lib.rt:157:1
 returns : tie.Need-returns
 unfolding joined
 returns c = rw (c .before .before .before .a .given .1, c .before .least .ensures, c .greatest .ensures) refl
 
--- src/lib.rt:157:1
 returns-2 : tie.Need-returns-2
 unfolding joined
 returns-2 c = rw (c .enum-told .given .1) refl

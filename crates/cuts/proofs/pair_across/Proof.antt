@@ -17,43 +17,33 @@ Inv-loop tape pairs o a₀ i₀ a i = (i ≤ pairs .count) × (a ≡ acrossOf (r
 abbrev μ-loop : tie.MeasureT-loop
 μ-loop tape pairs o a₀ i₀ a i = i
 
--- src/lib.rt:182:5
 loop-holds : tie.Need-loop-holds Inv-loop μ-loop
 loop-holds c = (omega arith, across-none _ _ _ _)
 
--- src/lib.rt:183:9
 sub-i : tie.Need-sub-i Inv-loop μ-loop
 sub-i c = omega arith
 
--- src/lib.rt:184:28
 mul-p : tie.Need-mul-p Inv-loop μ-loop
 mul-p c = omega arith
 
--- src/lib.rt:184:17
 add-p : tie.Need-add-p Inv-loop μ-loop
 add-p c = omega arith
 
--- src/lib.rt:185:24
 pair-start-requires : tie.Need-pair-start-requires Inv-loop μ-loop
 pair-start-requires c κs = omega arith
 
--- src/lib.rt:185:45
 pair-end-requires : tie.Need-pair-end-requires Inv-loop μ-loop
 pair-end-requires c κs = omega arith
 
--- src/lib.rt:185:9
 widened-requires : tie.Need-widened-requires Inv-loop μ-loop
 widened-requires c κs = omega arith
 
--- src/lib.rt:182:5
 loop-less : tie.Need-loop-less Inv-loop μ-loop
 loop-less c = omega arith
 
--- src/lib.rt:182:5
 loop-again : tie.Need-loop-again Inv-loop μ-loop
 loop-again c = (omega arith, across-more _ _ _ _ _ _ (c .before .before .before .before .before .loop .inv .1) (c .before .before .before .before .before .loop .inv .0) _ refl (c .before .before .before .before .loop-test .taken) _ _ (c .before .before .pair-start .ensures) (c .before .pair-end .ensures) _ (c .widened .ensures))
 
--- src/lib.rt:176:1
 returns : tie.Need-returns Inv-loop μ-loop
 returns c = c .before .loop .inv .1 ∙ across-all _ _ _ _ _ (omega arith)
 

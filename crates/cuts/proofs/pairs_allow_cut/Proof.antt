@@ -8,15 +8,12 @@ use Rattle.cuts.proofs.pairs_allow_cut.Lts as lts
 use Rattle.cuts.proofs.is_nothing.Reads as is-nothing-reads
 use Rattle.cuts.proofs.pair_across.Reads as pair-across-reads
 
--- src/lib.rt:190:16
 pair-across-requires : tie.Need-pair-across-requires
 pair-across-requires c κs = search needs
 
--- src/lib.rt:190:5
 is-nothing-requires : tie.Need-is-nothing-requires
 is-nothing-requires c κs = search needs
 
--- src/lib.rt:186:1
 returns : tie.Need-returns
 returns c = c .is-nothing .ensures ∙ ap isNothing (c .before .pair-across .ensures) ∙ pairs-allow _ _
 

@@ -11,37 +11,29 @@ use Rattle.cuts.proofs.blank_line_before.Reads as blank-line-before-rea
 use Rattle.cuts.proofs.nodes_allow_cut.Reads as nodes-allow-cut-reads
 use Rattle.cuts.proofs.pairs_allow_cut.Reads as pairs-allow-cut-reads
 
--- src/lib.rt:230:9
 returns : tie.Need-returns
 unfolding safeCutIn
 returns c = rw (eq-eqb _ 0 (c .if1 .taken)) refl
 
--- src/lib.rt:233:9
 returns-2 : tie.Need-returns-2
 unfolding safeCutIn
 returns-2 c = rw (eq-eqb _ _ (c .if2 .taken), or-true) refl
 
--- src/lib.rt:235:9
 blank-line-before-requires : tie.Need-blank-line-before-requires
 blank-line-before-requires c κs = search needs
 
--- src/lib.rt:236:9
 returns-3 : tie.Need-returns-3
 returns-3 c = safe-no-line _ _ _ _ (c .before .before .before .if1 .left) (c .before .before .if2 .left) _ (c .before .blank-line-before .ensures) (not-true _ (c .if3 .taken))
 
--- src/lib.rt:238:9
 nodes-allow-cut-requires : tie.Need-nodes-allow-cut-requires
 nodes-allow-cut-requires c κs = search needs
 
--- src/lib.rt:239:9
 returns-4 : tie.Need-returns-4
 returns-4 c = safe-no-nodes _ _ _ _ (c .before .before .before .before .before .if1 .left) (c .before .before .before .before .if2 .left) _ (c .before .nodes-allow-cut .ensures) (not-true _ (c .if4 .taken))
 
--- src/lib.rt:241:5
 pairs-allow-cut-requires : tie.Need-pairs-allow-cut-requires
 pairs-allow-cut-requires c κs = search needs
 
--- src/lib.rt:224:1
 returns-5 : tie.Need-returns-5
 returns-5 c = safe-pairs _ _ _ _ (c .before .before .before .before .before .before .if1 .left) (c .before .before .before .before .before .if2 .left) _ (c .before .before .before .before .blank-line-before .ensures) (not-false _ (c .before .before .before .if3 .left)) _ (c .before .before .nodes-allow-cut .ensures) (not-false _ (c .before .if4 .left)) _ (c .pairs-allow-cut .ensures)
 

@@ -9,19 +9,15 @@ use Rattle.cuts.proofs.depth_behind.Reads as depth-behind-reads
 use Rattle.cuts.proofs.is_warichu_close.Reads as is-warichu-close-reads
 use Rattle.cuts.proofs.is_warichu_open.Reads as is-warichu-open-reads
 
--- src/lib.rt:105:9
 is-warichu-open-requires : tie.Need-is-warichu-open-requires
 is-warichu-open-requires c κs = search needs
 
--- src/lib.rt:106:9
 is-warichu-close-requires : tie.Need-is-warichu-close-requires
 is-warichu-close-requires c κs = search needs
 
--- src/lib.rt:104:5
 depth-behind-requires : tie.Need-depth-behind-requires
 depth-behind-requires c κs = search needs
 
--- src/lib.rt:100:1
 returns : tie.Need-returns
 unfolding depthBehind
 returns c = c .depth-behind .ensures ∙ rw (c .before .before .is-warichu-open .ensures, c .before .is-warichu-close .ensures) refl

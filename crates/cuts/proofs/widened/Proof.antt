@@ -8,19 +8,15 @@ use Rattle.cuts.proofs.widened.Lts as lts
 use Rattle.cuts.proofs.is_across.Reads as is-across-reads
 use Rattle.cuts.proofs.joined.Reads as joined-reads
 
--- src/lib.rt:169:9
 is-across-requires : tie.Need-is-across-requires
 is-across-requires c κs = search needs
 
--- src/lib.rt:170:9
 returns : tie.Need-returns
 returns c = widened-not _ _ _ _ _ (c .before .is-across .ensures) (not-true _ (c .if1 .taken))
 
--- src/lib.rt:172:5
 joined-requires : tie.Need-joined-requires
 joined-requires c κs = search needs
 
--- src/lib.rt:166:1
 returns-2 : tie.Need-returns-2
 returns-2 c = widened-by _ _ _ _ _ (c .before .before .is-across .ensures) (not-false _ (c .before .if1 .left)) _ (c .joined .ensures)
 

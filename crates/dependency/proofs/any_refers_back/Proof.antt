@@ -22,51 +22,39 @@ Inv-loop tape st words₀ base old new at count from i₀ words i = (i ≤ count
 abbrev μ-loop : tie.MeasureT-loop
 μ-loop tape st words₀ base old new at count from i₀ words i = count - i
 
--- src/lib.rt:292:5
 loop-holds : tie.Need-loop-holds Inv-loop μ-loop
 loop-holds c = (omega arith, refl, refl, noted-none _ _ _ _ _, missed-none _)
 
--- src/lib.rt:293:12
 refers-back-requires : tie.Need-refers-back-requires Inv-loop μ-loop
 refers-back-requires c κs = (sound-before (sound-index (c .before .before .loop .inv .2) (c .before .before .before .before .before .before .before .pre .0)) (omega (arith, c .before .loop-test .taken)), (omega (arith, c .before .before .before .before .before .before .before .pre .1, c .before .before .loop .inv .1), c .before .before .loop .inv .3))
 
--- src/lib.rt:294:13
 same-length : tie.Need-same-length Inv-loop μ-loop
 same-length c = c .before .before .before .before .loop .inv .1
 
--- src/lib.rt:294:13
 returns : tie.Need-returns Inv-loop μ-loop
 returns c = sym (depends-records _ _ _ _ _ ∙ any-found (refersAt (storeIn (c .before .before .before .before .before .before .before .before .before .args .tape .now) (c .before .before .before .before .before .before .before .before .before .args .old .now ++ c .before .before .before .before .before .before .before .before .before .args .new .now)) (c .before .before .before .before .before .before .before .before .before .args .from) (c .before .before .before .before .before .before .before .before .before .args .tape .now) (c .before .before .before .before .before .before .before .before .before .args .at)) _ (c .before .before .before .before .loop .i) (c .before .before .before .loop-test .taken) (sym (c .before .refers-back .ensures) ∙ c .if1 .taken))
 
--- src/lib.rt:296:57
 mul-note-ruby : tie.Need-mul-note-ruby Inv-loop μ-loop
 mul-note-ruby c = omega (arith, c .before .before .before .before .before .before .before .before .before .before .pre .0 .inside)
 
--- src/lib.rt:296:52
 add-note-ruby : tie.Need-add-note-ruby Inv-loop μ-loop
 add-note-ruby c = omega (arith, c .before .before .before .before .before .before .before .before .before .before .pre .0 .inside)
 
--- src/lib.rt:296:9
 note-ruby-requires : tie.Need-note-ruby-requires Inv-loop μ-loop
 note-ruby-requires c κs = (sound-node (sound-index (c .before .before .before .before .before .loop .inv .2) (c .before .before .before .before .before .before .before .before .before .before .pre .0)) (c .before .before .before .before .loop-test .taken), omega (arith, c .before .before .before .before .before .before .before .before .before .before .pre .1, c .before .before .before .before .before .loop .inv .1))
 
--- src/lib.rt:297:9
 add-i : tie.Need-add-i Inv-loop μ-loop
 add-i c = omega arith
 
--- src/lib.rt:292:5
 loop-less : tie.Need-loop-less Inv-loop μ-loop
 loop-less c = omega arith
 
--- src/lib.rt:292:5
 loop-again : tie.Need-loop-again Inv-loop μ-loop
 loop-again c = (omega arith, c .before .before .note-ruby .kept .1 .1 .0 ∙ c .before .before .before .before .before .before .before .before .loop .inv .1, noted-front _ _ _ _ (c .before .before .note-ruby .ensures) ∙ c .before .before .before .before .before .before .before .before .loop .inv .2, noted-next _ _ _ _ _ _ (c .before .before .before .before .before .before .before .before .loop .inv .3) (c .before .before .note-ruby .ensures), missed-more (refersAt (storeIn (c .before .before .before .before .before .before .before .before .before .before .before .before .before .args .tape .now) (c .before .before .before .before .before .before .before .before .before .before .before .before .before .args .old .now ++ c .before .before .before .before .before .before .before .before .before .before .before .before .before .args .new .now)) (c .before .before .before .before .before .before .before .before .before .before .before .before .before .args .from) (c .before .before .before .before .before .before .before .before .before .before .before .before .before .args .tape .now) (c .before .before .before .before .before .before .before .before .before .before .before .before .before .args .at)) (c .before .before .before .before .before .before .before .before .loop .i) (c .before .before .before .before .before .before .before .before .loop .inv .4) (sym (c .before .before .before .before .before .refers-back .ensures) ∙ c .before .before .before .before .if1 .left))
 
--- src/lib.rt:276:1
 same-length-2 : tie.Need-same-length-2 Inv-loop μ-loop
 same-length-2 c = c .before .loop .inv .1
 
--- src/lib.rt:276:1
 returns-2 : tie.Need-returns-2 Inv-loop μ-loop
 returns-2 c = sym (depends-records _ _ _ _ _ ∙ ap (λ n. anyUpTo n (refersAt (storeIn (c .before .before .before .before .before .before .args .tape .now) (c .before .before .before .before .before .before .args .old .now ++ c .before .before .before .before .before .before .args .new .now)) (c .before .before .before .before .before .before .args .from) (c .before .before .before .before .before .before .args .tape .now) (c .before .before .before .before .before .before .args .at))) (let e : (c .before .before .before .before .before .before .args .count) ≡ c .before .loop .i = omega arith in e) ∙ any-missed (refersAt (storeIn (c .before .before .before .before .before .before .args .tape .now) (c .before .before .before .before .before .before .args .old .now ++ c .before .before .before .before .before .before .args .new .now)) (c .before .before .before .before .before .before .args .from) (c .before .before .before .before .before .before .args .tape .now) (c .before .before .before .before .before .before .args .at)) (c .before .loop .i) (c .before .loop .inv .4))
 

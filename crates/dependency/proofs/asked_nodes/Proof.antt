@@ -14,45 +14,35 @@ Inv-loop tape at count from n₀ n = (n ≤ count) × (countToLast n (asksAt fro
 abbrev μ-loop : tie.MeasureT-loop
 μ-loop tape at count from n₀ n = n
 
--- src/lib.rt:64:5
 loop-holds : tie.Need-loop-holds Inv-loop μ-loop
 loop-holds c = (omega arith, refl)
 
--- src/lib.rt:65:41
 sub-asks-target : tie.Need-sub-asks-target Inv-loop μ-loop
 sub-asks-target c = omega arith
 
--- src/lib.rt:65:35
 mul-asks-target : tie.Need-mul-asks-target Inv-loop μ-loop
 mul-asks-target c = omega arith
 
--- src/lib.rt:65:30
 add-asks-target : tie.Need-add-asks-target Inv-loop μ-loop
 add-asks-target c = omega arith
 
--- src/lib.rt:65:12
 asks-target-requires : tie.Need-asks-target-requires Inv-loop μ-loop
 asks-target-requires c κs = omega arith
 
--- src/lib.rt:66:13
 returns : tie.Need-returns Inv-loop μ-loop
 unfolding asksAt
 returns c = last-here (asksAt (c .before .before .before .before .before .args .from) (c .before .before .before .before .before .args .tape .now) (c .before .before .before .before .before .args .at)) (c .before .before .before .loop .n) (c .before .before .loop-test .taken) (sym (c .before .asks-target .ensures) ∙ c .if1 .taken) ∙ c .before .before .before .loop .inv .1
 
--- src/lib.rt:68:9
 sub-n : tie.Need-sub-n Inv-loop μ-loop
 sub-n c = omega arith
 
--- src/lib.rt:64:5
 loop-less : tie.Need-loop-less Inv-loop μ-loop
 loop-less c = omega arith
 
--- src/lib.rt:64:5
 loop-again : tie.Need-loop-again Inv-loop μ-loop
 unfolding asksAt
 loop-again c = (omega arith, last-before (asksAt (c .before .before .before .before .before .args .from) (c .before .before .before .before .before .args .tape .now) (c .before .before .before .before .before .args .at)) (c .before .before .before .loop .n) (c .before .before .loop-test .taken) (sym (c .before .asks-target .ensures) ∙ c .if1 .left) ∙ c .before .before .before .loop .inv .1)
 
--- src/lib.rt:59:1
 returns-2 : tie.Need-returns-2 Inv-loop μ-loop
 returns-2 c = let e : c .before .loop .n ≡ 0 = omega arith in last-none (asksAt (c .before .before .before .args .from) (c .before .before .before .args .tape .now) (c .before .before .before .args .at)) ∙ sym (ap (λ m. countToLast m (asksAt (c .before .before .before .args .from) (c .before .before .before .args .tape .now) (c .before .before .before .args .at))) e) ∙ c .before .loop .inv .1
 

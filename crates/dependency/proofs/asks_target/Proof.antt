@@ -8,19 +8,15 @@ use Rattle.dependency.proofs.asks_target.Lts as lts
 use Rattle.dependency.proofs.is_referenced_format.Reads as is-referenced-format-reads
 use Rattle.records.proofs.node_end.Reads as node-end-reads
 
--- src/lib.rt:52:9
 is-referenced-format-requires : tie.Need-is-referenced-format-requires
 is-referenced-format-requires c κs = search needs
 
--- src/lib.rt:53:9
 returns : tie.Need-returns
 returns c = asks-other _ _ (c .before .is-referenced-format .ensures) (not-true _ (c .if1 .taken))
 
--- src/lib.rt:55:12
 node-end-requires : tie.Need-node-end-requires
 node-end-requires c κs = search needs
 
--- src/lib.rt:48:1
 returns-2 : tie.Need-returns-2
 returns-2 c = asks-end _ _ (c .before .before .is-referenced-format .ensures) (not-false _ (c .before .if1 .left)) (c .node-end .ensures)
 

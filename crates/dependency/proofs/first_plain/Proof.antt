@@ -7,27 +7,21 @@ use Rattle.dependency.proofs.first_plain.Lts as lts
 use Rattle.records.proofs.body_word.Reads as body-word-reads
 use Rattle.strings.proofs.content_range_as_plain.Reads as content-range-as-plain-reads
 
--- src/lib.rt:51:42
 add-body-word : tie.Need-add-body-word
 add-body-word c = search needs
 
--- src/lib.rt:51:9
 body-word-requires : tie.Need-body-word-requires
 body-word-requires c κs = search needs
 
--- src/lib.rt:52:40
 add-body-word-2 : tie.Need-add-body-word-2
 add-body-word-2 c = search needs
 
--- src/lib.rt:52:9
 body-word-requires-2 : tie.Need-body-word-requires-2
 body-word-requires-2 c κs = search needs
 
--- src/lib.rt:53:5
 content-range-as-plain-requires : tie.Need-content-range-as-plain-requires
 content-range-as-plain-requires c κs = (c .before .before .before .pre .0, words-range _ _ (c .before .body-word .ensures) (c .body-word2 .ensures) (c .before .before .before .pre .1 .1))
 
--- src/lib.rt:45:1
 returns : tie.Need-returns
 returns c = words-plain _ _ (c .before .before .body-word .ensures) (c .before .body-word2 .ensures) (c .content-range-as-plain .ensures)
 

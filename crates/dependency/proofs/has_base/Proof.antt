@@ -10,23 +10,18 @@ use Rattle.dependency.proofs.first_plain.Reads as first-plain-reads
 use Rattle.dependency.proofs.is_plain.Reads as is-plain-reads
 use Rattle.dependency.proofs.is_ruby.Reads as is-ruby-reads
 
--- src/lib.rt:112:9
 is-ruby-requires : tie.Need-is-ruby-requires
 is-ruby-requires c κs = search needs
 
--- src/lib.rt:113:9
 returns : tie.Need-returns
 returns c = base-other (c .before .before .before .before .before .before .before .pre) _ (c .before .is-ruby .ensures) (not-true _ (c .if1 .taken))
 
--- src/lib.rt:115:9
 first-plain-requires : tie.Need-first-plain-requires
 first-plain-requires c κs = (c .before .before .before .before .before .before .before .pre .strings .sides .store, (c .before .before .before .before .before .before .before .pre .inside, ruby-first (c .before .before .before .before .before .before .before .pre) (c .before .is-ruby .ensures) (not-false _ (c .if1 .left))))
 
--- src/lib.rt:116:5
 is-plain-requires : tie.Need-is-plain-requires
 is-plain-requires c κs = (c .before .before .before .before .before .before .before .before .pre .strings, plain-inside (c .before .before .before .before .before .before .before .before .pre) (c .first-plain .ensures))
 
--- src/lib.rt:100:1
 returns-2 : tie.Need-returns-2
 returns-2 c = base-ruby (c .before .before .before .before .before .before .before .before .before .pre) _ (c .before .before .before .is-ruby .ensures) (not-false _ (c .before .before .if1 .left)) (c .before .first-plain .ensures) (c .is-plain .ensures)
 

@@ -8,19 +8,15 @@ use Rattle.dependency.proofs.has_ruby_format_dependency.Lts as lts
 use Rattle.dependency.proofs.any_refers_back.Reads as any-refers-back-reads
 use Rattle.dependency.proofs.asked_nodes.Reads as asked-nodes-reads
 
--- src/lib.rt:342:9
 asked-nodes-requires : tie.Need-asked-nodes-requires
 asked-nodes-requires c κs = search needs
 
--- src/lib.rt:343:5
 any-refers-back-requires : tie.Need-any-refers-back-requires
 any-refers-back-requires c κs = (sound-before (c .before .before .before .before .before .before .pre .0) (asked-inside _ _ _ _ (c .before .asked-nodes .ensures)), c .before .before .before .before .before .before .pre .1)
 
--- src/lib.rt:327:1
 same-length : tie.Need-same-length
 same-length c = search needs
 
--- src/lib.rt:327:1
 returns : tie.Need-returns
 returns c = asked-depends _ _ _ _ (c .before .before .before .before .asked-nodes .ensures) _ (c .before .before .any-refers-back .ensures)
 

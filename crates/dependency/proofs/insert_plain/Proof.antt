@@ -10,47 +10,36 @@ use Rattle.hash.proofs.fx_hash.Reads as fx-hash-reads
 use Rattle.bloom.proofs.insert.Reads as insert-reads
 use Rattle.strings.proofs.resolve_str.Reads as resolve-str-reads
 
--- src/lib.rt:241:19
 enum-known-p : tie.Need-enum-known-p
 enum-known-p c = search needs
 
--- src/lib.rt:242:52
 sub-resolve-str : tie.Need-sub-resolve-str
 sub-resolve-str c = search needs
 
--- src/lib.rt:242:52
 part-resolve-str-start : tie.Need-part-resolve-str-start
 part-resolve-str-start c = search needs
 
--- src/lib.rt:242:52
 part-resolve-str-end : tie.Need-part-resolve-str-end
 part-resolve-str-end c = search needs
 
--- src/lib.rt:242:17
 resolve-str-requires : tie.Need-resolve-str-requires
 resolve-str-requires c κs = (c .before .before .before .before .before .before .before .before .before .pre .0, (c .before .before .before .before .before .before .before .before .before .pre .1 .1 .inside _ (c .before .before .before .p .given .1)))
 
--- src/lib.rt:243:17
 fx-hash-requires : tie.Need-fx-hash-requires
 fx-hash-requires c κs = search needs
 
--- src/lib.rt:244:13
 insert-requires : tie.Need-insert-requires
 insert-requires c κs = search needs
 
--- src/lib.rt:245:13
 same-length : tie.Need-same-length
 same-length c = search needs
 
--- src/lib.rt:245:13
 returns : tie.Need-returns
 returns c = insert-some _ _ _ _ (c .before .before .before .before .before .before .before .before .before .p .given .1) (c .before .before .before .before .before .resolve-str .ensures ∙ shown-str (c .before .before .before .before .before .before .before .before .before .before .before .before .before .before .before .pre .0 .sides) _ (c .before .before .before .before .before .before .before .before .before .before .before .before .before .before .before .pre .1 .1 .inside _ (c .before .before .before .before .before .before .before .before .before .p .given .1))) (c .before .before .before .before .fx-hash .ensures) (c .before .before .insert .ensures)
 
--- src/lib.rt:248:13
 enum-told : tie.Need-enum-told
 enum-told c = search needs
 
--- src/lib.rt:248:13
 returns-2 : tie.Need-returns-2
 returns-2 c = insert-none _ _ _ (c .enum-told .given .1)
 

@@ -9,35 +9,27 @@ use Rattle.dependency.proofs.is_ruby_base.Reads as is-ruby-base-reads
 use Rattle.hash.proofs.fx_hash.Reads as fx-hash-reads
 use Rattle.bloom.proofs.may_contain.Reads as may-contain-reads
 
--- src/lib.rt:162:9
 fx-hash-requires : tie.Need-fx-hash-requires
 fx-hash-requires c κs = search needs
 
--- src/lib.rt:163:9
 may-contain-requires : tie.Need-may-contain-requires
 may-contain-requires c κs = search needs
 
--- src/lib.rt:164:9
 returns : tie.Need-returns
 returns c = base-absent (c .before .before .before .before .before .before .before .before .pre .1 .1) _ (c .before .before .fx-hash .ensures) (c .before .may-contain .ensures) (not-true _ (c .if1 .taken))
 
--- src/lib.rt:166:28
 sub-is-ruby-base : tie.Need-sub-is-ruby-base
 sub-is-ruby-base c = search needs
 
--- src/lib.rt:166:28
 part-is-ruby-base-start : tie.Need-part-is-ruby-base-start
 part-is-ruby-base-start c = search needs
 
--- src/lib.rt:166:28
 part-is-ruby-base-end : tie.Need-part-is-ruby-base-end
 part-is-ruby-base-end c = search needs
 
--- src/lib.rt:166:5
 is-ruby-base-requires : tie.Need-is-ruby-base-requires
 is-ruby-base-requires c κs = search needs
 
--- src/lib.rt:146:1
 returns-2 : tie.Need-returns-2
 returns-2 c = search needs
 

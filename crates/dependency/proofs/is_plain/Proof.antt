@@ -6,23 +6,18 @@ use Rattle.dependency.proofs.is_plain.Reads as reads
 use Rattle.dependency.proofs.is_plain.Lts as lts
 use Rattle.dependency.proofs.is_string.Reads as is-string-reads
 
--- src/lib.rt:90:19
 enum-known-p : tie.Need-enum-known-p
 enum-known-p c = search needs
 
--- src/lib.rt:91:13
 is-string-requires : tie.Need-is-string-requires
 is-string-requires c κs = (c .before .before .before .before .before .before .before .before .pre .0, c .before .before .before .before .before .before .before .before .pre .1 .inside _ (c .before .p .given .1))
 
--- src/lib.rt:91:13
 returns : tie.Need-returns
 returns c = plain-some _ _ _ _ (c .before .before .p .given .1) (c .is-string .ensures)
 
--- src/lib.rt:94:13
 enum-told : tie.Need-enum-told
 enum-told c = search needs
 
--- src/lib.rt:94:13
 returns-2 : tie.Need-returns-2
 returns-2 c = plain-none _ _ _ (c .enum-told .given .1)
 

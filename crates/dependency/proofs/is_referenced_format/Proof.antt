@@ -5,39 +5,30 @@ use Rattle.dependency.proofs.is_referenced_format.Tie as tie
 use Rattle.dependency.proofs.is_referenced_format.Reads as reads
 use Rattle.dependency.proofs.is_referenced_format.Lts as lts
 
--- src/lib.rt:24:13
 add-if1 : tie.Need-add-if1
 add-if1 c = search needs
 
--- src/lib.rt:24:8
 shared-slice-read-if1 : tie.Need-shared-slice-read-if1
 shared-slice-read-if1 c = search needs
 
--- src/lib.rt:25:9
 returns : tie.Need-returns
 returns c = format-class _ _ (c .if1 .taken)
 
--- src/lib.rt:27:13
 add-if2 : tie.Need-add-if2
 add-if2 c = search needs
 
--- src/lib.rt:27:8
 shared-slice-read-if2 : tie.Need-shared-slice-read-if2
 shared-slice-read-if2 c = search needs
 
--- src/lib.rt:28:9
 returns-2 : tie.Need-returns-2
 returns-2 c = format-kind _ _ (c .before .before .if1 .left) (c .if2 .taken)
 
--- src/lib.rt:30:10
 add-result : tie.Need-add-result
 add-result c = search needs
 
--- src/lib.rt:30:5
 shared-slice-read-result : tie.Need-shared-slice-read-result
 shared-slice-read-result c = search needs
 
--- src/lib.rt:20:1
 returns-3 : tie.Need-returns-3
 returns-3 c = format-origin _ _ (c .before .before .before .if1 .left) (c .before .if2 .left)
 

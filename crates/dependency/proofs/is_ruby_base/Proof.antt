@@ -20,41 +20,32 @@ Inv-loop tape st words old new at count s i₀ i = (i ≤ count) × Missed (test
 abbrev μ-loop : tie.MeasureT-loop
 μ-loop tape st words old new at count s i₀ i = count - i
 
--- src/lib.rt:134:5
 loop-holds : tie.Need-loop-holds Inv-loop μ-loop
 loop-holds c = (omega arith, missed-none _)
 
--- src/lib.rt:135:53
 mul-has-base : tie.Need-mul-has-base Inv-loop μ-loop
 mul-has-base c = omega (arith, c .before .before .before .before .before .before .before .pre .inside)
 
--- src/lib.rt:135:48
 add-has-base : tie.Need-add-has-base Inv-loop μ-loop
 add-has-base c = omega (arith, c .before .before .before .before .before .before .before .pre .inside)
 
--- src/lib.rt:135:12
 has-base-requires : tie.Need-has-base-requires Inv-loop μ-loop
 has-base-requires c κs = sound-node (c .before .before .before .before .before .before .before .pre) (c .loop-test .taken)
 
--- src/lib.rt:136:13
 returns : tie.Need-returns Inv-loop μ-loop
 unfolding nodeCodec
 returns c = run-found nodeCodec (hasBase (storeIn (c .before .before .before .before .before .before .before .before .before .args .tape .now) (c .before .before .before .before .before .before .before .before .before .args .old .now ++ c .before .before .before .before .before .before .before .before .before .args .new .now)) (c .before .before .before .before .before .before .before .before .before .args .s .now)) (c .before .before .before .before .before .before .before .before .before .args .tape .now) (c .before .before .before .before .before .before .before .before .before .args .at) (c .before .before .before .loop .i) _ refl _ (c .before .has-base .ensures) _ (c .before .before .loop-test .taken) (c .if1 .taken)
 
--- src/lib.rt:138:9
 add-i : tie.Need-add-i Inv-loop μ-loop
 add-i c = omega arith
 
--- src/lib.rt:134:5
 loop-less : tie.Need-loop-less Inv-loop μ-loop
 loop-less c = omega arith
 
--- src/lib.rt:134:5
 loop-again : tie.Need-loop-again Inv-loop μ-loop
 unfolding nodeCodec
 loop-again c = (omega arith, run-missed nodeCodec (hasBase (storeIn (c .before .before .before .before .before .before .before .before .before .args .tape .now) (c .before .before .before .before .before .before .before .before .before .args .old .now ++ c .before .before .before .before .before .before .before .before .before .args .new .now)) (c .before .before .before .before .before .before .before .before .before .args .s .now)) (c .before .before .before .before .before .before .before .before .before .args .tape .now) (c .before .before .before .before .before .before .before .before .before .args .at) (c .before .before .before .loop .i) _ refl _ (c .before .has-base .ensures) (c .if1 .left) (c .before .before .before .loop .inv .1))
 
--- src/lib.rt:120:1
 returns-2 : tie.Need-returns-2 Inv-loop μ-loop
 returns-2 c = run-nowhere nodeCodec (hasBase (storeIn (c .before .before .before .before .before .before .before .args .tape .now) (c .before .before .before .before .before .before .before .args .old .now ++ c .before .before .before .before .before .before .before .args .new .now)) (c .before .before .before .before .before .before .before .args .s .now)) (c .before .before .before .before .before .before .before .args .tape .now) (c .before .before .before .before .before .before .before .args .at) _ (c .before .loop .i) (omega arith) (c .before .loop .inv .1)
 

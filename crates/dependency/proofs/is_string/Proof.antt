@@ -11,23 +11,18 @@ use Rattle.strings.proofs.resolve_str.Reads as resolve-str-reads
 use Rattle.strings.proofs.string_length.Reads as string-length-reads
 use Rattle.compare.proofs.same.Reads as same-reads
 
--- src/lib.rt:70:8
 string-length-requires : tie.Need-string-length-requires
 string-length-requires c κs = search needs
 
--- src/lib.rt:71:9
 returns : tie.Need-returns
 returns c = other-length (c .before .before .before .before .before .before .before .pre .0) _ (c .before .before .before .before .before .before .before .pre .1) (c .before .before .before .before .before .before .before .args .s .now) (c .before .string-length .ensures) (c .if1 .taken)
 
--- src/lib.rt:73:19
 resolve-str-requires : tie.Need-resolve-str-requires
 resolve-str-requires c κs = search needs
 
--- src/lib.rt:73:5
 same-requires : tie.Need-same-requires
 same-requires c κs = search needs
 
--- src/lib.rt:57:1
 returns-2 : tie.Need-returns-2
 returns-2 c = c .same .ensures ∙ ap (same (c .before .before .before .before .before .before .before .before .before .args .s .now)) (c .before .resolve-str .ensures ∙ shown-str (c .before .before .before .before .before .before .before .before .before .pre .0 .sides) _ (c .before .before .before .before .before .before .before .before .before .pre .1))
 

@@ -10,27 +10,21 @@ use Rattle.dependency.proofs.first_plain.Reads as first-plain-reads
 use Rattle.dependency.proofs.is_ruby.Reads as is-ruby-reads
 use Rattle.dependency.proofs.insert_plain.Reads as insert-plain-reads
 
--- src/lib.rt:267:9
 is-ruby-requires : tie.Need-is-ruby-requires
 is-ruby-requires c κs = search needs
 
--- src/lib.rt:268:9
 returns : tie.Need-returns
 returns c = note-other _ _ (c .before .before .before .before .before .before .pre .0) (c .before .is-ruby .ensures) (not-true _ (c .if1 .taken))
 
--- src/lib.rt:270:9
 first-plain-requires : tie.Need-first-plain-requires
 first-plain-requires c κs = (c .before .before .before .before .before .before .pre .0 .strings .sides .store, (c .before .before .before .before .before .before .pre .0 .inside, ruby-first (c .before .before .before .before .before .before .pre .0) (c .before .is-ruby .ensures) (not-false _ (c .if1 .left))))
 
--- src/lib.rt:271:5
 insert-plain-requires : tie.Need-insert-plain-requires
 insert-plain-requires c κs = (c .before .before .before .before .before .before .before .before .pre .0 .strings, (c .before .before .before .before .before .before .before .before .pre .1, plain-inside (c .before .before .before .before .before .before .before .before .pre .0) (c .before .first-plain .ensures)))
 
--- src/lib.rt:254:1
 same-length : tie.Need-same-length
 same-length c = search needs
 
--- src/lib.rt:254:1
 returns-2 : tie.Need-returns-2
 returns-2 c = note-ruby _ _ (c .before .before .before .before .before .before .before .before .before .before .before .pre .0) (c .before .before .before .before .before .before .is-ruby .ensures) (not-false _ (c .before .before .before .before .before .if1 .left)) (c .before .before .before .before .first-plain .ensures) (c .before .before .insert-plain .ensures)
 

@@ -12,31 +12,24 @@ use Rattle.dependency.proofs.asks_target.Reads as asks-target-reads
 use Rattle.dependency.proofs.first_plain.Reads as first-plain-reads
 use Rattle.dependency.proofs.is_target_base.Reads as is-target-base-reads
 
--- src/lib.rt:241:22
 mul-place : tie.Need-mul-place
 mul-place c = search needs
 
--- src/lib.rt:241:17
 add-place : tie.Need-add-place
 add-place c = search needs
 
--- src/lib.rt:242:9
 asks-target-requires : tie.Need-asks-target-requires
 asks-target-requires c κs = search needs
 
--- src/lib.rt:243:9
 returns : tie.Need-returns
 returns c = refers-other _ _ _ refl (sound-last (c .before .before .before .before .before .before .args .i) (c .before .before .before .before .before .before .pre .0)) (c .before .asks-target .ensures) (not-true _ (c .if1 .taken))
 
--- src/lib.rt:245:9
 first-plain-requires : tie.Need-first-plain-requires
 first-plain-requires c κs = (c .before .before .before .before .before .before .pre .0 .strings .sides .store, ((sound-last (c .before .before .before .before .before .before .args .i) (c .before .before .before .before .before .before .pre .0)) .inside, format-first (sound-last (c .before .before .before .before .before .before .args .i) (c .before .before .before .before .before .before .pre .0)) _ (c .before .asks-target .ensures) (not-false _ (c .if1 .left))))
 
--- src/lib.rt:246:5
 is-target-base-requires : tie.Need-is-target-base-requires
 is-target-base-requires c κs = (sound-before (c .before .before .before .before .before .before .before .pre .0) (omega arith), (c .before .before .before .before .before .before .before .pre .1 .0, (c .before .before .before .before .before .before .before .pre .1 .1, plain-inside (sound-last (c .before .before .before .before .before .before .before .args .i) (c .before .before .before .before .before .before .before .pre .0)) (c .first-plain .ensures))))
 
--- src/lib.rt:225:1
 returns-2 : tie.Need-returns-2
 returns-2 c = refers-target _ _ _ refl (sound-last (c .before .before .before .before .before .before .before .before .args .i) (c .before .before .before .before .before .before .before .before .pre .0)) (c .before .before .before .asks-target .ensures) (not-false _ (c .before .before .if1 .left)) (c .before .first-plain .ensures) (c .is-target-base .ensures)
 

@@ -11,39 +11,30 @@ use Rattle.edit.proofs.length_fits.Reads as length-fits-reads
 use Rattle.edit.proofs.unchanged.Reads as unchanged-reads
 use Rattle.utf8.proofs.is_utf8.Reads as is-utf8-reads
 
--- src/lib.rt:58:9
 edit-ok-requires : tie.Need-edit-ok-requires
 edit-ok-requires c κs = search needs
 
--- src/lib.rt:59:9
 returns : tie.Need-returns
 returns c = edit-eight _ _ _ _ (c .before .edit-ok .ensures) (not-true _ (c .if1 .taken))
 
--- src/lib.rt:61:9
 is-utf8-requires : tie.Need-is-utf8-requires
 is-utf8-requires c κs = search needs
 
--- src/lib.rt:62:9
 returns-2 : tie.Need-returns-2
 returns-2 c = edit-two _ _ _ _ (c .before .before .before .edit-ok .ensures) (not-false _ (c .before .before .if1 .left)) (c .before .is-utf8 .ensures) (not-true _ (c .if2 .taken))
 
--- src/lib.rt:64:9
 length-fits-requires : tie.Need-length-fits-requires
 length-fits-requires c κs = edit-facts _ _ _ _ (c .before .before .before .edit-ok .ensures) (not-false _ (c .before .before .if1 .left)) (c .before .is-utf8 .ensures) (c .before .before .before .before .before .before .pre)
 
--- src/lib.rt:65:9
 returns-3 : tie.Need-returns-3
 returns-3 c = edit-three _ _ _ _ (c .before .before .before .before .before .edit-ok .ensures) (not-false _ (c .before .before .before .before .if1 .left)) (c .before .before .before .is-utf8 .ensures) (not-false _ (c .before .before .if2 .left)) (c .before .length-fits .ensures) (not-true _ (c .if3 .taken))
 
--- src/lib.rt:67:8
 unchanged-requires : tie.Need-unchanged-requires
 unchanged-requires c κs = within-facts _ _ _ (sym (c .before .before .before .before .before .edit-ok .ensures) ∙ not-false _ (c .before .before .before .before .if1 .left))
 
--- src/lib.rt:68:9
 returns-4 : tie.Need-returns-4
 returns-4 c = edit-nine _ _ _ _ (c .before .before .before .before .before .before .before .edit-ok .ensures) (not-false _ (c .before .before .before .before .before .before .if1 .left)) (c .before .before .before .before .before .is-utf8 .ensures) (not-false _ (c .before .before .before .before .if2 .left)) (c .before .before .before .length-fits .ensures) (not-false _ (c .before .before .if3 .left)) (c .before .unchanged .ensures) (c .if4 .taken)
 
--- src/lib.rt:54:1
 returns-5 : tie.Need-returns-5
 returns-5 c = edit-pass _ _ _ _ (c .before .before .before .before .before .before .before .edit-ok .ensures) (not-false _ (c .before .before .before .before .before .before .if1 .left)) (c .before .before .before .before .before .is-utf8 .ensures) (not-false _ (c .before .before .before .before .if2 .left)) (c .before .before .before .length-fits .ensures) (not-false _ (c .before .before .if3 .left)) (c .before .unchanged .ensures) (c .if4 .left)
 

@@ -5,23 +5,18 @@ use Rattle.edit.proofs.length_fits.Tie as tie
 use Rattle.edit.proofs.length_fits.Reads as reads
 use Rattle.edit.proofs.length_fits.Lts as lts
 
--- src/lib.rt:35:9
 returns : tie.Need-returns
 returns c = fits-over _ _ _ _ (c .if1 .taken)
 
--- src/lib.rt:37:5
 add-result : tie.Need-add-result
 add-result c = search needs
 
--- src/lib.rt:37:31
 sub-result : tie.Need-sub-result
 sub-result c = search needs
 
--- src/lib.rt:37:5
 add-result-2 : tie.Need-add-result-2
 add-result-2 c = search needs
 
--- src/lib.rt:30:1
 returns-2 : tie.Need-returns-2
 returns-2 c = fits-sum _ _ _ _
 

@@ -8,32 +8,25 @@ use Rattle.edit.proofs.unchanged.Reads as reads
 use Rattle.edit.proofs.unchanged.Lts as lts
 use Rattle.compare.proofs.same.Reads as same-reads
 
--- src/lib.rt:47:29
 sub-if1 : tie.Need-sub-if1
 sub-if1 c = search needs
 
--- src/lib.rt:48:9
 returns : tie.Need-returns
 unfolding editOf
 returns c = unchanged-length _ (editOf _ _ _) (c .before .before .before .pre .0) (c .before .before .before .pre .1) (c .if1 .taken)
 
--- src/lib.rt:50:29
 sub-same : tie.Need-sub-same
 sub-same c = search needs
 
--- src/lib.rt:50:29
 part-same-start : tie.Need-part-same-start
 part-same-start c = search needs
 
--- src/lib.rt:50:29
 part-same-end : tie.Need-part-same-end
 part-same-end c = search needs
 
--- src/lib.rt:50:5
 same-requires : tie.Need-same-requires
 same-requires c κs = search needs
 
--- src/lib.rt:41:1
 returns-2 : tie.Need-returns-2
 unfolding editOf
 returns-2 c = c .same .ensures ∙ sym (unchanged-part _ (editOf _ _ _) (c .before .before .before .before .before .pre .0) (c .before .before .before .before .before .pre .1) (c .before .before .if1 .left))

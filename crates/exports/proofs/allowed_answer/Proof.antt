@@ -6,29 +6,23 @@ use Rattle.exports.proofs.allowed_answer.Tie as tie
 use Rattle.exports.proofs.allowed_answer.Reads as reads
 use Rattle.exports.proofs.allowed_answer.Lts as lts
 
--- src/lib.rt:74:34
 enum-known-a : tie.Need-enum-known-a
 enum-known-a c = search needs
 
--- src/lib.rt:78:33
 enum-told : tie.Need-enum-told
 enum-told c = search needs
 
--- src/lib.rt:82:32
 enum-told-2 : tie.Need-enum-told-2
 enum-told-2 c = search needs
 
--- src/lib.rt:70:1
 returns : tie.Need-returns
 unfolding allowedAnswer
 returns c = rw (c .before .a .given .1) refl
 
--- src/lib.rt:70:1
 returns-2 : tie.Need-returns-2
 unfolding allowedAnswer
 returns-2 c = rw (c .enum-told .given .1) refl
 
--- src/lib.rt:70:1
 returns-3 : tie.Need-returns-3
 unfolding allowedAnswer
 returns-3 c = rw (c .enum-told2 .given .1) refl

@@ -8,19 +8,15 @@ use Rattle.exports.proofs.aozora_choose_region.Lts as lts
 use Rattle.exports.proofs.region_answer.Reads as region-answer-reads
 use Rattle.region.proofs.choose_region.Reads as choose-region-reads
 
--- src/lib.rt:284:19
 choose-region-requires : tie.Need-choose-region-requires
 choose-region-requires c κs = search needs
 
--- src/lib.rt:284:5
 region-answer-requires : tie.Need-region-answer-requires
 region-answer-requires c κs = search needs
 
--- src/lib.rt:272:1
 same-length : tie.Need-same-length
 same-length c = search needs
 
--- src/lib.rt:272:1
 returns : tie.Need-returns
 returns c = (c .region-answer .ensures ∙ ap regionAnswer (c .before .before .before .choose-region .ensures .0), c .before .before .before .choose-region .ensures .1)
 

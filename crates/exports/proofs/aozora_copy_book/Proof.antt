@@ -8,23 +8,18 @@ use Rattle.exports.proofs.aozora_copy_book.Lts as lts
 use Rattle.exports.proofs.copy_answer.Reads as copy-answer-reads
 use Rattle.copy.proofs.copy_book.Reads as copy-book-reads
 
--- src/lib.rt:269:17
 copy-book-requires : tie.Need-copy-book-requires
 copy-book-requires c κs = search needs
 
--- src/lib.rt:269:5
 copy-answer-requires : tie.Need-copy-answer-requires
 copy-answer-requires c κs = search needs
 
--- src/lib.rt:257:1
 same-length : tie.Need-same-length
 same-length c = search needs
 
--- src/lib.rt:257:1
 same-length-2 : tie.Need-same-length-2
 same-length-2 c = search needs
 
--- src/lib.rt:257:1
 returns : tie.Need-returns
 returns c = (c .copy-answer .ensures ∙ ap copyAnswer (c .before .before .before .before .before .copy-book .ensures .0), c .before .before .before .before .before .copy-book .ensures .1, c .before .before .before .before .before .copy-book .ensures .2)
 

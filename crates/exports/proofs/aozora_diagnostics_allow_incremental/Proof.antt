@@ -8,15 +8,12 @@ use Rattle.exports.proofs.aozora_diagnostics_allow_incremental.Lts as l
 use Rattle.exports.proofs.allowed_answer.Reads as allowed-answer-reads
 use Rattle.lookup.proofs.diagnostics_allow_incremental.Reads as diagnostics-allow-incremental-reads
 
--- src/lib.rt:213:20
 diagnostics-allow-incremental-requires : tie.Need-diagnostics-allow-incremental-requires
 diagnostics-allow-incremental-requires c κs = search needs
 
--- src/lib.rt:213:5
 allowed-answer-requires : tie.Need-allowed-answer-requires
 allowed-answer-requires c κs = search needs
 
--- src/lib.rt:209:1
 returns : tie.Need-returns
 returns c = c .allowed-answer .ensures ∙ ap allowedAnswer (c .before .diagnostics-allow-incremental .ensures)
 

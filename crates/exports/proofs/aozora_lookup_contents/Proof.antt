@@ -9,15 +9,12 @@ use Rattle.exports.proofs.aozora_lookup_contents.Lts as lts
 use Rattle.exports.proofs.range_answer.Reads as range-answer-reads
 use Rattle.lookup.proofs.lookup_contents.Reads as lookup-contents-reads
 
--- src/lib.rt:241:18
 lookup-contents-requires : tie.Need-lookup-contents-requires
 lookup-contents-requires c κs = search needs
 
--- src/lib.rt:241:5
 range-answer-requires : tie.Need-range-answer-requires
 range-answer-requires c κs = search needs
 
--- src/lib.rt:231:1
 returns : tie.Need-returns
 returns c = range-told _ _ _ _ _ (c .range-answer .ensures) (rangeShown contentCodec _) (c .before .lookup-contents .ensures)
 

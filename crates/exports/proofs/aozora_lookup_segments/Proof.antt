@@ -9,15 +9,12 @@ use Rattle.exports.proofs.aozora_lookup_segments.Lts as lts
 use Rattle.exports.proofs.range_answer.Reads as range-answer-reads
 use Rattle.lookup.proofs.lookup_segments.Reads as lookup-segments-reads
 
--- src/lib.rt:254:18
 lookup-segments-requires : tie.Need-lookup-segments-requires
 lookup-segments-requires c κs = search needs
 
--- src/lib.rt:254:5
 range-answer-requires : tie.Need-range-answer-requires
 range-answer-requires c κs = search needs
 
--- src/lib.rt:244:1
 returns : tie.Need-returns
 returns c = range-told _ _ _ _ _ (c .range-answer .ensures) (rangeShown segmentCodec _) (c .before .lookup-segments .ensures)
 

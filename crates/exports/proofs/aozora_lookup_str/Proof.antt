@@ -7,15 +7,12 @@ use Rattle.exports.proofs.aozora_lookup_str.Lts as lts
 use Rattle.exports.proofs.str_answer.Reads as str-answer-reads
 use Rattle.lookup.proofs.lookup_str.Reads as lookup-str-reads
 
--- src/lib.rt:228:16
 lookup-str-requires : tie.Need-lookup-str-requires
 lookup-str-requires c κs = search needs
 
--- src/lib.rt:228:5
 str-answer-requires : tie.Need-str-answer-requires
 str-answer-requires c κs = search needs
 
--- src/lib.rt:223:1
 returns : tie.Need-returns
 returns c = str-told _ _ _ (c .str-answer .ensures) (c .before .lookup-str .ensures)
 

@@ -7,27 +7,21 @@ use Rattle.exports.proofs.aozora_merge.Lts as lts
 use Rattle.exports.proofs.merge_answer.Reads as merge-answer-reads
 use Rattle.incremental.proofs.merge.Reads as merge-reads
 
--- src/lib.rt:374:18
 merge-requires : tie.Need-merge-requires
 merge-requires c κs = search needs
 
--- src/lib.rt:374:5
 merge-answer-requires : tie.Need-merge-answer-requires
 merge-answer-requires c κs = search needs
 
--- src/lib.rt:356:1
 same-length : tie.Need-same-length
 same-length c = search needs
 
--- src/lib.rt:356:1
 same-length-2 : tie.Need-same-length-2
 same-length-2 c = search needs
 
--- src/lib.rt:356:1
 same-length-3 : tie.Need-same-length-3
 same-length-3 c = search needs
 
--- src/lib.rt:356:1
 returns : tie.Need-returns
 returns c = merge-told (c .merge-answer .ensures) (c .before .before .before .before .before .before .before .merge .ensures)
 

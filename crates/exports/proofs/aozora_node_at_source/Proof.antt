@@ -8,15 +8,12 @@ use Rattle.exports.proofs.aozora_node_at_source.Lts as lts
 use Rattle.exports.proofs.node_answer.Reads as node-answer-reads
 use Rattle.lookup.proofs.node_at_source.Reads as node-at-source-reads
 
--- src/lib.rt:220:17
 node-at-source-requires : tie.Need-node-at-source-requires
 node-at-source-requires c κs = search needs
 
--- src/lib.rt:220:5
 node-answer-requires : tie.Need-node-answer-requires
 node-answer-requires c κs = search needs
 
--- src/lib.rt:216:1
 returns : tie.Need-returns
 returns c = c .node-answer .ensures ∙ ap nodeAnswer (c .before .node-at-source .ensures)
 

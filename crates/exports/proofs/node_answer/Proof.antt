@@ -6,29 +6,23 @@ use Rattle.exports.proofs.node_answer.Tie as tie
 use Rattle.exports.proofs.node_answer.Reads as reads
 use Rattle.exports.proofs.node_answer.Lts as lts
 
--- src/lib.rt:93:33
 enum-known-a : tie.Need-enum-known-a
 enum-known-a c = search needs
 
--- src/lib.rt:98:30
 enum-known-a-2 : tie.Need-enum-known-a-2
 enum-known-a-2 c = search needs
 
--- src/lib.rt:103:36
 enum-told : tie.Need-enum-told
 enum-told c = search needs
 
--- src/lib.rt:89:1
 returns : tie.Need-returns
 unfolding nodeAnswer
 returns c = rw (c .before .a .given .1) refl
 
--- src/lib.rt:89:1
 returns-2 : tie.Need-returns-2
 unfolding nodeAnswer
 returns-2 c = rw (c .before .a2 .given .1) refl
 
--- src/lib.rt:89:1
 returns-3 : tie.Need-returns-3
 unfolding nodeAnswer
 returns-3 c = rw (c .enum-told .given .1) refl

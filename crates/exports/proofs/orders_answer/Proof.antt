@@ -5,23 +5,18 @@ use Rattle.exports.proofs.orders_answer.Reads as reads
 use Rattle.exports.proofs.orders_answer.Lts as lts
 use Rattle.exports.proofs.merge_answer.Reads as merge-answer-reads
 
--- src/lib.rt:257:23
 merge-answer-requires : tie.Need-merge-answer-requires
 merge-answer-requires c κs = search needs
 
--- src/lib.rt:258:22
 merge-answer-requires-2 : tie.Need-merge-answer-requires-2
 merge-answer-requires-2 c κs = search needs
 
--- src/lib.rt:259:21
 merge-answer-requires-3 : tie.Need-merge-answer-requires-3
 merge-answer-requires-3 c κs = search needs
 
--- src/lib.rt:260:24
 merge-answer-requires-4 : tie.Need-merge-answer-requires-4
 merge-answer-requires-4 c κs = search needs
 
--- src/lib.rt:249:1
 returns : tie.Need-returns
 returns c = λ i. record { earlierfirst = c .before .before .before .merge-answer .ensures i; latersecond = c .before .before .merge-answer2 .ensures i; laterfirst = c .before .merge-answer3 .ensures i; earliersecond = c .merge-answer4 .ensures i }
 

@@ -6,29 +6,23 @@ use Rattle.exports.proofs.range_answer.Tie as tie
 use Rattle.exports.proofs.range_answer.Reads as reads
 use Rattle.exports.proofs.range_answer.Lts as lts
 
--- src/lib.rt:115:34
 enum-known-a : tie.Need-enum-known-a
 enum-known-a c = search needs
 
--- src/lib.rt:121:29
 enum-known-a-2 : tie.Need-enum-known-a-2
 enum-known-a-2 c = search needs
 
--- src/lib.rt:127:37
 enum-told : tie.Need-enum-told
 enum-told c = search needs
 
--- src/lib.rt:111:1
 returns : tie.Need-returns
 unfolding rangeAnswer
 returns c = rw (c .before .a .given .1) refl
 
--- src/lib.rt:111:1
 returns-2 : tie.Need-returns-2
 unfolding rangeAnswer
 returns-2 c = rw (c .before .a2 .given .1) refl
 
--- src/lib.rt:111:1
 returns-3 : tie.Need-returns-3
 unfolding rangeAnswer
 returns-3 c = rw (c .enum-told .given .1) refl

@@ -6,29 +6,23 @@ use Rattle.exports.proofs.str_answer.Tie as tie
 use Rattle.exports.proofs.str_answer.Reads as reads
 use Rattle.exports.proofs.str_answer.Lts as lts
 
--- src/lib.rt:140:32
 enum-known-a : tie.Need-enum-known-a
 enum-known-a c = search needs
 
--- src/lib.rt:146:27
 enum-known-a-2 : tie.Need-enum-known-a-2
 enum-known-a-2 c = search needs
 
--- src/lib.rt:152:35
 enum-told : tie.Need-enum-told
 enum-told c = search needs
 
--- src/lib.rt:136:1
 returns : tie.Need-returns
 unfolding strAnswer
 returns c = rw (c .before .a .given .1) refl
 
--- src/lib.rt:136:1
 returns-2 : tie.Need-returns-2
 unfolding strAnswer
 returns-2 c = rw (c .before .a2 .given .1) refl
 
--- src/lib.rt:136:1
 returns-3 : tie.Need-returns-3
 unfolding strAnswer
 returns-3 c = rw (c .enum-told .given .1) refl

@@ -215,42 +215,36 @@ graft-body-Inv-loop tape bytes st out₀ work₀ strs₀ p at level u₀ j₀ ou
 abbrev graft-body-μ-loop : graft-body-lts.MeasureT-loop
 graft-body-μ-loop tape bytes st out₀ work₀ strs₀ p at level u₀ j₀ out work strs u j = 6 - j
 
--- src/lib.rt:357:5
 graft-body-loop-holds : (t : ℕ) → graft-body-lts.Need-loop-holds (
   graft-place-below t,
   graft-place.Post,
 ) (graft-body-at t) graft-body.Post graft-body-Inv-loop graft-body-μ-loop
 graft-body-loop-holds t c = (omega arith, body-first (c .before .before .before .before .before .args .level) (c .before .before .before .before .before .args .tape .now) (c .before .before .before .before .before .args .bytes .now) (c .before .before .before .before .before .args .st) (c .before .before .before .before .before .args .p) (c .before .before .before .before .before .args .m) (bodyAt (c .before .before .before .before .before .args .tape .now) (c .before .before .before .before .before .args .at)) (c .before .before .before .before .before .args .out .now) (c .before .before .before .before .before .args .work .now) (c .before .before .before .before .before .args .strs .now) (c .before .before .before .before .before .pre .1 .0) (c .before .before .before .before .before .pre .1 .1 .1), refl, refl)
 
--- src/lib.rt:358:9
 graft-body-graft-place-requires : (t : ℕ) → graft-body-lts.Need-graft-place-requires (
   graft-place-below t,
   graft-place.Post,
 ) (graft-body-at t) graft-body.Post graft-body-Inv-loop graft-body-μ-loop
 graft-body-graft-place-requires t c κs = (omega arith, (body-ready (c .before .before .before .before .before .before .before .before .before .before .args .level) (c .before .before .before .before .before .before .before .before .before .before .args .tape .now) (c .before .before .before .before .before .before .before .before .before .before .args .bytes .now) (c .before .before .before .before .before .before .before .before .before .before .args .st) (c .before .before .before .before .before .before .before .before .before .before .args .p) (c .before .before .before .before .before .before .before .before .before .before .args .m) (bodyAt (c .before .before .before .before .before .before .before .before .before .before .args .tape .now) (c .before .before .before .before .before .before .before .before .before .before .args .at)) (c .before .before .before .before .before .before .before .before .before .before .args .out .now) (c .before .before .before .before .before .before .before .before .before .before .args .work .now) (c .before .before .before .before .before .before .before .before .before .before .args .strs .now) (c .before .before .before .before .before .before .before .before .before .before .pre .1 .0) (c .before .before .before .before .before .before .before .before .before .before .pre .1 .1 .1) (c .before .before .before .before .loop .inv .1) (c .before .before .before .loop-test .taken), (c .before .before .before .before .before .before .before .before .before .before .pre .1 .1 .0, c .before .before .before .before .before .before .before .before .before .before .pre .1 .1 .1, c .before .before .before .loop-test .taken)))
 
--- src/lib.rt:361:13
 graft-body-same-length : (t : ℕ) → graft-body-lts.Need-same-length (
   graft-place-below t,
   graft-place.Post,
 ) (graft-body-at t) graft-body.Post graft-body-Inv-loop graft-body-μ-loop
 graft-body-same-length t c = c .before .before .before .before .before .before .before .before .before .graft-place .kept .1 .1 .1 .0 ∙ c .before .before .before .before .before .before .before .before .before .before .before .before .before .before .loop .inv .1 .long
 
--- src/lib.rt:361:13
 graft-body-same-length-2 : (t : ℕ) → graft-body-lts.Need-same-length-2 (
   graft-place-below t,
   graft-place.Post,
 ) (graft-body-at t) graft-body.Post graft-body-Inv-loop graft-body-μ-loop
 graft-body-same-length-2 t c = c .before .before .before .before .before .before .before .before .before .graft-place .kept .1 .1 .1 .1 .0 ∙ c .before .before .before .before .before .before .before .before .before .before .before .before .before .before .loop .inv .2
 
--- src/lib.rt:361:13
 graft-body-same-length-3 : (t : ℕ) → graft-body-lts.Need-same-length-3 (
   graft-place-below t,
   graft-place.Post,
 ) (graft-body-at t) graft-body.Post graft-body-Inv-loop graft-body-μ-loop
 graft-body-same-length-3 t c = c .before .before .before .before .before .before .before .before .before .graft-place .kept .1 .1 .1 .1 .1 .0 ∙ c .before .before .before .before .before .before .before .before .before .before .before .before .before .before .loop .inv .3
 
--- src/lib.rt:361:13
 graft-body-returns :
     (t : ℕ) →
     graft-body-lts.Need-returns
@@ -261,7 +255,6 @@ graft-body-returns :
     graft-body-μ-loop
 graft-body-returns t c = body-refused (c .before .before .before .before .before .before .before .before .before .before .before .before .before .before .before .before .before .before .before .before .args .level) (c .before .before .before .before .before .before .before .before .before .before .before .before .before .before .before .before .before .before .before .before .args .tape .now) (c .before .before .before .before .before .before .before .before .before .before .before .before .before .before .before .before .before .before .before .before .args .bytes .now) (c .before .before .before .before .before .before .before .before .before .before .before .before .before .before .before .before .before .before .before .before .args .st) (c .before .before .before .before .before .before .before .before .before .before .before .before .before .before .before .before .before .before .before .before .args .p) (c .before .before .before .before .before .before .before .before .before .before .before .before .before .before .before .before .before .before .before .before .args .m) (bodyAt (c .before .before .before .before .before .before .before .before .before .before .before .before .before .before .before .before .before .before .before .before .args .tape .now) (c .before .before .before .before .before .before .before .before .before .before .before .before .before .before .before .before .before .before .before .before .args .at)) (c .before .before .before .before .before .before .before .before .before .before .before .before .before .before .before .before .before .before .before .before .args .out .now) (c .before .before .before .before .before .before .before .before .before .before .before .before .before .before .before .before .before .before .before .before .args .work .now) (c .before .before .before .before .before .before .before .before .before .before .before .before .before .before .before .before .before .before .before .before .args .strs .now) (c .before .before .before .before .before .before .before .before .before .before .before .before .before .before .before .before .before .before .before .before .pre .1 .0) (c .before .before .before .before .before .before .before .before .before .before .before .before .before .before .before .before .before .before .before .before .pre .1 .1 .1) (c .before .before .before .before .before .before .before .before .before .before .before .before .before .before .loop .j + 1) (omega (arith, c .before .before .before .before .before .before .before .before .before .before .before .before .before .loop-test .taken)) (body-turn (c .before .before .before .before .before .before .before .before .before .before .before .before .before .before .before .before .before .before .before .before .args .level) (c .before .before .before .before .before .before .before .before .before .before .before .before .before .before .before .before .before .before .before .before .args .tape .now) (c .before .before .before .before .before .before .before .before .before .before .before .before .before .before .before .before .before .before .before .before .args .bytes .now) (c .before .before .before .before .before .before .before .before .before .before .before .before .before .before .before .before .before .before .before .before .args .st) (c .before .before .before .before .before .before .before .before .before .before .before .before .before .before .before .before .before .before .before .before .args .p) (c .before .before .before .before .before .before .before .before .before .before .before .before .before .before .before .before .before .before .before .before .args .m) (bodyAt (c .before .before .before .before .before .before .before .before .before .before .before .before .before .before .before .before .before .before .before .before .args .tape .now) (c .before .before .before .before .before .before .before .before .before .before .before .before .before .before .before .before .before .before .before .before .args .at)) (c .before .before .before .before .before .before .before .before .before .before .before .before .before .before .before .before .before .before .before .before .args .out .now) (c .before .before .before .before .before .before .before .before .before .before .before .before .before .before .before .before .before .before .before .before .args .work .now) (c .before .before .before .before .before .before .before .before .before .before .before .before .before .before .before .before .before .before .before .before .args .strs .now) (c .before .before .before .before .before .before .before .before .before .before .before .before .before .before .before .before .before .before .before .before .pre .1 .0) (c .before .before .before .before .before .before .before .before .before .before .before .before .before .before .before .before .before .before .before .before .pre .1 .1 .1) (c .before .before .before .before .before .before .before .before .before .before .before .before .before .before .loop .inv .1) (c .before .before .before .before .before .before .before .before .before .before .before .before .before .loop-test .taken) (c .before .before .before .before .before .before .before .before .before .graft-place .ensures)) (not-true _ (c .if1 .taken))
 
--- src/lib.rt:363:9
 graft-body-add-j :
     (t : ℕ) →
     graft-body-lts.Need-add-j
@@ -272,49 +265,42 @@ graft-body-add-j :
     graft-body-μ-loop
 graft-body-add-j t c = omega (arith, c .before .before .before .before .before .before .before .before .before .before .before .before .before .loop-test .taken)
 
--- src/lib.rt:357:5
 graft-body-loop-less : (t : ℕ) → graft-body-lts.Need-loop-less (
   graft-place-below t,
   graft-place.Post,
 ) (graft-body-at t) graft-body.Post graft-body-Inv-loop graft-body-μ-loop
 graft-body-loop-less t c = omega (arith, c .before .before .before .before .before .before .before .before .before .before .before .before .before .loop-test .taken)
 
--- src/lib.rt:357:5
 graft-body-loop-again : (t : ℕ) → graft-body-lts.Need-loop-again (
   graft-place-below t,
   graft-place.Post,
 ) (graft-body-at t) graft-body.Post graft-body-Inv-loop graft-body-μ-loop
 graft-body-loop-again t c = (omega (arith, c .before .before .before .before .before .before .before .before .before .before .before .before .before .loop-test .taken), body-more (c .before .before .before .before .before .before .before .before .before .before .before .before .before .before .before .before .before .before .before .before .args .level) (c .before .before .before .before .before .before .before .before .before .before .before .before .before .before .before .before .before .before .before .before .args .tape .now) (c .before .before .before .before .before .before .before .before .before .before .before .before .before .before .before .before .before .before .before .before .args .bytes .now) (c .before .before .before .before .before .before .before .before .before .before .before .before .before .before .before .before .before .before .before .before .args .st) (c .before .before .before .before .before .before .before .before .before .before .before .before .before .before .before .before .before .before .before .before .args .p) (c .before .before .before .before .before .before .before .before .before .before .before .before .before .before .before .before .before .before .before .before .args .m) (bodyAt (c .before .before .before .before .before .before .before .before .before .before .before .before .before .before .before .before .before .before .before .before .args .tape .now) (c .before .before .before .before .before .before .before .before .before .before .before .before .before .before .before .before .before .before .before .before .args .at)) (c .before .before .before .before .before .before .before .before .before .before .before .before .before .before .before .before .before .before .before .before .args .out .now) (c .before .before .before .before .before .before .before .before .before .before .before .before .before .before .before .before .before .before .before .before .args .work .now) (c .before .before .before .before .before .before .before .before .before .before .before .before .before .before .before .before .before .before .before .before .args .strs .now) (c .before .before .before .before .before .before .before .before .before .before .before .before .before .before .before .before .before .before .before .before .pre .1 .0) (c .before .before .before .before .before .before .before .before .before .before .before .before .before .before .before .before .before .before .before .before .pre .1 .1 .1) (c .before .before .before .before .before .before .before .before .before .before .before .before .before .before .loop .inv .1) (c .before .before .before .before .before .before .before .before .before .before .before .before .before .loop-test .taken) (c .before .before .before .before .before .before .before .before .before .graft-place .ensures) (c .before .before .before .before .before .before .before .before .before .graft-place .kept .1 .1 .1 .0) (not-false _ (c .if1 .left)), c .before .before .before .before .before .before .before .before .before .graft-place .kept .1 .1 .1 .1 .0 ∙ c .before .before .before .before .before .before .before .before .before .before .before .before .before .before .loop .inv .2, c .before .before .before .before .before .before .before .before .before .graft-place .kept .1 .1 .1 .1 .1 .0 ∙ c .before .before .before .before .before .before .before .before .before .before .before .before .before .before .loop .inv .3)
 
--- src/lib.rt:347:1
 graft-body-same-length-4 : (t : ℕ) → graft-body-lts.Need-same-length-4 (
   graft-place-below t,
   graft-place.Post,
 ) (graft-body-at t) graft-body.Post graft-body-Inv-loop graft-body-μ-loop
 graft-body-same-length-4 t c = c .before .loop .inv .1 .long
 
--- src/lib.rt:347:1
 graft-body-same-length-5 : (t : ℕ) → graft-body-lts.Need-same-length-5 (
   graft-place-below t,
   graft-place.Post,
 ) (graft-body-at t) graft-body.Post graft-body-Inv-loop graft-body-μ-loop
 graft-body-same-length-5 t c = c .before .loop .inv .2
 
--- src/lib.rt:347:1
 graft-body-same-length-6 : (t : ℕ) → graft-body-lts.Need-same-length-6 (
   graft-place-below t,
   graft-place.Post,
 ) (graft-body-at t) graft-body.Post graft-body-Inv-loop graft-body-μ-loop
 graft-body-same-length-6 t c = c .before .loop .inv .3
 
--- src/lib.rt:347:1
 graft-body-returns-2 : (t : ℕ) → graft-body-lts.Need-returns-2 (
   graft-place-below t,
   graft-place.Post,
 ) (graft-body-at t) graft-body.Post graft-body-Inv-loop graft-body-μ-loop
 graft-body-returns-2 t c = body-last (c .before .before .before .before .before .before .before .args .level) (c .before .before .before .before .before .before .before .args .tape .now) (c .before .before .before .before .before .before .before .args .bytes .now) (c .before .before .before .before .before .before .before .args .st) (c .before .before .before .before .before .before .before .args .p) (c .before .before .before .before .before .before .before .args .m) (bodyAt (c .before .before .before .before .before .before .before .args .tape .now) (c .before .before .before .before .before .before .before .args .at)) (c .before .before .before .before .before .before .before .args .out .now) (c .before .before .before .before .before .before .before .args .work .now) (c .before .before .before .before .before .before .before .args .strs .now) (c .before .before .before .before .before .before .before .pre .1 .0) (c .before .before .before .before .before .before .before .pre .1 .1 .1) (c .before .loop .inv .1) (omega (arith, c .loop-test .left)) (c .before .loop .inv .0)
 
--- src/lib.rt:439:9
 graft-content-content-at-requires : (t : ℕ) → graft-content-lts.Need-content-at-requires (
   content-at-reads.Asked,
   content-at-reads.Learnt,
@@ -327,7 +313,6 @@ graft-content-content-at-requires : (t : ℕ) → graft-content-lts.Need-content
 ) (graft-content-at t) graft-content.Post
 graft-content-content-at-requires t c κs = c .before .before .before .before .before .pre .1 .1 .0 .0
 
--- src/lib.rt:440:32
 graft-content-mul-place : (t : ℕ) → graft-content-lts.Need-mul-place (
   content-at-reads.Asked,
   content-at-reads.Learnt,
@@ -340,7 +325,6 @@ graft-content-mul-place : (t : ℕ) → graft-content-lts.Need-mul-place (
 ) (graft-content-at t) graft-content.Post
 graft-content-mul-place t c = omega (arith, c .before .before .before .before .before .before .pre .1 .1 .1 .1, (c .before .before .before .before .before .before .pre .1 .0) .space .segments)
 
--- src/lib.rt:440:17
 graft-content-add-place : (t : ℕ) → graft-content-lts.Need-add-place (
   content-at-reads.Asked,
   content-at-reads.Learnt,
@@ -353,7 +337,6 @@ graft-content-add-place : (t : ℕ) → graft-content-lts.Need-add-place (
 ) (graft-content-at t) graft-content.Post
 graft-content-add-place t c = omega (arith, c .before .before .before .before .before .before .before .pre .1 .1 .1 .1, (c .before .before .before .before .before .before .before .pre .1 .0) .space .segments)
 
--- src/lib.rt:442:13
 graft-content-graft-str-requires : (t : ℕ) → graft-content-lts.Need-graft-str-requires (
   content-at-reads.Asked,
   content-at-reads.Learnt,
@@ -366,7 +349,6 @@ graft-content-graft-str-requires : (t : ℕ) → graft-content-lts.Need-graft-st
 ) (graft-content-at t) graft-content.Post
 graft-content-graft-str-requires t c κs = ((c .before .before .before .before .before .before .before .before .before .before .before .pre .1 .0) .source, ((c .before .before .before .before .before .before .before .before .before .before .before .pre .1 .0) .index, ((c .before .before .before .before .before .before .before .before .before .before .before .pre .1 .0) .good, (plain-known (c .before .before .before .before .before .before .before .before .before .before .before .args .tape .now) (c .before .before .before .before .before .before .before .before .before .before .before .args .st) (c .before .before .before .before .before .before .before .before .before .before .before .args .at) (c .before .before .before .before .before .content-at .result) (c .before .before .before .before .before .content-at .ensures) (c .before .before .before .before .before .before .before .before .before .before .before .pre .1 .1 .0 .1) (c .before .before .if1 .taken), omega (arith, (c .before .before .before .before .before .before .before .before .before .before .before .pre .1 .0) .space .calls), omega (arith, (c .before .before .before .before .before .before .before .before .before .before .before .pre .1 .0) .space .stringNumbers)))))
 
--- src/lib.rt:445:13
 graft-content-same-length : (t : ℕ) → graft-content-lts.Need-same-length (
   content-at-reads.Asked,
   content-at-reads.Learnt,
@@ -379,7 +361,6 @@ graft-content-same-length : (t : ℕ) → graft-content-lts.Need-same-length (
 ) (graft-content-at t) graft-content.Post
 graft-content-same-length t c = c .before .before .before .before .before .before .before .graft-str .kept .1 .1 .1 .0
 
--- src/lib.rt:445:13
 graft-content-same-length-2 : (t : ℕ) → graft-content-lts.Need-same-length-2 (
   content-at-reads.Asked,
   content-at-reads.Learnt,
@@ -392,7 +373,6 @@ graft-content-same-length-2 : (t : ℕ) → graft-content-lts.Need-same-length-2
 ) (graft-content-at t) graft-content.Post
 graft-content-same-length-2 t c = c .before .before .before .before .before .before .before .graft-str .kept .1 .1 .1 .1 .0
 
--- src/lib.rt:445:13
 graft-content-returns : (t : ℕ) → graft-content-lts.Need-returns (
   content-at-reads.Asked,
   content-at-reads.Learnt,
@@ -405,7 +385,6 @@ graft-content-returns : (t : ℕ) → graft-content-lts.Need-returns (
 ) (graft-content-at t) graft-content.Post
 graft-content-returns t c = plain-refused (c .before .before .before .before .before .before .before .before .before .before .before .before .before .before .before .before .before .before .before .args .tape .now) (c .before .before .before .before .before .before .before .before .before .before .before .before .before .before .before .before .before .before .before .args .st) (c .before .before .before .before .before .before .before .before .before .before .before .before .before .before .before .before .before .before .before .args .at) (c .before .before .before .before .before .before .before .before .before .before .before .before .before .content-at .result) (c .before .before .before .before .before .before .before .before .before .before .before .before .before .content-at .ensures) (c .before .before .before .before .before .before .before .before .before .before .before .before .before .before .before .before .before .before .before .args .level) (c .before .before .before .before .before .before .before .before .before .before .before .before .before .before .before .before .before .before .before .args .bytes .now) (c .before .before .before .before .before .before .before .before .before .before .before .before .before .before .before .before .before .before .before .args .p) (c .before .before .before .before .before .before .before .before .before .before .before .before .before .before .before .before .before .before .before .args .m) (c .before .before .before .before .before .before .before .before .before .before .before .before .before .before .before .before .before .before .before .args .to) (c .before .before .before .before .before .before .before .before .before .before .before .before .before .before .before .before .before .before .before .args .out .now) (c .before .before .before .before .before .before .before .before .before .before .before .before .before .before .before .before .before .before .before .args .work .now) (c .before .before .before .before .before .before .before .before .before .before .before .before .before .before .before .before .before .before .before .args .strs .now) (c .before .before .before .before .before .before .before .graft-str .result) (c .before .before .before .before .before .before .before .before .before .before .if1 .taken) (c .before .before .before .before .before .before .before .graft-str .ensures (c .before .before .before .before .before .before .before .before .before .before .before .before .before .before .before .before .before .before .before .args .out .now)) (not-true _ (c .if2 .taken))
 
--- src/lib.rt:447:9
 graft-content-put-content-requires : (t : ℕ) → graft-content-lts.Need-put-content-requires (
   content-at-reads.Asked,
   content-at-reads.Learnt,
@@ -418,7 +397,6 @@ graft-content-put-content-requires : (t : ℕ) → graft-content-lts.Need-put-co
 ) (graft-content-at t) graft-content.Post
 graft-content-put-content-requires t c κs = omega (arith, c .before .before .before .before .before .before .before .before .before .before .before .before .before .before .before .before .before .before .before .before .pre .1 .1 .1 .1, (c .before .before .before .before .before .before .before .before .before .before .before .before .before .before .before .before .before .before .before .before .pre .1 .0) .space .segments)
 
--- src/lib.rt:448:9
 graft-content-same-length-3 : (t : ℕ) → graft-content-lts.Need-same-length-3 (
   content-at-reads.Asked,
   content-at-reads.Learnt,
@@ -431,7 +409,6 @@ graft-content-same-length-3 : (t : ℕ) → graft-content-lts.Need-same-length-3
 ) (graft-content-at t) graft-content.Post
 graft-content-same-length-3 t c = c .before .before .put-content .kept .0
 
--- src/lib.rt:448:9
 graft-content-same-length-4 : (t : ℕ) → graft-content-lts.Need-same-length-4 (
   content-at-reads.Asked,
   content-at-reads.Learnt,
@@ -444,7 +421,6 @@ graft-content-same-length-4 : (t : ℕ) → graft-content-lts.Need-same-length-4
 ) (graft-content-at t) graft-content.Post
 graft-content-same-length-4 t c = c .before .before .before .before .before .before .before .before .before .before .before .graft-str .kept .1 .1 .1 .0
 
--- src/lib.rt:448:9
 graft-content-same-length-5 : (t : ℕ) → graft-content-lts.Need-same-length-5 (
   content-at-reads.Asked,
   content-at-reads.Learnt,
@@ -457,7 +433,6 @@ graft-content-same-length-5 : (t : ℕ) → graft-content-lts.Need-same-length-5
 ) (graft-content-at t) graft-content.Post
 graft-content-same-length-5 t c = c .before .before .before .before .before .before .before .before .before .before .before .graft-str .kept .1 .1 .1 .1 .0
 
--- src/lib.rt:448:9
 graft-content-returns-2 : (t : ℕ) → graft-content-lts.Need-returns-2 (
   content-at-reads.Asked,
   content-at-reads.Learnt,
@@ -470,7 +445,6 @@ graft-content-returns-2 : (t : ℕ) → graft-content-lts.Need-returns-2 (
 ) (graft-content-at t) graft-content.Post
 graft-content-returns-2 t c = plain-made (c .before .before .before .before .before .before .before .before .before .before .before .before .before .before .before .before .before .before .before .before .before .before .before .args .tape .now) (c .before .before .before .before .before .before .before .before .before .before .before .before .before .before .before .before .before .before .before .before .before .before .before .args .st) (c .before .before .before .before .before .before .before .before .before .before .before .before .before .before .before .before .before .before .before .before .before .before .before .args .at) (c .before .before .before .before .before .before .before .before .before .before .before .before .before .before .before .before .before .content-at .result) (c .before .before .before .before .before .before .before .before .before .before .before .before .before .before .before .before .before .content-at .ensures) (c .before .before .before .before .before .before .before .before .before .before .before .before .before .before .before .before .before .before .before .before .before .before .before .args .level) (c .before .before .before .before .before .before .before .before .before .before .before .before .before .before .before .before .before .before .before .before .before .before .before .args .bytes .now) (c .before .before .before .before .before .before .before .before .before .before .before .before .before .before .before .before .before .before .before .before .before .before .before .args .p) (c .before .before .before .before .before .before .before .before .before .before .before .before .before .before .before .before .before .before .before .before .before .before .before .args .m) (c .before .before .before .before .before .before .before .before .before .before .before .before .before .before .before .before .before .before .before .before .before .before .before .args .to) (c .before .before .before .before .before .before .before .before .before .before .before .before .before .before .before .before .before .before .before .before .before .before .before .args .out .now) (c .before .before .before .before .before .before .before .before .before .before .before .before .before .before .before .before .before .before .before .before .before .before .before .args .work .now) (c .before .before .before .before .before .before .before .before .before .before .before .before .before .before .before .before .before .before .before .before .before .before .before .args .strs .now) (c .before .before .before .before .before .before .before .before .before .before .before .graft-str .result) (c .before .before .before .before .before .before .before .before .before .before .before .before .before .before .if1 .taken) (c .before .before .before .before .before .before .before .before .before .before .before .graft-str .ensures (c .before .before .before .before .before .before .before .before .before .before .before .before .before .before .before .before .before .before .before .before .before .before .before .args .out .now)) (not-false _ (c .before .before .before .before .if2 .left)) (c .before .before .put-content .ensures)
 
--- src/lib.rt:450:9
 graft-content-graft-segment-run-requires :
     (t : ℕ) → graft-content-lts.Need-graft-segment-run-requires (
       content-at-reads.Asked,
@@ -484,7 +458,6 @@ graft-content-graft-segment-run-requires :
     ) (graft-content-at t) graft-content.Post
 graft-content-graft-segment-run-requires t c κs = (omega arith, (run-ready (c .before .before .before .before .before .before .before .before .before .before .before .before .args .tape .now) (c .before .before .before .before .before .before .before .before .before .before .before .before .args .st) (c .before .before .before .before .before .before .before .before .before .before .before .before .args .at) (c .before .before .before .before .before .before .content-at .result) (c .before .before .before .before .before .before .content-at .ensures) (innerAdds (c .before .before .before .before .before .before .before .before .before .before .before .before .args .level) (c .before .before .before .before .before .before .before .before .before .before .before .before .args .tape .now) (c .before .before .before .before .before .before .before .before .before .before .before .before .args .st)) (c .before .before .before .if1 .left) (c .before .before .before .before .before .before .before .before .before .before .before .before .pre .1 .0), run-known (c .before .before .before .before .before .before .before .before .before .before .before .before .args .tape .now) (c .before .before .before .before .before .before .before .before .before .before .before .before .args .st) (c .before .before .before .before .before .before .before .before .before .before .before .before .args .at) (c .before .before .before .before .before .before .content-at .result) (c .before .before .before .before .before .before .content-at .ensures) (c .before .before .before .before .before .before .before .before .before .before .before .before .pre .1 .1 .0 .1) (c .before .before .before .if1 .left)))
 
--- src/lib.rt:453:9
 graft-content-same-length-6 : (t : ℕ) → graft-content-lts.Need-same-length-6 (
   content-at-reads.Asked,
   content-at-reads.Learnt,
@@ -497,7 +470,6 @@ graft-content-same-length-6 : (t : ℕ) → graft-content-lts.Need-same-length-6
 ) (graft-content-at t) graft-content.Post
 graft-content-same-length-6 t c = c .before .before .before .before .before .before .before .before .before .graft-segment-run .kept .1 .1 .1 .0
 
--- src/lib.rt:453:9
 graft-content-same-length-7 : (t : ℕ) → graft-content-lts.Need-same-length-7 (
   content-at-reads.Asked,
   content-at-reads.Learnt,
@@ -510,7 +482,6 @@ graft-content-same-length-7 : (t : ℕ) → graft-content-lts.Need-same-length-7
 ) (graft-content-at t) graft-content.Post
 graft-content-same-length-7 t c = c .before .before .before .before .before .before .before .before .before .graft-segment-run .kept .1 .1 .1 .1 .0
 
--- src/lib.rt:453:9
 graft-content-same-length-8 : (t : ℕ) → graft-content-lts.Need-same-length-8 (
   content-at-reads.Asked,
   content-at-reads.Learnt,
@@ -523,7 +494,6 @@ graft-content-same-length-8 : (t : ℕ) → graft-content-lts.Need-same-length-8
 ) (graft-content-at t) graft-content.Post
 graft-content-same-length-8 t c = c .before .before .before .before .before .before .before .before .before .graft-segment-run .kept .1 .1 .1 .1 .1 .0
 
--- src/lib.rt:453:9
 graft-content-returns-3 : (t : ℕ) → graft-content-lts.Need-returns-3 (
   content-at-reads.Asked,
   content-at-reads.Learnt,
@@ -536,7 +506,6 @@ graft-content-returns-3 : (t : ℕ) → graft-content-lts.Need-returns-3 (
 ) (graft-content-at t) graft-content.Post
 graft-content-returns-3 t c = run-refused (c .before .before .before .before .before .before .before .before .before .before .before .before .before .before .before .before .before .before .before .before .before .before .args .tape .now) (c .before .before .before .before .before .before .before .before .before .before .before .before .before .before .before .before .before .before .before .before .before .before .args .st) (c .before .before .before .before .before .before .before .before .before .before .before .before .before .before .before .before .before .before .before .before .before .before .args .at) (c .before .before .before .before .before .before .before .before .before .before .before .before .before .before .before .before .content-at .result) (c .before .before .before .before .before .before .before .before .before .before .before .before .before .before .before .before .content-at .ensures) (c .before .before .before .before .before .before .before .before .before .before .before .before .before .before .before .before .before .before .before .before .before .before .args .level) (c .before .before .before .before .before .before .before .before .before .before .before .before .before .before .before .before .before .before .before .before .before .before .args .bytes .now) (c .before .before .before .before .before .before .before .before .before .before .before .before .before .before .before .before .before .before .before .before .before .before .args .p) (c .before .before .before .before .before .before .before .before .before .before .before .before .before .before .before .before .before .before .before .before .before .before .args .m) (c .before .before .before .before .before .before .before .before .before .before .before .before .before .before .before .before .before .before .before .before .before .before .args .to) (c .before .before .before .before .before .before .before .before .before .before .before .before .before .before .before .before .before .before .before .before .before .before .args .out .now) (c .before .before .before .before .before .before .before .before .before .before .before .before .before .before .before .before .before .before .before .before .before .before .args .work .now) (c .before .before .before .before .before .before .before .before .before .before .before .before .before .before .before .before .before .before .before .before .before .before .args .strs .now) (c .before .before .before .before .before .before .before .before .before .graft-segment-run .result) ((c .before .before .before .before .before .before .before .before .before .before .before .before .before .before .before .before .before .before .before .before .before .before .pre .1 .0) .source) (run-known (c .before .before .before .before .before .before .before .before .before .before .before .before .before .before .before .before .before .before .before .before .before .before .args .tape .now) (c .before .before .before .before .before .before .before .before .before .before .before .before .before .before .before .before .before .before .before .before .before .before .args .st) (c .before .before .before .before .before .before .before .before .before .before .before .before .before .before .before .before .before .before .before .before .before .before .args .at) (c .before .before .before .before .before .before .before .before .before .before .before .before .before .before .before .before .content-at .result) (c .before .before .before .before .before .before .before .before .before .before .before .before .before .before .before .before .content-at .ensures) (c .before .before .before .before .before .before .before .before .before .before .before .before .before .before .before .before .before .before .before .before .before .before .pre .1 .1 .0 .1) (c .before .before .before .before .before .before .before .before .before .before .before .before .before .if1 .left)) (c .before .before .before .before .before .before .before .before .before .before .before .before .before .if1 .left) (c .before .before .before .before .before .before .before .before .before .graft-segment-run .ensures) (not-true _ (c .if3 .taken))
 
--- src/lib.rt:455:5
 graft-content-put-content-requires-2 : (t : ℕ) → graft-content-lts.Need-put-content-requires-2 (
   content-at-reads.Asked,
   content-at-reads.Learnt,
@@ -549,7 +518,6 @@ graft-content-put-content-requires-2 : (t : ℕ) → graft-content-lts.Need-put-
 ) (graft-content-at t) graft-content.Post
 graft-content-put-content-requires-2 t c κs = omega (arith, c .before .before .before .before .before .before .before .before .before .before .before .before .before .before .before .before .before .before .before .before .before .before .before .pre .1 .1 .1 .1, (c .before .before .before .before .before .before .before .before .before .before .before .before .before .before .before .before .before .before .before .before .before .before .before .pre .1 .0) .space .segments, c .before .before .before .before .before .before .before .before .before .before .graft-segment-run .kept .1 .1 .1 .0)
 
--- src/lib.rt:433:1
 graft-content-same-length-9 : (t : ℕ) → graft-content-lts.Need-same-length-9 (
   content-at-reads.Asked,
   content-at-reads.Learnt,
@@ -562,7 +530,6 @@ graft-content-same-length-9 : (t : ℕ) → graft-content-lts.Need-same-length-9
 ) (graft-content-at t) graft-content.Post
 graft-content-same-length-9 t c = c .before .before .put-content2 .kept .0 ∙ c .before .before .before .before .before .before .before .before .before .before .before .before .before .graft-segment-run .kept .1 .1 .1 .0
 
--- src/lib.rt:433:1
 graft-content-same-length-10 : (t : ℕ) → graft-content-lts.Need-same-length-10 (
   content-at-reads.Asked,
   content-at-reads.Learnt,
@@ -575,7 +542,6 @@ graft-content-same-length-10 : (t : ℕ) → graft-content-lts.Need-same-length-
 ) (graft-content-at t) graft-content.Post
 graft-content-same-length-10 t c = c .before .before .before .before .before .before .before .before .before .before .before .before .before .graft-segment-run .kept .1 .1 .1 .1 .0
 
--- src/lib.rt:433:1
 graft-content-same-length-11 : (t : ℕ) → graft-content-lts.Need-same-length-11 (
   content-at-reads.Asked,
   content-at-reads.Learnt,
@@ -588,7 +554,6 @@ graft-content-same-length-11 : (t : ℕ) → graft-content-lts.Need-same-length-
 ) (graft-content-at t) graft-content.Post
 graft-content-same-length-11 t c = c .before .before .before .before .before .before .before .before .before .before .before .before .before .graft-segment-run .kept .1 .1 .1 .1 .1 .0
 
--- src/lib.rt:433:1
 graft-content-returns-4 : (t : ℕ) → graft-content-lts.Need-returns-4 (
   content-at-reads.Asked,
   content-at-reads.Learnt,
@@ -601,7 +566,6 @@ graft-content-returns-4 : (t : ℕ) → graft-content-lts.Need-returns-4 (
 ) (graft-content-at t) graft-content.Post
 graft-content-returns-4 t c = run-made (c .before .before .before .before .before .before .before .before .before .before .before .before .before .before .before .before .before .before .before .before .before .before .before .before .before .before .args .tape .now) (c .before .before .before .before .before .before .before .before .before .before .before .before .before .before .before .before .before .before .before .before .before .before .before .before .before .before .args .st) (c .before .before .before .before .before .before .before .before .before .before .before .before .before .before .before .before .before .before .before .before .before .before .before .before .before .before .args .at) (c .before .before .before .before .before .before .before .before .before .before .before .before .before .before .before .before .before .before .before .before .content-at .result) (c .before .before .before .before .before .before .before .before .before .before .before .before .before .before .before .before .before .before .before .before .content-at .ensures) (c .before .before .before .before .before .before .before .before .before .before .before .before .before .before .before .before .before .before .before .before .before .before .before .before .before .before .args .level) (c .before .before .before .before .before .before .before .before .before .before .before .before .before .before .before .before .before .before .before .before .before .before .before .before .before .before .args .bytes .now) (c .before .before .before .before .before .before .before .before .before .before .before .before .before .before .before .before .before .before .before .before .before .before .before .before .before .before .args .p) (c .before .before .before .before .before .before .before .before .before .before .before .before .before .before .before .before .before .before .before .before .before .before .before .before .before .before .args .m) (c .before .before .before .before .before .before .before .before .before .before .before .before .before .before .before .before .before .before .before .before .before .before .before .before .before .before .args .to) (c .before .before .before .before .before .before .before .before .before .before .before .before .before .before .before .before .before .before .before .before .before .before .before .before .before .before .args .out .now) (c .before .before .before .before .before .before .before .before .before .before .before .before .before .before .before .before .before .before .before .before .before .before .before .before .before .before .args .work .now) (c .before .before .before .before .before .before .before .before .before .before .before .before .before .before .before .before .before .before .before .before .before .before .before .before .before .before .args .strs .now) (c .before .before .before .before .before .before .before .before .before .before .before .before .before .graft-segment-run .result) ((c .before .before .before .before .before .before .before .before .before .before .before .before .before .before .before .before .before .before .before .before .before .before .before .before .before .before .pre .1 .0) .source) (run-known (c .before .before .before .before .before .before .before .before .before .before .before .before .before .before .before .before .before .before .before .before .before .before .before .before .before .before .args .tape .now) (c .before .before .before .before .before .before .before .before .before .before .before .before .before .before .before .before .before .before .before .before .before .before .before .before .before .before .args .st) (c .before .before .before .before .before .before .before .before .before .before .before .before .before .before .before .before .before .before .before .before .before .before .before .before .before .before .args .at) (c .before .before .before .before .before .before .before .before .before .before .before .before .before .before .before .before .before .before .before .before .content-at .result) (c .before .before .before .before .before .before .before .before .before .before .before .before .before .before .before .before .before .before .before .before .content-at .ensures) (c .before .before .before .before .before .before .before .before .before .before .before .before .before .before .before .before .before .before .before .before .before .before .before .before .before .before .pre .1 .1 .0 .1) (c .before .before .before .before .before .before .before .before .before .before .before .before .before .before .before .before .before .if1 .left)) (c .before .before .before .before .before .before .before .before .before .before .before .before .before .before .before .before .before .if1 .left) (c .before .before .before .before .before .before .before .before .before .before .before .before .before .graft-segment-run .ensures) (not-false _ (c .before .before .before .before .if3 .left)) (c .before .before .put-content2 .ensures)
 
--- src/lib.rt:405:37
 graft-content-run-add-t17 : (t : ℕ) → graft-content-run-lts.Need-add-t17 (
   content-place-reads.Asked,
   content-place-reads.Learnt,
@@ -614,7 +578,6 @@ graft-content-run-add-t17 : (t : ℕ) → graft-content-run-lts.Need-add-t17 (
 ) (graft-content-run-at t) graft-content-run.Post
 graft-content-run-add-t17 t c = omega (arith, (c .before .before .before .before .before .before .before .before .pre .1 .0) .space .contentNumbers)
 
--- src/lib.rt:405:9
 graft-content-run-returns : (t : ℕ) → graft-content-run-lts.Need-returns (
   content-place-reads.Asked,
   content-place-reads.Learnt,
@@ -627,7 +590,6 @@ graft-content-run-returns : (t : ℕ) → graft-content-run-lts.Need-returns (
 ) (graft-content-run-at t) graft-content-run.Post
 graft-content-run-returns t c = content-run-empty (c .before .before .before .before .before .before .before .before .args .level) (c .before .before .before .before .before .before .before .before .args .tape .now) (c .before .before .before .before .before .before .before .before .args .bytes .now) (c .before .before .before .before .before .before .before .before .args .st) ((c .before .before .before .before .before .before .before .before .pre .1 .0) .source) (c .before .before .before .before .before .before .before .before .args .p) (c .before .before .before .before .before .before .before .before .args .m) (c .before .before .before .before .before .before .before .before .args .out .now) (c .before .before .before .before .before .before .before .before .args .work .now) (c .before .before .before .before .before .before .before .before .args .strs .now) (c .before .before .before .before .before .before .before .before .args .start) (c .before .before .before .before .before .before .before .before .args .len) (c .before .before .if1 .taken) (c .before .before .before .before .before .before .before .before .pre .1 .0)
 
--- src/lib.rt:407:9
 graft-content-run-content-place-requires :
     (t : ℕ) → graft-content-run-lts.Need-content-place-requires (
       content-place-reads.Asked,
@@ -641,7 +603,6 @@ graft-content-run-content-place-requires :
     ) (graft-content-run-at t) graft-content-run.Post
 graft-content-run-content-place-requires t c κs = (c .before .before .before .before .before .before .pre .1 .0) .source .fit .few
 
--- src/lib.rt:408:27
 graft-content-run-inner-contents-requires :
     (t : ℕ) → graft-content-run-lts.Need-inner-contents-requires (
       content-place-reads.Asked,
@@ -655,7 +616,6 @@ graft-content-run-inner-contents-requires :
     ) (graft-content-run-at t) graft-content-run.Post
 graft-content-run-inner-contents-requires t c κs = ((c .before .before .before .before .before .before .before .pre .1 .0) .source .fit, (contents-within (c .before .before .before .before .before .before .before .args .level) (c .before .before .before .before .before .before .before .args .start) (c .before .before .before .before .before .before .before .args .len) (c .before .before .before .before .before .before .before .pre .1 .1) (c .before .before .before .before .before .before .before .pre .1 .0) (c .content-place .result) (c .content-place .ensures) (c .before .if1 .left), (omega (arith, contents-numbers (c .before .before .before .before .before .before .before .args .level) (c .before .before .before .before .before .before .before .args .start) (c .before .before .before .before .before .before .before .args .len) (c .before .before .before .before .before .before .before .pre .1 .1) (c .before .before .before .before .before .before .before .pre .1 .0) (c .content-place .result) (c .content-place .ensures)), contents-others (c .before .before .before .before .before .before .before .args .level) (c .before .before .before .before .before .before .before .args .start) (c .before .before .before .before .before .before .before .args .len) (c .before .before .before .before .before .before .before .pre .1 .1) (c .before .before .before .before .before .before .before .pre .1 .0) (c .content-place .result) (c .content-place .ensures))))
 
--- src/lib.rt:408:14
 graft-content-run-add-to : (t : ℕ) → graft-content-run-lts.Need-add-to (
   content-place-reads.Asked,
   content-place-reads.Learnt,
@@ -668,7 +628,6 @@ graft-content-run-add-to : (t : ℕ) → graft-content-run-lts.Need-add-to (
 ) (graft-content-run-at t) graft-content-run.Post
 graft-content-run-add-to t c = omega (arith, contents-numbers (c .before .before .before .before .before .before .before .before .before .args .level) (c .before .before .before .before .before .before .before .before .before .args .start) (c .before .before .before .before .before .before .before .before .before .args .len) (c .before .before .before .before .before .before .before .before .before .pre .1 .1) (c .before .before .before .before .before .before .before .before .before .pre .1 .0) (c .before .before .content-place .result) (c .before .before .content-place .ensures), c .before .inner-contents .ensures)
 
--- src/lib.rt:409:9
 graft-content-run-graft-contents-requires :
     (t : ℕ) → graft-content-run-lts.Need-graft-contents-requires (
       content-place-reads.Asked,
@@ -682,7 +641,6 @@ graft-content-run-graft-contents-requires :
     ) (graft-content-run-at t) graft-content-run.Post
 graft-content-run-graft-contents-requires t c κs = (omega arith, (contents-ready (c .before .before .before .before .before .before .before .before .before .before .before .before .args .level) (c .before .before .before .before .before .before .before .before .before .before .before .before .args .start) (c .before .before .before .before .before .before .before .before .before .before .before .before .args .len) (c .before .before .before .before .before .before .before .before .before .before .before .before .pre .1 .1) (c .before .before .before .before .before .before .before .before .before .before .before .before .pre .1 .0) (c .before .before .before .before .before .content-place .result) (c .before .before .before .before .before .content-place .ensures), ((contents-within (c .before .before .before .before .before .before .before .before .before .before .before .before .args .level) (c .before .before .before .before .before .before .before .before .before .before .before .before .args .start) (c .before .before .before .before .before .before .before .before .before .before .before .before .args .len) (c .before .before .before .before .before .before .before .before .before .before .before .before .pre .1 .1) (c .before .before .before .before .before .before .before .before .before .before .before .before .pre .1 .0) (c .before .before .before .before .before .content-place .result) (c .before .before .before .before .before .content-place .ensures) (c .before .before .before .before .before .before .if1 .left), contents-known (c .before .before .before .before .before .before .before .before .before .before .before .before .args .level) (c .before .before .before .before .before .before .before .before .before .before .before .before .args .start) (c .before .before .before .before .before .before .before .before .before .before .before .before .args .len) (c .before .before .before .before .before .before .before .before .before .before .before .before .pre .1 .1) (c .before .before .before .before .before .before .before .before .before .before .before .before .pre .1 .0) (c .before .before .before .before .before .content-place .result) (c .before .before .before .before .before .content-place .ensures)), (omega (arith, c .before .before .before .before .inner-contents .ensures), omega (arith, contents-high (c .before .before .before .before .before .before .before .before .before .before .before .before .args .level) (c .before .before .before .before .before .before .before .before .before .before .before .before .args .start) (c .before .before .before .before .before .before .before .before .before .before .before .before .args .len) (c .before .before .before .before .before .before .before .before .before .before .before .before .pre .1 .1) (c .before .before .before .before .before .before .before .before .before .before .before .before .pre .1 .0) (c .before .before .before .before .before .content-place .result) (c .before .before .before .before .before .content-place .ensures), c .before .before .before .before .inner-contents .ensures), omega (arith, contents-numbers (c .before .before .before .before .before .before .before .before .before .before .before .before .args .level) (c .before .before .before .before .before .before .before .before .before .before .before .before .args .start) (c .before .before .before .before .before .before .before .before .before .before .before .before .args .len) (c .before .before .before .before .before .before .before .before .before .before .before .before .pre .1 .1) (c .before .before .before .before .before .before .before .before .before .before .before .before .pre .1 .0) (c .before .before .before .before .before .content-place .result) (c .before .before .before .before .before .content-place .ensures), c .before .before .before .before .inner-contents .ensures)))))
 
--- src/lib.rt:410:5
 graft-content-run-pushed-contents-requires :
     (t : ℕ) → graft-content-run-lts.Need-pushed-contents-requires (
       content-place-reads.Asked,
@@ -696,7 +654,6 @@ graft-content-run-pushed-contents-requires :
     ) (graft-content-run-at t) graft-content-run.Post
 graft-content-run-pushed-contents-requires t c κs = (omega (arith, contents-numbers (c .before .before .before .before .before .before .before .before .before .before .before .before .before .before .before .before .before .before .before .args .level) (c .before .before .before .before .before .before .before .before .before .before .before .before .before .before .before .before .before .before .before .args .start) (c .before .before .before .before .before .before .before .before .before .before .before .before .before .before .before .before .before .before .before .args .len) (c .before .before .before .before .before .before .before .before .before .before .before .before .before .before .before .before .before .before .before .pre .1 .1) (c .before .before .before .before .before .before .before .before .before .before .before .before .before .before .before .before .before .before .before .pre .1 .0) (c .before .before .before .before .before .before .before .before .before .before .before .before .content-place .result) (c .before .before .before .before .before .before .before .before .before .before .before .before .content-place .ensures), c .before .before .before .before .before .before .before .before .before .before .before .inner-contents .ensures), omega (arith, contents-numbers (c .before .before .before .before .before .before .before .before .before .before .before .before .before .before .before .before .before .before .before .args .level) (c .before .before .before .before .before .before .before .before .before .before .before .before .before .before .before .before .before .before .before .args .start) (c .before .before .before .before .before .before .before .before .before .before .before .before .before .before .before .before .before .before .before .args .len) (c .before .before .before .before .before .before .before .before .before .before .before .before .before .before .before .before .before .before .before .pre .1 .1) (c .before .before .before .before .before .before .before .before .before .before .before .before .before .before .before .before .before .before .before .pre .1 .0) (c .before .before .before .before .before .before .before .before .before .before .before .before .content-place .result) (c .before .before .before .before .before .before .before .before .before .before .before .before .content-place .ensures), c .before .before .before .before .before .before .before .before .before .before .before .inner-contents .ensures))
 
--- src/lib.rt:399:1
 graft-content-run-same-length : (t : ℕ) → graft-content-run-lts.Need-same-length (
   content-place-reads.Asked,
   content-place-reads.Learnt,
@@ -709,7 +666,6 @@ graft-content-run-same-length : (t : ℕ) → graft-content-run-lts.Need-same-le
 ) (graft-content-run-at t) graft-content-run.Post
 graft-content-run-same-length t c = c .before .before .before .before .before .before .before .graft-contents .kept .1 .1 .1 .0
 
--- src/lib.rt:399:1
 graft-content-run-same-length-2 : (t : ℕ) → graft-content-run-lts.Need-same-length-2 (
   content-place-reads.Asked,
   content-place-reads.Learnt,
@@ -722,7 +678,6 @@ graft-content-run-same-length-2 : (t : ℕ) → graft-content-run-lts.Need-same-
 ) (graft-content-run-at t) graft-content-run.Post
 graft-content-run-same-length-2 t c = c .before .before .before .before .before .before .before .graft-contents .kept .1 .1 .1 .1 .0
 
--- src/lib.rt:399:1
 graft-content-run-same-length-3 : (t : ℕ) → graft-content-run-lts.Need-same-length-3 (
   content-place-reads.Asked,
   content-place-reads.Learnt,
@@ -735,7 +690,6 @@ graft-content-run-same-length-3 : (t : ℕ) → graft-content-run-lts.Need-same-
 ) (graft-content-run-at t) graft-content-run.Post
 graft-content-run-same-length-3 t c = c .before .before .before .before .before .before .before .graft-contents .kept .1 .1 .1 .1 .1 .0
 
--- src/lib.rt:399:1
 graft-content-run-returns-2 : (t : ℕ) → graft-content-run-lts.Need-returns-2 (
   content-place-reads.Asked,
   content-place-reads.Learnt,
@@ -754,126 +708,108 @@ graft-contents-Inv-loop tape bytes st out₀ work₀ strs₀ p at count to level
 abbrev graft-contents-μ-loop : graft-contents-lts.MeasureT-loop
 graft-contents-μ-loop tape bytes st out₀ work₀ strs₀ p at count to level u₀ i₀ out work strs u i = count - i
 
--- src/lib.rt:422:5
 graft-contents-loop-holds : (t : ℕ) → graft-contents-lts.Need-loop-holds (
   graft-content-below t,
   graft-content.Post,
 ) (graft-contents-at t) graft-contents.Post graft-contents-Inv-loop graft-contents-μ-loop
 graft-contents-loop-holds t c = (omega arith, items-first (content-grafts ((c .before .before .before .before .before .pre .1 .0) .source) (c .before .before .before .before .before .args .level)) (c .before .before .before .before .before .args .at) (c .before .before .before .before .before .args .count) ((c .before .before .before .before .before .args .p) .contentsat + 10 * (c .before .before .before .before .before .args .to)) (c .before .before .before .before .before .pre .1 .0) (c .before .before .before .before .before .pre .1 .1 .0 .1), refl, refl)
 
--- src/lib.rt:423:72
 graft-contents-mul-graft-content : (t : ℕ) → graft-contents-lts.Need-mul-graft-content (
   graft-content-below t,
   graft-content.Post,
 ) (graft-contents-at t) graft-contents.Post graft-contents-Inv-loop graft-contents-μ-loop
 graft-contents-mul-graft-content t c = omega (arith, c .before .before .before .before .before .before .before .before .before .before .pre .1 .1 .0 .0, c .before .before .before .loop-test .taken)
 
--- src/lib.rt:423:67
 graft-contents-add-graft-content : (t : ℕ) → graft-contents-lts.Need-add-graft-content (
   graft-content-below t,
   graft-content.Post,
 ) (graft-contents-at t) graft-contents.Post graft-contents-Inv-loop graft-contents-μ-loop
 graft-contents-add-graft-content t c = omega (arith, c .before .before .before .before .before .before .before .before .before .before .pre .1 .1 .0 .0, c .before .before .before .loop-test .taken)
 
--- src/lib.rt:423:85
 graft-contents-cast-graft-content : (t : ℕ) → graft-contents-lts.Need-cast-graft-content (
   graft-content-below t,
   graft-content.Post,
 ) (graft-contents-at t) graft-contents.Post graft-contents-Inv-loop graft-contents-μ-loop
 graft-contents-cast-graft-content t c = omega (arith, c .before .before .before .before .before .before .before .before .before .before .pre .1 .1 .1 .2, c .before .before .before .loop-test .taken)
 
--- src/lib.rt:423:80
 graft-contents-add-graft-content-2 : (t : ℕ) → graft-contents-lts.Need-add-graft-content-2 (
   graft-content-below t,
   graft-content.Post,
 ) (graft-contents-at t) graft-contents.Post graft-contents-Inv-loop graft-contents-μ-loop
 graft-contents-add-graft-content-2 t c = omega (arith, c .before .before .before .before .before .before .before .before .before .before .pre .1 .1 .1 .2, c .before .before .before .loop-test .taken)
 
--- src/lib.rt:423:9
 graft-contents-graft-content-requires : (t : ℕ) → graft-contents-lts.Need-graft-content-requires (
   graft-content-below t,
   graft-content.Post,
 ) (graft-contents-at t) graft-contents.Post graft-contents-Inv-loop graft-contents-μ-loop
 graft-contents-graft-content-requires t c κs = (omega arith, (item-ready (content-grafts ((c .before .before .before .before .before .before .before .before .before .before .pre .1 .0) .source) (c .before .before .before .before .before .before .before .before .before .before .args .level)) (c .before .before .before .before .before .before .before .before .before .before .args .at) (c .before .before .before .before .before .before .before .before .before .before .args .count) ((c .before .before .before .before .before .before .before .before .before .before .args .p) .contentsat + 10 * (c .before .before .before .before .before .before .before .before .before .before .args .to)) (c .before .before .before .before .before .before .before .before .before .before .pre .1 .0) (c .before .before .before .before .before .before .before .before .before .before .pre .1 .1 .0 .1) (c .before .before .before .before .loop .inv .1) (c .before .before .before .loop-test .taken), ((omega (arith, c .before .before .before .before .before .before .before .before .before .before .pre .1 .1 .0 .0, c .before .before .before .loop-test .taken), item-known (content-grafts ((c .before .before .before .before .before .before .before .before .before .before .pre .1 .0) .source) (c .before .before .before .before .before .before .before .before .before .before .args .level)) (c .before .before .before .before .before .before .before .before .before .before .args .at) (c .before .before .before .before .before .before .before .before .before .before .args .count) ((c .before .before .before .before .before .before .before .before .before .before .args .p) .contentsat + 10 * (c .before .before .before .before .before .before .before .before .before .before .args .to)) (c .before .before .before .before .before .before .before .before .before .before .pre .1 .0) (c .before .before .before .before .before .before .before .before .before .before .pre .1 .1 .0 .1) (c .before .before .before .before .loop .i) (c .before .before .before .loop-test .taken)), (omega (arith, item-low (content-grafts ((c .before .before .before .before .before .before .before .before .before .before .pre .1 .0) .source) (c .before .before .before .before .before .before .before .before .before .before .args .level)) (c .before .before .before .before .before .before .before .before .before .before .args .at) (c .before .before .before .before .before .before .before .before .before .before .args .count) ((c .before .before .before .before .before .before .before .before .before .before .args .p) .contentsat + 10 * (c .before .before .before .before .before .before .before .before .before .before .args .to)) (c .before .before .before .before .before .before .before .before .before .before .pre .1 .0) (c .before .before .before .before .before .before .before .before .before .before .pre .1 .1 .0 .1) (c .before .before .before .before .loop .inv .1) (c .before .before .before .loop-test .taken) .0, c .before .before .before .before .before .before .before .before .before .before .pre .1 .1 .1 .0), omega (arith, c .before .before .before .before .before .before .before .before .before .before .pre .1 .1 .1 .1, c .before .before .before .loop-test .taken)))))
 
--- src/lib.rt:425:13
 graft-contents-same-length : (t : ℕ) → graft-contents-lts.Need-same-length (
   graft-content-below t,
   graft-content.Post,
 ) (graft-contents-at t) graft-contents.Post graft-contents-Inv-loop graft-contents-μ-loop
 graft-contents-same-length t c = c .before .before .before .before .before .before .before .before .graft-content .kept .1 .1 .1 .0 ∙ c .before .before .before .before .before .before .before .before .before .before .before .before .before .loop .inv .1 .long
 
--- src/lib.rt:425:13
 graft-contents-same-length-2 : (t : ℕ) → graft-contents-lts.Need-same-length-2 (
   graft-content-below t,
   graft-content.Post,
 ) (graft-contents-at t) graft-contents.Post graft-contents-Inv-loop graft-contents-μ-loop
 graft-contents-same-length-2 t c = c .before .before .before .before .before .before .before .before .graft-content .kept .1 .1 .1 .1 .0 ∙ c .before .before .before .before .before .before .before .before .before .before .before .before .before .loop .inv .2
 
--- src/lib.rt:425:13
 graft-contents-same-length-3 : (t : ℕ) → graft-contents-lts.Need-same-length-3 (
   graft-content-below t,
   graft-content.Post,
 ) (graft-contents-at t) graft-contents.Post graft-contents-Inv-loop graft-contents-μ-loop
 graft-contents-same-length-3 t c = c .before .before .before .before .before .before .before .before .graft-content .kept .1 .1 .1 .1 .1 .0 ∙ c .before .before .before .before .before .before .before .before .before .before .before .before .before .loop .inv .3
 
--- src/lib.rt:425:13
 graft-contents-returns : (t : ℕ) → graft-contents-lts.Need-returns (
   graft-content-below t,
   graft-content.Post,
 ) (graft-contents-at t) graft-contents.Post graft-contents-Inv-loop graft-contents-μ-loop
 graft-contents-returns t c = items-refused (content-grafts ((c .before .before .before .before .before .before .before .before .before .before .before .before .before .before .before .before .before .before .before .pre .1 .0) .source) (c .before .before .before .before .before .before .before .before .before .before .before .before .before .before .before .before .before .before .before .args .level)) (c .before .before .before .before .before .before .before .before .before .before .before .before .before .before .before .before .before .before .before .args .at) (c .before .before .before .before .before .before .before .before .before .before .before .before .before .before .before .before .before .before .before .args .count) ((c .before .before .before .before .before .before .before .before .before .before .before .before .before .before .before .before .before .before .before .args .p) .contentsat + 10 * (c .before .before .before .before .before .before .before .before .before .before .before .before .before .before .before .before .before .before .before .args .to)) (c .before .before .before .before .before .before .before .before .before .before .before .before .before .before .before .before .before .before .before .pre .1 .0) (c .before .before .before .before .before .before .before .before .before .before .before .before .before .before .before .before .before .before .before .pre .1 .1 .0 .1) (c .before .before .before .before .before .before .before .before .before .before .before .before .before .loop .i + 1) (omega (arith, c .before .before .before .before .before .before .before .before .before .before .before .before .loop-test .taken)) (item-turn (content-grafts ((c .before .before .before .before .before .before .before .before .before .before .before .before .before .before .before .before .before .before .before .pre .1 .0) .source) (c .before .before .before .before .before .before .before .before .before .before .before .before .before .before .before .before .before .before .before .args .level)) (c .before .before .before .before .before .before .before .before .before .before .before .before .before .before .before .before .before .before .before .args .at) (c .before .before .before .before .before .before .before .before .before .before .before .before .before .before .before .before .before .before .before .args .count) ((c .before .before .before .before .before .before .before .before .before .before .before .before .before .before .before .before .before .before .before .args .p) .contentsat + 10 * (c .before .before .before .before .before .before .before .before .before .before .before .before .before .before .before .before .before .before .before .args .to)) (c .before .before .before .before .before .before .before .before .before .before .before .before .before .before .before .before .before .before .before .pre .1 .0) (c .before .before .before .before .before .before .before .before .before .before .before .before .before .before .before .before .before .before .before .pre .1 .1 .0 .1) (c .before .before .before .before .before .before .before .before .before .before .before .before .before .loop .inv .1) (c .before .before .before .before .before .before .before .before .before .before .before .before .loop-test .taken) (between (omega (arith, c .before .before .before .before .before .before .before .before .before .before .before .before .before .before .before .before .before .before .before .pre .1 .1 .1 .0)) (omega (arith, c .before .before .before .before .before .before .before .before .before .before .before .before .before .before .before .before .before .before .before .pre .1 .1 .1 .1))) ((c .before .before .before .before .before .before .before .before .before .before .before .before .before .before .before .before .before .before .before .args .p) .contentsat + 10 * ((c .before .before .before .before .before .before .before .before .before .before .before .before .before .before .before .before .before .before .before .args .to) + c .before .before .before .before .before .before .before .before .before .before .before .before .before .loop .i)) (omega arith) (c .before .before .before .before .before .before .before .before .graft-content .ensures)) (not-true _ (c .if1 .taken))
 
--- src/lib.rt:427:9
 graft-contents-add-i : (t : ℕ) → graft-contents-lts.Need-add-i (
   graft-content-below t,
   graft-content.Post,
 ) (graft-contents-at t) graft-contents.Post graft-contents-Inv-loop graft-contents-μ-loop
 graft-contents-add-i t c = omega (arith, c .before .before .before .before .before .before .before .before .before .before .before .before .before .before .before .before .before .before .before .pre .1 .1 .1 .2, c .before .before .before .before .before .before .before .before .before .before .before .before .loop-test .taken)
 
--- src/lib.rt:422:5
 graft-contents-loop-less : (t : ℕ) → graft-contents-lts.Need-loop-less (
   graft-content-below t,
   graft-content.Post,
 ) (graft-contents-at t) graft-contents.Post graft-contents-Inv-loop graft-contents-μ-loop
 graft-contents-loop-less t c = omega (arith, c .before .before .before .before .before .before .before .before .before .before .before .before .loop-test .taken)
 
--- src/lib.rt:422:5
 graft-contents-loop-again : (t : ℕ) → graft-contents-lts.Need-loop-again (
   graft-content-below t,
   graft-content.Post,
 ) (graft-contents-at t) graft-contents.Post graft-contents-Inv-loop graft-contents-μ-loop
 graft-contents-loop-again t c = (omega (arith, c .before .before .before .before .before .before .before .before .before .before .before .before .loop-test .taken), items-more (content-grafts ((c .before .before .before .before .before .before .before .before .before .before .before .before .before .before .before .before .before .before .before .pre .1 .0) .source) (c .before .before .before .before .before .before .before .before .before .before .before .before .before .before .before .before .before .before .before .args .level)) (c .before .before .before .before .before .before .before .before .before .before .before .before .before .before .before .before .before .before .before .args .at) (c .before .before .before .before .before .before .before .before .before .before .before .before .before .before .before .before .before .before .before .args .count) ((c .before .before .before .before .before .before .before .before .before .before .before .before .before .before .before .before .before .before .before .args .p) .contentsat + 10 * (c .before .before .before .before .before .before .before .before .before .before .before .before .before .before .before .before .before .before .before .args .to)) (c .before .before .before .before .before .before .before .before .before .before .before .before .before .before .before .before .before .before .before .pre .1 .0) (c .before .before .before .before .before .before .before .before .before .before .before .before .before .before .before .before .before .before .before .pre .1 .1 .0 .1) (c .before .before .before .before .before .before .before .before .before .before .before .before .before .loop .inv .1) (c .before .before .before .before .before .before .before .before .before .before .before .before .loop-test .taken) (between (omega (arith, c .before .before .before .before .before .before .before .before .before .before .before .before .before .before .before .before .before .before .before .pre .1 .1 .1 .0)) (omega (arith, c .before .before .before .before .before .before .before .before .before .before .before .before .before .before .before .before .before .before .before .pre .1 .1 .1 .1))) ((c .before .before .before .before .before .before .before .before .before .before .before .before .before .before .before .before .before .before .before .args .p) .contentsat + 10 * ((c .before .before .before .before .before .before .before .before .before .before .before .before .before .before .before .before .before .before .before .args .to) + c .before .before .before .before .before .before .before .before .before .before .before .before .before .loop .i)) (omega arith) (c .before .before .before .before .before .before .before .before .graft-content .ensures) (c .before .before .before .before .before .before .before .before .graft-content .kept .1 .1 .1 .0) (not-false _ (c .if1 .left)), c .before .before .before .before .before .before .before .before .graft-content .kept .1 .1 .1 .1 .0 ∙ c .before .before .before .before .before .before .before .before .before .before .before .before .before .loop .inv .2, c .before .before .before .before .before .before .before .before .graft-content .kept .1 .1 .1 .1 .1 .0 ∙ c .before .before .before .before .before .before .before .before .before .before .before .before .before .loop .inv .3)
 
--- src/lib.rt:414:1
 graft-contents-same-length-4 : (t : ℕ) → graft-contents-lts.Need-same-length-4 (
   graft-content-below t,
   graft-content.Post,
 ) (graft-contents-at t) graft-contents.Post graft-contents-Inv-loop graft-contents-μ-loop
 graft-contents-same-length-4 t c = c .before .loop .inv .1 .long
 
--- src/lib.rt:414:1
 graft-contents-same-length-5 : (t : ℕ) → graft-contents-lts.Need-same-length-5 (
   graft-content-below t,
   graft-content.Post,
 ) (graft-contents-at t) graft-contents.Post graft-contents-Inv-loop graft-contents-μ-loop
 graft-contents-same-length-5 t c = c .before .loop .inv .2
 
--- src/lib.rt:414:1
 graft-contents-same-length-6 : (t : ℕ) → graft-contents-lts.Need-same-length-6 (
   graft-content-below t,
   graft-content.Post,
 ) (graft-contents-at t) graft-contents.Post graft-contents-Inv-loop graft-contents-μ-loop
 graft-contents-same-length-6 t c = c .before .loop .inv .3
 
--- src/lib.rt:414:1
 graft-contents-returns-2 : (t : ℕ) → graft-contents-lts.Need-returns-2 (
   graft-content-below t,
   graft-content.Post,
 ) (graft-contents-at t) graft-contents.Post graft-contents-Inv-loop graft-contents-μ-loop
 graft-contents-returns-2 t c = items-last (content-grafts ((c .before .before .before .before .before .before .before .pre .1 .0) .source) (c .before .before .before .before .before .before .before .args .level)) (c .before .before .before .before .before .before .before .args .at) (c .before .before .before .before .before .before .before .args .count) ((c .before .before .before .before .before .before .before .args .p) .contentsat + 10 * (c .before .before .before .before .before .before .before .args .to)) (c .before .before .before .before .before .before .before .pre .1 .0) (c .before .before .before .before .before .before .before .pre .1 .1 .0 .1) (c .before .loop .inv .1) (omega (arith, c .loop-test .left)) (c .before .loop .inv .0)
 
--- src/lib.rt:390:9
 graft-field-graft-content-run-requires : (t : ℕ) → graft-field-lts.Need-graft-content-run-requires (
   graft-content-run-below t,
   graft-content-run.Post,
@@ -884,7 +820,6 @@ graft-field-graft-content-run-requires : (t : ℕ) → graft-field-lts.Need-graf
 ) (graft-field-at t) graft-field.Post
 graft-field-graft-content-run-requires t c κs = (omega arith, (field-contents-ready (c .before .before .before .before .before .before .before .before .before .before .args .level) (c .before .before .before .before .before .before .before .before .before .before .args .tape .now) (c .before .before .before .before .before .before .before .before .before .before .args .bytes .now) (c .before .before .before .before .before .before .before .before .before .before .args .p) (c .before .before .before .before .before .before .before .before .before .before .args .m) (c .before .before .before .before .before .before .before .before .before .before .args .out .now) (c .before .before .before .before .before .before .before .before .before .before .args .work .now) (c .before .before .before .before .before .before .before .before .before .before .args .strs .now) (c .before .before .before .before .before .before .before .before .before .before .args .f) (c .before .before .before .before .before .before .before .before .before .before .args .st) (innerAdds (c .before .before .before .before .before .before .before .before .before .before .args .level) (c .before .before .before .before .before .before .before .before .before .before .args .tape .now) (c .before .before .before .before .before .before .before .before .before .before .args .st)) (c .before .before .before .before .before .before .before .before .before .before .pre .1 .0) (c .before .before .before .if1 .taken), sym (used-contents (c .before .before .before .before .before .before .before .before .before .before .args .st) ((c .before .before .before .before .before .before .before .before .before .before .args .f) .usage) ((c .before .before .before .before .before .before .before .before .before .before .args .f) .first) ((c .before .before .before .before .before .before .before .before .before .before .args .f) .second) (c .before .before .before .if1 .taken)) ∙ c .before .before .before .before .before .before .before .before .before .before .pre .1 .1))
 
--- src/lib.rt:390:9
 graft-field-same-length : (t : ℕ) → graft-field-lts.Need-same-length (
   graft-content-run-below t,
   graft-content-run.Post,
@@ -895,7 +830,6 @@ graft-field-same-length : (t : ℕ) → graft-field-lts.Need-same-length (
 ) (graft-field-at t) graft-field.Post
 graft-field-same-length t c = c .before .before .before .before .before .before .graft-content-run .kept .1 .1 .1 .0
 
--- src/lib.rt:390:9
 graft-field-same-length-2 : (t : ℕ) → graft-field-lts.Need-same-length-2 (
   graft-content-run-below t,
   graft-content-run.Post,
@@ -906,7 +840,6 @@ graft-field-same-length-2 : (t : ℕ) → graft-field-lts.Need-same-length-2 (
 ) (graft-field-at t) graft-field.Post
 graft-field-same-length-2 t c = c .before .before .before .before .before .before .graft-content-run .kept .1 .1 .1 .1 .0
 
--- src/lib.rt:390:9
 graft-field-same-length-3 : (t : ℕ) → graft-field-lts.Need-same-length-3 (
   graft-content-run-below t,
   graft-content-run.Post,
@@ -917,7 +850,6 @@ graft-field-same-length-3 : (t : ℕ) → graft-field-lts.Need-same-length-3 (
 ) (graft-field-at t) graft-field.Post
 graft-field-same-length-3 t c = c .before .before .before .before .before .before .graft-content-run .kept .1 .1 .1 .1 .1 .0
 
--- src/lib.rt:390:9
 graft-field-returns : (t : ℕ) → graft-field-lts.Need-returns (
   graft-content-run-below t,
   graft-content-run.Post,
@@ -928,7 +860,6 @@ graft-field-returns : (t : ℕ) → graft-field-lts.Need-returns (
 ) (graft-field-at t) graft-field.Post
 graft-field-returns t c = field-contents (c .before .before .before .before .before .before .before .before .before .before .before .before .before .before .before .before .before .args .level) (c .before .before .before .before .before .before .before .before .before .before .before .before .before .before .before .before .before .args .tape .now) (c .before .before .before .before .before .before .before .before .before .before .before .before .before .before .before .before .before .args .bytes .now) (c .before .before .before .before .before .before .before .before .before .before .before .before .before .before .before .before .before .args .p) (c .before .before .before .before .before .before .before .before .before .before .before .before .before .before .before .before .before .args .m) (c .before .before .before .before .before .before .before .before .before .before .before .before .before .before .before .before .before .args .out .now) (c .before .before .before .before .before .before .before .before .before .before .before .before .before .before .before .before .before .args .work .now) (c .before .before .before .before .before .before .before .before .before .before .before .before .before .before .before .before .before .args .strs .now) (c .before .before .before .before .before .before .before .before .before .before .before .before .before .before .before .before .before .args .f) (c .before .before .before .before .before .before .before .before .before .before .if1 .taken) (c .before .before .before .before .before .before .graft-content-run .ensures)
 
--- src/lib.rt:393:9
 graft-field-graft-segment-run-requires : (t : ℕ) → graft-field-lts.Need-graft-segment-run-requires (
   graft-content-run-below t,
   graft-content-run.Post,
@@ -939,7 +870,6 @@ graft-field-graft-segment-run-requires : (t : ℕ) → graft-field-lts.Need-graf
 ) (graft-field-at t) graft-field.Post
 graft-field-graft-segment-run-requires t c κs = (omega arith, (field-segments-ready (c .before .before .before .before .before .before .before .before .before .before .before .before .args .level) (c .before .before .before .before .before .before .before .before .before .before .before .before .args .tape .now) (c .before .before .before .before .before .before .before .before .before .before .before .before .args .bytes .now) (c .before .before .before .before .before .before .before .before .before .before .before .before .args .p) (c .before .before .before .before .before .before .before .before .before .before .before .before .args .m) (c .before .before .before .before .before .before .before .before .before .before .before .before .args .out .now) (c .before .before .before .before .before .before .before .before .before .before .before .before .args .work .now) (c .before .before .before .before .before .before .before .before .before .before .before .before .args .strs .now) (c .before .before .before .before .before .before .before .before .before .before .before .before .args .f) (c .before .before .before .before .before .before .before .before .before .before .before .before .args .st) (innerAdds (c .before .before .before .before .before .before .before .before .before .before .before .before .args .level) (c .before .before .before .before .before .before .before .before .before .before .before .before .args .tape .now) (c .before .before .before .before .before .before .before .before .before .before .before .before .args .st)) (c .before .before .before .before .before .before .before .before .before .before .before .before .pre .1 .0) (c .before .before .before .before .before .if1 .left) (c .before .before .before .if2 .taken), sym (used-segments (c .before .before .before .before .before .before .before .before .before .before .before .before .args .st) ((c .before .before .before .before .before .before .before .before .before .before .before .before .args .f) .usage) ((c .before .before .before .before .before .before .before .before .before .before .before .before .args .f) .first) ((c .before .before .before .before .before .before .before .before .before .before .before .before .args .f) .second) (c .before .before .before .if2 .taken)) ∙ c .before .before .before .before .before .before .before .before .before .before .before .before .pre .1 .1))
 
--- src/lib.rt:393:9
 graft-field-same-length-4 : (t : ℕ) → graft-field-lts.Need-same-length-4 (
   graft-content-run-below t,
   graft-content-run.Post,
@@ -950,7 +880,6 @@ graft-field-same-length-4 : (t : ℕ) → graft-field-lts.Need-same-length-4 (
 ) (graft-field-at t) graft-field.Post
 graft-field-same-length-4 t c = c .before .before .before .before .before .before .graft-segment-run .kept .1 .1 .1 .0
 
--- src/lib.rt:393:9
 graft-field-same-length-5 : (t : ℕ) → graft-field-lts.Need-same-length-5 (
   graft-content-run-below t,
   graft-content-run.Post,
@@ -961,7 +890,6 @@ graft-field-same-length-5 : (t : ℕ) → graft-field-lts.Need-same-length-5 (
 ) (graft-field-at t) graft-field.Post
 graft-field-same-length-5 t c = c .before .before .before .before .before .before .graft-segment-run .kept .1 .1 .1 .1 .0
 
--- src/lib.rt:393:9
 graft-field-same-length-6 : (t : ℕ) → graft-field-lts.Need-same-length-6 (
   graft-content-run-below t,
   graft-content-run.Post,
@@ -972,7 +900,6 @@ graft-field-same-length-6 : (t : ℕ) → graft-field-lts.Need-same-length-6 (
 ) (graft-field-at t) graft-field.Post
 graft-field-same-length-6 t c = c .before .before .before .before .before .before .graft-segment-run .kept .1 .1 .1 .1 .1 .0
 
--- src/lib.rt:393:9
 graft-field-returns-2 : (t : ℕ) → graft-field-lts.Need-returns-2 (
   graft-content-run-below t,
   graft-content-run.Post,
@@ -983,7 +910,6 @@ graft-field-returns-2 : (t : ℕ) → graft-field-lts.Need-returns-2 (
 ) (graft-field-at t) graft-field.Post
 graft-field-returns-2 t c = field-segments (c .before .before .before .before .before .before .before .before .before .before .before .before .before .before .before .before .before .before .before .args .level) (c .before .before .before .before .before .before .before .before .before .before .before .before .before .before .before .before .before .before .before .args .tape .now) (c .before .before .before .before .before .before .before .before .before .before .before .before .before .before .before .before .before .before .before .args .bytes .now) (c .before .before .before .before .before .before .before .before .before .before .before .before .before .before .before .before .before .before .before .args .p) (c .before .before .before .before .before .before .before .before .before .before .before .before .before .before .before .before .before .before .before .args .m) (c .before .before .before .before .before .before .before .before .before .before .before .before .before .before .before .before .before .before .before .args .out .now) (c .before .before .before .before .before .before .before .before .before .before .before .before .before .before .before .before .before .before .before .args .work .now) (c .before .before .before .before .before .before .before .before .before .before .before .before .before .before .before .before .before .before .before .args .strs .now) (c .before .before .before .before .before .before .before .before .before .before .before .before .before .before .before .before .before .before .before .args .f) (c .before .before .before .before .before .before .before .before .before .before .before .before .if1 .left) (c .before .before .before .before .before .before .before .before .before .before .if2 .taken) (c .before .before .before .before .before .before .graft-segment-run .ensures)
 
--- src/lib.rt:395:5
 graft-field-graft-string-requires : (t : ℕ) → graft-field-lts.Need-graft-string-requires (
   graft-content-run-below t,
   graft-content-run.Post,
@@ -994,7 +920,6 @@ graft-field-graft-string-requires : (t : ℕ) → graft-field-lts.Need-graft-str
 ) (graft-field-at t) graft-field.Post
 graft-field-graft-string-requires t c κs = ((c .before .before .before .before .before .before .before .before .before .before .before .pre .1 .0) .source, ((c .before .before .before .before .before .before .before .before .before .before .before .pre .1 .0) .index, ((c .before .before .before .before .before .before .before .before .before .before .before .pre .1 .0) .good, (((c .before .before .before .before .before .before .before .before .before .before .before .pre .1 .0) .going, (c .before .before .before .before .before .before .before .before .before .before .before .pre .1 .0) .has), (string-well (c .before .before .before .before .before .before .before .before .before .before .before .args .st) ((c .before .before .before .before .before .before .before .before .before .before .before .args .f) .usage) ((c .before .before .before .before .before .before .before .before .before .before .before .args .f) .first) ((c .before .before .before .before .before .before .before .before .before .before .before .args .f) .second) (c .before .before .before .before .before .before .before .before .before .before .before .pre .1 .1) (c .before .before .before .before .if1 .left) (c .before .before .if2 .left), omega (arith, (c .before .before .before .before .before .before .before .before .before .before .before .pre .1 .0) .space .calls), omega (arith, (c .before .before .before .before .before .before .before .before .before .before .before .pre .1 .0) .space .stringNumbers))))))
 
--- src/lib.rt:384:1
 graft-field-same-length-7 : (t : ℕ) → graft-field-lts.Need-same-length-7 (
   graft-content-run-below t,
   graft-content-run.Post,
@@ -1005,7 +930,6 @@ graft-field-same-length-7 : (t : ℕ) → graft-field-lts.Need-same-length-7 (
 ) (graft-field-at t) graft-field.Post
 graft-field-same-length-7 t c = c .before .before .before .before .graft-string .kept .1 .1 .1 .0
 
--- src/lib.rt:384:1
 graft-field-same-length-8 : (t : ℕ) → graft-field-lts.Need-same-length-8 (
   graft-content-run-below t,
   graft-content-run.Post,
@@ -1016,7 +940,6 @@ graft-field-same-length-8 : (t : ℕ) → graft-field-lts.Need-same-length-8 (
 ) (graft-field-at t) graft-field.Post
 graft-field-same-length-8 t c = c .before .before .before .before .graft-string .kept .1 .1 .1 .1 .0
 
--- src/lib.rt:384:1
 graft-field-returns-3 : (t : ℕ) → graft-field-lts.Need-returns-3 (
   graft-content-run-below t,
   graft-content-run.Post,
@@ -1027,7 +950,6 @@ graft-field-returns-3 : (t : ℕ) → graft-field-lts.Need-returns-3 (
 ) (graft-field-at t) graft-field.Post
 graft-field-returns-3 t c = field-string (c .before .before .before .before .before .before .before .before .before .before .before .before .before .before .before .before .args .level) (c .before .before .before .before .before .before .before .before .before .before .before .before .before .before .before .before .args .tape .now) (c .before .before .before .before .before .before .before .before .before .before .before .before .before .before .before .before .args .bytes .now) (c .before .before .before .before .before .before .before .before .before .before .before .before .before .before .before .before .args .p) (c .before .before .before .before .before .before .before .before .before .before .before .before .before .before .before .before .args .m) (c .before .before .before .before .before .before .before .before .before .before .before .before .before .before .before .before .args .out .now) (c .before .before .before .before .before .before .before .before .before .before .before .before .before .before .before .before .args .work .now) (c .before .before .before .before .before .before .before .before .before .before .before .before .before .before .before .before .args .strs .now) (c .before .before .before .before .before .before .before .before .before .before .before .before .before .before .before .before .args .f) (c .before .before .before .before .before .before .before .before .before .if1 .left) (c .before .before .before .before .before .before .before .if2 .left) (c .before .before .before .before .graft-string .ensures (c .before .before .before .before .before .before .before .before .before .before .before .before .before .before .before .before .args .out .now))
 
--- src/lib.rt:374:31
 graft-place-shared-slice-read-field-word :
     (t : ℕ) → graft-place-lts.Need-shared-slice-read-field-word (
       field-word-reads.Asked,
@@ -1043,7 +965,6 @@ graft-place-shared-slice-read-field-word :
     ) (graft-place-at t) graft-place.Post
 graft-place-shared-slice-read-field-word t c = omega (arith, c .before .before .before .before .before .before .pre .1 .1 .0)
 
--- src/lib.rt:374:9
 graft-place-field-word-requires : (t : ℕ) → graft-place-lts.Need-field-word-requires (
   field-word-reads.Asked,
   field-word-reads.Learnt,
@@ -1058,7 +979,6 @@ graft-place-field-word-requires : (t : ℕ) → graft-place-lts.Need-field-word-
 ) (graft-place-at t) graft-place.Post
 graft-place-field-word-requires t c κs = c .before .before .before .before .before .before .pre .1 .1 .2
 
--- src/lib.rt:375:9
 graft-place-field-at-requires : (t : ℕ) → graft-place-lts.Need-field-at-requires (
   field-word-reads.Asked,
   field-word-reads.Learnt,
@@ -1073,7 +993,6 @@ graft-place-field-at-requires : (t : ℕ) → graft-place-lts.Need-field-at-requ
 ) (graft-place-at t) graft-place.Post
 graft-place-field-at-requires t c κs = (c .before .before .before .before .before .before .before .pre .1 .1 .0, c .before .before .before .before .before .before .before .pre .1 .1 .2)
 
--- src/lib.rt:378:9
 graft-place-graft-field-requires : (t : ℕ) → graft-place-lts.Need-graft-field-requires (
   field-word-reads.Asked,
   field-word-reads.Learnt,
@@ -1088,7 +1007,6 @@ graft-place-graft-field-requires : (t : ℕ) → graft-place-lts.Need-graft-fiel
 ) (graft-place-at t) graft-place.Post
 graft-place-graft-field-requires t c κs = (omega arith, (place-ready (c .before .before .before .before .before .before .before .before .before .before .before .before .before .args .st) (bodyAt (c .before .before .before .before .before .before .before .before .before .before .before .before .before .args .tape .now) (c .before .before .before .before .before .before .before .before .before .before .before .before .before .args .at)) (c .before .before .before .before .before .before .before .before .before .before .before .before .before .args .j) (innerAdds (c .before .before .before .before .before .before .before .before .before .before .before .before .before .args .level) (c .before .before .before .before .before .before .before .before .before .before .before .before .before .args .tape .now) (c .before .before .before .before .before .before .before .before .before .before .before .before .before .args .st)) (c .before .before .before .before .before .field-at .result) (c .before .before .before .before .before .field-at .ensures) (c .before .before .before .before .before .before .before .before .before .before .before .before .before .pre .1 .0), place-well (c .before .before .before .before .before .before .before .before .before .before .before .before .before .args .st) (bodyAt (c .before .before .before .before .before .before .before .before .before .before .before .before .before .args .tape .now) (c .before .before .before .before .before .before .before .before .before .before .before .before .before .args .at)) (c .before .before .before .before .before .before .before .before .before .before .before .before .before .args .j) (c .before .before .before .before .before .before .before .before .before .before .before .before .before .pre .1 .1 .1) (word-small (c .before .before .before .before .before .before .before .before .before .before .before .before .before .args .tape .now) (c .before .before .before .before .before .before .before .before .before .before .before .before .before .args .at) (c .before .before .before .before .before .before .before .before .before .before .before .before .before .args .j) (c .before .before .before .before .before .before .field-word .result) (c .before .before .before .before .before .before .field-word .ensures .0) (c .before .before .before .before .before .before .field-word .ensures .1)) (c .before .before .before .before .before .field-at .result) (c .before .before .before .before .before .field-at .ensures)))
 
--- src/lib.rt:380:17
 graft-place-with-words-requires : (t : ℕ) → graft-place-lts.Need-with-words-requires (
   field-word-reads.Asked,
   field-word-reads.Learnt,
@@ -1103,7 +1021,6 @@ graft-place-with-words-requires : (t : ℕ) → graft-place-lts.Need-with-words-
 ) (graft-place-at t) graft-place.Post
 graft-place-with-words-requires t c κs = omega (arith, c .before .before .before .before .before .before .before .before .before .before .before .before .before .before .field-word .ensures .1, c .before .before .before .before .before .before .before .before .before .before .before .before .before .before .before .before .before .before .before .before .before .pre .1 .1 .2)
 
--- src/lib.rt:380:5
 graft-place-words-of-requires : (t : ℕ) → graft-place-lts.Need-words-of-requires (
   field-word-reads.Asked,
   field-word-reads.Learnt,
@@ -1118,7 +1035,6 @@ graft-place-words-of-requires : (t : ℕ) → graft-place-lts.Need-words-of-requ
 ) (graft-place-at t) graft-place.Post
 graft-place-words-of-requires t c κs = search needs
 
--- src/lib.rt:369:1
 graft-place-same-length : (t : ℕ) → graft-place-lts.Need-same-length (
   field-word-reads.Asked,
   field-word-reads.Learnt,
@@ -1133,7 +1049,6 @@ graft-place-same-length : (t : ℕ) → graft-place-lts.Need-same-length (
 ) (graft-place-at t) graft-place.Post
 graft-place-same-length t c = c .before .before .before .before .before .before .before .before .before .graft-field .kept .1 .1 .1 .0
 
--- src/lib.rt:369:1
 graft-place-same-length-2 : (t : ℕ) → graft-place-lts.Need-same-length-2 (
   field-word-reads.Asked,
   field-word-reads.Learnt,
@@ -1148,7 +1063,6 @@ graft-place-same-length-2 : (t : ℕ) → graft-place-lts.Need-same-length-2 (
 ) (graft-place-at t) graft-place.Post
 graft-place-same-length-2 t c = c .before .before .before .before .before .before .before .before .before .graft-field .kept .1 .1 .1 .1 .0
 
--- src/lib.rt:369:1
 graft-place-same-length-3 : (t : ℕ) → graft-place-lts.Need-same-length-3 (
   field-word-reads.Asked,
   field-word-reads.Learnt,
@@ -1163,7 +1077,6 @@ graft-place-same-length-3 : (t : ℕ) → graft-place-lts.Need-same-length-3 (
 ) (graft-place-at t) graft-place.Post
 graft-place-same-length-3 t c = c .before .before .before .before .before .before .before .before .before .graft-field .kept .1 .1 .1 .1 .1 .0
 
--- src/lib.rt:369:1
 graft-place-returns : (t : ℕ) → graft-place-lts.Need-returns (
   field-word-reads.Asked,
   field-word-reads.Learnt,
@@ -1178,7 +1091,6 @@ graft-place-returns : (t : ℕ) → graft-place-lts.Need-returns (
 ) (graft-place-at t) graft-place.Post
 graft-place-returns t c = place-told (c .before .before .before .before .before .before .before .before .before .before .before .before .before .before .before .before .before .before .before .before .before .before .before .args .st) (bodyAt (c .before .before .before .before .before .before .before .before .before .before .before .before .before .before .before .before .before .before .before .before .before .before .before .args .tape .now) (c .before .before .before .before .before .before .before .before .before .before .before .before .before .before .before .before .before .before .before .before .before .before .before .args .at)) (c .before .before .before .before .before .before .before .before .before .before .before .before .before .before .before .before .before .before .before .before .before .before .before .args .j) (c .before .before .before .before .before .before .before .before .before .before .before .before .before .before .before .before .before .before .before .before .before .before .before .args .level) (c .before .before .before .before .before .before .before .before .before .before .before .before .before .before .before .before .before .before .before .before .before .before .before .args .tape .now) (c .before .before .before .before .before .before .before .before .before .before .before .before .before .before .before .before .before .before .before .before .before .before .before .args .bytes .now) ((c .before .before .before .before .before .before .before .before .before .before .before .before .before .before .before .before .before .before .before .before .before .before .before .pre .1 .0) .source) (c .before .before .before .before .before .before .before .before .before .before .before .before .before .before .before .before .before .before .before .before .before .before .before .args .p) ((c .before .before .before .before .before .before .before .before .before .before .before .before .before .before .before .before .before .before .before .before .before .before .before .args .u) .mark) ((c .before .before .before .before .before .before .before .before .before .before .before .before .before .before .before .before .before .before .before .before .before .before .before .args .u) .words) (c .before .before .before .before .before .before .before .before .before .before .before .before .before .before .before .before .before .before .before .before .before .before .before .args .out .now) (c .before .before .before .before .before .before .before .before .before .before .before .before .before .before .before .before .before .before .before .before .before .before .before .args .work .now) (c .before .before .before .before .before .before .before .before .before .before .before .before .before .before .before .before .before .before .before .before .before .before .before .args .strs .now) (c .before .before .before .before .before .before .before .before .before .before .before .before .before .before .before .before .field-word .result) (word-is (c .before .before .before .before .before .before .before .before .before .before .before .before .before .before .before .before .before .before .before .before .before .before .before .args .tape .now) (c .before .before .before .before .before .before .before .before .before .before .before .before .before .before .before .before .before .before .before .before .before .before .before .args .at) (c .before .before .before .before .before .before .before .before .before .before .before .before .before .before .before .before .before .before .before .before .before .before .before .args .j) (c .before .before .before .before .before .before .before .before .before .before .before .before .before .before .before .before .field-word .result) (c .before .before .before .before .before .before .before .before .before .before .before .before .before .before .before .before .field-word .ensures .0)) (c .before .before .before .before .before .before .before .before .before .before .before .before .before .before .before .field-at .result) (c .before .before .before .before .before .before .before .before .before .before .before .before .before .before .before .field-at .ensures) (place-well (c .before .before .before .before .before .before .before .before .before .before .before .before .before .before .before .before .before .before .before .before .before .before .before .args .st) (bodyAt (c .before .before .before .before .before .before .before .before .before .before .before .before .before .before .before .before .before .before .before .before .before .before .before .args .tape .now) (c .before .before .before .before .before .before .before .before .before .before .before .before .before .before .before .before .before .before .before .before .before .before .before .args .at)) (c .before .before .before .before .before .before .before .before .before .before .before .before .before .before .before .before .before .before .before .before .before .before .before .args .j) (c .before .before .before .before .before .before .before .before .before .before .before .before .before .before .before .before .before .before .before .before .before .before .before .pre .1 .1 .1) (word-small (c .before .before .before .before .before .before .before .before .before .before .before .before .before .before .before .before .before .before .before .before .before .before .before .args .tape .now) (c .before .before .before .before .before .before .before .before .before .before .before .before .before .before .before .before .before .before .before .before .before .before .before .args .at) (c .before .before .before .before .before .before .before .before .before .before .before .before .before .before .before .before .before .before .before .before .before .before .before .args .j) (c .before .before .before .before .before .before .before .before .before .before .before .before .before .before .before .before .field-word .result) (c .before .before .before .before .before .before .before .before .before .before .before .before .before .before .before .before .field-word .ensures .0) (c .before .before .before .before .before .before .before .before .before .before .before .before .before .before .before .before .field-word .ensures .1)) (c .before .before .before .before .before .before .before .before .before .before .before .before .before .before .before .field-at .result) (c .before .before .before .before .before .before .before .before .before .before .before .before .before .before .before .field-at .ensures)) (c .before .before .before .before .before .before .before .before .before .graft-field .result) (c .before .before .before .before .before .before .before .before .before .graft-field .ensures) (c .words-of .result) (c .words-of .ensures .0) (c .words-of .ensures .1 ∙ c .before .with-words .ensures)
 
--- src/lib.rt:500:32
 graft-segment-mul-place : (t : ℕ) → graft-segment-lts.Need-mul-place (
   put-segment-reads.Asked,
   put-segment-reads.Learnt,
@@ -1189,7 +1101,6 @@ graft-segment-mul-place : (t : ℕ) → graft-segment-lts.Need-mul-place (
 ) (graft-segment-at t) graft-segment.Post
 graft-segment-mul-place t c = omega (arith, c .before .before .before .before .before .pre .1 .1 .1 .1)
 
--- src/lib.rt:500:17
 graft-segment-add-place : (t : ℕ) → graft-segment-lts.Need-add-place (
   put-segment-reads.Asked,
   put-segment-reads.Learnt,
@@ -1200,7 +1111,6 @@ graft-segment-add-place : (t : ℕ) → graft-segment-lts.Need-add-place (
 ) (graft-segment-at t) graft-segment.Post
 graft-segment-add-place t c = omega (arith, c .before .before .before .before .before .before .pre .1 .1 .1 .1)
 
--- src/lib.rt:502:38
 graft-segment-add-tag : (t : ℕ) → graft-segment-lts.Need-add-tag (
   put-segment-reads.Asked,
   put-segment-reads.Learnt,
@@ -1211,7 +1121,6 @@ graft-segment-add-tag : (t : ℕ) → graft-segment-lts.Need-add-tag (
 ) (graft-segment-at t) graft-segment.Post
 graft-segment-add-tag t c = omega (arith, c .before .before .before .before .before .before .pre .1 .1 .0 .0)
 
--- src/lib.rt:502:33
 graft-segment-shared-slice-read-tag :
     (t : ℕ) → graft-segment-lts.Need-shared-slice-read-tag (
       put-segment-reads.Asked,
@@ -1223,7 +1132,6 @@ graft-segment-shared-slice-read-tag :
     ) (graft-segment-at t) graft-segment.Post
 graft-segment-shared-slice-read-tag t c = omega (arith, c .before .before .before .before .before .before .before .pre .1 .1 .0 .0)
 
--- src/lib.rt:502:52
 graft-segment-add-own : (t : ℕ) → graft-segment-lts.Need-add-own (
   put-segment-reads.Asked,
   put-segment-reads.Learnt,
@@ -1234,7 +1142,6 @@ graft-segment-add-own : (t : ℕ) → graft-segment-lts.Need-add-own (
 ) (graft-segment-at t) graft-segment.Post
 graft-segment-add-own t c = omega (arith, c .before .before .before .before .before .before .before .pre .1 .1 .0 .0)
 
--- src/lib.rt:502:47
 graft-segment-shared-slice-read-own :
     (t : ℕ) → graft-segment-lts.Need-shared-slice-read-own (
       put-segment-reads.Asked,
@@ -1246,7 +1153,6 @@ graft-segment-shared-slice-read-own :
     ) (graft-segment-at t) graft-segment.Post
 graft-segment-shared-slice-read-own t c = omega (arith, c .before .before .before .before .before .before .before .before .pre .1 .1 .0 .0)
 
--- src/lib.rt:502:9
 graft-segment-put-segment-requires : (t : ℕ) → graft-segment-lts.Need-put-segment-requires (
   put-segment-reads.Asked,
   put-segment-reads.Learnt,
@@ -1257,7 +1163,6 @@ graft-segment-put-segment-requires : (t : ℕ) → graft-segment-lts.Need-put-se
 ) (graft-segment-at t) graft-segment.Post
 graft-segment-put-segment-requires t c κs = omega (arith, c .before .before .before .before .before .before .before .before .before .before .pre .1 .1 .1 .1)
 
--- src/lib.rt:503:9
 graft-segment-same-length : (t : ℕ) → graft-segment-lts.Need-same-length (
   put-segment-reads.Asked,
   put-segment-reads.Learnt,
@@ -1268,7 +1173,6 @@ graft-segment-same-length : (t : ℕ) → graft-segment-lts.Need-same-length (
 ) (graft-segment-at t) graft-segment.Post
 graft-segment-same-length t c = c .before .before .put-segment .kept .0
 
--- src/lib.rt:503:9
 graft-segment-returns : (t : ℕ) → graft-segment-lts.Need-returns (
   put-segment-reads.Asked,
   put-segment-reads.Learnt,
@@ -1279,7 +1183,6 @@ graft-segment-returns : (t : ℕ) → graft-segment-lts.Need-returns (
 ) (graft-segment-at t) graft-segment.Post
 graft-segment-returns t c = segment-zero (c .before .before .before .before .before .before .before .before .before .before .before .before .before .args .tape .now) (c .before .before .before .before .before .before .before .before .before .before .before .before .before .args .bytes .now) (c .before .before .before .before .before .before .before .before .before .before .before .before .before .args .at) (c .before .before .before .before .before .before .before .before .before .before .before .before .before .args .p) (c .before .before .before .before .before .before .before .before .before .before .before .before .before .args .m) (c .before .before .before .before .before .before .before .before .before .before .before .before .before .args .to) (c .before .before .before .before .before .before .before .before .before .before .before .before .before .args .out .now) (c .before .before .before .before .before .before .before .before .before .before .before .before .before .args .work .now) (c .before .before .before .before .before .before .before .before .before .before .before .before .before .args .strs .now) (c .before .before .before .before .before .before .before .before .before .before .before .before .before .args .level) (c .before .before .before .before .if1 .taken) (told-none (c .before .before .before .before .before .before .before .before .before .before .before .before .before .pre .1 .0)) (c .before .before .put-segment .ensures)
 
--- src/lib.rt:505:64
 graft-segment-add-graft-body : (t : ℕ) → graft-segment-lts.Need-add-graft-body (
   put-segment-reads.Asked,
   put-segment-reads.Learnt,
@@ -1290,7 +1193,6 @@ graft-segment-add-graft-body : (t : ℕ) → graft-segment-lts.Need-add-graft-bo
 ) (graft-segment-at t) graft-segment.Post
 graft-segment-add-graft-body t c = omega (arith, c .before .before .before .before .before .before .before .before .before .before .before .before .pre .1 .1 .0 .0)
 
--- src/lib.rt:505:72
 graft-segment-sub-graft-body : (t : ℕ) → graft-segment-lts.Need-sub-graft-body (
   put-segment-reads.Asked,
   put-segment-reads.Learnt,
@@ -1301,7 +1203,6 @@ graft-segment-sub-graft-body : (t : ℕ) → graft-segment-lts.Need-sub-graft-bo
 ) (graft-segment-at t) graft-segment.Post
 graft-segment-sub-graft-body t c = search needs
 
--- src/lib.rt:505:9
 graft-segment-graft-body-requires : (t : ℕ) → graft-segment-lts.Need-graft-body-requires (
   put-segment-reads.Asked,
   put-segment-reads.Learnt,
@@ -1312,7 +1213,6 @@ graft-segment-graft-body-requires : (t : ℕ) → graft-segment-lts.Need-graft-b
 ) (graft-segment-at t) graft-segment.Post
 graft-segment-graft-body-requires t c κs = (omega (arith, c .before .before .before .if1 .left), (below-ready (c .before .before .before .before .before .before .before .before .before .before .before .before .args .level) (c .before .before .before .before .before .before .before .before .before .before .before .before .args .at) (c .before .before .before .if1 .left) (c .before .before .before .before .before .before .before .before .before .before .before .before .pre .1 .0), (omega (arith, c .before .before .before .before .before .before .before .before .before .before .before .before .pre .1 .1 .0 .0), body-known (c .before .before .before .before .before .before .before .before .before .before .before .before .args .st) (c .before .before .before .before .before .before .before .before .before .before .before .before .args .tape .now) (c .before .before .before .before .before .before .before .before .before .before .before .before .args .at) (c .before .before .before .before .before .before .before .before .before .before .before .before .pre .1 .1 .0 .1))))
 
--- src/lib.rt:508:9
 graft-segment-same-length-2 : (t : ℕ) → graft-segment-lts.Need-same-length-2 (
   put-segment-reads.Asked,
   put-segment-reads.Learnt,
@@ -1323,7 +1223,6 @@ graft-segment-same-length-2 : (t : ℕ) → graft-segment-lts.Need-same-length-2
 ) (graft-segment-at t) graft-segment.Post
 graft-segment-same-length-2 t c = c .before .before .before .before .before .before .before .before .before .graft-body .kept .1 .1 .1 .0
 
--- src/lib.rt:508:9
 graft-segment-same-length-3 : (t : ℕ) → graft-segment-lts.Need-same-length-3 (
   put-segment-reads.Asked,
   put-segment-reads.Learnt,
@@ -1334,7 +1233,6 @@ graft-segment-same-length-3 : (t : ℕ) → graft-segment-lts.Need-same-length-3
 ) (graft-segment-at t) graft-segment.Post
 graft-segment-same-length-3 t c = c .before .before .before .before .before .before .before .before .before .graft-body .kept .1 .1 .1 .1 .0
 
--- src/lib.rt:508:9
 graft-segment-same-length-4 : (t : ℕ) → graft-segment-lts.Need-same-length-4 (
   put-segment-reads.Asked,
   put-segment-reads.Learnt,
@@ -1345,7 +1243,6 @@ graft-segment-same-length-4 : (t : ℕ) → graft-segment-lts.Need-same-length-4
 ) (graft-segment-at t) graft-segment.Post
 graft-segment-same-length-4 t c = c .before .before .before .before .before .before .before .before .before .graft-body .kept .1 .1 .1 .1 .1 .0
 
--- src/lib.rt:508:9
 graft-segment-returns-2 : (t : ℕ) → graft-segment-lts.Need-returns-2 (
   put-segment-reads.Asked,
   put-segment-reads.Learnt,
@@ -1356,7 +1253,6 @@ graft-segment-returns-2 : (t : ℕ) → graft-segment-lts.Need-returns-2 (
 ) (graft-segment-at t) graft-segment.Post
 graft-segment-returns-2 t c = below-refused (c .before .before .before .before .before .before .before .before .before .before .before .before .before .before .before .before .before .before .before .before .before .before .args .tape .now) (c .before .before .before .before .before .before .before .before .before .before .before .before .before .before .before .before .before .before .before .before .before .before .args .bytes .now) (c .before .before .before .before .before .before .before .before .before .before .before .before .before .before .before .before .before .before .before .before .before .before .args .at) (c .before .before .before .before .before .before .before .before .before .before .before .before .before .before .before .before .before .before .before .before .before .before .args .p) (c .before .before .before .before .before .before .before .before .before .before .before .before .before .before .before .before .before .before .before .before .before .before .args .m) (c .before .before .before .before .before .before .before .before .before .before .before .before .before .before .before .before .before .before .before .before .before .before .args .to) (c .before .before .before .before .before .before .before .before .before .before .before .before .before .before .before .before .before .before .before .before .before .before .args .out .now) (c .before .before .before .before .before .before .before .before .before .before .before .before .before .before .before .before .before .before .before .before .before .before .args .work .now) (c .before .before .before .before .before .before .before .before .before .before .before .before .before .before .before .before .before .before .before .before .before .before .args .strs .now) (c .before .before .before .before .before .before .before .before .before .before .before .before .before .before .before .before .before .before .before .before .before .before .args .level) (c .before .before .before .before .before .before .before .before .before .before .before .before .before .if1 .left) (c .before .before .before .before .before .before .before .before .before .graft-body .result) (c .before .before .before .before .before .before .before .before .before .graft-body .ensures) (not-true _ (c .if2 .taken))
 
--- src/lib.rt:511:36
 graft-segment-add-u32-at : (t : ℕ) → graft-segment-lts.Need-add-u32-at (
   put-segment-reads.Asked,
   put-segment-reads.Learnt,
@@ -1367,7 +1263,6 @@ graft-segment-add-u32-at : (t : ℕ) → graft-segment-lts.Need-add-u32-at (
 ) (graft-segment-at t) graft-segment.Post
 graft-segment-add-u32-at t c = omega (arith, c .before .before .before .before .before .before .before .before .before .before .before .before .before .before .before .before .before .before .before .before .before .before .before .pre .1 .1 .0 .0, c .before .before .before .before .before .before .before .before .before .before .before .before .before .before .before .before .before .before .before .before .before .before .before .good, c .before .before .before .before .before .before .before .before .before .before .before .before .before .before .before .before .before .before .before .before .before .before .before .fits)
 
--- src/lib.rt:511:9
 graft-segment-u32-at-requires : (t : ℕ) → graft-segment-lts.Need-u32-at-requires (
   put-segment-reads.Asked,
   put-segment-reads.Learnt,
@@ -1378,7 +1273,6 @@ graft-segment-u32-at-requires : (t : ℕ) → graft-segment-lts.Need-u32-at-requ
 ) (graft-segment-at t) graft-segment.Post
 graft-segment-u32-at-requires t c κs = omega (arith, c .before .before .before .before .before .before .before .before .before .before .before .before .before .before .before .before .before .before .before .before .before .before .before .pre .1 .1 .0 .0)
 
--- src/lib.rt:512:37
 graft-segment-add-u32-at-2 : (t : ℕ) → graft-segment-lts.Need-add-u32-at-2 (
   put-segment-reads.Asked,
   put-segment-reads.Learnt,
@@ -1389,7 +1283,6 @@ graft-segment-add-u32-at-2 : (t : ℕ) → graft-segment-lts.Need-add-u32-at-2 (
 ) (graft-segment-at t) graft-segment.Post
 graft-segment-add-u32-at-2 t c = omega (arith, c .before .before .before .before .before .before .before .before .before .before .before .before .before .before .before .before .before .before .before .before .before .before .before .before .pre .1 .1 .0 .0, c .before .before .before .before .before .before .before .before .before .before .before .before .before .before .before .before .before .before .before .before .before .before .before .before .good, c .before .before .before .before .before .before .before .before .before .before .before .before .before .before .before .before .before .before .before .before .before .before .before .before .fits)
 
--- src/lib.rt:512:9
 graft-segment-u32-at-requires-2 : (t : ℕ) → graft-segment-lts.Need-u32-at-requires-2 (
   put-segment-reads.Asked,
   put-segment-reads.Learnt,
@@ -1400,7 +1293,6 @@ graft-segment-u32-at-requires-2 : (t : ℕ) → graft-segment-lts.Need-u32-at-re
 ) (graft-segment-at t) graft-segment.Post
 graft-segment-u32-at-requires-2 t c κs = omega (arith, c .before .before .before .before .before .before .before .before .before .before .before .before .before .before .before .before .before .before .before .before .before .before .before .before .pre .1 .1 .0 .0)
 
--- src/lib.rt:513:62
 graft-segment-add-kind : (t : ℕ) → graft-segment-lts.Need-add-kind (
   put-segment-reads.Asked,
   put-segment-reads.Learnt,
@@ -1411,7 +1303,6 @@ graft-segment-add-kind : (t : ℕ) → graft-segment-lts.Need-add-kind (
 ) (graft-segment-at t) graft-segment.Post
 graft-segment-add-kind t c = omega (arith, c .before .before .before .before .before .before .before .before .before .before .before .before .before .before .before .before .before .before .before .before .before .before .before .before .before .pre .1 .1 .0 .0, c .before .before .before .before .before .before .before .before .before .before .before .before .before .before .before .before .before .before .before .before .before .before .before .before .before .good, c .before .before .before .before .before .before .before .before .before .before .before .before .before .before .before .before .before .before .before .before .before .before .before .before .before .fits)
 
--- src/lib.rt:513:57
 graft-segment-shared-slice-read-kind :
     (t : ℕ) → graft-segment-lts.Need-shared-slice-read-kind (
       put-segment-reads.Asked,
@@ -1423,7 +1314,6 @@ graft-segment-shared-slice-read-kind :
     ) (graft-segment-at t) graft-segment.Post
 graft-segment-shared-slice-read-kind t c = omega (arith, c .before .before .before .before .before .before .before .before .before .before .before .before .before .before .before .before .before .before .before .before .before .before .before .before .before .before .pre .1 .1 .0 .0)
 
--- src/lib.rt:513:76
 graft-segment-add-variant : (t : ℕ) → graft-segment-lts.Need-add-variant (
   put-segment-reads.Asked,
   put-segment-reads.Learnt,
@@ -1434,7 +1324,6 @@ graft-segment-add-variant : (t : ℕ) → graft-segment-lts.Need-add-variant (
 ) (graft-segment-at t) graft-segment.Post
 graft-segment-add-variant t c = omega (arith, c .before .before .before .before .before .before .before .before .before .before .before .before .before .before .before .before .before .before .before .before .before .before .before .before .before .before .pre .1 .1 .0 .0, c .before .before .before .before .before .before .before .before .before .before .before .before .before .before .before .before .before .before .before .before .before .before .before .before .before .before .good, c .before .before .before .before .before .before .before .before .before .before .before .before .before .before .before .before .before .before .before .before .before .before .before .before .before .before .fits)
 
--- src/lib.rt:513:71
 graft-segment-shared-slice-read-variant :
     (t : ℕ) → graft-segment-lts.Need-shared-slice-read-variant (
       put-segment-reads.Asked,
@@ -1446,7 +1335,6 @@ graft-segment-shared-slice-read-variant :
     ) (graft-segment-at t) graft-segment.Post
 graft-segment-shared-slice-read-variant t c = omega (arith, c .before .before .before .before .before .before .before .before .before .before .before .before .before .before .before .before .before .before .before .before .before .before .before .before .before .before .before .pre .1 .1 .0 .0)
 
--- src/lib.rt:513:5
 graft-segment-put-segment-requires-2 : (t : ℕ) → graft-segment-lts.Need-put-segment-requires-2 (
   put-segment-reads.Asked,
   put-segment-reads.Learnt,
@@ -1457,7 +1345,6 @@ graft-segment-put-segment-requires-2 : (t : ℕ) → graft-segment-lts.Need-put-
 ) (graft-segment-at t) graft-segment.Post
 graft-segment-put-segment-requires-2 t c κs = omega (arith, c .before .before .before .before .before .before .before .before .before .before .before .before .before .before .before .before .before .before .before .before .before .before .before .before .before .before .before .before .pre .1 .1 .1 .1, c .before .before .before .before .before .before .before .before .before .before .before .before .before .before .before .graft-body .kept .1 .1 .1 .0)
 
--- src/lib.rt:494:1
 graft-segment-same-length-5 : (t : ℕ) → graft-segment-lts.Need-same-length-5 (
   put-segment-reads.Asked,
   put-segment-reads.Learnt,
@@ -1468,7 +1355,6 @@ graft-segment-same-length-5 : (t : ℕ) → graft-segment-lts.Need-same-length-5
 ) (graft-segment-at t) graft-segment.Post
 graft-segment-same-length-5 t c = c .before .before .put-segment2 .kept .0 ∙ c .before .before .before .before .before .before .before .before .before .before .before .before .before .before .before .before .before .before .graft-body .kept .1 .1 .1 .0
 
--- src/lib.rt:494:1
 graft-segment-same-length-6 : (t : ℕ) → graft-segment-lts.Need-same-length-6 (
   put-segment-reads.Asked,
   put-segment-reads.Learnt,
@@ -1479,7 +1365,6 @@ graft-segment-same-length-6 : (t : ℕ) → graft-segment-lts.Need-same-length-6
 ) (graft-segment-at t) graft-segment.Post
 graft-segment-same-length-6 t c = c .before .before .before .before .before .before .before .before .before .before .before .before .before .before .before .before .before .before .graft-body .kept .1 .1 .1 .1 .0
 
--- src/lib.rt:494:1
 graft-segment-same-length-7 : (t : ℕ) → graft-segment-lts.Need-same-length-7 (
   put-segment-reads.Asked,
   put-segment-reads.Learnt,
@@ -1490,7 +1375,6 @@ graft-segment-same-length-7 : (t : ℕ) → graft-segment-lts.Need-same-length-7
 ) (graft-segment-at t) graft-segment.Post
 graft-segment-same-length-7 t c = c .before .before .before .before .before .before .before .before .before .before .before .before .before .before .before .before .before .before .graft-body .kept .1 .1 .1 .1 .1 .0
 
--- src/lib.rt:494:1
 graft-segment-returns-3 : (t : ℕ) → graft-segment-lts.Need-returns-3 (
   put-segment-reads.Asked,
   put-segment-reads.Learnt,
@@ -1501,7 +1385,6 @@ graft-segment-returns-3 : (t : ℕ) → graft-segment-lts.Need-returns-3 (
 ) (graft-segment-at t) graft-segment.Post
 graft-segment-returns-3 t c = below-made (c .before .before .before .before .before .before .before .before .before .before .before .before .before .before .before .before .before .before .before .before .before .before .before .before .before .before .before .before .before .before .before .args .tape .now) (c .before .before .before .before .before .before .before .before .before .before .before .before .before .before .before .before .before .before .before .before .before .before .before .before .before .before .before .before .before .before .before .args .bytes .now) (c .before .before .before .before .before .before .before .before .before .before .before .before .before .before .before .before .before .before .before .before .before .before .before .before .before .before .before .before .before .before .before .args .at) (c .before .before .before .before .before .before .before .before .before .before .before .before .before .before .before .before .before .before .before .before .before .before .before .before .before .before .before .before .before .before .before .args .p) (c .before .before .before .before .before .before .before .before .before .before .before .before .before .before .before .before .before .before .before .before .before .before .before .before .before .before .before .before .before .before .before .args .m) (c .before .before .before .before .before .before .before .before .before .before .before .before .before .before .before .before .before .before .before .before .before .before .before .before .before .before .before .before .before .before .before .args .to) (c .before .before .before .before .before .before .before .before .before .before .before .before .before .before .before .before .before .before .before .before .before .before .before .before .before .before .before .before .before .before .before .args .out .now) (c .before .before .before .before .before .before .before .before .before .before .before .before .before .before .before .before .before .before .before .before .before .before .before .before .before .before .before .before .before .before .before .args .work .now) (c .before .before .before .before .before .before .before .before .before .before .before .before .before .before .before .before .before .before .before .before .before .before .before .before .before .before .before .before .before .before .before .args .strs .now) (c .before .before .before .before .before .before .before .before .before .before .before .before .before .before .before .before .before .before .before .before .before .before .before .before .before .before .before .before .before .before .before .args .level) (c .before .before .before .before .before .before .before .before .before .before .before .before .before .before .before .before .before .before .before .before .before .before .if1 .left) (c .before .before .before .before .before .before .before .before .before .before .before .before .before .before .before .before .before .before .graft-body .result) (c .before .before .before .before .before .before .before .before .before .before .before .before .before .before .before .before .before .before .graft-body .ensures) (c .before .before .before .before .before .before .before .u32-at .result) (c .before .before .before .before .before .before .u32-at2 .result) (c .before .before .before .before .before .before .before .u32-at .ensures) (c .before .before .before .before .before .before .u32-at2 .ensures) (not-false _ (c .before .before .before .before .before .before .before .before .before .if2 .left)) (c .before .before .put-segment2 .ensures)
 
--- src/lib.rt:466:37
 graft-segment-run-add-t17 : (t : ℕ) → graft-segment-run-lts.Need-add-t17 (
   segment-place-reads.Asked,
   segment-place-reads.Learnt,
@@ -1514,7 +1397,6 @@ graft-segment-run-add-t17 : (t : ℕ) → graft-segment-run-lts.Need-add-t17 (
 ) (graft-segment-run-at t) graft-segment-run.Post
 graft-segment-run-add-t17 t c = omega (arith, (c .before .before .before .before .before .before .before .before .pre .1 .0) .space .segmentNumbers)
 
--- src/lib.rt:466:9
 graft-segment-run-returns : (t : ℕ) → graft-segment-run-lts.Need-returns (
   segment-place-reads.Asked,
   segment-place-reads.Learnt,
@@ -1527,7 +1409,6 @@ graft-segment-run-returns : (t : ℕ) → graft-segment-run-lts.Need-returns (
 ) (graft-segment-run-at t) graft-segment-run.Post
 graft-segment-run-returns t c = segment-run-empty (c .before .before .before .before .before .before .before .before .args .level) (c .before .before .before .before .before .before .before .before .args .tape .now) (c .before .before .before .before .before .before .before .before .args .bytes .now) (c .before .before .before .before .before .before .before .before .args .st) ((c .before .before .before .before .before .before .before .before .pre .1 .0) .source) (c .before .before .before .before .before .before .before .before .args .p) (c .before .before .before .before .before .before .before .before .args .m) (c .before .before .before .before .before .before .before .before .args .out .now) (c .before .before .before .before .before .before .before .before .args .work .now) (c .before .before .before .before .before .before .before .before .args .strs .now) (c .before .before .before .before .before .before .before .before .args .start) (c .before .before .before .before .before .before .before .before .args .len) (c .before .before .if1 .taken) (c .before .before .before .before .before .before .before .before .pre .1 .0)
 
--- src/lib.rt:468:9
 graft-segment-run-segment-place-requires :
     (t : ℕ) → graft-segment-run-lts.Need-segment-place-requires (
       segment-place-reads.Asked,
@@ -1541,7 +1422,6 @@ graft-segment-run-segment-place-requires :
     ) (graft-segment-run-at t) graft-segment-run.Post
 graft-segment-run-segment-place-requires t c κs = (c .before .before .before .before .before .before .pre .1 .0) .source .fit .few
 
--- src/lib.rt:469:27
 graft-segment-run-inner-segments-requires :
     (t : ℕ) → graft-segment-run-lts.Need-inner-segments-requires (
       segment-place-reads.Asked,
@@ -1555,7 +1435,6 @@ graft-segment-run-inner-segments-requires :
     ) (graft-segment-run-at t) graft-segment-run.Post
 graft-segment-run-inner-segments-requires t c κs = ((c .before .before .before .before .before .before .before .pre .1 .0) .source .fit, (segments-within (c .before .before .before .before .before .before .before .args .level) (c .before .before .before .before .before .before .before .args .start) (c .before .before .before .before .before .before .before .args .len) (c .before .before .before .before .before .before .before .pre .1 .1) (c .before .before .before .before .before .before .before .pre .1 .0) (c .segment-place .result) (c .segment-place .ensures) (c .before .if1 .left), (segments-others (c .before .before .before .before .before .before .before .args .level) (c .before .before .before .before .before .before .before .args .start) (c .before .before .before .before .before .before .before .args .len) (c .before .before .before .before .before .before .before .pre .1 .1) (c .before .before .before .before .before .before .before .pre .1 .0) (c .segment-place .result) (c .segment-place .ensures), omega (arith, segments-numbers (c .before .before .before .before .before .before .before .args .level) (c .before .before .before .before .before .before .before .args .start) (c .before .before .before .before .before .before .before .args .len) (c .before .before .before .before .before .before .before .pre .1 .1) (c .before .before .before .before .before .before .before .pre .1 .0) (c .segment-place .result) (c .segment-place .ensures)))))
 
--- src/lib.rt:469:14
 graft-segment-run-add-to : (t : ℕ) → graft-segment-run-lts.Need-add-to (
   segment-place-reads.Asked,
   segment-place-reads.Learnt,
@@ -1568,7 +1447,6 @@ graft-segment-run-add-to : (t : ℕ) → graft-segment-run-lts.Need-add-to (
 ) (graft-segment-run-at t) graft-segment-run.Post
 graft-segment-run-add-to t c = omega (arith, segments-numbers (c .before .before .before .before .before .before .before .before .before .args .level) (c .before .before .before .before .before .before .before .before .before .args .start) (c .before .before .before .before .before .before .before .before .before .args .len) (c .before .before .before .before .before .before .before .before .before .pre .1 .1) (c .before .before .before .before .before .before .before .before .before .pre .1 .0) (c .before .before .segment-place .result) (c .before .before .segment-place .ensures), c .before .inner-segments .ensures)
 
--- src/lib.rt:470:9
 graft-segment-run-graft-segments-requires :
     (t : ℕ) → graft-segment-run-lts.Need-graft-segments-requires (
       segment-place-reads.Asked,
@@ -1582,7 +1460,6 @@ graft-segment-run-graft-segments-requires :
     ) (graft-segment-run-at t) graft-segment-run.Post
 graft-segment-run-graft-segments-requires t c κs = (omega arith, (segments-ready (c .before .before .before .before .before .before .before .before .before .before .before .before .args .level) (c .before .before .before .before .before .before .before .before .before .before .before .before .args .start) (c .before .before .before .before .before .before .before .before .before .before .before .before .args .len) (c .before .before .before .before .before .before .before .before .before .before .before .before .pre .1 .1) (c .before .before .before .before .before .before .before .before .before .before .before .before .pre .1 .0) (c .before .before .before .before .before .segment-place .result) (c .before .before .before .before .before .segment-place .ensures), ((segments-within (c .before .before .before .before .before .before .before .before .before .before .before .before .args .level) (c .before .before .before .before .before .before .before .before .before .before .before .before .args .start) (c .before .before .before .before .before .before .before .before .before .before .before .before .args .len) (c .before .before .before .before .before .before .before .before .before .before .before .before .pre .1 .1) (c .before .before .before .before .before .before .before .before .before .before .before .before .pre .1 .0) (c .before .before .before .before .before .segment-place .result) (c .before .before .before .before .before .segment-place .ensures) (c .before .before .before .before .before .before .if1 .left), segments-known (c .before .before .before .before .before .before .before .before .before .before .before .before .args .level) (c .before .before .before .before .before .before .before .before .before .before .before .before .args .start) (c .before .before .before .before .before .before .before .before .before .before .before .before .args .len) (c .before .before .before .before .before .before .before .before .before .before .before .before .pre .1 .1) (c .before .before .before .before .before .before .before .before .before .before .before .before .pre .1 .0) (c .before .before .before .before .before .segment-place .result) (c .before .before .before .before .before .segment-place .ensures)), (omega (arith, c .before .before .before .before .inner-segments .ensures), omega (arith, segments-high (c .before .before .before .before .before .before .before .before .before .before .before .before .args .level) (c .before .before .before .before .before .before .before .before .before .before .before .before .args .start) (c .before .before .before .before .before .before .before .before .before .before .before .before .args .len) (c .before .before .before .before .before .before .before .before .before .before .before .before .pre .1 .1) (c .before .before .before .before .before .before .before .before .before .before .before .before .pre .1 .0) (c .before .before .before .before .before .segment-place .result) (c .before .before .before .before .before .segment-place .ensures), c .before .before .before .before .inner-segments .ensures), omega (arith, segments-numbers (c .before .before .before .before .before .before .before .before .before .before .before .before .args .level) (c .before .before .before .before .before .before .before .before .before .before .before .before .args .start) (c .before .before .before .before .before .before .before .before .before .before .before .before .args .len) (c .before .before .before .before .before .before .before .before .before .before .before .before .pre .1 .1) (c .before .before .before .before .before .before .before .before .before .before .before .before .pre .1 .0) (c .before .before .before .before .before .segment-place .result) (c .before .before .before .before .before .segment-place .ensures), c .before .before .before .before .inner-segments .ensures)))))
 
--- src/lib.rt:471:5
 graft-segment-run-pushed-segments-requires :
     (t : ℕ) → graft-segment-run-lts.Need-pushed-segments-requires (
       segment-place-reads.Asked,
@@ -1596,7 +1473,6 @@ graft-segment-run-pushed-segments-requires :
     ) (graft-segment-run-at t) graft-segment-run.Post
 graft-segment-run-pushed-segments-requires t c κs = (omega (arith, segments-numbers (c .before .before .before .before .before .before .before .before .before .before .before .before .before .before .before .before .before .before .before .args .level) (c .before .before .before .before .before .before .before .before .before .before .before .before .before .before .before .before .before .before .before .args .start) (c .before .before .before .before .before .before .before .before .before .before .before .before .before .before .before .before .before .before .before .args .len) (c .before .before .before .before .before .before .before .before .before .before .before .before .before .before .before .before .before .before .before .pre .1 .1) (c .before .before .before .before .before .before .before .before .before .before .before .before .before .before .before .before .before .before .before .pre .1 .0) (c .before .before .before .before .before .before .before .before .before .before .before .before .segment-place .result) (c .before .before .before .before .before .before .before .before .before .before .before .before .segment-place .ensures), c .before .before .before .before .before .before .before .before .before .before .before .inner-segments .ensures), omega (arith, segments-numbers (c .before .before .before .before .before .before .before .before .before .before .before .before .before .before .before .before .before .before .before .args .level) (c .before .before .before .before .before .before .before .before .before .before .before .before .before .before .before .before .before .before .before .args .start) (c .before .before .before .before .before .before .before .before .before .before .before .before .before .before .before .before .before .before .before .args .len) (c .before .before .before .before .before .before .before .before .before .before .before .before .before .before .before .before .before .before .before .pre .1 .1) (c .before .before .before .before .before .before .before .before .before .before .before .before .before .before .before .before .before .before .before .pre .1 .0) (c .before .before .before .before .before .before .before .before .before .before .before .before .segment-place .result) (c .before .before .before .before .before .before .before .before .before .before .before .before .segment-place .ensures), c .before .before .before .before .before .before .before .before .before .before .before .inner-segments .ensures))
 
--- src/lib.rt:460:1
 graft-segment-run-same-length : (t : ℕ) → graft-segment-run-lts.Need-same-length (
   segment-place-reads.Asked,
   segment-place-reads.Learnt,
@@ -1609,7 +1485,6 @@ graft-segment-run-same-length : (t : ℕ) → graft-segment-run-lts.Need-same-le
 ) (graft-segment-run-at t) graft-segment-run.Post
 graft-segment-run-same-length t c = c .before .before .before .before .before .before .before .graft-segments .kept .1 .1 .1 .0
 
--- src/lib.rt:460:1
 graft-segment-run-same-length-2 : (t : ℕ) → graft-segment-run-lts.Need-same-length-2 (
   segment-place-reads.Asked,
   segment-place-reads.Learnt,
@@ -1622,7 +1497,6 @@ graft-segment-run-same-length-2 : (t : ℕ) → graft-segment-run-lts.Need-same-
 ) (graft-segment-run-at t) graft-segment-run.Post
 graft-segment-run-same-length-2 t c = c .before .before .before .before .before .before .before .graft-segments .kept .1 .1 .1 .1 .0
 
--- src/lib.rt:460:1
 graft-segment-run-same-length-3 : (t : ℕ) → graft-segment-run-lts.Need-same-length-3 (
   segment-place-reads.Asked,
   segment-place-reads.Learnt,
@@ -1635,7 +1509,6 @@ graft-segment-run-same-length-3 : (t : ℕ) → graft-segment-run-lts.Need-same-
 ) (graft-segment-run-at t) graft-segment-run.Post
 graft-segment-run-same-length-3 t c = c .before .before .before .before .before .before .before .graft-segments .kept .1 .1 .1 .1 .1 .0
 
--- src/lib.rt:460:1
 graft-segment-run-returns-2 : (t : ℕ) → graft-segment-run-lts.Need-returns-2 (
   segment-place-reads.Asked,
   segment-place-reads.Learnt,
@@ -1654,119 +1527,102 @@ graft-segments-Inv-loop tape bytes st out₀ work₀ strs₀ p at count to level
 abbrev graft-segments-μ-loop : graft-segments-lts.MeasureT-loop
 graft-segments-μ-loop tape bytes st out₀ work₀ strs₀ p at count to level u₀ i₀ out work strs u i = count - i
 
--- src/lib.rt:483:5
 graft-segments-loop-holds : (t : ℕ) → graft-segments-lts.Need-loop-holds (
   graft-segment-below t,
   graft-segment.Post,
 ) (graft-segments-at t) graft-segments.Post graft-segments-Inv-loop graft-segments-μ-loop
 graft-segments-loop-holds t c = (omega arith, items-first (segment-grafts ((c .before .before .before .before .before .pre .1 .0) .source) (c .before .before .before .before .before .args .level)) (c .before .before .before .before .before .args .at) (c .before .before .before .before .before .args .count) ((c .before .before .before .before .before .args .p) .segmentsat + 37 * (c .before .before .before .before .before .args .to)) (c .before .before .before .before .before .pre .1 .0) (c .before .before .before .before .before .pre .1 .1 .0 .1), refl, refl)
 
--- src/lib.rt:484:72
 graft-segments-mul-graft-segment : (t : ℕ) → graft-segments-lts.Need-mul-graft-segment (
   graft-segment-below t,
   graft-segment.Post,
 ) (graft-segments-at t) graft-segments.Post graft-segments-Inv-loop graft-segments-μ-loop
 graft-segments-mul-graft-segment t c = omega (arith, c .before .before .before .before .before .before .before .before .before .before .pre .1 .1 .0 .0, c .before .before .before .loop-test .taken)
 
--- src/lib.rt:484:67
 graft-segments-add-graft-segment : (t : ℕ) → graft-segments-lts.Need-add-graft-segment (
   graft-segment-below t,
   graft-segment.Post,
 ) (graft-segments-at t) graft-segments.Post graft-segments-Inv-loop graft-segments-μ-loop
 graft-segments-add-graft-segment t c = omega (arith, c .before .before .before .before .before .before .before .before .before .before .pre .1 .1 .0 .0, c .before .before .before .loop-test .taken)
 
--- src/lib.rt:484:85
 graft-segments-cast-graft-segment : (t : ℕ) → graft-segments-lts.Need-cast-graft-segment (
   graft-segment-below t,
   graft-segment.Post,
 ) (graft-segments-at t) graft-segments.Post graft-segments-Inv-loop graft-segments-μ-loop
 graft-segments-cast-graft-segment t c = omega (arith, c .before .before .before .before .before .before .before .before .before .before .pre .1 .1 .1 .2, c .before .before .before .loop-test .taken)
 
--- src/lib.rt:484:80
 graft-segments-add-graft-segment-2 : (t : ℕ) → graft-segments-lts.Need-add-graft-segment-2 (
   graft-segment-below t,
   graft-segment.Post,
 ) (graft-segments-at t) graft-segments.Post graft-segments-Inv-loop graft-segments-μ-loop
 graft-segments-add-graft-segment-2 t c = omega (arith, c .before .before .before .before .before .before .before .before .before .before .pre .1 .1 .1 .2, c .before .before .before .loop-test .taken)
 
--- src/lib.rt:484:9
 graft-segments-graft-segment-requires : (t : ℕ) → graft-segments-lts.Need-graft-segment-requires (
   graft-segment-below t,
   graft-segment.Post,
 ) (graft-segments-at t) graft-segments.Post graft-segments-Inv-loop graft-segments-μ-loop
 graft-segments-graft-segment-requires t c κs = (omega arith, (item-ready (segment-grafts ((c .before .before .before .before .before .before .before .before .before .before .pre .1 .0) .source) (c .before .before .before .before .before .before .before .before .before .before .args .level)) (c .before .before .before .before .before .before .before .before .before .before .args .at) (c .before .before .before .before .before .before .before .before .before .before .args .count) ((c .before .before .before .before .before .before .before .before .before .before .args .p) .segmentsat + 37 * (c .before .before .before .before .before .before .before .before .before .before .args .to)) (c .before .before .before .before .before .before .before .before .before .before .pre .1 .0) (c .before .before .before .before .before .before .before .before .before .before .pre .1 .1 .0 .1) (c .before .before .before .before .loop .inv .1) (c .before .before .before .loop-test .taken), ((omega (arith, c .before .before .before .before .before .before .before .before .before .before .pre .1 .1 .0 .0, c .before .before .before .loop-test .taken), item-known (segment-grafts ((c .before .before .before .before .before .before .before .before .before .before .pre .1 .0) .source) (c .before .before .before .before .before .before .before .before .before .before .args .level)) (c .before .before .before .before .before .before .before .before .before .before .args .at) (c .before .before .before .before .before .before .before .before .before .before .args .count) ((c .before .before .before .before .before .before .before .before .before .before .args .p) .segmentsat + 37 * (c .before .before .before .before .before .before .before .before .before .before .args .to)) (c .before .before .before .before .before .before .before .before .before .before .pre .1 .0) (c .before .before .before .before .before .before .before .before .before .before .pre .1 .1 .0 .1) (c .before .before .before .before .loop .i) (c .before .before .before .loop-test .taken)), (omega (arith, item-low (segment-grafts ((c .before .before .before .before .before .before .before .before .before .before .pre .1 .0) .source) (c .before .before .before .before .before .before .before .before .before .before .args .level)) (c .before .before .before .before .before .before .before .before .before .before .args .at) (c .before .before .before .before .before .before .before .before .before .before .args .count) ((c .before .before .before .before .before .before .before .before .before .before .args .p) .segmentsat + 37 * (c .before .before .before .before .before .before .before .before .before .before .args .to)) (c .before .before .before .before .before .before .before .before .before .before .pre .1 .0) (c .before .before .before .before .before .before .before .before .before .before .pre .1 .1 .0 .1) (c .before .before .before .before .loop .inv .1) (c .before .before .before .loop-test .taken) .1, c .before .before .before .before .before .before .before .before .before .before .pre .1 .1 .1 .0), omega (arith, c .before .before .before .before .before .before .before .before .before .before .pre .1 .1 .1 .1, c .before .before .before .loop-test .taken)))))
 
--- src/lib.rt:486:13
 graft-segments-same-length : (t : ℕ) → graft-segments-lts.Need-same-length (
   graft-segment-below t,
   graft-segment.Post,
 ) (graft-segments-at t) graft-segments.Post graft-segments-Inv-loop graft-segments-μ-loop
 graft-segments-same-length t c = c .before .before .before .before .before .before .before .before .graft-segment .kept .1 .1 .1 .0 ∙ c .before .before .before .before .before .before .before .before .before .before .before .before .before .loop .inv .1 .long
 
--- src/lib.rt:486:13
 graft-segments-same-length-2 : (t : ℕ) → graft-segments-lts.Need-same-length-2 (
   graft-segment-below t,
   graft-segment.Post,
 ) (graft-segments-at t) graft-segments.Post graft-segments-Inv-loop graft-segments-μ-loop
 graft-segments-same-length-2 t c = c .before .before .before .before .before .before .before .before .graft-segment .kept .1 .1 .1 .1 .0 ∙ c .before .before .before .before .before .before .before .before .before .before .before .before .before .loop .inv .2
 
--- src/lib.rt:486:13
 graft-segments-same-length-3 : (t : ℕ) → graft-segments-lts.Need-same-length-3 (
   graft-segment-below t,
   graft-segment.Post,
 ) (graft-segments-at t) graft-segments.Post graft-segments-Inv-loop graft-segments-μ-loop
 graft-segments-same-length-3 t c = c .before .before .before .before .before .before .before .before .graft-segment .kept .1 .1 .1 .1 .1 .0 ∙ c .before .before .before .before .before .before .before .before .before .before .before .before .before .loop .inv .3
 
--- src/lib.rt:486:13
 graft-segments-returns : (t : ℕ) → graft-segments-lts.Need-returns (
   graft-segment-below t,
   graft-segment.Post,
 ) (graft-segments-at t) graft-segments.Post graft-segments-Inv-loop graft-segments-μ-loop
 graft-segments-returns t c = items-refused (segment-grafts ((c .before .before .before .before .before .before .before .before .before .before .before .before .before .before .before .before .before .before .before .pre .1 .0) .source) (c .before .before .before .before .before .before .before .before .before .before .before .before .before .before .before .before .before .before .before .args .level)) (c .before .before .before .before .before .before .before .before .before .before .before .before .before .before .before .before .before .before .before .args .at) (c .before .before .before .before .before .before .before .before .before .before .before .before .before .before .before .before .before .before .before .args .count) ((c .before .before .before .before .before .before .before .before .before .before .before .before .before .before .before .before .before .before .before .args .p) .segmentsat + 37 * (c .before .before .before .before .before .before .before .before .before .before .before .before .before .before .before .before .before .before .before .args .to)) (c .before .before .before .before .before .before .before .before .before .before .before .before .before .before .before .before .before .before .before .pre .1 .0) (c .before .before .before .before .before .before .before .before .before .before .before .before .before .before .before .before .before .before .before .pre .1 .1 .0 .1) (c .before .before .before .before .before .before .before .before .before .before .before .before .before .loop .i + 1) (omega (arith, c .before .before .before .before .before .before .before .before .before .before .before .before .loop-test .taken)) (item-turn (segment-grafts ((c .before .before .before .before .before .before .before .before .before .before .before .before .before .before .before .before .before .before .before .pre .1 .0) .source) (c .before .before .before .before .before .before .before .before .before .before .before .before .before .before .before .before .before .before .before .args .level)) (c .before .before .before .before .before .before .before .before .before .before .before .before .before .before .before .before .before .before .before .args .at) (c .before .before .before .before .before .before .before .before .before .before .before .before .before .before .before .before .before .before .before .args .count) ((c .before .before .before .before .before .before .before .before .before .before .before .before .before .before .before .before .before .before .before .args .p) .segmentsat + 37 * (c .before .before .before .before .before .before .before .before .before .before .before .before .before .before .before .before .before .before .before .args .to)) (c .before .before .before .before .before .before .before .before .before .before .before .before .before .before .before .before .before .before .before .pre .1 .0) (c .before .before .before .before .before .before .before .before .before .before .before .before .before .before .before .before .before .before .before .pre .1 .1 .0 .1) (c .before .before .before .before .before .before .before .before .before .before .before .before .before .loop .inv .1) (c .before .before .before .before .before .before .before .before .before .before .before .before .loop-test .taken) (beyond (omega (arith, c .before .before .before .before .before .before .before .before .before .before .before .before .before .before .before .before .before .before .before .pre .1 .1 .1 .0)) (omega (arith, c .before .before .before .before .before .before .before .before .before .before .before .before .before .before .before .before .before .before .before .pre .1 .1 .1 .1))) ((c .before .before .before .before .before .before .before .before .before .before .before .before .before .before .before .before .before .before .before .args .p) .segmentsat + 37 * ((c .before .before .before .before .before .before .before .before .before .before .before .before .before .before .before .before .before .before .before .args .to) + c .before .before .before .before .before .before .before .before .before .before .before .before .before .loop .i)) (omega arith) (c .before .before .before .before .before .before .before .before .graft-segment .ensures)) (not-true _ (c .if1 .taken))
 
--- src/lib.rt:488:9
 graft-segments-add-i : (t : ℕ) → graft-segments-lts.Need-add-i (
   graft-segment-below t,
   graft-segment.Post,
 ) (graft-segments-at t) graft-segments.Post graft-segments-Inv-loop graft-segments-μ-loop
 graft-segments-add-i t c = omega (arith, c .before .before .before .before .before .before .before .before .before .before .before .before .before .before .before .before .before .before .before .pre .1 .1 .1 .2, c .before .before .before .before .before .before .before .before .before .before .before .before .loop-test .taken)
 
--- src/lib.rt:483:5
 graft-segments-loop-less : (t : ℕ) → graft-segments-lts.Need-loop-less (
   graft-segment-below t,
   graft-segment.Post,
 ) (graft-segments-at t) graft-segments.Post graft-segments-Inv-loop graft-segments-μ-loop
 graft-segments-loop-less t c = omega (arith, c .before .before .before .before .before .before .before .before .before .before .before .before .loop-test .taken)
 
--- src/lib.rt:483:5
 graft-segments-loop-again : (t : ℕ) → graft-segments-lts.Need-loop-again (
   graft-segment-below t,
   graft-segment.Post,
 ) (graft-segments-at t) graft-segments.Post graft-segments-Inv-loop graft-segments-μ-loop
 graft-segments-loop-again t c = (omega (arith, c .before .before .before .before .before .before .before .before .before .before .before .before .loop-test .taken), items-more (segment-grafts ((c .before .before .before .before .before .before .before .before .before .before .before .before .before .before .before .before .before .before .before .pre .1 .0) .source) (c .before .before .before .before .before .before .before .before .before .before .before .before .before .before .before .before .before .before .before .args .level)) (c .before .before .before .before .before .before .before .before .before .before .before .before .before .before .before .before .before .before .before .args .at) (c .before .before .before .before .before .before .before .before .before .before .before .before .before .before .before .before .before .before .before .args .count) ((c .before .before .before .before .before .before .before .before .before .before .before .before .before .before .before .before .before .before .before .args .p) .segmentsat + 37 * (c .before .before .before .before .before .before .before .before .before .before .before .before .before .before .before .before .before .before .before .args .to)) (c .before .before .before .before .before .before .before .before .before .before .before .before .before .before .before .before .before .before .before .pre .1 .0) (c .before .before .before .before .before .before .before .before .before .before .before .before .before .before .before .before .before .before .before .pre .1 .1 .0 .1) (c .before .before .before .before .before .before .before .before .before .before .before .before .before .loop .inv .1) (c .before .before .before .before .before .before .before .before .before .before .before .before .loop-test .taken) (beyond (omega (arith, c .before .before .before .before .before .before .before .before .before .before .before .before .before .before .before .before .before .before .before .pre .1 .1 .1 .0)) (omega (arith, c .before .before .before .before .before .before .before .before .before .before .before .before .before .before .before .before .before .before .before .pre .1 .1 .1 .1))) ((c .before .before .before .before .before .before .before .before .before .before .before .before .before .before .before .before .before .before .before .args .p) .segmentsat + 37 * ((c .before .before .before .before .before .before .before .before .before .before .before .before .before .before .before .before .before .before .before .args .to) + c .before .before .before .before .before .before .before .before .before .before .before .before .before .loop .i)) (omega arith) (c .before .before .before .before .before .before .before .before .graft-segment .ensures) (c .before .before .before .before .before .before .before .before .graft-segment .kept .1 .1 .1 .0) (not-false _ (c .if1 .left)), c .before .before .before .before .before .before .before .before .graft-segment .kept .1 .1 .1 .1 .0 ∙ c .before .before .before .before .before .before .before .before .before .before .before .before .before .loop .inv .2, c .before .before .before .before .before .before .before .before .graft-segment .kept .1 .1 .1 .1 .1 .0 ∙ c .before .before .before .before .before .before .before .before .before .before .before .before .before .loop .inv .3)
 
--- src/lib.rt:475:1
 graft-segments-same-length-4 : (t : ℕ) → graft-segments-lts.Need-same-length-4 (
   graft-segment-below t,
   graft-segment.Post,
 ) (graft-segments-at t) graft-segments.Post graft-segments-Inv-loop graft-segments-μ-loop
 graft-segments-same-length-4 t c = c .before .loop .inv .1 .long
 
--- src/lib.rt:475:1
 graft-segments-same-length-5 : (t : ℕ) → graft-segments-lts.Need-same-length-5 (
   graft-segment-below t,
   graft-segment.Post,
 ) (graft-segments-at t) graft-segments.Post graft-segments-Inv-loop graft-segments-μ-loop
 graft-segments-same-length-5 t c = c .before .loop .inv .2
 
--- src/lib.rt:475:1
 graft-segments-same-length-6 : (t : ℕ) → graft-segments-lts.Need-same-length-6 (
   graft-segment-below t,
   graft-segment.Post,
 ) (graft-segments-at t) graft-segments.Post graft-segments-Inv-loop graft-segments-μ-loop
 graft-segments-same-length-6 t c = c .before .loop .inv .3
 
--- src/lib.rt:475:1
 graft-segments-returns-2 : (t : ℕ) → graft-segments-lts.Need-returns-2 (
   graft-segment-below t,
   graft-segment.Post,

@@ -4,59 +4,45 @@ use borrow.Author.Needs.{needs}
 use Rattle.graft.proofs.graft_str.Statement.{statement}
 use Rattle.graft.proofs.graft_str.Tie as tie
 
--- src/lib.rt:112:45
 sub-string-from : tie.Need-sub-string-from
 sub-string-from c = search needs
 
--- src/lib.rt:112:45
 part-string-from-start : tie.Need-part-string-from-start
 part-string-from-start c = search needs
 
--- src/lib.rt:112:45
 part-string-from-end : tie.Need-part-string-from-end
 part-string-from-end c = search needs
 
--- src/lib.rt:112:9
 string-from-requires : tie.Need-string-from-requires
 string-from-requires c κs = (c .before .before .before .before .before .before .pre .0, (c .before .before .before .before .before .before .pre .1 .0, c .before .before .before .before .before .before .pre .1 .1 .1 .0))
 
--- src/lib.rt:113:9
 string-length-requires : tie.Need-string-length-requires
 string-length-requires c κs = (source-tape _ _ _ (c .before .before .before .before .before .before .before .pre .0), c .before .before .before .before .before .before .before .pre .1 .1 .1 .0)
 
--- src/lib.rt:115:60
 add-intern : tie.Need-add-intern
 add-intern c = omega (arith, part-inside (c .before .before .before .before .before .before .before .before .before .before .before .args .tape .now) (c .before .before .before .before .before .before .before .before .before .before .before .args .bytes .now) (c .before .before .before .before .before .before .before .before .before .before .before .args .st) (c .before .before .before .before .before .before .before .before .before .before .before .pre .0) (c .before .before .before .before .before .before .before .before .before .before .before .args .id) (c .before .before .before .before .before .before .before .before .before .before .before .pre .1 .1 .1 .0) (c .before .before .before .before .string-from .result) (c .before .before .before .string-length .result) (c .before .before .before .before .string-from .ensures) (c .before .before .before .string-length .ensures))
 
--- src/lib.rt:115:47
 sub-intern : tie.Need-sub-intern
 sub-intern c = search needs
 
--- src/lib.rt:115:47
 part-intern-start : tie.Need-part-intern-start
 part-intern-start c = search needs
 
--- src/lib.rt:115:47
 part-intern-end : tie.Need-part-intern-end
 part-intern-end c = omega (arith, part-inside (c .before .before .before .before .before .before .before .before .before .before .before .args .tape .now) (c .before .before .before .before .before .before .before .before .before .before .before .args .bytes .now) (c .before .before .before .before .before .before .before .before .before .before .before .args .st) (c .before .before .before .before .before .before .before .before .before .before .before .pre .0) (c .before .before .before .before .before .before .before .before .before .before .before .args .id) (c .before .before .before .before .before .before .before .before .before .before .before .pre .1 .1 .1 .0) (c .before .before .before .before .string-from .result) (c .before .before .before .string-length .result) (c .before .before .before .before .string-from .ensures) (c .before .before .before .string-length .ensures))
 
--- src/lib.rt:115:9
 intern-requires : tie.Need-intern-requires
 intern-requires c κs = search needs
 
--- src/lib.rt:116:5
 start-of-requires : tie.Need-start-of-requires
 start-of-requires c κs = omega (arith, id-small (c .before .before .before .before .before .before .before .before .before .before .before .before .before .before .before .before .before .args .p) (c .before .before .before .before .before .before .before .before .before .before .before .before .before .before .before .before .before .args .m) (c .before .before .before .before .before .before .before .before .before .before .before .before .before .before .before .before .before .args .work .now) (c .before .before .before .before .before .before .before .before .before .before .before .before .before .before .before .before .before .args .strs .now) (c .before .before .before .before .intern .last .0) (c .before .before .before .before .intern .last .1 .0) _ (c .before .before .before .before .intern .result) (c .before .before .before .before .intern .ensures), c .before .before .before .before .before .before .before .before .before .before .before .before .before .before .before .before .before .pre .1 .1 .1 .2)
 
--- src/lib.rt:96:1
 same-length : tie.Need-same-length
 same-length c = search needs
 
--- src/lib.rt:96:1
 same-length-2 : tie.Need-same-length-2
 same-length-2 c = search needs
 
--- src/lib.rt:96:1
 returns : tie.Need-returns
 returns c = λ out. str-answer (c .before .before .before .before .before .before .before .before .before .before .before .before .before .before .before .before .before .before .args .p) (c .before .before .before .before .before .before .before .before .before .before .before .before .before .before .before .before .before .before .args .m) (c .before .before .before .before .before .before .before .before .before .before .before .before .before .before .before .before .before .before .args .work .now) (c .before .before .before .before .before .before .before .before .before .before .before .before .before .before .before .before .before .before .args .strs .now) (c .before .before .before .before .before .intern .last .0) (c .before .before .before .before .before .intern .last .1 .0) _ (c .before .before .before .before .before .intern .result) (c .before .before .before .before .before .intern .ensures) (c .before .before .before .before .before .before .before .before .before .before .before .before .before .before .before .before .before .before .pre .1 .1 .0) (c .before .before .before .before .before .intern .kept .1 .0) out _ (c .start-of .ensures) _ (part-shows (c .before .before .before .before .before .before .before .before .before .before .before .before .before .before .before .before .before .before .args .tape .now) (c .before .before .before .before .before .before .before .before .before .before .before .before .before .before .before .before .before .before .args .bytes .now) (c .before .before .before .before .before .before .before .before .before .before .before .before .before .before .before .before .before .before .args .st) (c .before .before .before .before .before .before .before .before .before .before .before .before .before .before .before .before .before .before .pre .0) (c .before .before .before .before .before .before .before .before .before .before .before .before .before .before .before .before .before .before .args .id) (c .before .before .before .before .before .before .before .before .before .before .before .before .before .before .before .before .before .before .pre .1 .1 .1 .0) (c .before .before .before .before .before .before .before .before .before .before .before .string-from .result) (c .before .before .before .before .before .before .before .before .before .before .string-length .result) (c .before .before .before .before .before .before .before .before .before .before .before .string-from .ensures) (c .before .before .before .before .before .before .before .before .before .before .string-length .ensures))
 

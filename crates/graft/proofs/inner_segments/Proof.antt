@@ -4,11 +4,9 @@ use Rattle.sizes.specs.InPlace.{innerAdds, segmentsAdd}
 use Rattle.graft.proofs.inner_segments.Statement.{statement}
 use Rattle.graft.proofs.inner_segments.Tie as tie
 
--- src/lib.rt:305:9
 segments-sizes-requires : tie.Need-segments-sizes-requires
 segments-sizes-requires c κs = (c .before .pre .0, (kept-none wideRoom, c .before .pre .1 .0))
 
--- src/lib.rt:289:1
 returns : tie.Need-returns
 returns c = segments-exact (segmentsAdd (innerAdds (c .before .before .args .level) (c .before .before .args .tape .now) (c .before .before .args .st)) (c .before .before .args .tape .now) (c .before .before .args .at) (c .before .before .args .count)) (c .before .before .pre .1 .1 .0) (c .before .before .pre .1 .1 .1) (c .segments-sizes .result) (c .segments-sizes .ensures)
 

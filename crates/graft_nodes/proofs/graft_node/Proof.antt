@@ -4,39 +4,30 @@ use borrow.Author.Needs.{needs}
 use Rattle.graft_nodes.proofs.graft_node.Statement.{statement}
 use Rattle.graft_nodes.proofs.graft_node.Tie as tie
 
--- src/lib.rt:797:18
 add-if1 : tie.Need-add-if1
 add-if1 c = search needs
 
--- src/lib.rt:797:13
 shared-slice-read-if1 : tie.Need-shared-slice-read-if1
 shared-slice-read-if1 c = search needs
 
--- src/lib.rt:798:9
 returns : tie.Need-returns
 returns c = node-bare (c .before .before .before .before .before .before .before .args .tape .now) (c .before .before .before .before .before .before .before .args .bytes .now) (c .before .before .before .before .before .before .before .args .st) (c .before .before .before .before .before .before .before .args .at) (c .before .before .before .before .before .before .before .pre .0) (c .if1 .taken)
 
--- src/lib.rt:803:56
 add-graft-body : tie.Need-add-graft-body
 add-graft-body c = search needs
 
--- src/lib.rt:803:5
 graft-body-requires : tie.Need-graft-body-requires
 graft-body-requires c κs = (node-ready (c .before .before .before .before .before .before .before .before .before .before .args .tape .now) (c .before .before .before .before .before .before .before .before .before .before .args .bytes .now) (c .before .before .before .before .before .before .before .before .before .before .args .st) (c .before .before .before .before .before .before .before .before .before .before .args .at) (c .before .before .before .before .before .before .before .before .before .before .pre .0) (omega (arith, c .before .before .before .if1 .left)), (omega (arith, c .before .before .before .before .before .before .before .before .before .before .pre .1 .0), node-known (c .before .before .before .before .before .before .before .before .before .before .args .tape .now) (c .before .before .before .before .before .before .before .before .before .before .args .bytes .now) (c .before .before .before .before .before .before .before .before .before .before .args .st) (c .before .before .before .before .before .before .before .before .before .before .args .at) (c .before .before .before .before .before .before .before .before .before .before .pre .0) (omega (arith, c .before .before .before .if1 .left)) (c .before .before .before .before .before .before .before .before .before .before .pre .1 .1)))
 
--- src/lib.rt:782:1
 same-length : tie.Need-same-length
 same-length c = search needs
 
--- src/lib.rt:782:1
 same-length-2 : tie.Need-same-length-2
 same-length-2 c = search needs
 
--- src/lib.rt:782:1
 same-length-3 : tie.Need-same-length-3
 same-length-3 c = search needs
 
--- src/lib.rt:782:1
 returns-2 : tie.Need-returns-2
 returns-2 c = node-told (c .before .before .before .before .before .before .before .before .before .before .before .before .before .before .before .before .before .args .tape .now) (c .before .before .before .before .before .before .before .before .before .before .before .before .before .before .before .before .before .args .bytes .now) (c .before .before .before .before .before .before .before .before .before .before .before .before .before .before .before .before .before .args .st) (c .before .before .before .before .before .before .before .before .before .before .before .before .before .before .before .before .before .args .at) (c .before .before .before .before .before .before .before .before .before .before .before .before .before .before .before .before .before .pre .0) (omega (arith, c .before .before .before .before .before .before .before .before .before .before .if1 .left)) (c .before .before .before .before .before .before .graft-body .ensures)
 

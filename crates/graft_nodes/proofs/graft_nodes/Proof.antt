@@ -20,71 +20,54 @@ Inv-loop tape bytes st out₀ work₀ strs₀ p at count nodesat u₀ i₀ out w
 abbrev μ-loop : tie.MeasureT-loop
 μ-loop tape bytes st out₀ work₀ strs₀ p at count nodesat u₀ i₀ out work strs u i = count - i
 
--- src/lib.rt:818:5
 loop-holds : tie.Need-loop-holds Inv-loop μ-loop
 loop-holds c = (omega arith, items-first (node-grafts ((c .before .before .before .before .before .pre .0) .source)) (c .before .before .before .before .before .args .at) (c .before .before .before .before .before .args .count) (c .before .before .before .before .before .args .nodesat) (c .before .before .before .before .before .pre .0) (c .before .before .before .before .before .pre .1 .0 .1), refl, refl)
 
--- src/lib.rt:819:72
 mul-graft-node-at : tie.Need-mul-graft-node-at Inv-loop μ-loop
 mul-graft-node-at c = omega (arith, c .before .before .before .before .before .before .before .before .before .before .pre .1 .0 .0, c .before .before .before .loop-test .taken)
 
--- src/lib.rt:819:67
 add-graft-node-at : tie.Need-add-graft-node-at Inv-loop μ-loop
 add-graft-node-at c = omega (arith, c .before .before .before .before .before .before .before .before .before .before .pre .1 .0 .0, c .before .before .before .loop-test .taken)
 
--- src/lib.rt:819:90
 mul-graft-node-at-2 : tie.Need-mul-graft-node-at-2 Inv-loop μ-loop
 mul-graft-node-at-2 c = omega (arith, c .before .before .before .before .before .before .before .before .before .before .pre .1 .1 .1, c .before .before .before .loop-test .taken, c .before .before .before .before .before .before .before .before .before .before .good)
 
--- src/lib.rt:819:80
 add-graft-node-at-2 : tie.Need-add-graft-node-at-2 Inv-loop μ-loop
 add-graft-node-at-2 c = omega (arith, c .before .before .before .before .before .before .before .before .before .before .pre .1 .1 .1, c .before .before .before .loop-test .taken, c .before .before .before .before .before .before .before .before .before .before .good)
 
--- src/lib.rt:819:9
 graft-node-at-requires : tie.Need-graft-node-at-requires Inv-loop μ-loop
 graft-node-at-requires c κs = (item-ready (node-grafts ((c .before .before .before .before .before .before .before .before .before .before .pre .0) .source)) (c .before .before .before .before .before .before .before .before .before .before .args .at) (c .before .before .before .before .before .before .before .before .before .before .args .count) (c .before .before .before .before .before .before .before .before .before .before .args .nodesat) (c .before .before .before .before .before .before .before .before .before .before .pre .0) (c .before .before .before .before .before .before .before .before .before .before .pre .1 .0 .1) (c .before .before .before .before .loop .inv .1) (c .before .before .before .loop-test .taken), (omega (arith, c .before .before .before .before .before .before .before .before .before .before .pre .1 .0 .0, c .before .before .before .loop-test .taken), item-known (node-grafts ((c .before .before .before .before .before .before .before .before .before .before .pre .0) .source)) (c .before .before .before .before .before .before .before .before .before .before .args .at) (c .before .before .before .before .before .before .before .before .before .before .args .count) (c .before .before .before .before .before .before .before .before .before .before .args .nodesat) (c .before .before .before .before .before .before .before .before .before .before .pre .0) (c .before .before .before .before .before .before .before .before .before .before .pre .1 .0 .1) (c .before .before .before .before .loop .i) (c .before .before .before .loop-test .taken), omega (arith, c .before .before .before .before .before .before .before .before .before .before .pre .1 .1 .1, c .before .before .before .loop-test .taken, c .before .before .before .before .loop .inv .1 .long)))
 
--- src/lib.rt:821:13
 same-length : tie.Need-same-length Inv-loop μ-loop
 same-length c = c .before .before .before .before .before .before .before .before .graft-node-at .kept .1 .1 .1 .0 ∙ c .before .before .before .before .before .before .before .before .before .before .before .before .before .loop .inv .1 .long
 
--- src/lib.rt:821:13
 same-length-2 : tie.Need-same-length-2 Inv-loop μ-loop
 same-length-2 c = c .before .before .before .before .before .before .before .before .graft-node-at .kept .1 .1 .1 .1 .0 ∙ c .before .before .before .before .before .before .before .before .before .before .before .before .before .loop .inv .2
 
--- src/lib.rt:821:13
 same-length-3 : tie.Need-same-length-3 Inv-loop μ-loop
 same-length-3 c = c .before .before .before .before .before .before .before .before .graft-node-at .kept .1 .1 .1 .1 .1 .0 ∙ c .before .before .before .before .before .before .before .before .before .before .before .before .before .loop .inv .3
 
--- src/lib.rt:821:13
 returns : tie.Need-returns Inv-loop μ-loop
 returns c = items-refused (node-grafts ((c .before .before .before .before .before .before .before .before .before .before .before .before .before .before .before .before .before .before .before .pre .0) .source)) (c .before .before .before .before .before .before .before .before .before .before .before .before .before .before .before .before .before .before .before .args .at) (c .before .before .before .before .before .before .before .before .before .before .before .before .before .before .before .before .before .before .before .args .count) (c .before .before .before .before .before .before .before .before .before .before .before .before .before .before .before .before .before .before .before .args .nodesat) (c .before .before .before .before .before .before .before .before .before .before .before .before .before .before .before .before .before .before .before .pre .0) (c .before .before .before .before .before .before .before .before .before .before .before .before .before .before .before .before .before .before .before .pre .1 .0 .1) (c .before .before .before .before .before .before .before .before .before .before .before .before .before .loop .i + 1) (omega (arith, c .before .before .before .before .before .before .before .before .before .before .before .before .loop-test .taken)) (item-turn (node-grafts ((c .before .before .before .before .before .before .before .before .before .before .before .before .before .before .before .before .before .before .before .pre .0) .source)) (c .before .before .before .before .before .before .before .before .before .before .before .before .before .before .before .before .before .before .before .args .at) (c .before .before .before .before .before .before .before .before .before .before .before .before .before .before .before .before .before .before .before .args .count) (c .before .before .before .before .before .before .before .before .before .before .before .before .before .before .before .before .before .before .before .args .nodesat) (c .before .before .before .before .before .before .before .before .before .before .before .before .before .before .before .before .before .before .before .pre .0) (c .before .before .before .before .before .before .before .before .before .before .before .before .before .before .before .before .before .before .before .pre .1 .0 .1) (c .before .before .before .before .before .before .before .before .before .before .before .before .before .loop .inv .1) (c .before .before .before .before .before .before .before .before .before .before .before .before .loop-test .taken) (beyond (c .before .before .before .before .before .before .before .before .before .before .before .before .before .before .before .before .before .before .before .pre .1 .1 .0) (c .before .before .before .before .before .before .before .before .before .before .before .before .before .before .before .before .before .before .before .pre .1 .1 .1)) ((c .before .before .before .before .before .before .before .before .before .before .before .before .before .before .before .before .before .before .before .args .nodesat) + 49 * c .before .before .before .before .before .before .before .before .before .before .before .before .before .loop .i) refl (c .before .before .before .before .before .before .before .before .graft-node-at .ensures)) (not-true _ (c .if1 .taken))
 
--- src/lib.rt:823:9
 add-i : tie.Need-add-i Inv-loop μ-loop
 add-i c = omega (arith, c .before .before .before .before .before .before .before .before .before .before .before .before .before .before .before .before .before .before .before .pre .1 .0 .0, c .before .before .before .before .before .before .before .before .before .before .before .before .loop-test .taken, c .before .before .before .before .before .before .before .before .before .before .before .before .before .before .before .before .before .before .before .good, c .before .before .before .before .before .before .before .before .before .before .before .before .before .before .before .before .before .before .before .fits)
 
--- src/lib.rt:818:5
 loop-less : tie.Need-loop-less Inv-loop μ-loop
 loop-less c = omega (arith, c .before .before .before .before .before .before .before .before .before .before .before .before .loop-test .taken)
 
--- src/lib.rt:818:5
 loop-again : tie.Need-loop-again Inv-loop μ-loop
 loop-again c = (omega (arith, c .before .before .before .before .before .before .before .before .before .before .before .before .loop-test .taken), items-more (node-grafts ((c .before .before .before .before .before .before .before .before .before .before .before .before .before .before .before .before .before .before .before .pre .0) .source)) (c .before .before .before .before .before .before .before .before .before .before .before .before .before .before .before .before .before .before .before .args .at) (c .before .before .before .before .before .before .before .before .before .before .before .before .before .before .before .before .before .before .before .args .count) (c .before .before .before .before .before .before .before .before .before .before .before .before .before .before .before .before .before .before .before .args .nodesat) (c .before .before .before .before .before .before .before .before .before .before .before .before .before .before .before .before .before .before .before .pre .0) (c .before .before .before .before .before .before .before .before .before .before .before .before .before .before .before .before .before .before .before .pre .1 .0 .1) (c .before .before .before .before .before .before .before .before .before .before .before .before .before .loop .inv .1) (c .before .before .before .before .before .before .before .before .before .before .before .before .loop-test .taken) (beyond (c .before .before .before .before .before .before .before .before .before .before .before .before .before .before .before .before .before .before .before .pre .1 .1 .0) (c .before .before .before .before .before .before .before .before .before .before .before .before .before .before .before .before .before .before .before .pre .1 .1 .1)) ((c .before .before .before .before .before .before .before .before .before .before .before .before .before .before .before .before .before .before .before .args .nodesat) + 49 * c .before .before .before .before .before .before .before .before .before .before .before .before .before .loop .i) refl (c .before .before .before .before .before .before .before .before .graft-node-at .ensures) (c .before .before .before .before .before .before .before .before .graft-node-at .kept .1 .1 .1 .0) (not-false _ (c .if1 .left)), c .before .before .before .before .before .before .before .before .graft-node-at .kept .1 .1 .1 .1 .0 ∙ c .before .before .before .before .before .before .before .before .before .before .before .before .before .loop .inv .2, c .before .before .before .before .before .before .before .before .graft-node-at .kept .1 .1 .1 .1 .1 .0 ∙ c .before .before .before .before .before .before .before .before .before .before .before .before .before .loop .inv .3)
 
--- src/lib.rt:810:1
 same-length-4 : tie.Need-same-length-4 Inv-loop μ-loop
 same-length-4 c = c .before .loop .inv .1 .long
 
--- src/lib.rt:810:1
 same-length-5 : tie.Need-same-length-5 Inv-loop μ-loop
 same-length-5 c = c .before .loop .inv .2
 
--- src/lib.rt:810:1
 same-length-6 : tie.Need-same-length-6 Inv-loop μ-loop
 same-length-6 c = c .before .loop .inv .3
 
--- src/lib.rt:810:1
 returns-2 : tie.Need-returns-2 Inv-loop μ-loop
 returns-2 c = items-last (node-grafts ((c .before .before .before .before .before .before .before .pre .0) .source)) (c .before .before .before .before .before .before .before .args .at) (c .before .before .before .before .before .before .before .args .count) (c .before .before .before .before .before .before .before .args .nodesat) (c .before .before .before .before .before .before .before .pre .0) (c .before .before .before .before .before .before .before .pre .1 .0 .1) (c .before .loop .inv .1) (omega (arith, c .loop-test .left)) (c .before .loop .inv .0)
 

@@ -11,35 +11,27 @@ use Rattle.layer.proofs.graft_layer.Reads as graft-layer-reads
 use Rattle.places.proofs.places_of.Reads as places-of-reads
 use Rattle.store.proofs.store_of.Reads as store-of-reads
 
--- src/main.rt:88:9
 places-of-requires : tie.Need-places-of-requires
 places-of-requires c κs = search needs
 
--- src/main.rt:89:9
 store-of-requires : tie.Need-store-of-requires
 store-of-requires c κs = accepted-store (c .before .before .before .before .before .before .pre .0) (accepted-found (c .before .before .before .before .before .before .pre .0) _ (c .places-of .ensures))
 
--- src/main.rt:91:9
 graft-layer-requires : tie.Need-graft-layer-requires
 graft-layer-requires c κs = ((source-fits (c .before .before .before .before .before .before .before .before .before .before .pre .0) (c .before .before .before .before .places-of .ensures) (c .before .before .before .store-of .ensures), c .before .before .before .before .before .before .before .before .before .before .pre .1 .0), (omega (arith, c .before .before .before .before .before .before .before .before .before .before .pre .1 .1), omega arith, omega arith))
 
--- src/main.rt:92:5
 put-answer-requires : tie.Need-put-answer-requires
 put-answer-requires c κs = λ y. omega (arith, records-inside (source-fits (c .before .before .before .before .before .before .before .before .before .before .before .before .before .before .before .before .before .before .before .pre .0) (c .before .before .before .before .before .before .before .before .before .before .before .before .before .places-of .ensures) (c .before .before .before .before .before .before .before .before .before .before .before .before .store-of .ensures)) (c .before .before .before .before .before .before .before .before .graft-layer .ensures) y, c .before .before .before .before .before .before .before .before .graft-layer .kept .1 .1 .1 .1 .0)
 
--- src/main.rt:76:1
 same-length : tie.Need-same-length
 same-length c = search needs
 
--- src/main.rt:76:1
 same-length-2 : tie.Need-same-length-2
 same-length-2 c = search needs
 
--- src/main.rt:76:1
 same-length-3 : tie.Need-same-length-3
 same-length-3 c = search needs
 
--- src/main.rt:76:1
 returns : tie.Need-returns
 returns c = search needs
 

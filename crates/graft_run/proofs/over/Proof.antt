@@ -5,15 +5,12 @@ use Rattle.graft_run.proofs.over.Tie as tie
 use Rattle.graft_run.proofs.over.Reads as reads
 use Rattle.graft_run.proofs.over.Lts as lts
 
--- src/main.rt:100:9
 returns : tie.Need-returns
 returns c = λ e. absurd (true≢false e)
 
--- src/main.rt:103:9
 returns-2 : tie.Need-returns-2
 returns-2 c = λ e. absurd (true≢false e)
 
--- src/main.rt:96:1
 returns-3 : tie.Need-returns-3
 returns-3 c = search needs
 

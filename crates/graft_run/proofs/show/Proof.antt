@@ -8,47 +8,36 @@ use Rattle.graft_run.proofs.offsets.Reads as offsets-reads
 use Rattle.graft_run.proofs.say.Reads as say-reads
 use Rattle.graft_run.proofs.show_lent.Reads as show-lent-reads
 
--- src/main.rt:169:9
 offsets-requires : tie.Need-offsets-requires
 offsets-requires c κs = search needs
 
--- src/main.rt:170:5
 say-requires : tie.Need-say-requires
 say-requires c κs = search needs
 
--- src/main.rt:171:9
 slice-aggregate-say : tie.Need-slice-aggregate-say
 slice-aggregate-say c = search needs
 
--- src/main.rt:171:5
 say-requires-2 : tie.Need-say-requires-2
 say-requires-2 c κs = search needs
 
--- src/main.rt:172:28
 slice-aggregate-show-lent : tie.Need-slice-aggregate-show-lent
 slice-aggregate-show-lent c = search needs
 
--- src/main.rt:172:38
 slice-aggregate-show-lent-2 : tie.Need-slice-aggregate-show-lent-2
 slice-aggregate-show-lent-2 c = search needs
 
--- src/main.rt:172:49
 slice-aggregate-show-lent-3 : tie.Need-slice-aggregate-show-lent-3
 slice-aggregate-show-lent-3 c = search needs
 
--- src/main.rt:172:5
 show-lent-requires : tie.Need-show-lent-requires
 show-lent-requires c κs = omega arith
 
--- src/main.rt:173:9
 slice-aggregate-say-2 : tie.Need-slice-aggregate-say-2
 slice-aggregate-say-2 c = search needs
 
--- src/main.rt:173:5
 say-requires-3 : tie.Need-say-requires-3
 say-requires-3 c κs = search needs
 
--- src/main.rt:165:1
 returns : tie.Need-returns
 returns c = search needs
 

@@ -28,27 +28,21 @@ Inv-loop bytes h₀ i₀ h i = (i ≤ length bytes) × (fxFrom h (drop i bytes) 
 abbrev μ-loop : tie.MeasureT-loop
 μ-loop bytes h₀ i₀ h i = length bytes - i
 
--- src/lib.rt:68:5
 loop-holds : tie.Need-loop-holds Inv-loop μ-loop
 loop-holds c = (omega arith, refl)
 
--- src/lib.rt:69:24
 shared-slice-read-fx-step : tie.Need-shared-slice-read-fx-step Inv-loop μ-loop
 shared-slice-read-fx-step c = search needs
 
--- src/lib.rt:69:9
 fx-step-requires : tie.Need-fx-step-requires Inv-loop μ-loop
 fx-step-requires c κs = search needs
 
--- src/lib.rt:70:9
 add-i : tie.Need-add-i Inv-loop μ-loop
 add-i c = search needs
 
--- src/lib.rt:68:5
 loop-less : tie.Need-loop-less Inv-loop μ-loop
 loop-less c = search needs
 
--- src/lib.rt:68:5
 loop-again : tie.Need-loop-again Inv-loop μ-loop
 loop-again c =
     let l = c .before .before .before .loop in
@@ -59,7 +53,6 @@ loop-again c =
           ∙ l .inv .1,
     )
 
--- src/lib.rt:63:1
 returns : tie.Need-returns Inv-loop μ-loop
 unfolding fxHash
 returns c = sym (done _ _ _ (c .loop-test .left)) ∙ c .before .loop .inv .1

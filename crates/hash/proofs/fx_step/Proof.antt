@@ -11,15 +11,12 @@ use Rattle.hash.proofs.fx_step.Lts as lts
 use Rattle.hash.proofs.mul_prime.Reads as mul-prime-reads
 use Rattle.hash.proofs.rotate_left.Reads as rotate-left-reads
 
--- src/lib.rt:60:12
 rotate-left-requires : tie.Need-rotate-left-requires
 rotate-left-requires c κs = search needs
 
--- src/lib.rt:60:5
 mul-prime-requires : tie.Need-mul-prime-requires
 mul-prime-requires c κs = search needs
 
--- src/lib.rt:57:1
 returns : tie.Need-returns
 unfolding fxStep
 returns c =

@@ -17,31 +17,24 @@ Inv-loop tape st at i₀ i = (i ≤ 6) × Passed (wordIn st (bodyAt tape at)) i
 abbrev μ-loop : tie.MeasureT-loop
 μ-loop tape st at i₀ i = 6 - i
 
--- src/lib.rt:79:5
 loop-holds : tie.Need-loop-holds Inv-loop μ-loop
 loop-holds c = (omega arith, passed-none _)
 
--- src/lib.rt:80:13
 word-ok-requires : tie.Need-word-ok-requires Inv-loop μ-loop
 word-ok-requires c κs = (c .before .before .before .pre .0, c .loop-test .taken, c .before .before .before .pre .1)
 
--- src/lib.rt:81:13
 returns : tie.Need-returns Inv-loop μ-loop
 returns c = body-failed (c .before .before .before .before .before .args .st) (bodyAt (c .before .before .before .before .before .args .tape .now) (c .before .before .before .before .before .args .at)) (c .before .before .before .loop .i) (c .before .before .loop-test .taken) (sym (c .before .word-ok .ensures) ∙ not-true _ (c .if1 .taken))
 
--- src/lib.rt:83:9
 add-i : tie.Need-add-i Inv-loop μ-loop
 add-i c = omega arith
 
--- src/lib.rt:79:5
 loop-less : tie.Need-loop-less Inv-loop μ-loop
 loop-less c = omega arith
 
--- src/lib.rt:79:5
 loop-again : tie.Need-loop-again Inv-loop μ-loop
 loop-again c = (omega arith, passed-more _ _ (c .before .before .before .loop .inv .1) (sym (c .before .word-ok .ensures) ∙ not-false _ (c .if1 .left)))
 
--- src/lib.rt:74:1
 returns-2 : tie.Need-returns-2 Inv-loop μ-loop
 returns-2 c = body-passed (c .before .before .before .args .st) (bodyAt (c .before .before .before .args .tape .now) (c .before .before .before .args .at)) (c .before .loop .i) (omega arith) (omega arith) (c .before .loop .inv .1)
 

@@ -10,23 +10,18 @@ use Rattle.ids.proofs.segments_in.Reads as segments-in-reads
 use Rattle.records.proofs.content_at.Reads as content-at-reads
 use Rattle.store.proofs.id_ok.Reads as id-ok-reads
 
--- src/lib.rt:95:9
 content-at-requires : tie.Need-content-at-requires
 content-at-requires c κs = search needs
 
--- src/lib.rt:97:9
 id-ok-requires : tie.Need-id-ok-requires
 id-ok-requires c κs = search needs
 
--- src/lib.rt:97:9
 returns : tie.Need-returns
 returns c = content-plain (c .before .before .before .before .before .args .st) (contentOf (c .before .before .before .content-at .result)) _ (c .before .if1 .taken) (c .id-ok .ensures) ∙ ap (contentIn (c .before .before .before .before .before .args .st)) (c .before .before .before .content-at .ensures)
 
--- src/lib.rt:99:5
 segments-in-requires : tie.Need-segments-in-requires
 segments-in-requires c κs = search needs
 
--- src/lib.rt:91:1
 returns-2 : tie.Need-returns-2
 returns-2 c = content-segments (c .before .before .before .before .before .args .st) (contentOf (c .before .before .before .content-at .result)) _ (c .before .if1 .left) (c .segments-in .ensures) ∙ ap (contentIn (c .before .before .before .before .before .args .st)) (c .before .before .before .content-at .ensures)
 

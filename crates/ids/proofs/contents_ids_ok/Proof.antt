@@ -18,41 +18,32 @@ Inv-loop tape st at count i₀ i = (i ≤ count) × Passed (testAt contentCodec 
 abbrev μ-loop : tie.MeasureT-loop
 μ-loop tape st at count i₀ i = count - i
 
--- src/lib.rt:107:5
 loop-holds : tie.Need-loop-holds Inv-loop μ-loop
 loop-holds c = (omega arith, passed-none _)
 
--- src/lib.rt:108:43
 mul-content-ids-ok : tie.Need-mul-content-ids-ok Inv-loop μ-loop
 mul-content-ids-ok c = omega arith
 
--- src/lib.rt:108:38
 add-content-ids-ok : tie.Need-add-content-ids-ok Inv-loop μ-loop
 add-content-ids-ok c = omega arith
 
--- src/lib.rt:108:13
 content-ids-ok-requires : tie.Need-content-ids-ok-requires Inv-loop μ-loop
 content-ids-ok-requires c κs = (omega arith, c .before .before .before .pre .1)
 
--- src/lib.rt:109:13
 returns : tie.Need-returns Inv-loop μ-loop
 unfolding contentCodec
 returns c = run-failed contentCodec (contentIn (c .before .before .before .before .before .args .st)) (c .before .before .before .before .before .args .tape .now) (c .before .before .before .before .before .args .at) (c .before .before .before .loop .i) _ refl _ (c .before .content-ids-ok .ensures) _ (c .before .before .loop-test .taken) (not-true _ (c .if1 .taken))
 
--- src/lib.rt:111:9
 add-i : tie.Need-add-i Inv-loop μ-loop
 add-i c = omega arith
 
--- src/lib.rt:107:5
 loop-less : tie.Need-loop-less Inv-loop μ-loop
 loop-less c = omega arith
 
--- src/lib.rt:107:5
 loop-again : tie.Need-loop-again Inv-loop μ-loop
 unfolding contentCodec
 loop-again c = (omega arith, run-more contentCodec (contentIn (c .before .before .before .before .before .args .st)) (c .before .before .before .before .before .args .tape .now) (c .before .before .before .before .before .args .at) (c .before .before .before .loop .i) _ refl _ (c .before .content-ids-ok .ensures) (not-false _ (c .if1 .left)) (c .before .before .before .loop .inv .1))
 
--- src/lib.rt:102:1
 returns-2 : tie.Need-returns-2 Inv-loop μ-loop
 returns-2 c = run-passed contentCodec (contentIn (c .before .before .before .args .st)) (c .before .before .before .args .tape .now) (c .before .before .before .args .at) _ (c .before .loop .i) (omega arith) (c .before .loop .inv .1)
 

@@ -7,19 +7,15 @@ use Rattle.ids.proofs.ids_ok.Lts as lts
 use Rattle.ids.proofs.layers_ids_ok.Reads as layers-ids-ok-reads
 use Rattle.ids.proofs.nodes_ids_ok.Reads as nodes-ids-ok-reads
 
--- src/lib.rt:196:9
 layers-ids-ok-requires : tie.Need-layers-ids-ok-requires
 layers-ids-ok-requires c κs = ids-layers (c .before .pre)
 
--- src/lib.rt:197:9
 returns : tie.Need-returns
 returns c = ids-failed (c .before .before .before .pre) (c .before .layers-ids-ok .ensures) (not-true _ (c .if1 .taken))
 
--- src/lib.rt:199:5
 nodes-ids-ok-requires : tie.Need-nodes-ids-ok-requires
 nodes-ids-ok-requires c κs = (ids-nodes (c .before .before .before .pre), c .before .before .before .pre .few)
 
--- src/lib.rt:192:1
 returns-2 : tie.Need-returns-2
 returns-2 c = ids-answer (c .before .before .before .before .pre) (c .before .before .layers-ids-ok .ensures) (not-false _ (c .before .if1 .left)) (c .nodes-ids-ok .ensures)
 

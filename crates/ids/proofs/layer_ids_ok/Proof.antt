@@ -8,19 +8,15 @@ use Rattle.ids.proofs.layer_ids_ok.Lts as lts
 use Rattle.ids.proofs.contents_ids_ok.Reads as contents-ids-ok-reads
 use Rattle.ids.proofs.segments_ids_ok.Reads as segments-ids-ok-reads
 
--- src/lib.rt:168:9
 contents-ids-ok-requires : tie.Need-contents-ids-ok-requires
 contents-ids-ok-requires c κs = search needs
 
--- src/lib.rt:169:9
 returns : tie.Need-returns
 returns c = runs-failed (c .before .before .before .args .tape .now) (c .before .before .before .args .st) (c .before .before .before .args .l) (c .before .contents-ids-ok .ensures) (not-true _ (c .if1 .taken))
 
--- src/lib.rt:171:5
 segments-ids-ok-requires : tie.Need-segments-ids-ok-requires
 segments-ids-ok-requires c κs = search needs
 
--- src/lib.rt:164:1
 returns-2 : tie.Need-returns-2
 returns-2 c = runs-answer (c .before .before .before .before .args .tape .now) (c .before .before .before .before .args .st) (c .before .before .before .before .args .l) (c .before .before .contents-ids-ok .ensures) (not-false _ (c .before .if1 .left)) (c .segments-ids-ok .ensures)
 

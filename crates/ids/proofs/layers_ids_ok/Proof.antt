@@ -15,35 +15,27 @@ Inv-loop tape st layers at₀ i₀ at i = (i ≤ layers) × Walked tape st i at
 abbrev μ-loop : tie.MeasureT-loop
 μ-loop tape st layers at₀ i₀ at i = layers - i
 
--- src/lib.rt:180:5
 loop-holds : tie.Need-loop-holds Inv-loop μ-loop
 loop-holds c = (omega arith, walked-none _ _)
 
--- src/lib.rt:181:13
 next-layer-requires : tie.Need-next-layer-requires Inv-loop μ-loop
 next-layer-requires c κs = walked-inside (c .before .loop .inv .1) (c .before .before .before .pre) (c .loop-test .taken)
 
--- src/lib.rt:182:13
 layer-ids-ok-requires : tie.Need-layer-ids-ok-requires Inv-loop μ-loop
 layer-ids-ok-requires c κs = walked-fits (c .before .before .loop .inv .1) (c .before .before .before .before .pre) (c .before .loop-test .taken) (c .next-layer .ensures)
 
--- src/lib.rt:183:13
 returns : tie.Need-returns Inv-loop μ-loop
 returns c = walked-failed (c .before .before .before .before .loop .inv .1) (c .before .before .before .before .before .before .pre) (c .before .before .before .loop-test .taken) (c .before .before .next-layer .ensures) (c .before .layer-ids-ok .ensures) (not-true _ (c .if1 .taken))
 
--- src/lib.rt:186:9
 add-i : tie.Need-add-i Inv-loop μ-loop
 add-i c = omega arith
 
--- src/lib.rt:180:5
 loop-less : tie.Need-loop-less Inv-loop μ-loop
 loop-less c = omega arith
 
--- src/lib.rt:180:5
 loop-again : tie.Need-loop-again Inv-loop μ-loop
 loop-again c = (omega arith, walked-more (c .before .before .before .before .loop .inv .1) (c .before .before .before .before .before .before .pre) (c .before .before .before .loop-test .taken) (c .before .before .next-layer .ensures) (c .before .layer-ids-ok .ensures) (not-false _ (c .if1 .left)))
 
--- src/lib.rt:174:1
 returns-2 : tie.Need-returns-2 Inv-loop μ-loop
 returns-2 c = walked-all (c .before .loop .inv .1) (c .before .before .before .pre) (c .loop-test .left)
 

@@ -6,19 +6,15 @@ use Rattle.ids.proofs.next_word.Reads as reads
 use Rattle.ids.proofs.next_word.Lts as lts
 use Rattle.records.proofs.body_word.Reads as body-word-reads
 
--- src/lib.rt:57:9
 returns : tie.Need-returns
 returns c = no-seventh _ _ _ (c .if1 .taken) (c .before .before .pre .1)
 
--- src/lib.rt:59:34
 add-body-word : tie.Need-add-body-word
 add-body-word c = search needs
 
--- src/lib.rt:59:5
 body-word-requires : tie.Need-body-word-requires
 body-word-requires c κs = search needs
 
--- src/lib.rt:52:1
 returns-2 : tie.Need-returns-2
 returns-2 c = search needs
 

@@ -6,27 +6,21 @@ use Rattle.ids.proofs.node_ids_ok.Reads as reads
 use Rattle.ids.proofs.node_ids_ok.Lts as lts
 use Rattle.ids.proofs.body_ids_ok.Reads as body-ids-ok-reads
 
--- src/lib.rt:142:18
 add-if1 : tie.Need-add-if1
 add-if1 c = search needs
 
--- src/lib.rt:142:13
 shared-slice-read-if1 : tie.Need-shared-slice-read-if1
 shared-slice-read-if1 c = search needs
 
--- src/lib.rt:143:9
 returns : tie.Need-returns
 returns c = node-bare (c .before .before .before .args .st) (c .before .before .before .args .tape .now) (c .before .before .before .args .at) (c .if1 .taken)
 
--- src/lib.rt:145:27
 add-body-ids-ok : tie.Need-add-body-ids-ok
 add-body-ids-ok c = search needs
 
--- src/lib.rt:145:5
 body-ids-ok-requires : tie.Need-body-ids-ok-requires
 body-ids-ok-requires c κs = search needs
 
--- src/lib.rt:138:1
 returns-2 : tie.Need-returns-2
 returns-2 c = node-answer (c .before .before .before .before .args .st) (c .before .before .before .before .args .tape .now) (c .before .before .before .before .args .at) _ (c .before .if1 .left) (c .body-ids-ok .ensures)
 

@@ -18,41 +18,32 @@ Inv-loop tape st at count i₀ i = (i ≤ count) × Passed (testAt nodeCodec (no
 abbrev μ-loop : tie.MeasureT-loop
 μ-loop tape st at count i₀ i = count - i
 
--- src/lib.rt:153:5
 loop-holds : tie.Need-loop-holds Inv-loop μ-loop
 loop-holds c = (omega arith, passed-none _)
 
--- src/lib.rt:154:40
 mul-node-ids-ok : tie.Need-mul-node-ids-ok Inv-loop μ-loop
 mul-node-ids-ok c = omega arith
 
--- src/lib.rt:154:35
 add-node-ids-ok : tie.Need-add-node-ids-ok Inv-loop μ-loop
 add-node-ids-ok c = omega arith
 
--- src/lib.rt:154:13
 node-ids-ok-requires : tie.Need-node-ids-ok-requires Inv-loop μ-loop
 node-ids-ok-requires c κs = (omega arith, c .before .before .before .pre .1)
 
--- src/lib.rt:155:13
 returns : tie.Need-returns Inv-loop μ-loop
 unfolding nodeCodec
 returns c = run-failed nodeCodec (nodeIn (c .before .before .before .before .before .args .st)) (c .before .before .before .before .before .args .tape .now) (c .before .before .before .before .before .args .at) (c .before .before .before .loop .i) _ refl _ (c .before .node-ids-ok .ensures) _ (c .before .before .loop-test .taken) (not-true _ (c .if1 .taken))
 
--- src/lib.rt:157:9
 add-i : tie.Need-add-i Inv-loop μ-loop
 add-i c = omega arith
 
--- src/lib.rt:153:5
 loop-less : tie.Need-loop-less Inv-loop μ-loop
 loop-less c = omega arith
 
--- src/lib.rt:153:5
 loop-again : tie.Need-loop-again Inv-loop μ-loop
 unfolding nodeCodec
 loop-again c = (omega arith, run-more nodeCodec (nodeIn (c .before .before .before .before .before .args .st)) (c .before .before .before .before .before .args .tape .now) (c .before .before .before .before .before .args .at) (c .before .before .before .loop .i) _ refl _ (c .before .node-ids-ok .ensures) (not-false _ (c .if1 .left)) (c .before .before .before .loop .inv .1))
 
--- src/lib.rt:148:1
 returns-2 : tie.Need-returns-2 Inv-loop μ-loop
 returns-2 c = run-passed nodeCodec (nodeIn (c .before .before .before .args .st)) (c .before .before .before .args .tape .now) (c .before .before .before .args .at) _ (c .before .loop .i) (omega arith) (c .before .loop .inv .1)
 

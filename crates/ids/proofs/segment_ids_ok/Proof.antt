@@ -6,15 +6,12 @@ use Rattle.ids.proofs.segment_ids_ok.Reads as reads
 use Rattle.ids.proofs.segment_ids_ok.Lts as lts
 use Rattle.ids.proofs.body_ids_ok.Reads as body-ids-ok-reads
 
--- src/lib.rt:120:27
 add-body-ids-ok : tie.Need-add-body-ids-ok
 add-body-ids-ok c = search needs
 
--- src/lib.rt:120:5
 body-ids-ok-requires : tie.Need-body-ids-ok-requires
 body-ids-ok-requires c κs = search needs
 
--- src/lib.rt:116:1
 returns : tie.Need-returns
 returns c = segment-answer (c .before .before .args .st) (c .before .before .args .tape .now) (c .before .before .args .at) _ (c .body-ids-ok .ensures)
 

@@ -18,41 +18,32 @@ Inv-loop tape st at count i₀ i = (i ≤ count) × Passed (testAt segmentCodec 
 abbrev μ-loop : tie.MeasureT-loop
 μ-loop tape st at count i₀ i = count - i
 
--- src/lib.rt:128:5
 loop-holds : tie.Need-loop-holds Inv-loop μ-loop
 loop-holds c = (omega arith, passed-none _)
 
--- src/lib.rt:129:43
 mul-segment-ids-ok : tie.Need-mul-segment-ids-ok Inv-loop μ-loop
 mul-segment-ids-ok c = omega arith
 
--- src/lib.rt:129:38
 add-segment-ids-ok : tie.Need-add-segment-ids-ok Inv-loop μ-loop
 add-segment-ids-ok c = omega arith
 
--- src/lib.rt:129:13
 segment-ids-ok-requires : tie.Need-segment-ids-ok-requires Inv-loop μ-loop
 segment-ids-ok-requires c κs = (omega arith, c .before .before .before .pre .1)
 
--- src/lib.rt:130:13
 returns : tie.Need-returns Inv-loop μ-loop
 unfolding segmentCodec
 returns c = run-failed segmentCodec (segmentIn (c .before .before .before .before .before .args .st)) (c .before .before .before .before .before .args .tape .now) (c .before .before .before .before .before .args .at) (c .before .before .before .loop .i) _ refl _ (c .before .segment-ids-ok .ensures) _ (c .before .before .loop-test .taken) (not-true _ (c .if1 .taken))
 
--- src/lib.rt:132:9
 add-i : tie.Need-add-i Inv-loop μ-loop
 add-i c = omega arith
 
--- src/lib.rt:128:5
 loop-less : tie.Need-loop-less Inv-loop μ-loop
 loop-less c = omega arith
 
--- src/lib.rt:128:5
 loop-again : tie.Need-loop-again Inv-loop μ-loop
 unfolding segmentCodec
 loop-again c = (omega arith, run-more segmentCodec (segmentIn (c .before .before .before .before .before .args .st)) (c .before .before .before .before .before .args .tape .now) (c .before .before .before .before .before .args .at) (c .before .before .before .loop .i) _ refl _ (c .before .segment-ids-ok .ensures) (not-false _ (c .if1 .left)) (c .before .before .before .loop .inv .1))
 
--- src/lib.rt:123:1
 returns-2 : tie.Need-returns-2 Inv-loop μ-loop
 returns-2 c = run-passed segmentCodec (segmentIn (c .before .before .before .args .st)) (c .before .before .before .args .tape .now) (c .before .before .before .args .at) _ (c .before .loop .i) (omega arith) (c .before .loop .inv .1)
 

@@ -9,43 +9,33 @@ use Rattle.ids.proofs.contents_in.Reads as contents-in-reads
 use Rattle.ids.proofs.segments_in.Reads as segments-in-reads
 use Rattle.store.proofs.id_ok.Reads as id-ok-reads
 
--- src/lib.rt:34:9
 id-ok-requires : tie.Need-id-ok-requires
 id-ok-requires c κs = search needs
 
--- src/lib.rt:34:9
 returns : tie.Need-returns
 returns c = c .id-ok .ensures ∙ sym (used-string (c .before .before .args .st) (c .before .before .args .usage) (c .before .before .args .w) (c .before .before .args .next) (c .before .if1 .taken))
 
--- src/lib.rt:38:13
 returns-2 : tie.Need-returns-2
 returns-2 c = sym (used-missing (c .before .before .before .args .st) (c .before .before .before .args .usage) (c .before .before .before .args .w) (c .before .before .before .args .next) (c .before .if2 .taken) (c .if3 .taken))
 
--- src/lib.rt:40:9
 id-ok-requires-2 : tie.Need-id-ok-requires-2
 id-ok-requires-2 c κs = search needs
 
--- src/lib.rt:40:9
 returns-3 : tie.Need-returns-3
 returns-3 c = c .id-ok2 .ensures ∙ sym (used-optional (c .before .before .before .before .args .st) (c .before .before .before .before .args .usage) (c .before .before .before .before .args .w) (c .before .before .before .before .args .next) (c .before .before .if2 .taken) (c .before .if3 .left))
 
--- src/lib.rt:43:9
 contents-in-requires : tie.Need-contents-in-requires
 contents-in-requires c κs = search needs
 
--- src/lib.rt:43:9
 returns-4 : tie.Need-returns-4
 returns-4 c = c .contents-in .ensures ∙ sym (used-contents (c .before .before .before .before .args .st) (c .before .before .before .before .args .usage) (c .before .before .before .before .args .w) (c .before .before .before .before .args .next) (c .before .if4 .taken))
 
--- src/lib.rt:46:9
 segments-in-requires : tie.Need-segments-in-requires
 segments-in-requires c κs = search needs
 
--- src/lib.rt:46:9
 returns-5 : tie.Need-returns-5
 returns-5 c = c .segments-in .ensures ∙ sym (used-segments (c .before .before .before .before .before .args .st) (c .before .before .before .before .before .args .usage) (c .before .before .before .before .before .args .w) (c .before .before .before .before .before .args .next) (c .before .if5 .taken))
 
--- src/lib.rt:29:1
 returns-6 : tie.Need-returns-6
 returns-6 c = sym (used-not (c .before .before .before .before .args .st) (c .before .before .before .before .args .usage) (c .before .before .before .before .args .w) (c .before .before .before .before .args .next) (c .before .before .before .if1 .left) (c .before .before .if2 .left) (c .before .if4 .left) (c .if5 .left))
 

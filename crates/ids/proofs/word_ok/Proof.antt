@@ -10,35 +10,27 @@ use Rattle.ids.proofs.used_well.Reads as used-well-reads
 use Rattle.records.proofs.body_word.Reads as body-word-reads
 use Rattle.records.proofs.word_use.Reads as word-use-reads
 
--- src/lib.rt:67:35
 shared-slice-read-word-use : tie.Need-shared-slice-read-word-use
 shared-slice-read-word-use c = search needs
 
--- src/lib.rt:67:50
 add-word-use : tie.Need-add-word-use
 add-word-use c = search needs
 
--- src/lib.rt:67:45
 shared-slice-read-word-use-2 : tie.Need-shared-slice-read-word-use-2
 shared-slice-read-word-use-2 c = search needs
 
--- src/lib.rt:67:9
 word-use-requires : tie.Need-word-use-requires
 word-use-requires c κs = search needs
 
--- src/lib.rt:68:9
 body-word-requires : tie.Need-body-word-requires
 body-word-requires c κs = search needs
 
--- src/lib.rt:69:9
 next-word-requires : tie.Need-next-word-requires
 next-word-requires c κs = search needs
 
--- src/lib.rt:70:5
 used-well-requires : tie.Need-used-well-requires
 used-well-requires c κs = search needs
 
--- src/lib.rt:63:1
 returns : tie.Need-returns
 returns c = c .used-well .ensures ∙ word-read (c .before .before .before .before .before .before .before .args .st) (c .before .before .before .before .before .before .before .args .tape .now) (c .before .before .before .before .before .before .before .args .at) (c .before .before .before .before .before .before .before .args .i) _ _ _ (c .before .before .before .word-use .ensures) (c .before .before .body-word .ensures) (c .before .next-word .ensures)
 

@@ -10,83 +10,63 @@ use Rattle.incremental.proofs.cut_refusal.Lts as lts
 use Rattle.introduces.proofs.introduces_ruby_format_dependency.Reads as introduces-ruby-format-dependency-reads
 use Rattle.reading.proofs.cuts_ok.Reads as cuts-ok-reads
 
--- src/lib.rt:110:8
 introduces-ruby-format-dependency-requires : tie.Need-introduces-ruby-format-dependency-requires
 introduces-ruby-format-dependency-requires c κs = search needs
 
--- src/lib.rt:123:9
 same-length : tie.Need-same-length
 same-length c = search needs
 
--- src/lib.rt:123:9
 returns : tie.Need-returns
 returns c = λ e. refused-15 (c .before .before .before .before .before .before .before .before .before .before .pre .0 .0) (c .before .before .before .before .before .before .before .before .before .before .pre .0 .1) e _ (c .before .before .before .introduces-ruby-format-dependency .ensures) (c .if1 .taken)
 
--- src/lib.rt:125:17
 cast-first : tie.Need-cast-first
 cast-first c = search needs
 
--- src/lib.rt:126:44
 cast-normalized : tie.Need-cast-normalized
 cast-normalized c = search needs
 
--- src/lib.rt:126:36
 add-normalized : tie.Need-add-normalized
 add-normalized c = search needs
 
--- src/lib.rt:126:22
 sub-normalized : tie.Need-sub-normalized
 sub-normalized c = search needs
 
--- src/lib.rt:126:22
 part-normalized-start : tie.Need-part-normalized-start
 part-normalized-start c = search needs
 
--- src/lib.rt:126:22
 part-normalized-end : tie.Need-part-normalized-end
 part-normalized-end c = omega (arith, held-texts (c .before .before .before .before .before .before .before .before .before .before .before .before .pre .0 .0))
 
--- src/lib.rt:127:38
 cast-cuts-ok : tie.Need-cast-cuts-ok
 cast-cuts-ok c = search needs
 
--- src/lib.rt:127:57
 cast-cuts-ok-2 : tie.Need-cast-cuts-ok-2
 cast-cuts-ok-2 c = search needs
 
--- src/lib.rt:127:9
 cuts-ok-requires : tie.Need-cuts-ok-requires
 cuts-ok-requires c κs = search needs
 
--- src/lib.rt:128:9
 same-length-2 : tie.Need-same-length-2
 same-length-2 c = search needs
 
--- src/lib.rt:128:9
 returns-2 : tie.Need-returns-2
 returns-2 c = λ e. refused-16 (c .before .before .before .before .before .before .before .before .before .before .before .before .before .before .before .before .before .pre .0 .0) (c .before .before .before .before .before .before .before .before .before .before .before .before .before .before .before .before .before .pre .0 .1) e _ (c .before .before .before .before .before .before .before .before .before .before .introduces-ruby-format-dependency .ensures) (c .before .before .before .before .before .before .before .if1 .left) (c .before .before .before .before .before .before .before .before .before .before .before .before .before .before .before .before .before .pre .1 .0) (c .before .before .before .before .before .before .before .before .before .before .before .before .before .before .before .before .before .pre .1 .1) refl refl (c .before .cuts-ok .ensures) (not-true _ (c .if2 .taken))
 
--- src/lib.rt:131:9
 same-length-3 : tie.Need-same-length-3
 same-length-3 c = search needs
 
--- src/lib.rt:131:9
 returns-3 : tie.Need-returns-3
 returns-3 c = λ e. refused-none (c .before .before .before .before .before .before .before .before .before .before .before .before .before .before .before .before .before .before .before .pre .0 .0) (c .before .before .before .before .before .before .before .before .before .before .before .before .before .before .before .before .before .before .before .pre .0 .1) e _ (c .before .before .before .before .before .before .before .before .before .before .before .before .introduces-ruby-format-dependency .ensures) (c .before .before .before .before .before .before .before .before .before .if1 .left) (c .before .before .before .before .before .before .before .before .before .before .before .before .before .before .before .before .before .before .before .pre .1 .0) (c .before .before .before .before .before .before .before .before .before .before .before .before .before .before .before .before .before .before .before .pre .1 .1) refl refl (c .before .before .before .cuts-ok .ensures) (not-false _ (c .before .before .if2 .left)) (missing-none (c .before .before .before .before .before .before .before .before .before .before .before .before .before .before .before .before .before .before .before .pre .0 .0) (c .before .before .before .before .before .before .before .before .before .before .before .before .before .before .before .before .before .before .before .pre .0 .1) (c .if3 .taken))
 
--- src/lib.rt:134:9
 same-length-4 : tie.Need-same-length-4
 same-length-4 c = search needs
 
--- src/lib.rt:134:9
 returns-4 : tie.Need-returns-4
 returns-4 c = λ e. refused-none (c .before .before .before .before .before .before .before .before .before .before .before .before .before .before .before .before .before .before .before .before .before .pre .0 .0) (c .before .before .before .before .before .before .before .before .before .before .before .before .before .before .before .before .before .before .before .before .before .pre .0 .1) e _ (c .before .before .before .before .before .before .before .before .before .before .before .before .before .before .introduces-ruby-format-dependency .ensures) (c .before .before .before .before .before .before .before .before .before .before .before .if1 .left) (c .before .before .before .before .before .before .before .before .before .before .before .before .before .before .before .before .before .before .before .before .before .pre .1 .0) (c .before .before .before .before .before .before .before .before .before .before .before .before .before .before .before .before .before .before .before .before .before .pre .1 .1) refl refl (c .before .before .before .before .before .cuts-ok .ensures) (not-false _ (c .before .before .before .before .if2 .left)) (missing-free (c .before .before .before .before .before .before .before .before .before .before .before .before .before .before .before .before .before .before .before .before .before .pre .0 .0) (c .before .before .before .before .before .before .before .before .before .before .before .before .before .before .before .before .before .before .before .before .before .pre .0 .1) (c .before .before .if3 .left) (c .if4 .taken))
 
--- src/lib.rt:94:1
 same-length-5 : tie.Need-same-length-5
 same-length-5 c = search needs
 
--- src/lib.rt:94:1
 returns-5 : tie.Need-returns-5
 returns-5 c = λ e. refused-17 (c .before .before .before .before .before .before .before .before .before .before .before .before .before .before .before .before .before .before .before .before .before .pre .0 .0) (c .before .before .before .before .before .before .before .before .before .before .before .before .before .before .before .before .before .before .before .before .before .pre .0 .1) e _ (c .before .before .before .before .before .before .before .before .before .before .before .before .before .before .introduces-ruby-format-dependency .ensures) (c .before .before .before .before .before .before .before .before .before .before .before .if1 .left) (c .before .before .before .before .before .before .before .before .before .before .before .before .before .before .before .before .before .before .before .before .before .pre .1 .0) (c .before .before .before .before .before .before .before .before .before .before .before .before .before .before .before .before .before .before .before .before .before .pre .1 .1) refl refl (c .before .before .before .before .before .cuts-ok .ensures) (not-false _ (c .before .before .before .before .if2 .left)) (missing-full (c .before .before .before .before .before .before .before .before .before .before .before .before .before .before .before .before .before .before .before .before .before .pre .0 .0) (c .before .before .before .before .before .before .before .before .before .before .before .before .before .before .before .before .before .before .before .before .before .pre .0 .1) (c .before .before .if3 .left) (c .if4 .left))
 

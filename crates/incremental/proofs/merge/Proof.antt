@@ -9,35 +9,27 @@ use Rattle.incremental.proofs.merge_checked.Reads as merge-checked-read
 use Rattle.table.proofs.clear_part.Reads as clear-part-reads
 use Rattle.wire.proofs.zero_from.Reads as zero-from-reads
 
--- src/lib.rt:345:9
 merge-checked-requires : tie.Need-merge-checked-requires
 merge-checked-requires c κs = search needs
 
--- src/lib.rt:357:5
 zero-from-requires : tie.Need-zero-from-requires
 zero-from-requires c κs = tape-within _ (c .before .before .before .before .before .before .before .merge-checked .ensures)
 
--- src/lib.rt:358:5
 zero-from-requires-2 : tie.Need-zero-from-requires-2
 zero-from-requires-2 c κs = bytes-within _ (c .before .before .before .before .before .before .before .before .before .before .before .merge-checked .ensures)
 
--- src/lib.rt:360:5
 clear-part-requires : tie.Need-clear-part-requires
 clear-part-requires c κs = search needs
 
--- src/lib.rt:331:1
 same-length : tie.Need-same-length
 same-length c = search needs
 
--- src/lib.rt:331:1
 same-length-2 : tie.Need-same-length-2
 same-length-2 c = search needs
 
--- src/lib.rt:331:1
 same-length-3 : tie.Need-same-length-3
 same-length-3 c = search needs
 
--- src/lib.rt:331:1
 returns : tie.Need-returns
 returns c = merged _ (c .before .before .before .before .before .before .before .before .before .before .before .before .before .before .before .before .before .before .merge-checked .ensures) (c .before .before .before .before .before .before .before .before .before .before .zero-from .ensures) (c .before .before .before .before .before .before .zero-from2 .ensures) (words-cleared (c .before .before .before .before .before .before .before .before .before .before .before .before .before .before .before .before .before .before .merge-checked .last .1 .1 .1 .1 .1 .1 .1 .1 .1 .0) refl (c .before .before .clear-part .ensures))
 

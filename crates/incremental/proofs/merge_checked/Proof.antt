@@ -16,71 +16,54 @@ use Rattle.region.proofs.index_words.Reads as index-words-reads
 use Rattle.store.proofs.store_of.Reads as store-of-reads
 use Rattle.tape.proofs.check_book.Reads as check-book-reads
 
--- src/lib.rt:73:9
 check-book-requires : tie.Need-check-book-requires
 check-book-requires c κs = search needs
 
--- src/lib.rt:75:9
 refused-output-requires : tie.Need-refused-output-requires
 refused-output-requires c κs = search needs
 
--- src/lib.rt:75:9
 returns : tie.Need-returns
 returns c = written-refused (book-refused _ _ (c .before .before .check-book .ensures) (c .before .if1 .taken) _ _ _ _) (c .refused-output .ensures) refl refl refl
 
--- src/lib.rt:77:9
 places-of-requires : tie.Need-places-of-requires
 places-of-requires c κs = search needs
 
--- src/lib.rt:78:9
 store-of-requires : tie.Need-store-of-requires
 store-of-requires c κs = choose-store _ _ (c .before .before .check-book .ensures) (c .before .if1 .left) (c .places-of .ensures)
 
--- src/lib.rt:80:5
 index-words-requires : tie.Need-index-words-requires
 index-words-requires c κs = (choose-readable _ _ (c .before .before .before .before .check-book .ensures) (c .before .before .before .if1 .left) (c .before .before .places-of .ensures) (c .before .store-of .ensures) (omega (arith, c .before .before .before .before .before .before .before .before .before .before .before .before .before .good)), omega arith)
 
--- src/lib.rt:81:9
 chosen-region-requires : tie.Need-chosen-region-requires
 chosen-region-requires c κs = (choose-ready _ _ (c .before .before .before .before .before .before .before .before .check-book .ensures) (c .before .before .before .before .before .before .before .if1 .left) (c .before .before .before .before .before .before .places-of .ensures) (c .before .before .before .before .before .store-of .ensures) (words-indexed _ _ _ (omega arith) (c .before .before .before .index-words .ensures)), omega (arith, c .before .before .before .index-words .kept .1 .1 .1 .0))
 
--- src/lib.rt:83:25
 enum-known-found : tie.Need-enum-known-found
 enum-known-found c = search needs
 
--- src/lib.rt:84:13
 refused-output-requires-2 : tie.Need-refused-output-requires-2
 refused-output-requires-2 c κs = search needs
 
--- src/lib.rt:84:13
 same-length : tie.Need-same-length
 same-length c = search needs
 
--- src/lib.rt:84:13
 returns-2 : tie.Need-returns-2
 returns-2 c = written-refused (edit-refused _ _ (c .before .before .before .before .before .before .before .before .before .before .before .before .before .before .before .check-book .ensures) (c .before .before .before .before .before .before .before .before .before .before .before .before .before .before .if1 .left) _ (c .before .before .before .before .before .before .chosen-region .ensures) (c .before .before .found .given .1) _ _ _) (c .refused-output2 .ensures) refl refl (c .before .before .before .before .before .before .chosen-region .kept .1 .1 .1 .1 .0 ∙ c .before .before .before .before .before .before .before .before .before .before .index-words .kept .1 .1 .1 .0)
 
--- src/lib.rt:86:24
 enum-known-found-2 : tie.Need-enum-known-found-2
 enum-known-found-2 c = search needs
 
--- src/lib.rt:87:13
 merge-reading-requires : tie.Need-merge-reading-requires
 merge-reading-requires c κs = edit-chosen _ _ (c .before .before .before .before .before .before .before .before .before .before .before .before .before .before .before .before .before .check-book .ensures) (c .before .before .before .before .before .before .before .before .before .before .before .before .before .before .before .before .if1 .left) _ (c .before .before .before .before .before .before .before .before .chosen-region .ensures) (c .before .before .before .before .found2 .given .1) (c .before .before .before .before .before .before .before .before .before .before .before .before .before .before .before .places-of .ensures) (c .before .before .before .before .before .before .before .before .before .before .before .before .before .before .store-of .ensures)
 
--- src/lib.rt:87:13
 same-length-2 : tie.Need-same-length-2
 same-length-2 c = search needs
 
--- src/lib.rt:87:13
 same-length-3 : tie.Need-same-length-3
 same-length-3 c = search needs
 
--- src/lib.rt:87:13
 same-length-4 : tie.Need-same-length-4
 same-length-4 c = search needs
 
--- src/lib.rt:87:13
 returns-3 : tie.Need-returns-3
 returns-3 c = written-later _ _ (askedReading _ _ _ _ _) (asked-chosen _ _ (c .before .before .before .before .before .before .before .before .before .before .before .before .before .before .before .before .before .before .before .before .before .before .before .before .check-book .ensures) (c .before .before .before .before .before .before .before .before .before .before .before .before .before .before .before .before .before .before .before .before .before .before .before .if1 .left) _ (c .before .before .before .before .before .before .before .before .before .before .before .before .before .before .before .chosen-region .ensures) (c .before .before .before .before .before .before .before .before .before .before .before .found2 .given .1) _ _ _) (c .before .before .before .before .before .before .before .before .before .before .before .before .before .before .before .chosen-region .kept .1 .1 .1 .1 .0 ∙ c .before .before .before .before .before .before .before .before .before .before .before .before .before .before .before .before .before .before .before .index-words .kept .1 .1 .1 .0) (c .before .before .before .before .before .before .merge-reading .ensures)
 

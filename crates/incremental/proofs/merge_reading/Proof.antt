@@ -12,43 +12,33 @@ use Rattle.places.proofs.places_of.Reads as places-of-reads
 use Rattle.store.proofs.store_of.Reads as store-of-reads
 use Rattle.tape.proofs.check_reading.Reads as check-reading-reads
 
--- src/lib.rt:293:9
 check-reading-requires : tie.Need-check-reading-requires
 check-reading-requires c κs = search needs
 
--- src/lib.rt:295:9
 refused-output-requires : tie.Need-refused-output-requires
 refused-output-requires c κs = search needs
 
--- src/lib.rt:295:9
 returns : tie.Need-returns
 returns c = written-refused (reading-refused _ _ _ _ _ _ (c .before .before .check-reading .ensures) (c .before .if1 .taken)) (c .refused-output .ensures) refl refl refl
 
--- src/lib.rt:297:9
 places-of-requires : tie.Need-places-of-requires
 places-of-requires c κs = search needs
 
--- src/lib.rt:298:9
 store-of-requires : tie.Need-store-of-requires
 store-of-requires c κs = reading-store _ _ (c .before .before .check-reading .ensures) (c .before .if1 .left) (c .places-of .ensures)
 
--- src/lib.rt:299:5
 merge-read-requires : tie.Need-merge-read-requires
 merge-read-requires c κs = reading-read _ _ (c .before .before .before .before .before .before .check-reading .ensures) (c .before .before .before .before .before .if1 .left) (c .before .before .before .before .before .before .before .before .before .before .before .before .before .before .before .pre) (c .before .before .before .before .places-of .ensures) (c .before .before .before .store-of .ensures)
 
--- src/lib.rt:274:1
 same-length : tie.Need-same-length
 same-length c = search needs
 
--- src/lib.rt:274:1
 same-length-2 : tie.Need-same-length-2
 same-length-2 c = search needs
 
--- src/lib.rt:274:1
 same-length-3 : tie.Need-same-length-3
 same-length-3 c = search needs
 
--- src/lib.rt:274:1
 returns-2 : tie.Need-returns-2
 returns-2 c = written-later _ _ (mergeBooks _ _ _ _) (reading-asked _ _ _ _ _ _ (c .before .before .before .before .before .before .before .before .before .before .before .before .before .check-reading .ensures) (c .before .before .before .before .before .before .before .before .before .before .before .before .if1 .left)) refl (c .before .before .before .before .before .before .merge-read .ensures)
 

@@ -12,72 +12,55 @@ use Rattle.reading.proofs.balanced_nodes.Reads as balanced-nodes-reads
 use Rattle.reading.proofs.has_unclosed.Reads as has-unclosed-reads
 use Rattle.reading.proofs.is_region_text.Reads as is-region-text-reads
 
--- src/lib.rt:159:26
 cast-text : tie.Need-cast-text
 cast-text c = search needs
 
--- src/lib.rt:159:16
 sub-text : tie.Need-sub-text
 sub-text c = search needs
 
--- src/lib.rt:159:16
 part-text-start : tie.Need-part-text-start
 part-text-start c = search needs
 
--- src/lib.rt:159:16
 part-text-end : tie.Need-part-text-end
 part-text-end c = omega (arith, held-texts (c .before .before .before .before .before .before .before .pre .0 .given .held))
 
--- src/lib.rt:160:37
 cast-own-text : tie.Need-cast-own-text
 cast-own-text c = search needs
 
--- src/lib.rt:160:20
 sub-own-text : tie.Need-sub-own-text
 sub-own-text c = search needs
 
--- src/lib.rt:160:20
 part-own-text-start : tie.Need-part-own-text-start
 part-own-text-start c = search needs
 
--- src/lib.rt:160:20
 part-own-text-end : tie.Need-part-own-text-end
 part-own-text-end c = omega (arith, held-texts (c .before .before .before .before .before .before .before .before .before .pre .0 .held))
 
--- src/lib.rt:161:9
 is-region-text-requires : tie.Need-is-region-text-requires
 unfolding editOf
 is-region-text-requires c κs = region-asked (c .before .before .before .before .before .before .before .before .before .before .pre .0)
 
--- src/lib.rt:162:9
 returns : tie.Need-returns
 returns c = refused-12 (c .before .before .before .before .before .before .before .before .before .before .before .before .pre .0) (c .before .is-region-text .ensures) (not-true _ (c .if1 .taken))
 
--- src/lib.rt:164:9
 balanced-nodes-requires : tie.Need-balanced-nodes-requires
 balanced-nodes-requires c κs = held-nodes (c .before .before .before .before .before .before .before .before .before .before .before .before .pre .0 .held)
 
--- src/lib.rt:165:9
 returns-2 : tie.Need-returns-2
 returns-2 c = refused-13 (c .before .before .before .before .before .before .before .before .before .before .before .before .before .before .pre .0) (c .before .before .before .is-region-text .ensures) (not-false _ (c .before .before .if1 .left)) (c .before .balanced-nodes .ensures) (not-true _ (c .if2 .taken))
 
--- src/lib.rt:167:8
 has-unclosed-requires : tie.Need-has-unclosed-requires
 has-unclosed-requires c κs = held-diagnostics (c .before .before .before .before .before .before .before .before .before .before .before .before .before .before .pre .0 .held)
 
--- src/lib.rt:168:9
 returns-3 : tie.Need-returns-3
 returns-3 c = refused-14 (c .before .before .before .before .before .before .before .before .before .before .before .before .before .before .before .before .pre .0) (c .before .before .before .before .before .is-region-text .ensures) (not-false _ (c .before .before .before .before .if1 .left)) (c .before .before .before .balanced-nodes .ensures) (not-false _ (c .before .before .if2 .left)) (c .before .has-unclosed .ensures) (c .if3 .taken)
 
--- src/lib.rt:170:5
 cut-refusal-requires : tie.Need-cut-refusal-requires
 cut-refusal-requires c κs = ((c .before .before .before .before .before .before .before .before .before .before .before .before .before .before .before .before .before .pre .0 .given .held, c .before .before .before .before .before .before .before .before .before .before .before .before .before .before .before .before .before .pre .0 .held), c .before .before .before .before .before .before .before .before .before .before .before .before .before .before .before .before .before .pre .1)
 
--- src/lib.rt:140:1
 same-length : tie.Need-same-length
 same-length c = search needs
 
--- src/lib.rt:140:1
 returns-4 : tie.Need-returns-4
 returns-4 c = refused-cut (c .before .before .before .before .before .before .before .before .before .before .before .before .before .before .before .before .before .before .before .before .pre .0) (c .before .before .before .before .before .before .before .before .before .is-region-text .ensures) (not-false _ (c .before .before .before .before .before .before .before .before .if1 .left)) (c .before .before .before .before .before .before .before .balanced-nodes .ensures) (not-false _ (c .before .before .before .before .before .before .if2 .left)) (c .before .before .before .before .before .has-unclosed .ensures) (c .before .before .before .before .if3 .left) (c .before .before .cut-refusal .ensures _)
 

@@ -6,31 +6,24 @@ use Rattle.incremental.proofs.window.Reads as reads
 use Rattle.incremental.proofs.window.Lts as lts
 use Rattle.span.proofs.difference.Reads as difference-reads
 
--- src/lib.rt:88:43
 sub-difference : tie.Need-sub-difference
 sub-difference c = search needs
 
--- src/lib.rt:88:42
 cast-difference : tie.Need-cast-difference
 cast-difference c = search needs
 
--- src/lib.rt:88:13
 difference-requires : tie.Need-difference-requires
 difference-requires c κs = search needs
 
--- src/lib.rt:89:51
 sub-difference-2 : tie.Need-sub-difference-2
 sub-difference-2 c = search needs
 
--- src/lib.rt:89:50
 cast-difference-2 : tie.Need-cast-difference-2
 cast-difference-2 c = search needs
 
--- src/lib.rt:89:14
 difference-requires-2 : tie.Need-difference-requires-2
 difference-requires-2 c κs = search needs
 
--- src/lib.rt:70:1
 returns : tie.Need-returns
 returns c = window-made _ _ _ _ (c .before .before .args .len) (c .before .before .args .start) (c .before .before .args .end) (c .before .before .args .normalized) (c .before .difference .result) (c .difference2 .result) (c .before .difference .ensures) (c .difference2 .ensures)
 

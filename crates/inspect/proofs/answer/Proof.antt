@@ -15,79 +15,60 @@ use Rattle.inspect.proofs.wide.Reads as wide-reads
 use Rattle.wire.proofs.between.Reads as between-reads
 use Rattle.wire.proofs.u32_at.Reads as u32-at-reads
 
--- src/main.rt:153:9
 head-refusal-requires : tie.Need-head-refusal-requires
 head-refusal-requires c κs = search needs
 
--- src/main.rt:155:9
 refused-requires : tie.Need-refused-requires
 refused-requires c κs = search needs
 
--- src/main.rt:155:9
 returns : tie.Need-returns
 returns c = answer-head _ (c .before .before .head-refusal .ensures) (c .before .if1 .taken) (c .refused .ensures)
 
--- src/main.rt:157:26
 u32-at-requires : tie.Need-u32-at-requires
 u32-at-requires c κs = omega (arith, (headed _ (c .before .head-refusal .ensures) (c .if1 .left)) .head)
 
--- src/main.rt:157:21
 wide-requires : tie.Need-wide-requires
 wide-requires c κs = search needs
 
--- src/main.rt:157:17
 add-first : tie.Need-add-first
 add-first c = search needs
 
--- src/main.rt:158:27
 u32-at-requires-2 : tie.Need-u32-at-requires-2
 u32-at-requires-2 c κs = omega (arith, (headed _ (c .before .before .before .head-refusal .ensures) (c .before .before .if1 .left)) .head)
 
--- src/main.rt:158:22
 wide-requires-2 : tie.Need-wide-requires-2
 wide-requires-2 c κs = search needs
 
--- src/main.rt:158:14
 add-at : tie.Need-add-at
 add-at c = search needs
 
--- src/main.rt:159:9
 between-requires : tie.Need-between-requires
 between-requires c κs = search needs
 
--- src/main.rt:160:9
 between-requires-2 : tie.Need-between-requires-2
 between-requires-2 c κs = search needs
 
--- src/main.rt:162:9
 book-answer-requires : tie.Need-book-answer-requires
 book-answer-requires c κs = search needs
 
--- src/main.rt:162:9
 returns-2 : tie.Need-returns-2
 returns-2 c = answer-book _ (c .before .before .before .before .before .before .before .before .before .head-refusal .ensures) (c .before .before .before .before .before .before .before .before .if1 .left) (c .before .before .before .before .before .before .wide .ensures ∙ c .before .before .before .before .before .before .before .u32-at .ensures) (c .before .before .before .before .wide2 .ensures ∙ c .before .before .before .before .before .u32-at2 .ensures) (c .before .if2 .taken) (c .before .before .before .between .ensures) (c .before .before .between2 .ensures) (c .book-answer .ensures)
 
--- src/main.rt:164:9
 edit-refusal-requires : tie.Need-edit-refusal-requires
 edit-refusal-requires c κs = omega (arith, (headed _ (c .before .before .before .before .before .before .before .before .head-refusal .ensures) (c .before .before .before .before .before .before .before .if1 .left)) .tape, (headed _ (c .before .before .before .before .before .before .before .before .head-refusal .ensures) (c .before .before .before .before .before .before .before .if1 .left)) .bytes, (c .before .before .before .before .before .wide .ensures ∙ c .before .before .before .before .before .before .u32-at .ensures), (c .before .before .before .wide2 .ensures ∙ c .before .before .before .before .u32-at2 .ensures))
 
--- src/main.rt:166:9
 refused-requires-2 : tie.Need-refused-requires-2
 refused-requires-2 c κs = search needs
 
--- src/main.rt:166:9
 returns-3 : tie.Need-returns-3
 returns-3 c = answer-edit _ (c .before .before .before .before .before .before .before .before .before .before .before .head-refusal .ensures) (c .before .before .before .before .before .before .before .before .before .before .if1 .left) (c .before .before .before .before .before .before .before .before .wide .ensures ∙ c .before .before .before .before .before .before .before .before .before .u32-at .ensures) (c .before .before .before .before .before .before .wide2 .ensures ∙ c .before .before .before .before .before .before .before .u32-at2 .ensures) (c .before .before .before .if2 .left) (c .before .before .edit-refusal .ensures) (c .before .if3 .taken) (c .refused2 .ensures)
 
--- src/main.rt:168:5
 edit-answer-requires : tie.Need-edit-answer-requires
 edit-answer-requires c κs = (omega (arith, (headed _ (c .before .before .before .before .before .before .before .before .before .before .before .head-refusal .ensures) (c .before .before .before .before .before .before .before .before .before .before .if1 .left)) .tape, (headed _ (c .before .before .before .before .before .before .before .before .before .before .before .head-refusal .ensures) (c .before .before .before .before .before .before .before .before .before .before .if1 .left)) .bytes, (c .before .before .before .before .before .before .before .before .wide .ensures ∙ c .before .before .before .before .before .before .before .before .before .u32-at .ensures), (c .before .before .before .before .before .before .wide2 .ensures ∙ c .before .before .before .before .before .before .before .u32-at2 .ensures)), edit-there _ _ (c .before .before .edit-refusal .ensures) (c .before .if3 .left) .0)
 
--- src/main.rt:150:1
 same-length : tie.Need-same-length
 same-length c = search needs
 
--- src/main.rt:150:1
 returns-4 : tie.Need-returns-4
 returns-4 c = answer-region _ (c .before .before .before .before .before .before .before .before .before .before .before .before .before .before .head-refusal .ensures) (c .before .before .before .before .before .before .before .before .before .before .before .before .before .if1 .left) (c .before .before .before .before .before .before .before .before .before .before .before .wide .ensures ∙ c .before .before .before .before .before .before .before .before .before .before .before .before .u32-at .ensures) (c .before .before .before .before .before .before .before .before .before .wide2 .ensures ∙ c .before .before .before .before .before .before .before .before .before .before .u32-at2 .ensures) (c .before .before .before .before .before .before .if2 .left) (c .before .before .before .before .before .edit-refusal .ensures) (c .before .before .before .before .if3 .left) (c .before .before .before .before .before .before .before .before .between .ensures) (c .before .before .before .before .before .before .before .between2 .ensures) (c .before .before .edit-answer .ensures)
 

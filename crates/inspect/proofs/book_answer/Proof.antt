@@ -7,19 +7,15 @@ use Rattle.inspect.proofs.book_answer.Lts as lts
 use Rattle.inspect.proofs.refused.Reads as refused-reads
 use Rattle.tape.proofs.check_book.Reads as check-book-reads
 
--- src/main.rt:87:9
 check-book-requires : tie.Need-check-book-requires
 check-book-requires c κs = search needs
 
--- src/main.rt:89:9
 refused-requires : tie.Need-refused-requires
 refused-requires c κs = search needs
 
--- src/main.rt:89:9
 returns : tie.Need-returns
 returns c = book-refused _ _ (c .before .before .check-book .ensures) (c .before .if1 .taken) (c .refused .ensures)
 
--- src/main.rt:84:1
 returns-2 : tie.Need-returns-2
 returns-2 c = book-shown _ _ (c .before .check-book .ensures) (c .if1 .left)
 

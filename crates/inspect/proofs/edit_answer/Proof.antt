@@ -11,59 +11,45 @@ use Rattle.region.proofs.choose_region.Reads as choose-region-reads
 use Rattle.wire.proofs.between.Reads as between-reads
 use Rattle.wire.proofs.u32_at.Reads as u32-at-reads
 
--- src/main.rt:136:41
 add-u32-at : tie.Need-add-u32-at
 add-u32-at c = search needs
 
--- src/main.rt:136:21
 u32-at-requires : tie.Need-u32-at-requires
 u32-at-requires c κs = search needs
 
--- src/main.rt:136:9
 wide-requires : tie.Need-wide-requires
 wide-requires c κs = search needs
 
--- src/main.rt:137:44
 add-between : tie.Need-add-between
 add-between c = search needs
 
--- src/main.rt:137:53
 add-between-2 : tie.Need-add-between-2
 add-between-2 c = search needs
 
--- src/main.rt:137:53
 add-between-3 : tie.Need-add-between-3
 add-between-3 c = search needs
 
--- src/main.rt:137:9
 between-requires : tie.Need-between-requires
 between-requires c κs = search needs
 
--- src/main.rt:138:9
 u32-at-requires-2 : tie.Need-u32-at-requires-2
 u32-at-requires-2 c κs = search needs
 
--- src/main.rt:139:35
 add-u32-at-2 : tie.Need-add-u32-at-2
 add-u32-at-2 c = search needs
 
--- src/main.rt:139:9
 u32-at-requires-3 : tie.Need-u32-at-requires-3
 u32-at-requires-3 c κs = search needs
 
--- src/main.rt:140:13
 choose-region-requires : tie.Need-choose-region-requires
 choose-region-requires c κs = search needs
 
--- src/main.rt:140:5
 told-by-requires : tie.Need-told-by-requires
 told-by-requires c κs = search needs
 
--- src/main.rt:126:1
 same-length : tie.Need-same-length
 same-length c = search needs
 
--- src/main.rt:126:1
 returns : tie.Need-returns
 returns c = edit-told _ _ _ _ (c .before .before .before .before .before .before .u32-at2 .ensures) (c .before .before .before .before .before .u32-at3 .ensures) (c .before .before .before .before .before .before .before .before .wide .ensures ∙ c .before .before .before .before .before .before .before .before .before .u32-at .ensures) (c .before .before .before .before .before .before .before .between .ensures) (c .before .before .before .choose-region .ensures .0) (c .told-by .ensures)
 

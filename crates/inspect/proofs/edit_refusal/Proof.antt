@@ -8,43 +8,33 @@ use Rattle.inspect.proofs.edit_refusal.Lts as lts
 use Rattle.inspect.proofs.wide.Reads as wide-reads
 use Rattle.wire.proofs.u32_at.Reads as u32-at-reads
 
--- src/main.rt:55:22
 add-if1 : tie.Need-add-if1
 add-if1 c = search needs
 
--- src/main.rt:56:9
 returns : tie.Need-returns
 returns c = edit-short _ _ (c .if1 .taken)
 
--- src/main.rt:58:43
 add-u32-at : tie.Need-add-u32-at
 add-u32-at c = search needs
 
--- src/main.rt:58:9
 u32-at-requires : tie.Need-u32-at-requires
 u32-at-requires c κs = search needs
 
--- src/main.rt:60:9
 returns-2 : tie.Need-returns-2
 returns-2 c = edit-long _ _ (c .before .before .if1 .left) (c .before .u32-at .ensures) (c .if2 .taken)
 
--- src/main.rt:62:23
 add-if3 : tie.Need-add-if3
 add-if3 c = search needs
 
--- src/main.rt:62:33
 wide-requires : tie.Need-wide-requires
 wide-requires c κs = search needs
 
--- src/main.rt:62:23
 add-if3-2 : tie.Need-add-if3-2
 add-if3-2 c = search needs
 
--- src/main.rt:63:9
 returns-3 : tie.Need-returns-3
 returns-3 c = edit-size _ _ (c .before .before .before .before .if1 .left) (c .before .before .before .u32-at .ensures) (c .before .before .if2 .left) (λ e. c .if3 .taken (omega (arith, e, c .before .wide .ensures)))
 
--- src/main.rt:51:1
 returns-4 : tie.Need-returns-4
 returns-4 c = edit-none _ _ (c .before .before .before .before .if1 .left) (c .before .before .before .u32-at .ensures) (c .before .before .if2 .left) (omega (arith, c .if3 .left, c .before .wide .ensures))
 

@@ -7,35 +7,27 @@ use Rattle.inspect.proofs.main.Lts as lts
 use Rattle.inspect.proofs.run.Reads as run-reads
 use Rattle.io.proofs.read_full.Reads as read-full-reads
 
--- src/main.rt:249:41
 slice-aggregate-read-full : tie.Need-slice-aggregate-read-full
 slice-aggregate-read-full c = search needs
 
--- src/main.rt:249:9
 read-full-requires : tie.Need-read-full-requires
 read-full-requires c κs = search needs
 
--- src/main.rt:250:9
 array-share-prefix-input : tie.Need-array-share-prefix-input
 array-share-prefix-input c = search needs
 
--- src/main.rt:250:9
 slice-aggregate-run : tie.Need-slice-aggregate-run
 slice-aggregate-run c = search needs
 
--- src/main.rt:250:22
 slice-aggregate-run-2 : tie.Need-slice-aggregate-run-2
 slice-aggregate-run-2 c = search needs
 
--- src/main.rt:250:34
 slice-aggregate-run-3 : tie.Need-slice-aggregate-run-3
 slice-aggregate-run-3 c = zeros-length 3932866
 
--- src/main.rt:250:5
 run-requires : tie.Need-run-requires
 run-requires c κs = zeros-room 3932866
 
--- src/main.rt:245:1
 returns : tie.Need-returns
 returns c = search needs
 

@@ -6,7 +6,6 @@ use Rattle.inspect.proofs.marked.Tie as tie
 use Rattle.inspect.proofs.marked.Reads as reads
 use Rattle.inspect.proofs.marked.Lts as lts
 
--- src/main.rt:111:1
 returns : tie.Need-returns
 unfolding outcomeOf markOf
 returns c = refl

@@ -9,31 +9,24 @@ use Rattle.listing.proofs.labels.Reads as labels-reads
 use Rattle.places.proofs.places_of.Reads as places-of-reads
 use Rattle.store.proofs.store_of.Reads as store-of-reads
 
--- src/main.rt:219:18
 labels-requires : tie.Need-labels-requires
 labels-requires c κs = search needs
 
--- src/main.rt:220:9
 places-of-requires : tie.Need-places-of-requires
 places-of-requires c κs = search needs
 
--- src/main.rt:221:9
 store-of-requires : tie.Need-store-of-requires
 store-of-requires c κs = shown-store (c .before .before .before .before .before .pre .1) (c .places-of .ensures)
 
--- src/main.rt:222:22
 slice-aggregate-print-lines : tie.Need-slice-aggregate-print-lines
 slice-aggregate-print-lines c = search needs
 
--- src/main.rt:222:5
 print-lines-requires : tie.Need-print-lines-requires
 print-lines-requires c κs = (c .before .before .before .before .before .before .before .before .pre .0, (c .before .before .before .before .labels .ensures, shown-printable (c .before .before .before .before .before .before .before .before .pre .1) (c .before .before .store-of .ensures)))
 
--- src/main.rt:215:1
 same-length : tie.Need-same-length
 same-length c = search needs
 
--- src/main.rt:215:1
 returns : tie.Need-returns
 returns c = search needs
 

@@ -8,27 +8,21 @@ use Rattle.inspect.proofs.print_line.Lts as lts
 use Rattle.io.proofs.write_all.Reads as write-all-reads
 use Rattle.listing.proofs.put_line.Reads as put-line-reads
 
--- src/main.rt:192:9
 put-line-requires : tie.Need-put-line-requires
 put-line-requires c κs = search needs
 
--- src/main.rt:193:34
 slice-reshare-prefix-write-all : tie.Need-slice-reshare-prefix-write-all
 slice-reshare-prefix-write-all c = search needs
 
--- src/main.rt:193:34
 slice-aggregate-write-all : tie.Need-slice-aggregate-write-all
 slice-aggregate-write-all c = sym (length-take-le _ _ (c .before .before .before .put-line .ensures .0))
 
--- src/main.rt:193:5
 write-all-requires : tie.Need-write-all-requires
 write-all-requires c κs = search needs
 
--- src/main.rt:179:1
 same-length : tie.Need-same-length
 same-length c = search needs
 
--- src/main.rt:179:1
 returns : tie.Need-returns
 returns c = search needs
 

@@ -18,35 +18,27 @@ Inv-loop out₀ labels tape bytes st m c₀ out c = (length out ≡ length out�
 abbrev μ-loop : tie.MeasureT-loop
 μ-loop out₀ labels tape bytes st m c₀ out c = length tape - c .at
 
--- src/main.rt:208:9
 first-line-requires : tie.Need-first-line-requires Inv-loop μ-loop
 first-line-requires c κs = search needs
 
--- src/main.rt:209:5
 loop-holds : tie.Need-loop-holds Inv-loop μ-loop
 loop-holds c = (refl, rw (c .first-line .ensures) counted-first)
 
--- src/main.rt:210:9
 print-line-requires : tie.Need-print-line-requires Inv-loop μ-loop
 print-line-requires c κs = ((omega (arith, c .before .before .before .loop .inv .0, c .before .before .before .before .before .before .before .before .before .pre .0), c .before .if1 .taken), (c .before .before .before .before .before .before .before .before .before .pre .1 .0, c .before .before .before .before .before .before .before .before .before .pre .1 .1))
 
--- src/main.rt:211:9
 next-line-requires : tie.Need-next-line-requires Inv-loop μ-loop
 next-line-requires c κs = (c .before .before .before .before .if1 .taken, c .before .before .before .before .before .before .loop .inv .1)
 
--- src/main.rt:209:5
 loop-less : tie.Need-loop-less Inv-loop μ-loop
 loop-less c = omega (arith, next-later _ (c .before .before .before .before .before .before .before .loop .c) (c .next-line .ensures), c .before .before .before .before .before .if1 .taken)
 
--- src/main.rt:209:5
 loop-again : tie.Need-loop-again Inv-loop μ-loop
 loop-again c = (omega (arith, c .before .before .before .print-line .kept .0, c .before .before .before .before .before .before .before .loop .inv .0), counted-next _ (c .before .before .before .before .before .before .before .loop .inv .1) (c .next-line .ensures))
 
--- src/main.rt:196:1
 same-length : tie.Need-same-length Inv-loop μ-loop
 same-length c = c .before .before .loop .inv .0
 
--- src/main.rt:196:1
 returns : tie.Need-returns Inv-loop μ-loop
 returns c = search needs
 

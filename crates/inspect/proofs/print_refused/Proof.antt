@@ -8,27 +8,21 @@ use Rattle.inspect.proofs.print_refused.Lts as lts
 use Rattle.io.proofs.write_all.Reads as write-all-reads
 use Rattle.lines.proofs.put_refused.Reads as put-refused-reads
 
--- src/main.rt:175:32
 slice-aggregate-put-refused : tie.Need-slice-aggregate-put-refused
 slice-aggregate-put-refused c = search needs
 
--- src/main.rt:175:9
 put-refused-requires : tie.Need-put-refused-requires
 put-refused-requires c κs = search needs
 
--- src/main.rt:176:34
 array-share-prefix-out : tie.Need-array-share-prefix-out
 array-share-prefix-out c = search needs
 
--- src/main.rt:176:34
 slice-aggregate-write-all : tie.Need-slice-aggregate-write-all
 slice-aggregate-write-all c = sym (length-take-le _ _ (c .before .before .put-refused .ensures .0))
 
--- src/main.rt:176:5
 write-all-requires : tie.Need-write-all-requires
 write-all-requires c κs = search needs
 
--- src/main.rt:173:1
 returns : tie.Need-returns
 returns c = search needs
 

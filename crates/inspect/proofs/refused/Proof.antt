@@ -6,7 +6,6 @@ use Rattle.inspect.proofs.refused.Tie as tie
 use Rattle.inspect.proofs.refused.Reads as reads
 use Rattle.inspect.proofs.refused.Lts as lts
 
--- src/main.rt:70:1
 returns : tie.Need-returns
 unfolding outcomeOf markOf
 returns c = refl

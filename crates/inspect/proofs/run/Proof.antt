@@ -13,67 +13,51 @@ use Rattle.inspect.proofs.wide.Reads as wide-reads
 use Rattle.wire.proofs.between.Reads as between-reads
 use Rattle.wire.proofs.u32_at.Reads as u32-at-reads
 
--- src/main.rt:228:9
 answer-requires : tie.Need-answer-requires
 answer-requires c κs = search needs
 
--- src/main.rt:230:9
 print-refused-requires : tie.Need-print-refused-requires
 print-refused-requires c κs = search needs
 
--- src/main.rt:231:9
 same-length : tie.Need-same-length
 same-length c = search needs
 
--- src/main.rt:231:9
 returns : tie.Need-returns
 returns c = search needs
 
--- src/main.rt:234:26
 u32-at-requires : tie.Need-u32-at-requires
 u32-at-requires c κs = omega (arith, (inspected _ (c .before .before .before .before .before .answer .ensures) (c .before .if1 .left)) .headed .head)
 
--- src/main.rt:234:21
 wide-requires : tie.Need-wide-requires
 wide-requires c κs = search needs
 
--- src/main.rt:234:17
 add-first : tie.Need-add-first
 add-first c = search needs
 
--- src/main.rt:235:27
 u32-at-requires-2 : tie.Need-u32-at-requires-2
 u32-at-requires-2 c κs = omega (arith, (inspected _ (c .before .before .before .before .before .before .before .answer .ensures) (c .before .before .before .if1 .left)) .headed .head)
 
--- src/main.rt:235:22
 wide-requires-2 : tie.Need-wide-requires-2
 wide-requires-2 c κs = search needs
 
--- src/main.rt:235:14
 add-at : tie.Need-add-at
 add-at c = search needs
 
--- src/main.rt:238:9
 between-requires : tie.Need-between-requires
 between-requires c κs = search needs
 
--- src/main.rt:239:9
 between-requires-2 : tie.Need-between-requires-2
 between-requires-2 c κs = search needs
 
--- src/main.rt:236:5
 print-book-requires : tie.Need-print-book-requires
 print-book-requires c κs = (c .before .before .before .before .before .before .before .before .before .before .before .before .before .before .before .before .before .pre, inspected-parts (inspected _ (c .before .before .before .before .before .before .before .before .before .before .before .before .answer .ensures) (c .before .before .before .before .before .before .before .before .if1 .left)) (c .before .before .before .before .before .wide .ensures ∙ c .before .before .before .before .before .before .u32-at .ensures) (c .before .before .before .wide2 .ensures ∙ c .before .before .before .before .u32-at2 .ensures) (c .before .between .ensures) (c .between2 .ensures))
 
--- src/main.rt:225:1
 same-length-2 : tie.Need-same-length-2
 same-length-2 c = search needs
 
--- src/main.rt:225:1
 same-length-3 : tie.Need-same-length-3
 same-length-3 c = search needs
 
--- src/main.rt:225:1
 returns-2 : tie.Need-returns-2
 returns-2 c = search needs
 

@@ -8,28 +8,22 @@ use Rattle.inspect.proofs.told_by.Lts as lts
 use Rattle.inspect.proofs.marked.Reads as marked-reads
 use Rattle.inspect.proofs.refused.Reads as refused-reads
 
--- src/main.rt:106:33
 enum-known-x : tie.Need-enum-known-x
 enum-known-x c = search needs
 
--- src/main.rt:106:39
 refused-requires : tie.Need-refused-requires
 refused-requires c κs = search needs
 
--- src/main.rt:107:32
 enum-known-x-2 : tie.Need-enum-known-x-2
 enum-known-x-2 c = search needs
 
--- src/main.rt:107:47
 marked-requires : tie.Need-marked-requires
 marked-requires c κs = search needs
 
--- src/main.rt:102:1
 returns : tie.Need-returns
 unfolding told
 returns c = c .refused .ensures ∙ rw (c .before .before .x .given .1) refl
 
--- src/main.rt:102:1
 returns-2 : tie.Need-returns-2
 unfolding told
 returns-2 c = c .marked .ensures ∙ rw (c .before .before .x2 .given .1) refl

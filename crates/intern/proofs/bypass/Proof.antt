@@ -15,35 +15,27 @@ use Rattle.interner.proofs.has_room.Reads as has-room-reads
 use Rattle.stats.proofs.bypass.Reads as bypass-reads
 use Rattle.stats.specs.Ways.{adds-bypass}
 
--- src/lib.rt:516:8
 has-room-requires : tie.Need-has-room-requires
 has-room-requires c κs = search needs
 
--- src/lib.rt:526:42
 bypass-requires : tie.Need-bypass-requires
 bypass-requires c κs = search needs
 
--- src/lib.rt:526:13
 alloc-requires : tie.Need-alloc-requires
 alloc-requires c κs = (c .before .before .before .before .before .before .before .before .before .pre .0, (room-there _ _ _ _ (sym (c .before .before .before .before .has-room .ensures) ∙ c .before .before .before .if1 .taken), adds-bypass _ _ (c .before .before .before .before .before .before .before .before .before .pre .0 .counts) (c .bypass .ensures) .counted))
 
--- src/lib.rt:529:17
 cast-t16 : tie.Need-cast-t16
 cast-t16 c = search needs
 
--- src/lib.rt:527:9
 same-length : tie.Need-same-length
 same-length c = search needs
 
--- src/lib.rt:527:9
 same-length-2 : tie.Need-same-length-2
 same-length-2 c = search needs
 
--- src/lib.rt:527:9
 returns : tie.Need-returns
 returns c = bypass-told (c .before .before .before .before .before .before .before .before .before .before .before .before .before .before .args .work .now) (c .before .before .before .before .before .before .before .before .before .before .before .before .before .before .args .strs .now) (c .before .before .before .before .before .before .before .before .before .before .before .before .before .before .args .st) (c .before .before .before .before .before .before .before .before .before .before .before .before .before .before .pre .0) (c .before .before .before .before .before .before .before .before .before .before .before .before .before .before .args .s .now) _ (c .before .before .before .before .before .before .before .before .before .has-room .ensures) (c .before .before .before .before .before .before .before .before .if1 .taken) _ _ _ _ (adds-bypass _ _ (c .before .before .before .before .before .before .before .before .before .before .before .before .before .before .pre .0 .counts) (c .before .before .before .before .before .bypass .ensures)) _ (c .before .before .before .before .alloc .ensures) _ refl refl refl refl
 
--- src/lib.rt:509:1
 returns-2 : tie.Need-returns-2
 returns-2 c = bypass-refused (c .before .before .before .before .before .before .args .work .now) (c .before .before .before .before .before .before .args .strs .now) (c .before .before .before .before .before .before .args .st) (c .before .before .before .before .before .before .pre .0) (c .before .before .before .before .before .before .args .s .now) _ (c .before .has-room .ensures) _ _ _ (c .if1 .left) refl refl refl
 

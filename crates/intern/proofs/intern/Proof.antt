@@ -24,73 +24,56 @@ use Rattle.table.proofs.resizes.Reads as resizes-reads
 use Rattle.intern.proofs.table_call.Reads as table-call-reads
 use Rattle.interner.proofs.table_for.Reads as table-for-reads
 
--- src/lib.rt:607:8
 is-last-requires : tie.Need-is-last-requires
 is-last-requires c κs = search needs
 
--- src/lib.rt:617:26
 cast-known : tie.Need-cast-known
 cast-known c = search needs
 
--- src/lib.rt:125:38
 cache-hit-requires : tie.Need-cache-hit-requires
 cache-hit-requires c κs = (c .before .before .before .before .before .before .before .before .pre .0 .counts, c .before .before .before .before .before .before .before .before .pre .1)
 
--- src/lib.rt:617:9
 known-requires : tie.Need-known-requires
 known-requires c κs = last-there (c .before .before .before .before .before .before .before .before .before .args .work .now) (c .before .before .before .before .before .before .before .before .before .args .strs .now) (c .before .before .before .before .before .before .before .before .before .args .st) (c .before .before .before .before .before .before .before .before .before .pre .0) (c .before .before .before .before .before .before .before .before .before .args .s .now) (sym (c .before .before .is-last .ensures) ∙ c .before .if1 .taken)
 
--- src/lib.rt:617:9
 same-length : tie.Need-same-length
 same-length c = search needs
 
--- src/lib.rt:617:9
 same-length-2 : tie.Need-same-length-2
 same-length-2 c = search needs
 
--- src/lib.rt:617:9
 returns : tie.Need-returns
 returns c = intern-cached (c .before .before .before .before .before .before .before .before .before .before .args .work .now) (c .before .before .before .before .before .before .before .before .before .before .args .strs .now) (c .before .before .before .before .before .before .before .before .before .before .args .st) (c .before .before .before .before .before .before .before .before .before .before .pre .0) (c .before .before .before .before .before .before .before .before .before .before .args .s .now) _ (c .before .before .before .is-last .ensures) _ (adds-cache-hit _ _ (c .before .before .before .before .before .before .before .before .before .before .pre .0 .counts) (c .before .cache-hit .ensures)) _ (c .before .before .if1 .taken) (c .known .ensures)
 
--- src/lib.rt:620:9
 bypass-requires : tie.Need-bypass-requires
 bypass-requires c κs = search needs
 
--- src/lib.rt:620:9
 same-length-3 : tie.Need-same-length-3
 same-length-3 c = search needs
 
--- src/lib.rt:620:9
 same-length-4 : tie.Need-same-length-4
 same-length-4 c = search needs
 
--- src/lib.rt:620:9
 returns-2 : tie.Need-returns-2
 returns-2 c = intern-bypass (c .before .before .before .before .before .before .before .before .before .before .before .before .before .before .before .before .args .work .now) (c .before .before .before .before .before .before .before .before .before .before .before .before .before .before .before .before .args .strs .now) (c .before .before .before .before .before .before .before .before .before .before .before .before .before .before .before .before .args .st) (c .before .before .before .before .before .before .before .before .before .before .before .before .before .before .before .before .pre .0) (c .before .before .before .before .before .before .before .before .before .before .before .before .before .before .before .before .args .s .now) _ (c .before .before .before .before .before .before .before .before .before .is-last .ensures) _ _ _ (c .before .before .before .before .before .before .before .before .if1 .left) (c .before .before .before .before .before .before .before .if2 .taken) (c .before .before .before .before .bypass .ensures)
 
--- src/lib.rt:622:9
 resizes-requires : tie.Need-resizes-requires
 resizes-requires c κs = (size-hi (c .before .before .before .before .before .before .before .before .before .pre .0 .size), omega (arith, c .before .before .before .before .before .before .before .before .before .pre .0 .most, c .before .before .before .before .before .before .before .before .before .pre .0 .words .few))
 
--- src/lib.rt:623:9
 table-for-requires : tie.Need-table-for-requires
 table-for-requires c κs = search needs
 
--- src/lib.rt:624:5
 table-call-requires : tie.Need-table-call-requires
 table-call-requires c κs =
     let y = c .before .before .before .before .table-for .ensures in
     (y .good, ((y .some, y .roomy), (omega (arith, ap (λ (x : Interner). x .stats .calls) (y .is), c .before .before .before .before .before .before .before .before .before .before .before .before .before .before .before .before .before .pre .1), omega (arith, c .before .before .before .before .before .before .before .resizes .ensures, one-or-none (isDue (c .before .before .before .before .before .before .before .before .before .before .before .before .before .before .before .before .before .args .st .slots) (c .before .before .before .before .before .before .before .before .before .before .before .before .before .before .before .before .before .args .st .occupied))))))
 
--- src/lib.rt:601:1
 same-length-5 : tie.Need-same-length-5
 same-length-5 c = search needs
 
--- src/lib.rt:601:1
 same-length-6 : tie.Need-same-length-6
 same-length-6 c = search needs
 
--- src/lib.rt:601:1
 returns-3 : tie.Need-returns-3
 returns-3 c = intern-told (c .before .before .before .before .before .before .before .before .before .before .before .before .before .before .before .before .before .before .before .before .before .before .args .work .now) (c .before .before .before .before .before .before .before .before .before .before .before .before .before .before .before .before .before .before .before .before .before .before .args .strs .now) (c .before .before .before .before .before .before .before .before .before .before .before .before .before .before .before .before .before .before .before .before .before .before .args .st) (c .before .before .before .before .before .before .before .before .before .before .before .before .before .before .before .before .before .before .before .before .before .before .pre .0) (c .before .before .before .before .before .before .before .before .before .before .before .before .before .before .before .before .before .before .before .before .before .before .args .s .now) _ (c .before .before .before .before .before .before .before .before .before .before .before .before .before .before .before .is-last .ensures) _ _ _ _ _ _ (c .before .before .before .before .before .before .before .before .before .before .before .before .before .before .if1 .left) (c .before .before .before .before .before .before .before .before .before .before .before .before .before .if2 .left) (c .before .before .before .before .before .before .before .before .before .table-for .ensures) (c .before .before .before .before .before .before .before .before .before .before .before .before .resizes .ensures ∙ ap (λ (b : Bool). cond b 1 0) (sym (grows-is (c .before .before .before .before .before .before .before .before .before .before .before .before .before .before .before .before .before .before .before .before .before .before .args .work .now) (c .before .before .before .before .before .before .before .before .before .before .before .before .before .before .before .before .before .before .before .before .before .before .args .strs .now) (c .before .before .before .before .before .before .before .before .before .before .before .before .before .before .before .before .before .before .before .before .before .before .args .st) (c .before .before .before .before .before .before .before .before .before .before .before .before .before .before .before .before .before .before .before .before .before .before .pre .0)))) (c .before .before .before .before .table-call .ensures)
 

@@ -6,15 +6,12 @@ use Rattle.intern.proofs.known.Reads as reads
 use Rattle.intern.proofs.known.Lts as lts
 use Rattle.table.proofs.wide.Reads as wide-reads
 
--- src/lib.rt:30:13
 sub-t4 : tie.Need-sub-t4
 sub-t4 c = search needs
 
--- src/lib.rt:37:19
 wide-requires : tie.Need-wide-requires
 wide-requires c κs = search needs
 
--- src/lib.rt:24:1
 returns : tie.Need-returns
 returns c = rw (c .wide .ensures) refl
 

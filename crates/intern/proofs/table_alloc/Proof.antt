@@ -16,39 +16,30 @@ use Rattle.interner.proofs.has_room.Reads as has-room-reads
 use Rattle.stats.proofs.table_alloc.Reads as table-alloc-reads
 use Rattle.stats.specs.Ways.{adds-table-alloc}
 
--- src/lib.rt:550:8
 has-room-requires : tie.Need-has-room-requires
 has-room-requires c κs = search needs
 
--- src/lib.rt:560:42
 table-alloc-requires : tie.Need-table-alloc-requires
 table-alloc-requires c κs = search needs
 
--- src/lib.rt:560:13
 alloc-requires : tie.Need-alloc-requires
 alloc-requires c κs = (c .before .before .before .before .before .before .before .before .before .pre .0, (room-there _ _ _ _ (sym (c .before .before .before .before .has-room .ensures) ∙ c .before .before .before .if1 .taken), adds-table-alloc _ _ (c .before .before .before .before .before .before .before .before .before .pre .0 .counts) _ _ (c .before .before .before .before .before .before .before .before .before .pre .1 .0 .2) (c .before .before .before .before .before .before .before .before .before .pre .1 .1 .1) (c .table-alloc .ensures) .counted))
 
--- src/lib.rt:561:13
 enter-requires : tie.Need-enter-requires
 enter-requires c κs = (enter-asks (c .before .before .before .before .before .before .before .before .before .before .before .before .before .before .before .args .work .now) (c .before .before .before .before .before .before .before .before .before .before .before .before .before .before .before .args .strs .now) (c .before .before .before .before .before .before .before .before .before .before .before .before .before .before .before .args .st) (c .before .before .before .before .before .before .before .before .before .before .before .before .before .before .before .pre .0) (c .before .before .before .before .before .before .before .before .before .before .before .before .before .before .before .args .s .now) _ (c .before .before .before .before .before .before .before .before .before .before .has-room .ensures) (c .before .before .before .before .before .before .before .before .before .if1 .taken) _ _ _ _ (adds-table-alloc _ _ (c .before .before .before .before .before .before .before .before .before .before .before .before .before .before .before .pre .0 .counts) _ _ (c .before .before .before .before .before .before .before .before .before .before .before .before .before .before .before .pre .1 .0 .2) (c .before .before .before .before .before .before .before .before .before .before .before .before .before .before .before .pre .1 .1 .1) (c .before .before .before .before .before .before .table-alloc .ensures)) _ (c .before .before .before .before .before .alloc .ensures) (c .before .before .before .before .before .before .before .before .before .before .before .before .before .before .before .pre .1 .0 .0) _ (c .before .before .before .before .before .before .before .before .before .before .before .before .before .before .before .pre .1 .1 .0), c .before .before .before .before .before .alloc .ensures .good .words .room)
 
--- src/lib.rt:564:17
 cast-t22 : tie.Need-cast-t22
 cast-t22 c = search needs
 
--- src/lib.rt:562:9
 same-length : tie.Need-same-length
 same-length c = search needs
 
--- src/lib.rt:562:9
 same-length-2 : tie.Need-same-length-2
 same-length-2 c = search needs
 
--- src/lib.rt:562:9
 returns : tie.Need-returns
 returns c = alloc-told (c .before .before .before .before .before .before .before .before .before .before .before .before .before .before .before .before .before .before .args .work .now) (c .before .before .before .before .before .before .before .before .before .before .before .before .before .before .before .before .before .before .args .strs .now) (c .before .before .before .before .before .before .before .before .before .before .before .before .before .before .before .before .before .before .args .st) (c .before .before .before .before .before .before .before .before .before .before .before .before .before .before .before .before .before .before .pre .0) (c .before .before .before .before .before .before .before .before .before .before .before .before .before .before .before .before .before .before .args .s .now) _ (c .before .before .before .before .before .before .before .before .before .before .before .before .before .has-room .ensures) (c .before .before .before .before .before .before .before .before .before .before .before .before .if1 .taken) _ _ _ _ (adds-table-alloc _ _ (c .before .before .before .before .before .before .before .before .before .before .before .before .before .before .before .before .before .before .pre .0 .counts) _ _ (c .before .before .before .before .before .before .before .before .before .before .before .before .before .before .before .before .before .before .pre .1 .0 .2) (c .before .before .before .before .before .before .before .before .before .before .before .before .before .before .before .before .before .before .pre .1 .1 .1) (c .before .before .before .before .before .before .before .before .before .table-alloc .ensures)) _ (c .before .before .before .before .before .before .before .before .alloc .ensures) _ (c .before .before .before .before .before .before .before .before .before .before .before .before .before .before .before .before .before .before .pre .1 .1 .0) (c .before .before .before .before .before .before .before .before .before .before .before .before .before .before .before .before .before .before .pre .1 .1 .2) _ _ _ _ refl refl (c .before .before .enter .ensures .1) refl refl (c .before .before .enter .ensures .0)
 
--- src/lib.rt:541:1
 returns-2 : tie.Need-returns-2
 returns-2 c = alloc-refused (c .before .before .before .before .before .before .args .work .now) (c .before .before .before .before .before .before .args .strs .now) (c .before .before .before .before .before .before .args .st) (c .before .before .before .before .before .before .pre .0) (c .before .before .before .before .before .before .args .s .now) _ (c .before .has-room .ensures) _ _ _ _ _ (c .if1 .left) refl refl refl
 

@@ -19,48 +19,38 @@ use Rattle.intern.proofs.known.Reads as known-reads
 use Rattle.interner.proofs.lookup.Reads as lookup-reads
 use Rattle.intern.proofs.table_alloc.Reads as table-alloc-reads
 
--- src/lib.rt:582:9
 lookup-requires : tie.Need-lookup-requires
 lookup-requires c κs = search needs
 
--- src/lib.rt:585:9
 table-alloc-requires : tie.Need-table-alloc-requires
 table-alloc-requires c κs =
     let in-table = probe-in (c .before .before .before .before .before .before .before .before .before .before .args .work .now) (c .before .before .before .before .before .before .before .before .before .before .args .strs .now) (c .before .before .before .before .before .before .before .before .before .before .args .st) (c .before .before .before .before .before .before .before .before .before .before .pre .0) (c .before .before .before .before .before .before .before .before .before .before .args .s .now) (c .before .before .before .before .before .before .before .before .before .before .pre .1 .0 .0) (c .before .before .before .before .before .before .before .before .before .before .pre .1 .0 .1) (probeOf (c .before .before .before .before .lookup .result)) (c .before .before .before .before .lookup .ensures) in
     (c .before .before .before .before .before .before .before .before .before .before .pre .0, ((c .before .before .before .before .before .before .before .before .before .before .pre .1 .0 .0, c .before .before .before .before .before .before .before .before .before .before .pre .1 .1 .0, c .before .before .before .before .before .before .before .before .before .before .pre .1 .1 .1), (in-table .0, in-table .2, in-table .3 ∙ c .before .before .if1 .taken)))
 
--- src/lib.rt:585:9
 same-length : tie.Need-same-length
 same-length c = search needs
 
--- src/lib.rt:585:9
 same-length-2 : tie.Need-same-length-2
 same-length-2 c = search needs
 
--- src/lib.rt:585:9
 returns : tie.Need-returns
 returns c = subst (λ (a : Interned). Told (c .before .before .before .before .before .before .before .before .before .before .before .before .before .before .before .args .work .now) (c .before .before .before .before .before .before .before .before .before .before .before .before .before .before .before .args .strs .now) (c .before .before .before .before .before .before .before .before .before .before .before .before .before .before .before .args .st) (c .before .before .before .before .table-alloc .last .0) (c .before .before .before .before .table-alloc .last .1 .0) (c .before .before .before .before .table-alloc .result) a) (call-alloc (c .before .before .before .before .before .before .before .before .before .before .before .before .before .before .before .args .work .now) (c .before .before .before .before .before .before .before .before .before .before .before .before .before .before .before .args .strs .now) (c .before .before .before .before .before .before .before .before .before .before .before .before .before .before .before .args .st) (c .before .before .before .before .before .before .before .before .before .before .before .before .before .before .before .pre .0) (c .before .before .before .before .before .before .before .before .before .before .before .before .before .before .before .args .s .now) (c .before .before .before .before .before .before .before .before .before .before .before .before .before .before .before .args .resized) (probeOf (c .before .before .before .before .before .before .before .before .before .lookup .result)) (c .before .before .before .before .before .before .before .before .before .lookup .ensures) (c .before .before .before .before .before .before .before .if1 .taken)) (c .before .before .before .before .table-alloc .ensures)
 
--- src/lib.rt:111:22
 table-hit-requires : tie.Need-table-hit-requires
 table-hit-requires c κs =
     let in-table = probe-in (c .before .before .before .before .before .before .before .before .args .work .now) (c .before .before .before .before .before .before .before .before .args .strs .now) (c .before .before .before .before .before .before .before .before .args .st) (c .before .before .before .before .before .before .before .before .pre .0) (c .before .before .before .before .before .before .before .before .args .s .now) (c .before .before .before .before .before .before .before .before .pre .1 .0 .0) (c .before .before .before .before .before .before .before .before .pre .1 .0 .1) (probeOf (c .before .before .lookup .result)) (c .before .before .lookup .ensures) in
     (c .before .before .before .before .before .before .before .before .pre .0 .counts, c .before .before .before .before .before .before .before .before .pre .1 .1 .0, c .before .before .before .before .before .before .before .before .pre .1 .1 .1, in-table .2)
 
--- src/lib.rt:596:5
 known-requires : tie.Need-known-requires
 known-requires c κs =
     let ne = c .before .if1 .left in omega arith
 
--- src/lib.rt:576:1
 same-length-3 : tie.Need-same-length-3
 same-length-3 c = search needs
 
--- src/lib.rt:576:1
 same-length-4 : tie.Need-same-length-4
 same-length-4 c = search needs
 
--- src/lib.rt:576:1
 returns-2 : tie.Need-returns-2
 returns-2 c =
     let in-table = probe-in (c .before .before .before .before .before .before .before .before .before .before .args .work .now) (c .before .before .before .before .before .before .before .before .before .before .args .strs .now) (c .before .before .before .before .before .before .before .before .before .before .args .st) (c .before .before .before .before .before .before .before .before .before .before .pre .0) (c .before .before .before .before .before .before .before .before .before .before .args .s .now) (c .before .before .before .before .before .before .before .before .before .before .pre .1 .0 .0) (c .before .before .before .before .before .before .before .before .before .before .pre .1 .0 .1) (probeOf (c .before .before .before .before .lookup .result)) (c .before .before .before .before .lookup .ensures) in

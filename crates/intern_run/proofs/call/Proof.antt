@@ -11,27 +11,21 @@ use Rattle.intern_run.proofs.call.Reads as reads
 use Rattle.intern_run.proofs.call.Lts as lts
 use Rattle.intern.proofs.intern.Reads as intern-reads
 
--- src/main.rt:67:13
 intern-requires : tie.Need-intern-requires
 intern-requires c κs = (c .before .before .before .before .before .before .before .before .before .before .pre (c .before .before .before .before .if1 .taken), c .before .before .if2 .taken)
 
--- src/main.rt:67:13
 same-length : tie.Need-same-length
 same-length c = search needs
 
--- src/main.rt:67:13
 same-length-2 : tie.Need-same-length-2
 same-length-2 c = search needs
 
--- src/main.rt:67:13
 returns : tie.Need-returns
 returns c = (λ e. c .before .before .before .before .intern .ensures .answered e .good)
 
--- src/main.rt:59:1
 returns-2 : tie.Need-returns-2
 returns-2 c = (λ e. absurd (false≢true e))
 
--- src/main.rt:59:1
 returns-3 : tie.Need-returns-3
 returns-3 c = (λ e. absurd (false≢true e))
 

@@ -19,43 +19,33 @@ Inv-loop work₀ strs₀ n b₀ i₀ work strs b i = (length work ≡ length wor
 abbrev μ-loop : tie.MeasureT-loop
 μ-loop work₀ strs₀ n b₀ i₀ work strs b i = n - i
 
--- src/main.rt:94:5
 loop-holds : tie.Need-loop-holds Inv-loop μ-loop
 loop-holds c = (refl, refl, c .before .before .pre)
 
--- src/main.rt:95:17
 digits-requires : tie.Need-digits-requires Inv-loop μ-loop
 digits-requires c κs = search needs
 
--- src/main.rt:96:33
 slice-aggregate-call : tie.Need-slice-aggregate-call Inv-loop μ-loop
 slice-aggregate-call c = search needs
 
--- src/main.rt:96:9
 call-requires : tie.Need-call-requires Inv-loop μ-loop
 call-requires c κs = c .before .before .before .before .before .loop .inv .2
 
--- src/main.rt:97:9
 add-i : tie.Need-add-i Inv-loop μ-loop
 add-i c = search needs
 
--- src/main.rt:94:5
 loop-less : tie.Need-loop-less Inv-loop μ-loop
 loop-less c = search needs
 
--- src/main.rt:94:5
 loop-again : tie.Need-loop-again Inv-loop μ-loop
 loop-again c = (c .before .before .before .before .call .kept .0 ∙ c .before .before .before .before .before .before .before .before .before .before .loop .inv .0, c .before .before .before .before .call .kept .1 .0 ∙ c .before .before .before .before .before .before .before .before .before .before .loop .inv .1, c .before .before .before .before .call .ensures)
 
--- src/main.rt:88:1
 same-length : tie.Need-same-length Inv-loop μ-loop
 same-length c = search needs
 
--- src/main.rt:88:1
 same-length-2 : tie.Need-same-length-2 Inv-loop μ-loop
 same-length-2 c = search needs
 
--- src/main.rt:88:1
 returns : tie.Need-returns Inv-loop μ-loop
 returns c = c .before .loop .inv .2
 

@@ -12,39 +12,30 @@ use Rattle.interner.proofs.alloc.Lts as lts
 use Rattle.table.proofs.put_start.Reads as put-start-reads
 use Rattle.wire.proofs.copy_at.Reads as copy-at-reads
 
--- src/lib.rt:184:15
 add-end : tie.Need-add-end
 add-end c = search needs
 
--- src/lib.rt:185:5
 copy-at-requires : tie.Need-copy-at-requires
 copy-at-requires c κs = search needs
 
--- src/lib.rt:186:28
 add-put-start : tie.Need-add-put-start
 add-put-start c = search needs
 
--- src/lib.rt:186:5
 put-start-requires : tie.Need-put-start-requires
 put-start-requires c κs = search needs
 
--- src/lib.rt:190:16
 add-t9 : tie.Need-add-t9
 add-t9 c = search needs
 
--- src/lib.rt:193:15
 add-t15 : tie.Need-add-t15
 add-t15 c = search needs
 
--- src/lib.rt:170:1
 same-length : tie.Need-same-length
 same-length c = search needs
 
--- src/lib.rt:170:1
 same-length-2 : tie.Need-same-length-2
 same-length-2 c = search needs
 
--- src/lib.rt:170:1
 returns : tie.Need-returns
 returns c = alloced (c .before .before .before .before .before .before .before .before .before .before .before .args .work .now) (c .before .before .before .before .before .before .before .before .before .before .before .args .strs .now) (c .before .before .before .before .before .before .before .before .before .before .before .args .s .now) (c .before .before .before .before .before .before .before .before .before .before .before .args .st) (c .before .before .before .before .before .before .before .before .before .before .before .pre .0) (c .before .before .before .before .before .before .before .before .before .before .before .pre .1 .0 .0) (c .before .before .before .before .before .before .before .before .before .before .before .pre .1 .0 .1) _ (c .before .before .before .before .before .before .copy-at .ensures) (c .before .before .before .before .before .before .before .before .before .before .before .args .stats) (c .before .before .before .before .before .before .before .before .before .before .before .pre .1 .1) (c .before .before .put-start .ensures)
 

@@ -11,15 +11,12 @@ use Rattle.interner.proofs.has_room.Tie as tie
 use Rattle.interner.proofs.has_room.Reads as reads
 use Rattle.interner.proofs.has_room.Lts as lts
 
--- src/lib.rt:405:9
 returns : tie.Need-returns
 returns c = sym (rw (lt-leb (c .before .args .count + 1) 3583 (omega arith)) refl)
 
--- src/lib.rt:407:10
 sub-result : tie.Need-sub-result
 sub-result c = search needs
 
--- src/lib.rt:400:1
 returns-2 : tie.Need-returns-2
 returns-2 c = room-left _ _ _ (c .before .pre) ∙ sym (rw (le-leb (c .before .args .count + 1) 3583 (omega arith)) refl)
 

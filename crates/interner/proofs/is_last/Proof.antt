@@ -12,27 +12,21 @@ use Rattle.interner.proofs.is_last.Lts as lts
 use Rattle.interner.proofs.resolve.Reads as resolve-reads
 use Rattle.compare.proofs.same.Reads as same-reads
 
--- src/lib.rt:511:9
 returns : tie.Need-returns
 returns c = last-none (c .before .before .before .before .args .work .now) (c .before .before .before .before .args .strs .now) (c .before .before .before .before .args .st) (c .before .before .before .before .pre) _ (c .if1 .taken)
 
--- src/lib.rt:513:41
 sub-resolve : tie.Need-sub-resolve
 sub-resolve c = search needs
 
--- src/lib.rt:513:40
 cast-resolve : tie.Need-cast-resolve
 cast-resolve c = search needs
 
--- src/lib.rt:513:16
 resolve-requires : tie.Need-resolve-requires
 resolve-requires c κs = search needs
 
--- src/lib.rt:513:5
 same-requires : tie.Need-same-requires
 same-requires c κs = search needs
 
--- src/lib.rt:505:1
 returns-2 : tie.Need-returns-2
 returns-2 c = last-some (c .before .before .before .before .before .before .args .work .now) (c .before .before .before .before .before .before .args .strs .now) (c .before .before .before .before .before .before .args .st) (c .before .before .before .before .before .before .pre) _ _ _ (c .before .before .if1 .left) (c .before .resolve .ensures) (c .same .ensures)
 

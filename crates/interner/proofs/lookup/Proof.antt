@@ -16,70 +16,54 @@ use Rattle.hash.proofs.fx_hash.Reads as fx-hash-reads
 use Rattle.table.proofs.probe.Reads as probe-reads
 use Rattle.table.proofs.slot_of.Reads as slot-of-reads
 
--- src/lib.rt:501:15
 sub-off : tie.Need-sub-off
 sub-off c = omega (arith, size-lo (c .before .before .before .pre .0 .size) (λ e. let p = c .before .before .before .pre .1 in let z : ⊥ = omega (arith, e) in z), size-hi (c .before .before .before .pre .0 .size), c .before .before .before .pre .0 .words .room, c .before .before .before .pre .0 .words .few)
 
--- src/lib.rt:502:15
 add-end : tie.Need-add-end
 add-end c = record { fits = omega (arith, size-lo (c .before .before .before .pre .0 .size) (λ e. let p = c .before .before .before .pre .1 in let z : ⊥ = omega (arith, e) in z), size-hi (c .before .before .before .pre .0 .size), c .before .before .before .pre .0 .words .room, c .before .before .before .pre .0 .words .few) }
 
--- src/lib.rt:503:16
 mul-last : tie.Need-mul-last
 mul-last c = search needs
 
--- src/lib.rt:503:16
 add-last : tie.Need-add-last
 add-last c = search needs
 
--- src/lib.rt:503:16
 add-last-2 : tie.Need-add-last-2
 add-last-2 c = search needs
 
--- src/lib.rt:504:24
 fx-hash-requires : tie.Need-fx-hash-requires
 fx-hash-requires c κs = search needs
 
--- src/lib.rt:504:9
 slot-of-requires : tie.Need-slot-of-requires
 slot-of-requires c κs = search needs
 
--- src/lib.rt:505:11
 mul-probe : tie.Need-mul-probe
 mul-probe c = omega (arith, size-lo (c .before .before .before .before .before .before .pre .0 .size) (λ e. let p = c .before .before .before .before .before .before .pre .1 in let z : ⊥ = omega (arith, e) in z), size-hi (c .before .before .before .before .before .before .pre .0 .size), c .before .before .before .before .before .before .pre .0 .words .room, c .before .before .before .before .before .before .pre .0 .words .few)
 
--- src/lib.rt:505:11
 sub-probe : tie.Need-sub-probe
 sub-probe c = search needs
 
--- src/lib.rt:505:11
 part-probe-start : tie.Need-part-probe-start
 part-probe-start c = search needs
 
--- src/lib.rt:505:11
 part-probe-end : tie.Need-part-probe-end
 part-probe-end c = omega (arith, size-lo (c .before .before .before .before .before .before .pre .0 .size) (λ e. let p = c .before .before .before .before .before .before .pre .1 in let z : ⊥ = omega (arith, e) in z), size-hi (c .before .before .before .before .before .before .pre .0 .size), c .before .before .before .before .before .before .pre .0 .words .room, c .before .before .before .before .before .before .pre .0 .words .few)
 
--- src/lib.rt:505:28
 sub-probe-2 : tie.Need-sub-probe-2
 sub-probe-2 c = search needs
 
--- src/lib.rt:505:28
 part-probe-start-2 : tie.Need-part-probe-start-2
 part-probe-start-2 c = search needs
 
--- src/lib.rt:505:28
 part-probe-end-2 : tie.Need-part-probe-end-2
 part-probe-end-2 c = search needs
 
--- src/lib.rt:505:5
 probe-requires : tie.Need-probe-requires
 probe-requires c κs =
     let len = size-length (c .before .before .before .before .before .before .before .before .args .work .now) (c .before .before .before .before .before .before .before .before .pre .0 .size) (c .before .before .before .before .before .before .before .before .pre .0 .words .room) in
     let starts = starts-length (c .before .before .before .before .before .before .before .before .args .work .now) (length (c .before .before .before .before .before .before .before .before .args .strs .now)) (c .before .before .before .before .before .before .before .before .args .st .count) (c .before .before .before .before .before .before .before .before .pre .0 .words) in
     (subst (λ (m : ℕ). c .before .before .slot-of .result < m) (sym len) (c .before .before .slot-of .ensures .1), (c .before .before .before .before .before .before .before .before .pre .0 .words .starts, subst (λ (m : ℕ). Entries (tableOf (c .before .before .before .before .before .before .before .before .args .st .slots) (c .before .before .before .before .before .before .before .before .args .work .now)) m) (sym starts) (c .before .before .before .before .before .before .before .before .pre .0 .entries)))
 
--- src/lib.rt:495:1
 returns : tie.Need-returns
 returns c = lookup-is (c .before .before .before .before .before .before .before .before .before .args .work .now) (c .before .before .before .before .before .before .before .before .before .args .strs .now) (c .before .before .before .before .before .before .before .before .before .args .st) (c .before .before .before .before .before .before .before .before .before .pre .0) (c .before .before .before .before .before .before .before .before .before .args .s .now) (c .before .before .before .before .before .before .before .before .before .pre .1) _ _ _ (c .before .before .before .before .fx-hash .ensures) (c .before .before .before .slot-of .ensures .0) (c .probe .ensures)
 

@@ -12,35 +12,27 @@ use Rattle.interner.proofs.resolve.Reads as reads
 use Rattle.interner.proofs.resolve.Lts as lts
 use Rattle.table.proofs.string_at.Reads as string-at-reads
 
--- src/lib.rt:500:15
 mul-end : tie.Need-mul-end
 mul-end c = search needs
 
--- src/lib.rt:500:15
 add-end : tie.Need-add-end
 add-end c = search needs
 
--- src/lib.rt:500:15
 add-end-2 : tie.Need-add-end-2
 add-end-2 c = search needs
 
--- src/lib.rt:501:15
 sub-string-at : tie.Need-sub-string-at
 sub-string-at c = search needs
 
--- src/lib.rt:501:15
 part-string-at-start : tie.Need-part-string-at-start
 part-string-at-start c = search needs
 
--- src/lib.rt:501:15
 part-string-at-end : tie.Need-part-string-at-end
 part-string-at-end c = search needs
 
--- src/lib.rt:501:5
 string-at-requires : tie.Need-string-at-requires
 string-at-requires c κs = (c .before .before .before .before .pre .0 .words .starts, omega (arith, starts-length (c .before .before .before .before .args .work .now) (length (c .before .before .before .before .args .strs .now)) (c .before .before .before .before .args .st .count) (c .before .before .before .before .pre .0 .words), c .before .before .before .before .pre .1))
 
--- src/lib.rt:495:1
 returns : tie.Need-returns
 returns c = resolved (c .before .before .before .before .before .args .work .now) (c .before .before .before .before .before .args .strs .now) (c .before .before .before .before .before .args .st) (c .before .before .before .before .before .pre .0) _ _ (c .string-at .ensures)
 

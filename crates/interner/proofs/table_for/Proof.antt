@@ -15,51 +15,39 @@ use Rattle.table.proofs.due.Reads as due-reads
 use Rattle.table.proofs.grow.Reads as grow-reads
 use Rattle.interner.proofs.with_slots.Reads as with-slots-reads
 
--- src/lib.rt:354:9
 clear-part-requires : tie.Need-clear-part-requires
 clear-part-requires c κs = search needs
 
--- src/lib.rt:355:9
 with-slots-requires : tie.Need-with-slots-requires
 with-slots-requires c κs = search needs
 
--- src/lib.rt:355:9
 same-length : tie.Need-same-length
 same-length c = search needs
 
--- src/lib.rt:355:9
 returns : tie.Need-returns
 returns c = first-ready (c .before .before .before .before .before .before .before .before .args .work .now) (c .before .before .before .before .before .before .before .before .args .strs .now) (c .before .before .before .before .before .before .before .before .args .st) (c .before .before .before .before .before .before .before .before .pre) _ _ (c .before .before .before .clear-part .ensures) (c .before .before .before .before .before .if1 .taken) (c .with-slots .ensures)
 
--- src/lib.rt:357:8
 due-requires : tie.Need-due-requires
 due-requires c κs = (size-hi (c .before .before .before .pre .size), omega (arith, c .before .before .before .pre .most, c .before .before .before .pre .words .few))
 
--- src/lib.rt:358:9
 grow-requires : tie.Need-grow-requires
 grow-requires c κs = (c .before .before .before .before .before .before .pre .words, ((grows-lo (c .before .before .before .before .before .before .args .work .now) (c .before .before .before .before .before .before .args .strs .now) (c .before .before .before .before .before .before .args .st) (c .before .before .before .before .before .before .pre) (c .before .before .before .if1 .left) (sym (c .before .before .due .ensures) ∙ c .before .if2 .taken), grows-hi (c .before .before .before .before .before .before .args .work .now) (c .before .before .before .before .before .before .args .strs .now) (c .before .before .before .before .before .before .args .st) (c .before .before .before .before .before .before .pre) (c .before .before .before .if1 .left) (sym (c .before .before .due .ensures) ∙ c .before .if2 .taken)), c .before .before .before .before .before .before .pre .entries))
 
--- src/lib.rt:359:31
 mul-with-slots : tie.Need-mul-with-slots
 mul-with-slots c = record { fits = omega (arith, grows-hi (c .before .before .before .before .before .before .before .before .before .args .work .now) (c .before .before .before .before .before .before .before .before .before .args .strs .now) (c .before .before .before .before .before .before .before .before .before .args .st) (c .before .before .before .before .before .before .before .before .before .pre) (c .before .before .before .before .before .before .if1 .left) (sym (c .before .before .before .before .before .due .ensures) ∙ c .before .before .before .before .if2 .taken)) }
 
--- src/lib.rt:359:9
 with-slots-requires-2 : tie.Need-with-slots-requires-2
 with-slots-requires-2 c κs = search needs
 
--- src/lib.rt:359:9
 same-length-2 : tie.Need-same-length-2
 same-length-2 c = search needs
 
--- src/lib.rt:359:9
 returns-2 : tie.Need-returns-2
 returns-2 c = grown-ready (c .before .before .before .before .before .before .before .before .before .before .args .work .now) (c .before .before .before .before .before .before .before .before .before .before .args .strs .now) (c .before .before .before .before .before .before .before .before .before .before .args .st) (c .before .before .before .before .before .before .before .before .before .before .pre) (c .before .before .before .before .before .before .before .if1 .left) (sym (c .before .before .before .before .before .before .due .ensures) ∙ c .before .before .before .before .before .if2 .taken) _ _ (c .before .before .before .grow .kept .0) (c .before .before .before .grow .ensures .1) (c .before .before .before .grow .ensures .0) (c .with-slots2 .ensures)
 
--- src/lib.rt:361:5
 with-slots-requires-3 : tie.Need-with-slots-requires-3
 with-slots-requires-3 c κs = search needs
 
--- src/lib.rt:348:1
 returns-3 : tie.Need-returns-3
 returns-3 c = stay-ready (c .before .before .before .before .before .before .args .work .now) (c .before .before .before .before .before .before .args .strs .now) (c .before .before .before .before .before .before .args .st) (c .before .before .before .before .before .before .pre) (c .before .before .before .if1 .left) _ (sym (c .before .before .due .ensures) ∙ c .before .if2 .left) (c .with-slots3 .ensures)
 

@@ -18,41 +18,32 @@ Inv-loop tape at count from i₀ i = (i ≤ count) × Missed (testAt nodeCodec (
 abbrev μ-loop : tie.MeasureT-loop
 μ-loop tape at count from i₀ i = count - i
 
--- src/lib.rt:52:5
 loop-holds : tie.Need-loop-holds Inv-loop μ-loop
 loop-holds c = (omega arith, missed-none _)
 
--- src/lib.rt:53:38
 mul-is-format-from : tie.Need-mul-is-format-from Inv-loop μ-loop
 mul-is-format-from c = omega arith
 
--- src/lib.rt:53:33
 add-is-format-from : tie.Need-add-is-format-from Inv-loop μ-loop
 add-is-format-from c = omega arith
 
--- src/lib.rt:53:12
 is-format-from-requires : tie.Need-is-format-from-requires Inv-loop μ-loop
 is-format-from-requires c κs = omega arith
 
--- src/lib.rt:54:13
 returns : tie.Need-returns Inv-loop μ-loop
 unfolding nodeCodec
 returns c = run-found nodeCodec (formatFrom (c .before .before .before .before .before .args .from)) (c .before .before .before .before .before .args .tape .now) (c .before .before .before .before .before .args .at) (c .before .before .before .loop .i) _ refl _ (c .before .is-format-from .ensures) _ (c .before .before .loop-test .taken) (c .if1 .taken) ∙ formats-from (c .before .before .before .before .before .args .from) (recordsAt nodeCodec (c .before .before .before .before .before .args .tape .now) (c .before .before .before .before .before .args .at) (c .before .before .before .before .before .args .count))
 
--- src/lib.rt:56:9
 add-i : tie.Need-add-i Inv-loop μ-loop
 add-i c = omega arith
 
--- src/lib.rt:52:5
 loop-less : tie.Need-loop-less Inv-loop μ-loop
 loop-less c = omega arith
 
--- src/lib.rt:52:5
 loop-again : tie.Need-loop-again Inv-loop μ-loop
 unfolding nodeCodec
 loop-again c = (omega arith, run-missed nodeCodec (formatFrom (c .before .before .before .before .before .args .from)) (c .before .before .before .before .before .args .tape .now) (c .before .before .before .before .before .args .at) (c .before .before .before .loop .i) _ refl _ (c .before .is-format-from .ensures) (c .if1 .left) (c .before .before .before .loop .inv .1))
 
--- src/lib.rt:47:1
 returns-2 : tie.Need-returns-2 Inv-loop μ-loop
 returns-2 c = run-nowhere nodeCodec (formatFrom (c .before .before .before .args .from)) (c .before .before .before .args .tape .now) (c .before .before .before .args .at) (c .before .before .before .args .count) (c .before .loop .i) (omega arith) (c .before .loop .inv .1) ∙ formats-from (c .before .before .before .args .from) (recordsAt nodeCodec (c .before .before .before .args .tape .now) (c .before .before .before .args .at) (c .before .before .before .args .count))
 

@@ -20,41 +20,32 @@ Inv-loop tape st words base old new at count reading own index front back place 
 abbrev μ-loop : tie.MeasureT-loop
 μ-loop tape st words base old new at count reading own index front back place nodes i₀ i = nodes - i
 
--- src/lib.rt:174:5
 loop-holds : tie.Need-loop-holds Inv-loop μ-loop
 loop-holds c = (omega arith, missed-none _)
 
--- src/lib.rt:176:99
 mul-refers-to : tie.Need-mul-refers-to Inv-loop μ-loop
 mul-refers-to c = omega (arith, (c .before .before .before .before .before .before .before .before .before .before .pre .1 .1 .1) .inside)
 
--- src/lib.rt:176:91
 add-refers-to : tie.Need-add-refers-to Inv-loop μ-loop
 add-refers-to c = omega (arith, (c .before .before .before .before .before .before .before .before .before .before .pre .1 .1 .1) .inside)
 
--- src/lib.rt:175:12
 refers-to-requires : tie.Need-refers-to-requires Inv-loop μ-loop
 refers-to-requires c κs = (c .before .before .before .before .before .before .before .before .before .before .pre .0, (c .before .before .before .before .before .before .before .before .before .before .pre .1 .0, (c .before .before .before .before .before .before .before .before .before .before .pre .1 .1 .0, sound-node (c .before .before .before .before .before .before .before .before .before .before .pre .1 .1 .1) (c .loop-test .taken))))
 
--- src/lib.rt:178:13
 returns : tie.Need-returns Inv-loop μ-loop
 unfolding nodeCodec
 returns c = run-found nodeCodec (refersTo (storeIn (c .before .before .before .before .before .before .before .before .before .before .before .before .args .tape .now) (c .before .before .before .before .before .before .before .before .before .before .before .before .args .old .now ++ c .before .before .before .before .before .before .before .before .before .before .before .before .args .new .now)) (recordsAt nodeCodec (c .before .before .before .before .before .before .before .before .before .before .before .before .args .tape .now) (c .before .before .before .before .before .before .before .before .before .before .before .before .args .at) (c .before .before .before .before .before .before .before .before .before .before .before .before .args .count)) (storeIn (c .before .before .before .before .before .before .before .before .before .before .before .before .args .reading .now) (c .before .before .before .before .before .before .before .before .before .before .before .before .args .front .now ++ c .before .before .before .before .before .before .before .before .before .before .before .before .args .back .now))) (c .before .before .before .before .before .before .before .before .before .before .before .before .args .reading .now) (c .before .before .before .before .before .before .before .before .before .before .before .before .args .place) (c .before .before .before .loop .i) _ refl _ (c .before .refers-to .ensures) _ (c .before .before .loop-test .taken) (c .if1 .taken)
 
--- src/lib.rt:180:9
 add-i : tie.Need-add-i Inv-loop μ-loop
 add-i c = omega arith
 
--- src/lib.rt:174:5
 loop-less : tie.Need-loop-less Inv-loop μ-loop
 loop-less c = omega arith
 
--- src/lib.rt:174:5
 loop-again : tie.Need-loop-again Inv-loop μ-loop
 unfolding nodeCodec
 loop-again c = (omega arith, run-missed nodeCodec (refersTo (storeIn (c .before .before .before .before .before .before .before .before .before .before .before .before .args .tape .now) (c .before .before .before .before .before .before .before .before .before .before .before .before .args .old .now ++ c .before .before .before .before .before .before .before .before .before .before .before .before .args .new .now)) (recordsAt nodeCodec (c .before .before .before .before .before .before .before .before .before .before .before .before .args .tape .now) (c .before .before .before .before .before .before .before .before .before .before .before .before .args .at) (c .before .before .before .before .before .before .before .before .before .before .before .before .args .count)) (storeIn (c .before .before .before .before .before .before .before .before .before .before .before .before .args .reading .now) (c .before .before .before .before .before .before .before .before .before .before .before .before .args .front .now ++ c .before .before .before .before .before .before .before .before .before .before .before .before .args .back .now))) (c .before .before .before .before .before .before .before .before .before .before .before .before .args .reading .now) (c .before .before .before .before .before .before .before .before .before .before .before .before .args .place) (c .before .before .before .loop .i) _ refl _ (c .before .refers-to .ensures) (c .if1 .left) (c .before .before .before .loop .inv .1))
 
--- src/lib.rt:150:1
 returns-2 : tie.Need-returns-2 Inv-loop μ-loop
 returns-2 c = run-nowhere nodeCodec (refersTo (storeIn (c .before .before .before .before .before .before .before .before .before .before .args .tape .now) (c .before .before .before .before .before .before .before .before .before .before .args .old .now ++ c .before .before .before .before .before .before .before .before .before .before .args .new .now)) (recordsAt nodeCodec (c .before .before .before .before .before .before .before .before .before .before .args .tape .now) (c .before .before .before .before .before .before .before .before .before .before .args .at) (c .before .before .before .before .before .before .before .before .before .before .args .count)) (storeIn (c .before .before .before .before .before .before .before .before .before .before .args .reading .now) (c .before .before .before .before .before .before .before .before .before .before .args .front .now ++ c .before .before .before .before .before .before .before .before .before .before .args .back .now))) (c .before .before .before .before .before .before .before .before .before .before .args .reading .now) (c .before .before .before .before .before .before .before .before .before .before .args .place) _ (c .before .loop .i) (omega arith) (c .before .loop .inv .1)
 

@@ -17,41 +17,32 @@ Inv-loop tape at count i₀ i = (i ≤ count) × Missed (testAt nodeCodec isRuby
 abbrev μ-loop : tie.MeasureT-loop
 μ-loop tape at count i₀ i = count - i
 
--- src/lib.rt:27:5
 loop-holds : tie.Need-loop-holds Inv-loop μ-loop
 loop-holds c = (omega arith, missed-none _)
 
--- src/lib.rt:28:43
 mul-is-ruby : tie.Need-mul-is-ruby Inv-loop μ-loop
 mul-is-ruby c = omega arith
 
--- src/lib.rt:28:38
 add-is-ruby : tie.Need-add-is-ruby Inv-loop μ-loop
 add-is-ruby c = omega arith
 
--- src/lib.rt:28:12
 is-ruby-requires : tie.Need-is-ruby-requires Inv-loop μ-loop
 is-ruby-requires c κs = omega arith
 
--- src/lib.rt:29:13
 returns : tie.Need-returns Inv-loop μ-loop
 unfolding nodeCodec
 returns c = run-found nodeCodec isRuby (c .before .before .before .before .before .args .tape .now) (c .before .before .before .before .before .args .at) (c .before .before .before .loop .i) _ refl _ (c .before .is-ruby .ensures) _ (c .before .before .loop-test .taken) (c .if1 .taken)
 
--- src/lib.rt:31:9
 add-i : tie.Need-add-i Inv-loop μ-loop
 add-i c = omega arith
 
--- src/lib.rt:27:5
 loop-less : tie.Need-loop-less Inv-loop μ-loop
 loop-less c = omega arith
 
--- src/lib.rt:27:5
 loop-again : tie.Need-loop-again Inv-loop μ-loop
 unfolding nodeCodec
 loop-again c = (omega arith, run-missed nodeCodec isRuby (c .before .before .before .before .before .args .tape .now) (c .before .before .before .before .before .args .at) (c .before .before .before .loop .i) _ refl _ (c .before .is-ruby .ensures) (c .if1 .left) (c .before .before .before .loop .inv .1))
 
--- src/lib.rt:22:1
 returns-2 : tie.Need-returns-2 Inv-loop μ-loop
 returns-2 c = run-nowhere nodeCodec isRuby (c .before .before .before .args .tape .now) (c .before .before .before .args .at) _ (c .before .loop .i) (omega arith) (c .before .loop .inv .1)
 

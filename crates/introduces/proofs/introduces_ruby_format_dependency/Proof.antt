@@ -12,39 +12,30 @@ use Rattle.introduces.proofs.index_both.Reads as index-both-reads
 use Rattle.introduces.proofs.refers_before.Reads as refers-before-reads
 use Rattle.introduces.proofs.ruby_for_later.Reads as ruby-for-later-reads
 
--- src/lib.rt:347:8
 ruby-for-later-requires : tie.Need-ruby-for-later-requires
 ruby-for-later-requires c κs = (held-inside (c .before .before .before .before .before .pre .0), held-inside (c .before .before .before .before .before .pre .1))
 
--- src/lib.rt:356:9
 returns : tie.Need-returns
 returns c = introduces-later (c .before .before .before .before .before .before .before .pre .0) (c .before .before .before .before .before .before .before .pre .1) _ _ (c .before .ruby-for-later .ensures) (c .if1 .taken)
 
--- src/lib.rt:358:9
 any-format-from-requires : tie.Need-any-format-from-requires
 any-format-from-requires c κs = held-inside (c .before .before .before .before .before .before .before .pre .1)
 
--- src/lib.rt:359:9
 returns-2 : tie.Need-returns-2
 returns-2 c = introduces-none (c .before .before .before .before .before .before .before .before .before .pre .0) (c .before .before .before .before .before .before .before .before .before .pre .1) _ _ (c .before .before .before .ruby-for-later .ensures) (c .before .before .if1 .left) (c .before .any-format-from .ensures) (not-true _ (c .if2 .taken))
 
--- src/lib.rt:362:18
 add-middle : tie.Need-add-middle
 add-middle c = omega (arith, c .before .before .before .before .before .before .before .before .before .good)
 
--- src/lib.rt:363:5
 index-both-requires : tie.Need-index-both-requires
 index-both-requires c κs = (held-readable (c .before .before .before .before .before .before .before .before .before .before .pre .0) (omega arith), (held-readable (c .before .before .before .before .before .before .before .before .before .before .pre .1) (omega arith), (omega arith, omega arith)))
 
--- src/lib.rt:374:5
 refers-before-requires : tie.Need-refers-before-requires
 refers-before-requires c κs = ((omega arith, omega (arith, c .before .before .before .index-both .kept .1 .1 .1 .1 .1 .1 .0)), (held-ready (c .before .before .before .before .before .before .before .before .before .before .before .before .before .before .pre .0) ((c .before .before .before .index-both .ensures) .first), held-ready (c .before .before .before .before .before .before .before .before .before .before .before .before .before .before .pre .1) ((c .before .before .before .index-both .ensures) .last)))
 
--- src/lib.rt:330:1
 same-length : tie.Need-same-length
 same-length c = search needs
 
--- src/lib.rt:330:1
 returns-3 : tie.Need-returns-3
 returns-3 c = introduces-refers (c .before .before .before .before .before .before .before .before .before .before .before .before .before .before .before .before .before .pre .0) (c .before .before .before .before .before .before .before .before .before .before .before .before .before .before .before .before .before .pre .1) _ _ (c .before .before .before .before .before .before .before .before .before .before .before .ruby-for-later .ensures) (c .before .before .before .before .before .before .before .before .before .before .if1 .left) (c .before .before .refers-before .ensures)
 

@@ -8,19 +8,15 @@ use Rattle.introduces.proofs.is_format_from.Lts as lts
 use Rattle.dependency.proofs.is_referenced_format.Reads as is-referenced-format-reads
 use Rattle.records.proofs.node_start.Reads as node-start-reads
 
--- src/lib.rt:40:9
 is-referenced-format-requires : tie.Need-is-referenced-format-requires
 is-referenced-format-requires c κs = search needs
 
--- src/lib.rt:41:9
 returns : tie.Need-returns
 returns c = format-other _ _ (c .before .is-referenced-format .ensures) (not-true _ (c .if1 .taken))
 
--- src/lib.rt:43:13
 node-start-requires : tie.Need-node-start-requires
 node-start-requires c κs = search needs
 
--- src/lib.rt:36:1
 returns-2 : tie.Need-returns-2
 returns-2 c = format-start _ _ (c .before .before .is-referenced-format .ensures) (not-false _ (c .before .if1 .left)) (c .node-start .ensures)
 

@@ -9,35 +9,27 @@ use Rattle.introduces.proofs.note_bases.Lts as lts
 use Rattle.introduces.proofs.note_rubies.Reads as note-rubies-reads
 use Rattle.wire.proofs.zero_words.Reads as zero-words-reads
 
--- src/lib.rt:124:22
 mul-zero-words : tie.Need-mul-zero-words
 mul-zero-words c = search needs
 
--- src/lib.rt:124:22
 sub-zero-words : tie.Need-sub-zero-words
 sub-zero-words c = search needs
 
--- src/lib.rt:124:22
 part-zero-words-start : tie.Need-part-zero-words-start
 part-zero-words-start c = search needs
 
--- src/lib.rt:124:22
 part-zero-words-end : tie.Need-part-zero-words-end
 part-zero-words-end c = search needs
 
--- src/lib.rt:124:5
 zero-words-requires : tie.Need-zero-words-requires
 zero-words-requires c κs = search needs
 
--- src/lib.rt:125:5
 note-rubies-requires : tie.Need-note-rubies-requires
 note-rubies-requires c κs = (sound-index (last-first (c .before .before .before .before .before .before .before .before .before .args .words .now) (c .before .before .before .before .before .before .before .before .before .args .base) (c .before .before .before .before .before .before .before .before .before .pre .1) _ refl (c .before .before .before .zero-words .last .0) (c .before .before .before .zero-words .kept .0)) (c .before .before .before .before .before .before .before .before .before .pre .0), last-inside (c .before .before .before .before .before .before .before .before .before .args .words .now) (c .before .before .before .before .before .before .before .before .before .args .base) (c .before .before .before .before .before .before .before .before .before .pre .1) _ refl (c .before .before .before .zero-words .last .0) (c .before .before .before .zero-words .kept .0))
 
--- src/lib.rt:109:1
 same-length : tie.Need-same-length
 same-length c = search needs
 
--- src/lib.rt:109:1
 returns : tie.Need-returns
 returns c = (c .before .before .note-rubies .ensures .0 ∙ last-first (c .before .before .before .before .before .before .before .before .before .before .before .before .args .words .now) (c .before .before .before .before .before .before .before .before .before .before .before .before .args .base) (c .before .before .before .before .before .before .before .before .before .before .before .before .pre .1) _ refl (c .before .before .before .before .before .before .zero-words .last .0) (c .before .before .before .before .before .before .zero-words .kept .0), c .before .before .note-rubies .ensures .1)
 

@@ -19,39 +19,30 @@ Inv-loop tape st words₀ base old new at count i₀ words i = (i ≤ count) × 
 abbrev μ-loop : tie.MeasureT-loop
 μ-loop tape st words₀ base old new at count i₀ words i = count - i
 
--- src/lib.rt:77:5
 loop-holds : tie.Need-loop-holds Inv-loop μ-loop
 loop-holds c = (omega arith, refl, refl, noted-none _ _ _ _ _)
 
--- src/lib.rt:78:69
 mul-note-ruby : tie.Need-mul-note-ruby Inv-loop μ-loop
 mul-note-ruby c = omega (arith, c .before .before .before .before .before .before .before .pre .0 .inside)
 
--- src/lib.rt:78:64
 add-note-ruby : tie.Need-add-note-ruby Inv-loop μ-loop
 add-note-ruby c = omega (arith, c .before .before .before .before .before .before .before .pre .0 .inside)
 
--- src/lib.rt:78:9
 note-ruby-requires : tie.Need-note-ruby-requires Inv-loop μ-loop
 note-ruby-requires c κs = (sound-node (sound-index (c .before .before .loop .inv .2) (c .before .before .before .before .before .before .before .pre .0)) (c .before .loop-test .taken), omega (arith, c .before .before .before .before .before .before .before .pre .1, c .before .before .loop .inv .1))
 
--- src/lib.rt:79:9
 add-i : tie.Need-add-i Inv-loop μ-loop
 add-i c = omega arith
 
--- src/lib.rt:77:5
 loop-less : tie.Need-loop-less Inv-loop μ-loop
 loop-less c = omega arith
 
--- src/lib.rt:77:5
 loop-again : tie.Need-loop-again Inv-loop μ-loop
 loop-again c = (omega arith, c .before .before .note-ruby .kept .1 .1 .0 ∙ c .before .before .before .before .before .loop .inv .1, noted-front _ _ _ _ (c .before .before .note-ruby .ensures) ∙ c .before .before .before .before .before .loop .inv .2, noted-next _ _ _ _ _ _ (c .before .before .before .before .before .loop .inv .3) (c .before .before .note-ruby .ensures))
 
--- src/lib.rt:62:1
 same-length : tie.Need-same-length Inv-loop μ-loop
 same-length c = c .before .loop .inv .1
 
--- src/lib.rt:62:1
 returns : tie.Need-returns Inv-loop μ-loop
 returns c = let e : c .before .loop .i ≡ c .before .before .before .before .before .before .args .count = omega arith in (c .before .loop .inv .2, subst (λ n. Noted (storeIn (c .before .before .before .before .before .before .args .tape .now) (c .before .before .before .before .before .before .args .old .now ++ c .before .before .before .before .before .before .args .new .now)) (recordsAt nodeCodec (c .before .before .before .before .before .before .args .tape .now) (c .before .before .before .before .before .before .args .at) n) (c .before .loop .words) (c .before .before .before .before .before .before .args .base)) e (c .before .loop .inv .3))
 

@@ -15,99 +15,75 @@ use Rattle.region.proofs.last_strings_at.Reads as last-strings-at-reads
 use Rattle.introduces.proofs.refers_by_index.Reads as refers-by-index-reads
 use Rattle.reading.proofs.nodes_until.Reads as nodes-until-reads
 
--- src/lib.rt:305:9
 nodes-until-requires : tie.Need-nodes-until-requires
 nodes-until-requires c κs = (ready-runs (c .before .before .before .before .before .pre .1 .0) .0, ready-in-order (c .before .before .before .before .before .pre .1 .0))
 
--- src/lib.rt:306:17
 cast-first : tie.Need-cast-first
 cast-first c = search needs
 
--- src/lib.rt:306:35
 cast-first-2 : tie.Need-cast-first-2
 cast-first-2 c = search needs
 
--- src/lib.rt:306:17
 add-first : tie.Need-add-first
 add-first c = search needs
 
--- src/lib.rt:307:9
 last-strings-at-requires : tie.Need-last-strings-at-requires
 last-strings-at-requires c κs = ready-held (c .before .before .before .before .before .before .before .before .pre .1 .0)
 
--- src/lib.rt:308:17
 cast-begin : tie.Need-cast-begin
 cast-begin c = search needs
 
--- src/lib.rt:308:35
 cast-begin-2 : tie.Need-cast-begin-2
 cast-begin-2 c = search needs
 
--- src/lib.rt:308:17
 add-begin : tie.Need-add-begin
 add-begin c = search needs
 
--- src/lib.rt:309:9
 last-strings-at-requires-2 : tie.Need-last-strings-at-requires-2
 last-strings-at-requires-2 c κs = ready-held (c .before .before .before .before .before .before .before .before .before .before .before .pre .1 .1)
 
--- src/lib.rt:316:9
 sub-refers-by-index : tie.Need-sub-refers-by-index
 sub-refers-by-index c = ready-cut (c .before .before .before .before .before .before .before .before .before .before .before .before .before .pre .1 .0) refl (c .before .before .before .before .last-strings-at .ensures) .0
 
--- src/lib.rt:316:9
 part-refers-by-index-start : tie.Need-part-refers-by-index-start
 part-refers-by-index-start c = ready-cut (c .before .before .before .before .before .before .before .before .before .before .before .before .before .pre .1 .0) refl (c .before .before .before .before .last-strings-at .ensures) .0
 
--- src/lib.rt:316:9
 part-refers-by-index-end : tie.Need-part-refers-by-index-end
 part-refers-by-index-end c = ready-cut (c .before .before .before .before .before .before .before .before .before .before .before .before .before .pre .1 .0) refl (c .before .before .before .before .last-strings-at .ensures) .1
 
--- src/lib.rt:317:9
 sub-refers-by-index-2 : tie.Need-sub-refers-by-index-2
 sub-refers-by-index-2 c = ready-cut (c .before .before .before .before .before .before .before .before .before .before .before .before .before .before .pre .1 .0) refl (c .before .before .before .before .before .last-strings-at .ensures) .1
 
--- src/lib.rt:317:9
 part-refers-by-index-start-2 : tie.Need-part-refers-by-index-start-2
 part-refers-by-index-start-2 c = ready-cut (c .before .before .before .before .before .before .before .before .before .before .before .before .before .before .pre .1 .0) refl (c .before .before .before .before .before .last-strings-at .ensures) .1
 
--- src/lib.rt:317:9
 part-refers-by-index-end-2 : tie.Need-part-refers-by-index-end-2
 part-refers-by-index-end-2 c = search needs
 
--- src/lib.rt:322:9
 sub-refers-by-index-3 : tie.Need-sub-refers-by-index-3
 sub-refers-by-index-3 c = ready-cut (c .before .before .before .before .before .before .before .before .before .before .before .before .before .before .before .pre .1 .1) refl (c .before .before .before .last-strings-at2 .ensures) .0
 
--- src/lib.rt:322:9
 part-refers-by-index-start-3 : tie.Need-part-refers-by-index-start-3
 part-refers-by-index-start-3 c = ready-cut (c .before .before .before .before .before .before .before .before .before .before .before .before .before .before .before .pre .1 .1) refl (c .before .before .before .last-strings-at2 .ensures) .0
 
--- src/lib.rt:322:9
 part-refers-by-index-end-3 : tie.Need-part-refers-by-index-end-3
 part-refers-by-index-end-3 c = ready-cut (c .before .before .before .before .before .before .before .before .before .before .before .before .before .before .before .pre .1 .1) refl (c .before .before .before .last-strings-at2 .ensures) .1
 
--- src/lib.rt:323:9
 sub-refers-by-index-4 : tie.Need-sub-refers-by-index-4
 sub-refers-by-index-4 c = ready-cut (c .before .before .before .before .before .before .before .before .before .before .before .before .before .before .before .before .pre .1 .1) refl (c .before .before .before .before .last-strings-at2 .ensures) .1
 
--- src/lib.rt:323:9
 part-refers-by-index-start-4 : tie.Need-part-refers-by-index-start-4
 part-refers-by-index-start-4 c = ready-cut (c .before .before .before .before .before .before .before .before .before .before .before .before .before .before .before .before .pre .1 .1) refl (c .before .before .before .before .last-strings-at2 .ensures) .1
 
--- src/lib.rt:323:9
 part-refers-by-index-end-4 : tie.Need-part-refers-by-index-end-4
 part-refers-by-index-end-4 c = search needs
 
--- src/lib.rt:310:5
 refers-by-index-requires : tie.Need-refers-by-index-requires
 refers-by-index-requires c κs = (c .before .before .before .before .before .before .before .before .before .before .before .before .before .before .before .before .before .pre .0, (sound-before (ready-sound (c .before .before .before .before .before .before .before .before .before .before .before .before .before .before .before .before .before .pre .1 .0) refl (c .before .before .before .before .before .before .before .before .last-strings-at .ensures) (omega (arith, c .before .before .before .before .before .before .before .before .before .before .before .before .before .before .before .before .before .good))) (c .before .before .before .before .before .before .before .before .before .before .before .nodes-until .ensures .within), ready-sound (c .before .before .before .before .before .before .before .before .before .before .before .before .before .before .before .before .before .pre .1 .1) refl (c .before .before .before .before .before .last-strings-at2 .ensures) (omega (arith, c .before .before .before .before .before .before .before .before .before .before .before .before .before .before .before .before .before .good))))
 
--- src/lib.rt:286:1
 same-length : tie.Need-same-length
 same-length c = search needs
 
--- src/lib.rt:286:1
 returns : tie.Need-returns
 returns c = refers-by (c .before .before .refers-by-index .ensures) (ready-store (c .before .before .before .before .before .before .before .before .before .before .before .before .before .before .before .before .before .before .before .before .pre .1 .0) refl (c .before .before .before .before .before .before .before .before .before .before .before .last-strings-at .ensures)) (c .before .before .before .before .before .before .before .before .before .before .before .before .before .before .nodes-until .ensures .are ∙ ap (keep (endsBy (c .before .before .before .before .before .before .before .before .before .before .before .before .before .before .before .before .before .before .before .before .args .start))) (ready-nodes (c .before .before .before .before .before .before .before .before .before .before .before .before .before .before .before .before .before .before .before .before .pre .1 .0))) (ready-store (c .before .before .before .before .before .before .before .before .before .before .before .before .before .before .before .before .before .before .before .before .pre .1 .1) refl (c .before .before .before .before .before .before .before .before .last-strings-at2 .ensures)) (ready-nodes (c .before .before .before .before .before .before .before .before .before .before .before .before .before .before .before .before .before .before .before .before .pre .1 .1))
 

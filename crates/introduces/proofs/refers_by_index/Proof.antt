@@ -20,63 +20,48 @@ Inv-loop tape st words₀ base middle old new at count reading own front back pl
 abbrev μ-loop : tie.MeasureT-loop
 μ-loop tape st words₀ base middle old new at count reading own front back place nodes size i₀ words i = count - i
 
--- src/lib.rt:328:16
 sub-size : tie.Need-sub-size Inv-loop μ-loop
 sub-size c = c .before .before .before .before .before .before .before .pre .0 .0
 
--- src/lib.rt:328:16
 add-size : tie.Need-add-size Inv-loop μ-loop
 add-size c = omega (arith, c .before .before .before .before .before .before .before .pre .0, c .before .before .before .before .before .before .before .good)
 
--- src/lib.rt:330:5
 loop-holds : tie.Need-loop-holds Inv-loop μ-loop
 loop-holds c = (omega arith, kept-none _ _ _, unreferred-none _ _ _ _ _)
 
--- src/lib.rt:331:29
 sub-fewer : tie.Need-sub-fewer Inv-loop μ-loop
 sub-fewer c = omega (arith, c .loop-test .taken)
 
--- src/lib.rt:331:13
 fewer-requires : tie.Need-fewer-requires Inv-loop μ-loop
 fewer-requires c κs = tt
 
--- src/lib.rt:340:18
 mul-refers-to-some : tie.Need-mul-refers-to-some Inv-loop μ-loop
 mul-refers-to-some c = omega (arith, (c .before .before .before .before .before .before .before .before .before .before .before .pre .1 .0) .inside, c .before .before .loop-test .taken)
 
--- src/lib.rt:340:13
 add-refers-to-some : tie.Need-add-refers-to-some Inv-loop μ-loop
 add-refers-to-some c = omega (arith, (c .before .before .before .before .before .before .before .before .before .before .before .pre .1 .0) .inside, c .before .before .loop-test .taken)
 
--- src/lib.rt:332:12
 refers-to-some-requires : tie.Need-refers-to-some-requires Inv-loop μ-loop
 refers-to-some-requires c κs = ((c .before .before .before .before .before .before .before .before .before .before .before .pre .0 .0, omega (arith, (c .before .before .before .loop .inv .1) .size, c .before .before .before .before .before .before .before .before .before .before .before .pre .0 .1)), (sound-piece (sound-index ((c .before .before .before .loop .inv .1) .first) (c .before .before .before .before .before .before .before .before .before .before .before .pre .1 .0)) _ _ (omega (arith, c .before .fewer .ensures, c .before .before .before .loop .inv .0)), sound-index ((c .before .before .before .loop .inv .1) .last) (c .before .before .before .before .before .before .before .before .before .before .before .pre .1 .1)))
 
--- src/lib.rt:349:13
 same-length : tie.Need-same-length Inv-loop μ-loop
 same-length c = c .before .before .before .refers-to-some .ensures .1 .size ∙ (c .before .before .before .before .before .before .before .loop .inv .1) .size
 
--- src/lib.rt:349:13
 returns : tie.Need-returns Inv-loop μ-loop
 returns c = referred-here (c .before .before .before .before .before .before .before .loop .inv .2) _ (c .before .before .before .refers-to-some .ensures .0) (c .if1 .taken) _ (omega (arith, c .before .before .before .before .before .fewer .ensures, c .before .before .before .before .before .before .before .loop .inv .0))
 
--- src/lib.rt:351:9
 add-i : tie.Need-add-i Inv-loop μ-loop
 add-i c = omega (arith, c .before .before .before .before .before .fewer .ensures, c .before .before .before .before .before .before .before .loop .inv .0, (c .before .before .before .before .before .before .before .before .before .before .before .before .before .before .before .pre .1 .0) .inside)
 
--- src/lib.rt:330:5
 loop-less : tie.Need-loop-less Inv-loop μ-loop
 loop-less c = omega (arith, c .before .before .before .before .before .fewer .ensures, c .before .before .before .before .before .before .loop-test .taken)
 
--- src/lib.rt:330:5
 loop-again : tie.Need-loop-again Inv-loop μ-loop
 loop-again c = (omega (arith, c .before .before .before .before .before .fewer .ensures, c .before .before .before .before .before .before .before .loop .inv .0), kept-more (c .before .before .before .before .before .before .before .loop .inv .1) (c .before .before .before .refers-to-some .ensures .1), unreferred-more (c .before .before .before .before .before .before .before .loop .inv .2) _ (c .before .before .before .refers-to-some .ensures .0) (c .if1 .left))
 
--- src/lib.rt:306:1
 same-length-2 : tie.Need-same-length-2 Inv-loop μ-loop
 same-length-2 c = (c .before .loop .inv .1) .size
 
--- src/lib.rt:306:1
 returns-2 : tie.Need-returns-2 Inv-loop μ-loop
 returns-2 c = unreferred-all (c .before .loop .inv .2) _ (omega (arith, c .before .loop .inv .0, c .loop-test .left))
 

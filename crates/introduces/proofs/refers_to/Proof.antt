@@ -9,23 +9,18 @@ use Rattle.dependency.proofs.first_plain.Reads as first-plain-reads
 use Rattle.dependency.proofs.is_referenced_format.Reads as is-referenced-format-reads
 use Rattle.introduces.proofs.is_base_of.Reads as is-base-of-reads
 
--- src/lib.rt:141:9
 is-referenced-format-requires : tie.Need-is-referenced-format-requires
 is-referenced-format-requires c κs = (c .before .before .before .before .before .before .before .before .pre .1 .1 .1) .inside
 
--- src/lib.rt:142:9
 returns : tie.Need-returns
 returns c = refers-other _ _ (c .before .before .before .before .before .before .before .before .before .before .pre .1 .1 .1) (c .before .is-referenced-format .ensures) (not-true _ (c .if1 .taken))
 
--- src/lib.rt:144:9
 first-plain-requires : tie.Need-first-plain-requires
 first-plain-requires c κs = ((c .before .before .before .before .before .before .before .before .before .before .pre .1 .1 .1) .strings .sides .store, ((c .before .before .before .before .before .before .before .before .before .before .pre .1 .1 .1) .inside, target-first (c .before .before .before .before .before .before .before .before .before .before .pre .1 .1 .1) (c .before .is-referenced-format .ensures) (not-false _ (c .if1 .left))))
 
--- src/lib.rt:145:5
 is-base-of-requires : tie.Need-is-base-of-requires
 is-base-of-requires c κs = (c .before .before .before .before .before .before .before .before .before .before .before .pre .0, (c .before .before .before .before .before .before .before .before .before .before .before .pre .1 .0, (c .before .before .before .before .before .before .before .before .before .before .before .pre .1 .1 .0, ((c .before .before .before .before .before .before .before .before .before .before .before .pre .1 .1 .1) .strings, plain-inside (c .before .before .before .before .before .before .before .before .before .before .before .pre .1 .1 .1) (c .first-plain .ensures)))))
 
--- src/lib.rt:119:1
 returns-2 : tie.Need-returns-2
 returns-2 c = refers-target _ _ (c .before .before .before .before .before .before .before .before .before .before .before .before .pre .1 .1 .1) (c .before .before .before .is-referenced-format .ensures) (not-false _ (c .before .before .if1 .left)) (c .before .first-plain .ensures) (c .is-base-of .ensures)
 

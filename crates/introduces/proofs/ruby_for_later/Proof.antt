@@ -8,19 +8,15 @@ use Rattle.introduces.proofs.ruby_for_later.Lts as lts
 use Rattle.introduces.proofs.any_format_from.Reads as any-format-from-reads
 use Rattle.introduces.proofs.any_ruby.Reads as any-ruby-reads
 
--- src/lib.rt:80:9
 any-ruby-requires : tie.Need-any-ruby-requires
 any-ruby-requires c κs = search needs
 
--- src/lib.rt:81:9
 returns : tie.Need-returns
 returns c = later-none _ _ _ (c .before .any-ruby .ensures) (not-true _ (c .if1 .taken))
 
--- src/lib.rt:83:5
 any-format-from-requires : tie.Need-any-format-from-requires
 any-format-from-requires c κs = search needs
 
--- src/lib.rt:68:1
 returns-2 : tie.Need-returns-2
 returns-2 c = later-format _ _ _ (c .before .before .any-ruby .ensures) (not-false _ (c .before .if1 .left)) (c .any-format-from .ensures)
 

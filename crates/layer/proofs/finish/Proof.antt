@@ -15,59 +15,45 @@ use Rattle.layer.proofs.layer_of.Reads as layer-of-reads
 use Rattle.layer.proofs.refused.Reads as refused-reads
 use Rattle.layer.proofs.strings_fit.Reads as strings-fit-reads
 
--- src/lib.rt:255:35
 sub-strings-fit : tie.Need-sub-strings-fit
 sub-strings-fit c = search needs
 
--- src/lib.rt:255:35
 sub-strings-fit-2 : tie.Need-sub-strings-fit-2
 sub-strings-fit-2 c = search needs
 
--- src/lib.rt:255:35
 sub-strings-fit-3 : tie.Need-sub-strings-fit-3
 sub-strings-fit-3 c = search needs
 
--- src/lib.rt:255:9
 strings-fit-requires : tie.Need-strings-fit-requires
 strings-fit-requires c κs = search needs
 
--- src/lib.rt:256:9
 refused-requires : tie.Need-refused-requires
 refused-requires c κs = search needs
 
--- src/lib.rt:256:9
 returns : tie.Need-returns
 returns c = finish-refused (c .before .before .strings-fit .ensures) (not-true _ (c .before .if1 .taken)) (c .refused .ensures)
 
--- src/lib.rt:258:28
 sub-lay-out : tie.Need-sub-lay-out
 sub-lay-out c = search needs
 
--- src/lib.rt:258:28
 add-lay-out : tie.Need-add-lay-out
 add-lay-out c = search needs
 
--- src/lib.rt:258:5
 lay-out-requires : tie.Need-lay-out-requires
 lay-out-requires c κs = let x = strings-room (c .before .before .before .before .before .before .args .below) (c .before .before .before .before .before .before .args .m .state .count) (length (c .before .before .before .before .before .before .args .out .now) - c .before .before .before .before .before .before .args .at - c .before .before .before .before .before .before .args .len - c .before .before .before .before .before .before .args .rest) (c .before .before .strings-fit .ensures) (not-false _ (c .before .if1 .left)) in (c .before .before .before .before .before .before .pre .0, (omega (arith, x .1, c .before .before .before .before .before .before .pre .1 .2, c .before .before .before .before .before .before .pre .1 .3), c .before .before .before .before .before .before .pre .1 .1))
 
--- src/lib.rt:259:23
 mul-layer-of : tie.Need-mul-layer-of
 mul-layer-of c = search needs
 
--- src/lib.rt:259:17
 add-layer-of : tie.Need-add-layer-of
 add-layer-of c = search needs
 
--- src/lib.rt:259:5
 layer-of-requires : tie.Need-layer-of-requires
 layer-of-requires c κs = search needs
 
--- src/lib.rt:248:1
 same-length : tie.Need-same-length
 same-length c = search needs
 
--- src/lib.rt:248:1
 returns-2 : tie.Need-returns-2
 returns-2 c = finish-made (c .before .before .before .before .before .before .strings-fit .ensures) (not-false _ (c .before .before .before .before .before .if1 .left)) (c .layer-of .ensures) (c .before .before .before .lay-out .ensures)
 

@@ -17,39 +17,30 @@ use Rattle.layer.proofs.refused.Reads as refused-reads
 use Rattle.layer.proofs.room_left.Reads as room-left-reads
 use Rattle.sizes.proofs.reading_sizes.Reads as reading-sizes-reads
 
--- src/lib.rt:320:47
 room-left-requires : tie.Need-room-left-requires
 room-left-requires c κs = search needs
 
--- src/lib.rt:320:9
 reading-sizes-requires : tie.Need-reading-sizes-requires
 reading-sizes-requires c κs = (source-ids (c .before .before .before .before .before .before .pre .0 .0), (source-in (c .before .before .before .before .before .before .pre .0 .0), left-limited (c .before .before .before .before .before .before .args .o) (c .room-left .ensures) (source-few (c .before .before .before .before .before .before .pre .0 .0))))
 
--- src/lib.rt:322:9
 refused-requires : tie.Need-refused-requires
 refused-requires c κs = search needs
 
--- src/lib.rt:322:9
 returns : tie.Need-returns
 returns c = pools-refused (c .before .before .before .before .before .before .before .before .before .args .out .now) (c .before .before .before .before .before .before .before .before .before .args .strs .now) (c .before .before .before .before .before .before .before .before .before .args .at) (c .before .before .before .before .before .before .before .before .before .args .base) (c .before .before .before .before .before .before .before .before .before .args .o) (c .before .before .before .before .before .before .before .before .before .pre .0 .1) _ (source-sizes (c .before .before .before .before .before .before .before .before .before .pre .0 .0) (c .before .before .before .before .before .before .before .before .before .args .o)) (left-sizes (c .before .before .before .before .before .before .before .before .before .args .o) (sourceAdds (c .before .before .before .before .before .before .before .before .before .args .tape .now) (c .before .before .before .before .before .before .before .before .before .args .bytes .now)) (c .before .before .before .room-left .ensures) (c .before .before .reading-sizes .ensures (c .before .before .before .before .before .before .before .before .before .args .bytes .now))) (c .before .if1 .taken) (c .refused .ensures)
 
--- src/lib.rt:324:5
 graft-sized-requires : tie.Need-graft-sized-requires
 graft-sized-requires c κs = ((c .before .before .before .before .before .before .before .before .before .before .before .pre .0 .0, c .before .before .before .before .before .before .before .before .before .before .before .pre .0 .1, sizes-exact (roomLeft (c .before .before .before .before .before .before .before .before .before .before .before .args .o)) (sourceAdds (c .before .before .before .before .before .before .before .before .before .before .before .args .tape .now) (c .before .before .before .before .before .before .before .before .before .before .before .args .bytes .now)) (left-sizes (c .before .before .before .before .before .before .before .before .before .before .before .args .o) (sourceAdds (c .before .before .before .before .before .before .before .before .before .before .before .args .tape .now) (c .before .before .before .before .before .before .before .before .before .before .before .args .bytes .now)) (c .before .before .before .before .before .room-left .ensures) (c .before .before .before .before .reading-sizes .ensures (c .before .before .before .before .before .before .before .before .before .before .before .args .bytes .now))) (c .before .before .before .if1 .left)), c .before .before .before .before .before .before .before .before .before .before .before .pre .1)
 
--- src/lib.rt:304:1
 same-length : tie.Need-same-length
 same-length c = search needs
 
--- src/lib.rt:304:1
 same-length-2 : tie.Need-same-length-2
 same-length-2 c = search needs
 
--- src/lib.rt:304:1
 same-length-3 : tie.Need-same-length-3
 same-length-3 c = search needs
 
--- src/lib.rt:304:1
 returns-2 : tie.Need-returns-2
 returns-2 c = search needs
 

@@ -11,27 +11,21 @@ use Rattle.layer.proofs.index_words.Reads as reads
 use Rattle.layer.proofs.index_words.Lts as lts
 use Rattle.strings.proofs.index_strings.Reads as index-strings-reads
 
--- src/lib.rt:200:44
 sub-index-strings : tie.Need-sub-index-strings
 sub-index-strings c = search needs
 
--- src/lib.rt:200:44
 part-index-strings-start : tie.Need-part-index-strings-start
 part-index-strings-start c = search needs
 
--- src/lib.rt:200:44
 part-index-strings-end : tie.Need-part-index-strings-end
 part-index-strings-end c = search needs
 
--- src/lib.rt:200:5
 index-strings-requires : tie.Need-index-strings-requires
 index-strings-requires c κs = search needs
 
--- src/lib.rt:195:1
 same-length : tie.Need-same-length
 same-length c = search needs
 
--- src/lib.rt:195:1
 returns : tie.Need-returns
 returns c = index-there _ (c .before .before .before .before .before .before .args .work .now) (c .before .before .before .before .before .before .pre .1) (c .before .before .index-strings .ensures)
 

@@ -15,35 +15,27 @@ use Rattle.moves.proofs.move_up.Reads as move-up-reads
 use Rattle.layer.proofs.put_lengths.Reads as put-lengths-reads
 use Rattle.wire.proofs.put_u8.Reads as put-u8-reads
 
--- src/lib.rt:92:18
 add-move-up : tie.Need-add-move-up
 add-move-up c = search needs
 
--- src/lib.rt:92:29
 mul-move-up : tie.Need-mul-move-up
 mul-move-up c = search needs
 
--- src/lib.rt:92:5
 move-up-requires : tie.Need-move-up-requires
 move-up-requires c κs = search needs
 
--- src/lib.rt:93:5
 put-u8-requires : tie.Need-put-u8-requires
 put-u8-requires c κs = search needs
 
--- src/lib.rt:94:22
 add-put-lengths : tie.Need-add-put-lengths
 add-put-lengths c = search needs
 
--- src/lib.rt:94:5
 put-lengths-requires : tie.Need-put-lengths-requires
 put-lengths-requires c κs = search needs
 
--- src/lib.rt:87:1
 same-length : tie.Need-same-length
 same-length c = search needs
 
--- src/lib.rt:87:1
 returns : tie.Need-returns
 returns c = let w = lengths-width (c .before .before .before .before .before .before .before .before .before .before .before .before .before .before .args .work .now) (c .before .before .before .before .before .before .before .before .before .before .before .before .before .before .args .count) in
     moved-up (c .before .before .before .before .before .before .before .before .before .before .before .before .before .before .args .out .now) (c .before .before .before .before .before .before .before .before .before .before .before .before .before .before .args .at) (c .before .before .before .before .before .before .before .before .before .before .before .before .before .before .args .n) (recordsBytes stringCodec (newLengths (c .before .before .before .before .before .before .before .before .before .before .before .before .before .before .args .work .now) (c .before .before .before .before .before .before .before .before .before .before .before .before .before .before .args .count))) (omega (arith, w, c .before .before .before .before .before .before .before .before .before .before .before .before .before .before .pre .1)) (5 * c .before .before .before .before .before .before .before .before .before .before .before .before .before .before .args .count) 2 (sym w) (c .before .before .before .before .before .before .before .before .before .before .move-up .ensures) (c .before .before .before .before .before .before .put-u8 .ensures) (c .before .before .put-lengths .ensures)

@@ -20,43 +20,33 @@ Inv-loop out₀ at work count i₀ out i = (i ≤ count) × (length out ≡ leng
 abbrev μ-loop : tie.MeasureT-loop
 μ-loop out₀ at work count i₀ out i = count - i
 
--- src/lib.rt:54:5
 loop-holds : tie.Need-loop-holds Inv-loop μ-loop
 loop-holds c = (omega arith, refl, lengths-none (c .before .before .args .out .now) (c .before .before .args .at) (c .before .before .args .work .now))
 
--- src/lib.rt:55:30
 mul-put-string : tie.Need-mul-put-string Inv-loop μ-loop
 mul-put-string c = omega arith
 
--- src/lib.rt:55:25
 add-put-string : tie.Need-add-put-string Inv-loop μ-loop
 add-put-string c = omega arith
 
--- src/lib.rt:55:37
 string-length-requires : tie.Need-string-length-requires Inv-loop μ-loop
 string-length-requires c κs = (omega (arith, c .before .before .before .before .before .pre .0 .room), c .before .before .before .before .before .pre .0 .order (c .before .before .loop .i) (c .before .loop-test .taken))
 
--- src/lib.rt:55:9
 put-string-requires : tie.Need-put-string-requires Inv-loop μ-loop
 put-string-requires c κs = omega arith
 
--- src/lib.rt:56:9
 add-i : tie.Need-add-i Inv-loop μ-loop
 add-i c = omega arith
 
--- src/lib.rt:54:5
 loop-less : tie.Need-loop-less Inv-loop μ-loop
 loop-less c = omega arith
 
--- src/lib.rt:54:5
 loop-again : tie.Need-loop-again Inv-loop μ-loop
 loop-again c = (omega arith, omega (arith, c .before .before .put-string .kept .0, c .before .before .before .before .before .before .loop .inv .1), lengths-more (c .before .before .before .before .before .before .before .before .before .args .out .now) (c .before .before .before .before .before .before .before .before .before .args .at) (c .before .before .before .before .before .before .before .before .before .args .work .now) (c .before .before .before .before .before .before .loop .i) (c .before .before .before .string-length .result) _ (c .before .before .before .string-length .ensures) (omega arith) (omega arith) (c .before .before .before .before .before .before .loop .inv .2) (c .before .before .put-string .ensures))
 
--- src/lib.rt:48:1
 same-length : tie.Need-same-length Inv-loop μ-loop
 same-length c = omega arith
 
--- src/lib.rt:48:1
 returns : tie.Need-returns Inv-loop μ-loop
 returns c = let e : c .before .loop .i ≡ c .before .before .before .before .args .count = omega arith in rw e at (c .before .loop .inv .2)
 

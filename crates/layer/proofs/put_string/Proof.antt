@@ -15,23 +15,18 @@ use Rattle.layer.proofs.put_string.Lts as lts
 use Rattle.wire.proofs.put_u32.Reads as put-u32-reads
 use Rattle.wire.proofs.put_u8.Reads as put-u8-reads
 
--- src/lib.rt:34:5
 put-u8-requires : tie.Need-put-u8-requires
 put-u8-requires c κs = search needs
 
--- src/lib.rt:35:24
 add-put-u32 : tie.Need-add-put-u32
 add-put-u32 c = search needs
 
--- src/lib.rt:35:5
 put-u32-requires : tie.Need-put-u32-requires
 put-u32-requires c κs = search needs
 
--- src/lib.rt:30:1
 same-length : tie.Need-same-length
 same-length c = search needs
 
--- src/lib.rt:30:1
 returns : tie.Need-returns
 returns c =
     let w1 : Wrote (c .before .before .before .before .before .before .before .before .before .args .out .now) (c .before .before .before .before .before .before .before .before .before .args .at) (3 ∷ []) (c .before .before .before .before .before .before .put-u8 .last .0) = record { is = c .before .before .before .before .before .before .put-u8 .ensures } in

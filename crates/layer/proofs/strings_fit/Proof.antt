@@ -10,19 +10,15 @@ use Rattle.layer.proofs.strings_fit.Tie as tie
 use Rattle.layer.proofs.strings_fit.Reads as reads
 use Rattle.layer.proofs.strings_fit.Lts as lts
 
--- src/lib.rt:122:8
 sub-if1 : tie.Need-sub-if1
 sub-if1 c = search needs
 
--- src/lib.rt:123:9
 returns : tie.Need-returns
 returns c = sym (rw (lt-leb (c .before .args .below + c .before .args .count) 1048575 (omega arith)) refl)
 
--- src/lib.rt:125:5
 mul-result : tie.Need-mul-result
 mul-result c = search needs
 
--- src/lib.rt:118:1
 returns-2 : tie.Need-returns-2
 returns-2 c = sym (rw (le-leb (c .before .args .below + c .before .args .count) 1048575 (omega arith)) refl)
 

@@ -14,31 +14,24 @@ use Rattle.graft_nodes.proofs.graft_nodes.Reads as graft-nodes-reads
 use Rattle.interner.proofs.fresh.Reads as fresh-reads
 use Rattle.layer.proofs.index_words.Reads as index-words-reads
 
--- src/lib.rt:221:5
 index-words-requires : tie.Need-index-words-requires
 index-words-requires c κs = (source-readable (c .before .before .before .before .before .before .pre .0) (omega (arith, c .before .before .before .before .before .before .good)), c .before .before .before .before .before .before .pre .1 .1 .0)
 
--- src/lib.rt:222:9
 fresh-requires : tie.Need-fresh-requires
 fresh-requires c κs = search needs
 
--- src/lib.rt:229:5
 graft-nodes-requires : tie.Need-graft-nodes-requires
 graft-nodes-requires c κs = (walk-ready (c .before .before .before .before .before .before .before .before .before .before .before .before .before .before .before .before .before .pre .0) (c .before .before .before .before .before .fresh .ensures) (c .before .before .before .before .before .before .before .before .before .before .index-words .ensures) (c .before .before .before .before .before .before .before .before .before .before .before .before .before .before .before .before .before .args .plan) (c .before .before .before .before .before .before .before .before .before .before .before .before .before .before .before .before .before .args .nodesat) (c .before .before .before .before .before .before .before .before .before .before .before .before .before .before .before .before .before .args .out .now) (c .before .before .before .before .before .before .before .before .before .before .before .before .before .before .before .before .before .pre .1 .0), ((source-inside (c .before .before .before .before .before .before .before .before .before .before .before .before .before .before .before .before .before .pre .0), source-nodes (c .before .before .before .before .before .before .before .before .before .before .before .before .before .before .before .before .before .pre .0)), (walk-low (c .before .before .before .before .before .before .before .before .before .before .before .before .before .before .before .before .before .pre .0) (c .before .before .before .before .before .fresh .ensures) (c .before .before .before .before .before .before .before .before .before .before .index-words .ensures) (c .before .before .before .before .before .before .before .before .before .before .before .before .before .before .before .before .before .args .plan) (c .before .before .before .before .before .before .before .before .before .before .before .before .before .before .before .before .before .args .nodesat) (c .before .before .before .before .before .before .before .before .before .before .before .before .before .before .before .before .before .args .out .now) (c .before .before .before .before .before .before .before .before .before .before .before .before .before .before .before .before .before .pre .1 .0), c .before .before .before .before .before .before .before .before .before .before .before .before .before .before .before .before .before .pre .1 .0 .records)))
 
--- src/lib.rt:204:1
 same-length : tie.Need-same-length
 same-length c = search needs
 
--- src/lib.rt:204:1
 same-length-2 : tie.Need-same-length-2
 same-length-2 c = search needs
 
--- src/lib.rt:204:1
 same-length-3 : tie.Need-same-length-3
 same-length-3 c = search needs
 
--- src/lib.rt:204:1
 returns : tie.Need-returns
 returns c = walk-told (c .before .before .before .before .before .before .before .before .before .before .before .before .before .before .before .before .before .before .before .before .before .before .before .before .pre .0) (c .before .before .before .before .before .before .before .before .before .before .before .before .fresh .ensures) (c .before .before .before .before .before .before .before .before .before .before .before .before .before .before .before .before .before .index-words .ensures) (c .before .before .before .before .before .before .before .before .before .before .before .before .before .before .before .before .before .before .before .before .before .before .before .before .args .plan) (c .before .before .before .before .before .before .before .before .before .before .before .before .before .before .before .before .before .before .before .before .before .before .before .before .args .nodesat) (c .before .before .before .before .before .before .before .before .before .before .before .before .before .before .before .before .before .before .before .before .before .before .before .before .args .out .now) (c .before .before .before .before .before .before .graft-nodes .ensures)
 

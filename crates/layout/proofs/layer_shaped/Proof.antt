@@ -8,19 +8,15 @@ use Rattle.layout.proofs.layer_shaped.Lts as lts
 use Rattle.records.proofs.contents_shaped.Reads as contents-shaped-reads
 use Rattle.records.proofs.segments_shaped.Reads as segments-shaped-reads
 
--- src/lib.rt:15:9
 contents-shaped-requires : tie.Need-contents-shaped-requires
 contents-shaped-requires c κs = search needs
 
--- src/lib.rt:16:9
 returns : tie.Need-returns
 returns c = runs-failed _ _ _ (c .before .contents-shaped .ensures) (not-true _ (c .if1 .taken))
 
--- src/lib.rt:18:5
 segments-shaped-requires : tie.Need-segments-shaped-requires
 segments-shaped-requires c κs = search needs
 
--- src/lib.rt:11:1
 returns-2 : tie.Need-returns-2
 returns-2 c = runs-last _ _ _ (c .before .before .contents-shaped .ensures) (not-false _ (c .before .if1 .left)) _ (c .segments-shaped .ensures)
 

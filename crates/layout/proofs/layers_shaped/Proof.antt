@@ -15,35 +15,27 @@ Inv-loop tape layers at₀ i₀ at i = (i ≤ layers) × Shaping tape i at
 abbrev μ-loop : tie.MeasureT-loop
 μ-loop tape layers at₀ i₀ at i = layers - i
 
--- src/lib.rt:28:5
 loop-holds : tie.Need-loop-holds Inv-loop μ-loop
 loop-holds c = (omega arith, shaping-none _)
 
--- src/lib.rt:29:13
 next-layer-requires : tie.Need-next-layer-requires Inv-loop μ-loop
 next-layer-requires c κs = shaping-inside (c .before .loop .inv .1) (c .before .before .before .pre) (c .loop-test .taken)
 
--- src/lib.rt:30:13
 layer-shaped-requires : tie.Need-layer-shaped-requires Inv-loop μ-loop
 layer-shaped-requires c κs = shaping-runs (c .before .before .loop .inv .1) (c .before .before .before .before .pre) (c .before .loop-test .taken) (c .next-layer .ensures)
 
--- src/lib.rt:31:13
 returns : tie.Need-returns Inv-loop μ-loop
 returns c = shaping-failed (c .before .before .before .before .loop .inv .1) (c .before .before .before .before .before .before .pre) (c .before .before .before .loop-test .taken) (c .before .before .next-layer .ensures) (c .before .layer-shaped .ensures) (not-true _ (c .if1 .taken))
 
--- src/lib.rt:34:9
 add-i : tie.Need-add-i Inv-loop μ-loop
 add-i c = omega arith
 
--- src/lib.rt:28:5
 loop-less : tie.Need-loop-less Inv-loop μ-loop
 loop-less c = omega arith
 
--- src/lib.rt:28:5
 loop-again : tie.Need-loop-again Inv-loop μ-loop
 loop-again c = (omega arith, shaping-more (c .before .before .before .before .loop .inv .1) (c .before .before .before .before .before .before .pre) (c .before .before .before .loop-test .taken) (c .before .before .next-layer .ensures) (c .before .layer-shaped .ensures) (not-false _ (c .if1 .left)))
 
--- src/lib.rt:22:1
 returns-2 : tie.Need-returns-2 Inv-loop μ-loop
 returns-2 c = shaping-all (c .before .loop .inv .1) (c .before .before .before .pre) (omega arith)
 

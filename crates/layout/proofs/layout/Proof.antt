@@ -10,43 +10,33 @@ use Rattle.layout.proofs.lists_shaped.Reads as lists-shaped-reads
 use Rattle.places.proofs.no_places.Reads as no-places-reads
 use Rattle.places.proofs.places_of.Reads as places-of-reads
 
--- src/lib.rt:57:9
 places-of-requires : tie.Need-places-of-requires
 places-of-requires c κs = search needs
 
--- src/lib.rt:59:9
 no-places-requires : tie.Need-no-places-requires
 no-places-requires c κs = search needs
 
--- src/lib.rt:59:9
 returns : tie.Need-returns
 returns c = layout-fault _ _ (c .before .before .places-of .ensures) (c .no-places .ensures) (c .before .if1 .taken)
 
--- src/lib.rt:61:9
 layers-shaped-requires : tie.Need-layers-shaped-requires
 layers-shaped-requires c κs = layers-fit _ _ (c .before .places-of .ensures) (c .if1 .left)
 
--- src/lib.rt:62:9
 no-places-requires-2 : tie.Need-no-places-requires-2
 no-places-requires-2 c κs = search needs
 
--- src/lib.rt:62:9
 returns-2 : tie.Need-returns-2
 returns-2 c = layout-layers _ _ (c .before .before .before .before .places-of .ensures) (c .before .before .before .if1 .left) (c .before .before .layers-shaped .ensures) (c .no-places2 .ensures) (not-true _ (c .before .if2 .taken))
 
--- src/lib.rt:64:9
 lists-shaped-requires : tie.Need-lists-shaped-requires
 lists-shaped-requires c κs = lists-fit _ _ (c .before .before .before .places-of .ensures) (c .before .before .if1 .left)
 
--- src/lib.rt:65:9
 no-places-requires-3 : tie.Need-no-places-requires-3
 no-places-requires-3 c κs = search needs
 
--- src/lib.rt:65:9
 returns-3 : tie.Need-returns-3
 returns-3 c = layout-lists _ _ (c .before .before .before .before .before .before .places-of .ensures) (c .before .before .before .before .before .if1 .left) (c .before .before .before .before .layers-shaped .ensures) (not-false _ (c .before .before .before .if2 .left)) (c .before .before .lists-shaped .ensures) (c .no-places3 .ensures) (not-true _ (c .before .if3 .taken))
 
--- src/lib.rt:54:1
 returns-4 : tie.Need-returns-4
 returns-4 c = layout-book _ _ (c .before .before .before .before .before .places-of .ensures) (c .before .before .before .before .if1 .left) (c .before .before .before .layers-shaped .ensures) (not-false _ (c .before .before .if2 .left)) (c .before .lists-shaped .ensures) (not-false _ (c .if3 .left))
 

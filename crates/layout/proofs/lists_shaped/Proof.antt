@@ -9,27 +9,21 @@ use Rattle.records.proofs.diagnostics_shaped.Reads as diagnostics-shaped-reads
 use Rattle.records.proofs.nodes_shaped.Reads as nodes-shaped-reads
 use Rattle.records.proofs.pairs_shaped.Reads as pairs-shaped-reads
 
--- src/lib.rt:44:9
 nodes-shaped-requires : tie.Need-nodes-shaped-requires
 nodes-shaped-requires c κs = search needs
 
--- src/lib.rt:45:9
 returns : tie.Need-returns
 returns c = nodes-failed _ _ _ (c .before .nodes-shaped .ensures) (not-true _ (c .if1 .taken))
 
--- src/lib.rt:47:9
 pairs-shaped-requires : tie.Need-pairs-shaped-requires
 pairs-shaped-requires c κs = search needs
 
--- src/lib.rt:48:9
 returns-2 : tie.Need-returns-2
 returns-2 c = pairs-failed _ _ _ (c .before .before .before .nodes-shaped .ensures) (not-false _ (c .before .before .if1 .left)) _ (c .before .pairs-shaped .ensures) (not-true _ (c .if2 .taken))
 
--- src/lib.rt:50:5
 diagnostics-shaped-requires : tie.Need-diagnostics-shaped-requires
 diagnostics-shaped-requires c κs = search needs
 
--- src/lib.rt:40:1
 returns-3 : tie.Need-returns-3
 returns-3 c = lists-last _ _ _ (c .before .before .before .before .nodes-shaped .ensures) (not-false _ (c .before .before .before .if1 .left)) _ (c .before .before .pairs-shaped .ensures) (not-false _ (c .before .if2 .left)) _ (c .diagnostics-shaped .ensures)
 

@@ -9,19 +9,15 @@ use Rattle.levels.proofs.content_below.Lts as lts
 use Rattle.levels.proofs.segments_below.Reads as segments-below-reads
 use Rattle.records.proofs.content_at.Reads as content-at-reads
 
--- src/lib.rt:53:9
 content-at-requires : tie.Need-content-at-requires
 content-at-requires c κs = search needs
 
--- src/lib.rt:55:9
 returns : tie.Need-returns
 returns c = content-plain (c .before .before .before .before .args .tape .now) (c .before .before .before .before .args .st) (c .before .before .before .before .args .level) (contentOf (c .before .before .content-at .result)) (c .if1 .taken) ∙ ap (contentBelow (c .before .before .before .before .args .tape .now) (c .before .before .before .before .args .st) (c .before .before .before .before .args .level)) (c .before .before .content-at .ensures)
 
--- src/lib.rt:57:5
 segments-below-requires : tie.Need-segments-below-requires
 segments-below-requires c κs = search needs
 
--- src/lib.rt:48:1
 returns-2 : tie.Need-returns-2
 returns-2 c = content-segments (c .before .before .before .before .before .args .tape .now) (c .before .before .before .before .before .args .st) (c .before .before .before .before .before .args .level) (contentOf (c .before .before .before .content-at .result)) _ (c .before .if1 .left) (c .segments-below .ensures) ∙ ap (contentBelow (c .before .before .before .before .before .args .tape .now) (c .before .before .before .before .before .args .st) (c .before .before .before .before .before .args .level)) (c .before .before .before .content-at .ensures)
 

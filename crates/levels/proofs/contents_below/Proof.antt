@@ -9,27 +9,21 @@ use Rattle.ids.proofs.contents_in.Reads as contents-in-reads
 use Rattle.levels.proofs.run_below.Reads as run-below-reads
 use Rattle.store.proofs.content_place.Reads as content-place-reads
 
--- src/lib.rt:80:9
 contents-in-requires : tie.Need-contents-in-requires
 contents-in-requires c κs = c .before .pre .few
 
--- src/lib.rt:81:9
 returns : tie.Need-returns
 returns c = contents-out (c .before .before .before .args .tape .now) (c .before .before .before .args .st) (c .before .before .before .args .level) (c .before .before .before .args .start) (c .before .before .before .args .len) (c .before .contents-in .ensures) (not-true _ (c .if1 .taken))
 
--- src/lib.rt:84:9
 returns-2 : tie.Need-returns-2
 returns-2 c = contents-none (c .before .before .before .before .args .tape .now) (c .before .before .before .before .args .st) (c .before .before .before .before .args .level) (c .before .before .before .before .args .start) (c .before .before .before .before .args .len) (c .before .before .contents-in .ensures) (not-false _ (c .before .if1 .left)) (c .if2 .taken)
 
--- src/lib.rt:86:9
 content-place-requires : tie.Need-content-place-requires
 content-place-requires c κs = c .before .before .before .before .pre .few
 
--- src/lib.rt:87:5
 run-below-requires : tie.Need-run-below-requires
 run-below-requires c κs = (c .before .before .before .before .before .pre, contents-fit (c .before .before .before .before .before .args .tape .now) (c .before .before .before .before .before .args .st) (c .before .before .before .before .before .args .level) (c .before .before .before .before .before .args .start) (c .before .before .before .before .before .args .len) (c .before .before .before .before .before .pre) (c .before .before .before .contents-in .ensures) (not-false _ (c .before .before .if1 .left)) (c .before .if2 .left) _ (c .content-place .ensures))
 
--- src/lib.rt:76:1
 returns-3 : tie.Need-returns-3
 returns-3 c = contents-read (c .before .before .before .before .before .before .args .tape .now) (c .before .before .before .before .before .before .args .st) (c .before .before .before .before .before .before .args .level) (c .before .before .before .before .before .before .args .start) (c .before .before .before .before .before .before .args .len) (c .before .before .before .before .contents-in .ensures) (not-false _ (c .before .before .before .if1 .left)) _ (c .before .content-place .ensures) (c .run-below .ensures)
 

@@ -5,15 +5,12 @@ use Rattle.levels.proofs.level_below.Tie as tie
 use Rattle.levels.proofs.level_below.Reads as reads
 use Rattle.levels.proofs.level_below.Lts as lts
 
--- src/lib.rt:16:10
 add-result : tie.Need-add-result
 add-result c = search needs
 
--- src/lib.rt:16:5
 shared-slice-read-result : tie.Need-shared-slice-read-result
 shared-slice-read-result c = search needs
 
--- src/lib.rt:12:1
 returns : tie.Need-returns
 returns c = level-read _ _ _
 

@@ -6,43 +6,33 @@ use Rattle.levels.proofs.level_ok.Reads as reads
 use Rattle.levels.proofs.level_ok.Lts as lts
 use Rattle.levels.proofs.body_below.Reads as body-below-reads
 
--- src/lib.rt:135:22
 add-level : tie.Need-add-level
 add-level c = search needs
 
--- src/lib.rt:135:17
 shared-slice-read-level : tie.Need-shared-slice-read-level
 shared-slice-read-level c = search needs
 
--- src/lib.rt:136:13
 add-if1 : tie.Need-add-if1
 add-if1 c = search needs
 
--- src/lib.rt:136:8
 shared-slice-read-if1 : tie.Need-shared-slice-read-if1
 shared-slice-read-if1 c = search needs
 
--- src/lib.rt:137:9
 returns : tie.Need-returns
 returns c = level-text (c .before .before .before .before .args .tape .now) (c .before .before .before .before .args .st) (c .before .before .before .before .args .at) (c .if1 .taken)
 
--- src/lib.rt:140:9
 returns-2 : tie.Need-returns-2
 returns-2 c = level-low (c .before .before .before .before .before .args .tape .now) (c .before .before .before .before .before .args .st) (c .before .before .before .before .before .args .at) (c .before .if1 .left) (c .if2 .taken)
 
--- src/lib.rt:143:9
 returns-3 : tie.Need-returns-3
 returns-3 c = level-high (c .before .before .before .before .before .before .args .tape .now) (c .before .before .before .before .before .before .args .st) (c .before .before .before .before .before .before .args .at) (c .before .before .if1 .left) (c .before .if2 .left) (c .if3 .taken)
 
--- src/lib.rt:145:26
 add-body-below : tie.Need-add-body-below
 add-body-below c = search needs
 
--- src/lib.rt:145:5
 body-below-requires : tie.Need-body-below-requires
 body-below-requires c κs = search needs
 
--- src/lib.rt:130:1
 returns-4 : tie.Need-returns-4
 returns-4 c = level-node (c .before .before .before .before .before .before .before .args .tape .now) (c .before .before .before .before .before .before .before .args .st) (c .before .before .before .before .before .before .before .args .at) (c .before .before .before .if1 .left) _ (c .before .before .if2 .left) (c .before .if3 .left) (c .body-below .ensures)
 

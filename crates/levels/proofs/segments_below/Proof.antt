@@ -9,27 +9,21 @@ use Rattle.ids.proofs.segments_in.Reads as segments-in-reads
 use Rattle.levels.proofs.levels_below.Reads as levels-below-reads
 use Rattle.store.proofs.segment_place.Reads as segment-place-reads
 
--- src/lib.rt:38:9
 segments-in-requires : tie.Need-segments-in-requires
 segments-in-requires c κs = c .before .pre .few
 
--- src/lib.rt:39:9
 returns : tie.Need-returns
 returns c = segments-out (c .before .before .before .args .tape .now) (c .before .before .before .args .st) (c .before .before .before .args .level) (c .before .before .before .args .start) (c .before .before .before .args .len) (c .before .segments-in .ensures) (not-true _ (c .if1 .taken))
 
--- src/lib.rt:42:9
 returns-2 : tie.Need-returns-2
 returns-2 c = segments-none (c .before .before .before .before .args .tape .now) (c .before .before .before .before .args .st) (c .before .before .before .before .args .level) (c .before .before .before .before .args .start) (c .before .before .before .before .args .len) (c .before .before .segments-in .ensures) (not-false _ (c .before .if1 .left)) (c .if2 .taken)
 
--- src/lib.rt:44:9
 segment-place-requires : tie.Need-segment-place-requires
 segment-place-requires c κs = c .before .before .before .before .pre .few
 
--- src/lib.rt:45:5
 levels-below-requires : tie.Need-levels-below-requires
 levels-below-requires c κs = segments-fit (c .before .before .before .before .before .args .tape .now) (c .before .before .before .before .before .args .st) (c .before .before .before .before .before .args .level) (c .before .before .before .before .before .args .start) (c .before .before .before .before .before .args .len) (c .before .before .before .before .before .pre) (c .before .before .before .segments-in .ensures) (not-false _ (c .before .before .if1 .left)) (c .before .if2 .left) _ (c .segment-place .ensures)
 
--- src/lib.rt:34:1
 returns-3 : tie.Need-returns-3
 returns-3 c = segments-read (c .before .before .before .before .before .before .args .tape .now) (c .before .before .before .before .before .before .args .st) (c .before .before .before .before .before .before .args .level) (c .before .before .before .before .before .before .args .start) (c .before .before .before .before .before .before .args .len) (c .before .before .before .before .segments-in .ensures) (not-false _ (c .before .before .before .if1 .left)) _ (c .before .segment-place .ensures) (c .levels-below .ensures)
 

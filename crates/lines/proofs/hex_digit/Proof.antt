@@ -6,19 +6,15 @@ use Rattle.lines.proofs.hex_digit.Tie as tie
 use Rattle.lines.proofs.hex_digit.Reads as reads
 use Rattle.lines.proofs.hex_digit.Lts as lts
 
--- src/lib.rt:47:16
 add-result : tie.Need-add-result
 add-result c = search needs
 
--- src/lib.rt:47:9
 returns : tie.Need-returns
 returns c = rw (lt-ltb _ 10 (c .if1 .taken)) refl
 
--- src/lib.rt:49:5
 add-result-2 : tie.Need-add-result-2
 add-result-2 c = search needs
 
--- src/lib.rt:42:1
 returns-2 : tie.Need-returns-2
 returns-2 c = rw (le-ltb _ 10 (c .if1 .left)) refl
 

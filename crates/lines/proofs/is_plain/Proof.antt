@@ -6,12 +6,10 @@ use Rattle.lines.proofs.is_plain.Tie as tie
 use Rattle.lines.proofs.is_plain.Reads as reads
 use Rattle.lines.proofs.is_plain.Lts as lts
 
--- src/lib.rt:37:9
 returns : tie.Need-returns
 unfolding isPlain
 returns c = rw (lt-leb 32 _ (c .if1 .taken)) refl
 
--- src/lib.rt:33:1
 returns-2 : tie.Need-returns-2
 unfolding isPlain
 returns-2 c = rw (le-leb 32 _ (c .if1 .left)) refl

@@ -17,35 +17,27 @@ Inv-loop out₀ at s place₀ i₀ out place i = (i ≤ length s) × (length out
 abbrev μ-loop : tie.MeasureT-loop
 μ-loop out₀ at s place₀ i₀ out place i = length s - i
 
--- src/lib.rt:80:5
 loop-holds : tie.Need-loop-holds Inv-loop μ-loop
 loop-holds c = (omega arith, refl, omega arith, escapes-none)
 
--- src/lib.rt:81:41
 shared-slice-read-put-escaped : tie.Need-shared-slice-read-put-escaped Inv-loop μ-loop
 shared-slice-read-put-escaped c = omega arith
 
--- src/lib.rt:81:9
 put-escaped-requires : tie.Need-put-escaped-requires Inv-loop μ-loop
 put-escaped-requires c κs = omega (arith, c .before .before .before .before .before .before .pre)
 
--- src/lib.rt:82:9
 add-i : tie.Need-add-i Inv-loop μ-loop
 add-i c = omega arith
 
--- src/lib.rt:80:5
 loop-less : tie.Need-loop-less Inv-loop μ-loop
 loop-less c = omega arith
 
--- src/lib.rt:80:5
 loop-again : tie.Need-loop-again Inv-loop μ-loop
 loop-again c = (omega arith, omega (arith, c .before .before .put-escaped .kept .0), omega (arith, c .before .before .put-escaped .ensures .0), escapes-more (take (c .before .before .before .before .before .before .before .before .before .args .at) (c .before .before .before .before .before .before .before .before .before .args .out .now)) (c .before .before .before .before .before .before .before .before .before .args .s .now) _ (c .before .before .before .before .before .loop-test .taken) (c .before .before .before .before .before .before .loop .inv .3) (c .before .before .put-escaped .ensures .1))
 
--- src/lib.rt:74:1
 same-length : tie.Need-same-length Inv-loop μ-loop
 same-length c = omega arith
 
--- src/lib.rt:74:1
 returns : tie.Need-returns Inv-loop μ-loop
 returns c = let e : c .before .loop .i ≡ length (c .before .before .before .before .args .s .now) = omega arith in (omega (arith, c .before .loop .inv .2), c .before .loop .inv .3 ∙ ap (λ (x : List ℕ). take (c .before .before .before .before .args .at) (c .before .before .before .before .args .out .now) ++ escapes x) (take-all (c .before .loop .i) (c .before .before .before .before .args .s .now) (c .loop-test .left)))
 

@@ -9,31 +9,24 @@ use Rattle.lines.proofs.put_quoted.Lts as lts
 use Rattle.lines.proofs.put_escapes.Reads as put-escapes-reads
 use Rattle.lines.proofs.put_text.Reads as put-text-reads
 
--- src/lib.rt:92:35
 slice-aggregate-put-text : tie.Need-slice-aggregate-put-text
 slice-aggregate-put-text c = search needs
 
--- src/lib.rt:92:9
 put-text-requires : tie.Need-put-text-requires
 put-text-requires c κs = search needs
 
--- src/lib.rt:93:9
 put-escapes-requires : tie.Need-put-escapes-requires
 put-escapes-requires c κs = search needs
 
--- src/lib.rt:94:25
 slice-aggregate-put-text-2 : tie.Need-slice-aggregate-put-text-2
 slice-aggregate-put-text-2 c = search needs
 
--- src/lib.rt:94:5
 put-text-requires-2 : tie.Need-put-text-requires-2
 put-text-requires-2 c κs = search needs
 
--- src/lib.rt:88:1
 same-length : tie.Need-same-length
 same-length c = search needs
 
--- src/lib.rt:88:1
 returns : tie.Need-returns
 returns c = (omega (arith, c .before .before .before .before .before .before .before .before .before .before .before .put-text .ensures .0, c .before .before .put-text2 .ensures .0, c .before .before .before .before .before .before .before .put-escapes .ensures .0), quoted-whole (take (c .before .before .before .before .before .before .before .before .before .before .before .before .before .before .before .before .args .at) (c .before .before .before .before .before .before .before .before .before .before .before .before .before .before .before .before .args .out .now)) _ (c .before .before .before .before .before .before .before .before .before .before .before .put-text .ensures .1) (c .before .before .before .before .before .before .before .put-escapes .ensures .1) (c .before .before .put-text2 .ensures .1))
 

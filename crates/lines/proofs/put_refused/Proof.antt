@@ -8,27 +8,21 @@ use Rattle.lines.proofs.put_refused.Lts as lts
 use Rattle.lines.proofs.put_number.Reads as put-number-reads
 use Rattle.lines.proofs.put_text.Reads as put-text-reads
 
--- src/lib.rt:36:37
 slice-aggregate-put-number : tie.Need-slice-aggregate-put-number
 slice-aggregate-put-number c = search needs
 
--- src/lib.rt:36:9
 put-number-requires : tie.Need-put-number-requires
 put-number-requires c κs = search needs
 
--- src/lib.rt:37:27
 slice-aggregate-put-text : tie.Need-slice-aggregate-put-text
 slice-aggregate-put-text c = search needs
 
--- src/lib.rt:37:5
 put-text-requires : tie.Need-put-text-requires
 put-text-requires c κs = search needs
 
--- src/lib.rt:32:1
 same-length : tie.Need-same-length
 same-length c = search needs
 
--- src/lib.rt:32:1
 returns : tie.Need-returns
 returns c = (omega (arith, c .before .before .before .before .before .before .before .before .before .before .before .pre, c .before .before .before .before .before .before .before .put-number .ensures .0, c .before .before .before .before .before .before .before .put-number .kept .0, c .before .before .put-text .ensures .0, c .before .before .put-text .kept .0), refused-line _ (c .before .before .before .before .before .before .before .put-number .ensures .1) (c .before .before .put-text .ensures .1))
 

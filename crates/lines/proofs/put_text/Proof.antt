@@ -7,19 +7,15 @@ use Rattle.lines.proofs.put_text.Reads as reads
 use Rattle.lines.proofs.put_text.Lts as lts
 use Rattle.wire.proofs.copy_at.Reads as copy-at-reads
 
--- src/main.rt:18:5
 copy-at-requires : tie.Need-copy-at-requires
 copy-at-requires c κs = search needs
 
--- src/main.rt:19:5
 add-result : tie.Need-add-result
 add-result c = search needs
 
--- src/main.rt:14:1
 same-length : tie.Need-same-length
 same-length c = search needs
 
--- src/main.rt:14:1
 returns : tie.Need-returns
 returns c = (refl, put-text _ _ _ (c .before .before .before .before .before .before .pre) (c .before .before .copy-at .ensures))
 

@@ -11,51 +11,39 @@ use Rattle.listing.proofs.part_piece.Reads as part-piece-reads
 use Rattle.listing.proofs.wide.Reads as wide-reads
 use Rattle.wire.proofs.u32_or_zero.Reads as u32-or-zero-reads
 
--- src/lib.rt:165:36
 wide-requires : tie.Need-wide-requires
 wide-requires c κs = search needs
 
--- src/lib.rt:165:9
 number-piece-requires : tie.Need-number-piece-requires
 number-piece-requires c κs = search needs
 
--- src/lib.rt:165:9
 returns : tie.Need-returns
 returns c = edit-start _ _ _ _ _ (c .number-piece .ensures) (c .before .wide .ensures) (c .before .before .if1 .taken)
 
--- src/lib.rt:168:36
 wide-requires-2 : tie.Need-wide-requires-2
 wide-requires-2 c κs = search needs
 
--- src/lib.rt:168:9
 number-piece-requires-2 : tie.Need-number-piece-requires-2
 number-piece-requires-2 c κs = search needs
 
--- src/lib.rt:168:9
 returns-2 : tie.Need-returns-2
 returns-2 c = edit-end _ _ _ _ _ (c .number-piece2 .ensures) (c .before .wide2 .ensures) (c .before .before .if2 .taken)
 
--- src/lib.rt:171:42
 u32-or-zero-requires : tie.Need-u32-or-zero-requires
 u32-or-zero-requires c κs = search needs
 
--- src/lib.rt:171:37
 wide-requires-3 : tie.Need-wide-requires-3
 wide-requires-3 c κs = search needs
 
--- src/lib.rt:171:9
 part-piece-requires : tie.Need-part-piece-requires
 part-piece-requires c κs = search needs
 
--- src/lib.rt:171:9
 returns-3 : tie.Need-returns-3
 returns-3 c = edit-part _ _ _ _ _ (c .part-piece .ensures) (c .before .wide3 .ensures ∙ c .before .before .u32-or-zero .ensures) (c .before .before .before .if3 .taken)
 
--- src/lib.rt:173:5
 label-only-requires : tie.Need-label-only-requires
 label-only-requires c κs = search needs
 
--- src/lib.rt:161:1
 returns-4 : tie.Need-returns-4
 returns-4 c = edit-none _ _ _ _ _ (c .label-only .ensures) (c .before .before .before .if1 .left) (c .before .before .if2 .left) (c .before .if3 .left)
 

@@ -14,35 +14,27 @@ use Rattle.listing.proofs.label_number.Reads as label-number-reads
 use Rattle.listing.proofs.shown_piece.Reads as shown-piece-reads
 use Rattle.listing.proofs.wide8.Reads as wide8-reads
 
--- src/lib.rt:220:22
 array-read-label-number : tie.Need-array-read-label-number
 array-read-label-number c = search needs
 
--- src/lib.rt:220:9
 label-number-requires : tie.Need-label-number-requires
 label-number-requires c κs = search needs
 
--- src/lib.rt:221:9
 array-read-shown-piece : tie.Need-array-read-shown-piece
 array-read-shown-piece c = search needs
 
--- src/lib.rt:222:15
 array-read-wide8 : tie.Need-array-read-wide8
 array-read-wide8 c = search needs
 
--- src/lib.rt:222:9
 wide8-requires : tie.Need-wide8-requires
 wide8-requires c κs = search needs
 
--- src/lib.rt:223:9
 array-read-shown-piece-2 : tie.Need-array-read-shown-piece-2
 array-read-shown-piece-2 c = search needs
 
--- src/lib.rt:215:5
 shown-piece-requires : tie.Need-shown-piece-requires
 shown-piece-requires c κs = (c .before .before .before .pre .0, omega (arith, place-small (c .before .before .before .args .f), c .wide8 .ensures), word-number _ (c .before .before .before .pre .1))
 
--- src/lib.rt:211:1
 returns : tie.Need-returns
 returns c = field-read (c .before .before .before .before .args .f) (c .before .before .label-number .ensures) refl (c .before .wide8 .ensures) refl (λ (l : List ℕ) (s : Shows). shown (c .before .before .before .before .args .tape .now) (c .before .before .before .before .args .m) (c .before .before .before .before .args .at) (c .before .before .before .before .args .n) l s) (c .shown-piece .ensures)
 

@@ -5,7 +5,6 @@ use Rattle.listing.proofs.first_line.Tie as tie
 use Rattle.listing.proofs.first_line.Reads as reads
 use Rattle.listing.proofs.first_line.Lts as lts
 
--- src/lib.rt:478:1
 returns : tie.Need-returns
 unfolding firstLine
 returns c = refl

@@ -5,7 +5,6 @@ use Rattle.listing.proofs.label_only.Tie as tie
 use Rattle.listing.proofs.label_only.Reads as reads
 use Rattle.listing.proofs.label_only.Lts as lts
 
--- src/lib.rt:69:1
 returns : tie.Need-returns
 unfolding pieceItem valueOf
 returns c = refl

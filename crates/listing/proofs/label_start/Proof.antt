@@ -7,23 +7,18 @@ use Rattle.listing.proofs.label_start.Reads as reads
 use Rattle.listing.proofs.label_start.Lts as lts
 use Rattle.listing.proofs.wide16.Reads as wide16-reads
 
--- src/lib.rt:284:9
 returns : tie.Need-returns
 returns c = start-none _ (c .if1 .taken)
 
--- src/lib.rt:286:12
 mul-wide16 : tie.Need-mul-wide16
 mul-wide16 c = search needs
 
--- src/lib.rt:286:12
 array-read-wide16 : tie.Need-array-read-wide16
 array-read-wide16 c = search needs
 
--- src/lib.rt:286:5
 wide16-requires : tie.Need-wide16-requires
 wide16-requires c κs = search needs
 
--- src/lib.rt:280:1
 returns-2 : tie.Need-returns-2
 returns-2 c = start-read (c .before .before .args .i) (omega (arith, c .before .if1 .left)) (c .wide16 .ensures)
 

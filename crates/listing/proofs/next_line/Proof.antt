@@ -11,52 +11,40 @@ use Rattle.listing.proofs.number_in.Reads as number-in-reads
 use Rattle.listing.proofs.wide8.Reads as wide8-reads
 use Rattle.wire.proofs.byte_at.Reads as byte-at-reads
 
--- src/lib.rt:490:9
 byte-at-requires : tie.Need-byte-at-requires
 byte-at-requires c κs = search needs
 
--- src/lib.rt:494:17
 add-t8 : tie.Need-add-t8
 add-t8 c = search needs
 
--- src/lib.rt:493:9
 returns : tie.Need-returns
 returns c = next-none _ _ (c .before .before .before .byte-at .ensures) (c .before .if1 .taken)
 
--- src/lib.rt:498:9
 number-in-requires : tie.Need-number-in-requires
 number-in-requires c κs = search needs
 
--- src/lib.rt:499:9
 wide8-requires : tie.Need-wide8-requires
 wide8-requires c κs = search needs
 
--- src/lib.rt:500:15
 add-seen : tie.Need-add-seen
 add-seen c = omega (arith, number-few (c .before .before .before .before .before .before .args .tape .now) (c .before .before .before .before .before .before .pre .1), c .before .number-in .ensures, c .before .before .before .before .before .before .pre .0)
 
--- src/lib.rt:500:5
 mul-seen : tie.Need-mul-seen
 mul-seen c = search needs
 
--- src/lib.rt:500:5
 array-write-seen : tie.Need-array-write-seen
 array-write-seen c = search needs
 
--- src/lib.rt:502:26
 array-read-wide8 : tie.Need-array-read-wide8
 array-read-wide8 c = search needs
 
--- src/lib.rt:502:20
 wide8-requires-2 : tie.Need-wide8-requires-2
 wide8-requires-2 c κs = search needs
 
--- src/lib.rt:502:13
 add-t11 : tie.Need-add-t11
 unfolding sizes
 add-t11 c = omega (arith, size-small (c .before .before .wide8 .result), c .before .wide82 .ensures, c .before .before .before .before .before .before .before .before .pre .0)
 
--- src/lib.rt:485:1
 returns-2 : tie.Need-returns-2
 unfolding sizes
 returns-2 c = next-read _ _ (c .before .before .before .before .before .before .byte-at .ensures) (c .before .before .before .before .if1 .left) (c .before .before .wide8 .ensures) (c .before .before .before .number-in .ensures) (c .before .wide82 .ensures)

@@ -8,43 +8,33 @@ use Rattle.listing.proofs.part_piece.Lts as lts
 use Rattle.listing.proofs.text_piece.Reads as text-piece-reads
 use Rattle.listing.proofs.wide.Reads as wide-reads
 
--- src/lib.rt:147:9
 wide-requires : tie.Need-wide-requires
 wide-requires c κs = search needs
 
--- src/lib.rt:148:9
 wide-requires-2 : tie.Need-wide-requires-2
 wide-requires-2 c κs = search needs
 
--- src/lib.rt:150:9
 text-piece-requires : tie.Need-text-piece-requires
 text-piece-requires c κs = search needs
 
--- src/lib.rt:150:9
 returns : tie.Need-returns
 returns c = part-before _ _ _ _ (c .text-piece .ensures) refl (c .before .before .before .wide .ensures) (c .before .if1 .taken)
 
--- src/lib.rt:153:9
 text-piece-requires-2 : tie.Need-text-piece-requires-2
 text-piece-requires-2 c κs = search needs
 
--- src/lib.rt:153:9
 returns-2 : tie.Need-returns-2
 returns-2 c = part-region _ _ _ _ (c .text-piece2 .ensures) (c .before .before .before .before .wide .ensures) (c .before .before .before .wide2 .ensures) (c .before .if2 .taken)
 
--- src/lib.rt:156:9
 text-piece-requires-3 : tie.Need-text-piece-requires-3
 text-piece-requires-3 c κs = search needs
 
--- src/lib.rt:156:9
 returns-3 : tie.Need-returns-3
 returns-3 c = part-behind _ _ _ _ (c .text-piece3 .ensures) (c .before .before .before .before .wide2 .ensures) refl (c .before .if3 .taken)
 
--- src/lib.rt:158:5
 text-piece-requires-4 : tie.Need-text-piece-requires-4
 text-piece-requires-4 c κs = search needs
 
--- src/lib.rt:144:1
 returns-4 : tie.Need-returns-4
 returns-4 c = part-all _ _ _ _ (c .text-piece4 .ensures) refl refl (c .before .before .before .if1 .left) (c .before .before .if2 .left) (c .before .if3 .left)
 

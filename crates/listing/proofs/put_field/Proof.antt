@@ -8,19 +8,15 @@ use Rattle.listing.proofs.put_field.Lts as lts
 use Rattle.listing.proofs.field_piece.Reads as field-piece-reads
 use Rattle.listing.proofs.put_piece.Reads as put-piece-reads
 
--- src/lib.rt:401:9
 field-piece-requires : tie.Need-field-piece-requires
 field-piece-requires c κs = search needs
 
--- src/lib.rt:394:5
 put-piece-requires : tie.Need-put-piece-requires
 put-piece-requires c κs = search needs
 
--- src/lib.rt:377:1
 same-length : tie.Need-same-length
 same-length c = search needs
 
--- src/lib.rt:377:1
 returns : tie.Need-returns
 returns c = (c .before .before .put-piece .ensures .0, field-put _ _ _ _ _ _ (take (c .before .before .before .before .before .before .before .before .before .args .at) (c .before .before .before .before .before .before .before .before .before .args .out .now)) (c .before .before .before .field-piece .ensures) (c .before .before .put-piece .ensures .1))
 

@@ -15,31 +15,24 @@ Inv-loop out₀ text tape bytes st m p n from to at₀ f₀ out at f = (from ≤
 abbrev μ-loop : tie.MeasureT-loop
 μ-loop out₀ text tape bytes st m p n from to at₀ f₀ out at f = to - f
 
--- src/lib.rt:439:5
 loop-holds : tie.Need-loop-holds Inv-loop μ-loop
 loop-holds c = (omega arith, omega (arith, c .before .before .before .before .pre .0 .2), refl, omega arith, fields-none _ _ _ _ _ _ (omega arith))
 
--- src/lib.rt:440:9
 put-field-requires : tie.Need-put-field-requires Inv-loop μ-loop
 put-field-requires c κs = ((omega (arith, c .before .before .before .before .before .before .before .pre .0 .0, c .before .before .before .before .before .before .before .pre .0 .4), c .before .before .before .before .before .before .before .pre .0 .1, omega (arith, c .before .before .before .before .before .before .before .pre .0 .3)), (c .before .before .before .before .before .before .before .pre .1 .0, c .before .before .before .before .before .before .before .pre .1 .1))
 
--- src/lib.rt:441:9
 add-f : tie.Need-add-f Inv-loop μ-loop
 add-f c = omega arith
 
--- src/lib.rt:439:5
 loop-less : tie.Need-loop-less Inv-loop μ-loop
 loop-less c = omega arith
 
--- src/lib.rt:439:5
 loop-again : tie.Need-loop-again Inv-loop μ-loop
 loop-again c = (omega arith, omega arith, omega (arith, c .before .before .put-field .kept .0), omega (arith, c .before .before .put-field .ensures .0), fields-more _ _ _ _ _ _ _ (c .before .before .before .before .before .loop .inv .0) (c .before .before .before .before .before .loop .inv .4) (c .before .before .put-field .ensures .1))
 
--- src/lib.rt:420:1
 same-length : tie.Need-same-length Inv-loop μ-loop
 same-length c = omega arith
 
--- src/lib.rt:420:1
 returns : tie.Need-returns Inv-loop μ-loop
 returns c = let e : c .before .loop .f ≡ c .before .before .before .before .before .before .args .to = omega arith in (omega (arith, c .before .loop .inv .3, c .before .before .before .before .before .before .pre .0 .4), rw e at (c .before .loop .inv .4))
 

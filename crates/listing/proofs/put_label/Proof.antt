@@ -14,39 +14,30 @@ use Rattle.listing.proofs.label_start.Reads as label-start-reads
 use Rattle.listing.proofs.wide16.Reads as wide16-reads
 use Rattle.wire.proofs.between.Reads as between-reads
 
--- src/lib.rt:295:28
 wide16-requires : tie.Need-wide16-requires
 wide16-requires c κs = search needs
 
--- src/lib.rt:295:9
 label-start-requires : tie.Need-label-start-requires
 label-start-requires c κs = search needs
 
--- src/lib.rt:296:26
 wide16-requires-2 : tie.Need-wide16-requires-2
 wide16-requires-2 c κs = search needs
 
--- src/lib.rt:296:26
 add-label-start : tie.Need-add-label-start
 add-label-start c = search needs
 
--- src/lib.rt:296:9
 label-start-requires-2 : tie.Need-label-start-requires-2
 label-start-requires-2 c κs = search needs
 
--- src/lib.rt:297:30
 between-requires : tie.Need-between-requires
 between-requires c κs = search needs
 
--- src/lib.rt:297:5
 put-text-requires : tie.Need-put-text-requires
 put-text-requires c κs = let e = ap length (label-part (c .before .before .before .before .before .before .before .before .args .i) (c .before .before .before .before .before .before .before .before .pre .1) (c .before .before .before .before .before .wide16 .ensures) (c .before .before .before .wide162 .ensures) (c .before .before .before .before .label-start .ensures) (c .before .before .label-start2 .ensures) (c .between .ensures)) in omega (arith, e, label-short (c .before .before .before .before .before .before .before .before .args .i), c .before .before .before .before .before .before .before .before .pre .0)
 
--- src/lib.rt:290:1
 same-length : tie.Need-same-length
 same-length c = search needs
 
--- src/lib.rt:290:1
 returns : tie.Need-returns
 returns c = let e = label-part (c .before .before .before .before .before .before .before .before .before .before .before .args .i) (c .before .before .before .before .before .before .before .before .before .before .before .pre .1) (c .before .before .before .before .before .before .before .before .wide16 .ensures) (c .before .before .before .before .before .before .wide162 .ensures) (c .before .before .before .before .before .before .before .label-start .ensures) (c .before .before .before .before .before .label-start2 .ensures) (c .before .before .before .between .ensures) in let n = ap length e in (omega (arith, n, label-short (c .before .before .before .before .before .before .before .before .before .before .before .args .i), c .before .before .put-text .ensures .0), c .before .before .put-text .ensures .1 ∙ ap (λ (x : List ℕ). take (c .before .before .before .before .before .before .before .before .before .before .before .args .at) (c .before .before .before .before .before .before .before .before .before .before .before .args .out .now) ++ x) e)
 

@@ -11,43 +11,33 @@ use Rattle.listing.proofs.put_fields.Reads as put-fields-reads
 use Rattle.listing.proofs.row_of.Reads as row-of-reads
 use Rattle.listing.proofs.row_start.Reads as row-start-reads
 
--- src/lib.rt:462:9
 row-of-requires : tie.Need-row-of-requires
 row-of-requires c κs = search needs
 
--- src/lib.rt:463:9
 number-in-requires : tie.Need-number-in-requires
 number-in-requires c κs = search needs
 
--- src/lib.rt:464:9
 row-start-requires : tie.Need-row-start-requires
 row-start-requires c κs = omega (arith, row-small (c .before .before .before .before .before .before .args .tape .now) (c .before .before .before .before .before .before .args .m .edit) (c .before .before .before .before .before .before .args .c .at) (c .before .row-of .ensures))
 
--- src/lib.rt:465:24
 add-row-start : tie.Need-add-row-start
 add-row-start c = omega (arith, row-small (c .before .before .before .before .before .before .before .args .tape .now) (c .before .before .before .before .before .before .before .args .m .edit) (c .before .before .before .before .before .before .before .args .c .at) (c .before .before .row-of .ensures))
 
--- src/lib.rt:465:9
 row-start-requires-2 : tie.Need-row-start-requires-2
 row-start-requires-2 c κs = omega (arith, row-small (c .before .before .before .before .before .before .before .args .tape .now) (c .before .before .before .before .before .before .before .args .m .edit) (c .before .before .before .before .before .before .before .args .c .at) (c .before .before .row-of .ensures))
 
--- src/lib.rt:466:9
 put-fields-requires : tie.Need-put-fields-requires
 put-fields-requires c κs = ((c .before .before .before .before .before .before .before .before .before .pre .0 .0, c .before .before .before .before .before .before .before .before .before .pre .0 .1, (row-fields (c .before .before .before .before .before .before .before .before .before .args .tape .now) (c .before .before .before .before .before .before .before .before .before .args .m .edit) (c .before .before .before .before .before .before .before .before .before .args .c .at) (c .before .before .before .before .row-of .ensures) (c .before .before .row-start .ensures) (c .before .row-start2 .ensures)) .0, (row-fields (c .before .before .before .before .before .before .before .before .before .args .tape .now) (c .before .before .before .before .before .before .before .before .before .args .m .edit) (c .before .before .before .before .before .before .before .before .before .args .c .at) (c .before .before .before .before .row-of .ensures) (c .before .before .row-start .ensures) (c .before .row-start2 .ensures)) .1, (row-fields (c .before .before .before .before .before .before .before .before .before .args .tape .now) (c .before .before .before .before .before .before .before .before .before .args .m .edit) (c .before .before .before .before .before .before .before .before .before .args .c .at) (c .before .before .before .before .row-of .ensures) (c .before .before .row-start .ensures) (c .before .row-start2 .ensures)) .2), (c .before .before .before .before .before .before .before .before .before .pre .1 .0, c .before .before .before .before .before .before .before .before .before .pre .1 .1))
 
--- src/lib.rt:467:31
 slice-aggregate-put-text : tie.Need-slice-aggregate-put-text
 slice-aggregate-put-text c = search needs
 
--- src/lib.rt:467:5
 put-text-requires : tie.Need-put-text-requires
 put-text-requires c κs = search needs
 
--- src/lib.rt:448:1
 same-length : tie.Need-same-length
 same-length c = search needs
 
--- src/lib.rt:448:1
 returns : tie.Need-returns
 returns c = (omega (arith, c .before .before .before .before .before .before .before .before .before .before .before .before .before .before .before .before .before .pre .0 .0, c .before .before .before .before .before .before .before .put-fields .ensures .0, c .before .before .before .before .before .before .before .put-fields .kept .0, c .before .before .put-text .ensures .0, c .before .before .put-text .kept .0), line-put _ _ _ _ (c .before .before .before .before .before .before .before .before .before .before .before .before .row-of .ensures) (c .before .before .before .before .before .before .before .before .before .before .before .number-in .ensures) (c .before .before .before .before .before .before .before .before .before .before .row-start .ensures) (c .before .before .before .before .before .before .before .before .before .row-start2 .ensures) (c .before .before .before .before .before .before .before .put-fields .ensures .1) (c .before .before .put-text .ensures .1))
 

@@ -9,19 +9,15 @@ use Rattle.listing.proofs.put_piece.Lts as lts
 use Rattle.listing.proofs.put_label.Reads as put-label-reads
 use Rattle.listing.proofs.put_value.Reads as put-value-reads
 
--- src/lib.rt:372:9
 put-label-requires : tie.Need-put-label-requires
 put-label-requires c κs = search needs
 
--- src/lib.rt:373:5
 put-value-requires : tie.Need-put-value-requires
 put-value-requires c κs = search needs
 
--- src/lib.rt:358:1
 same-length : tie.Need-same-length
 same-length c = search needs
 
--- src/lib.rt:358:1
 returns : tie.Need-returns
 returns c = (omega (arith, c .before .before .before .before .before .before .put-label .ensures .0, c .before .before .put-value .ensures .0), item-put _ _ (take (c .before .before .before .before .before .before .before .before .before .before .before .before .args .at) (c .before .before .before .before .before .before .before .before .before .before .before .before .args .out .now)) _ (c .before .before .before .before .before .before .put-label .ensures .1) (c .before .before .put-value .ensures .1))
 

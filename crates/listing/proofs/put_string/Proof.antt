@@ -15,59 +15,45 @@ use Rattle.lines.proofs.put_text.Reads as put-text-reads
 use Rattle.listing.proofs.string_bytes.Reads as string-bytes-reads
 use Rattle.listing.proofs.wide.Reads as wide-reads
 
--- src/lib.rt:325:8
 wide-requires : tie.Need-wide-requires
 wide-requires c κs = search needs
 
--- src/lib.rt:326:41
 slice-aggregate-put-text : tie.Need-slice-aggregate-put-text
 slice-aggregate-put-text c = search needs
 
--- src/lib.rt:326:9
 put-text-requires : tie.Need-put-text-requires
 put-text-requires c κs = search needs
 
--- src/lib.rt:326:9
 same-length : tie.Need-same-length
 same-length c = search needs
 
--- src/lib.rt:326:9
 returns : tie.Need-returns
 returns c = (omega (arith, c .before .before .put-text .ensures .0), c .before .before .put-text .ensures .1 ∙ ap (λ (x : List ℕ). take (c .before .before .before .before .before .before .before .before .before .before .args .at) (c .before .before .before .before .before .before .before .before .before .before .args .out .now) ++ x) (none-bytes (c .before .before .before .before .before .before .before .before .before .before .args .id) (string-none (c .before .before .before .before .before .before .before .before .before .before .pre .1) _ (omega (arith, c .before .before .before .before .before .if1 .taken, c .before .before .before .before .before .before .wide .ensures)))))
 
--- src/lib.rt:328:45
 slice-aggregate-put-number : tie.Need-slice-aggregate-put-number
 slice-aggregate-put-number c = search needs
 
--- src/lib.rt:328:9
 put-number-requires : tie.Need-put-number-requires
 put-number-requires c κs = search needs
 
--- src/lib.rt:329:46
 slice-aggregate-put-text-2 : tie.Need-slice-aggregate-put-text-2
 slice-aggregate-put-text-2 c = search needs
 
--- src/lib.rt:329:9
 put-text-requires-2 : tie.Need-put-text-requires-2
 put-text-requires-2 c κs = search needs
 
--- src/lib.rt:330:65
 cast-string-bytes : tie.Need-cast-string-bytes
 cast-string-bytes c = search needs
 
--- src/lib.rt:330:35
 string-bytes-requires : tie.Need-string-bytes-requires
 string-bytes-requires c κs = search needs
 
--- src/lib.rt:330:5
 put-quoted-requires : tie.Need-put-quoted-requires
 put-quoted-requires c κs = search needs
 
--- src/lib.rt:313:1
 same-length-2 : tie.Need-same-length-2
 same-length-2 c = search needs
 
--- src/lib.rt:313:1
 returns-2 : tie.Need-returns-2
 returns-2 c = (omega (arith, c .before .before .before .before .before .before .before .before .before .before .before .before .put-number .ensures .0, c .before .before .before .before .before .before .before .put-text2 .ensures .0, c .before .before .put-quoted .ensures .0, c .before .before .before .string-bytes .ensures .0), some-bytes (take (c .before .before .before .before .before .before .before .before .before .before .before .before .before .before .before .before .before .before .before .before .args .at) (c .before .before .before .before .before .before .before .before .before .before .before .before .before .before .before .before .before .before .before .before .args .out .now)) _ (c .before .before .before .string-bytes .ensures .1) (c .before .before .before .before .before .before .before .before .before .before .before .before .put-number .ensures .1) (c .before .before .before .before .before .before .before .put-text2 .ensures .1) (c .before .before .put-quoted .ensures .1))
 

@@ -6,42 +6,34 @@ use Rattle.listing.proofs.row_for.Tie as tie
 use Rattle.listing.proofs.row_for.Reads as reads
 use Rattle.listing.proofs.row_for.Lts as lts
 
--- src/lib.rt:227:9
 returns : tie.Need-returns
 unfolding rowFor
 returns c = rw (lt-ltb 10 _ (c .if1 .taken)) refl
 
--- src/lib.rt:231:13
 returns-2 : tie.Need-returns-2
 unfolding rowFor
 returns-2 c = rw (c .before .if2 .taken, c .if3 .taken) refl
 
--- src/lib.rt:233:9
 returns-3 : tie.Need-returns-3
 unfolding rowFor
 returns-3 c = rw (c .before .if2 .taken, c .if3 .left) refl
 
--- src/lib.rt:237:13
 returns-4 : tie.Need-returns-4
 unfolding rowFor
 returns-4 c = rw (c .before .if4 .taken, c .if5 .taken) refl
 
--- src/lib.rt:239:9
 returns-5 : tie.Need-returns-5
 unfolding rowFor
 returns-5 c = rw (c .before .if4 .taken, ne-eqb _ 0 (c .if5 .left)) refl
 
--- src/lib.rt:243:13
 returns-6 : tie.Need-returns-6
 unfolding rowFor
 returns-6 c = rw (c .before .if6 .taken, lt-ltb _ 2 (c .if7 .taken)) refl
 
--- src/lib.rt:245:9
 returns-7 : tie.Need-returns-7
 unfolding rowFor
 returns-7 c = rw (c .before .if6 .taken, le-ltb _ 2 (c .if7 .left)) refl
 
--- src/lib.rt:223:1
 returns-8 : tie.Need-returns-8
 unfolding rowFor
 returns-8 c = rw (le-ltb 10 _ (c .before .before .before .if1 .left), ne-eqb _ 1 (c .before .before .if2 .left), ne-eqb _ 4 (c .before .if4 .left), ne-eqb _ 6 (c .if6 .left)) refl

@@ -7,23 +7,18 @@ use Rattle.listing.proofs.row_of.Lts as lts
 use Rattle.listing.proofs.row_for.Reads as row-for-reads
 use Rattle.wire.proofs.byte_at.Reads as byte-at-reads
 
--- src/lib.rt:254:13
 byte-at-requires : tie.Need-byte-at-requires
 byte-at-requires c κs = search needs
 
--- src/lib.rt:254:64
 add-byte-at : tie.Need-add-byte-at
 add-byte-at c = search needs
 
--- src/lib.rt:254:44
 byte-at-requires-2 : tie.Need-byte-at-requires-2
 byte-at-requires-2 c κs = search needs
 
--- src/lib.rt:254:5
 row-for-requires : tie.Need-row-for-requires
 row-for-requires c κs = search needs
 
--- src/lib.rt:250:1
 returns : tie.Need-returns
 returns c = c .row-for .ensures ∙ rw (c .before .before .byte-at .ensures, c .before .byte-at2 .ensures) refl
 

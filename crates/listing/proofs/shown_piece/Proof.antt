@@ -17,131 +17,99 @@ use Rattle.listing.proofs.word_piece.Reads as word-piece-reads
 use Rattle.wire.proofs.byte_at.Reads as byte-at-reads
 use Rattle.wire.proofs.u32_or_zero.Reads as u32-or-zero-reads
 
--- src/lib.rt:188:9
 number-piece-requires : tie.Need-number-piece-requires
 number-piece-requires c κs = search needs
 
--- src/lib.rt:188:9
 returns : tie.Need-returns
 returns c = shown-ordinal _ _ _ _ _ _ _ _ (c .number-piece .ensures) (c .before .if1 .taken)
 
--- src/lib.rt:191:9
 string-piece-requires : tie.Need-string-piece-requires
 string-piece-requires c κs = search needs
 
--- src/lib.rt:191:9
 returns-2 : tie.Need-returns-2
 returns-2 c = shown-own _ _ _ _ _ _ _ _ (c .string-piece .ensures) (c .before .if2 .taken)
 
--- src/lib.rt:194:62
 add-byte-at : tie.Need-add-byte-at
 add-byte-at c = search needs
 
--- src/lib.rt:194:42
 byte-at-requires : tie.Need-byte-at-requires
 byte-at-requires c κs = search needs
 
--- src/lib.rt:194:36
 wide8-requires : tie.Need-wide8-requires
 wide8-requires c κs = search needs
 
--- src/lib.rt:194:9
 number-piece-requires-2 : tie.Need-number-piece-requires-2
 number-piece-requires-2 c κs = search needs
 
--- src/lib.rt:194:9
 returns-3 : tie.Need-returns-3
 returns-3 c = shown-byte _ _ _ _ _ _ _ _ (c .number-piece2 .ensures) (c .before .wide8 .ensures ∙ c .before .before .byte-at .ensures) (c .before .before .before .if3 .taken)
 
--- src/lib.rt:197:65
 add-u32-or-zero : tie.Need-add-u32-or-zero
 add-u32-or-zero c = search needs
 
--- src/lib.rt:197:41
 u32-or-zero-requires : tie.Need-u32-or-zero-requires
 u32-or-zero-requires c κs = search needs
 
--- src/lib.rt:197:36
 wide-requires : tie.Need-wide-requires
 wide-requires c κs = search needs
 
--- src/lib.rt:197:9
 number-piece-requires-3 : tie.Need-number-piece-requires-3
 number-piece-requires-3 c κs = search needs
 
--- src/lib.rt:197:9
 returns-4 : tie.Need-returns-4
 returns-4 c = shown-word _ _ _ _ _ _ _ _ (c .number-piece3 .ensures) (c .before .wide .ensures ∙ c .before .before .u32-or-zero .ensures) (c .before .before .before .if4 .taken)
 
--- src/lib.rt:200:27
 label-number-requires : tie.Need-label-number-requires
 label-number-requires c κs = search needs
 
--- src/lib.rt:200:81
 add-byte-at-2 : tie.Need-add-byte-at-2
 add-byte-at-2 c = search needs
 
--- src/lib.rt:200:61
 byte-at-requires-2 : tie.Need-byte-at-requires-2
 byte-at-requires-2 c κs = search needs
 
--- src/lib.rt:200:48
 label-number-requires-2 : tie.Need-label-number-requires-2
 label-number-requires-2 c κs = search needs
 
--- src/lib.rt:200:27
 add-label-only : tie.Need-add-label-only
 add-label-only c = search needs
 
--- src/lib.rt:200:9
 label-only-requires : tie.Need-label-only-requires
 label-only-requires c κs = search needs
 
--- src/lib.rt:200:9
 returns-5 : tie.Need-returns-5
 returns-5 c = shown-name _ _ _ _ _ _ _ _ (c .label-only .ensures) (rw (c .before .before .before .label-number .ensures, c .before .label-number2 .ensures, c .before .before .byte-at2 .ensures) refl) (c .before .before .before .before .if5 .taken)
 
--- src/lib.rt:203:65
 add-u32-or-zero-2 : tie.Need-add-u32-or-zero-2
 add-u32-or-zero-2 c = search needs
 
--- src/lib.rt:203:41
 u32-or-zero-requires-2 : tie.Need-u32-or-zero-requires-2
 u32-or-zero-requires-2 c κs = search needs
 
--- src/lib.rt:203:36
 wide-requires-2 : tie.Need-wide-requires-2
 wide-requires-2 c κs = search needs
 
--- src/lib.rt:203:9
 string-piece-requires-2 : tie.Need-string-piece-requires-2
 string-piece-requires-2 c κs = search needs
 
--- src/lib.rt:203:9
 returns-6 : tie.Need-returns-6
 returns-6 c = shown-string _ _ _ _ _ _ _ _ (c .string-piece2 .ensures) (c .before .wide2 .ensures ∙ c .before .before .u32-or-zero2 .ensures) (c .before .before .before .if6 .taken)
 
--- src/lib.rt:206:33
 add-word-piece : tie.Need-add-word-piece
 add-word-piece c = search needs
 
--- src/lib.rt:206:41
 wide8-requires-2 : tie.Need-wide8-requires-2
 wide8-requires-2 c κs = search needs
 
--- src/lib.rt:206:9
 word-piece-requires : tie.Need-word-piece-requires
 word-piece-requires c κs = (omega arith, omega (arith, c .before .before .before .before .before .before .before .before .before .pre .2 (c .before .if7 .taken), c .wide82 .ensures))
 
--- src/lib.rt:206:9
 returns-7 : tie.Need-returns-7
 returns-7 c = shown-body _ _ _ _ _ _ _ _ (c .word-piece .ensures) (c .before .wide82 .ensures) (c .before .before .if7 .taken)
 
--- src/lib.rt:208:5
 edit-piece-requires : tie.Need-edit-piece-requires
 edit-piece-requires c κs = search needs
 
--- src/lib.rt:183:1
 returns-8 : tie.Need-returns-8
 returns-8 c = shown-edit _ _ _ _ _ _ _ _ (c .edit-piece .ensures) (c .before .before .before .before .before .before .before .if1 .left) (c .before .before .before .before .before .before .if2 .left) (c .before .before .before .before .before .if3 .left) (c .before .before .before .before .if4 .left) (c .before .before .before .if5 .left) (c .before .before .if6 .left) (c .before .if7 .left)
 

@@ -14,47 +14,36 @@ use Rattle.strings.proofs.string_length.Reads as string-length-reads
 use Rattle.wire.proofs.between.Reads as between-reads
 use Rattle.wire.proofs.u32_or_zero.Reads as u32-or-zero-reads
 
--- src/lib.rt:306:21
 u32-or-zero-requires : tie.Need-u32-or-zero-requires
 u32-or-zero-requires c κs = search needs
 
--- src/lib.rt:306:16
 wide-requires : tie.Need-wide-requires
 wide-requires c κs = search needs
 
--- src/lib.rt:306:56
 u32-or-zero-requires-2 : tie.Need-u32-or-zero-requires-2
 u32-or-zero-requires-2 c κs = search needs
 
--- src/lib.rt:306:51
 wide-requires-2 : tie.Need-wide-requires-2
 wide-requires-2 c κs = search needs
 
--- src/lib.rt:306:16
 add-from : tie.Need-add-from
 add-from c = search needs
 
--- src/lib.rt:307:24
 start-from-requires : tie.Need-start-from-requires
 start-from-requires c κs = ((printable-readable (c .before .before .before .before .before .before .pre .0)), (record { order = omega arith; inside = omega (arith, c .before .before .before .before .before .before .pre .1) }, refl))
 
--- src/lib.rt:307:17
 add-start : tie.Need-add-start
 add-start c = omega (arith, start-most (printable-readable (c .before .before .before .before .before .before .before .pre .0)) (c .before .before .before .before .before .before .before .args .id), c .start-from .ensures, c .before .before .before .before .before .before .before .pre .0 .short)
 
--- src/lib.rt:308:9
 string-length-requires : tie.Need-string-length-requires
 string-length-requires c κs = ((printable-readable (c .before .before .before .before .before .before .before .pre .0)) .store, c .before .before .before .before .before .before .before .pre .1)
 
--- src/lib.rt:309:33
 add-between : tie.Need-add-between
 add-between c = omega (arith, str-inside (printable-readable (c .before .before .before .before .before .before .before .before .pre .0)) (c .before .before .before .before .before .before .before .before .args .id) (c .before .start-from .ensures) (c .string-length .ensures), c .before .before .before .before .before .before .before .before .pre .0 .short)
 
--- src/lib.rt:309:5
 between-requires : tie.Need-between-requires
 between-requires c κs = search needs
 
--- src/lib.rt:301:1
 returns : tie.Need-returns
 returns c = string-there (c .before .before .before .before .before .before .before .before .before .pre .0) _ (c .before .before .before .before .before .before .before .before .before .pre .1) (c .before .before .before .before .before .wide .ensures ∙ c .before .before .before .before .before .before .u32-or-zero .ensures) (c .before .before .before .wide2 .ensures ∙ c .before .before .before .before .u32-or-zero2 .ensures) (c .before .before .start-from .ensures) (c .before .string-length .ensures) (c .between .ensures)
 

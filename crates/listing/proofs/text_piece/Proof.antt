@@ -5,7 +5,6 @@ use Rattle.listing.proofs.text_piece.Tie as tie
 use Rattle.listing.proofs.text_piece.Reads as reads
 use Rattle.listing.proofs.text_piece.Lts as lts
 
--- src/lib.rt:102:1
 returns : tie.Need-returns
 unfolding pieceItem valueOf
 returns c = refl

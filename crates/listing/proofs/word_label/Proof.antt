@@ -8,31 +8,24 @@ use Rattle.listing.proofs.word_label.Lts as lts
 use Rattle.listing.proofs.label_number.Reads as label-number-reads
 use Rattle.listing.proofs.wide8.Reads as wide8-reads
 
--- src/lib.rt:124:9
 returns : tie.Need-returns
 returns c = word-none _ _ (c .if1 .taken)
 
--- src/lib.rt:126:17
 wide8-requires : tie.Need-wide8-requires
 wide8-requires c κs = search needs
 
--- src/lib.rt:126:13
 mul-n : tie.Need-mul-n
 mul-n c = search needs
 
--- src/lib.rt:126:13
 add-n : tie.Need-add-n
 add-n c = search needs
 
--- src/lib.rt:127:18
 array-read-label-number : tie.Need-array-read-label-number
 array-read-label-number c = search needs
 
--- src/lib.rt:127:5
 label-number-requires : tie.Need-label-number-requires
 label-number-requires c κs = search needs
 
--- src/lib.rt:119:1
 returns-2 : tie.Need-returns-2
 returns-2 c = rw (c .label-number .ensures, c .before .wide8 .ensures) (word-coded _ _ (omega (arith, c .before .before .if1 .left)) (c .before .before .before .pre))
 

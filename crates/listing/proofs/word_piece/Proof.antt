@@ -15,67 +15,51 @@ use Rattle.records.proofs.word_use.Reads as word-use-reads
 use Rattle.wire.proofs.byte_at.Reads as byte-at-reads
 use Rattle.wire.proofs.u32_or_zero.Reads as u32-or-zero-reads
 
--- src/lib.rt:129:9
 byte-at-requires : tie.Need-byte-at-requires
 byte-at-requires c κs = search needs
 
--- src/lib.rt:130:35
 add-byte-at : tie.Need-add-byte-at
 add-byte-at c = search needs
 
--- src/lib.rt:130:9
 byte-at-requires-2 : tie.Need-byte-at-requires-2
 byte-at-requires-2 c κs = search needs
 
--- src/lib.rt:131:9
 word-use-requires : tie.Need-word-use-requires
 word-use-requires c κs = search needs
 
--- src/lib.rt:133:9
 label-only-requires : tie.Need-label-only-requires
 label-only-requires c κs = search needs
 
--- src/lib.rt:133:9
 returns : tie.Need-returns
 returns c = rw (← c .before .before .before .before .byte-at .ensures, ← c .before .before .before .byte-at2 .ensures) (word-unused _ _ _ _ (c .label-only .ensures) (sym (c .before .before .word-use .ensures) ∙ c .before .if1 .taken))
 
--- src/lib.rt:135:9
 word-label-requires : tie.Need-word-label-requires
 word-label-requires c κs = search needs
 
--- src/lib.rt:136:42
 add-u32-or-zero : tie.Need-add-u32-or-zero
 add-u32-or-zero c = search needs
 
--- src/lib.rt:136:54
 mul-u32-or-zero : tie.Need-mul-u32-or-zero
 mul-u32-or-zero c = search needs
 
--- src/lib.rt:136:42
 add-u32-or-zero-2 : tie.Need-add-u32-or-zero-2
 add-u32-or-zero-2 c = search needs
 
--- src/lib.rt:136:18
 u32-or-zero-requires : tie.Need-u32-or-zero-requires
 u32-or-zero-requires c κs = search needs
 
--- src/lib.rt:136:9
 wide-requires : tie.Need-wide-requires
 wide-requires c κs = search needs
 
--- src/lib.rt:138:9
 string-piece-requires : tie.Need-string-piece-requires
 string-piece-requires c κs = search needs
 
--- src/lib.rt:138:9
 returns-2 : tie.Need-returns-2
 returns-2 c = rw (← c .before .before .before .before .before .before .before .before .byte-at .ensures, ← c .before .before .before .before .before .before .before .byte-at2 .ensures) (word-string _ _ _ _ (λ z. c .before .before .before .before .before .if1 .left (c .before .before .before .before .before .before .word-use .ensures ∙ z)) (c .before .before .before .before .word-label .ensures) (c .before .before .wide .ensures ∙ c .before .before .before .u32-or-zero .ensures) (c .string-piece .ensures) (omega (arith, c .before .before .before .before .before .before .word-use .ensures, c .before .if2 .taken)))
 
--- src/lib.rt:140:5
 number-piece-requires : tie.Need-number-piece-requires
 number-piece-requires c κs = search needs
 
--- src/lib.rt:125:1
 returns-3 : tie.Need-returns-3
 returns-3 c = rw (← c .before .before .before .before .before .before .before .before .byte-at .ensures, ← c .before .before .before .before .before .before .before .byte-at2 .ensures) (word-range _ _ _ _ (λ z. c .before .before .before .before .before .if1 .left (c .before .before .before .before .before .before .word-use .ensures ∙ z)) (c .before .before .before .before .word-label .ensures) (c .before .before .wide .ensures ∙ c .before .before .before .u32-or-zero .ensures) (c .number-piece .ensures) (omega (arith, c .before .before .before .before .before .before .word-use .ensures, c .before .if2 .left)))
 

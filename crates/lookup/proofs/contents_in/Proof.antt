@@ -8,19 +8,15 @@ use Rattle.lookup.proofs.contents_in.Lts as lts
 use Rattle.store.proofs.content_place.Reads as content-place-reads
 use Rattle.store.proofs.range_ok.Reads as range-ok-reads
 
--- src/lib.rt:74:9
 range-ok-requires : tie.Need-range-ok-requires
 range-ok-requires c κs = search needs
 
--- src/lib.rt:75:9
 returns : tie.Need-returns
 returns c = range-none (c .before .range-ok .ensures) _ _ (not-true _ (c .if1 .taken))
 
--- src/lib.rt:77:17
 content-place-requires : tie.Need-content-place-requires
 content-place-requires c κs = search needs
 
--- src/lib.rt:69:1
 returns-2 : tie.Need-returns-2
 returns-2 c = range-there (c .before .before .range-ok .ensures) _ _ (not-false _ (c .before .if1 .left)) (c .content-place .ensures)
 

@@ -9,27 +9,21 @@ use Rattle.bounds.proofs.diagnostics_allow_incremental.Reads as diagnostics-all
 use Rattle.places.proofs.places_of.Reads as places-of-reads
 use Rattle.tape.proofs.check_book.Reads as check-book-reads
 
--- src/lib.rt:29:9
 check-book-requires : tie.Need-check-book-requires
 check-book-requires c κs = search needs
 
--- src/lib.rt:31:9
 returns : tie.Need-returns
 returns c = allowed-refused _ _ (c .before .check-book .ensures) (c .if1 .taken)
 
--- src/lib.rt:33:9
 places-of-requires : tie.Need-places-of-requires
 places-of-requires c κs = search needs
 
--- src/lib.rt:34:8
 diagnostics-allow-incremental-requires : tie.Need-diagnostics-allow-incremental-requires
 diagnostics-allow-incremental-requires c κs = fit-diagnostics (asked-places (asked _ _ (c .before .before .check-book .ensures) (c .before .if1 .left) (c .places-of .ensures)))
 
--- src/lib.rt:35:9
 returns-2 : tie.Need-returns-2
 returns-2 c = allowed-yes (asked _ _ (c .before .before .before .before .check-book .ensures) (c .before .before .before .if1 .left) (c .before .before .places-of .ensures)) (c .before .diagnostics-allow-incremental .ensures) (c .if2 .taken)
 
--- src/lib.rt:26:1
 returns-3 : tie.Need-returns-3
 returns-3 c = allowed-no (asked _ _ (c .before .before .before .before .check-book .ensures) (c .before .before .before .if1 .left) (c .before .before .places-of .ensures)) (c .before .diagnostics-allow-incremental .ensures) (c .if2 .left)
 

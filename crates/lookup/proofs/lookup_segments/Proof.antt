@@ -10,27 +10,21 @@ use Rattle.places.proofs.places_of.Reads as places-of-reads
 use Rattle.store.proofs.store_of.Reads as store-of-reads
 use Rattle.tape.proofs.check_book.Reads as check-book-reads
 
--- src/lib.rt:109:9
 check-book-requires : tie.Need-check-book-requires
 check-book-requires c κs = search needs
 
--- src/lib.rt:111:9
 returns : tie.Need-returns
 returns c = segments-both _ _ _ _ (range-refused _ _ (c .before .check-book .ensures) (c .if1 .taken) _ _ _)
 
--- src/lib.rt:113:9
 places-of-requires : tie.Need-places-of-requires
 places-of-requires c κs = search needs
 
--- src/lib.rt:114:17
 store-of-requires : tie.Need-store-of-requires
 store-of-requires c κs = asked-store (asked _ _ (c .before .before .check-book .ensures) (c .before .if1 .left) (c .places-of .ensures))
 
--- src/lib.rt:114:5
 segments-in-requires : tie.Need-segments-in-requires
 segments-in-requires c κs = asked-few (asked _ _ (c .before .before .before .check-book .ensures) (c .before .before .if1 .left) (c .before .places-of .ensures)) (c .store-of .ensures)
 
--- src/lib.rt:105:1
 returns-2 : tie.Need-returns-2
 returns-2 c = segments-both _ _ _ _ (segments-said (asked _ _ (c .before .before .before .before .check-book .ensures) (c .before .before .before .if1 .left) (c .before .before .places-of .ensures)) (c .before .store-of .ensures) _ _ (c .segments-in .ensures))
 

@@ -12,39 +12,30 @@ use Rattle.places.proofs.places_of.Reads as places-of-reads
 use Rattle.store.proofs.store_of.Reads as store-of-reads
 use Rattle.tape.proofs.check_book.Reads as check-book-reads
 
--- src/lib.rt:155:9
 check-book-requires : tie.Need-check-book-requires
 check-book-requires c κs = search needs
 
--- src/lib.rt:157:9
 returns : tie.Need-returns
 returns c = str-both _ _ _ (str-refused _ _ (c .before .check-book .ensures) (c .if1 .taken) _)
 
--- src/lib.rt:159:9
 places-of-requires : tie.Need-places-of-requires
 places-of-requires c κs = search needs
 
--- src/lib.rt:160:9
 store-of-requires : tie.Need-store-of-requires
 store-of-requires c κs = asked-store (asked _ _ (c .before .before .check-book .ensures) (c .before .if1 .left) (c .places-of .ensures))
 
--- src/lib.rt:161:16
 cast-from : tie.Need-cast-from
 cast-from c = search needs
 
--- src/lib.rt:161:34
 cast-from-2 : tie.Need-cast-from-2
 cast-from-2 c = search needs
 
--- src/lib.rt:161:16
 add-from : tie.Need-add-from
 add-from c = search needs
 
--- src/lib.rt:162:5
 str-in-requires : tie.Need-str-in-requires
 str-in-requires c κs = (asked-readable (asked _ _ (c .before .before .before .before .before .check-book .ensures) (c .before .before .before .before .if1 .left) (c .before .before .before .places-of .ensures)) (c .before .before .store-of .ensures) (search needs), search needs)
 
--- src/lib.rt:151:1
 returns-2 : tie.Need-returns-2
 returns-2 c = str-both _ _ _ (str-said (asked _ _ (c .before .before .before .before .before .before .check-book .ensures) (c .before .before .before .before .before .if1 .left) (c .before .before .before .before .places-of .ensures)) (c .before .before .before .store-of .ensures) _ refl (c .str-in .ensures))
 

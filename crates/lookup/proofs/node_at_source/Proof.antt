@@ -11,27 +11,21 @@ use Rattle.lookup.proofs.node_found.Reads as node-found-reads
 use Rattle.places.proofs.places_of.Reads as places-of-reads
 use Rattle.tape.proofs.check_book.Reads as check-book-reads
 
--- src/lib.rt:61:9
 check-book-requires : tie.Need-check-book-requires
 check-book-requires c κs = search needs
 
--- src/lib.rt:63:9
 returns : tie.Need-returns
 returns c = node-refused _ _ (c .before .check-book .ensures) (c .if1 .taken) _
 
--- src/lib.rt:65:9
 places-of-requires : tie.Need-places-of-requires
 places-of-requires c κs = search needs
 
--- src/lib.rt:66:16
 node-at-source-requires : tie.Need-node-at-source-requires
 node-at-source-requires c κs = (fit-nodes (asked-places (asked _ _ (c .before .before .check-book .ensures) (c .before .if1 .left) (c .places-of .ensures))), asked-order (asked _ _ (c .before .before .check-book .ensures) (c .before .if1 .left) (c .places-of .ensures)))
 
--- src/lib.rt:66:5
 node-found-requires : tie.Need-node-found-requires
 node-found-requires c κs = search needs
 
--- src/lib.rt:58:1
 returns-2 : tie.Need-returns-2
 returns-2 c = c .node-found .ensures ∙ node-said (asked _ _ (c .before .before .before .before .check-book .ensures) (c .before .before .before .if1 .left) (c .before .before .places-of .ensures)) _ (c .before .node-at-source .ensures)
 

@@ -6,20 +6,16 @@ use Rattle.lookup.proofs.node_found.Tie as tie
 use Rattle.lookup.proofs.node_found.Reads as reads
 use Rattle.lookup.proofs.node_found.Lts as lts
 
--- src/lib.rt:52:27
 enum-known-f : tie.Need-enum-known-f
 enum-known-f c = search needs
 
--- src/lib.rt:53:35
 enum-told : tie.Need-enum-told
 enum-told c = search needs
 
--- src/lib.rt:48:1
 returns : tie.Need-returns
 unfolding nodeFound
 returns c = rw (c .before .f .given .1) refl
 
--- src/lib.rt:48:1
 returns-2 : tie.Need-returns-2
 unfolding nodeFound
 returns-2 c = search needs

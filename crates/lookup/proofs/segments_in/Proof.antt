@@ -8,19 +8,15 @@ use Rattle.lookup.proofs.segments_in.Lts as lts
 use Rattle.store.proofs.range_ok.Reads as range-ok-reads
 use Rattle.store.proofs.segment_place.Reads as segment-place-reads
 
--- src/lib.rt:85:9
 range-ok-requires : tie.Need-range-ok-requires
 range-ok-requires c κs = search needs
 
--- src/lib.rt:86:9
 returns : tie.Need-returns
 returns c = range-none (c .before .range-ok .ensures) _ _ (not-true _ (c .if1 .taken))
 
--- src/lib.rt:88:17
 segment-place-requires : tie.Need-segment-place-requires
 segment-place-requires c κs = search needs
 
--- src/lib.rt:80:1
 returns-2 : tie.Need-returns-2
 returns-2 c = range-there (c .before .before .range-ok .ensures) _ _ (not-false _ (c .before .if1 .left)) (c .segment-place .ensures)
 

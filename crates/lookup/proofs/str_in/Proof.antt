@@ -8,31 +8,24 @@ use Rattle.lookup.proofs.str_in.Lts as lts
 use Rattle.strings.proofs.start_from.Reads as start-from-reads
 use Rattle.strings.proofs.string_length.Reads as string-length-reads
 
--- src/lib.rt:143:9
 returns : tie.Need-returns
 returns c = str-none _ _ _ _ (c .if1 .taken)
 
--- src/lib.rt:145:9
 start-from-requires : tie.Need-start-from-requires
 start-from-requires c κs = search needs
 
--- src/lib.rt:146:9
 string-length-requires : tie.Need-string-length-requires
 string-length-requires c κs = search needs
 
--- src/lib.rt:147:15
 add-t9 : tie.Need-add-t9
 add-t9 c = omega (arith, str-inside (c .before .before .before .before .before .pre .0) _ (c .before .start-from .ensures) (c .string-length .ensures), c .before .before .before .before .before .pre .1, c .before .before .before .before .before .pre .0 .small)
 
--- src/lib.rt:147:29
 add-t10 : tie.Need-add-t10
 add-t10 c = omega (arith, str-inside (c .before .before .before .before .before .pre .0) _ (c .before .start-from .ensures) (c .string-length .ensures), c .before .before .before .before .before .pre .1, c .before .before .before .before .before .pre .0 .small)
 
--- src/lib.rt:147:29
 add-t11 : tie.Need-add-t11
 add-t11 c = omega (arith, str-inside (c .before .before .before .before .before .pre .0) _ (c .before .start-from .ensures) (c .string-length .ensures), c .before .before .before .before .before .pre .1, c .before .before .before .before .before .pre .0 .small)
 
--- src/lib.rt:137:1
 returns-2 : tie.Need-returns-2
 returns-2 c = str-there _ _ _ _ (c .before .before .if1 .left) (c .before .start-from .ensures) (c .string-length .ensures)
 

@@ -5,35 +5,27 @@ use borrow.Author.Needs.{needs}
 use Rattle.merge.proofs.answer.Statement.{statement}
 use Rattle.merge.proofs.answer.Tie as tie
 
--- src/main.rt:153:9
 input-refusal-requires : tie.Need-input-refusal-requires
 input-refusal-requires c κs = search needs
 
--- src/main.rt:155:9
 refused-output-requires : tie.Need-refused-output-requires
 refused-output-requires c κs = search needs
 
--- src/main.rt:155:9
 returns : tie.Need-returns
 returns c = c .refused-output .ensures ∙ input-refused _ (c .before .before .input-refusal .ensures) (c .before .if1 .taken)
 
--- src/main.rt:157:5
 merge-parts-requires : tie.Need-merge-parts-requires
 merge-parts-requires c κs = (input-whole _ (c .before .before .before .before .input-refusal .ensures) (c .before .before .before .if1 .left), c .before .before .before .before .before .before .before .before .before .pre)
 
--- src/main.rt:144:1
 same-length : tie.Need-same-length
 same-length c = search needs
 
--- src/main.rt:144:1
 same-length-2 : tie.Need-same-length-2
 same-length-2 c = search needs
 
--- src/main.rt:144:1
 same-length-3 : tie.Need-same-length-3
 same-length-3 c = search needs
 
--- src/main.rt:144:1
 returns-2 : tie.Need-returns-2
 returns-2 c = c .before .before .before .before .before .before .merge-parts .ensures ∙ ap outputOf (sym (input-asks _ (c .before .before .before .before .before .before .before .before .before .before .before .input-refusal .ensures) (c .before .before .before .before .before .before .before .before .before .before .if1 .left)))
 

@@ -4,55 +4,42 @@ use borrow.Author.Needs.{needs}
 use Rattle.merge.proofs.main.Statement.{statement}
 use Rattle.merge.proofs.main.Tie as tie
 
--- src/main.rt:229:41
 slice-aggregate-read-full : tie.Need-slice-aggregate-read-full
 slice-aggregate-read-full c = search needs
 
--- src/main.rt:229:9
 read-full-requires : tie.Need-read-full-requires
 read-full-requires c κs = search needs
 
--- src/main.rt:231:9
 array-share-prefix-input : tie.Need-array-share-prefix-input
 array-share-prefix-input c = search needs
 
--- src/main.rt:231:9
 slice-aggregate-run : tie.Need-slice-aggregate-run
 slice-aggregate-run c = search needs
 
--- src/main.rt:232:9
 slice-aggregate-run-2 : tie.Need-slice-aggregate-run-2
 slice-aggregate-run-2 c = search needs
 
--- src/main.rt:233:9
 slice-aggregate-run-3 : tie.Need-slice-aggregate-run-3
 slice-aggregate-run-3 c = search needs
 
--- src/main.rt:234:9
 slice-aggregate-run-4 : tie.Need-slice-aggregate-run-4
 slice-aggregate-run-4 c = search needs
 
--- src/main.rt:235:9
 slice-aggregate-run-5 : tie.Need-slice-aggregate-run-5
 slice-aggregate-run-5 c = search needs
 
--- src/main.rt:230:9
 run-requires : tie.Need-run-requires
 run-requires c κs = search needs
 
--- src/main.rt:237:34
 array-share-prefix-out : tie.Need-array-share-prefix-out
 array-share-prefix-out c = search needs
 
--- src/main.rt:237:34
 slice-aggregate-write-all : tie.Need-slice-aggregate-write-all
 slice-aggregate-write-all c = sym (length-take-le _ _ (c .before .before .before .before .before .run .ensures .0))
 
--- src/main.rt:237:5
 write-all-requires : tie.Need-write-all-requires
 write-all-requires c κs = search needs
 
--- src/main.rt:223:1
 returns : tie.Need-returns
 returns c = search needs
 

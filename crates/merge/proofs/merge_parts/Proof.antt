@@ -3,111 +3,84 @@ use borrow.Author.Needs.{needs}
 use Rattle.merge.proofs.merge_parts.Statement.{statement}
 use Rattle.merge.proofs.merge_parts.Tie as tie
 
--- src/main.rt:125:27
 u32-at-requires : tie.Need-u32-at-requires
 u32-at-requires c κs = search needs
 
--- src/main.rt:125:27
 cast-oldbytes : tie.Need-cast-oldbytes
 cast-oldbytes c = search needs
 
--- src/main.rt:125:20
 add-oldbytes : tie.Need-add-oldbytes
 add-oldbytes c = search needs
 
--- src/main.rt:126:34
 u32-at-requires-2 : tie.Need-u32-at-requires-2
 u32-at-requires-2 c κs = search needs
 
--- src/main.rt:126:34
 cast-replacement : tie.Need-cast-replacement
 cast-replacement c = search needs
 
--- src/main.rt:126:23
 add-replacement : tie.Need-add-replacement
 add-replacement c = search needs
 
--- src/main.rt:127:33
 u32-at-requires-3 : tie.Need-u32-at-requires-3
 u32-at-requires-3 c κs = search needs
 
--- src/main.rt:127:33
 cast-newtape : tie.Need-cast-newtape
 cast-newtape c = search needs
 
--- src/main.rt:127:19
 add-newtape : tie.Need-add-newtape
 add-newtape c = search needs
 
--- src/main.rt:128:30
 u32-at-requires-4 : tie.Need-u32-at-requires-4
 u32-at-requires-4 c κs = search needs
 
--- src/main.rt:128:30
 cast-newbytes : tie.Need-cast-newbytes
 cast-newbytes c = search needs
 
--- src/main.rt:128:20
 add-newbytes : tie.Need-add-newbytes
 add-newbytes c = search needs
 
--- src/main.rt:129:26
 u32-at-requires-5 : tie.Need-u32-at-requires-5
 u32-at-requires-5 c κs = search needs
 
--- src/main.rt:129:26
 cast-end : tie.Need-cast-end
 cast-end c = search needs
 
--- src/main.rt:129:15
 add-end : tie.Need-add-end
 add-end c = search needs
 
--- src/main.rt:131:9
 between-requires : tie.Need-between-requires
 between-requires c κs = search needs
 
--- src/main.rt:132:9
 between-requires-2 : tie.Need-between-requires-2
 between-requires-2 c κs = search needs
 
--- src/main.rt:133:9
 u32-at-requires-6 : tie.Need-u32-at-requires-6
 u32-at-requires-6 c κs = search needs
 
--- src/main.rt:134:9
 u32-at-requires-7 : tie.Need-u32-at-requires-7
 u32-at-requires-7 c κs = search needs
 
--- src/main.rt:135:9
 between-requires-3 : tie.Need-between-requires-3
 between-requires-3 c κs = search needs
 
--- src/main.rt:136:9
 between-requires-4 : tie.Need-between-requires-4
 between-requires-4 c κs = search needs
 
--- src/main.rt:137:9
 between-requires-5 : tie.Need-between-requires-5
 between-requires-5 c κs = search needs
 
--- src/main.rt:130:5
 merge-requires : tie.Need-merge-requires
 merge-requires c κs = search needs
 
--- src/main.rt:115:1
 same-length : tie.Need-same-length
 same-length c = search needs
 
--- src/main.rt:115:1
 same-length-2 : tie.Need-same-length-2
 same-length-2 c = search needs
 
--- src/main.rt:115:1
 same-length-3 : tie.Need-same-length-3
 same-length-3 c = search needs
 
--- src/main.rt:115:1
 returns : tie.Need-returns
 returns c = asked-answer _ (c .before .before .before .before .before .before .before .before .before .before .before .before .before .before .before .before .before .before .before .before .before .u32-at .ensures) (c .before .before .before .before .before .before .before .before .before .before .before .before .before .before .before .before .before .before .before .before .u32-at2 .ensures) (c .before .before .before .before .before .before .before .before .before .before .before .before .before .before .u32-at6 .ensures) (c .before .before .before .before .before .before .before .before .before .before .before .before .before .u32-at7 .ensures) (c .before .before .before .before .before .before .before .before .before .before .before .before .before .before .before .before .before .before .before .u32-at3 .ensures) (c .before .before .before .before .before .before .before .before .before .before .before .before .before .before .before .before .before .before .u32-at4 .ensures) (c .before .before .before .before .before .before .before .before .before .before .before .before .before .before .before .before .before .u32-at5 .ensures) (c .before .before .before .before .before .before .before .before .before .before .before .before .before .before .before .before .between .ensures) (c .before .before .before .before .before .before .before .before .before .before .before .before .before .before .before .between2 .ensures) (c .before .before .before .before .before .before .before .before .before .before .before .before .between3 .ensures) (c .before .before .before .before .before .before .before .before .before .before .before .between4 .ensures) (c .before .before .before .before .before .before .before .before .before .before .between5 .ensures) (c .before .before .before .before .before .before .before .before .before .before .before .before .before .before .before .before .before .before .before .before .before .before .before .before .before .before .pre .1 .0) (c .before .before .before .before .before .before .before .before .before .before .before .before .before .before .before .before .before .before .before .before .before .before .before .before .before .before .pre .1 .1) (c .before .before .before .before .before .before .before .before .before .before .before .before .before .before .before .before .before .before .before .before .before .before .before .before .before .before .pre .1 .2) (c .before .before .before .before .before .before .merge .ensures)
 

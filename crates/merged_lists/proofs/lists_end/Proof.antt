@@ -5,59 +5,45 @@ use borrow.Author.Needs.{needs}
 use Rattle.merged_lists.proofs.lists_end.Statement.{statement}
 use Rattle.merged_lists.proofs.lists_end.Tie as tie
 
--- src/lib.rt:194:9
 total-requires : tie.Need-total-requires
 total-requires c κs = search needs
 
--- src/lib.rt:195:9
 total-requires-2 : tie.Need-total-requires-2
 total-requires-2 c κs = search needs
 
--- src/lib.rt:196:9
 total-requires-3 : tie.Need-total-requires-3
 total-requires-3 c κs = search needs
 
--- src/lib.rt:197:9
 total-requires-4 : tie.Need-total-requires-4
 total-requires-4 c κs = search needs
 
--- src/lib.rt:198:10
 mul-result : tie.Need-mul-result
 mul-result c = search needs
 
--- src/lib.rt:198:5
 add-result : tie.Need-add-result
 add-result c = search needs
 
--- src/lib.rt:198:23
 mul-result-2 : tie.Need-mul-result-2
 mul-result-2 c = search needs
 
--- src/lib.rt:198:5
 add-result-2 : tie.Need-add-result-2
 add-result-2 c = search needs
 
--- src/lib.rt:198:36
 mul-result-3 : tie.Need-mul-result-3
 mul-result-3 c = search needs
 
--- src/lib.rt:198:5
 add-result-3 : tie.Need-add-result-3
 add-result-3 c = search needs
 
--- src/lib.rt:198:54
 mul-result-4 : tie.Need-mul-result-4
 mul-result-4 c = search needs
 
--- src/lib.rt:198:5
 add-result-4 : tie.Need-add-result-4
 add-result-4 c = search needs
 
--- src/lib.rt:198:5
 add-result-5 : tie.Need-add-result-5
 add-result-5 c = search needs
 
--- src/lib.rt:189:1
 returns : tie.Need-returns
 unfolding listsEnd
 returns c = omega (arith, c .before .before .before .total .ensures, c .before .before .total2 .ensures, c .before .total3 .ensures, c .total4 .ensures)

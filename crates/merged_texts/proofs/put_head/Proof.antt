@@ -7,39 +7,30 @@ use borrow.Author.Needs.{needs}
 use Rattle.merged_texts.proofs.put_head.Statement.{statement}
 use Rattle.merged_texts.proofs.put_head.Tie as tie
 
--- src/lib.rt:69:5
 put-u8-requires : tie.Need-put-u8-requires
 put-u8-requires c κs = search needs
 
--- src/lib.rt:70:5
 put-u32-requires : tie.Need-put-u32-requires
 put-u32-requires c κs = search needs
 
--- src/lib.rt:71:5
 put-u32-requires-2 : tie.Need-put-u32-requires-2
 put-u32-requires-2 c κs = search needs
 
--- src/lib.rt:72:27
 sub-copy-at : tie.Need-sub-copy-at
 sub-copy-at c = search needs
 
--- src/lib.rt:72:27
 part-copy-at-start : tie.Need-part-copy-at-start
 part-copy-at-start c = search needs
 
--- src/lib.rt:72:27
 part-copy-at-end : tie.Need-part-copy-at-end
 part-copy-at-end c = search needs
 
--- src/lib.rt:72:5
 copy-at-requires : tie.Need-copy-at-requires
 copy-at-requires c κs = search needs
 
--- src/lib.rt:65:1
 same-length : tie.Need-same-length
 same-length c = search needs
 
--- src/lib.rt:65:1
 returns : tie.Need-returns
 returns c =
     let n = length-take-le (c .before .before .before .before .before .before .before .before .before .before .before .before .before .before .before .before .before .before .before .args .nodesat - 9) (drop 9 (c .before .before .before .before .before .before .before .before .before .before .before .before .before .before .before .before .before .before .before .args .tape .now)) (rw (length-drop) (omega (arith, c .before .before .before .before .before .before .before .before .before .before .before .before .before .before .before .before .before .before .before .pre))) in

@@ -4,59 +4,45 @@ use borrow.Author.Needs.{needs}
 use Rattle.merged_texts.proofs.put_spliced.Statement.{statement}
 use Rattle.merged_texts.proofs.put_spliced.Tie as tie
 
--- src/lib.rt:33:28
 sub-copy-at : tie.Need-sub-copy-at
 sub-copy-at c = search needs
 
--- src/lib.rt:33:28
 part-copy-at-start : tie.Need-part-copy-at-start
 part-copy-at-start c = search needs
 
--- src/lib.rt:33:28
 part-copy-at-end : tie.Need-part-copy-at-end
 part-copy-at-end c = search needs
 
--- src/lib.rt:33:5
 copy-at-requires : tie.Need-copy-at-requires
 copy-at-requires c κs = search needs
 
--- src/lib.rt:34:24
 add-copy-at : tie.Need-add-copy-at
 add-copy-at c = search needs
 
--- src/lib.rt:34:5
 copy-at-requires-2 : tie.Need-copy-at-requires-2
 copy-at-requires-2 c κs = search needs
 
--- src/lib.rt:35:24
 add-copy-at-2 : tie.Need-add-copy-at-2
 add-copy-at-2 c = search needs
 
--- src/lib.rt:35:24
 add-copy-at-3 : tie.Need-add-copy-at-3
 add-copy-at-3 c = search needs
 
--- src/lib.rt:35:48
 sub-copy-at-2 : tie.Need-sub-copy-at-2
 sub-copy-at-2 c = search needs
 
--- src/lib.rt:35:48
 part-copy-at-start-2 : tie.Need-part-copy-at-start-2
 part-copy-at-start-2 c = search needs
 
--- src/lib.rt:35:48
 part-copy-at-end-2 : tie.Need-part-copy-at-end-2
 part-copy-at-end-2 c = search needs
 
--- src/lib.rt:35:5
 copy-at-requires-3 : tie.Need-copy-at-requires-3
 copy-at-requires-3 c κs = search needs
 
--- src/lib.rt:28:1
 same-length : tie.Need-same-length
 same-length c = search needs
 
--- src/lib.rt:28:1
 returns : tie.Need-returns
 returns c = splice-wrote _ _ _ _ (c .before .before .before .before .before .before .before .before .before .before .before .before .before .before .before .before .before .args .new .now) (c .before .before .before .before .before .before .before .before .before .before .before .before .before .before .before .before .before .args .old .now) (c .before .before .before .before .before .before .before .before .before .before .before .before .before .before .before .before .before .pre .0 .0) (c .before .before .before .before .before .before .before .before .before .before .before .before .before .before .before .before .before .pre .0 .1) (c .before .before .before .before .before .before .before .before .before .before .before .before .before .before .before .before .before .pre .1) (c .before .before .before .before .before .before .before .before .before .before .before .copy-at .ensures) (c .before .before .before .before .before .before .before .copy-at2 .ensures) (c .before .before .copy-at3 .ensures)
 

@@ -5,51 +5,39 @@ use borrow.Author.Needs.{needs}
 use Rattle.merged_texts.proofs.put_texts.Statement.{statement}
 use Rattle.merged_texts.proofs.put_texts.Tie as tie
 
--- src/lib.rt:55:17
 add-first : tie.Need-add-first
 add-first c = search needs
 
--- src/lib.rt:55:46
 sub-first : tie.Need-sub-first
 sub-first c = search needs
 
--- src/lib.rt:55:17
 add-first-2 : tie.Need-add-first-2
 add-first-2 c = search needs
 
--- src/lib.rt:56:18
 add-second : tie.Need-add-second
 add-second c = search needs
 
--- src/lib.rt:56:42
 sub-second : tie.Need-sub-second
 sub-second c = search needs
 
--- src/lib.rt:56:18
 add-second-2 : tie.Need-add-second-2
 add-second-2 c = search needs
 
--- src/lib.rt:57:5
 put-spliced-requires : tie.Need-put-spliced-requires
 put-spliced-requires c κs = search needs
 
--- src/lib.rt:58:5
 put-spliced-requires-2 : tie.Need-put-spliced-requires-2
 put-spliced-requires-2 c κs = search needs
 
--- src/lib.rt:59:24
 add-copy-at : tie.Need-add-copy-at
 add-copy-at c = search needs
 
--- src/lib.rt:59:5
 copy-at-requires : tie.Need-copy-at-requires
 copy-at-requires c κs = search needs
 
--- src/lib.rt:39:1
 same-length : tie.Need-same-length
 same-length c = search needs
 
--- src/lib.rt:39:1
 returns : tie.Need-returns
 returns c =
     let n = spliced-length (c .before .before .before .before .before .before .before .before .before .before .before .before .before .before .before .before .before .before .args .start) (c .before .before .before .before .before .before .before .before .before .before .before .before .before .before .before .before .before .before .args .end) (c .before .before .before .before .before .before .before .before .before .before .before .before .before .before .before .before .before .before .args .replacement .now) (c .before .before .before .before .before .before .before .before .before .before .before .before .before .before .before .before .before .before .args .text .now) (c .before .before .before .before .before .before .before .before .before .before .before .before .before .before .before .before .before .before .pre .0 .0) (c .before .before .before .before .before .before .before .before .before .before .before .before .before .before .before .before .before .before .pre .0 .1) in

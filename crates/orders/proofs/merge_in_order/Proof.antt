@@ -7,59 +7,45 @@ use Rattle.orders.proofs.merge_in_order.Reads as reads
 use Rattle.orders.proofs.merge_in_order.Lts as lts
 use Rattle.incremental.proofs.merge.Reads as merge-reads
 
--- src/lib.rt:102:9
 merge-requires : tie.Need-merge-requires
 merge-requires c κs = search needs
 
--- src/lib.rt:106:9
 sub-merge : tie.Need-sub-merge
 sub-merge c = search needs
 
--- src/lib.rt:106:9
 part-merge-start : tie.Need-part-merge-start
 part-merge-start c = search needs
 
--- src/lib.rt:106:9
 part-merge-end : tie.Need-part-merge-end
 part-merge-end c = tape-head (c .before .before .before .before .before .before .before .merge .ensures) .0
 
--- src/lib.rt:107:9
 sub-merge-2 : tie.Need-sub-merge-2
 sub-merge-2 c = search needs
 
--- src/lib.rt:107:9
 part-merge-start-2 : tie.Need-part-merge-start-2
 part-merge-start-2 c = search needs
 
--- src/lib.rt:107:9
 part-merge-end-2 : tie.Need-part-merge-end-2
 part-merge-end-2 c = bytes-head (c .before .before .before .before .before .before .before .before .before .merge .ensures) .0
 
--- src/lib.rt:105:9
 merge-requires-2 : tie.Need-merge-requires-2
 merge-requires-2 c κs = search needs
 
--- src/lib.rt:76:1
 same-length : tie.Need-same-length
 same-length c = search needs
 
--- src/lib.rt:76:1
 same-length-2 : tie.Need-same-length-2
 same-length-2 c = search needs
 
--- src/lib.rt:76:1
 same-length-3 : tie.Need-same-length-3
 same-length-3 c = search needs
 
--- src/lib.rt:76:1
 same-length-4 : tie.Need-same-length-4
 same-length-4 c = search needs
 
--- src/lib.rt:76:1
 same-length-5 : tie.Need-same-length-5
 same-length-5 c = search needs
 
--- src/lib.rt:76:1
 returns : tie.Need-returns
 returns c = in-order refl (c .before .before .before .before .before .before .before .before .before .before .before .before .before .before .before .before .before .before .before .before .merge .ensures) (c .before .before .before .before .before .before .merge2 .ensures)
 

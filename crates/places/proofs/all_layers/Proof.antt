@@ -16,27 +16,21 @@ Inv-loop tape room s₀ s = Walked tape room s
 abbrev μ-loop : tie.MeasureT-loop
 μ-loop tape room s₀ s = length tape - s .end
 
--- src/lib.rt:158:5
 loop-holds : tie.Need-loop-holds Inv-loop μ-loop
 loop-holds c = walked-none _ _
 
--- src/lib.rt:158:11
 byte-at-requires : tie.Need-byte-at-requires Inv-loop μ-loop
 byte-at-requires c κs = tt
 
--- src/lib.rt:159:9
 with-layer-requires : tie.Need-with-layer-requires Inv-loop μ-loop
 with-layer-requires c κs = (c .before .before .loop .inv .small, ((two-inside (c .before .before .before .before .args .tape .now) (c .before .before .loop .s .end) (sym (c .before .byte-at .ensures) ∙ c .if1 .taken)), c .before .before .before .before .pre))
 
--- src/lib.rt:158:5
 loop-less : tie.Need-loop-less Inv-loop μ-loop
 loop-less c = omega (arith, (two-inside (c .before .before .before .before .before .args .tape .now) (c .before .before .before .loop .s .end) (sym (c .before .before .byte-at .ensures) ∙ c .before .if1 .taken)), walked-rises _ _ _ _ (c .with-layer .ensures))
 
--- src/lib.rt:158:5
 loop-again : tie.Need-loop-again Inv-loop μ-loop
 loop-again c = walked-more (c .before .before .before .loop .inv) (sym (c .before .before .byte-at .ensures) ∙ c .before .if1 .taken) (c .with-layer .ensures)
 
--- src/lib.rt:146:1
 returns : tie.Need-returns Inv-loop μ-loop
 returns c = walked-all (c .before .before .loop .inv) (λ e. c .if1 .left (c .before .byte-at .ensures ∙ e))
 

@@ -13,43 +13,33 @@ Inv-loop tape at command size n₀ place₀ n place = Counted command size tape 
 abbrev μ-loop : tie.MeasureT-loop
 μ-loop tape at command size n₀ place₀ n place = length tape - place
 
--- src/lib.rt:67:5
 loop-holds : tie.Need-loop-holds Inv-loop μ-loop
 loop-holds c = counted-none _ _ _ _
 
--- src/lib.rt:68:12
 shared-slice-read-if1 : tie.Need-shared-slice-read-if1 Inv-loop μ-loop
 shared-slice-read-if1 c = omega arith
 
--- src/lib.rt:69:13
 returns : tie.Need-returns Inv-loop μ-loop
 returns c = counted-other (c .before .before .before .loop .inv) (c .before .before .loop-test .taken) (c .if1 .taken)
 
--- src/lib.rt:71:9
 add-n : tie.Need-add-n Inv-loop μ-loop
 add-n c = omega (arith, c .before .before .before .loop .inv .low)
 
--- src/lib.rt:72:12
 sub-if2 : tie.Need-sub-if2 Inv-loop μ-loop
 sub-if2 c = omega arith
 
--- src/lib.rt:73:13
 returns-2 : tie.Need-returns-2 Inv-loop μ-loop
 returns-2 c = counted-past (counted-more (c .before .before .before .before .loop .inv) (c .before .before .before .before .before .pre) (c .before .before .before .loop-test .taken) (c .before .if1 .left)) (omega arith)
 
--- src/lib.rt:75:9
 add-place : tie.Need-add-place Inv-loop μ-loop
 add-place c = omega arith
 
--- src/lib.rt:67:5
 loop-less : tie.Need-loop-less Inv-loop μ-loop
 loop-less c = omega arith
 
--- src/lib.rt:67:5
 loop-again : tie.Need-loop-again Inv-loop μ-loop
 loop-again c = counted-more (c .before .before .before .before .loop .inv) (c .before .before .before .before .before .pre) (c .before .before .before .loop-test .taken) (c .before .if1 .left)
 
--- src/lib.rt:61:1
 returns-3 : tie.Need-returns-3 Inv-loop μ-loop
 returns-3 c = counted-past (c .before .loop .inv) (c .loop-test .left)
 

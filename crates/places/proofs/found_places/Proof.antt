@@ -6,15 +6,12 @@ use Rattle.places.proofs.found_places.Reads as reads
 use Rattle.places.proofs.found_places.Lts as lts
 use Rattle.wire.proofs.u32_or_zero.Reads as u32-or-zero-reads
 
--- src/lib.rt:236:15
 u32-or-zero-requires : tie.Need-u32-or-zero-requires
 u32-or-zero-requires c κs = search needs
 
--- src/lib.rt:237:21
 u32-or-zero-requires-2 : tie.Need-u32-or-zero-requires-2
 u32-or-zero-requires-2 c κs = search needs
 
--- src/lib.rt:227:1
 returns : tie.Need-returns
 returns c = rw (c .before .u32-or-zero .ensures, c .u32-or-zero2 .ensures) refl
 

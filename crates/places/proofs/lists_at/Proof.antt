@@ -10,55 +10,42 @@ use Rattle.places.proofs.lists_at.Reads as reads
 use Rattle.places.proofs.lists_at.Lts as lts
 use Rattle.places.proofs.count_at.Reads as count-at-reads
 
--- src/lib.rt:169:9
 count-at-requires : tie.Need-count-at-requires
 count-at-requires c κs = search needs
 
--- src/lib.rt:170:25
 mul-pairs-at : tie.Need-mul-pairs-at
 mul-pairs-at c = omega (arith, nodes-end _ _ _ (c .before .before .pre) (c .count-at .ensures))
 
--- src/lib.rt:170:20
 add-pairs-at : tie.Need-add-pairs-at
 add-pairs-at c = omega (arith, nodes-end _ _ _ (c .before .before .pre) (c .count-at .ensures))
 
--- src/lib.rt:171:9
 count-at-requires-2 : tie.Need-count-at-requires-2
 count-at-requires-2 c κs = search needs
 
--- src/lib.rt:172:36
 mul-containers-at : tie.Need-mul-containers-at
 mul-containers-at c = omega (arith, pairs-end _ _ _ (c .before .before .before .pre) (c .before .count-at .ensures) _ (c .count-at2 .ensures))
 
--- src/lib.rt:172:25
 add-containers-at : tie.Need-add-containers-at
 add-containers-at c = omega (arith, pairs-end _ _ _ (c .before .before .before .pre) (c .before .count-at .ensures) _ (c .count-at2 .ensures))
 
--- src/lib.rt:173:9
 count-at-requires-3 : tie.Need-count-at-requires-3
 count-at-requires-3 c κs = search needs
 
--- src/lib.rt:174:42
 mul-diagnostics-at : tie.Need-mul-diagnostics-at
 mul-diagnostics-at c = omega (arith, containers-end _ _ _ (c .before .before .before .before .pre) (c .before .before .count-at .ensures) _ (c .before .count-at2 .ensures) _ (c .count-at3 .ensures))
 
--- src/lib.rt:174:26
 add-diagnostics-at : tie.Need-add-diagnostics-at
 add-diagnostics-at c = omega (arith, containers-end _ _ _ (c .before .before .before .before .pre) (c .before .before .count-at .ensures) _ (c .before .count-at2 .ensures) _ (c .count-at3 .ensures))
 
--- src/lib.rt:175:9
 count-at-requires-4 : tie.Need-count-at-requires-4
 count-at-requires-4 c κs = search needs
 
--- src/lib.rt:181:31
 mul-t10 : tie.Need-mul-t10
 mul-t10 c = omega (arith, diagnostics-end _ _ _ (c .before .before .before .before .before .pre) (c .before .before .before .count-at .ensures) _ (c .before .before .count-at2 .ensures) _ (c .before .count-at3 .ensures) _ (c .count-at4 .ensures))
 
--- src/lib.rt:181:14
 add-t15 : tie.Need-add-t15
 add-t15 c = omega (arith, diagnostics-end _ _ _ (c .before .before .before .before .before .pre) (c .before .before .before .count-at .ensures) _ (c .before .before .count-at2 .ensures) _ (c .before .count-at3 .ensures) _ (c .count-at4 .ensures))
 
--- src/lib.rt:165:1
 returns : tie.Need-returns
 unfolding listRuns countAt nodeCodec pairCodec containerCodec diagnosticCodec
 returns c = rw (c .count-at4 .ensures, c .before .count-at3 .ensures, c .before .before .count-at2 .ensures, c .before .before .before .count-at .ensures) refl

@@ -5,7 +5,6 @@ use Rattle.places.proofs.no_places.Tie as tie
 use Rattle.places.proofs.no_places.Reads as reads
 use Rattle.places.proofs.no_places.Lts as lts
 
--- src/lib.rt:207:1
 returns : tie.Need-returns
 unfolding noPlaces
 returns c = refl

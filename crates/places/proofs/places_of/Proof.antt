@@ -12,31 +12,24 @@ use Rattle.places.proofs.frame_holds.Reads as frame-holds-reads
 use Rattle.places.proofs.lists_at.Reads as lists-at-reads
 use Rattle.places.proofs.no_places.Reads as no-places-reads
 
--- src/lib.rt:254:9
 all-layers-requires : tie.Need-all-layers-requires
 all-layers-requires c κs = search needs
 
--- src/lib.rt:255:9
 lists-at-requires : tie.Need-lists-at-requires
 lists-at-requires c κs = walk-near _ _ _ (c .all-layers .ensures)
 
--- src/lib.rt:256:8
 frame-holds-requires : tie.Need-frame-holds-requires
 frame-holds-requires c κs = (walk-bytes _ _ _ (c .before .all-layers .ensures), omega arith, walk-lists _ _ _ _ (c .before .all-layers .ensures) (c .lists-at .ensures))
 
--- src/lib.rt:257:9
 found-places-requires : tie.Need-found-places-requires
 found-places-requires c κs = search needs
 
--- src/lib.rt:257:9
 returns : tie.Need-returns
 returns c = walk-found _ _ _ _ (c .before .before .before .before .all-layers .ensures) (c .before .before .before .lists-at .ensures) _ (c .found-places .ensures) (sym (c .before .before .frame-holds .ensures) ∙ c .before .if1 .taken)
 
--- src/lib.rt:259:5
 no-places-requires : tie.Need-no-places-requires
 no-places-requires c κs = search needs
 
--- src/lib.rt:251:1
 returns-2 : tie.Need-returns-2
 returns-2 c = walk-fault _ _ _ _ (c .before .before .before .before .all-layers .ensures) (c .before .before .before .lists-at .ensures) _ (c .no-places .ensures) (sym (c .before .before .frame-holds .ensures) ∙ c .before .if1 .left)
 

@@ -15,60 +15,46 @@ Inv-loop tape at count room total₀ i₀ total i = (i ≤ count) × (total ≤ 
 abbrev μ-loop : tie.MeasureT-loop
 μ-loop tape at count room total₀ i₀ total i = count - i
 
--- src/lib.rt:87:5
 loop-holds : tie.Need-loop-holds Inv-loop μ-loop
 unfolding sumTo
 loop-holds c = (omega arith, omega arith, refl)
 
--- src/lib.rt:88:46
 mul-u32-or-zero : tie.Need-mul-u32-or-zero Inv-loop μ-loop
 mul-u32-or-zero c = omega arith
 
--- src/lib.rt:88:41
 add-u32-or-zero : tie.Need-add-u32-or-zero Inv-loop μ-loop
 add-u32-or-zero c = omega arith
 
--- src/lib.rt:88:41
 add-u32-or-zero-2 : tie.Need-add-u32-or-zero-2 Inv-loop μ-loop
 add-u32-or-zero-2 c = omega arith
 
--- src/lib.rt:88:17
 u32-or-zero-requires : tie.Need-u32-or-zero-requires Inv-loop μ-loop
 u32-or-zero-requires c κs = omega arith
 
--- src/lib.rt:88:17
 cast-n : tie.Need-cast-n Inv-loop μ-loop
 cast-n c = omega arith
 
--- src/lib.rt:89:12
 sub-if1 : tie.Need-sub-if1 Inv-loop μ-loop
 sub-if1 c = omega arith
 
--- src/lib.rt:90:20
 add-result : tie.Need-add-result Inv-loop μ-loop
 add-result c = omega arith
 
--- src/lib.rt:90:13
 returns : tie.Need-returns Inv-loop μ-loop
 returns c = lengths-over _ _ _ _ _ _ _ (c .before .before .loop-test .taken) (c .before .before .before .loop .inv .2) (c .before .u32-or-zero .ensures) (omega arith)
 
--- src/lib.rt:92:9
 add-total : tie.Need-add-total Inv-loop μ-loop
 add-total c = omega arith
 
--- src/lib.rt:93:9
 add-i : tie.Need-add-i Inv-loop μ-loop
 add-i c = omega arith
 
--- src/lib.rt:87:5
 loop-less : tie.Need-loop-less Inv-loop μ-loop
 loop-less c = omega arith
 
--- src/lib.rt:87:5
 loop-again : tie.Need-loop-again Inv-loop μ-loop
 loop-again c = (omega arith, omega arith, omega (arith, c .before .before .before .loop .inv .2, c .before .u32-or-zero .ensures, sum-more (lengthAt (c .before .before .before .before .before .args .tape .now) (c .before .before .before .before .before .args .at)) (c .before .before .before .loop .i)))
 
--- src/lib.rt:81:1
 returns-2 : tie.Need-returns-2 Inv-loop μ-loop
 returns-2 c = lengths-in _ _ _ _ _ _ (omega arith) (c .before .loop .inv .2) (c .before .loop .inv .1)
 

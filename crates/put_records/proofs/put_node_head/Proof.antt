@@ -9,55 +9,42 @@ use borrow.Author.Needs.{needs}
 use Rattle.put_records.proofs.put_node_head.Statement.{statement}
 use Rattle.put_records.proofs.put_node_head.Tie as tie
 
--- src/lib.rt:231:5
 put-u8-requires : tie.Need-put-u8-requires
 put-u8-requires c κs = search needs
 
--- src/lib.rt:232:23
 add-put-u8 : tie.Need-add-put-u8
 add-put-u8 c = search needs
 
--- src/lib.rt:232:5
 put-u8-requires-2 : tie.Need-put-u8-requires-2
 put-u8-requires-2 c κs = search needs
 
--- src/lib.rt:233:23
 add-put-u8-2 : tie.Need-add-put-u8-2
 add-put-u8-2 c = search needs
 
--- src/lib.rt:233:5
 put-u8-requires-3 : tie.Need-put-u8-requires-3
 put-u8-requires-3 c κs = search needs
 
--- src/lib.rt:234:24
 add-put-u32 : tie.Need-add-put-u32
 add-put-u32 c = search needs
 
--- src/lib.rt:234:5
 put-u32-requires : tie.Need-put-u32-requires
 put-u32-requires c κs = search needs
 
--- src/lib.rt:235:24
 add-put-u32-2 : tie.Need-add-put-u32-2
 add-put-u32-2 c = search needs
 
--- src/lib.rt:235:5
 put-u32-requires-2 : tie.Need-put-u32-requires-2
 put-u32-requires-2 c κs = search needs
 
--- src/lib.rt:236:24
 add-put-u32-3 : tie.Need-add-put-u32-3
 add-put-u32-3 c = search needs
 
--- src/lib.rt:236:5
 put-u32-requires-3 : tie.Need-put-u32-requires-3
 put-u32-requires-3 c κs = search needs
 
--- src/lib.rt:227:1
 same-length : tie.Need-same-length
 same-length c = search needs
 
--- src/lib.rt:227:1
 returns : tie.Need-returns
 returns c =
     let w1 : Wrote (c .before .before .before .before .before .before .before .before .before .before .before .before .before .before .before .before .before .before .before .before .before .before .before .before .before .args .out .now) (c .before .before .before .before .before .before .before .before .before .before .before .before .before .before .before .before .before .before .before .before .before .before .before .before .before .args .at) (6 ∷ []) (c .before .before .before .before .before .before .before .before .before .before .before .before .before .before .before .before .before .before .before .before .before .before .put-u8 .last .0) = record { is = c .before .before .before .before .before .before .before .before .before .before .before .before .before .before .before .before .before .before .before .before .before .before .put-u8 .ensures } in

@@ -17,51 +17,39 @@ Inv-loop tape at count blocks₀ warichu₀ i₀ blocks warichu i = Balanced tap
 abbrev μ-loop : tie.MeasureT-loop
 μ-loop tape at count blocks₀ warichu₀ i₀ blocks warichu i = count - i
 
--- src/lib.rt:68:5
 loop-holds : tie.Need-loop-holds Inv-loop μ-loop
 loop-holds c = balanced-none _ _ _
 
--- src/lib.rt:69:22
 mul-p : tie.Need-mul-p Inv-loop μ-loop
 mul-p c = omega arith
 
--- src/lib.rt:69:17
 add-p : tie.Need-add-p Inv-loop μ-loop
 add-p c = omega arith
 
--- src/lib.rt:70:12
 closes-unopened-requires : tie.Need-closes-unopened-requires Inv-loop μ-loop
 closes-unopened-requires c κs = omega arith
 
--- src/lib.rt:71:13
 returns : tie.Need-returns Inv-loop μ-loop
 returns c = balanced-fails (c .before .before .before .loop .inv) (c .before .before .loop-test .taken) (c .before .closes-unopened .ensures) (c .if1 .taken)
 
--- src/lib.rt:73:9
 block-depth-requires : tie.Need-block-depth-requires Inv-loop μ-loop
 block-depth-requires c κs = omega arith
 
--- src/lib.rt:74:9
 warichu-depth-requires : tie.Need-warichu-depth-requires Inv-loop μ-loop
 warichu-depth-requires c κs = omega arith
 
--- src/lib.rt:75:9
 add-i : tie.Need-add-i Inv-loop μ-loop
 add-i c = omega arith
 
--- src/lib.rt:68:5
 loop-less : tie.Need-loop-less Inv-loop μ-loop
 loop-less c = omega arith
 
--- src/lib.rt:68:5
 loop-again : tie.Need-loop-again Inv-loop μ-loop
 loop-again c = balanced-more (c .before .before .before .before .before .loop .inv) (c .before .before .before .before .loop-test .taken) (c .before .before .before .closes-unopened .ensures) (c .before .before .if1 .left) (c .before .block-depth .ensures) (c .warichu-depth .ensures)
 
--- src/lib.rt:77:5
 depths-zero-requires : tie.Need-depths-zero-requires Inv-loop μ-loop
 depths-zero-requires c κs = search needs
 
--- src/lib.rt:61:1
 returns-2 : tie.Need-returns-2 Inv-loop μ-loop
 returns-2 c = balanced-done (c .before .before .loop .inv) (omega arith) (c .depths-zero .ensures)
 

@@ -8,27 +8,21 @@ use Rattle.cuts.proofs.closes_nothing.Reads as closes-nothing-reads
 use Rattle.cuts.proofs.is_block_close.Reads as is-block-close-reads
 use Rattle.cuts.proofs.is_warichu_close.Reads as is-warichu-close-reads
 
--- src/lib.rt:54:29
 is-block-close-requires : tie.Need-is-block-close-requires
 is-block-close-requires c κs = search needs
 
--- src/lib.rt:54:8
 closes-nothing-requires : tie.Need-closes-nothing-requires
 closes-nothing-requires c κs = search needs
 
--- src/lib.rt:55:9
 returns : tie.Need-returns
 returns c = unopened-block _ _ _ (c .before .before .is-block-close .ensures) (c .before .closes-nothing .ensures) (c .if1 .taken)
 
--- src/lib.rt:57:26
 is-warichu-close-requires : tie.Need-is-warichu-close-requires
 is-warichu-close-requires c κs = search needs
 
--- src/lib.rt:57:5
 closes-nothing-requires-2 : tie.Need-closes-nothing-requires-2
 closes-nothing-requires-2 c κs = search needs
 
--- src/lib.rt:50:1
 returns-2 : tie.Need-returns-2
 returns-2 c = unopened-warichu _ _ _ (c .before .before .before .before .is-block-close .ensures) (c .before .before .before .closes-nothing .ensures) (c .before .before .if1 .left) (c .before .is-warichu-close .ensures) (c .closes-nothing2 .ensures)
 

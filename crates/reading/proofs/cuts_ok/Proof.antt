@@ -7,19 +7,15 @@ use Rattle.reading.proofs.cuts_ok.Reads as reads
 use Rattle.reading.proofs.cuts_ok.Lts as lts
 use Rattle.utf8.proofs.is_char_boundary.Reads as is-char-boundary-reads
 
--- src/lib.rt:160:9
 is-char-boundary-requires : tie.Need-is-char-boundary-requires
 is-char-boundary-requires c κs = search needs
 
--- src/lib.rt:161:9
 returns : tie.Need-returns
 returns c = ends-start _ _ _ (c .before .is-char-boundary .ensures) (not-true _ (c .if1 .taken))
 
--- src/lib.rt:163:5
 is-char-boundary-requires-2 : tie.Need-is-char-boundary-requires-2
 is-char-boundary-requires-2 c κs = search needs
 
--- src/lib.rt:157:1
 returns-2 : tie.Need-returns-2
 returns-2 c = ends-end _ _ _ (c .before .before .is-char-boundary .ensures) (not-false _ (c .before .if1 .left)) (c .is-char-boundary2 .ensures)
 

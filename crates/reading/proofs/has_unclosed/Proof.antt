@@ -17,41 +17,32 @@ Inv-loop tape at count i₀ i = (i ≤ count) × Missed (testAt diagnosticCodec 
 abbrev μ-loop : tie.MeasureT-loop
 μ-loop tape at count i₀ i = count - i
 
--- src/lib.rt:64:5
 loop-holds : tie.Need-loop-holds Inv-loop μ-loop
 loop-holds c = (omega arith, missed-none _)
 
--- src/lib.rt:65:35
 mul-is-unclosed : tie.Need-mul-is-unclosed Inv-loop μ-loop
 mul-is-unclosed c = omega arith
 
--- src/lib.rt:65:30
 add-is-unclosed : tie.Need-add-is-unclosed Inv-loop μ-loop
 add-is-unclosed c = omega arith
 
--- src/lib.rt:65:12
 is-unclosed-requires : tie.Need-is-unclosed-requires Inv-loop μ-loop
 is-unclosed-requires c κs = omega arith
 
--- src/lib.rt:66:13
 returns : tie.Need-returns Inv-loop μ-loop
 unfolding diagnosticCodec
 returns c = run-found diagnosticCodec isUnclosed (c .before .before .before .before .before .args .tape .now) (c .before .before .before .before .before .args .at) (c .before .before .before .loop .i) _ refl _ (c .before .is-unclosed .ensures) _ (c .before .before .loop-test .taken) (c .if1 .taken)
 
--- src/lib.rt:68:9
 add-i : tie.Need-add-i Inv-loop μ-loop
 add-i c = omega arith
 
--- src/lib.rt:64:5
 loop-less : tie.Need-loop-less Inv-loop μ-loop
 loop-less c = omega arith
 
--- src/lib.rt:64:5
 loop-again : tie.Need-loop-again Inv-loop μ-loop
 unfolding diagnosticCodec
 loop-again c = (omega arith, run-missed diagnosticCodec isUnclosed (c .before .before .before .before .before .args .tape .now) (c .before .before .before .before .before .args .at) (c .before .before .before .loop .i) _ refl _ (c .before .is-unclosed .ensures) (c .if1 .left) (c .before .before .before .loop .inv .1))
 
--- src/lib.rt:59:1
 returns-2 : tie.Need-returns-2 Inv-loop μ-loop
 returns-2 c = run-nowhere diagnosticCodec isUnclosed (c .before .before .before .args .tape .now) (c .before .before .before .args .at) _ (c .before .loop .i) (omega arith) (c .before .loop .inv .1)
 

@@ -7,28 +7,22 @@ use Rattle.reading.proofs.is_unclosed.Tie as tie
 use Rattle.reading.proofs.is_unclosed.Reads as reads
 use Rattle.reading.proofs.is_unclosed.Lts as lts
 
--- src/lib.rt:52:13
 add-if1 : tie.Need-add-if1
 add-if1 c = search needs
 
--- src/lib.rt:52:8
 shared-slice-read-if1 : tie.Need-shared-slice-read-if1
 shared-slice-read-if1 c = search needs
 
--- src/lib.rt:53:9
 returns : tie.Need-returns
 unfolding recordAt operandsAt diagnosticCodec
 returns c = unclosed-bracket _ refl (c .if1 .taken)
 
--- src/lib.rt:55:10
 add-result : tie.Need-add-result
 add-result c = search needs
 
--- src/lib.rt:55:5
 shared-slice-read-result : tie.Need-shared-slice-read-result
 shared-slice-read-result c = search needs
 
--- src/lib.rt:48:1
 returns-2 : tie.Need-returns-2
 unfolding recordAt operandsAt diagnosticCodec
 returns-2 c = unclosed-close _ refl (c .before .if1 .left)

@@ -14,39 +14,30 @@ Inv-loop tape at count offset i₀ i = (i ≤ count) × Passed (endsAt tape at o
 abbrev μ-loop : tie.MeasureT-loop
 μ-loop tape at count offset i₀ i = count - i
 
--- src/lib.rt:116:5
 loop-holds : tie.Need-loop-holds Inv-loop μ-loop
 loop-holds c = (omega arith, passed-none _)
 
--- src/lib.rt:117:50
 mul-node-end : tie.Need-mul-node-end Inv-loop μ-loop
 mul-node-end c = omega arith
 
--- src/lib.rt:117:45
 add-node-end : tie.Need-add-node-end Inv-loop μ-loop
 add-node-end c = omega arith
 
--- src/lib.rt:117:21
 node-end-requires : tie.Need-node-end-requires Inv-loop μ-loop
 node-end-requires c κs = omega arith
 
--- src/lib.rt:118:13
 returns : tie.Need-returns Inv-loop μ-loop
 returns c = until-stop _ _ _ (c .before .before .before .before .before .pre .1) _ (c .before .before .loop-test .taken) (c .before .before .before .loop .inv .1) (c .before .node-end .ensures) (c .if1 .taken)
 
--- src/lib.rt:120:9
 add-i : tie.Need-add-i Inv-loop μ-loop
 add-i c = omega arith
 
--- src/lib.rt:116:5
 loop-less : tie.Need-loop-less Inv-loop μ-loop
 loop-less c = omega arith
 
--- src/lib.rt:116:5
 loop-again : tie.Need-loop-again Inv-loop μ-loop
 loop-again c = (omega arith, until-more (c .before .before .before .before .before .args .tape .now) _ _ _ (c .before .node-end .ensures) (c .before .before .before .loop .inv .1) (c .if1 .left))
 
--- src/lib.rt:110:1
 returns-2 : tie.Need-returns-2 Inv-loop μ-loop
 returns-2 c = until-all _ _ _ (c .before .before .before .pre .1) _ (omega arith) (c .before .loop .inv .1)
 

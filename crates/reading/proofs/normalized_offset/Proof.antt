@@ -16,55 +16,42 @@ Inv-loop tape at count offset n images₀ spans₀ i₀ images spans i = Summed 
 abbrev μ-loop : tie.MeasureT-loop
 μ-loop tape at count offset n images₀ spans₀ i₀ images spans i = n - i
 
--- src/lib.rt:143:9
 nodes-until-requires : tie.Need-nodes-until-requires Inv-loop μ-loop
 nodes-until-requires c κs = c .before .pre
 
--- src/lib.rt:147:5
 loop-holds : tie.Need-loop-holds Inv-loop μ-loop
 loop-holds c = summed-none _ _ _
 
--- src/lib.rt:148:22
 mul-p : tie.Need-mul-p Inv-loop μ-loop
 mul-p c = omega (arith, (c .before .before .nodes-until .ensures) .within, c .before .before .before .before .pre .0, c .loop-test .taken)
 
--- src/lib.rt:148:17
 add-p : tie.Need-add-p Inv-loop μ-loop
 add-p c = omega (arith, (c .before .before .nodes-until .ensures) .within, c .before .before .before .before .pre .0, c .loop-test .taken)
 
--- src/lib.rt:149:19
 image-length-requires : tie.Need-image-length-requires Inv-loop μ-loop
 image-length-requires c κs = omega (arith, (c .before .before .nodes-until .ensures) .within, c .before .before .before .before .pre .0, c .loop-test .taken)
 
--- src/lib.rt:149:9
 add-images : tie.Need-add-images Inv-loop μ-loop
 add-images c = omega (arith, summed-image (c .before .before .loop .inv) (c .before .loop-test .taken) (c .image-length .ensures), (c .before .before .before .nodes-until .ensures) .within, c .before .before .before .before .before .pre .0)
 
--- src/lib.rt:150:18
 span-length-requires : tie.Need-span-length-requires Inv-loop μ-loop
 span-length-requires c κs = omega (arith, (c .before .before .before .nodes-until .ensures) .within, c .before .before .before .before .before .pre .0, c .before .loop-test .taken)
 
--- src/lib.rt:150:9
 add-spans : tie.Need-add-spans Inv-loop μ-loop
 add-spans c = omega (arith, summed-span (c .before .before .before .loop .inv) (c .before .before .loop-test .taken) (c .before .image-length .ensures) (c .span-length .ensures) (c .before .before .before .before .before .before .pre .1) (c .before .before .before .before .nodes-until .ensures))
 
--- src/lib.rt:151:9
 add-i : tie.Need-add-i Inv-loop μ-loop
 add-i c = omega arith
 
--- src/lib.rt:147:5
 loop-less : tie.Need-loop-less Inv-loop μ-loop
 loop-less c = omega arith
 
--- src/lib.rt:147:5
 loop-again : tie.Need-loop-again Inv-loop μ-loop
 loop-again c = summed-more (c .before .before .before .loop .inv) (c .before .before .loop-test .taken) (c .before .image-length .ensures) (c .span-length .ensures)
 
--- src/lib.rt:153:5
 drifted-requires : tie.Need-drifted-requires Inv-loop μ-loop
 drifted-requires c κs = let s = summed-sums (c .before .loop .inv) (omega (arith, c .before .loop .inv .within)) (c .before .before .before .before .pre .1) (c .before .before .nodes-until .ensures) in (omega (arith, s .0, (c .before .before .nodes-until .ensures) .within, c .before .before .before .before .pre .0), omega (arith, s .1))
 
--- src/lib.rt:138:1
 returns : tie.Need-returns Inv-loop μ-loop
 returns c = summed-offset (c .before .before .loop .inv) (omega (arith, c .before .before .loop .inv .within)) (c .before .before .before .nodes-until .ensures) (c .drifted .ensures)
 

@@ -8,19 +8,15 @@ use Rattle.records.proofs.body_shape.Lts as lts
 use Rattle.records.proofs.tag_count.Reads as tag-count-reads
 use Rattle.records.proofs.words_fit.Reads as words-fit-reads
 
--- src/lib.rt:248:8
 tag-count-requires : tie.Need-tag-count-requires
 tag-count-requires c κs = search needs
 
--- src/lib.rt:249:9
 returns : tie.Need-returns
 returns c = sym (body-fails _ _ _ (c .before .before .tag-count .ensures) (c .if1 .taken))
 
--- src/lib.rt:252:5
 words-fit-requires : tie.Need-words-fit-requires
 words-fit-requires c κs = search needs
 
--- src/lib.rt:245:1
 returns-2 : tie.Need-returns-2
 returns-2 c = c .words-fit .ensures ∙ body-goes-on _ _ _ (c .before .before .before .before .tag-count .ensures) (c .before .before .if1 .left)
 

@@ -7,23 +7,18 @@ use Rattle.records.proofs.body_word.Reads as reads
 use Rattle.records.proofs.body_word.Lts as lts
 use Rattle.wire.proofs.u32_at.Reads as u32-at-reads
 
--- src/lib.rt:97:24
 add-u32-at : tie.Need-add-u32-at
 add-u32-at c = search needs
 
--- src/lib.rt:97:34
 mul-u32-at : tie.Need-mul-u32-at
 mul-u32-at c = search needs
 
--- src/lib.rt:97:24
 add-u32-at-2 : tie.Need-add-u32-at-2
 add-u32-at-2 c = search needs
 
--- src/lib.rt:97:5
 u32-at-requires : tie.Need-u32-at-requires
 u32-at-requires c κs = search needs
 
--- src/lib.rt:93:1
 returns : tie.Need-returns
 returns c = c .u32-at .ensures ∙ word-place _ _ _ (c .before .before .pre .1)
 

@@ -7,31 +7,24 @@ use Rattle.records.proofs.container_at.Reads as reads
 use Rattle.records.proofs.container_at.Lts as lts
 use Rattle.wire.proofs.u32_at.Reads as u32-at-reads
 
--- src/lib.rt:142:35
 add-u32-at : tie.Need-add-u32-at
 add-u32-at c = search needs
 
--- src/lib.rt:142:16
 u32-at-requires : tie.Need-u32-at-requires
 u32-at-requires c κs = search needs
 
--- src/lib.rt:143:37
 add-u32-at-2 : tie.Need-add-u32-at-2
 add-u32-at-2 c = search needs
 
--- src/lib.rt:143:18
 u32-at-requires-2 : tie.Need-u32-at-requires-2
 u32-at-requires-2 c κs = search needs
 
--- src/lib.rt:144:37
 add-u32-at-3 : tie.Need-add-u32-at-3
 add-u32-at-3 c = search needs
 
--- src/lib.rt:144:18
 u32-at-requires-3 : tie.Need-u32-at-requires-3
 u32-at-requires-3 c κs = search needs
 
--- src/lib.rt:137:1
 returns : tie.Need-returns
 unfolding recordAt operandsAt containerCodec
 returns c = rw (c .before .before .u32-at .ensures, c .before .u32-at2 .ensures, c .u32-at3 .ensures) refl

@@ -7,31 +7,24 @@ use Rattle.records.proofs.content_at.Reads as reads
 use Rattle.records.proofs.content_at.Lts as lts
 use Rattle.wire.proofs.u32_at.Reads as u32-at-reads
 
--- src/lib.rt:91:19
 add-t3 : tie.Need-add-t3
 add-t3 c = search needs
 
--- src/lib.rt:91:14
 shared-slice-read-t5 : tie.Need-shared-slice-read-t5
 shared-slice-read-t5 c = search needs
 
--- src/lib.rt:92:35
 add-u32-at : tie.Need-add-u32-at
 add-u32-at c = search needs
 
--- src/lib.rt:92:16
 u32-at-requires : tie.Need-u32-at-requires
 u32-at-requires c κs = search needs
 
--- src/lib.rt:93:36
 add-u32-at-2 : tie.Need-add-u32-at-2
 add-u32-at-2 c = search needs
 
--- src/lib.rt:93:17
 u32-at-requires-2 : tie.Need-u32-at-requires-2
 u32-at-requires-2 c κs = search needs
 
--- src/lib.rt:86:1
 returns : tie.Need-returns
 unfolding recordAt operandsAt contentCodec
 returns c = rw (c .before .u32-at .ensures, c .u32-at2 .ensures) refl

@@ -4,11 +4,9 @@ use Rattle.records.proofs.content_shape.Tie as tie
 use Rattle.records.proofs.content_shape.Reads as reads
 use Rattle.records.proofs.content_shape.Lts as lts
 
--- src/lib.rt:259:9
 returns : tie.Need-returns
 returns c = content-plain _ (c .before .if1 .taken)
 
--- src/lib.rt:255:1
 returns-2 : tie.Need-returns-2
 returns-2 c = content-other _ (c .before .if1 .left)
 

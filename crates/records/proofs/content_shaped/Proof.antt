@@ -8,15 +8,12 @@ use Rattle.records.proofs.content_shaped.Lts as lts
 use Rattle.records.proofs.content_at.Reads as content-at-reads
 use Rattle.records.proofs.content_shape.Reads as content-shape-reads
 
--- src/lib.rt:340:19
 content-at-requires : tie.Need-content-at-requires
 content-at-requires c κs = search needs
 
--- src/lib.rt:340:5
 content-shape-requires : tie.Need-content-shape-requires
 content-shape-requires c κs = search needs
 
--- src/lib.rt:336:1
 returns : tie.Need-returns
 returns c = c .content-shape .ensures ∙ ap contentShape (c .before .content-at .ensures)
 

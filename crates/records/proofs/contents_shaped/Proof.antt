@@ -17,41 +17,32 @@ Inv-loop tape at count i₀ i = (i ≤ count) × Passed (testAt contentCodec con
 abbrev μ-loop : tie.MeasureT-loop
 μ-loop tape at count i₀ i = count - i
 
--- src/lib.rt:348:5
 loop-holds : tie.Need-loop-holds Inv-loop μ-loop
 loop-holds c = (omega arith, passed-none _)
 
--- src/lib.rt:349:39
 mul-content-shaped : tie.Need-mul-content-shaped Inv-loop μ-loop
 mul-content-shaped c = omega arith
 
--- src/lib.rt:349:34
 add-content-shaped : tie.Need-add-content-shaped Inv-loop μ-loop
 add-content-shaped c = omega arith
 
--- src/lib.rt:349:13
 content-shaped-requires : tie.Need-content-shaped-requires Inv-loop μ-loop
 content-shaped-requires c κs = omega arith
 
--- src/lib.rt:350:13
 returns : tie.Need-returns Inv-loop μ-loop
 unfolding contentCodec
 returns c = run-failed contentCodec contentShape (c .before .before .before .before .before .args .tape .now) (c .before .before .before .before .before .args .at) (c .before .before .before .loop .i) _ refl _ (c .before .content-shaped .ensures) _ (c .before .before .loop-test .taken) (not-true _ (c .if1 .taken))
 
--- src/lib.rt:352:9
 add-i : tie.Need-add-i Inv-loop μ-loop
 add-i c = omega arith
 
--- src/lib.rt:348:5
 loop-less : tie.Need-loop-less Inv-loop μ-loop
 loop-less c = omega arith
 
--- src/lib.rt:348:5
 loop-again : tie.Need-loop-again Inv-loop μ-loop
 unfolding contentCodec
 loop-again c = (omega arith, run-more contentCodec contentShape (c .before .before .before .before .before .args .tape .now) (c .before .before .before .before .before .args .at) (c .before .before .before .loop .i) _ refl _ (c .before .content-shaped .ensures) (not-false _ (c .if1 .left)) (c .before .before .before .loop .inv .1))
 
--- src/lib.rt:343:1
 returns-2 : tie.Need-returns-2 Inv-loop μ-loop
 returns-2 c = run-passed contentCodec contentShape (c .before .before .before .args .tape .now) (c .before .before .before .args .at) _ (c .before .loop .i) (omega arith) (c .before .loop .inv .1)
 

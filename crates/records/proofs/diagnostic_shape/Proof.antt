@@ -5,7 +5,6 @@ use Rattle.records.proofs.diagnostic_shape.Tie as tie
 use Rattle.records.proofs.diagnostic_shape.Reads as reads
 use Rattle.records.proofs.diagnostic_shape.Lts as lts
 
--- src/lib.rt:328:1
 returns : tie.Need-returns
 unfolding diagnosticShape
 returns c = refl

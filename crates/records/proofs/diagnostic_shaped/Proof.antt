@@ -6,15 +6,12 @@ use Rattle.records.proofs.diagnostic_shaped.Tie as tie
 use Rattle.records.proofs.diagnostic_shaped.Reads as reads
 use Rattle.records.proofs.diagnostic_shaped.Lts as lts
 
--- src/lib.rt:424:10
 add-result : tie.Need-add-result
 add-result c = search needs
 
--- src/lib.rt:424:5
 shared-slice-read-result : tie.Need-shared-slice-read-result
 shared-slice-read-result c = search needs
 
--- src/lib.rt:420:1
 returns : tie.Need-returns
 unfolding recordAt operandsAt diagnosticShape diagnosticCodec
 returns c = refl

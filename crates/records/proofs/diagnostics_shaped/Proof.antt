@@ -17,41 +17,32 @@ Inv-loop tape at count i₀ i = (i ≤ count) × Passed (testAt diagnosticCodec 
 abbrev μ-loop : tie.MeasureT-loop
 μ-loop tape at count i₀ i = count - i
 
--- src/lib.rt:432:5
 loop-holds : tie.Need-loop-holds Inv-loop μ-loop
 loop-holds c = (omega arith, passed-none _)
 
--- src/lib.rt:433:42
 mul-diagnostic-shaped : tie.Need-mul-diagnostic-shaped Inv-loop μ-loop
 mul-diagnostic-shaped c = omega arith
 
--- src/lib.rt:433:37
 add-diagnostic-shaped : tie.Need-add-diagnostic-shaped Inv-loop μ-loop
 add-diagnostic-shaped c = omega arith
 
--- src/lib.rt:433:13
 diagnostic-shaped-requires : tie.Need-diagnostic-shaped-requires Inv-loop μ-loop
 diagnostic-shaped-requires c κs = omega arith
 
--- src/lib.rt:434:13
 returns : tie.Need-returns Inv-loop μ-loop
 unfolding diagnosticCodec
 returns c = run-failed diagnosticCodec diagnosticShape (c .before .before .before .before .before .args .tape .now) (c .before .before .before .before .before .args .at) (c .before .before .before .loop .i) _ refl _ (c .before .diagnostic-shaped .ensures) _ (c .before .before .loop-test .taken) (not-true _ (c .if1 .taken))
 
--- src/lib.rt:436:9
 add-i : tie.Need-add-i Inv-loop μ-loop
 add-i c = omega arith
 
--- src/lib.rt:432:5
 loop-less : tie.Need-loop-less Inv-loop μ-loop
 loop-less c = omega arith
 
--- src/lib.rt:432:5
 loop-again : tie.Need-loop-again Inv-loop μ-loop
 unfolding diagnosticCodec
 loop-again c = (omega arith, run-more diagnosticCodec diagnosticShape (c .before .before .before .before .before .args .tape .now) (c .before .before .before .before .before .args .at) (c .before .before .before .loop .i) _ refl _ (c .before .diagnostic-shaped .ensures) (not-false _ (c .if1 .left)) (c .before .before .before .loop .inv .1))
 
--- src/lib.rt:427:1
 returns-2 : tie.Need-returns-2 Inv-loop μ-loop
 returns-2 c = run-passed diagnosticCodec diagnosticShape (c .before .before .before .args .tape .now) (c .before .before .before .args .at) _ (c .before .loop .i) (omega arith) (c .before .loop .inv .1)
 

@@ -7,55 +7,42 @@ use Rattle.records.proofs.node_at.Lts as lts
 use Rattle.records.proofs.body_at.Reads as body-at-reads
 use Rattle.wire.proofs.u32_at.Reads as u32-at-reads
 
--- src/lib.rt:113:30
 add-body-at : tie.Need-add-body-at
 add-body-at c = search needs
 
--- src/lib.rt:113:9
 body-at-requires : tie.Need-body-at-requires
 body-at-requires c κs = search needs
 
--- src/lib.rt:115:21
 add-t4 : tie.Need-add-t4
 add-t4 c = search needs
 
--- src/lib.rt:115:16
 shared-slice-read-t6 : tie.Need-shared-slice-read-t6
 shared-slice-read-t6 c = search needs
 
--- src/lib.rt:116:22
 add-t7 : tie.Need-add-t7
 add-t7 c = search needs
 
--- src/lib.rt:116:17
 shared-slice-read-t9 : tie.Need-shared-slice-read-t9
 shared-slice-read-t9 c = search needs
 
--- src/lib.rt:117:35
 add-u32-at : tie.Need-add-u32-at
 add-u32-at c = search needs
 
--- src/lib.rt:117:16
 u32-at-requires : tie.Need-u32-at-requires
 u32-at-requires c κs = search needs
 
--- src/lib.rt:118:33
 add-u32-at-2 : tie.Need-add-u32-at-2
 add-u32-at-2 c = search needs
 
--- src/lib.rt:118:14
 u32-at-requires-2 : tie.Need-u32-at-requires-2
 u32-at-requires-2 c κs = search needs
 
--- src/lib.rt:119:36
 add-u32-at-3 : tie.Need-add-u32-at-3
 add-u32-at-3 c = search needs
 
--- src/lib.rt:119:17
 u32-at-requires-3 : tie.Need-u32-at-requires-3
 u32-at-requires-3 c κs = search needs
 
--- src/lib.rt:109:1
 returns : tie.Need-returns
 returns c = rw (c .before .before .u32-at .ensures, c .before .u32-at2 .ensures, c .u32-at3 .ensures) (node-read _ _ _ (c .before .before .before .before .before .body-at .ensures))
 

@@ -5,27 +5,22 @@ use Rattle.records.proofs.node_head.Tie as tie
 use Rattle.records.proofs.node_head.Reads as reads
 use Rattle.records.proofs.node_head.Lts as lts
 
--- src/lib.rt:299:13
 returns : tie.Need-returns
 unfolding nodeHead
 returns c = simp (lt-ltb _ _ (c .before .if1 .taken), lt-ltb _ _ (c .if2 .taken))
 
--- src/lib.rt:301:9
 returns-2 : tie.Need-returns-2
 unfolding nodeHead
 returns-2 c = simp (lt-ltb _ _ (c .before .if1 .taken), le-ltb _ _ (c .if2 .left))
 
--- src/lib.rt:304:9
 returns-3 : tie.Need-returns-3
 unfolding nodeHead
 returns-3 c = simp (le-ltb _ _ (c .before .if1 .left), le-leb _ _ (c .if3 .taken))
 
--- src/lib.rt:307:9
 returns-4 : tie.Need-returns-4
 unfolding nodeHead
 returns-4 c = simp (le-ltb _ _ (c .before .before .if1 .left), lt-leb _ _ (c .before .if3 .left), ne-eqb _ _ (c .if4 .taken))
 
--- src/lib.rt:294:1
 returns-5 : tie.Need-returns-5
 unfolding nodeHead
 returns-5 c = simp (le-ltb _ _ (c .before .before .if1 .left), lt-leb _ _ (c .before .if3 .left), eq-eqb _ _ (c .if4 .left))

@@ -9,19 +9,15 @@ use Rattle.records.proofs.node_shape.Lts as lts
 use Rattle.records.proofs.body_shape.Reads as body-shape-reads
 use Rattle.records.proofs.node_head.Reads as node-head-reads
 
--- src/lib.rt:316:9
 node-head-requires : tie.Need-node-head-requires
 node-head-requires c κs = search needs
 
--- src/lib.rt:317:9
 returns : tie.Need-returns
 returns c = sym (node-fails _ (sym (c .before .node-head .ensures) ∙ not-true _ (c .if1 .taken)))
 
--- src/lib.rt:319:5
 body-shape-requires : tie.Need-body-shape-requires
 body-shape-requires c κs = search needs
 
--- src/lib.rt:312:1
 returns-2 : tie.Need-returns-2
 returns-2 c = c .body-shape .ensures ∙ sym (node-goes-on _ (sym (c .before .before .before .node-head .ensures) ∙ not-false _ (c .before .before .if1 .left)))
 

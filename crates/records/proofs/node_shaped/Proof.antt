@@ -8,15 +8,12 @@ use Rattle.records.proofs.node_shaped.Lts as lts
 use Rattle.records.proofs.node_at.Reads as node-at-reads
 use Rattle.records.proofs.node_shape.Reads as node-shape-reads
 
--- src/lib.rt:382:16
 node-at-requires : tie.Need-node-at-requires
 node-at-requires c κs = search needs
 
--- src/lib.rt:382:5
 node-shape-requires : tie.Need-node-shape-requires
 node-shape-requires c κs = search needs
 
--- src/lib.rt:378:1
 returns : tie.Need-returns
 returns c = c .node-shape .ensures ∙ ap nodeShape (c .before .node-at .ensures)
 

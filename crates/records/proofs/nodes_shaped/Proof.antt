@@ -17,41 +17,32 @@ Inv-loop tape at count i₀ i = (i ≤ count) × Passed (testAt nodeCodec nodeSh
 abbrev μ-loop : tie.MeasureT-loop
 μ-loop tape at count i₀ i = count - i
 
--- src/lib.rt:390:5
 loop-holds : tie.Need-loop-holds Inv-loop μ-loop
 loop-holds c = (omega arith, passed-none _)
 
--- src/lib.rt:391:36
 mul-node-shaped : tie.Need-mul-node-shaped Inv-loop μ-loop
 mul-node-shaped c = omega arith
 
--- src/lib.rt:391:31
 add-node-shaped : tie.Need-add-node-shaped Inv-loop μ-loop
 add-node-shaped c = omega arith
 
--- src/lib.rt:391:13
 node-shaped-requires : tie.Need-node-shaped-requires Inv-loop μ-loop
 node-shaped-requires c κs = omega arith
 
--- src/lib.rt:392:13
 returns : tie.Need-returns Inv-loop μ-loop
 unfolding nodeCodec
 returns c = run-failed nodeCodec nodeShape (c .before .before .before .before .before .args .tape .now) (c .before .before .before .before .before .args .at) (c .before .before .before .loop .i) _ refl _ (c .before .node-shaped .ensures) _ (c .before .before .loop-test .taken) (not-true _ (c .if1 .taken))
 
--- src/lib.rt:394:9
 add-i : tie.Need-add-i Inv-loop μ-loop
 add-i c = omega arith
 
--- src/lib.rt:390:5
 loop-less : tie.Need-loop-less Inv-loop μ-loop
 loop-less c = omega arith
 
--- src/lib.rt:390:5
 loop-again : tie.Need-loop-again Inv-loop μ-loop
 unfolding nodeCodec
 loop-again c = (omega arith, run-more nodeCodec nodeShape (c .before .before .before .before .before .args .tape .now) (c .before .before .before .before .before .args .at) (c .before .before .before .loop .i) _ refl _ (c .before .node-shaped .ensures) (not-false _ (c .if1 .left)) (c .before .before .before .loop .inv .1))
 
--- src/lib.rt:385:1
 returns-2 : tie.Need-returns-2 Inv-loop μ-loop
 returns-2 c = run-passed nodeCodec nodeShape (c .before .before .before .args .tape .now) (c .before .before .before .args .at) _ (c .before .loop .i) (omega arith) (c .before .loop .inv .1)
 

@@ -5,7 +5,6 @@ use Rattle.records.proofs.pair_shape.Tie as tie
 use Rattle.records.proofs.pair_shape.Reads as reads
 use Rattle.records.proofs.pair_shape.Lts as lts
 
--- src/lib.rt:322:1
 returns : tie.Need-returns
 unfolding pairShape
 returns c = refl

@@ -6,15 +6,12 @@ use Rattle.records.proofs.pair_shaped.Tie as tie
 use Rattle.records.proofs.pair_shaped.Reads as reads
 use Rattle.records.proofs.pair_shaped.Lts as lts
 
--- src/lib.rt:403:10
 add-result : tie.Need-add-result
 add-result c = search needs
 
--- src/lib.rt:403:5
 shared-slice-read-result : tie.Need-shared-slice-read-result
 shared-slice-read-result c = search needs
 
--- src/lib.rt:399:1
 returns : tie.Need-returns
 unfolding recordAt operandsAt pairShape pairCodec
 returns c = refl

@@ -17,41 +17,32 @@ Inv-loop tape at count i₀ i = (i ≤ count) × Passed (testAt pairCodec pairSh
 abbrev μ-loop : tie.MeasureT-loop
 μ-loop tape at count i₀ i = count - i
 
--- src/lib.rt:411:5
 loop-holds : tie.Need-loop-holds Inv-loop μ-loop
 loop-holds c = (omega arith, passed-none _)
 
--- src/lib.rt:412:36
 mul-pair-shaped : tie.Need-mul-pair-shaped Inv-loop μ-loop
 mul-pair-shaped c = omega arith
 
--- src/lib.rt:412:31
 add-pair-shaped : tie.Need-add-pair-shaped Inv-loop μ-loop
 add-pair-shaped c = omega arith
 
--- src/lib.rt:412:13
 pair-shaped-requires : tie.Need-pair-shaped-requires Inv-loop μ-loop
 pair-shaped-requires c κs = omega arith
 
--- src/lib.rt:413:13
 returns : tie.Need-returns Inv-loop μ-loop
 unfolding pairCodec
 returns c = run-failed pairCodec pairShape (c .before .before .before .before .before .args .tape .now) (c .before .before .before .before .before .args .at) (c .before .before .before .loop .i) _ refl _ (c .before .pair-shaped .ensures) _ (c .before .before .loop-test .taken) (not-true _ (c .if1 .taken))
 
--- src/lib.rt:415:9
 add-i : tie.Need-add-i Inv-loop μ-loop
 add-i c = omega arith
 
--- src/lib.rt:411:5
 loop-less : tie.Need-loop-less Inv-loop μ-loop
 loop-less c = omega arith
 
--- src/lib.rt:411:5
 loop-again : tie.Need-loop-again Inv-loop μ-loop
 unfolding pairCodec
 loop-again c = (omega arith, run-more pairCodec pairShape (c .before .before .before .before .before .args .tape .now) (c .before .before .before .before .before .args .at) (c .before .before .before .loop .i) _ refl _ (c .before .pair-shaped .ensures) (not-false _ (c .if1 .left)) (c .before .before .before .loop .inv .1))
 
--- src/lib.rt:406:1
 returns-2 : tie.Need-returns-2 Inv-loop μ-loop
 returns-2 c = run-passed pairCodec pairShape (c .before .before .before .args .tape .now) (c .before .before .before .args .at) _ (c .before .loop .i) (omega arith) (c .before .loop .inv .1)
 

@@ -8,32 +8,25 @@ use Rattle.records.proofs.row_of.Reads as reads
 use Rattle.records.proofs.row_of.Lts as lts
 use Rattle.records.proofs.variant.Reads as variant-reads
 
--- src/lib.rt:202:13
 mul-n : tie.Need-mul-n
 mul-n c = search needs
 
--- src/lib.rt:202:35
 variant-requires : tie.Need-variant-requires
 variant-requires c κs = search needs
 
--- src/lib.rt:202:13
 add-n : tie.Need-add-n
 add-n c = omega (arith, c .variant .ensures, variant-small (c .before .args .kind) (c .before .args .tag))
 
--- src/lib.rt:203:6
 array-read-result : tie.Need-array-read-result
 array-read-result c = omega (arith, c .variant .ensures, variant-small (c .before .args .kind) (c .before .args .tag))
 
--- src/lib.rt:203:6
 sub-result : tie.Need-sub-result
 sub-result c = rw (c .variant .ensures) (row-digit _ _ (c .before .pre))
 
--- src/lib.rt:203:5
 cast-result : tie.Need-cast-result
 unfolding rowOf
 cast-result c = rw (c .variant .ensures) (omega (arith, row-below (c .before .args .kind) (c .before .args .tag) (c .before .pre)))
 
--- src/lib.rt:198:1
 returns : tie.Need-returns
 unfolding rowOf
 returns c = rw (c .variant .ensures) refl

@@ -6,31 +6,24 @@ use Rattle.records.proofs.segment_at.Reads as reads
 use Rattle.records.proofs.segment_at.Lts as lts
 use Rattle.records.proofs.body_at.Reads as body-at-reads
 
--- src/lib.rt:101:30
 add-body-at : tie.Need-add-body-at
 add-body-at c = search needs
 
--- src/lib.rt:101:9
 body-at-requires : tie.Need-body-at-requires
 body-at-requires c κs = search needs
 
--- src/lib.rt:103:19
 add-t4 : tie.Need-add-t4
 add-t4 c = search needs
 
--- src/lib.rt:103:14
 shared-slice-read-t6 : tie.Need-shared-slice-read-t6
 shared-slice-read-t6 c = search needs
 
--- src/lib.rt:104:21
 add-t7 : tie.Need-add-t7
 add-t7 c = search needs
 
--- src/lib.rt:104:16
 shared-slice-read-t9 : tie.Need-shared-slice-read-t9
 shared-slice-read-t9 c = search needs
 
--- src/lib.rt:97:1
 returns : tie.Need-returns
 returns c = segment-read _ _ _ (c .before .before .body-at .ensures)
 

@@ -5,27 +5,22 @@ use Rattle.records.proofs.segment_head.Tie as tie
 use Rattle.records.proofs.segment_head.Reads as reads
 use Rattle.records.proofs.segment_head.Lts as lts
 
--- src/lib.rt:269:9
 returns : tie.Need-returns
 unfolding segmentHead
 returns c = simp (eq-eqb _ _ (c .if1 .taken))
 
--- src/lib.rt:272:9
 returns-2 : tie.Need-returns-2
 unfolding segmentHead
 returns-2 c = simp (ne-eqb _ _ (c .before .if1 .left), eq-eqb _ _ (c .if2 .taken))
 
--- src/lib.rt:275:9
 returns-3 : tie.Need-returns-3
 unfolding segmentHead
 returns-3 c = simp (ne-eqb _ _ (c .before .before .if1 .left), ne-eqb _ _ (c .before .if2 .left), eq-eqb _ _ (c .if3 .taken))
 
--- src/lib.rt:278:9
 returns-4 : tie.Need-returns-4
 unfolding segmentHead
 returns-4 c = simp (ne-eqb _ _ (c .before .before .before .if1 .left), ne-eqb _ _ (c .before .before .if2 .left), ne-eqb _ _ (c .before .if3 .left), eq-eqb _ _ (c .if4 .taken))
 
--- src/lib.rt:265:1
 returns-5 : tie.Need-returns-5
 unfolding segmentHead
 returns-5 c = simp (ne-eqb _ _ (c .before .before .before .if1 .left), ne-eqb _ _ (c .before .before .if2 .left), ne-eqb _ _ (c .before .if3 .left), ne-eqb _ _ (c .if4 .left))

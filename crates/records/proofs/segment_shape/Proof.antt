@@ -9,19 +9,15 @@ use Rattle.records.proofs.segment_shape.Lts as lts
 use Rattle.records.proofs.body_shape.Reads as body-shape-reads
 use Rattle.records.proofs.segment_head.Reads as segment-head-reads
 
--- src/lib.rt:287:9
 segment-head-requires : tie.Need-segment-head-requires
 segment-head-requires c κs = search needs
 
--- src/lib.rt:288:9
 returns : tie.Need-returns
 returns c = sym (segment-fails _ (sym (c .before .segment-head .ensures) ∙ not-true _ (c .if1 .taken)))
 
--- src/lib.rt:290:5
 body-shape-requires : tie.Need-body-shape-requires
 body-shape-requires c κs = search needs
 
--- src/lib.rt:283:1
 returns-2 : tie.Need-returns-2
 returns-2 c = c .body-shape .ensures ∙ sym (segment-goes-on _ (sym (c .before .before .segment-head .ensures) ∙ not-false _ (c .before .if1 .left)))
 

@@ -8,15 +8,12 @@ use Rattle.records.proofs.segment_shaped.Lts as lts
 use Rattle.records.proofs.segment_at.Reads as segment-at-reads
 use Rattle.records.proofs.segment_shape.Reads as segment-shape-reads
 
--- src/lib.rt:361:19
 segment-at-requires : tie.Need-segment-at-requires
 segment-at-requires c κs = search needs
 
--- src/lib.rt:361:5
 segment-shape-requires : tie.Need-segment-shape-requires
 segment-shape-requires c κs = search needs
 
--- src/lib.rt:357:1
 returns : tie.Need-returns
 returns c = c .segment-shape .ensures ∙ ap segmentShape (c .before .segment-at .ensures)
 

@@ -17,41 +17,32 @@ Inv-loop tape at count i₀ i = (i ≤ count) × Passed (testAt segmentCodec seg
 abbrev μ-loop : tie.MeasureT-loop
 μ-loop tape at count i₀ i = count - i
 
--- src/lib.rt:369:5
 loop-holds : tie.Need-loop-holds Inv-loop μ-loop
 loop-holds c = (omega arith, passed-none _)
 
--- src/lib.rt:370:39
 mul-segment-shaped : tie.Need-mul-segment-shaped Inv-loop μ-loop
 mul-segment-shaped c = omega arith
 
--- src/lib.rt:370:34
 add-segment-shaped : tie.Need-add-segment-shaped Inv-loop μ-loop
 add-segment-shaped c = omega arith
 
--- src/lib.rt:370:13
 segment-shaped-requires : tie.Need-segment-shaped-requires Inv-loop μ-loop
 segment-shaped-requires c κs = omega arith
 
--- src/lib.rt:371:13
 returns : tie.Need-returns Inv-loop μ-loop
 unfolding segmentCodec
 returns c = run-failed segmentCodec segmentShape (c .before .before .before .before .before .args .tape .now) (c .before .before .before .before .before .args .at) (c .before .before .before .loop .i) _ refl _ (c .before .segment-shaped .ensures) _ (c .before .before .loop-test .taken) (not-true _ (c .if1 .taken))
 
--- src/lib.rt:373:9
 add-i : tie.Need-add-i Inv-loop μ-loop
 add-i c = omega arith
 
--- src/lib.rt:369:5
 loop-less : tie.Need-loop-less Inv-loop μ-loop
 loop-less c = omega arith
 
--- src/lib.rt:369:5
 loop-again : tie.Need-loop-again Inv-loop μ-loop
 unfolding segmentCodec
 loop-again c = (omega arith, run-more segmentCodec segmentShape (c .before .before .before .before .before .args .tape .now) (c .before .before .before .before .before .args .at) (c .before .before .before .loop .i) _ refl _ (c .before .segment-shaped .ensures) (not-false _ (c .if1 .left)) (c .before .before .before .loop .inv .1))
 
--- src/lib.rt:364:1
 returns-2 : tie.Need-returns-2 Inv-loop μ-loop
 returns-2 c = run-passed segmentCodec segmentShape (c .before .before .before .args .tape .now) (c .before .before .before .args .at) _ (c .before .loop .i) (omega arith) (c .before .loop .inv .1)
 

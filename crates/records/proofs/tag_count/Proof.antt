@@ -7,16 +7,13 @@ use Rattle.records.proofs.tag_count.Tie as tie
 use Rattle.records.proofs.tag_count.Reads as reads
 use Rattle.records.proofs.tag_count.Lts as lts
 
--- src/lib.rt:179:9
 returns : tie.Need-returns
 unfolding tagCounts
 returns c = sym (List·getD-eq-default tagCounts 0 (c .if1 .taken))
 
--- src/lib.rt:182:5
 array-read-result : tie.Need-array-read-result
 array-read-result c = search needs
 
--- src/lib.rt:175:1
 returns-2 : tie.Need-returns-2
 unfolding tagCounts
 returns-2 c = refl

@@ -6,21 +6,17 @@ use Rattle.records.proofs.variant.Tie as tie
 use Rattle.records.proofs.variant.Reads as reads
 use Rattle.records.proofs.variant.Lts as lts
 
--- src/lib.rt:190:16
 cast-result : tie.Need-cast-result
 cast-result c = search needs
 
--- src/lib.rt:190:9
 returns : tie.Need-returns
 unfolding variantOf
 returns c = simp (eq-eqb _ _ (c .if1 .taken))
 
--- src/lib.rt:193:9
 returns-2 : tie.Need-returns-2
 unfolding variantOf
 returns-2 c = simp (ne-eqb _ _ (c .before .if1 .left), lt-ltb _ _ (c .if2 .taken))
 
--- src/lib.rt:186:1
 returns-3 : tie.Need-returns-3
 unfolding variantOf
 returns-3 c = simp (ne-eqb _ _ (c .before .if1 .left), le-ltb _ _ (c .if2 .left))

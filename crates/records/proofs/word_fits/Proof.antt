@@ -8,19 +8,15 @@ use Rattle.records.proofs.word_fits.Reads as reads
 use Rattle.records.proofs.word_fits.Lts as lts
 use Rattle.records.proofs.word_use.Reads as word-use-reads
 
--- src/lib.rt:224:9
 returns : tie.Need-returns
 returns c = sym (fits-zero _ _ _ _ _ (c .if1 .taken))
 
--- src/lib.rt:227:9
 returns-2 : tie.Need-returns-2
 returns-2 c = sym (fits-unused _ _ _ _ _ (c .before .if1 .left) (not-true _ (c .if2 .taken)))
 
--- src/lib.rt:229:5
 word-use-requires : tie.Need-word-use-requires
 word-use-requires c κs = search needs
 
--- src/lib.rt:219:1
 returns-3 : tie.Need-returns-3
 returns-3 c = fits-use _ _ _ _ _ (c .before .before .if1 .left) (not-false _ (c .before .if2 .left)) _ (c .word-use .ensures)
 

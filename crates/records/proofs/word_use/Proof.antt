@@ -8,31 +8,24 @@ use Rattle.records.proofs.word_use.Reads as reads
 use Rattle.records.proofs.word_use.Lts as lts
 use Rattle.records.proofs.row_of.Reads as row-of-reads
 
--- src/lib.rt:212:9
 returns : tie.Need-returns
 returns c = sym (use-none _ _ _ (c .if1 .taken))
 
--- src/lib.rt:214:17
 row-of-requires : tie.Need-row-of-requires
 row-of-requires c κs = search needs
 
--- src/lib.rt:214:13
 mul-n : tie.Need-mul-n
 mul-n c = omega (arith, c .row-of .ensures, row-small _ (c .before .before .args .tag) (c .before .if1 .left))
 
--- src/lib.rt:214:13
 add-n : tie.Need-add-n
 add-n c = omega (arith, c .row-of .ensures, row-small _ (c .before .before .args .tag) (c .before .if1 .left))
 
--- src/lib.rt:215:5
 array-read-result : tie.Need-array-read-result
 array-read-result c = omega (arith, c .row-of .ensures, row-small _ (c .before .before .args .tag) (c .before .if1 .left))
 
--- src/lib.rt:215:5
 sub-result : tie.Need-sub-result
 sub-result c = rw (c .row-of .ensures) (omega (arith, uses-right _ (c .before .before .args .tag) (c .before .if1 .left) _ (c .before .before .pre)))
 
--- src/lib.rt:207:1
 returns-2 : tie.Need-returns-2
 returns-2 c = rw (c .row-of .ensures) (omega (arith, uses-right _ (c .before .before .args .tag) (c .before .if1 .left) _ (c .before .before .pre)))
 

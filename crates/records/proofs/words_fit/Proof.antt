@@ -18,39 +18,30 @@ Inv-loop used kind tag words i₀ i = (i ≤ 6) × (length words ≡ 6) × (unus
 abbrev μ-loop : tie.MeasureT-loop
 μ-loop used kind tag words i₀ i = 6 - i
 
--- src/lib.rt:236:5
 loop-holds : tie.Need-loop-holds Inv-loop μ-loop
 loop-holds c = (omega arith, search needs, refl)
 
--- src/lib.rt:237:43
 mul-word-fits : tie.Need-mul-word-fits Inv-loop μ-loop
 mul-word-fits c = omega arith
 
--- src/lib.rt:237:43
 array-read-word-fits : tie.Need-array-read-word-fits Inv-loop μ-loop
 array-read-word-fits c = omega arith
 
--- src/lib.rt:237:13
 word-fits-requires : tie.Need-word-fits-requires Inv-loop μ-loop
 word-fits-requires c κs = omega arith
 
--- src/lib.rt:238:13
 returns : tie.Need-returns Inv-loop μ-loop
 returns c = sym (fits-fails (fieldsFor (c .before .before .before .before .args .used) (c .before .before .before .before .args .kind) (c .before .before .before .before .args .tag)) (c .before .before .before .before .args .t4) (c .before .before .before .loop .i) (omega arith) (sym (c .before .word-fits .ensures) ∙ not-true _ (c .if1 .taken))) ∙ c .before .before .before .loop .inv .2
 
--- src/lib.rt:240:9
 add-i : tie.Need-add-i Inv-loop μ-loop
 add-i c = omega arith
 
--- src/lib.rt:236:5
 loop-less : tie.Need-loop-less Inv-loop μ-loop
 loop-less c = omega arith
 
--- src/lib.rt:236:5
 loop-again : tie.Need-loop-again Inv-loop μ-loop
 loop-again c = (omega arith, c .before .before .before .loop .inv .1, sym (fits-turn (fieldsFor (c .before .before .before .before .args .used) (c .before .before .before .before .args .kind) (c .before .before .before .before .args .tag)) (c .before .before .before .before .args .t4) (c .before .before .before .loop .i) (omega arith) (sym (c .before .word-fits .ensures) ∙ not-false _ (c .if1 .left))) ∙ c .before .before .before .loop .inv .2)
 
--- src/lib.rt:232:1
 returns-2 : tie.Need-returns-2 Inv-loop μ-loop
 returns-2 c = sym (fits-done (fieldsFor (c .before .before .args .used) (c .before .before .args .kind) (c .before .before .args .tag)) (c .before .before .args .t4) (c .before .loop .i) (omega arith)) ∙ c .before .loop .inv .2
 

@@ -8,19 +8,15 @@ use Rattle.region.proofs.choose_region.Lts as lts
 use Rattle.region.proofs.region_by_index.Reads as region-by-index-reads
 use Rattle.wire.proofs.zero_words.Reads as zero-words-reads
 
--- src/lib.rt:127:9
 region-by-index-requires : tie.Need-region-by-index-requires
 region-by-index-requires c κs = search needs
 
--- src/lib.rt:128:5
 zero-words-requires : tie.Need-zero-words-requires
 zero-words-requires c κs = search needs
 
--- src/lib.rt:117:1
 same-length : tie.Need-same-length
 same-length c = search needs
 
--- src/lib.rt:117:1
 returns : tie.Need-returns
 returns c = (c .before .before .before .before .before .before .region-by-index .ensures .0, c .before .before .zero-words .ensures ∙ ap zeros (c .before .before .before .before .before .before .region-by-index .ensures .1))
 

@@ -11,71 +11,54 @@ use Rattle.edit.proofs.edit_refusal.Reads as edit-refusal-reads
 use Rattle.region.proofs.depends.Reads as depends-reads
 use Rattle.region.proofs.is_whole.Reads as is-whole-reads
 
--- src/lib.rt:82:26
 cast-text : tie.Need-cast-text
 cast-text c = search needs
 
--- src/lib.rt:82:16
 sub-text : tie.Need-sub-text
 sub-text c = search needs
 
--- src/lib.rt:82:16
 part-text-start : tie.Need-part-text-start
 part-text-start c = search needs
 
--- src/lib.rt:82:16
 part-text-end : tie.Need-part-text-end
 part-text-end c = let i = ready-inside (c .before .before .before .before .before .pre .0) in omega (arith, i)
 
--- src/lib.rt:83:9
 edit-refusal-requires : tie.Need-edit-refusal-requires
 edit-refusal-requires c κs = stage-short (c .before .before .before .before .before .before .pre .0)
 
--- src/lib.rt:85:9
 returns : tie.Need-returns
 returns c = stage-edit (c .before .before .before .before .before .before .before .before .pre .0) _ _ _ (c .before .edit-refusal .ensures) (c .if1 .taken)
 
--- src/lib.rt:87:8
 depends-requires : tie.Need-depends-requires
 depends-requires c κs = search needs
 
--- src/lib.rt:88:9
 same-length : tie.Need-same-length
 same-length c = search needs
 
--- src/lib.rt:88:9
 returns-2 : tie.Need-returns-2
 returns-2 c = stage-depends (c .before .before .before .before .before .before .before .before .before .before .before .before .before .pre .0) _ _ _ (c .before .before .before .before .before .before .edit-refusal .ensures) (c .before .before .before .before .before .if1 .left) (c .before .before .before .depends .ensures) (c .if2 .taken)
 
--- src/lib.rt:90:9
 balanced-region-requires : tie.Need-balanced-region-requires
 balanced-region-requires c κs = (ready-runs (c .before .before .before .before .before .before .before .before .before .before .before .before .before .pre .0), (stage-region (c .before .before .before .before .before .before .before .before .before .before .before .before .before .pre .0) _ _ _ (c .before .before .before .before .before .before .edit-refusal .ensures) (c .before .before .before .before .before .if1 .left) (c .before .before .before .depends .ensures), stage-nodes (c .before .before .before .before .before .before .before .before .before .before .before .before .before .pre .0) _ _ _ (c .before .before .before .before .before .before .edit-refusal .ensures) (c .before .before .before .before .before .if1 .left) (c .before .before .before .depends .ensures)))
 
--- src/lib.rt:91:8
 is-whole-requires : tie.Need-is-whole-requires
 is-whole-requires c κs = search needs
 
--- src/lib.rt:92:9
 same-length-2 : tie.Need-same-length-2
 same-length-2 c = search needs
 
--- src/lib.rt:92:9
 returns-3 : tie.Need-returns-3
 returns-3 c = stage-whole (c .before .before .before .before .before .before .before .before .before .before .before .before .before .before .before .before .pre .0) _ _ _ (c .before .before .before .before .before .before .before .before .before .edit-refusal .ensures) (c .before .before .before .before .before .before .before .before .if1 .left) (c .before .before .before .before .before .before .depends .ensures) (c .before .before .before .if2 .left) (c .before .before .balanced-region .ensures) (c .before .is-whole .ensures) (c .if3 .taken)
 
--- src/lib.rt:94:20
 cast-t22 : tie.Need-cast-t22
 cast-t22 c = let f = stage-fits (c .before .before .before .before .before .before .before .before .before .before .before .before .before .before .before .before .before .pre .0) _ _ _ (c .before .before .before .before .before .before .before .before .before .before .edit-refusal .ensures) (c .before .before .before .before .before .before .before .before .before .if1 .left) (c .before .before .before .before .before .before .before .depends .ensures) (c .before .before .before .before .if2 .left) (c .before .before .before .balanced-region .ensures) in omega (arith, f)
 
--- src/lib.rt:94:36
 cast-t23 : tie.Need-cast-t23
 cast-t23 c = let f = stage-fits (c .before .before .before .before .before .before .before .before .before .before .before .before .before .before .before .before .before .before .pre .0) _ _ _ (c .before .before .before .before .before .before .before .before .before .before .before .edit-refusal .ensures) (c .before .before .before .before .before .before .before .before .before .before .if1 .left) (c .before .before .before .before .before .before .before .before .depends .ensures) (c .before .before .before .before .before .if2 .left) (c .before .before .before .before .balanced-region .ensures) in omega (arith, f)
 
--- src/lib.rt:67:1
 same-length-3 : tie.Need-same-length-3
 same-length-3 c = search needs
 
--- src/lib.rt:67:1
 returns-4 : tie.Need-returns-4
 returns-4 c = stage-chosen (c .before .before .before .before .before .before .before .before .before .before .before .before .before .before .before .before .before .before .pre .0) _ _ _ (c .before .before .before .before .before .before .before .before .before .before .before .edit-refusal .ensures) (c .before .before .before .before .before .before .before .before .before .before .if1 .left) (c .before .before .before .before .before .before .before .before .depends .ensures) (c .before .before .before .before .before .if2 .left) (c .before .before .before .before .balanced-region .ensures) (c .before .before .before .is-whole .ensures) (c .before .before .if3 .left)
 

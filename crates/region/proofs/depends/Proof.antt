@@ -11,55 +11,42 @@ use Rattle.region.proofs.depends.Lts as lts
 use Rattle.dependency.proofs.has_ruby_format_dependency.Reads as has-ruby-format-dependency-reads
 use Rattle.region.proofs.last_strings_at.Reads as last-strings-at-reads
 
--- src/lib.rt:62:17
 cast-first : tie.Need-cast-first
 cast-first c = search needs
 
--- src/lib.rt:62:35
 cast-first-2 : tie.Need-cast-first-2
 cast-first-2 c = search needs
 
--- src/lib.rt:62:17
 add-first : tie.Need-add-first
 add-first c = search needs
 
--- src/lib.rt:63:9
 last-strings-at-requires : tie.Need-last-strings-at-requires
 last-strings-at-requires c κs = ready-held (c .before .before .before .before .before .pre .0)
 
--- src/lib.rt:69:9
 sub-has-ruby-format-dependency : tie.Need-sub-has-ruby-format-dependency
 sub-has-ruby-format-dependency c = search needs
 
--- src/lib.rt:69:9
 part-has-ruby-format-dependency-start : tie.Need-part-has-ruby-format-dependency-start
 part-has-ruby-format-dependency-start c = search needs
 
--- src/lib.rt:69:9
 part-has-ruby-format-dependency-end : tie.Need-part-has-ruby-format-dependency-end
 part-has-ruby-format-dependency-end c = ready-cut (c .before .before .before .before .before .before .before .pre .0) refl (c .before .last-strings-at .ensures) .1
 
--- src/lib.rt:70:9
 sub-has-ruby-format-dependency-2 : tie.Need-sub-has-ruby-format-dependency-2
 sub-has-ruby-format-dependency-2 c = ready-cut (c .before .before .before .before .before .before .before .before .pre .0) refl (c .before .before .last-strings-at .ensures) .1
 
--- src/lib.rt:70:9
 part-has-ruby-format-dependency-start-2 : tie.Need-part-has-ruby-format-dependency-start-2
 part-has-ruby-format-dependency-start-2 c = ready-cut (c .before .before .before .before .before .before .before .before .pre .0) refl (c .before .before .last-strings-at .ensures) .1
 
--- src/lib.rt:70:9
 part-has-ruby-format-dependency-end-2 : tie.Need-part-has-ruby-format-dependency-end-2
 part-has-ruby-format-dependency-end-2 c = search needs
 
--- src/lib.rt:64:5
 has-ruby-format-dependency-requires : tie.Need-has-ruby-format-dependency-requires
 has-ruby-format-dependency-requires c κs = (ready-sound (c .before .before .before .before .before .before .before .before .before .pre .0) refl (c .before .before .before .last-strings-at .ensures) (omega arith), c .before .before .before .before .before .before .before .before .before .pre .1)
 
--- src/lib.rt:49:1
 same-length : tie.Need-same-length
 same-length c = search needs
 
--- src/lib.rt:49:1
 returns : tie.Need-returns
 unfolding editOf
 returns c = λ end replacement. ready-depends (c .before .before .before .before .before .before .before .before .before .before .before .before .pre .0) refl (c .before .before .before .before .before .before .last-strings-at .ensures) (editOf _ end replacement) (c .before .before .has-ruby-format-dependency .ensures)

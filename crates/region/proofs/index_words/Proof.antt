@@ -7,47 +7,36 @@ use Rattle.region.proofs.index_words.Lts as lts
 use Rattle.strings.proofs.index_strings.Reads as index-strings-reads
 use Rattle.wire.proofs.zero_words.Reads as zero-words-reads
 
--- src/lib.rt:104:44
 sub-index-strings : tie.Need-sub-index-strings
 sub-index-strings c = search needs
 
--- src/lib.rt:104:44
 part-index-strings-start : tie.Need-part-index-strings-start
 part-index-strings-start c = search needs
 
--- src/lib.rt:104:44
 part-index-strings-end : tie.Need-part-index-strings-end
 part-index-strings-end c = search needs
 
--- src/lib.rt:104:5
 index-strings-requires : tie.Need-index-strings-requires
 index-strings-requires c κs = search needs
 
--- src/lib.rt:105:22
 mul-zero-words : tie.Need-mul-zero-words
 mul-zero-words c = search needs
 
--- src/lib.rt:105:22
 sub-zero-words : tie.Need-sub-zero-words
 sub-zero-words c = search needs
 
--- src/lib.rt:105:22
 part-zero-words-start : tie.Need-part-zero-words-start
 part-zero-words-start c = search needs
 
--- src/lib.rt:105:22
 part-zero-words-end : tie.Need-part-zero-words-end
 part-zero-words-end c = search needs
 
--- src/lib.rt:105:5
 zero-words-requires : tie.Need-zero-words-requires
 zero-words-requires c κs = search needs
 
--- src/lib.rt:98:1
 same-length : tie.Need-same-length
 same-length c = search needs
 
--- src/lib.rt:98:1
 returns : tie.Need-returns
 returns c = words-parts _ (c .before .before .before .before .before .before .before .before .before .before .args .words .now) (c .before .before .before .before .before .before .before .before .before .before .args .base) (c .before .before .before .before .before .before .before .before .before .before .pre .1) (c .before .before .before .before .before .before .index-strings .ensures) (c .before .before .zero-words .ensures)
 

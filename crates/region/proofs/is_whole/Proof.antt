@@ -4,11 +4,9 @@ use Rattle.region.proofs.is_whole.Tie as tie
 use Rattle.region.proofs.is_whole.Reads as reads
 use Rattle.region.proofs.is_whole.Lts as lts
 
--- src/lib.rt:27:9
 returns : tie.Need-returns
 returns c = whole-later _ _ _ (c .if1 .taken)
 
--- src/lib.rt:23:1
 returns-2 : tie.Need-returns-2
 returns-2 c = whole-end _ _ _ (c .before .if1 .left)
 

@@ -10,31 +10,24 @@ use Rattle.region.proofs.last_strings_at.Lts as lts
 use Rattle.strings.proofs.old_strings.Reads as old-strings-reads
 use Rattle.strings.proofs.start_from.Reads as start-from-reads
 
--- src/lib.rt:280:17
 cast-first : tie.Need-cast-first
 cast-first c = search needs
 
--- src/lib.rt:280:35
 cast-first-2 : tie.Need-cast-first-2
 cast-first-2 c = search needs
 
--- src/lib.rt:280:17
 add-first : tie.Need-add-first
 add-first c = search needs
 
--- src/lib.rt:281:9
 old-strings-requires : tie.Need-old-strings-requires
 old-strings-requires c κs = ready-layers (held-without (c .before .before .before .before .pre))
 
--- src/lib.rt:282:13
 start-from-requires : tie.Need-start-from-requires
 start-from-requires c κs = (ready-readable (held-without (c .before .before .before .before .before .pre)) (omega arith), (ready-olds (held-without (c .before .before .before .before .before .pre)) (c .old-strings .ensures), refl))
 
--- src/lib.rt:282:5
 add-result : tie.Need-add-result
 add-result c = let k = ready-cut (held-without (c .before .before .before .before .before .before .pre)) refl (ready-place (held-without (c .before .before .before .before .before .before .pre)) _ (c .start-from .ensures) (c .before .old-strings .ensures) refl) in omega (arith, k)
 
--- src/lib.rt:276:1
 returns : tie.Need-returns
 returns c = ready-place (held-without (c .before .before .before .before .before .before .pre)) _ (c .start-from .ensures) (c .before .old-strings .ensures) refl
 

@@ -13,35 +13,27 @@ use Rattle.region.proofs.index_words.Reads as index-words-reads
 use Rattle.store.proofs.store_of.Reads as store-of-reads
 use Rattle.tape.proofs.check_book.Reads as check-book-reads
 
--- src/lib.rt:119:9
 check-book-requires : tie.Need-check-book-requires
 check-book-requires c κs = search needs
 
--- src/lib.rt:121:9
 returns : tie.Need-returns
 returns c = (choose-refused _ _ (c .before .check-book .ensures) _ (c .if1 .taken), refl)
 
--- src/lib.rt:123:9
 places-of-requires : tie.Need-places-of-requires
 places-of-requires c κs = search needs
 
--- src/lib.rt:124:9
 store-of-requires : tie.Need-store-of-requires
 store-of-requires c κs = choose-store _ _ (c .before .before .check-book .ensures) (c .before .if1 .left) (c .places-of .ensures)
 
--- src/lib.rt:126:5
 index-words-requires : tie.Need-index-words-requires
 index-words-requires c κs = (choose-readable _ _ (c .before .before .before .before .check-book .ensures) (c .before .before .before .if1 .left) (c .before .before .places-of .ensures) (c .before .store-of .ensures) (omega arith), omega arith)
 
--- src/lib.rt:127:5
 chosen-region-requires : tie.Need-chosen-region-requires
 chosen-region-requires c κs = (choose-ready _ _ (c .before .before .before .before .before .before .before .before .check-book .ensures) (c .before .before .before .before .before .before .before .if1 .left) (c .before .before .before .before .before .before .places-of .ensures) (c .before .before .before .before .before .store-of .ensures) (words-indexed _ _ _ (omega arith) (c .before .before .before .index-words .ensures)), omega (arith, c .before .before .before .index-words .kept .1 .1 .1 .0))
 
--- src/lib.rt:109:1
 same-length : tie.Need-same-length
 same-length c = search needs
 
--- src/lib.rt:109:1
 returns-2 : tie.Need-returns-2
 returns-2 c = (choose-accepted _ _ (c .before .before .before .before .before .before .before .before .before .before .before .check-book .ensures) (c .before .before .before .before .before .before .before .before .before .before .if1 .left) _ (c .before .before .chosen-region .ensures), c .before .before .chosen-region .kept .1 .1 .1 .1 .0 ∙ c .before .before .before .before .before .before .index-words .kept .1 .1 .1 .0)
 

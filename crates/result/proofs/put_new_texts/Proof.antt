@@ -6,95 +6,72 @@ use borrow.Author.Needs.{needs}
 use Rattle.result.proofs.put_new_texts.Statement.{statement}
 use Rattle.result.proofs.put_new_texts.Tie as tie
 
--- src/lib.rt:115:16
 cast-text : tie.Need-cast-text
 cast-text c = search needs
 
--- src/lib.rt:116:24
 cast-first : tie.Need-cast-first
 cast-first c = search needs
 
--- src/lib.rt:116:17
 add-first : tie.Need-add-first
 add-first c = search needs
 
--- src/lib.rt:117:16
 cast-from : tie.Need-cast-from
 cast-from c = search needs
 
--- src/lib.rt:120:9
 sub-put-texts : tie.Need-sub-put-texts
 sub-put-texts c = search needs
 
--- src/lib.rt:120:9
 part-put-texts-start : tie.Need-part-put-texts-start
 part-put-texts-start c = search needs
 
--- src/lib.rt:120:9
 part-put-texts-end : tie.Need-part-put-texts-end
 part-put-texts-end c = search needs
 
--- src/lib.rt:124:9
 sub-put-texts-2 : tie.Need-sub-put-texts-2
 sub-put-texts-2 c = search needs
 
--- src/lib.rt:124:9
 part-put-texts-start-2 : tie.Need-part-put-texts-start-2
 part-put-texts-start-2 c = search needs
 
--- src/lib.rt:124:9
 part-put-texts-end-2 : tie.Need-part-put-texts-end-2
 part-put-texts-end-2 c = search needs
 
--- src/lib.rt:125:9
 cast-put-texts : tie.Need-cast-put-texts
 cast-put-texts c = search needs
 
--- src/lib.rt:126:9
 cast-put-texts-2 : tie.Need-cast-put-texts-2
 cast-put-texts-2 c = search needs
 
--- src/lib.rt:127:36
 cast-put-texts-3 : tie.Need-cast-put-texts-3
 cast-put-texts-3 c = search needs
 
--- src/lib.rt:127:29
 add-put-texts : tie.Need-add-put-texts
 add-put-texts c = search needs
 
--- src/lib.rt:127:9
 sub-put-texts-3 : tie.Need-sub-put-texts-3
 sub-put-texts-3 c = search needs
 
--- src/lib.rt:127:9
 part-put-texts-start-3 : tie.Need-part-put-texts-start-3
 part-put-texts-start-3 c = search needs
 
--- src/lib.rt:127:9
 part-put-texts-end-3 : tie.Need-part-put-texts-end-3
 part-put-texts-end-3 c = omega (arith, c .before .before .before .before .before .before .before .before .before .before .before .before .before .pre .1 .0 .1)
 
--- src/lib.rt:128:9
 sub-put-texts-4 : tie.Need-sub-put-texts-4
 sub-put-texts-4 c = omega (arith, c .before .before .before .before .before .before .before .before .before .before .before .before .before .before .pre .1 .0 .0)
 
--- src/lib.rt:128:9
 part-put-texts-start-4 : tie.Need-part-put-texts-start-4
 part-put-texts-start-4 c = omega (arith, c .before .before .before .before .before .before .before .before .before .before .before .before .before .before .pre .1 .0 .0)
 
--- src/lib.rt:128:9
 part-put-texts-end-4 : tie.Need-part-put-texts-end-4
 part-put-texts-end-4 c = search needs
 
--- src/lib.rt:118:5
 put-texts-requires : tie.Need-put-texts-requires
 put-texts-requires c κs = texts-asked (c .before .before .before .before .before .before .before .before .before .before .before .before .before .before .before .args .p) (c .before .before .before .before .before .before .before .before .before .before .before .before .before .before .before .args .q) (c .before .before .before .before .before .before .before .before .before .before .before .before .before .before .before .args .start) (c .before .before .before .before .before .before .before .before .before .before .before .before .before .before .before .args .end) (c .before .before .before .before .before .before .before .before .before .before .before .before .before .before .before .args .replacement .now) (c .before .before .before .before .before .before .before .before .before .before .before .before .before .before .before .args .w .nstart) (c .before .before .before .before .before .before .before .before .before .before .before .before .before .before .before .args .w .nend) (c .before .before .before .before .before .before .before .before .before .before .before .before .before .before .before .args .bytes .now) (c .before .before .before .before .before .before .before .before .before .before .before .before .before .before .before .args .readingbytes .now) _ (c .before .before .before .before .before .before .before .before .before .before .before .before .before .before .before .pre .0) (c .before .before .before .before .before .before .before .before .before .before .before .before .before .before .before .pre .1 .0 .0) (c .before .before .before .before .before .before .before .before .before .before .before .before .before .before .before .pre .1 .0 .1) (c .before .before .before .before .before .before .before .before .before .before .before .before .before .before .before .pre .1 .1)
 
--- src/lib.rt:99:1
 same-length : tie.Need-same-length
 same-length c = search needs
 
--- src/lib.rt:99:1
 returns : tie.Need-returns
 returns c = texts-sliced (c .before .before .before .before .before .before .before .before .before .before .before .before .before .before .before .before .before .before .args .p) (c .before .before .before .before .before .before .before .before .before .before .before .before .before .before .before .before .before .before .args .q) (c .before .before .before .before .before .before .before .before .before .before .before .before .before .before .before .before .before .before .args .start) (c .before .before .before .before .before .before .before .before .before .before .before .before .before .before .before .before .before .before .args .end) (c .before .before .before .before .before .before .before .before .before .before .before .before .before .before .before .before .before .before .args .replacement .now) (c .before .before .before .before .before .before .before .before .before .before .before .before .before .before .before .before .before .before .args .w .nstart) (c .before .before .before .before .before .before .before .before .before .before .before .before .before .before .before .before .before .before .args .w .nend) (c .before .before .before .before .before .before .before .before .before .before .before .before .before .before .before .before .before .before .args .bytes .now) (c .before .before .before .before .before .before .before .before .before .before .before .before .before .before .before .before .before .before .args .readingbytes .now) (c .before .before .before .before .before .before .before .before .before .before .before .before .before .before .before .before .before .before .args .out .now) (c .before .before .before .before .before .before .before .before .before .before .before .before .before .before .before .before .before .before .args .p .text) (c .before .before .before .before .before .before .before .before .before .before .before .before .before .before .before .before .before .before .args .p .text + c .before .before .before .before .before .before .before .before .before .before .before .before .before .before .before .before .before .before .args .p .normalized) (c .before .before .before .before .before .before .before .before .before .before .before .before .before .before .before .before .before .before .args .q .text) refl refl refl (c .before .before .before .before .before .before .before .before .before .before .before .before .before .before .before .before .before .before .pre .1 .0 .0) (c .before .before .put-texts .ensures)
 

@@ -4,83 +4,63 @@ use borrow.Author.Needs.{needs}
 use Rattle.runs.proofs.input_refusal.Statement.{statement}
 use Rattle.runs.proofs.input_refusal.Tie as tie
 
--- src/main.rt:47:9
 returns : tie.Need-returns
 returns c = number-short _ (c .if1 .taken)
 
--- src/main.rt:49:9
 u32-at-requires : tie.Need-u32-at-requires
 u32-at-requires c κs = search needs
 
--- src/main.rt:50:9
 u32-at-requires-2 : tie.Need-u32-at-requires-2
 u32-at-requires-2 c κs = search needs
 
--- src/main.rt:51:9
 u32-at-requires-3 : tie.Need-u32-at-requires-3
 u32-at-requires-3 c κs = search needs
 
--- src/main.rt:52:9
 u32-at-requires-4 : tie.Need-u32-at-requires-4
 u32-at-requires-4 c κs = search needs
 
--- src/main.rt:53:9
 u32-at-requires-5 : tie.Need-u32-at-requires-5
 u32-at-requires-5 c κs = search needs
 
--- src/main.rt:54:9
 parts-fit-requires : tie.Need-parts-fit-requires
 parts-fit-requires c κs = search needs
 
--- src/main.rt:55:9
 returns-2 : tie.Need-returns-2
 returns-2 c = number-part _ (c .before .before .before .before .before .before .before .if1 .left) (c .before .before .before .before .before .before .u32-at .ensures) (c .before .before .before .before .before .u32-at2 .ensures) (c .before .before .before .before .u32-at3 .ensures) (c .before .before .before .u32-at4 .ensures) (c .before .before .u32-at5 .ensures) (c .before .parts-fit .ensures) (not-true _ (c .if2 .taken))
 
--- src/main.rt:58:11
 cast-size : tie.Need-cast-size
 cast-size c = search needs
 
--- src/main.rt:57:16
 add-size : tie.Need-add-size
 add-size c = search needs
 
--- src/main.rt:59:11
 cast-size-2 : tie.Need-cast-size-2
 cast-size-2 c = search needs
 
--- src/main.rt:57:16
 add-size-2 : tie.Need-add-size-2
 add-size-2 c = search needs
 
--- src/main.rt:60:11
 cast-size-3 : tie.Need-cast-size-3
 cast-size-3 c = search needs
 
--- src/main.rt:57:16
 add-size-3 : tie.Need-add-size-3
 add-size-3 c = search needs
 
--- src/main.rt:61:11
 cast-size-4 : tie.Need-cast-size-4
 cast-size-4 c = search needs
 
--- src/main.rt:57:16
 add-size-4 : tie.Need-add-size-4
 add-size-4 c = search needs
 
--- src/main.rt:62:11
 cast-size-5 : tie.Need-cast-size-5
 cast-size-5 c = search needs
 
--- src/main.rt:57:16
 add-size-5 : tie.Need-add-size-5
 add-size-5 c = search needs
 
--- src/main.rt:64:9
 returns-3 : tie.Need-returns-3
 returns-3 c = number-size _ (c .before .before .before .before .before .before .before .before .if1 .left) (c .before .before .before .before .before .before .before .u32-at .ensures) (c .before .before .before .before .before .before .u32-at2 .ensures) (c .before .before .before .before .before .u32-at3 .ensures) (c .before .before .before .before .u32-at4 .ensures) (c .before .before .before .u32-at5 .ensures) (c .before .before .parts-fit .ensures) (not-false _ (c .before .if2 .left)) (c .if3 .taken)
 
--- src/main.rt:43:1
 returns-4 : tie.Need-returns-4
 returns-4 c = number-none _ (c .before .before .before .before .before .before .before .before .if1 .left) (c .before .before .before .before .before .before .before .u32-at .ensures) (c .before .before .before .before .before .before .u32-at2 .ensures) (c .before .before .before .before .before .u32-at3 .ensures) (c .before .before .before .before .u32-at4 .ensures) (c .before .before .before .u32-at5 .ensures) (c .before .before .parts-fit .ensures) (not-false _ (c .before .if2 .left)) (c .if3 .left)
 

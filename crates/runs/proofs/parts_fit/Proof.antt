@@ -5,27 +5,22 @@ use Rattle.runs.specs.Input.{partsFit}
 use Rattle.runs.proofs.parts_fit.Statement.{statement}
 use Rattle.runs.proofs.parts_fit.Tie as tie
 
--- src/main.rt:28:9
 returns : tie.Need-returns
 unfolding partsFit
 returns c = rw (lt-leb _ _ (c .if1 .taken)) refl
 
--- src/main.rt:31:9
 returns-2 : tie.Need-returns-2
 unfolding partsFit
 returns-2 c = simp (le-leb _ _ (c .before .if1 .left), lt-leb _ _ (c .if2 .taken))
 
--- src/main.rt:34:9
 returns-3 : tie.Need-returns-3
 unfolding partsFit
 returns-3 c = simp (le-leb _ _ (c .before .before .if1 .left), le-leb _ _ (c .before .if2 .left), lt-leb _ _ (c .if3 .taken))
 
--- src/main.rt:37:9
 returns-4 : tie.Need-returns-4
 unfolding partsFit
 returns-4 c = simp (le-leb _ _ (c .before .before .before .if1 .left), le-leb _ _ (c .before .before .if2 .left), le-leb _ _ (c .before .if3 .left), lt-leb _ _ (c .if4 .taken))
 
--- src/main.rt:24:1
 returns-5 : tie.Need-returns-5
 unfolding partsFit
 returns-5 c = simp (le-leb _ _ (c .before .before .before .if1 .left), le-leb _ _ (c .before .before .if2 .left), le-leb _ _ (c .before .if3 .left), le-leb _ _ (c .if4 .left), and-true)

@@ -3,27 +3,21 @@ use borrow.Author.Needs.{needs}
 use Rattle.runs.proofs.put_line.Statement.{statement}
 use Rattle.runs.proofs.put_line.Tie as tie
 
--- src/main.rt:158:9
 put-refused-requires : tie.Need-put-refused-requires
 put-refused-requires c κs = search needs
 
--- src/main.rt:158:9
 same-length : tie.Need-same-length
 same-length c = search needs
 
--- src/main.rt:158:9
 returns : tie.Need-returns
 returns c = (c .before .before .put-refused .ensures .0, refused-line _ (c .before .before .before .before .if1 .taken) (c .before .before .put-refused .ensures .1))
 
--- src/main.rt:160:5
 put-accepted-requires : tie.Need-put-accepted-requires
 put-accepted-requires c κs = search needs
 
--- src/main.rt:153:1
 same-length-2 : tie.Need-same-length-2
 same-length-2 c = search needs
 
--- src/main.rt:153:1
 returns-2 : tie.Need-returns-2
 returns-2 c = (c .before .before .put-accepted .ensures .0, accepted-line _ (c .before .before .before .before .if1 .left) (c .before .before .put-accepted .ensures .1))
 

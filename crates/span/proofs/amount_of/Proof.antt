@@ -6,27 +6,21 @@ use Rattle.span.proofs.amount_of.Tie as tie
 use Rattle.span.proofs.amount_of.Reads as reads
 use Rattle.span.proofs.amount_of.Lts as lts
 
--- src/lib.rt:80:25
 add-t4 : tie.Need-add-t4
 add-t4 c = test-neg _ (c .before .fits .by) (c .if1 .taken) .sum-fits
 
--- src/lib.rt:80:23
 sub-t5 : tie.Need-sub-t5
 sub-t5 c = test-neg _ (c .before .fits .by) (c .if1 .taken) .neg-fits
 
--- src/lib.rt:80:22
 cast-t6 : tie.Need-cast-t6
 cast-t6 c = let t = test-neg _ (c .before .fits .by) (c .if1 .taken) in rw (t .value) (tt, omega (arith, t .small))
 
--- src/lib.rt:82:25
 cast-t7 : tie.Need-cast-t7
 cast-t7 c = let t = test-pos _ (c .before .fits .by) (c .if1 .left) in rw (t .value) (tt, omega (arith, t .small))
 
--- src/lib.rt:76:1
 returns : tie.Need-returns
 returns c = let t = test-neg _ (c .before .fits .by) (c .if1 .taken) in rw (t .value) (sym (t .is))
 
--- src/lib.rt:76:1
 returns-2 : tie.Need-returns-2
 returns-2 c = let t = test-pos _ (c .before .fits .by) (c .if1 .left) in rw (t .value) (sym (t .is))
 

@@ -5,19 +5,15 @@ use Rattle.span.proofs.difference.Tie as tie
 use Rattle.span.proofs.difference.Reads as reads
 use Rattle.span.proofs.difference.Lts as lts
 
--- src/lib.rt:91:22
 sub-t5 : tie.Need-sub-t5
 sub-t5 c = search needs
 
--- src/lib.rt:91:22
 sub-t6 : tie.Need-sub-t6
 sub-t6 c = search needs
 
--- src/lib.rt:87:1
 returns : tie.Need-returns
 returns c = difference-back _ _ (c .if1 .taken)
 
--- src/lib.rt:87:1
 returns-2 : tie.Need-returns-2
 returns-2 c = difference-forward _ _ (c .if1 .left)
 

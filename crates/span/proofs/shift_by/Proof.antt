@@ -7,51 +7,39 @@ use Rattle.span.proofs.shift_by.Tie as tie
 use Rattle.span.proofs.shift_by.Reads as reads
 use Rattle.span.proofs.shift_by.Lts as lts
 
--- src/lib.rt:124:25
 enum-known-by : tie.Need-enum-known-by
 enum-known-by c = search needs
 
--- src/lib.rt:125:24
 sub-room : tie.Need-sub-room
 sub-room c = search needs
 
--- src/lib.rt:127:34
 add-t11 : tie.Need-add-t11
 add-t11 c = search needs
 
--- src/lib.rt:127:33
 cast-t12 : tie.Need-cast-t12
 cast-t12 c = search needs
 
--- src/lib.rt:132:22
 enum-known-by-2 : tie.Need-enum-known-by-2
 enum-known-by-2 c = search needs
 
--- src/lib.rt:134:34
 sub-t17 : tie.Need-sub-t17
 sub-t17 c = search needs
 
--- src/lib.rt:134:34
 sub-t18 : tie.Need-sub-t18
 sub-t18 c = search needs
 
--- src/lib.rt:134:33
 cast-t19 : tie.Need-cast-t19
 cast-t19 c = search needs
 
--- src/lib.rt:120:1
 returns : tie.Need-returns
 returns c = rw (c .before .before .by .given .1) (sym (shift-in _ _ (omega arith)))
 
--- src/lib.rt:120:1
 returns-2 : tie.Need-returns-2
 returns-2 c = rw (c .before .before .by .given .1) (sym (shift-over _ _ (omega arith)))
 
--- src/lib.rt:120:1
 returns-3 : tie.Need-returns-3
 returns-3 c = rw (c .before .before .by2 .given .1) (sym (shift-back _ _ (omega arith) (omega arith)))
 
--- src/lib.rt:120:1
 returns-4 : tie.Need-returns-4
 returns-4 c = rw (c .before .before .by2 .given .1) (sym (shift-under _ _ (omega arith)))
 

@@ -7,51 +7,39 @@ use Rattle.span.proofs.shift_clamp.Tie as tie
 use Rattle.span.proofs.shift_clamp.Reads as reads
 use Rattle.span.proofs.shift_clamp.Lts as lts
 
--- src/lib.rt:101:25
 enum-known-by : tie.Need-enum-known-by
 enum-known-by c = search needs
 
--- src/lib.rt:102:24
 sub-room : tie.Need-sub-room
 sub-room c = search needs
 
--- src/lib.rt:104:18
 add-result : tie.Need-add-result
 add-result c = search needs
 
--- src/lib.rt:104:17
 cast-result : tie.Need-cast-result
 cast-result c = search needs
 
--- src/lib.rt:109:22
 enum-known-by-2 : tie.Need-enum-known-by-2
 enum-known-by-2 c = search needs
 
--- src/lib.rt:111:18
 sub-result : tie.Need-sub-result
 sub-result c = search needs
 
--- src/lib.rt:111:18
 sub-result-2 : tie.Need-sub-result-2
 sub-result-2 c = search needs
 
--- src/lib.rt:111:17
 cast-result-2 : tie.Need-cast-result-2
 cast-result-2 c = search needs
 
--- src/lib.rt:97:1
 returns : tie.Need-returns
 returns c = rw (c .before .before .by .given .1) (sym (clamp-in _ _ (omega arith)))
 
--- src/lib.rt:97:1
 returns-2 : tie.Need-returns-2
 returns-2 c = rw (c .before .before .by .given .1) (sym (clamp-over _ _ (omega arith)))
 
--- src/lib.rt:97:1
 returns-3 : tie.Need-returns-3
 returns-3 c = rw (c .before .before .by2 .given .1) (sym (clamp-back _ _ (omega arith) (omega arith)))
 
--- src/lib.rt:97:1
 returns-4 : tie.Need-returns-4
 returns-4 c = rw (c .before .before .by2 .given .1) (sym (clamp-under _ _ (omega arith)))
 

@@ -9,15 +9,12 @@ use Rattle.span.proofs.shift_u32.Lts as lts
 use Rattle.span.proofs.amount_of.Reads as amount-of-reads
 use Rattle.span.proofs.shift_by.Reads as shift-by-reads
 
--- src/lib.rt:145:21
 amount-of-requires : tie.Need-amount-of-requires
 amount-of-requires c κs = search needs
 
--- src/lib.rt:145:5
 shift-by-requires : tie.Need-shift-by-requires
 shift-by-requires c κs = search needs
 
--- src/lib.rt:142:1
 returns : tie.Need-returns
 returns c = c .shift-by .ensures ∙ rw (c .before .amount-of .ensures, toZ-ofZ w64 (c .before .before .args .delta) (c .before .before .fits .delta)) refl
 

@@ -11,11 +11,9 @@ use Rattle.splice.proofs.count_containers.Reads as reads
 use Rattle.splice.proofs.count_containers.Lts as lts
 use Rattle.splice.proofs.count_in.Reads as count-in-reads
 
--- src/lib.rt:284:5
 count-in-requires : tie.Need-count-in-requires
 count-in-requires c κs = search needs
 
--- src/lib.rt:280:1
 returns : tie.Need-returns
 returns c = c .count-in .ensures ∙ part-count containerCodec containerLocated (windowValue (c .before .before .args .w)) (c .before .before .args .part) (c .before .before .args .tape .now) (rowIn (c .before .before .args .tape .now) 5 9 1 (c .before .before .args .w .nstart) (c .before .before .args .w .nend) (c .before .before .args .part)) (λ q. container-in (windowValue (c .before .before .args .w)) (c .before .before .args .part) (c .before .before .args .tape .now) q) 13 (container-kind .size) (c .before .before .args .at) (c .before .before .args .count)
 

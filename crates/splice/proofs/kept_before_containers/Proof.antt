@@ -11,11 +11,9 @@ use Rattle.splice.proofs.kept_before_containers.Reads as reads
 use Rattle.splice.proofs.kept_before_containers.Lts as lts
 use Rattle.splice.proofs.count_containers.Reads as count-containers-reads
 
--- src/lib.rt:380:5
 count-containers-requires : tie.Need-count-containers-requires
 count-containers-requires c κs = search needs
 
--- src/lib.rt:376:1
 returns : tie.Need-returns
 returns c = c .count-containers .ensures ∙ ap length (part-before containerLocated (windowValue (c .before .before .args .w)) (recordsAt containerCodec (c .before .before .args .tape .now) (c .before .before .args .at) (c .before .before .args .count)))
 

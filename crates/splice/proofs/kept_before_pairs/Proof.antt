@@ -11,11 +11,9 @@ use Rattle.splice.proofs.kept_before_pairs.Reads as reads
 use Rattle.splice.proofs.kept_before_pairs.Lts as lts
 use Rattle.splice.proofs.count_pairs.Reads as count-pairs-reads
 
--- src/lib.rt:214:5
 count-pairs-requires : tie.Need-count-pairs-requires
 count-pairs-requires c κs = search needs
 
--- src/lib.rt:210:1
 returns : tie.Need-returns
 returns c = c .count-pairs .ensures ∙ ap length (part-before pairLocated (windowValue (c .before .before .args .w)) (recordsAt pairCodec (c .before .before .args .tape .now) (c .before .before .args .at) (c .before .before .args .count)))
 

@@ -11,11 +11,9 @@ use Rattle.splice.proofs.kept_behind_pairs.Reads as reads
 use Rattle.splice.proofs.kept_behind_pairs.Lts as lts
 use Rattle.splice.proofs.count_pairs.Reads as count-pairs-reads
 
--- src/lib.rt:221:5
 count-pairs-requires : tie.Need-count-pairs-requires
 count-pairs-requires c κs = search needs
 
--- src/lib.rt:217:1
 returns : tie.Need-returns
 returns c = c .count-pairs .ensures ∙ ap length (part-behind pairLocated (windowValue (c .before .before .args .w)) (recordsAt pairCodec (c .before .before .args .tape .now) (c .before .before .args .at) (c .before .before .args .count))) ∙ length-map (keptBehind pairLocated (windowValue (c .before .before .args .w)) (recordsAt pairCodec (c .before .before .args .tape .now) (c .before .before .args .at) (c .before .before .args .count))) (pairLocated .moved (windowValue (c .before .before .args .w)))
 

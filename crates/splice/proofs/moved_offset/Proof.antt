@@ -7,23 +7,18 @@ use Rattle.splice.proofs.moved_offset.Reads as reads
 use Rattle.splice.proofs.moved_offset.Lts as lts
 use Rattle.span.proofs.shift_by.Reads as shift-by-reads
 
--- src/lib.rt:297:9
 shift-by-requires : tie.Need-shift-by-requires
 shift-by-requires c κs = search needs
 
--- src/lib.rt:299:31
 enum-known-moved : tie.Need-enum-known-moved
 enum-known-moved c = search needs
 
--- src/lib.rt:300:34
 enum-told : tie.Need-enum-told
 enum-told c = search needs
 
--- src/lib.rt:294:1
 returns : tie.Need-returns
 returns c = moved-some (c .before .before .before .before .args .o) (valueOf (c .before .before .before .before .args .by)) _ (rw (c .before .moved .given .1) at (c .before .before .before .shift-by .ensures))
 
--- src/lib.rt:294:1
 returns-2 : tie.Need-returns-2
 returns-2 c = moved-none (c .before .before .before .args .o) (valueOf (c .before .before .before .args .by)) (rw (c .enum-told .given .1) at (c .before .before .shift-by .ensures))
 

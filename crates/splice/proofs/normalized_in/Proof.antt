@@ -8,37 +8,29 @@ use Rattle.splice.proofs.normalized_in.Lts as lts
 use Rattle.splice.proofs.moved_offset.Reads as moved-offset-reads
 use Rattle.splice.proofs.plus.Reads as plus-reads
 
--- src/lib.rt:139:25
 enum-told : tie.Need-enum-told
 enum-told c = search needs
 
--- src/lib.rt:140:26
 enum-told-2 : tie.Need-enum-told-2
 enum-told-2 c = search needs
 
--- src/lib.rt:140:26
 plus-requires : tie.Need-plus-requires
 plus-requires c κs = search needs
 
--- src/lib.rt:142:17
 enum-told-3 : tie.Need-enum-told-3
 enum-told-3 c = search needs
 
--- src/lib.rt:143:13
 moved-offset-requires : tie.Need-moved-offset-requires
 moved-offset-requires c κs = search needs
 
--- src/lib.rt:135:1
 returns : tie.Need-returns
 unfolding normalizedIn
 returns c = rw (c .enum-told .given .1) refl
 
--- src/lib.rt:135:1
 returns-2 : tie.Need-returns-2
 unfolding normalizedIn
 returns-2 c = rw (c .before .enum-told2 .given .1) (c .plus .ensures)
 
--- src/lib.rt:135:1
 returns-3 : tie.Need-returns-3
 unfolding normalizedIn
 returns-3 c = rw (c .before .enum-told3 .given .1) (c .moved-offset .ensures)

@@ -8,11 +8,9 @@ use Rattle.splice.proofs.pair_in.Reads as reads
 use Rattle.splice.proofs.pair_in.Lts as lts
 use Rattle.splice.proofs.row_in.Reads as row-in-reads
 
--- src/lib.rt:121:5
 row-in-requires : tie.Need-row-in-requires
 row-in-requires c κs = search needs
 
--- src/lib.rt:117:1
 returns : tie.Need-returns
 returns c = c .row-in .ensures ∙ sym (pair-in (windowValue (c .before .before .args .w)) (c .before .before .args .part) (c .before .before .args .tape .now) (c .before .before .args .at))
 

@@ -8,39 +8,30 @@ use Rattle.splice.proofs.row_in.Lts as lts
 use Rattle.splice.proofs.span_in.Reads as span-in-reads
 use Rattle.wire.proofs.u32_at.Reads as u32-at-reads
 
--- src/lib.rt:56:36
 add-u32-at : tie.Need-add-u32-at
 add-u32-at c = search needs
 
--- src/lib.rt:56:17
 u32-at-requires : tie.Need-u32-at-requires
 u32-at-requires c κs = search needs
 
--- src/lib.rt:56:17
 cast-start : tie.Need-cast-start
 cast-start c = search needs
 
--- src/lib.rt:57:35
 add-u32-at-2 : tie.Need-add-u32-at-2
 add-u32-at-2 c = search needs
 
--- src/lib.rt:57:16
 u32-at-requires-2 : tie.Need-u32-at-requires-2
 u32-at-requires-2 c κs = search needs
 
--- src/lib.rt:57:16
 cast-stop : tie.Need-cast-stop
 cast-stop c = search needs
 
--- src/lib.rt:57:16
 add-stop : tie.Need-add-stop
 add-stop c = search needs
 
--- src/lib.rt:58:5
 span-in-requires : tie.Need-span-in-requires
 span-in-requires c κs = search needs
 
--- src/lib.rt:43:1
 returns : tie.Need-returns
 unfolding rowIn
 returns c = simp (sym (c .before .before .u32-at .ensures), sym (c .before .u32-at2 .ensures)) (c .span-in .ensures)

@@ -7,41 +7,32 @@ use Rattle.splice.proofs.source_in.Reads as reads
 use Rattle.splice.proofs.source_in.Lts as lts
 use Rattle.span.proofs.shift_clamp.Reads as shift-clamp-reads
 
--- src/lib.rt:108:25
 enum-told : tie.Need-enum-told
 enum-told c = search needs
 
--- src/lib.rt:109:69
 enum-told-2 : tie.Need-enum-told-2
 enum-told-2 c = search needs
 
--- src/lib.rt:109:69
 cast-t6 : tie.Need-cast-t6
 cast-t6 c = search needs
 
--- src/lib.rt:109:26
 shift-clamp-requires : tie.Need-shift-clamp-requires
 shift-clamp-requires c κs = search needs
 
--- src/lib.rt:111:17
 enum-told-3 : tie.Need-enum-told-3
 enum-told-3 c = search needs
 
--- src/lib.rt:112:13
 shift-clamp-requires-2 : tie.Need-shift-clamp-requires-2
 shift-clamp-requires-2 c κs = search needs
 
--- src/lib.rt:104:1
 returns : tie.Need-returns
 unfolding sourceIn
 returns c = rw (c .enum-told .given .1) refl
 
--- src/lib.rt:104:1
 returns-2 : tie.Need-returns-2
 unfolding sourceIn
 returns-2 c = rw (c .before .before .enum-told2 .given .1) (c .shift-clamp .ensures)
 
--- src/lib.rt:104:1
 returns-3 : tie.Need-returns-3
 unfolding sourceIn
 returns-3 c = rw (c .before .enum-told3 .given .1) (c .shift-clamp2 .ensures)

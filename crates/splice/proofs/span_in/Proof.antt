@@ -6,29 +6,23 @@ use Rattle.splice.proofs.span_in.Tie as tie
 use Rattle.splice.proofs.span_in.Reads as reads
 use Rattle.splice.proofs.span_in.Lts as lts
 
--- src/lib.rt:36:25
 enum-told : tie.Need-enum-told
 enum-told c = search needs
 
--- src/lib.rt:37:26
 enum-told-2 : tie.Need-enum-told-2
 enum-told-2 c = search needs
 
--- src/lib.rt:38:25
 enum-told-3 : tie.Need-enum-told-3
 enum-told-3 c = search needs
 
--- src/lib.rt:32:1
 returns : tie.Need-returns
 unfolding spanIn
 returns c = rw (c .enum-told .given .1) refl
 
--- src/lib.rt:32:1
 returns-2 : tie.Need-returns-2
 unfolding spanIn
 returns-2 c = rw (c .enum-told2 .given .1) refl
 
--- src/lib.rt:32:1
 returns-3 : tie.Need-returns-3
 unfolding spanIn
 returns-3 c = rw (c .enum-told3 .given .1) refl

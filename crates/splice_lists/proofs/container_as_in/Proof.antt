@@ -7,15 +7,12 @@ use Rattle.splice_lists.proofs.container_as_in.Reads as reads
 use Rattle.splice_lists.proofs.container_as_in.Lts as lts
 use Rattle.splice.proofs.normalized_in.Reads as normalized-in-reads
 
--- src/lib.rt:324:18
 normalized-in-requires : tie.Need-normalized-in-requires
 normalized-in-requires c κs = search needs
 
--- src/lib.rt:325:18
 normalized-in-requires-2 : tie.Need-normalized-in-requires-2
 normalized-in-requires-2 c κs = search needs
 
--- src/lib.rt:319:1
 returns : tie.Need-returns
 returns c = rw (c .before .normalized-in .ensures, c .normalized-in2 .ensures) (container-as-in (windowValue (c .before .before .args .w)) (c .before .before .args .part) (c .before .before .args .p .plain) (c .before .before .args .p .opening) (c .before .before .args .p .closing))
 

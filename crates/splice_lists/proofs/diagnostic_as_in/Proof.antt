@@ -7,15 +7,12 @@ use Rattle.splice_lists.proofs.diagnostic_as_in.Reads as reads
 use Rattle.splice_lists.proofs.diagnostic_as_in.Lts as lts
 use Rattle.splice.proofs.source_in.Reads as source-in-reads
 
--- src/lib.rt:460:16
 source-in-requires : tie.Need-source-in-requires
 source-in-requires c κs = search needs
 
--- src/lib.rt:461:14
 source-in-requires-2 : tie.Need-source-in-requires-2
 source-in-requires-2 c κs = search needs
 
--- src/lib.rt:454:1
 returns : tie.Need-returns
 returns c = rw (c .before .source-in .ensures, c .source-in2 .ensures) (diagnostic-as-in (windowValue (c .before .before .args .w)) (c .before .before .args .part) (c .before .before .args .d .kind) (c .before .before .args .d .rank) (c .before .before .args .d .start) (c .before .before .args .d .end) (c .before .before .args .d .plain))
 

@@ -14,15 +14,12 @@ use Rattle.splice_lists.proofs.put_before_diagnostics.Reads as reads
 use Rattle.splice_lists.proofs.put_before_diagnostics.Lts as lts
 use Rattle.splice_lists.proofs.put_diagnostics.Reads as put-diagnostics-reads
 
--- src/lib.rt:549:5
 put-diagnostics-requires : tie.Need-put-diagnostics-requires
 put-diagnostics-requires c κs = (c .before .before .before .pre .0, before-room diagnosticLocated (windowValue (c .before .before .before .args .w)) (recordsAt diagnosticCodec (c .before .before .before .args .tape .now) (c .before .before .before .args .at) (c .before .before .before .args .count)) (c .before .before .before .args .to) 18 _ (c .before .before .before .pre .1))
 
--- src/lib.rt:537:1
 same-length : tie.Need-same-length
 same-length c = search needs
 
--- src/lib.rt:537:1
 returns : tie.Need-returns
 returns c = c .before .before .put-diagnostics .ensures ∙ ap (λ (x : List Diagnostic). overwrite (c .before .before .before .before .before .before .args .out .now) (c .before .before .before .before .before .before .args .to) (recordsBytes diagnosticCodec x)) (part-before diagnosticLocated (windowValue (c .before .before .before .before .before .before .args .w)) (recordsAt diagnosticCodec (c .before .before .before .before .before .before .args .tape .now) (c .before .before .before .before .before .before .args .at) (c .before .before .before .before .before .before .args .count)))
 

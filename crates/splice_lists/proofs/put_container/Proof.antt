@@ -14,39 +14,30 @@ use Rattle.splice_lists.proofs.put_container.Lts as lts
 use Rattle.wire.proofs.put_u32.Reads as put-u32-reads
 use Rattle.wire.proofs.put_u8.Reads as put-u8-reads
 
--- src/lib.rt:329:5
 put-u8-requires : tie.Need-put-u8-requires
 put-u8-requires c κs = search needs
 
--- src/lib.rt:330:24
 add-put-u32 : tie.Need-add-put-u32
 add-put-u32 c = search needs
 
--- src/lib.rt:330:5
 put-u32-requires : tie.Need-put-u32-requires
 put-u32-requires c κs = search needs
 
--- src/lib.rt:331:24
 add-put-u32-2 : tie.Need-add-put-u32-2
 add-put-u32-2 c = search needs
 
--- src/lib.rt:331:5
 put-u32-requires-2 : tie.Need-put-u32-requires-2
 put-u32-requires-2 c κs = search needs
 
--- src/lib.rt:332:24
 add-put-u32-3 : tie.Need-add-put-u32-3
 add-put-u32-3 c = search needs
 
--- src/lib.rt:332:5
 put-u32-requires-3 : tie.Need-put-u32-requires-3
 put-u32-requires-3 c κs = search needs
 
--- src/lib.rt:325:1
 same-length : tie.Need-same-length
 same-length c = search needs
 
--- src/lib.rt:325:1
 returns : tie.Need-returns
 returns c =
     let w1 : Wrote (c .before .before .before .before .before .before .before .before .before .before .before .before .before .before .before .before .before .args .out .now) (c .before .before .before .before .before .before .before .before .before .before .before .before .before .before .before .before .before .args .at) (8 ∷ []) (c .before .before .before .before .before .before .before .before .before .before .before .before .before .before .put-u8 .last .0) = record { is = c .before .before .before .before .before .before .before .before .before .before .before .before .before .before .put-u8 .ensures } in

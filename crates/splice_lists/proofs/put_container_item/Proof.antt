@@ -16,35 +16,27 @@ use Rattle.splice_lists.proofs.container_as_in.Reads as container-as-in
 use Rattle.splice.proofs.container_in.Reads as container-in-reads
 use Rattle.splice_lists.proofs.put_container.Reads as put-container-reads
 
--- src/lib.rt:348:9
 container-in-requires : tie.Need-container-in-requires
 container-in-requires c κs = search needs
 
--- src/lib.rt:349:9
 returns : tie.Need-returns
 returns c = item-none container-kind (windowValue (c .before .before .before .before .args .w)) (c .before .before .before .before .args .part) (c .before .before .before .before .args .tape .now) (c .before .before .before .before .args .at) (c .before .before .before .before .args .out .now) (c .before .before .before .before .args .to) (sym (c .before .container-in .ensures) ∙ not-true _ (c .if1 .taken))
 
--- src/lib.rt:351:44
 container-at-requires : tie.Need-container-at-requires
 container-at-requires c κs = search needs
 
--- src/lib.rt:351:28
 container-as-in-requires : tie.Need-container-as-in-requires
 container-as-in-requires c κs = search needs
 
--- src/lib.rt:351:5
 put-container-requires : tie.Need-put-container-requires
 put-container-requires c κs = c .before .before .before .before .before .before .before .pre .1 (sym (c .before .before .before .before .container-in .ensures) ∙ not-false _ (c .before .before .before .if1 .left))
 
--- src/lib.rt:352:5
 add-result : tie.Need-add-result
 add-result c = omega (arith, (c .before .before .before .before .before .before .before .before .before .before .pre .1 (sym (c .before .before .before .before .before .before .before .container-in .ensures) ∙ not-false _ (c .before .before .before .before .before .before .if1 .left))), c .before .before .before .before .before .before .before .before .before .before .good)
 
--- src/lib.rt:336:1
 same-length : tie.Need-same-length
 same-length c = search needs
 
--- src/lib.rt:336:1
 returns-2 : tie.Need-returns-2
 returns-2 c = item-put container-kind (windowValue (c .before .before .before .before .before .before .before .before .before .before .args .w)) (c .before .before .before .before .before .before .before .before .before .before .args .part) (c .before .before .before .before .before .before .before .before .before .before .args .tape .now) (c .before .before .before .before .before .before .before .before .before .before .args .at) (c .before .before .before .before .before .before .before .before .before .before .args .out .now) (c .before .before .before .before .before .before .before .before .before .before .args .to) (sym (c .before .before .before .before .before .before .before .container-in .ensures) ∙ not-false _ (c .before .before .before .before .before .before .if1 .left)) (c .before .before .put-container .ensures) (c .before .before .before .container-as-in .ensures ∙ ap (λ x. recordBytes containerCodec (asIn containerLocated (windowValue (c .before .before .before .before .before .before .before .before .before .before .args .w)) (c .before .before .before .before .before .before .before .before .before .before .args .part) x)) (c .before .before .before .before .container-at .ensures))
 

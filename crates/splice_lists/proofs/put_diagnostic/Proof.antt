@@ -8,15 +8,12 @@ use Rattle.splice_lists.proofs.put_diagnostic.Reads as reads
 use Rattle.splice_lists.proofs.put_diagnostic.Lts as lts
 use Rattle.splice_lists.proofs.put_four.Reads as put-four-reads
 
--- src/lib.rt:479:5
 put-four-requires : tie.Need-put-four-requires
 put-four-requires c κs = search needs
 
--- src/lib.rt:475:1
 same-length : tie.Need-same-length
 same-length c = search needs
 
--- src/lib.rt:475:1
 returns : tie.Need-returns
 returns c = c .before .before .put-four .ensures ∙ ap (overwrite (c .before .before .before .before .before .args .out .now) (c .before .before .before .before .before .args .at)) (diagnostic-bytes (c .before .before .before .before .before .args .d .kind) (c .before .before .before .before .before .args .d .rank) (c .before .before .before .before .before .args .d .start) (c .before .before .before .before .before .args .d .end) (c .before .before .before .before .before .args .d .plain))
 

@@ -16,35 +16,27 @@ use Rattle.splice_lists.proofs.diagnostic_as_in.Reads as diagnostic-as-
 use Rattle.splice.proofs.diagnostic_in.Reads as diagnostic-in-reads
 use Rattle.splice_lists.proofs.put_diagnostic.Reads as put-diagnostic-reads
 
--- src/lib.rt:495:9
 diagnostic-in-requires : tie.Need-diagnostic-in-requires
 diagnostic-in-requires c κs = search needs
 
--- src/lib.rt:496:9
 returns : tie.Need-returns
 returns c = item-none diagnostic-kind (windowValue (c .before .before .before .before .args .w)) (c .before .before .before .before .args .part) (c .before .before .before .before .args .tape .now) (c .before .before .before .before .args .at) (c .before .before .before .before .args .out .now) (c .before .before .before .before .args .to) (sym (c .before .diagnostic-in .ensures) ∙ not-true _ (c .if1 .taken))
 
--- src/lib.rt:498:46
 diagnostic-at-requires : tie.Need-diagnostic-at-requires
 diagnostic-at-requires c κs = search needs
 
--- src/lib.rt:498:29
 diagnostic-as-in-requires : tie.Need-diagnostic-as-in-requires
 diagnostic-as-in-requires c κs = search needs
 
--- src/lib.rt:498:5
 put-diagnostic-requires : tie.Need-put-diagnostic-requires
 put-diagnostic-requires c κs = c .before .before .before .before .before .before .before .pre .1 (sym (c .before .before .before .before .diagnostic-in .ensures) ∙ not-false _ (c .before .before .before .if1 .left))
 
--- src/lib.rt:499:5
 add-result : tie.Need-add-result
 add-result c = omega (arith, (c .before .before .before .before .before .before .before .before .before .before .pre .1 (sym (c .before .before .before .before .before .before .before .diagnostic-in .ensures) ∙ not-false _ (c .before .before .before .before .before .before .if1 .left))), c .before .before .before .before .before .before .before .before .before .before .good)
 
--- src/lib.rt:483:1
 same-length : tie.Need-same-length
 same-length c = search needs
 
--- src/lib.rt:483:1
 returns-2 : tie.Need-returns-2
 returns-2 c = item-put diagnostic-kind (windowValue (c .before .before .before .before .before .before .before .before .before .before .args .w)) (c .before .before .before .before .before .before .before .before .before .before .args .part) (c .before .before .before .before .before .before .before .before .before .before .args .tape .now) (c .before .before .before .before .before .before .before .before .before .before .args .at) (c .before .before .before .before .before .before .before .before .before .before .args .out .now) (c .before .before .before .before .before .before .before .before .before .before .args .to) (sym (c .before .before .before .before .before .before .before .diagnostic-in .ensures) ∙ not-false _ (c .before .before .before .before .before .before .if1 .left)) (c .before .before .put-diagnostic .ensures) (ap (recordBytes diagnosticCodec) (c .before .before .before .diagnostic-as-in .ensures ∙ ap (asIn diagnosticLocated (windowValue (c .before .before .before .before .before .before .before .before .before .before .args .w)) (c .before .before .before .before .before .before .before .before .before .before .args .part)) (c .before .before .before .before .diagnostic-at .ensures)))
 

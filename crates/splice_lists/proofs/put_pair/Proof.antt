@@ -8,15 +8,12 @@ use Rattle.splice_lists.proofs.put_pair.Reads as reads
 use Rattle.splice_lists.proofs.put_pair.Lts as lts
 use Rattle.splice_lists.proofs.put_four.Reads as put-four-reads
 
--- src/lib.rt:157:5
 put-four-requires : tie.Need-put-four-requires
 put-four-requires c κs = search needs
 
--- src/lib.rt:153:1
 same-length : tie.Need-same-length
 same-length c = search needs
 
--- src/lib.rt:153:1
 returns : tie.Need-returns
 returns c = c .before .before .put-four .ensures ∙ ap (overwrite (c .before .before .before .before .before .args .out .now) (c .before .before .before .before .before .args .at)) (pair-bytes (c .before .before .before .before .before .args .p .kind) (c .before .before .before .before .before .args .p .openstart) (c .before .before .before .before .before .args .p .openend) (c .before .before .before .before .before .args .p .closestart) (c .before .before .before .before .before .args .p .closeend))
 

@@ -16,35 +16,27 @@ use Rattle.splice_lists.proofs.pair_as_in.Reads as pair-as-in-reads
 use Rattle.splice.proofs.pair_in.Reads as pair-in-reads
 use Rattle.splice_lists.proofs.put_pair.Reads as put-pair-reads
 
--- src/lib.rt:185:9
 pair-in-requires : tie.Need-pair-in-requires
 pair-in-requires c κs = search needs
 
--- src/lib.rt:186:9
 returns : tie.Need-returns
 returns c = item-none pair-kind (windowValue (c .before .before .before .before .args .w)) (c .before .before .before .before .args .part) (c .before .before .before .before .args .tape .now) (c .before .before .before .before .args .at) (c .before .before .before .before .args .out .now) (c .before .before .before .before .args .to) (sym (c .before .pair-in .ensures) ∙ not-true _ (c .if1 .taken))
 
--- src/lib.rt:188:34
 pair-at-requires : tie.Need-pair-at-requires
 pair-at-requires c κs = search needs
 
--- src/lib.rt:188:23
 pair-as-in-requires : tie.Need-pair-as-in-requires
 pair-as-in-requires c κs = search needs
 
--- src/lib.rt:188:5
 put-pair-requires : tie.Need-put-pair-requires
 put-pair-requires c κs = c .before .before .before .before .before .before .before .pre .1 (sym (c .before .before .before .before .pair-in .ensures) ∙ not-false _ (c .before .before .before .if1 .left))
 
--- src/lib.rt:189:5
 add-result : tie.Need-add-result
 add-result c = omega (arith, (c .before .before .before .before .before .before .before .before .before .before .pre .1 (sym (c .before .before .before .before .before .before .before .pair-in .ensures) ∙ not-false _ (c .before .before .before .before .before .before .if1 .left))), c .before .before .before .before .before .before .before .before .before .before .good)
 
--- src/lib.rt:173:1
 same-length : tie.Need-same-length
 same-length c = search needs
 
--- src/lib.rt:173:1
 returns-2 : tie.Need-returns-2
 returns-2 c = item-put pair-kind (windowValue (c .before .before .before .before .before .before .before .before .before .before .args .w)) (c .before .before .before .before .before .before .before .before .before .before .args .part) (c .before .before .before .before .before .before .before .before .before .before .args .tape .now) (c .before .before .before .before .before .before .before .before .before .before .args .at) (c .before .before .before .before .before .before .before .before .before .before .args .out .now) (c .before .before .before .before .before .before .before .before .before .before .args .to) (sym (c .before .before .before .before .before .before .before .pair-in .ensures) ∙ not-false _ (c .before .before .before .before .before .before .if1 .left)) (c .before .before .put-pair .ensures) (ap (recordBytes pairCodec) (c .before .before .before .pair-as-in .ensures ∙ ap (asIn pairLocated (windowValue (c .before .before .before .before .before .before .before .before .before .before .args .w)) (c .before .before .before .before .before .before .before .before .before .before .args .part)) (c .before .before .before .before .pair-at .ensures)))
 

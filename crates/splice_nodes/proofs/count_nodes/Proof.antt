@@ -11,11 +11,9 @@ use Rattle.splice_nodes.proofs.count_nodes.Reads as reads
 use Rattle.splice_nodes.proofs.count_nodes.Lts as lts
 use Rattle.splice.proofs.count_in.Reads as count-in-reads
 
--- src/lib.rt:27:5
 count-in-requires : tie.Need-count-in-requires
 count-in-requires c κs = search needs
 
--- src/lib.rt:23:1
 returns : tie.Need-returns
 returns c = c .count-in .ensures ∙ part-count nodeCodec nodeLocated (windowValue (c .before .before .args .w)) (c .before .before .args .part) (c .before .before .args .tape .now) (rowIn (c .before .before .args .tape .now) 3 7 0 (c .before .before .args .w .start) (c .before .before .args .w .end) (c .before .before .args .part)) (λ q. node-in (windowValue (c .before .before .args .w)) (c .before .before .args .part) (c .before .before .args .tape .now) q) 49 (node-kind .size) (c .before .before .args .at) (c .before .before .args .count)
 

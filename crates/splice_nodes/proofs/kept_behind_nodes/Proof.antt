@@ -11,11 +11,9 @@ use Rattle.splice_nodes.proofs.kept_behind_nodes.Reads as reads
 use Rattle.splice_nodes.proofs.kept_behind_nodes.Lts as lts
 use Rattle.splice_nodes.proofs.count_nodes.Reads as count-nodes-reads
 
--- src/lib.rt:118:5
 count-nodes-requires : tie.Need-count-nodes-requires
 count-nodes-requires c κs = search needs
 
--- src/lib.rt:114:1
 returns : tie.Need-returns
 returns c = c .count-nodes .ensures ∙ ap length (part-behind nodeLocated (windowValue (c .before .before .args .w)) (recordsAt nodeCodec (c .before .before .args .tape .now) (c .before .before .args .at) (c .before .before .args .count))) ∙ length-map (keptBehind nodeLocated (windowValue (c .before .before .args .w)) (recordsAt nodeCodec (c .before .before .args .tape .now) (c .before .before .args .at) (c .before .before .args .count))) (nodeLocated .moved (windowValue (c .before .before .args .w)))
 

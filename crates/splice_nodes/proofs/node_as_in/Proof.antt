@@ -10,19 +10,15 @@ use Rattle.splice_nodes.proofs.node_as_in.Lts as lts
 use Rattle.splice.proofs.normalized_in.Reads as normalized-in-reads
 use Rattle.splice.proofs.source_in.Reads as source-in-reads
 
--- src/lib.rt:37:16
 source-in-requires : tie.Need-source-in-requires
 source-in-requires c κs = search needs
 
--- src/lib.rt:38:14
 source-in-requires-2 : tie.Need-source-in-requires-2
 source-in-requires-2 c κs = search needs
 
--- src/lib.rt:39:17
 normalized-in-requires : tie.Need-normalized-in-requires
 normalized-in-requires c κs = search needs
 
--- src/lib.rt:30:1
 returns : tie.Need-returns
 returns c = (rw (c .before .before .source-in .ensures, c .before .source-in2 .ensures, c .normalized-in .ensures) (node-as-in (windowValue (c .before .before .before .before .args .w)) (c .before .before .before .before .args .part) (sourceNodeOf (c .before .before .before .before .args .n))), refl)
 

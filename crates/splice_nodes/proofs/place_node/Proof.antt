@@ -17,23 +17,18 @@ use Rattle.records.proofs.node_at.Reads as node-at-reads
 use Rattle.splice_nodes.proofs.node_as_in.Reads as node-as-in-reads
 use Rattle.splice_nodes.proofs.put_node.Reads as put-node-reads
 
--- src/lib.rt:156:9
 node-at-requires : tie.Need-node-at-requires
 node-at-requires c κs = search needs
 
--- src/lib.rt:157:23
 node-as-in-requires : tie.Need-node-as-in-requires
 node-as-in-requires c κs = search needs
 
--- src/lib.rt:157:5
 put-node-requires : tie.Need-put-node-requires
 put-node-requires c κs = (omega (arith, c .before .before .before .before .before .pre), six-read (c .before .before .before .before .before .args .out .now) (c .before .before .before .before .before .args .at) (sourceNodeOf (c .before .before .node-at .result)) (c .before .before .node-at .ensures) (c .node-as-in .ensures .1))
 
--- src/lib.rt:152:1
 same-length : tie.Need-same-length
 same-length c = search needs
 
--- src/lib.rt:152:1
 returns : tie.Need-returns
 returns c = c .before .before .put-node .ensures ∙ ap (overwrite (c .before .before .before .before .before .before .before .before .args .out .now) (c .before .before .before .before .before .before .before .before .args .at)) (c .before .before .before .node-as-in .ensures .0 ∙ ap (λ x. recordBytes nodeCodec (asIn nodeLocated (windowValue (c .before .before .before .before .before .before .before .before .args .w)) Reading x)) (c .before .before .before .before .before .node-at .ensures))
 

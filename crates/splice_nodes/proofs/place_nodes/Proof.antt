@@ -19,39 +19,30 @@ Inv-loop out₀ at count w i₀ out i = (i ≤ count) × PutUpTo nodeCodec nodeL
 abbrev μ-loop : tie.MeasureT-loop
 μ-loop out₀ at count w i₀ out i = count - i
 
--- src/lib.rt:165:5
 loop-holds : tie.Need-loop-holds Inv-loop μ-loop
 loop-holds c = (omega arith, placed-first node-kind (windowValue (c .before .args .w)) (c .before .args .out .now) (c .before .args .at))
 
--- src/lib.rt:166:30
 mul-place-node : tie.Need-mul-place-node Inv-loop μ-loop
 mul-place-node c = omega (arith, c .before .before .before .before .pre, c .before .before .before .before .good)
 
--- src/lib.rt:166:25
 add-place-node : tie.Need-add-place-node Inv-loop μ-loop
 add-place-node c = omega (arith, c .before .before .before .before .pre, c .before .before .before .before .good)
 
--- src/lib.rt:166:9
 place-node-requires : tie.Need-place-node-requires Inv-loop μ-loop
 place-node-requires c κs = omega (arith, c .before .before .before .before .pre, c .before .before .loop .inv .1 .long)
 
--- src/lib.rt:167:9
 add-i : tie.Need-add-i Inv-loop μ-loop
 add-i c = omega arith
 
--- src/lib.rt:165:5
 loop-less : tie.Need-loop-less Inv-loop μ-loop
 loop-less c = omega arith
 
--- src/lib.rt:165:5
 loop-again : tie.Need-loop-again Inv-loop μ-loop
 loop-again c = (omega arith, placed-more node-kind (windowValue (c .before .before .before .before .before .before .before .args .w)) (c .before .before .before .before .before .before .before .args .out .now) (c .before .before .before .before .before .before .before .args .at) (c .before .before .before .before .before .loop .inv .1) (c .before .before .before .before .before .before .before .args .count) (c .before .before .before .before .loop-test .taken) (c .before .before .before .before .before .before .before .pre) (c .before .before .place-node .ensures))
 
--- src/lib.rt:160:1
 same-length : tie.Need-same-length Inv-loop μ-loop
 same-length c = c .before .loop .inv .1 .long
 
--- src/lib.rt:160:1
 returns : tie.Need-returns Inv-loop μ-loop
 returns c = placed-last node-kind (windowValue (c .before .before .before .args .w)) (c .before .before .before .args .out .now) (c .before .before .before .args .at) (c .before .loop .inv .1) (c .before .before .before .args .count) (omega arith)
 

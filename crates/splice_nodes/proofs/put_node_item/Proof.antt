@@ -18,35 +18,27 @@ use Rattle.splice_nodes.proofs.node_as_in.Reads as node-as-in-reads
 use Rattle.splice_nodes.proofs.node_in.Reads as node-in-reads
 use Rattle.splice_nodes.proofs.put_node.Reads as put-node-reads
 
--- src/lib.rt:79:9
 node-in-requires : tie.Need-node-in-requires
 node-in-requires c κs = search needs
 
--- src/lib.rt:80:9
 returns : tie.Need-returns
 returns c = item-none node-kind (windowValue (c .before .before .before .before .args .w)) (c .before .before .before .before .args .part) (c .before .before .before .before .args .tape .now) (c .before .before .before .before .args .at) (c .before .before .before .before .args .out .now) (c .before .before .before .before .args .to) (sym (c .before .node-in .ensures) ∙ not-true _ (c .if1 .taken))
 
--- src/lib.rt:82:34
 node-at-requires : tie.Need-node-at-requires
 node-at-requires c κs = search needs
 
--- src/lib.rt:82:23
 node-as-in-requires : tie.Need-node-as-in-requires
 node-as-in-requires c κs = search needs
 
--- src/lib.rt:82:5
 put-node-requires : tie.Need-put-node-requires
 put-node-requires c κs = (c .before .before .before .before .before .before .before .pre .1 (sym (c .before .before .before .before .node-in .ensures) ∙ not-false _ (c .before .before .before .if1 .left)), six-read (c .before .before .before .before .before .before .before .args .tape .now) (c .before .before .before .before .before .before .before .args .at) (sourceNodeOf (c .before .node-at .result)) (c .before .node-at .ensures) (c .node-as-in .ensures .1))
 
--- src/lib.rt:83:5
 add-result : tie.Need-add-result
 add-result c = omega (arith, (c .before .before .before .before .before .before .before .before .before .before .pre .1 (sym (c .before .before .before .before .before .before .before .node-in .ensures) ∙ not-false _ (c .before .before .before .before .before .before .if1 .left))), c .before .before .before .before .before .before .before .before .before .before .good)
 
--- src/lib.rt:67:1
 same-length : tie.Need-same-length
 same-length c = search needs
 
--- src/lib.rt:67:1
 returns-2 : tie.Need-returns-2
 returns-2 c = item-put node-kind (windowValue (c .before .before .before .before .before .before .before .before .before .before .args .w)) (c .before .before .before .before .before .before .before .before .before .before .args .part) (c .before .before .before .before .before .before .before .before .before .before .args .tape .now) (c .before .before .before .before .before .before .before .before .before .before .args .at) (c .before .before .before .before .before .before .before .before .before .before .args .out .now) (c .before .before .before .before .before .before .before .before .before .before .args .to) (sym (c .before .before .before .before .before .before .before .node-in .ensures) ∙ not-false _ (c .before .before .before .before .before .before .if1 .left)) (c .before .before .put-node .ensures) (c .before .before .before .node-as-in .ensures .0 ∙ ap (λ x. recordBytes nodeCodec (asIn nodeLocated (windowValue (c .before .before .before .before .before .before .before .before .before .before .args .w)) (c .before .before .before .before .before .before .before .before .before .before .args .part) x)) (c .before .before .before .before .node-at .ensures))
 

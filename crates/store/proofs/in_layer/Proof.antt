@@ -9,36 +9,28 @@ use Rattle.store.proofs.in_layer.Lts as lts
 use Rattle.store.proofs.start_or.Reads as start-or-reads
 use Rattle.store.proofs.wide.Reads as wide-reads
 
--- src/lib.rt:49:21
 mul-wide : tie.Need-mul-wide
 mul-wide c = search needs
 
--- src/lib.rt:49:21
 element-copy-out-wide : tie.Need-element-copy-out-wide
 element-copy-out-wide c = search needs
 
--- src/lib.rt:49:16
 wide-requires : tie.Need-wide-requires
 wide-requires c κs = search needs
 
--- src/lib.rt:50:9
 returns : tie.Need-returns
 unfolding inLayer
 returns c = simp (sym (c .before .wide .ensures), lt-leb _ _ (c .if1 .taken))
 
--- src/lib.rt:52:49
 add-start-or : tie.Need-add-start-or
 add-start-or c = search needs
 
--- src/lib.rt:52:17
 start-or-requires : tie.Need-start-or-requires
 start-or-requires c κs = search needs
 
--- src/lib.rt:52:12
 wide-requires-2 : tie.Need-wide-requires-2
 wide-requires-2 c κs = search needs
 
--- src/lib.rt:45:1
 returns-2 : tie.Need-returns-2
 unfolding inLayer
 returns-2 c = simp (sym (c .before .before .before .wide .ensures), le-leb _ _ (c .before .before .if1 .left), c .wide2 .ensures, c .before .start-or .ensures)

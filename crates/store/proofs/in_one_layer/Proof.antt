@@ -15,32 +15,25 @@ Inv-loop starts layers total start end i₀ i = (i ≤ layers) × Missed (inLaye
 abbrev μ-loop : tie.MeasureT-loop
 μ-loop starts layers total start end i₀ i = layers - i
 
--- src/lib.rt:60:5
 loop-holds : tie.Need-loop-holds Inv-loop μ-loop
 loop-holds c = (omega arith, missed-none _)
 
--- src/lib.rt:61:12
 in-layer-requires : tie.Need-in-layer-requires Inv-loop μ-loop
 in-layer-requires c κs = omega arith
 
--- src/lib.rt:62:13
 returns : tie.Need-returns Inv-loop μ-loop
 unfolding inOne
 returns c = sym (any-found _ _ _ (c .before .before .loop-test .taken) (sym (c .before .in-layer .ensures) ∙ c .if1 .taken))
 
--- src/lib.rt:64:9
 add-i : tie.Need-add-i Inv-loop μ-loop
 add-i c = omega arith
 
--- src/lib.rt:60:5
 loop-less : tie.Need-loop-less Inv-loop μ-loop
 loop-less c = omega arith
 
--- src/lib.rt:60:5
 loop-again : tie.Need-loop-again Inv-loop μ-loop
 loop-again c = (omega arith, missed-more _ _ (c .before .before .before .loop .inv .1) (sym (c .before .in-layer .ensures) ∙ c .if1 .left))
 
--- src/lib.rt:55:1
 returns-2 : tie.Need-returns-2 Inv-loop μ-loop
 unfolding inOne
 returns-2 c = let e : c .before .loop .i ≡ c .before .before .args .layers = omega arith in sym (any-missed _ _ (rw e at (c .before .loop .inv .1)))

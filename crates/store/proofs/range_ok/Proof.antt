@@ -7,35 +7,27 @@ use Rattle.store.proofs.range_ok.Lts as lts
 use Rattle.store.proofs.in_one_layer.Reads as in-one-layer-reads
 use Rattle.store.proofs.wide.Reads as wide-reads
 
--- src/lib.rt:74:9
 wide-requires : tie.Need-wide-requires
 wide-requires c κs = search needs
 
--- src/lib.rt:75:22
 wide-requires-2 : tie.Need-wide-requires-2
 wide-requires-2 c κs = search needs
 
--- src/lib.rt:75:15
 add-end : tie.Need-add-end
 add-end c = search needs
 
--- src/lib.rt:76:8
 wide-requires-3 : tie.Need-wide-requires-3
 wide-requires-3 c κs = search needs
 
--- src/lib.rt:77:9
 returns : tie.Need-returns
 returns c = range-over _ _ _ _ _ _ _ _ (c .before .before .before .wide .ensures) (c .before .before .wide2 .ensures) (c .before .wide3 .ensures) (c .if1 .taken)
 
--- src/lib.rt:80:9
 returns-2 : tie.Need-returns-2
 returns-2 c = range-empty _ _ _ _ _ _ _ _ (c .before .before .before .before .wide .ensures) (c .before .before .before .wide2 .ensures) (c .before .before .wide3 .ensures) (c .before .if1 .left) (c .if2 .taken)
 
--- src/lib.rt:82:5
 in-one-layer-requires : tie.Need-in-one-layer-requires
 in-one-layer-requires c κs = search needs
 
--- src/lib.rt:70:1
 returns-3 : tie.Need-returns-3
 returns-3 c = range-one _ _ _ _ _ _ _ _ (c .before .before .before .before .before .wide .ensures) (c .before .before .before .before .wide2 .ensures) (c .before .before .before .wide3 .ensures) _ (c .before .before .if1 .left) (c .before .if2 .left) (c .in-one-layer .ensures)
 

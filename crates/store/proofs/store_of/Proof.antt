@@ -14,55 +14,42 @@ Inv-loop tape layers strings₀ contents₀ segments₀ totals₀ at₀ i₀ str
 abbrev μ-loop : tie.MeasureT-loop
 μ-loop tape layers strings₀ contents₀ segments₀ totals₀ at₀ i₀ strings contents segments totals at i = layers - i
 
--- src/lib.rt:132:5
 loop-holds : tie.Need-loop-holds Inv-loop μ-loop
 loop-holds c = (omega arith, filling-none _)
 
--- src/lib.rt:133:13
 next-layer-requires : tie.Need-next-layer-requires Inv-loop μ-loop
 next-layer-requires c κs = filling-inside (c .before .loop .inv .1) (c .before .before .before .pre) (c .loop-test .taken)
 
--- src/lib.rt:134:9
 mul-strings : tie.Need-mul-strings Inv-loop μ-loop
 mul-strings c = omega (arith, c .before .before .before .before .pre .few)
 
--- src/lib.rt:134:9
 array-write-strings : tie.Need-array-write-strings Inv-loop μ-loop
 array-write-strings c = omega (arith, c .before .before .before .before .pre .few)
 
--- src/lib.rt:135:9
 mul-contents : tie.Need-mul-contents Inv-loop μ-loop
 mul-contents c = omega (arith, c .before .before .before .before .pre .few)
 
--- src/lib.rt:135:9
 array-write-contents : tie.Need-array-write-contents Inv-loop μ-loop
 array-write-contents c = omega (arith, c .before .before .before .before .pre .few)
 
--- src/lib.rt:136:9
 mul-segments : tie.Need-mul-segments Inv-loop μ-loop
 mul-segments c = omega (arith, c .before .before .before .before .pre .few)
 
--- src/lib.rt:136:9
 array-write-segments : tie.Need-array-write-segments Inv-loop μ-loop
 array-write-segments c = omega (arith, c .before .before .before .before .pre .few)
 
--- src/lib.rt:137:9
 with-layer-requires : tie.Need-with-layer-requires Inv-loop μ-loop
 with-layer-requires c κs = filling-fits (c .before .before .loop .inv .1) (c .before .before .before .before .pre) (c .before .loop-test .taken) (c .next-layer .ensures)
 
--- src/lib.rt:139:9
 add-i : tie.Need-add-i Inv-loop μ-loop
 add-i c = omega arith
 
--- src/lib.rt:132:5
 loop-less : tie.Need-loop-less Inv-loop μ-loop
 loop-less c = omega arith
 
--- src/lib.rt:132:5
 loop-again : tie.Need-loop-again Inv-loop μ-loop
 loop-again c = (omega arith, filling-more (c .before .before .before .loop .inv .1) (c .before .before .before .before .before .pre) (c .before .before .loop-test .taken) (c .before .next-layer .ensures) (c .with-layer .ensures))
 
--- src/lib.rt:118:1
 returns : tie.Need-returns Inv-loop μ-loop
 returns c = filling-all (c .before .loop .inv .1) (c .before .before .before .pre) (omega arith)
 

@@ -8,23 +8,18 @@ use Rattle.records.proofs.content_at.Reads as content-at-reads
 use Rattle.store.proofs.content_place.Reads as content-place-reads
 use Rattle.strings.proofs.plain_of.Reads as plain-of-reads
 
--- src/lib.rt:175:9
 returns : tie.Need-returns
 returns c = range-other (c .before .before .pre .0) (c .before .before .args .start) (c .before .before .args .len) (c .before .before .pre .1) (c .if1 .taken)
 
--- src/lib.rt:177:9
 content-place-requires : tie.Need-content-place-requires
 content-place-requires c κs = search needs
 
--- src/lib.rt:178:14
 content-at-requires : tie.Need-content-at-requires
 content-at-requires c κs = range-inside (c .before .before .before .pre .0) (c .before .before .before .args .start) (c .before .before .before .args .len) (c .before .before .before .pre .1) (c .before .if1 .left) (c .content-place .ensures)
 
--- src/lib.rt:178:5
 plain-of-requires : tie.Need-plain-of-requires
 plain-of-requires c κs = search needs
 
--- src/lib.rt:169:1
 returns-2 : tie.Need-returns-2
 returns-2 c = range-one (c .before .before .before .before .before .pre .0) (c .before .before .before .before .before .args .start) (c .before .before .before .before .before .args .len) (c .before .before .before .before .before .pre .1) (c .before .before .before .if1 .left) (c .before .before .content-place .ensures) (c .before .content-at .ensures) (c .plain-of .ensures)
 

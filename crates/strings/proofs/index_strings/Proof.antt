@@ -21,71 +21,54 @@ Inv-loop tape st room words₀ count step entries j₀ from₀ start₀ words j 
 abbrev μ-loop : tie.MeasureT-loop
 μ-loop tape st room words₀ count step entries j₀ from₀ start₀ words j from start = entries - j
 
--- src/lib.rt:113:9
 count-of-requires : tie.Need-count-of-requires Inv-loop μ-loop
 count-of-requires c κs = search needs
 
--- src/lib.rt:114:9
 step-of-requires : tie.Need-step-of-requires Inv-loop μ-loop
 step-of-requires c κs = omega arith
 
--- src/lib.rt:115:19
 wide-requires : tie.Need-wide-requires Inv-loop μ-loop
 wide-requires c κs = search needs
 
--- src/lib.rt:115:19
 div-entries : tie.Need-div-entries Inv-loop μ-loop
 div-entries c = omega (arith, step-some (c .before .before .count-of .result) (length (c .before .before .before .before .before .args .words .now)), c .before .step-of .ensures)
 
--- src/lib.rt:119:5
 loop-holds : tie.Need-loop-holds Inv-loop μ-loop
 loop-holds c = (omega arith, refl, indexing-none _ _ _)
 
--- src/lib.rt:120:20
 add-next : tie.Need-add-next Inv-loop μ-loop
 add-next c = let b = next-between (c .before .before .before .before .before .before .before .pre .store) (c .before .before .before .before .count-of .ensures) (c .before .loop .inv .2) (c .before .before .before .step-of .ensures) (c .before .before .wide .ensures) (c .loop-test .taken) in omega (arith, b .inside, c .before .before .before .before .count-of .ensures)
 
--- src/lib.rt:121:44
 cast-start-from : tie.Need-cast-start-from Inv-loop μ-loop
 cast-start-from c = let b = next-between (c .before .before .before .before .before .before .before .pre .store) (c .before .before .before .before .count-of .ensures) (c .before .loop .inv .2) (c .before .before .before .step-of .ensures) (c .before .before .wide .ensures) (c .loop-test .taken) in omega (arith, b .order, b .inside, c .before .before .before .before .count-of .ensures)
 
--- src/lib.rt:121:57
 cast-start-from-2 : tie.Need-cast-start-from-2 Inv-loop μ-loop
 cast-start-from-2 c = let b = next-between (c .before .before .before .before .before .before .before .pre .store) (c .before .before .before .before .count-of .ensures) (c .before .loop .inv .2) (c .before .before .before .step-of .ensures) (c .before .before .wide .ensures) (c .loop-test .taken) in omega (arith, b .inside, c .before .before .before .before .count-of .ensures)
 
--- src/lib.rt:121:9
 start-from-requires : tie.Need-start-from-requires Inv-loop μ-loop
 start-from-requires c κs = (c .before .before .before .before .before .before .before .pre, (next-between (c .before .before .before .before .before .before .before .pre .store) (c .before .before .before .before .count-of .ensures) (c .before .loop .inv .2) (c .before .before .before .step-of .ensures) (c .before .before .wide .ensures) (c .loop-test .taken), c .before .loop .inv .2 .summed))
 
--- src/lib.rt:122:20
 entry-of-requires : tie.Need-entry-of-requires Inv-loop μ-loop
 entry-of-requires c κs = search needs
 
--- src/lib.rt:122:9
 mul-words : tie.Need-mul-words Inv-loop μ-loop
 mul-words c = let w = next-word (c .before .before .before .before .before .before .before .before .before .pre .store) (c .before .before .before .before .before .before .count-of .ensures) (c .before .before .before .loop .inv .2) (c .before .before .before .before .before .step-of .ensures) (c .before .before .before .before .wide .ensures) (c .before .before .loop-test .taken) in omega (arith, w)
 
--- src/lib.rt:122:9
 slice-write-words : tie.Need-slice-write-words Inv-loop μ-loop
 slice-write-words c = let w = next-word (c .before .before .before .before .before .before .before .before .before .pre .store) (c .before .before .before .before .before .before .count-of .ensures) (c .before .before .before .loop .inv .2) (c .before .before .before .before .before .step-of .ensures) (c .before .before .before .before .wide .ensures) (c .before .before .loop-test .taken) in omega (arith, w, c .before .before .before .loop .inv .1)
 
--- src/lib.rt:124:9
 add-j : tie.Need-add-j Inv-loop μ-loop
 add-j c = let w = next-word (c .before .before .before .before .before .before .before .before .before .pre .store) (c .before .before .before .before .before .before .count-of .ensures) (c .before .before .before .loop .inv .2) (c .before .before .before .before .before .step-of .ensures) (c .before .before .before .before .wide .ensures) (c .before .before .loop-test .taken) in omega (arith, w)
 
--- src/lib.rt:119:5
 loop-less : tie.Need-loop-less Inv-loop μ-loop
 loop-less c = omega arith
 
--- src/lib.rt:119:5
 loop-again : tie.Need-loop-again Inv-loop μ-loop
 loop-again c = (omega arith, length-set (c .before .before .before .loop .words) _ _ ∙ c .before .before .before .loop .inv .1, indexing-more (c .before .before .before .loop .inv .2) refl (c .before .start-from .ensures) (c .entry-of .ensures) (next-word (c .before .before .before .before .before .before .before .before .before .pre .store) (c .before .before .before .before .before .before .count-of .ensures) (c .before .before .before .loop .inv .2) (c .before .before .before .before .before .step-of .ensures) (c .before .before .before .before .wide .ensures) (c .before .before .loop-test .taken)))
 
--- src/lib.rt:109:1
 same-length : tie.Need-same-length Inv-loop μ-loop
 same-length c = c .before .loop .inv .1
 
--- src/lib.rt:109:1
 returns : tie.Need-returns Inv-loop μ-loop
 returns c = index-all (c .before .before .before .before .before .before .before .pre .store) (c .before .before .before .before .count-of .ensures) (c .before .loop .inv .2) (c .before .before .before .step-of .ensures) (c .before .before .wide .ensures) (omega arith)
 

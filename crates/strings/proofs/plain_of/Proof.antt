@@ -5,11 +5,9 @@ use Rattle.strings.proofs.plain_of.Tie as tie
 use Rattle.strings.proofs.plain_of.Reads as reads
 use Rattle.strings.proofs.plain_of.Lts as lts
 
--- src/lib.rt:163:9
 returns : tie.Need-returns
 returns c = plain-id (contentOf (c .before .before .args .c)) (c .if1 .taken)
 
--- src/lib.rt:159:1
 returns-2 : tie.Need-returns-2
 returns-2 c = plain-other (contentOf (c .before .before .args .c)) (c .if1 .left)
 

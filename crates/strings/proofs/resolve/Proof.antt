@@ -7,47 +7,36 @@ use Rattle.strings.proofs.resolve.Tie as tie
 use Rattle.strings.proofs.resolve.Reads as reads
 use Rattle.strings.proofs.resolve.Lts as lts
 
--- src/lib.rt:202:28
 add-result : tie.Need-add-result
 add-result c = search needs
 
--- src/lib.rt:202:16
 sub-result : tie.Need-sub-result
 sub-result c = search needs
 
--- src/lib.rt:202:16
 part-result-start : tie.Need-part-result-start
 part-result-start c = search needs
 
--- src/lib.rt:202:16
 part-result-end : tie.Need-part-result-end
 part-result-end c = c .before .pre .first (c .if1 .taken)
 
--- src/lib.rt:202:9
 returns : tie.Need-returns
 returns c = cut-old (c .before .before .args .old .now) (c .before .before .args .new .now) (c .before .before .args .olds) (c .before .before .args .id) (c .before .before .args .start) (c .before .before .args .len) (c .before .if1 .taken)
 
--- src/lib.rt:204:14
 sub-at : tie.Need-sub-at
 sub-at c = c .before .pre .second (c .if1 .left)
 
--- src/lib.rt:205:14
 add-result-2 : tie.Need-add-result-2
 add-result-2 c = search needs
 
--- src/lib.rt:205:5
 sub-result-2 : tie.Need-sub-result-2
 sub-result-2 c = search needs
 
--- src/lib.rt:205:5
 part-result-start-2 : tie.Need-part-result-start-2
 part-result-start-2 c = search needs
 
--- src/lib.rt:205:5
 part-result-end-2 : tie.Need-part-result-end-2
 part-result-end-2 c = omega (arith, c .before .pre .second (c .if1 .left), c .before .pre .within)
 
--- src/lib.rt:190:1
 returns-2 : tie.Need-returns-2
 returns-2 c = cut-new (c .before .before .args .old .now) (c .before .before .args .new .now) (c .before .before .args .olds) (c .before .before .args .id) (c .before .before .args .start) (c .before .before .args .len) (c .before .if1 .left) _ refl
 

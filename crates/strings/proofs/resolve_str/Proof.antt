@@ -11,27 +11,21 @@ use Rattle.strings.proofs.resolve.Reads as resolve-reads
 use Rattle.strings.proofs.string_length.Reads as string-length-reads
 use Rattle.strings.proofs.string_start.Reads as string-start-reads
 
--- src/lib.rt:221:9
 old-strings-requires : tie.Need-old-strings-requires
 old-strings-requires c κs = search needs
 
--- src/lib.rt:222:40
 add-string-start : tie.Need-add-string-start
 add-string-start c = search needs
 
--- src/lib.rt:222:9
 string-start-requires : tie.Need-string-start-requires
 string-start-requires c κs = (sides-readable (c .before .before .before .before .before .pre .0), (c .before .before .before .before .before .pre .0 .indexed, c .before .before .before .before .before .pre .1))
 
--- src/lib.rt:223:9
 string-length-requires : tie.Need-string-length-requires
 string-length-requires c κs = search needs
 
--- src/lib.rt:224:5
 resolve-requires : tie.Need-resolve-requires
 resolve-requires c κs = string-lies (c .before .before .before .before .before .before .before .pre .0 .sides) (c .before .before .before .before .before .before .before .args .id) (c .before .before .old-strings .ensures) (span-of-start (lengthsIn (c .before .before .before .before .before .before .before .args .tape .now)) (c .before .before .before .before .before .before .before .args .id) (c .before .string-start .ensures)) (c .string-length .ensures)
 
--- src/lib.rt:209:1
 returns : tie.Need-returns
 returns c = c .resolve .ensures ∙ string-shown (c .before .before .before .before .before .before .before .before .pre .0 .sides) (c .before .before .before .before .before .before .before .before .args .id) (c .before .before .before .old-strings .ensures) (span-of-start (lengthsIn (c .before .before .before .before .before .before .before .before .args .tape .now)) (c .before .before .before .before .before .before .before .before .args .id) (c .before .before .string-start .ensures)) (c .before .string-length .ensures)
 

@@ -9,23 +9,18 @@ use Rattle.strings.proofs.run_end.Lts as lts
 use Rattle.store.proofs.layer_of.Reads as layer-of-reads
 use Rattle.store.proofs.start_or.Reads as start-or-reads
 
--- src/lib.rt:31:9
 layer-of-requires : tie.Need-layer-of-requires
 layer-of-requires c κs = search needs
 
--- src/lib.rt:32:71
 add-start-or : tie.Need-add-start-or
 add-start-or c = omega (arith, layer-few (c .before .before .before .before .args .st .strings) (c .before .before .before .before .args .st .layers) (c .before .before .before .before .args .i), c .before .layer-of .ensures, c .before .before .before .before .pre)
 
--- src/lib.rt:32:9
 start-or-requires : tie.Need-start-or-requires
 start-or-requires c κs = search needs
 
--- src/lib.rt:34:9
 returns : tie.Need-returns
 returns c = run-cut (c .before .before .before .before .before .before .args .st) (c .before .before .before .before .before .before .args .i) (c .before .before .before .before .before .before .args .to) (c .before .before .before .layer-of .ensures) (c .before .start-or .ensures) (c .if1 .taken)
 
--- src/lib.rt:26:1
 returns-2 : tie.Need-returns-2
 returns-2 c = run-whole (c .before .before .before .before .before .before .args .st) (c .before .before .before .before .before .before .args .i) (c .before .before .before .before .before .before .args .to) (c .before .before .before .layer-of .ensures) (c .before .start-or .ensures) (c .if1 .left)
 

@@ -9,27 +9,21 @@ use Rattle.places.proofs.strings_length.Reads as strings-length-reads
 use Rattle.store.proofs.string_place.Reads as string-place-reads
 use Rattle.strings.proofs.wide.Reads as wide-reads
 
--- src/lib.rt:53:9
 string-place-requires : tie.Need-string-place-requires
 string-place-requires c κs = search needs
 
--- src/lib.rt:54:22
 sub-wide : tie.Need-sub-wide
 sub-wide c = search needs
 
--- src/lib.rt:54:9
 wide-requires : tie.Need-wide-requires
 wide-requires c κs = search needs
 
--- src/lib.rt:55:13
 strings-length-requires : tie.Need-strings-length-requires
 strings-length-requires c κs = (omega (arith, run-inside (c .before .before .before .pre .0) (c .before .before .before .pre .1 .0) (c .before .string-place .ensures), c .wide .ensures), c .before .before .before .pre .0 .small)
 
--- src/lib.rt:55:5
 add-result : tie.Need-add-result
 add-result c = omega (arith, run-start (c .before .before .before .before .pre .0) (c .before .before .before .before .pre .1 .0) (c .before .before .string-place .ensures) (c .before .before .before .before .pre .1 .1) (c .before .wide .ensures) (c .strings-length .ensures), start-most (c .before .before .before .before .pre .0) (c .before .before .before .before .args .next), c .before .before .before .before .pre .0 .small)
 
--- src/lib.rt:40:1
 returns : tie.Need-returns
 returns c = run-start (c .before .before .before .before .pre .0) (c .before .before .before .before .pre .1 .0) (c .before .before .string-place .ensures) (c .before .before .before .before .pre .1 .1) (c .before .wide .ensures) (c .strings-length .ensures)
 

@@ -15,27 +15,21 @@ Inv-loop tape st room from to start i₀ place₀ i place = (i ≤ to) × (place
 abbrev μ-loop : tie.MeasureT-loop
 μ-loop tape st room from to start i₀ place₀ i place = to - i
 
--- src/lib.rt:74:5
 loop-holds : tie.Need-loop-holds Inv-loop μ-loop
 loop-holds c = (c .before .pre .1 .0 .order, c .before .pre .1 .1)
 
--- src/lib.rt:75:13
 run-end-requires : tie.Need-run-end-requires Inv-loop μ-loop
 run-end-requires c κs = c .before .before .before .pre .0 .store .few
 
--- src/lib.rt:76:9
 start-after-requires : tie.Need-start-after-requires Inv-loop μ-loop
 start-after-requires c κs = (c .before .before .before .before .pre .0, (run-to (c .before .before .before .before .pre .0) (c .run-end .ensures) (c .before .loop-test .taken) (c .before .before .before .before .pre .1 .0 .inside) .0, c .before .before .loop .inv .1))
 
--- src/lib.rt:74:5
 loop-less : tie.Need-loop-less Inv-loop μ-loop
 loop-less c = let r = run-to (c .before .before .before .before .before .pre .0) (c .before .run-end .ensures) (c .before .before .loop-test .taken) (c .before .before .before .before .before .pre .1 .0 .inside) in omega (arith, r .0 .after, r .1)
 
--- src/lib.rt:74:5
 loop-again : tie.Need-loop-again Inv-loop μ-loop
 loop-again c = (run-to (c .before .before .before .before .before .pre .0) (c .before .run-end .ensures) (c .before .before .loop-test .taken) (c .before .before .before .before .before .pre .1 .0 .inside) .1, c .start-after .ensures)
 
--- src/lib.rt:59:1
 returns : tie.Need-returns Inv-loop μ-loop
 returns c = let e : c .before .loop .i ≡ c .before .before .before .args .to = omega arith in c .before .loop .inv .1 ∙ ap (startIn (c .before .before .before .args .tape .now)) e
 

@@ -9,23 +9,18 @@ use Rattle.strings.proofs.step_of.Reads as reads
 use Rattle.strings.proofs.step_of.Lts as lts
 use Rattle.strings.proofs.wide.Reads as wide-reads
 
--- src/lib.rt:90:5
 wide-requires : tie.Need-wide-requires
 wide-requires c κs = search needs
 
--- src/lib.rt:90:20
 add-result : tie.Need-add-result
 add-result c = search needs
 
--- src/lib.rt:90:5
 div-result : tie.Need-div-result
 div-result c = search needs
 
--- src/lib.rt:90:5
 add-result-2 : tie.Need-add-result-2
 add-result-2 c = let m = div-le-self (c .wide .result) (c .before .args .words + 1) in omega (arith, m, c .wide .ensures)
 
--- src/lib.rt:86:1
 returns : tie.Need-returns
 returns c = step-is (c .before .args .count) (c .before .args .words) (c .wide .result) (c .wide .ensures)
 

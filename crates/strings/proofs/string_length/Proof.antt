@@ -10,23 +10,18 @@ use Rattle.store.proofs.string_place.Reads as string-place-reads
 use Rattle.strings.proofs.wide.Reads as wide-reads
 use Rattle.wire.proofs.u32_at.Reads as u32-at-reads
 
--- src/lib.rt:21:9
 string-place-requires : tie.Need-string-place-requires
 string-place-requires c κs = search needs
 
--- src/lib.rt:22:29
 add-u32-at : tie.Need-add-u32-at
 add-u32-at c = omega (arith, length-inside (c .before .before .pre .0) (c .before .before .pre .1) (c .string-place .ensures))
 
--- src/lib.rt:22:10
 u32-at-requires : tie.Need-u32-at-requires
 u32-at-requires c κs = omega (arith, length-inside (c .before .before .pre .0) (c .before .before .pre .1) (c .string-place .ensures))
 
--- src/lib.rt:22:5
 wide-requires : tie.Need-wide-requires
 wide-requires c κs = search needs
 
--- src/lib.rt:16:1
 returns : tie.Need-returns
 returns c = length-word (c .before .before .before .before .pre .0) (c .before .before .before .before .pre .1) (c .before .before .string-place .ensures) (c .wide .ensures ∙ c .before .u32-at .ensures)
 

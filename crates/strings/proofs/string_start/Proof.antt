@@ -13,67 +13,51 @@ use Rattle.strings.proofs.start_from.Reads as start-from-reads
 use Rattle.strings.proofs.step_of.Reads as step-of-reads
 use Rattle.strings.proofs.wide.Reads as wide-reads
 
--- src/lib.rt:135:24
 count-of-requires : tie.Need-count-of-requires
 count-of-requires c κs = search needs
 
--- src/lib.rt:135:9
 step-of-requires : tie.Need-step-of-requires
 step-of-requires c κs = search needs
 
--- src/lib.rt:136:13
 wide-requires : tie.Need-wide-requires
 wide-requires c κs = search needs
 
--- src/lib.rt:136:13
 div-q : tie.Need-div-q
 div-q c = omega (arith, step-some (c .before .before .count-of .result) (length (c .before .before .before .before .before .args .words .now)), c .before .step-of .ensures)
 
--- src/lib.rt:138:9
 start-from-requires : tie.Need-start-from-requires
 start-from-requires c κs = search needs
 
--- src/lib.rt:138:9
 returns : tie.Need-returns
 returns c = span-start (lengthsIn (c .before .before .before .before .before .before .before .args .tape .now)) (c .before .before .before .before .before .before .before .args .id) (c .start-from .ensures)
 
--- src/lib.rt:140:23
 sub-start : tie.Need-sub-start
 sub-start c = search needs
 
--- src/lib.rt:140:17
 mul-start : tie.Need-mul-start
 mul-start c = let w = lookup-inside (c .before .before .before .before .before .before .pre .0 .store) (c .before .before .before .count-of .ensures) (c .before .before .before .before .before .before .pre .1 .0) (c .before .before .before .before .before .before .pre .1 .1) (c .before .before .step-of .ensures) (c .before .wide .ensures) (c .if1 .left) in omega (arith, w)
 
--- src/lib.rt:140:17
 shared-slice-read-start : tie.Need-shared-slice-read-start
 shared-slice-read-start c = lookup-inside (c .before .before .before .before .before .before .before .pre .0 .store) (c .before .before .before .before .count-of .ensures) (c .before .before .before .before .before .before .before .pre .1 .0) (c .before .before .before .before .before .before .before .pre .1 .1) (c .before .before .before .step-of .ensures) (c .before .before .wide .ensures) (c .before .if1 .left)
 
--- src/lib.rt:142:9
 start-from-requires-2 : tie.Need-start-from-requires-2
 start-from-requires-2 c κs = search needs
 
--- src/lib.rt:142:9
 returns-2 : tie.Need-returns-2
 returns-2 c = span-start (lengthsIn (c .before .before .before .before .before .before .before .before .before .args .tape .now)) (c .before .before .before .before .before .before .before .before .before .args .id) (c .start-from2 .ensures)
 
--- src/lib.rt:144:33
 mul-start-from : tie.Need-mul-start-from
 mul-start-from c = let b = lookup-between (c .before .before .before .before .before .before .before .before .pre .0 .store) (c .before .before .before .before .before .count-of .ensures) (c .before .before .before .before .before .before .before .before .pre .1 .0) (c .before .before .before .before .before .before .before .before .pre .1 .1) (c .before .before .before .before .step-of .ensures) (c .before .before .before .wide .ensures) in omega (arith, b .order)
 
--- src/lib.rt:144:32
 cast-start-from : tie.Need-cast-start-from
 cast-start-from c = let b = lookup-between (c .before .before .before .before .before .before .before .before .pre .0 .store) (c .before .before .before .before .before .count-of .ensures) (c .before .before .before .before .before .before .before .before .pre .1 .0) (c .before .before .before .before .before .before .before .before .pre .1 .1) (c .before .before .before .before .step-of .ensures) (c .before .before .before .wide .ensures) in omega (arith, b .order)
 
--- src/lib.rt:144:55
 wide-requires-2 : tie.Need-wide-requires-2
 wide-requires-2 c κs = search needs
 
--- src/lib.rt:144:5
 start-from-requires-3 : tie.Need-start-from-requires-3
 start-from-requires-3 c κs = (c .before .before .before .before .before .before .before .before .before .pre .0, (lookup-between (c .before .before .before .before .before .before .before .before .before .pre .0 .store) (c .before .before .before .before .before .before .count-of .ensures) (c .before .before .before .before .before .before .before .before .before .pre .1 .0) (c .before .before .before .before .before .before .before .before .before .pre .1 .1) (c .before .before .before .before .before .step-of .ensures) (c .before .before .before .before .wide .ensures), c .wide2 .ensures ∙ lookup-start (c .before .before .before .before .before .before .before .before .before .pre .0 .store) (c .before .before .before .before .before .before .count-of .ensures) (c .before .before .before .before .before .before .before .before .before .pre .1 .0) (c .before .before .before .before .before .before .before .before .before .pre .1 .1) (c .before .before .before .before .before .step-of .ensures) (c .before .before .before .before .wide .ensures) (c .before .before .before .if1 .left) refl (c .before .if2 .left)))
 
--- src/lib.rt:129:1
 returns-3 : tie.Need-returns-3
 returns-3 c = span-start (lengthsIn (c .before .before .before .before .before .before .before .before .before .before .args .tape .now)) (c .before .before .before .before .before .before .before .before .before .before .args .id) (c .start-from3 .ensures)
 

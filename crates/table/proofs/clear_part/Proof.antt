@@ -11,34 +11,27 @@ use Rattle.table.proofs.clear_part.Reads as reads
 use Rattle.table.proofs.clear_part.Lts as lts
 use Rattle.wire.proofs.zero_words.Reads as zero-words-reads
 
--- src/lib.rt:164:11
 mul-zero-words : tie.Need-mul-zero-words
 mul-zero-words c = search needs
 
--- src/lib.rt:164:11
 sub-zero-words : tie.Need-sub-zero-words
 sub-zero-words c = search needs
 
--- src/lib.rt:164:11
 part-zero-words-start : tie.Need-part-zero-words-start
 part-zero-words-start c = search needs
 
--- src/lib.rt:164:11
 part-zero-words-end : tie.Need-part-zero-words-end
 part-zero-words-end c = search needs
 
--- src/lib.rt:164:5
 zero-words-requires : tie.Need-zero-words-requires
 zero-words-requires c κs = search needs
 
--- src/lib.rt:160:1
 same-length : tie.Need-same-length
 same-length c = search needs
 
 together : (w last : List ℕ) (a e : ℕ) → a ≤ e → e ≤ length w → last ≡ replicate (length (take (e - a) (drop a w))) 0 → take a w ++ (last ++ drop (e - a) (drop a w)) ≡ take a w ++ (replicate (e - a) 0 ++ drop e w)
 together w last a e h k q = rw (q, length-part a e w h k, drop-part a e w h) refl
 
--- src/lib.rt:160:1
 returns : tie.Need-returns
 returns c = together (c .before .before .before .before .before .args .w .now) _ (c .before .before .before .before .before .args .a) (c .before .before .before .before .before .args .e) (c .before .before .before .before .before .pre .0) (c .before .before .before .before .before .pre .1) (c .before .before .zero-words .ensures)
 

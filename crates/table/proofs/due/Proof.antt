@@ -12,19 +12,15 @@ use Rattle.table.proofs.due.Tie as tie
 use Rattle.table.proofs.due.Reads as reads
 use Rattle.table.proofs.due.Lts as lts
 
--- src/lib.rt:319:9
 returns : tie.Need-returns
 returns c = sym (rw (eq-eqb _ _ (c .if1 .taken)) refl)
 
--- src/lib.rt:321:5
 mul-result : tie.Need-mul-result
 mul-result c = search needs
 
--- src/lib.rt:321:38
 mul-result-2 : tie.Need-mul-result-2
 mul-result-2 c = search needs
 
--- src/lib.rt:314:1
 returns-2 : tie.Need-returns-2
 returns-2 c = sym (rw (ne-eqb _ _ (c .if1 .left)) refl)
 

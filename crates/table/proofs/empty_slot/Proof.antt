@@ -18,39 +18,30 @@ Inv-loop table from n at₀ k₀ at k = (k ≤ n) × (n ≡ length table) × (at
 abbrev μ-loop : tie.MeasureT-loop
 μ-loop table from n at₀ k₀ at k = n - k
 
--- src/lib.rt:234:5
 loop-holds : tie.Need-loop-holds Inv-loop μ-loop
 loop-holds c = (omega arith, refl, c .before .pre, empty-first (c .before .args .table .now) _ _)
 
--- src/lib.rt:235:12
 mul-if1 : tie.Need-mul-if1 Inv-loop μ-loop
 mul-if1 c = search needs
 
--- src/lib.rt:235:12
 shared-slice-read-if1 : tie.Need-shared-slice-read-if1 Inv-loop μ-loop
 shared-slice-read-if1 c = search needs
 
--- src/lib.rt:236:13
 returns : tie.Need-returns Inv-loop μ-loop
 returns c = (sym (empty-here (c .before .before .before .before .before .args .table .now) _ _ _ (c .before .before .loop-test .taken) (c .if1 .taken)) ∙ c .before .before .before .loop .inv .3, c .before .before .before .loop .inv .2)
 
--- src/lib.rt:238:9
 next-slot-requires : tie.Need-next-slot-requires Inv-loop μ-loop
 next-slot-requires c κs = search needs
 
--- src/lib.rt:239:9
 add-k : tie.Need-add-k Inv-loop μ-loop
 add-k c = search needs
 
--- src/lib.rt:234:5
 loop-less : tie.Need-loop-less Inv-loop μ-loop
 loop-less c = search needs
 
--- src/lib.rt:234:5
 loop-again : tie.Need-loop-again Inv-loop μ-loop
 loop-again c = (omega arith, c .before .before .before .before .loop .inv .1, c .next-slot .ensures .1, empty-on (c .before .before .before .before .before .before .args .table .now) _ _ _ (c .before .before .before .loop-test .taken) (c .next-slot .ensures .0) (c .before .if1 .left) ∙ c .before .before .before .before .loop .inv .3)
 
--- src/lib.rt:227:1
 returns-2 : tie.Need-returns-2 Inv-loop μ-loop
 returns-2 c = (sym (empty-none (c .before .before .before .args .table .now) _ _ _ (c .loop-test .left)) ∙ c .before .loop .inv .3, c .before .loop .inv .2)
 

@@ -15,27 +15,21 @@ use Rattle.table.proofs.grow.Lts as lts
 use Rattle.table.proofs.clear_part.Reads as clear-part-reads
 use Rattle.table.proofs.move_slots.Reads as move-slots-reads
 
--- src/lib.rt:308:16
 mul-from : tie.Need-mul-from
 mul-from c = search needs
 
--- src/lib.rt:308:16
 sub-from : tie.Need-sub-from
 sub-from c = search needs
 
--- src/lib.rt:309:35
 mul-clear-part : tie.Need-mul-clear-part
 mul-clear-part c = search needs
 
--- src/lib.rt:309:28
 add-clear-part : tie.Need-add-clear-part
 add-clear-part c = search needs
 
--- src/lib.rt:309:5
 clear-part-requires : tie.Need-clear-part-requires
 clear-part-requires c κs = search needs
 
--- src/lib.rt:310:5
 move-slots-requires : tie.Need-move-slots-requires
 move-slots-requires c κs = (
   record {
@@ -46,11 +40,9 @@ move-slots-requires c κs = (
   (c .before .before .before .before .before .before .before .pre .1 .0, subst (λ (l : List ℕ). Entries l (c .before .before .before .before .before .before .before .args .count + 1)) (sym (new-old (c .before .before .before .before .before .before .before .args .work .now) (c .before .before .before .before .before .before .before .args .n) (c .before .before .before .before .before .before .before .pre .1 .0 .0) (c .before .before .before .before .before .before .before .pre .1 .0 .1) (c .before .before .before .before .before .before .before .pre .0 .room) _ (c .before .before .before .clear-part .ensures))) (c .before .before .before .before .before .before .before .pre .1 .1)),
 )
 
--- src/lib.rt:301:1
 same-length : tie.Need-same-length
 same-length c = search needs
 
--- src/lib.rt:301:1
 returns : tie.Need-returns
 returns c = (
   grown (c .before .before .before .before .before .before .before .before .before .before .args .strs .now) (c .before .before .before .before .before .before .before .before .before .before .args .work .now) _ _ (c .before .before .before .before .before .before .before .before .before .before .args .count) (c .before .before .before .before .before .before .before .before .before .before .args .n) (new-old (c .before .before .before .before .before .before .before .before .before .before .args .work .now) (c .before .before .before .before .before .before .before .before .before .before .args .n) (c .before .before .before .before .before .before .before .before .before .before .pre .1 .0 .0) (c .before .before .before .before .before .before .before .before .before .before .pre .1 .0 .1) (c .before .before .before .before .before .before .before .before .before .before .pre .0 .room) _ (c .before .before .before .before .before .before .clear-part .ensures)) (new-high (c .before .before .before .before .before .before .before .before .before .before .args .work .now) (c .before .before .before .before .before .before .before .before .before .before .args .n) (c .before .before .before .before .before .before .before .before .before .before .pre .1 .0 .0) (c .before .before .before .before .before .before .before .before .before .before .pre .1 .0 .1) (c .before .before .before .before .before .before .before .before .before .before .pre .0 .room) _ (c .before .before .before .before .before .before .clear-part .ensures)) (new-table (c .before .before .before .before .before .before .before .before .before .before .args .work .now) (c .before .before .before .before .before .before .before .before .before .before .args .n) (c .before .before .before .before .before .before .before .before .before .before .pre .1 .0 .0) (c .before .before .before .before .before .before .before .before .before .before .pre .1 .0 .1) (c .before .before .before .before .before .before .before .before .before .before .pre .0 .room) _ (c .before .before .before .before .before .before .clear-part .ensures)) (c .before .before .move-slots .ensures .0),

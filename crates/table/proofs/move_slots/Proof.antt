@@ -21,31 +21,24 @@ Inv-loop work₀ strs count n off i₀ work i = Moved strs work₀ count n work 
 abbrev μ-loop : tie.MeasureT-loop
 μ-loop work₀ strs count n off i₀ work i = n - i
 
--- src/lib.rt:175:15
 sub-off : tie.Need-sub-off Inv-loop μ-loop
 sub-off c = search needs
 
--- src/lib.rt:177:5
 loop-holds : tie.Need-loop-holds Inv-loop μ-loop
 loop-holds c = moved-first _ _ _ _
 
--- src/lib.rt:178:22
 add-e : tie.Need-add-e Inv-loop μ-loop
 add-e c = search needs
 
--- src/lib.rt:178:17
 mul-e : tie.Need-mul-e Inv-loop μ-loop
 mul-e c = search needs
 
--- src/lib.rt:178:17
 slice-read-e : tie.Need-slice-read-e Inv-loop μ-loop
 slice-read-e c = search needs
 
--- src/lib.rt:180:38
 mul-place : tie.Need-mul-place Inv-loop μ-loop
 mul-place c = search needs
 
--- src/lib.rt:180:13
 place-requires : tie.Need-place-requires Inv-loop μ-loop
 place-requires c κs =
     let old = c .before .before .before .before .before .before .before .pre .1 .1 (c .before .before .before .before .loop .i) (in-old (c .before .before .before .before .before .before .before .args .strs .now) (c .before .before .before .before .before .before .before .args .work .now) (c .before .before .before .before .before .before .before .args .count) (c .before .before .before .before .before .before .before .args .n) (c .before .before .before .before .before .before .before .pre .1 .0 .0) (c .before .before .before .before .before .before .before .pre .1 .0 .1) (c .before .before .before .before .before .before .before .pre .0 .room) (c .before .before .before .before .loop .work) (c .before .before .before .before .loop .i) (c .before .before .before .before .loop .inv) (c .before .before .before .loop-test .taken)) in
@@ -53,15 +46,12 @@ place-requires c κs =
     let ne = c .before .if1 .taken in
     (moved-work (c .before .before .before .before .before .before .before .args .strs .now) (c .before .before .before .before .before .before .before .args .work .now) (c .before .before .before .before .before .before .before .args .count) (c .before .before .before .before .before .before .before .args .n) (c .before .before .before .before .before .before .before .pre .1 .0 .0) (c .before .before .before .before .before .before .before .pre .1 .0 .1) (c .before .before .before .before .before .before .before .pre .0 .room) (c .before .before .before .before .loop .work) (c .before .before .before .before .loop .i) (c .before .before .before .before .loop .inv) (c .before .before .before .before .before .before .before .pre .0), (omega arith, omega (arith, old, same)))
 
--- src/lib.rt:182:9
 add-i : tie.Need-add-i Inv-loop μ-loop
 add-i c = search needs
 
--- src/lib.rt:177:5
 loop-less : tie.Need-loop-less Inv-loop μ-loop
 loop-less c = search needs
 
--- src/lib.rt:177:5
 loop-again : tie.Need-loop-again Inv-loop μ-loop
 loop-again c =
     ⊎-elim
@@ -71,11 +61,9 @@ loop-again c =
     (λ w. subst (λ (l : List ℕ). Moved (c .before .before .before .before .before .before .args .strs .now) (c .before .before .before .before .before .before .args .work .now) (c .before .before .before .before .before .before .args .count) (c .before .before .before .before .before .before .args .n) l (c .before .before .before .loop .i + 1)) (sym (w .1)) (moved-skip (c .before .before .before .before .before .before .args .strs .now) (c .before .before .before .before .before .before .args .work .now) (c .before .before .before .before .before .before .args .count) (c .before .before .before .before .before .before .args .n) (c .before .before .before .before .before .before .pre .1 .0 .0) (c .before .before .before .before .before .before .pre .1 .0 .1) (c .before .before .before .before .before .before .pre .0 .room) (c .before .before .before .loop .work) (c .before .before .before .loop .i) (c .before .before .before .loop .inv) (c .before .before .loop-test .taken) (w .0 .left)))
     (c .if1 .came)
 
--- src/lib.rt:168:1
 same-length : tie.Need-same-length Inv-loop μ-loop
 same-length c = search needs
 
--- src/lib.rt:168:1
 returns : tie.Need-returns Inv-loop μ-loop
 returns c = (moved-last (c .before .before .before .before .args .strs .now) (c .before .before .before .before .args .work .now) (c .before .before .before .before .args .count) (c .before .before .before .before .args .n) (c .before .before .before .before .pre .1 .0 .0) (c .before .before .before .before .pre .1 .0 .1) (c .before .before .before .before .pre .0 .room) (c .before .loop .work) (c .before .loop .i) (c .before .loop .inv) (c .loop-test .left), c .before .loop .inv .high)
 

@@ -10,19 +10,15 @@ use Rattle.table.proofs.next_slot.Tie as tie
 use Rattle.table.proofs.next_slot.Reads as reads
 use Rattle.table.proofs.next_slot.Lts as lts
 
--- src/lib.rt:179:8
 add-if1 : tie.Need-add-if1
 add-if1 c = search needs
 
--- src/lib.rt:179:33
 add-result : tie.Need-add-result
 add-result c = search needs
 
--- src/lib.rt:175:1
 returns : tie.Need-returns
 returns c = (next-round _ _ (c .if1 .taken), omega arith)
 
--- src/lib.rt:175:1
 returns-2 : tie.Need-returns-2
 returns-2 c = (let ne = c .if1 .left in (next-in _ _ (omega arith), omega arith))
 

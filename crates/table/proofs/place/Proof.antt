@@ -18,91 +18,69 @@ use Rattle.hash.proofs.fx_hash.Reads as fx-hash-reads
 use Rattle.table.proofs.string_at.Reads as string-at-reads
 use Rattle.table.proofs.slot_of.Reads as slot-of-reads
 
--- src/lib.rt:273:15
 sub-off : tie.Need-sub-off
 sub-off c = search needs
 
--- src/lib.rt:274:15
 add-end : tie.Need-add-end
 add-end c = search needs
 
--- src/lib.rt:275:16
 mul-last : tie.Need-mul-last
 mul-last c = search needs
 
--- src/lib.rt:275:16
 add-last : tie.Need-add-last
 add-last c = search needs
 
--- src/lib.rt:275:16
 add-last-2 : tie.Need-add-last-2
 add-last-2 c = search needs
 
--- src/lib.rt:276:37
 sub-string-at : tie.Need-sub-string-at
 sub-string-at c = search needs
 
--- src/lib.rt:276:37
 part-string-at-start : tie.Need-part-string-at-start
 part-string-at-start c = search needs
 
--- src/lib.rt:276:37
 part-string-at-end : tie.Need-part-string-at-end
 part-string-at-end c = search needs
 
--- src/lib.rt:276:62
 sub-string-at-2 : tie.Need-sub-string-at-2
 sub-string-at-2 c = search needs
 
--- src/lib.rt:276:29
 string-at-requires : tie.Need-string-at-requires
 string-at-requires c κs = (c .before .before .before .before .pre .0 .starts, omega (arith, starts-length (c .before .before .before .before .args .work .now) (length (c .before .before .before .before .args .strs .now)) (c .before .before .before .before .args .count) (c .before .before .before .before .pre .0), c .before .before .before .before .pre .1 .1))
 
--- src/lib.rt:276:21
 fx-hash-requires : tie.Need-fx-hash-requires
 fx-hash-requires c κs = search needs
 
--- src/lib.rt:276:9
 slot-of-requires : tie.Need-slot-of-requires
 slot-of-requires c κs = search needs
 
--- src/lib.rt:277:24
 mul-empty-slot : tie.Need-mul-empty-slot
 mul-empty-slot c = search needs
 
--- src/lib.rt:277:24
 sub-empty-slot : tie.Need-sub-empty-slot
 sub-empty-slot c = search needs
 
--- src/lib.rt:277:24
 part-empty-slot-start : tie.Need-part-empty-slot-start
 part-empty-slot-start c = search needs
 
--- src/lib.rt:277:24
 part-empty-slot-end : tie.Need-part-empty-slot-end
 part-empty-slot-end c = search needs
 
--- src/lib.rt:277:9
 empty-slot-requires : tie.Need-empty-slot-requires
 empty-slot-requires c κs = search needs
 
--- src/lib.rt:278:10
 add-work : tie.Need-add-work
 add-work c = search needs
 
--- src/lib.rt:278:5
 mul-work : tie.Need-mul-work
 mul-work c = search needs
 
--- src/lib.rt:278:5
 slice-write-work : tie.Need-slice-write-work
 slice-write-work c = search needs
 
--- src/lib.rt:266:1
 same-length : tie.Need-same-length
 same-length c = search needs
 
--- src/lib.rt:266:1
 returns : tie.Need-returns
 returns c =
     let len = table-length (c .before .before .before .before .before .before .before .before .before .before .args .n) (c .before .before .before .before .before .before .before .before .before .before .args .work .now) (c .before .before .before .before .before .before .before .before .before .before .pre .1 .0 .0) (c .before .before .before .before .before .before .before .before .before .before .pre .1 .0 .1) (c .before .before .before .before .before .before .before .before .before .before .pre .0 .room) in

@@ -22,55 +22,42 @@ Inv-loop table starts strs s from n at₀ steps₀ at steps = (steps ≤ n) × (
 abbrev μ-loop : tie.MeasureT-loop
 μ-loop table starts strs s from n at₀ steps₀ at steps = n - steps
 
--- src/lib.rt:200:5
 loop-holds : tie.Need-loop-holds Inv-loop μ-loop
 loop-holds c = (omega arith, refl, c .before .before .before .before .pre .0, turn-first (stringsOf (wideWords (c .before .before .before .before .args .starts .now)) (c .before .before .before .before .args .strs .now)) (c .before .before .before .before .args .s .now) (c .before .before .before .before .args .table .now) _ _)
 
--- src/lib.rt:201:17
 mul-e : tie.Need-mul-e Inv-loop μ-loop
 mul-e c = search needs
 
--- src/lib.rt:201:17
 shared-slice-read-e : tie.Need-shared-slice-read-e Inv-loop μ-loop
 shared-slice-read-e c = search needs
 
--- src/lib.rt:202:9
 add-steps : tie.Need-add-steps Inv-loop μ-loop
 add-steps c = search needs
 
--- src/lib.rt:204:13
 returns : tie.Need-returns Inv-loop μ-loop
 returns c = sym (turn-empty (stringsOf (wideWords (c .before .before .before .before .before .before .before .before .args .starts .now)) (c .before .before .before .before .before .before .before .before .args .strs .now)) (c .before .before .before .before .before .before .before .before .args .s .now) (c .before .before .before .before .before .before .before .before .args .table .now) _ _ _ (c .before .before .loop-test .taken) (c .if1 .taken)) ∙ c .before .before .before .loop .inv .3
 
--- src/lib.rt:210:45
 sub-string-at : tie.Need-sub-string-at Inv-loop μ-loop
 sub-string-at c = search needs
 
--- src/lib.rt:210:23
 string-at-requires : tie.Need-string-at-requires Inv-loop μ-loop
 string-at-requires c κs = (c .before .before .before .before .before .before .before .before .pre .1 .0, omega (arith, c .before .before .before .before .before .before .before .before .pre .1 .1 (c .before .before .before .loop .at) (omega arith)))
 
--- src/lib.rt:210:12
 same-requires : tie.Need-same-requires Inv-loop μ-loop
 same-requires c κs = search needs
 
--- src/lib.rt:211:13
 returns-2 : tie.Need-returns-2 Inv-loop μ-loop
 returns-2 c = sym (turn-hit (stringsOf (wideWords (c .before .before .before .before .before .before .before .before .before .before .before .args .starts .now)) (c .before .before .before .before .before .before .before .before .before .before .before .args .strs .now)) (c .before .before .before .before .before .before .before .before .before .before .before .args .s .now) (c .before .before .before .before .before .before .before .before .before .before .before .args .table .now) _ _ _ (c .before .before .before .before .before .loop-test .taken) (c .before .before .before .if1 .left) (ap (λ (l : List ℕ). same l (c .before .before .before .before .before .before .before .before .before .before .before .args .s .now)) (sym (c .before .before .string-at .ensures)) ∙ sym (c .before .same .ensures) ∙ c .if2 .taken)) ∙ c .before .before .before .before .before .before .loop .inv .3
 
--- src/lib.rt:217:9
 next-slot-requires : tie.Need-next-slot-requires Inv-loop μ-loop
 next-slot-requires c κs = search needs
 
--- src/lib.rt:200:5
 loop-less : tie.Need-loop-less Inv-loop μ-loop
 loop-less c = search needs
 
--- src/lib.rt:200:5
 loop-again : tie.Need-loop-again Inv-loop μ-loop
 loop-again c = (omega arith, c .before .before .before .before .before .before .before .loop .inv .1, c .next-slot .ensures .1, turn-on (stringsOf (wideWords (c .before .before .before .before .before .before .before .before .before .before .before .before .args .starts .now)) (c .before .before .before .before .before .before .before .before .before .before .before .before .args .strs .now)) (c .before .before .before .before .before .before .before .before .before .before .before .before .args .s .now) (c .before .before .before .before .before .before .before .before .before .before .before .before .args .table .now) _ _ _ (c .before .before .before .before .before .before .loop-test .taken) (c .next-slot .ensures .0) (c .before .before .before .before .if1 .left) (ap (λ (l : List ℕ). same l (c .before .before .before .before .before .before .before .before .before .before .before .before .args .s .now)) (sym (c .before .before .before .string-at .ensures)) ∙ sym (c .before .before .same .ensures) ∙ c .before .if2 .left) ∙ c .before .before .before .before .before .before .before .loop .inv .3)
 
--- src/lib.rt:191:1
 returns-3 : tie.Need-returns-3 Inv-loop μ-loop
 returns-3 c = sym (turn-none (stringsOf (wideWords (c .before .before .before .before .before .before .args .starts .now)) (c .before .before .before .before .before .before .args .strs .now)) (c .before .before .before .before .before .before .args .s .now) (c .before .before .before .before .before .before .args .table .now) _ _ _ (c .loop-test .left)) ∙ c .before .loop .inv .3
 

@@ -10,47 +10,36 @@ use Rattle.table.proofs.put_start.Tie as tie
 use Rattle.table.proofs.put_start.Reads as reads
 use Rattle.table.proofs.put_start.Lts as lts
 
--- src/lib.rt:56:23
 mul-at : tie.Need-mul-at
 mul-at c = search needs
 
--- src/lib.rt:56:14
 add-at : tie.Need-add-at
 add-at c = search needs
 
--- src/lib.rt:57:16
 cast-work : tie.Need-cast-work
 cast-work c = search needs
 
--- src/lib.rt:57:5
 mul-work : tie.Need-mul-work
 mul-work c = search needs
 
--- src/lib.rt:57:5
 slice-write-work : tie.Need-slice-write-work
 slice-write-work c = search needs
 
--- src/lib.rt:58:20
 cast-work-2 : tie.Need-cast-work-2
 cast-work-2 c = search needs
 
--- src/lib.rt:58:10
 add-work : tie.Need-add-work
 add-work c = search needs
 
--- src/lib.rt:58:5
 mul-work-2 : tie.Need-mul-work-2
 mul-work-2 c = search needs
 
--- src/lib.rt:58:5
 slice-write-work-2 : tie.Need-slice-write-work-2
 slice-write-work-2 c = search needs
 
--- src/lib.rt:52:1
 same-length : tie.Need-same-length
 same-length c = search needs
 
--- src/lib.rt:52:1
 returns : tie.Need-returns
 unfolding withStart
 returns c = refl

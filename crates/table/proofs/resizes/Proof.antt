@@ -10,15 +10,12 @@ use Rattle.table.proofs.resizes.Reads as reads
 use Rattle.table.proofs.resizes.Lts as lts
 use Rattle.table.proofs.due.Reads as due-reads
 
--- src/lib.rt:329:8
 due-requires : tie.Need-due-requires
 due-requires c κs = search needs
 
--- src/lib.rt:325:1
 returns : tie.Need-returns
 returns c = rw (sym (c .before .due .ensures) ∙ c .if1 .taken) refl
 
--- src/lib.rt:325:1
 returns-2 : tie.Need-returns-2
 returns-2 c = rw (sym (c .before .due .ensures) ∙ c .if1 .left) refl
 

@@ -10,11 +10,9 @@ use Rattle.table.proofs.slot_of.Tie as tie
 use Rattle.table.proofs.slot_of.Reads as reads
 use Rattle.table.proofs.slot_of.Lts as lts
 
--- src/lib.rt:187:5
 rem-result : tie.Need-rem-result
 rem-result c = search needs
 
--- src/lib.rt:183:1
 returns : tie.Need-returns
 returns c = (refl, mod-lt _ (c .pre))
 

@@ -13,43 +13,33 @@ use Rattle.table.proofs.string_at.Lts as lts
 use Rattle.table.proofs.wide.Reads as wide-reads
 use Rattle.table.proofs.wide_at.Reads as wide-at-reads
 
--- src/lib.rt:73:9
 wide-requires : tie.Need-wide-requires
 wide-requires c κs = search needs
 
--- src/lib.rt:74:29
 mul-wide-at : tie.Need-mul-wide-at
 mul-wide-at c = search needs
 
--- src/lib.rt:74:9
 wide-at-requires : tie.Need-wide-at-requires
 wide-at-requires c κs = omega (arith, c .wide .ensures, wide-inside (c .before .before .before .args .starts .now) (c .before .before .before .args .id) (omega (arith, c .before .before .before .pre .1)))
 
--- src/lib.rt:75:34
 add-wide-at : tie.Need-add-wide-at
 add-wide-at c = search needs
 
--- src/lib.rt:75:29
 mul-wide-at-2 : tie.Need-mul-wide-at-2
 mul-wide-at-2 c = search needs
 
--- src/lib.rt:75:9
 wide-at-requires-2 : tie.Need-wide-at-requires-2
 wide-at-requires-2 c κs = omega (arith, c .before .wide .ensures, wide-inside (c .before .before .before .before .args .starts .now) (c .before .before .before .before .args .id + 1) (c .before .before .before .before .pre .1))
 
--- src/lib.rt:76:5
 sub-result : tie.Need-sub-result
 sub-result c = omega (arith, part-bounds (c .before .before .before .before .before .args .starts .now) (c .before .before .before .before .before .args .strs .now) (c .before .before .wide .ensures) (c .before .wide-at .ensures) (c .wide-at2 .ensures) (c .before .before .before .before .before .pre .1) (c .before .before .before .before .before .pre .0))
 
--- src/lib.rt:76:5
 part-result-start : tie.Need-part-result-start
 part-result-start c = omega (arith, part-bounds (c .before .before .before .before .before .args .starts .now) (c .before .before .before .before .before .args .strs .now) (c .before .before .wide .ensures) (c .before .wide-at .ensures) (c .wide-at2 .ensures) (c .before .before .before .before .before .pre .1) (c .before .before .before .before .before .pre .0))
 
--- src/lib.rt:76:5
 part-result-end : tie.Need-part-result-end
 part-result-end c = omega (arith, part-bounds (c .before .before .before .before .before .args .starts .now) (c .before .before .before .before .before .args .strs .now) (c .before .before .wide .ensures) (c .before .wide-at .ensures) (c .wide-at2 .ensures) (c .before .before .before .before .before .pre .1) (c .before .before .before .before .before .pre .0))
 
--- src/lib.rt:68:1
 returns : tie.Need-returns
 returns c = part-is (c .before .before .before .before .before .before .args .starts .now) (c .before .before .before .before .before .before .args .strs .now) (c .before .before .before .wide .ensures) (c .before .before .wide-at .ensures) (c .before .wide-at2 .ensures) (c .before .before .before .before .before .before .pre .1)
 

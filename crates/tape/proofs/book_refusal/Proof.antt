@@ -8,27 +8,21 @@ use Rattle.tape.proofs.places_refusal.Reads as places-refusal-reads
 use Rattle.tape.proofs.pools_refusal.Reads as pools-refusal-reads
 use Rattle.tape.proofs.texts_refusal.Reads as texts-refusal-reads
 
--- src/lib.rt:111:9
 texts-refusal-requires : tie.Need-texts-refusal-requires
 texts-refusal-requires c κs = search needs
 
--- src/lib.rt:113:9
 returns : tie.Need-returns
 returns c = book-texts _ (c .before .texts-refusal .ensures) (c .if1 .taken)
 
--- src/lib.rt:115:9
 pools-refusal-requires : tie.Need-pools-refusal-requires
 pools-refusal-requires c κs = laid-pools (c .before .before .before .before .pre) (texts-limits _ (c .before .texts-refusal .ensures) (c .if1 .left))
 
--- src/lib.rt:117:9
 returns-2 : tie.Need-returns-2
 returns-2 c = book-pools _ (c .before .before .before .texts-refusal .ensures) (c .before .before .if1 .left) (c .before .pools-refusal .ensures _) (c .if2 .taken)
 
--- src/lib.rt:119:5
 places-refusal-requires : tie.Need-places-refusal-requires
 places-refusal-requires c κs = laid-places (c .before .before .before .before .before .before .pre)
 
--- src/lib.rt:107:1
 returns-3 : tie.Need-returns-3
 returns-3 c = book-places _ (c .before .before .before .before .texts-refusal .ensures) (c .before .before .before .if1 .left) (c .before .before .pools-refusal .ensures _) (c .before .if2 .left) (c .places-refusal .ensures _ (c .before .before .before .before .before .before .before .pre .framing))
 

@@ -8,19 +8,15 @@ use Rattle.tape.proofs.check_book.Lts as lts
 use Rattle.layout.proofs.layout.Reads as layout-reads
 use Rattle.tape.proofs.book_refusal.Reads as book-refusal-reads
 
--- src/lib.rt:126:9
 layout-requires : tie.Need-layout-requires
 layout-requires c κs = search needs
 
--- src/lib.rt:128:9
 returns : tie.Need-returns
 returns c = book-none _ _ (layout-refused _ _ (c .before .layout .ensures) (c .if1 .taken))
 
--- src/lib.rt:130:5
 book-refusal-requires : tie.Need-book-refusal-requires
 book-refusal-requires c κs = layout-laid _ _ (c .before .layout .ensures) (c .if1 .left)
 
--- src/lib.rt:123:1
 returns-2 : tie.Need-returns-2
 returns-2 c = book-some _ _ _ (layout-laid _ _ (c .before .before .layout .ensures) (c .before .if1 .left) .book) (c .book-refusal .ensures)
 

@@ -8,23 +8,18 @@ use Rattle.tape.proofs.check_reading.Lts as lts
 use Rattle.layout.proofs.layout.Reads as layout-reads
 use Rattle.tape.proofs.book_refusal.Reads as book-refusal-reads
 
--- src/lib.rt:137:9
 layout-requires : tie.Need-layout-requires
 layout-requires c κs = search needs
 
--- src/lib.rt:139:9
 returns : tie.Need-returns
 returns c = reading-none _ _ (layout-refused _ _ (c .before .layout .ensures) (c .if1 .taken))
 
--- src/lib.rt:142:9
 returns-2 : tie.Need-returns-2
 returns-2 c = let l = layout-laid _ _ (c .before .before .before .layout .ensures) (c .before .before .if1 .left) in reading-layers _ _ _ (l .book) (laid-other l (c .if2 .taken))
 
--- src/lib.rt:144:5
 book-refusal-requires : tie.Need-book-refusal-requires
 book-refusal-requires c κs = layout-laid _ _ (c .before .before .before .layout .ensures) (c .before .before .if1 .left)
 
--- src/lib.rt:134:1
 returns-3 : tie.Need-returns-3
 returns-3 c = let l = layout-laid _ _ (c .before .before .before .before .layout .ensures) (c .before .before .before .if1 .left) in reading-one _ _ _ (l .book) (laid-one l (c .before .if2 .left)) (c .book-refusal .ensures)
 

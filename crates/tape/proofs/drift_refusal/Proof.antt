@@ -6,28 +6,22 @@ use Rattle.tape.proofs.drift_refusal.Reads as reads
 use Rattle.tape.proofs.drift_refusal.Lts as lts
 use Rattle.tape.proofs.lengths_agree.Reads as lengths-agree-reads
 
--- src/lib.rt:34:13
 enum-told : tie.Need-enum-told
 enum-told c = search needs
 
--- src/lib.rt:34:13
 returns : tie.Need-returns
 unfolding driftNumber
 returns c = search needs
 
--- src/lib.rt:36:31
 enum-known-d : tie.Need-enum-known-d
 enum-known-d c = search needs
 
--- src/lib.rt:37:16
 lengths-agree-requires : tie.Need-lengths-agree-requires
 lengths-agree-requires c κs = search needs
 
--- src/lib.rt:38:17
 returns-2 : tie.Need-returns-2
 returns-2 c = drift-none _ _ _ (c .before .before .before .d .given .1) (c .before .lengths-agree .ensures) (c .if1 .taken)
 
--- src/lib.rt:40:13
 returns-3 : tie.Need-returns-3
 returns-3 c = drift-seven _ _ _ (c .before .before .before .d .given .1) (c .before .lengths-agree .ensures) (c .if1 .left)
 

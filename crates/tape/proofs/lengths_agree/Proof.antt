@@ -5,31 +5,24 @@ use Rattle.tape.proofs.lengths_agree.Tie as tie
 use Rattle.tape.proofs.lengths_agree.Reads as reads
 use Rattle.tape.proofs.lengths_agree.Lts as lts
 
--- src/lib.rt:18:13
 returns : tie.Need-returns
 returns c = shorter-no _ _ _ _ (c .before .if1 .taken) (c .if2 .taken)
 
--- src/lib.rt:20:35
 sub-result : tie.Need-sub-result
 sub-result c = search needs
 
--- src/lib.rt:20:34
 cast-result : tie.Need-cast-result
 cast-result c = search needs
 
--- src/lib.rt:20:9
 returns-2 : tie.Need-returns-2
 returns-2 c = shorter _ _ _ _ (c .before .if1 .taken) (c .if2 .left)
 
--- src/lib.rt:23:9
 returns-3 : tie.Need-returns-3
 returns-3 c = longer-no _ _ _ _ (c .before .if1 .left) (c .if3 .taken)
 
--- src/lib.rt:25:23
 cast-result-2 : tie.Need-cast-result-2
 cast-result-2 c = search needs
 
--- src/lib.rt:13:1
 returns-4 : tie.Need-returns-4
 returns-4 c = longer _ _ _ _ (c .before .if1 .left) (c .if3 .left)
 

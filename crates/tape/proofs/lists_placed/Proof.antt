@@ -9,39 +9,30 @@ use Rattle.bounds.proofs.containers_placed.Reads as containers-placed-reads
 use Rattle.bounds.proofs.diagnostics_placed.Reads as diagnostics-placed-reads
 use Rattle.bounds.proofs.pairs_placed.Reads as pairs-placed-reads
 
--- src/lib.rt:50:63
 cast-pairs-placed : tie.Need-cast-pairs-placed
 cast-pairs-placed c = search needs
 
--- src/lib.rt:50:9
 pairs-placed-requires : tie.Need-pairs-placed-requires
 pairs-placed-requires c κs = fit-pairs (c .before .before .pre)
 
--- src/lib.rt:51:9
 returns : tie.Need-returns
 returns c = pairs-bad _ _ (c .before .pairs-placed .ensures) (not-true _ (c .if1 .taken))
 
--- src/lib.rt:53:78
 cast-containers-placed : tie.Need-cast-containers-placed
 cast-containers-placed c = search needs
 
--- src/lib.rt:53:9
 containers-placed-requires : tie.Need-containers-placed-requires
 containers-placed-requires c κs = fit-containers (c .before .before .before .before .before .pre)
 
--- src/lib.rt:54:9
 returns-2 : tie.Need-returns-2
 returns-2 c = containers-bad _ _ (c .before .before .before .before .pairs-placed .ensures) (c .before .containers-placed .ensures) (not-true _ (c .if2 .taken))
 
--- src/lib.rt:56:77
 cast-diagnostics-placed : tie.Need-cast-diagnostics-placed
 cast-diagnostics-placed c = search needs
 
--- src/lib.rt:56:5
 diagnostics-placed-requires : tie.Need-diagnostics-placed-requires
 diagnostics-placed-requires c κs = fit-diagnostics (c .before .before .before .before .before .before .before .before .pre)
 
--- src/lib.rt:46:1
 returns-3 : tie.Need-returns-3
 returns-3 c = lists-end _ _ (c .before .before .before .before .before .before .pairs-placed .ensures) (c .before .before .before .containers-placed .ensures) (not-false _ (c .before .before .before .before .before .if1 .left)) (not-false _ (c .before .before .if2 .left)) (c .diagnostics-placed .ensures)
 

@@ -9,27 +9,21 @@ use Rattle.bounds.proofs.nodes_placed.Reads as nodes-placed-reads
 use Rattle.tape.proofs.drift_refusal.Reads as drift-refusal-reads
 use Rattle.tape.proofs.lists_placed.Reads as lists-placed-reads
 
--- src/lib.rt:64:9
 lists-placed-requires : tie.Need-lists-placed-requires
 lists-placed-requires c κs = search needs
 
--- src/lib.rt:65:9
 returns : tie.Need-returns
 returns c = λ d f. places-six _ d f (c .before .before .before .pre .is) (c .before .lists-placed .ensures) (not-true _ (c .if1 .taken))
 
--- src/lib.rt:67:67
 cast-nodes-placed : tie.Need-cast-nodes-placed
 cast-nodes-placed c = search needs
 
--- src/lib.rt:67:9
 nodes-placed-requires : tie.Need-nodes-placed-requires
 nodes-placed-requires c κs = fit-nodes (c .before .before .before .before .pre)
 
--- src/lib.rt:68:5
 drift-refusal-requires : tie.Need-drift-refusal-requires
 drift-refusal-requires c κs = search needs
 
--- src/lib.rt:60:1
 returns-2 : tie.Need-returns-2
 returns-2 c = λ d f. places-drift _ d f (c .before .before .before .before .before .before .pre .is) (c .before .before .before .before .lists-placed .ensures) (not-false _ (c .before .before .before .if1 .left)) _ (c .before .nodes-placed .ensures) (c .drift-refusal .ensures)
 

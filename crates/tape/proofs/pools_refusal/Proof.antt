@@ -9,27 +9,21 @@ use Rattle.ids.proofs.ids_ok.Reads as ids-ok-reads
 use Rattle.levels.proofs.levels_ok.Reads as levels-ok-reads
 use Rattle.store.proofs.store_of.Reads as store-of-reads
 
--- src/lib.rt:36:9
 store-of-requires : tie.Need-store-of-requires
 store-of-requires c κs = c .before .pre .1
 
--- src/lib.rt:37:9
 ids-ok-requires : tie.Need-ids-ok-requires
 ids-ok-requires c κs = pools-ids (c .before .before .pre .0) (c .before .before .pre .1) (c .store-of .ensures)
 
--- src/lib.rt:38:9
 returns : tie.Need-returns
 returns c = λ d. pools-four _ (sym (c .before .ids-ok .ensures d) ∙ not-true _ (c .if1 .taken))
 
--- src/lib.rt:40:9
 levels-ok-requires : tie.Need-levels-ok-requires
 levels-ok-requires c κs = (pools-levels (c .before .before .before .before .pre .0) (c .before .before .before .before .pre .1) (c .before .before .store-of .ensures), c .before .before .before .before .pre .1 .count)
 
--- src/lib.rt:41:9
 returns-2 : tie.Need-returns-2
 returns-2 c = λ d. pools-five _ (sym (c .before .before .before .ids-ok .ensures d) ∙ not-false _ (c .before .before .if1 .left)) (levels-pass _ _ (c .before .before .before .before .store-of .ensures) (c .before .before .before .ids-ok .ensures) (not-false _ (c .before .before .if1 .left)) (c .before .levels-ok .ensures) d ∙ not-true _ (c .if2 .taken))
 
--- src/lib.rt:32:1
 returns-3 : tie.Need-returns-3
 returns-3 c = λ d. pools-pass _ (sym (c .before .before .before .ids-ok .ensures d) ∙ not-false _ (c .before .before .if1 .left)) (levels-pass _ _ (c .before .before .before .before .store-of .ensures) (c .before .before .before .ids-ok .ensures) (not-false _ (c .before .before .if1 .left)) (c .before .levels-ok .ensures) d ∙ not-false _ (c .if2 .left))
 

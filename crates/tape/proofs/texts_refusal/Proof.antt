@@ -9,23 +9,18 @@ use Rattle.tape.proofs.texts_refusal.Lts as lts
 use Rattle.texts.proofs.texts_utf8.Reads as texts-utf8-reads
 use Rattle.texts.proofs.within_limits.Reads as within-limits-reads
 
--- src/lib.rt:21:9
 texts-utf8-requires : tie.Need-texts-utf8-requires
 texts-utf8-requires c κs = laid-texts (c .before .before .pre)
 
--- src/lib.rt:22:9
 returns : tie.Need-returns
 returns c = texts-two _ (sym (c .before .texts-utf8 .ensures) ∙ not-true _ (c .if1 .taken))
 
--- src/lib.rt:24:9
 within-limits-requires : tie.Need-within-limits-requires
 within-limits-requires c κs = search needs
 
--- src/lib.rt:25:9
 returns-2 : tie.Need-returns-2
 returns-2 c = texts-three _ (sym (c .before .before .before .texts-utf8 .ensures) ∙ not-false _ (c .before .before .if1 .left)) (laid-limits (c .before .before .before .before .before .before .pre) (c .before .within-limits .ensures) ∙ not-true _ (c .if2 .taken))
 
--- src/lib.rt:17:1
 returns-3 : tie.Need-returns-3
 returns-3 c = texts-pass _ (sym (c .before .before .before .texts-utf8 .ensures) ∙ not-false _ (c .before .before .if1 .left)) (laid-limits (c .before .before .before .before .before .before .pre) (c .before .within-limits .ensures) ∙ not-false _ (c .if2 .left))
 

@@ -10,27 +10,21 @@ use Rattle.texts.proofs.part_utf8.Reads as reads
 use Rattle.texts.proofs.part_utf8.Lts as lts
 use Rattle.utf8.proofs.is_utf8.Reads as is-utf8-reads
 
--- src/lib.rt:38:30
 add-is-utf8 : tie.Need-add-is-utf8
 add-is-utf8 c = search needs
 
--- src/lib.rt:38:19
 sub-is-utf8 : tie.Need-sub-is-utf8
 sub-is-utf8 c = search needs
 
--- src/lib.rt:38:19
 part-is-utf8-start : tie.Need-part-is-utf8-start
 part-is-utf8-start c = search needs
 
--- src/lib.rt:38:19
 part-is-utf8-end : tie.Need-part-is-utf8-end
 part-is-utf8-end c = search needs
 
--- src/lib.rt:38:5
 is-utf8-requires : tie.Need-is-utf8-requires
 is-utf8-requires c κs = search needs
 
--- src/lib.rt:34:1
 returns : tie.Need-returns
 returns c =
     let start = c .before .before .before in

@@ -15,55 +15,42 @@ Inv-loop tape at count bytes from place₀ i₀ place i = (i ≤ count) × Strin
 abbrev μ-loop : tie.MeasureT-loop
 μ-loop tape at count bytes from place₀ i₀ place i = count - i
 
--- src/lib.rt:49:5
 loop-holds : tie.Need-loop-holds Inv-loop μ-loop
 loop-holds c = (omega arith, strings-none _ _ _ _ _)
 
--- src/lib.rt:50:41
 mul-u32-at : tie.Need-mul-u32-at Inv-loop μ-loop
 mul-u32-at c = omega arith
 
--- src/lib.rt:50:36
 add-u32-at : tie.Need-add-u32-at Inv-loop μ-loop
 add-u32-at c = omega arith
 
--- src/lib.rt:50:36
 add-u32-at-2 : tie.Need-add-u32-at-2 Inv-loop μ-loop
 add-u32-at-2 c = omega arith
 
--- src/lib.rt:50:17
 u32-at-requires : tie.Need-u32-at-requires Inv-loop μ-loop
 u32-at-requires c κs = omega arith
 
--- src/lib.rt:50:17
 cast-n : tie.Need-cast-n Inv-loop μ-loop
 cast-n c = omega arith
 
--- src/lib.rt:51:13
 part-utf8-requires : tie.Need-part-utf8-requires Inv-loop μ-loop
 part-utf8-requires c κs = strings-fit (c .before .before .loop .inv .1) (c .before .loop-test .taken) (c .u32-at .ensures) (c .before .before .before .before .before .pre .1)
 
--- src/lib.rt:52:13
 returns : tie.Need-returns Inv-loop μ-loop
 returns c = strings-bad (c .before .before .before .before .loop .inv .1) (c .before .before .before .loop-test .taken) (c .before .before .u32-at .ensures) (c .before .part-utf8 .ensures) (not-true _ (c .if1 .taken))
 
--- src/lib.rt:54:9
 add-place : tie.Need-add-place Inv-loop μ-loop
 add-place c = let fit = strings-fit (c .before .before .before .before .loop .inv .1) (c .before .before .before .loop-test .taken) (c .before .before .u32-at .ensures) (c .before .before .before .before .before .before .before .pre .1) in omega (arith, fit)
 
--- src/lib.rt:55:9
 add-i : tie.Need-add-i Inv-loop μ-loop
 add-i c = omega arith
 
--- src/lib.rt:49:5
 loop-less : tie.Need-loop-less Inv-loop μ-loop
 loop-less c = omega arith
 
--- src/lib.rt:49:5
 loop-again : tie.Need-loop-again Inv-loop μ-loop
 loop-again c = (omega arith, strings-more (c .before .before .before .before .loop .inv .1) (c .before .before .before .loop-test .taken) (c .before .before .u32-at .ensures) (c .before .part-utf8 .ensures) (not-false _ (c .if1 .left)))
 
--- src/lib.rt:42:1
 returns-2 : tie.Need-returns-2 Inv-loop μ-loop
 returns-2 c = strings-all (c .before .loop .inv .1) (omega arith)
 

@@ -9,39 +9,30 @@ use Rattle.texts.proofs.texts_utf8.Lts as lts
 use Rattle.texts.proofs.layers_utf8.Reads as layers-utf8-reads
 use Rattle.texts.proofs.part_utf8.Reads as part-utf8-reads
 
--- src/lib.rt:91:16
 cast-text : tie.Need-cast-text
 cast-text c = search needs
 
--- src/lib.rt:92:22
 cast-normalized : tie.Need-cast-normalized
 cast-normalized c = search needs
 
--- src/lib.rt:93:9
 part-utf8-requires : tie.Need-part-utf8-requires
 part-utf8-requires c κs = let fit = texts-inside _ _ _ (c .before .before .before .before .pre .0) (c .before .before .before .before .pre .1) in omega (arith, fit)
 
--- src/lib.rt:94:9
 returns : tie.Need-returns
 returns c = text-bad _ _ _ (c .before .before .before .before .before .before .pre .0) (c .before .part-utf8 .ensures) (not-true _ (c .if1 .taken))
 
--- src/lib.rt:96:9
 part-utf8-requires-2 : tie.Need-part-utf8-requires-2
 part-utf8-requires-2 c κs = texts-inside _ _ _ (c .before .before .before .before .before .before .pre .0) (c .before .before .before .before .before .before .pre .1)
 
--- src/lib.rt:97:9
 returns-2 : tie.Need-returns-2
 returns-2 c = normalized-bad _ _ _ (c .before .before .before .before .before .before .before .before .pre .0) (c .before .before .before .part-utf8 .ensures) (c .before .part-utf82 .ensures) (not-true _ (c .if2 .taken))
 
--- src/lib.rt:99:40
 add-layers-utf8 : tie.Need-add-layers-utf8
 add-layers-utf8 c = search needs
 
--- src/lib.rt:99:5
 layers-utf8-requires : tie.Need-layers-utf8-requires
 layers-utf8-requires c κs = texts-fit _ _ _ (c .before .before .before .before .before .before .before .before .pre .0) (c .before .before .before .before .before .before .before .before .pre .1)
 
--- src/lib.rt:87:1
 returns-3 : tie.Need-returns-3
 returns-3 c = texts-strings _ _ _ (c .before .before .before .before .before .before .before .before .before .pre .0) (c .before .before .before .before .part-utf8 .ensures) (c .before .before .part-utf82 .ensures) (not-false _ (c .before .before .before .if1 .left)) (not-false _ (c .before .if2 .left)) (c .layers-utf8 .ensures)
 

@@ -5,7 +5,6 @@ use Rattle.texts.proofs.within_limits.Tie as tie
 use Rattle.texts.proofs.within_limits.Reads as reads
 use Rattle.texts.proofs.within_limits.Lts as lts
 
--- src/lib.rt:13:1
 returns : tie.Need-returns
 unfolding fewEnough
 returns c = refl

@@ -16,35 +16,27 @@ Inv-loop s at i₀ i = Skipped s at i
 abbrev μ-loop : tie.MeasureT-loop
 μ-loop s at i₀ i = length s - i
 
--- src/lib.rt:143:5
 loop-holds : tie.Need-loop-holds Inv-loop μ-loop
 loop-holds c = skipped-none _ _ (c .before .pre)
 
--- src/lib.rt:143:16
 sub-loop : tie.Need-sub-loop Inv-loop μ-loop
 sub-loop c = c .loop .inv .fits
 
--- src/lib.rt:144:13
 eight-ascii-requires : tie.Need-eight-ascii-requires Inv-loop μ-loop
 eight-ascii-requires c κs = omega (arith, c .before .loop .inv .fits, c .loop-test .taken)
 
--- src/lib.rt:145:13
 returns : tie.Need-returns Inv-loop μ-loop
 returns c = c .before .before .before .loop .inv
 
--- src/lib.rt:147:9
 add-i : tie.Need-add-i Inv-loop μ-loop
 add-i c = omega (arith, c .before .before .before .loop .inv .fits, c .before .before .loop-test .taken)
 
--- src/lib.rt:143:5
 loop-less : tie.Need-loop-less Inv-loop μ-loop
 loop-less c = omega (arith, c .before .before .before .loop .inv .fits, c .before .before .loop-test .taken)
 
--- src/lib.rt:143:5
 loop-again : tie.Need-loop-again Inv-loop μ-loop
 loop-again c = skipped-more (c .before .before .before .loop .inv) (skip-ascii _ _ 8 (omega (arith, c .before .before .before .loop .inv .fits, c .before .before .loop-test .taken)) (sym (c .before .eight-ascii .ensures) ∙ not-false _ (c .if1 .left)))
 
--- src/lib.rt:138:1
 returns-2 : tie.Need-returns-2 Inv-loop μ-loop
 returns-2 c = c .before .loop .inv
 

@@ -9,20 +9,16 @@ use Rattle.utf8.proofs.is_char_boundary.Lts as lts
 use Rattle.chars.proofs.within.Reads as within-reads
 use Rattle.wire.proofs.byte_at.Reads as byte-at-reads
 
--- src/lib.rt:137:9
 returns : tie.Need-returns
 unfolding isCharBoundary
 returns c = rw (lt-leb _ _ (c .if1 .taken)) refl
 
--- src/lib.rt:139:25
 byte-at-requires : tie.Need-byte-at-requires
 byte-at-requires c κs = search needs
 
--- src/lib.rt:139:6
 within-requires : tie.Need-within-requires
 within-requires c κs = search needs
 
--- src/lib.rt:133:1
 returns-2 : tie.Need-returns-2
 unfolding isCharBoundary
 returns-2 c = rw (le-leb _ _ (c .before .before .if1 .left), c .within .ensures, c .before .byte-at .ensures) refl

@@ -6,19 +6,15 @@ use Rattle.utf8.proofs.is_three.Reads as reads
 use Rattle.utf8.proofs.is_three.Lts as lts
 use Rattle.chars.proofs.within.Reads as within-reads
 
--- src/lib.rt:155:5
 within-requires : tie.Need-within-requires
 within-requires c κs = search needs
 
--- src/lib.rt:155:29
 within-requires-2 : tie.Need-within-requires-2
 within-requires-2 c κs = search needs
 
--- src/lib.rt:155:53
 within-requires-3 : tie.Need-within-requires-3
 within-requires-3 c κs = search needs
 
--- src/lib.rt:152:1
 returns : tie.Need-returns
 returns c = rw (c .before .before .within .ensures, c .before .within2 .ensures, c .within3 .ensures) refl
 

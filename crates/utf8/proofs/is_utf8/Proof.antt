@@ -16,31 +16,24 @@ Inv-loop s at₀ at = utf8 s ≡ utf8 (drop at s)
 abbrev μ-loop : tie.MeasureT-loop
 μ-loop s at₀ at = length s - at
 
--- src/lib.rt:213:5
 loop-holds : tie.Need-loop-holds Inv-loop μ-loop
 loop-holds c = refl
 
--- src/lib.rt:214:13
 step-len-requires : tie.Need-step-len-requires Inv-loop μ-loop
 step-len-requires c κs = omega arith
 
--- src/lib.rt:216:13
 returns : tie.Need-returns Inv-loop μ-loop
 returns c = sym (c .before .before .before .loop .inv ∙ c .before .step-len .ensures .none (c .if1 .taken))
 
--- src/lib.rt:218:9
 add-at : tie.Need-add-at Inv-loop μ-loop
 add-at c = omega (arith, c .before .step-len .ensures .fits)
 
--- src/lib.rt:213:5
 loop-less : tie.Need-loop-less Inv-loop μ-loop
 loop-less c = omega (arith, c .before .step-len .ensures .fits, c .if1 .left)
 
--- src/lib.rt:213:5
 loop-again : tie.Need-loop-again Inv-loop μ-loop
 loop-again c = c .before .before .before .loop .inv ∙ c .before .step-len .ensures .some (c .if1 .left)
 
--- src/lib.rt:209:1
 returns-2 : tie.Need-returns-2 Inv-loop μ-loop
 returns-2 c = sym (c .before .loop .inv ∙ utf8-end _ _ (c .loop-test .left))
 

@@ -6,19 +6,15 @@ use Rattle.utf8.proofs.sixteen_ascii.Reads as reads
 use Rattle.utf8.proofs.sixteen_ascii.Lts as lts
 use Rattle.utf8.proofs.eight_ascii.Reads as eight-ascii-reads
 
--- src/lib.rt:142:5
 eight-ascii-requires : tie.Need-eight-ascii-requires
 eight-ascii-requires c κs = search needs
 
--- src/lib.rt:142:41
 add-eight-ascii : tie.Need-add-eight-ascii
 add-eight-ascii c = search needs
 
--- src/lib.rt:142:26
 eight-ascii-requires-2 : tie.Need-eight-ascii-requires-2
 eight-ascii-requires-2 c κs = search needs
 
--- src/lib.rt:138:1
 returns : tie.Need-returns
 returns c = twice-ascii _ _ 8 _ _ (c .before .eight-ascii .ensures) (c .eight-ascii2 .ensures)
 

@@ -6,19 +6,15 @@ use Rattle.utf8.proofs.sixty_four_ascii.Reads as reads
 use Rattle.utf8.proofs.sixty_four_ascii.Lts as lts
 use Rattle.utf8.proofs.thirty_two_ascii.Reads as thirty-two-ascii-reads
 
--- src/lib.rt:156:5
 thirty-two-ascii-requires : tie.Need-thirty-two-ascii-requires
 thirty-two-ascii-requires c κs = search needs
 
--- src/lib.rt:156:51
 add-thirty-two-ascii : tie.Need-add-thirty-two-ascii
 add-thirty-two-ascii c = search needs
 
--- src/lib.rt:156:31
 thirty-two-ascii-requires-2 : tie.Need-thirty-two-ascii-requires-2
 thirty-two-ascii-requires-2 c κs = search needs
 
--- src/lib.rt:152:1
 returns : tie.Need-returns
 returns c = twice-ascii _ _ 32 _ _ (c .before .thirty-two-ascii .ensures) (c .thirty-two-ascii2 .ensures)
 

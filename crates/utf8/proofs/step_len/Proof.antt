@@ -9,39 +9,30 @@ use Rattle.chars.proofs.char_len.Reads as char-len-reads
 use Rattle.utf8.proofs.three_len.Reads as three-len-reads
 use Rattle.chars.proofs.within.Reads as within-reads
 
--- src/lib.rt:200:8
 shared-slice-read-if1 : tie.Need-shared-slice-read-if1
 shared-slice-read-if1 c = search needs
 
--- src/lib.rt:201:9
 ascii-len-requires : tie.Need-ascii-len-requires
 ascii-len-requires c κs = search needs
 
--- src/lib.rt:201:9
 returns : tie.Need-returns
 returns c = search needs
 
--- src/lib.rt:203:27
 shared-slice-read-within : tie.Need-shared-slice-read-within
 shared-slice-read-within c = search needs
 
--- src/lib.rt:203:8
 within-requires : tie.Need-within-requires
 within-requires c κs = search needs
 
--- src/lib.rt:204:9
 three-len-requires : tie.Need-three-len-requires
 three-len-requires c κs = search needs
 
--- src/lib.rt:204:9
 returns-2 : tie.Need-returns-2
 returns-2 c = search needs
 
--- src/lib.rt:206:5
 char-len-requires : tie.Need-char-len-requires
 char-len-requires c κs = search needs
 
--- src/lib.rt:196:1
 returns-3 : tie.Need-returns-3
 returns-3 c = step-char _ _ (c .before .before .before .before .before .before .before .pre) _ (c .char-len .ensures)
 

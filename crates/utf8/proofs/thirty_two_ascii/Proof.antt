@@ -6,19 +6,15 @@ use Rattle.utf8.proofs.thirty_two_ascii.Reads as reads
 use Rattle.utf8.proofs.thirty_two_ascii.Lts as lts
 use Rattle.utf8.proofs.sixteen_ascii.Reads as sixteen-ascii-reads
 
--- src/lib.rt:149:5
 sixteen-ascii-requires : tie.Need-sixteen-ascii-requires
 sixteen-ascii-requires c κs = search needs
 
--- src/lib.rt:149:45
 add-sixteen-ascii : tie.Need-add-sixteen-ascii
 add-sixteen-ascii c = search needs
 
--- src/lib.rt:149:28
 sixteen-ascii-requires-2 : tie.Need-sixteen-ascii-requires-2
 sixteen-ascii-requires-2 c κs = search needs
 
--- src/lib.rt:145:1
 returns : tie.Need-returns
 returns c = twice-ascii _ _ 16 _ _ (c .before .sixteen-ascii .ensures) (c .sixteen-ascii2 .ensures)
 

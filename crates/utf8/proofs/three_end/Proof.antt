@@ -16,55 +16,42 @@ Inv-loop s at i₀ i = Skipped s at i
 abbrev μ-loop : tie.MeasureT-loop
 μ-loop s at i₀ i = length s - i
 
--- src/lib.rt:164:5
 loop-holds : tie.Need-loop-holds Inv-loop μ-loop
 loop-holds c = skipped-none _ _ (c .before .pre)
 
--- src/lib.rt:164:16
 sub-loop : tie.Need-sub-loop Inv-loop μ-loop
 sub-loop c = c .loop .inv .fits
 
--- src/lib.rt:165:22
 shared-slice-read-is-three : tie.Need-shared-slice-read-is-three Inv-loop μ-loop
 shared-slice-read-is-three c = omega (arith, c .before .before .loop .inv .fits, c .before .loop-test .taken)
 
--- src/lib.rt:165:30
 add-is-three : tie.Need-add-is-three Inv-loop μ-loop
 add-is-three c = omega (arith, c .before .before .loop .inv .fits, c .before .loop-test .taken)
 
--- src/lib.rt:165:28
 shared-slice-read-is-three-2 : tie.Need-shared-slice-read-is-three-2 Inv-loop μ-loop
 shared-slice-read-is-three-2 c = omega (arith, c .before .before .before .loop .inv .fits, c .before .before .loop-test .taken)
 
--- src/lib.rt:165:40
 add-is-three-2 : tie.Need-add-is-three-2 Inv-loop μ-loop
 add-is-three-2 c = omega (arith, c .before .before .before .loop .inv .fits, c .before .before .loop-test .taken)
 
--- src/lib.rt:165:38
 shared-slice-read-is-three-3 : tie.Need-shared-slice-read-is-three-3 Inv-loop μ-loop
 shared-slice-read-is-three-3 c = omega (arith, c .before .before .before .before .loop .inv .fits, c .before .before .before .loop-test .taken)
 
--- src/lib.rt:165:13
 is-three-requires : tie.Need-is-three-requires Inv-loop μ-loop
 is-three-requires c κs = omega (arith, c .before .before .before .before .loop .inv .fits, c .before .before .before .loop-test .taken)
 
--- src/lib.rt:166:13
 returns : tie.Need-returns Inv-loop μ-loop
 returns c = c .before .before .before .before .before .before .loop .inv
 
--- src/lib.rt:168:9
 add-i : tie.Need-add-i Inv-loop μ-loop
 add-i c = omega (arith, c .before .before .before .before .before .before .loop .inv .fits, c .before .before .before .before .before .loop-test .taken)
 
--- src/lib.rt:164:5
 loop-less : tie.Need-loop-less Inv-loop μ-loop
 loop-less c = omega (arith, c .before .before .before .before .before .before .loop .inv .fits, c .before .before .before .before .before .loop-test .taken)
 
--- src/lib.rt:164:5
 loop-again : tie.Need-loop-again Inv-loop μ-loop
 loop-again c = skipped-more (c .before .before .before .before .before .before .loop .inv) (skip-three _ _ (omega (arith, c .before .before .before .before .before .before .loop .inv .fits, c .before .before .before .before .before .loop-test .taken)) (sym (c .before .is-three .ensures) ∙ not-false _ (c .if1 .left)))
 
--- src/lib.rt:159:1
 returns-2 : tie.Need-returns-2 Inv-loop μ-loop
 returns-2 c = c .before .loop .inv
 

@@ -7,23 +7,18 @@ use Rattle.utf8.proofs.three_len.Lts as lts
 use Rattle.chars.proofs.char_len.Reads as char-len-reads
 use Rattle.utf8.proofs.three_end.Reads as three-end-reads
 
--- src/lib.rt:188:9
 three-end-requires : tie.Need-three-end-requires
 three-end-requires c κs = search needs
 
--- src/lib.rt:190:16
 sub-result : tie.Need-sub-result
 sub-result c = search needs
 
--- src/lib.rt:190:9
 returns : tie.Need-returns
 returns c = step-skipped (c .before .three-end .ensures) (c .if1 .taken)
 
--- src/lib.rt:192:5
 char-len-requires : tie.Need-char-len-requires
 char-len-requires c κs = search needs
 
--- src/lib.rt:184:1
 returns-2 : tie.Need-returns-2
 returns-2 c = step-char _ _ (c .before .before .before .before .pre) _ (c .char-len .ensures)
 

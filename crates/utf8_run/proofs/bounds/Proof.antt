@@ -16,43 +16,33 @@ Inv-loop text at₀ at = at ≤ 13
 abbrev μ-loop : tie.MeasureT-loop
 μ-loop text at₀ at = 13 - at
 
--- src/main.rt:201:10
 slice-aggregate-name : tie.Need-slice-aggregate-name Inv-loop μ-loop
 slice-aggregate-name c = search needs
 
--- src/main.rt:201:5
 name-requires : tie.Need-name-requires Inv-loop μ-loop
 name-requires c κs = search needs
 
--- src/main.rt:203:5
 loop-holds : tie.Need-loop-holds Inv-loop μ-loop
 loop-holds c = omega arith
 
--- src/main.rt:204:13
 is-char-boundary-requires : tie.Need-is-char-boundary-requires Inv-loop μ-loop
 is-char-boundary-requires c κs = search needs
 
--- src/main.rt:204:9
 say-requires : tie.Need-say-requires Inv-loop μ-loop
 say-requires c κs = search needs
 
--- src/main.rt:205:9
 add-at : tie.Need-add-at Inv-loop μ-loop
 add-at c = omega arith
 
--- src/main.rt:203:5
 loop-less : tie.Need-loop-less Inv-loop μ-loop
 loop-less c = omega arith
 
--- src/main.rt:203:5
 loop-again : tie.Need-loop-again Inv-loop μ-loop
 loop-again c = omega arith
 
--- src/main.rt:207:5
 end-requires : tie.Need-end-requires Inv-loop μ-loop
 end-requires c κs = search needs
 
--- src/main.rt:199:1
 returns : tie.Need-returns Inv-loop μ-loop
 returns c = search needs
 

@@ -14,43 +14,33 @@ Inv-loop second n lead₀ lead = lead ≤ 0xff
 abbrev μ-loop : tie.MeasureT-loop
 μ-loop second n lead₀ lead = 0xff - lead
 
--- src/main.rt:100:5
 loop-holds : tie.Need-loop-holds Inv-loop μ-loop
 loop-holds c = omega arith
 
--- src/main.rt:102:19
 slice-aggregate-try-first : tie.Need-slice-aggregate-try-first Inv-loop μ-loop
 slice-aggregate-try-first c = search needs
 
--- src/main.rt:102:9
 try-first-requires : tie.Need-try-first-requires Inv-loop μ-loop
 try-first-requires c κs = omega arith
 
--- src/main.rt:103:9
 add-lead : tie.Need-add-lead Inv-loop μ-loop
 add-lead c = omega arith
 
--- src/main.rt:100:5
 loop-less : tie.Need-loop-less Inv-loop μ-loop
 loop-less c = omega arith
 
--- src/main.rt:100:5
 loop-again : tie.Need-loop-again Inv-loop μ-loop
 loop-again c = omega arith
 
--- src/main.rt:106:15
 slice-aggregate-try-first-2 : tie.Need-slice-aggregate-try-first-2 Inv-loop μ-loop
 slice-aggregate-try-first-2 c = search needs
 
--- src/main.rt:106:5
 try-first-requires-2 : tie.Need-try-first-requires-2 Inv-loop μ-loop
 try-first-requires-2 c κs = omega arith
 
--- src/main.rt:107:5
 end-requires : tie.Need-end-requires Inv-loop μ-loop
 end-requires c κs = search needs
 
--- src/main.rt:96:1
 returns : tie.Need-returns Inv-loop μ-loop
 returns c = search needs
 

@@ -17,39 +17,30 @@ Inv-loop s n i₀ t4 i = (i ≤ n) × (n ≡ length s)
 abbrev μ-loop : tie.MeasureT-loop
 μ-loop s n i₀ t4 i = n - i
 
--- src/main.rt:38:5
 loop-holds : tie.Need-loop-holds Inv-loop μ-loop
 loop-holds c = (omega arith, refl)
 
--- src/main.rt:39:9
 try-first-requires : tie.Need-try-first-requires Inv-loop μ-loop
 try-first-requires c κs = omega arith
 
--- src/main.rt:40:9
 add-i : tie.Need-add-i Inv-loop μ-loop
 add-i c = omega arith
 
--- src/main.rt:38:5
 loop-less : tie.Need-loop-less Inv-loop μ-loop
 loop-less c = omega arith
 
--- src/main.rt:38:5
 loop-again : tie.Need-loop-again Inv-loop μ-loop
 loop-again c = (omega arith, omega arith)
 
--- src/main.rt:42:5
 try-bytes-requires : tie.Need-try-bytes-requires Inv-loop μ-loop
 try-bytes-requires c κs = search needs
 
--- src/main.rt:43:34
 slice-aggregate-write-all : tie.Need-slice-aggregate-write-all Inv-loop μ-loop
 slice-aggregate-write-all c = search needs
 
--- src/main.rt:43:5
 write-all-requires : tie.Need-write-all-requires Inv-loop μ-loop
 write-all-requires c κs = search needs
 
--- src/main.rt:35:1
 returns : tie.Need-returns Inv-loop μ-loop
 returns c = search needs
 

@@ -7,15 +7,12 @@ use Rattle.utf8_run.proofs.try_first.Reads as reads
 use Rattle.utf8_run.proofs.try_first.Lts as lts
 use Rattle.utf8_run.proofs.try_bytes.Reads as try-bytes-reads
 
--- src/main.rt:31:15
 slice-aggregate-try-bytes : tie.Need-slice-aggregate-try-bytes
 slice-aggregate-try-bytes c = sym (length-take-le _ _ (c .before .before .pre))
 
--- src/main.rt:31:5
 try-bytes-requires : tie.Need-try-bytes-requires
 try-bytes-requires c κs = search needs
 
--- src/main.rt:28:1
 returns : tie.Need-returns
 returns c = search needs
 

@@ -14,39 +14,30 @@ Inv-loop s n₀ i₀ n i = (n ≤ i) × (i ≤ length s)
 abbrev μ-loop : tie.MeasureT-loop
 μ-loop s n₀ i₀ n i = length s - i
 
--- src/main.rt:69:5
 loop-holds : tie.Need-loop-holds Inv-loop μ-loop
 loop-holds c = (omega arith, omega arith)
 
--- src/main.rt:70:21
 mul-one-if : tie.Need-mul-one-if Inv-loop μ-loop
 mul-one-if c = omega arith
 
--- src/main.rt:70:21
 shared-slice-read-one-if : tie.Need-shared-slice-read-one-if Inv-loop μ-loop
 shared-slice-read-one-if c = omega arith
 
--- src/main.rt:70:14
 one-if-requires : tie.Need-one-if-requires Inv-loop μ-loop
 one-if-requires c κs = search needs
 
--- src/main.rt:70:9
 add-n : tie.Need-add-n Inv-loop μ-loop
 add-n c = omega arith
 
--- src/main.rt:71:9
 add-i : tie.Need-add-i Inv-loop μ-loop
 add-i c = omega arith
 
--- src/main.rt:69:5
 loop-less : tie.Need-loop-less Inv-loop μ-loop
 loop-less c = omega arith
 
--- src/main.rt:69:5
 loop-again : tie.Need-loop-again Inv-loop μ-loop
 loop-again c = (omega arith, omega arith)
 
--- src/main.rt:66:1
 returns : tie.Need-returns Inv-loop μ-loop
 returns c = search needs
 

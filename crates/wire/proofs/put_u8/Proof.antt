@@ -5,15 +5,12 @@ use Rattle.wire.proofs.put_u8.Tie as tie
 use Rattle.wire.proofs.put_u8.Reads as reads
 use Rattle.wire.proofs.put_u8.Lts as lts
 
--- src/lib.rt:53:5
 slice-write-out : tie.Need-slice-write-out
 slice-write-out c = search needs
 
--- src/lib.rt:49:1
 same-length : tie.Need-same-length
 same-length c = search needs
 
--- src/lib.rt:49:1
 returns : tie.Need-returns
 returns c = set-overwrite _ _ _ (c .pre)
 

@@ -6,39 +6,30 @@ use Rattle.wire.proofs.u32_at.Reads as reads
 use Rattle.wire.proofs.u32_at.Lts as lts
 use Rattle.wire.proofs.word.Reads as word-reads
 
--- src/lib.rt:34:10
 shared-slice-read-word : tie.Need-shared-slice-read-word
 shared-slice-read-word c = search needs
 
--- src/lib.rt:34:19
 add-word : tie.Need-add-word
 add-word c = search needs
 
--- src/lib.rt:34:17
 shared-slice-read-word-2 : tie.Need-shared-slice-read-word-2
 shared-slice-read-word-2 c = search needs
 
--- src/lib.rt:34:30
 add-word-2 : tie.Need-add-word-2
 add-word-2 c = search needs
 
--- src/lib.rt:34:28
 shared-slice-read-word-3 : tie.Need-shared-slice-read-word-3
 shared-slice-read-word-3 c = search needs
 
--- src/lib.rt:34:41
 add-word-3 : tie.Need-add-word-3
 add-word-3 c = search needs
 
--- src/lib.rt:34:39
 shared-slice-read-word-4 : tie.Need-shared-slice-read-word-4
 shared-slice-read-word-4 c = search needs
 
--- src/lib.rt:34:5
 word-requires : tie.Need-word-requires
 word-requires c κs = search needs
 
--- src/lib.rt:30:1
 returns : tie.Need-returns
 unfolding wordAt
 returns c = c .word .ensures

@@ -10,55 +10,42 @@ use Rattle.wire.proofs.byte_at.Reads as byte-at-reads
 use Rattle.wire.proofs.u32_at.Reads as u32-at-reads
 use Rattle.wire.proofs.word.Reads as word-reads
 
--- src/lib.rt:41:9
 returns : tie.Need-returns
 returns c = sym (wordAt-past _ _ (c .if1 .taken))
 
--- src/lib.rt:43:13
 sub-if2 : tie.Need-sub-if2
 sub-if2 c = search needs
 
--- src/lib.rt:44:9
 u32-at-requires : tie.Need-u32-at-requires
 u32-at-requires c κs = search needs
 
--- src/lib.rt:44:9
 returns-2 : tie.Need-returns-2
 returns-2 c = search needs
 
--- src/lib.rt:46:10
 shared-slice-read-word : tie.Need-shared-slice-read-word
 shared-slice-read-word c = search needs
 
--- src/lib.rt:46:28
 add-byte-at : tie.Need-add-byte-at
 add-byte-at c = search needs
 
--- src/lib.rt:46:17
 byte-at-requires : tie.Need-byte-at-requires
 byte-at-requires c κs = search needs
 
--- src/lib.rt:46:48
 add-byte-at-2 : tie.Need-add-byte-at-2
 add-byte-at-2 c = search needs
 
--- src/lib.rt:46:37
 byte-at-requires-2 : tie.Need-byte-at-requires-2
 byte-at-requires-2 c κs = search needs
 
--- src/lib.rt:46:68
 add-byte-at-3 : tie.Need-add-byte-at-3
 add-byte-at-3 c = search needs
 
--- src/lib.rt:46:57
 byte-at-requires-3 : tie.Need-byte-at-requires-3
 byte-at-requires-3 c κs = search needs
 
--- src/lib.rt:46:5
 word-requires : tie.Need-word-requires
 word-requires c κs = search needs
 
--- src/lib.rt:37:1
 returns-3 : tie.Need-returns-3
 unfolding wordAt
 returns-3 c = c .word .ensures ∙ rw (c .before .before .before .byte-at .ensures, c .before .before .byte-at2 .ensures, c .before .byte-at3 .ensures) refl

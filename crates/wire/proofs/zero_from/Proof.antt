@@ -15,34 +15,27 @@ Inv-loop out₀ at i₀ out i = (at ≤ i) × (i ≤ length out₀) × (length o
 abbrev μ-loop : tie.MeasureT-loop
 μ-loop out₀ at i₀ out i = length out₀ - i
 
--- src/lib.rt:82:5
 loop-holds : tie.Need-loop-holds Inv-loop μ-loop
 loop-holds c = (omega arith, omega arith, refl, rw sub-self (overwrite-nil _ _))
 
--- src/lib.rt:83:9
 slice-write-out : tie.Need-slice-write-out Inv-loop μ-loop
 slice-write-out c = omega arith
 
--- src/lib.rt:84:9
 add-i : tie.Need-add-i Inv-loop μ-loop
 add-i c = omega arith
 
--- src/lib.rt:82:5
 loop-less : tie.Need-loop-less Inv-loop μ-loop
 loop-less c = omega arith
 
--- src/lib.rt:82:5
 loop-again : tie.Need-loop-again Inv-loop μ-loop
 loop-again c =
     let at = c .before .before .args .at in
     let e : c .before .loop .i + 1 - at ≡ c .before .loop .i - at + 1 = omega arith in
     (omega arith, omega arith, simp length-set (omega arith), rw (c .before .loop .inv .3, e) (zero-more _ at (c .before .loop .i - at) (c .before .loop .i) (omega arith) (omega arith)))
 
--- src/lib.rt:77:1
 same-length : tie.Need-same-length Inv-loop μ-loop
 same-length c = omega arith
 
--- src/lib.rt:77:1
 returns : tie.Need-returns Inv-loop μ-loop
 returns c =
     let e : c .before .loop .i ≡ length (c .before .before .args .out .now) = omega arith in

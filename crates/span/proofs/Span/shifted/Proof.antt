@@ -9,15 +9,12 @@ use Rattle.span.proofs.Span.shifted.Lts as lts
 use Rattle.span.proofs.Span.shifted_by.Reads as shifted-by-reads
 use Rattle.span.proofs.amount_of.Reads as amount-of-reads
 
--- src/lib.rt:189:25
 amount-of-requires : tie.Need-amount-of-requires
 amount-of-requires c κs = search needs
 
--- src/lib.rt:189:9
 shifted-by-requires : tie.Need-shifted-by-requires
 shifted-by-requires c κs = search needs
 
--- src/lib.rt:186:5
 returns : tie.Need-returns
 returns c = c .shifted-by .ensures ∙ rw (c .before .amount-of .ensures, toZ-ofZ w64 (c .before .before .args .by) (c .before .before .fits .by)) refl
 

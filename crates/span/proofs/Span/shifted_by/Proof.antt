@@ -7,15 +7,12 @@ use Rattle.span.proofs.Span.shifted_by.Reads as reads
 use Rattle.span.proofs.Span.shifted_by.Lts as lts
 use Rattle.span.proofs.shift_clamp.Reads as shift-clamp-reads
 
--- src/lib.rt:181:20
 shift-clamp-requires : tie.Need-shift-clamp-requires
 shift-clamp-requires c κs = search needs
 
--- src/lib.rt:182:18
 shift-clamp-requires-2 : tie.Need-shift-clamp-requires-2
 shift-clamp-requires-2 c κs = search needs
 
--- src/lib.rt:177:5
 returns : tie.Need-returns
 unfolding shifted
 returns c = rw (c .before .shift-clamp .ensures, c .shift-clamp2 .ensures) refl
