@@ -10,6 +10,7 @@ use Rattle.model.specs.Store.{NodeStore}
 use Rattle.model.specs.Tape.{recordAt, recordsAt, nodeCodec}
 use Rattle.model.specs.Region.{isReferencedFormat, dependsFrom}
 use Rattle.wire.specs.Loops.{anyUpTo, by-bool}
+use Rattle.records.specs.Runs.{run-none}
 use Rattle.dependency.specs.Bases.{asksTarget, refersBack, refersAt, depends-records}
 
 -- node i of a run
@@ -80,3 +81,7 @@ module _ (from : ℕ) (t : List ℕ) (at count : ℕ) {r : ℕ} (e : r ≡ count
   asked-depends st q =
       q ∙ depends-records st from t at r ∙ ap (λ (n : ℕ). anyUpTo n (refersAt st from t at)) e
       ∙ last-any (asksAt from t at) (refersAt st from t at) (refers-asks st from t at) count ∙ sym (depends-records st from t at count)
+
+  pub asked-none : (st : NodeStore) → r ≡ 0 → false ≡ dependsFrom st from [] (recordsAt nodeCodec t at count)
+  unfolding dependsFrom
+  asked-none st z = asked-depends st (sym (ap (λ (n : ℕ). dependsFrom st from [] (recordsAt nodeCodec t at n)) z ∙ ap (dependsFrom st from []) (run-none nodeCodec t at)))

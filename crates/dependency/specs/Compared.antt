@@ -82,20 +82,3 @@ module _ (st other : NodeStore) (ns : List SourceNode) where
   pub target-none : {r : Plain} → r ≡ Nothing → false ≡ amongBases st ns (plainString other r)
   unfolding amongBases plainString
   target-none e = rw e refl
-
-module _ {t : List ℕ} {st : Store} {words old new : List ℕ} (at i from : ℕ) {p : ℕ} (place : p ≡ at + 49 * i) (n : SoundNode t st words old new p)
-    {x : Bool} (e : x ≡ asksTarget from (recordAt nodeCodec t p)) where
-  here : refersAt (storeIn t (old ++ new)) from t at i ≡ refersBack (storeIn t (old ++ new)) from (recordsAt nodeCodec t at i) (recordAt nodeCodec t p)
-  unfolding refersAt
-  here = ap (λ (k : ℕ). refersBack (storeIn t (old ++ new)) from (recordsAt nodeCodec t at i) (recordAt nodeCodec t k)) (sym place)
-
-  pub refers-other : x ≡ false → false ≡ refersAt (storeIn t (old ++ new)) from t at i
-  unfolding refersBack
-  refers-other h = sym (here ∙ rw (← e, h) refl)
-
-  pub refers-target : x ≡ true → {r : Plain} → ((b : List ℕ) → r ≡ plainOf (firstContents t p b))
-      → {y : Bool} → y ≡ amongBases (storeIn t (old ++ new)) (recordsAt nodeCodec t at i) (plainString (storeIn t (old ++ new)) r)
-      → y ≡ refersAt (storeIn t (old ++ new)) from t at i
-  unfolding refersBack
-  refers-target h f q =
-      sym (here ∙ rw (← e, h) (ap (amongBases (storeIn t (old ++ new)) (recordsAt nodeCodec t at i)) (plain-first n f) ∙ sym q))

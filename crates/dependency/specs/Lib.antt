@@ -4,3 +4,6 @@ pub mod Asked
 pub mod Sound
 pub mod Compared
 pub mod Noted
+pub mod Words
+pub mod Pieces
+pub mod Parts

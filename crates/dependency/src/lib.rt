@@ -1,11 +1,11 @@
 // Number 10, document 01 section 6: a Referenced Format behind the edit's start whose target is the base of an earlier Ruby. A base
 // and a target are compared as plain strings: a string's bytes are found by the index of crate `strings`, and only where its length
 // is the one that is asked for. The walk puts the hash of each base into a Bloom filter, so that a target that is no base seldom has to be
-// compared. specs/Bases.antt says what is asked, specs/Sound.antt what number 4 has shown of it, specs/Noted.antt what the filter says.
+// compared; a filter takes the bases of some nodes at a time, and each such part costs one walk over the nodes from it on. specs/Bases.antt says what is asked, specs/Sound.antt what number 4 has shown of it, specs/Noted.antt what the filter says.
 use strings::Plain;
 ghost use mathlib.Core.Path.{_≡_};
 ghost use mathlib.Core.List.{List, [], _++_};
-ghost use Prim.Native.Nat.{ℕ, _+_, _*_, _≤_, _<_};
+ghost use Prim.Native.Nat.{ℕ, _+_, _*_, _≤_, _<_, min};
 ghost use lib.ListN.{length};
 ghost use Rattle.model.specs.Lists.{any, same as sameBytes};
 ghost use Rattle.model.specs.Tape.{recordAt, recordsAt, nodeCodec};
@@ -14,7 +14,9 @@ ghost use Rattle.model.specs.Region.{isRuby, isReferencedFormat, dependsFrom};
 ghost use Rattle.strings.specs.Starts.{OfTape, storeIn};
 ghost use Rattle.strings.specs.Shown.{Resolvable};
 ghost use Rattle.strings.specs.PlainContent.{plainOf, plainString};
-ghost use Rattle.dependency.specs.Bases.{isPlain, hasBase, amongBases, asksTarget, refersAt};
+ghost use Rattle.wire.specs.Loops.{anyUpTo};
+ghost use Rattle.dependency.specs.Bases.{isPlain, hasBase, amongBases, asksTarget};
+ghost use Rattle.dependency.specs.Parts.{refersAmong};
 ghost use Rattle.dependency.specs.Asked.{asksAt, countToLast};
 ghost use Rattle.dependency.specs.Sound.{Sound, SoundNode, FirstRange, PlainIn, firstContents};
 ghost use Rattle.dependency.specs.Noted.{firstWords, insertedPlain, notedBy, Noted};
@@ -221,8 +223,17 @@ fn is_target_base<'a>(
     }
 }
 
-// Number 10, node i: a Referenced Format that ends behind `from` and whose target is the base of an earlier Ruby.
-fn refers_back<'a>(
+fn smaller(a: usize, b: usize) -> usize
+    ensures { λ r. ⌜ r ≡ min a b ⌝ }
+{
+    if a < b {
+        return a;
+    }
+    b
+}
+
+// Number 10, node i: a Referenced Format that ends behind `from` and whose target is the base of an earlier Ruby among the first n nodes.
+fn refers_among<'a>(
     tape: &[u8],
     st: store::Store,
     words: &[u32],
@@ -231,19 +242,21 @@ fn refers_back<'a>(
     new: &'a [u8],
     at: usize,
     i: usize,
+    n: usize,
     from: u32,
 ) -> bool
     requires { ⌜ Sound (now tape) st (firstWords base (now words)) (now old) (now new) at (i + 1) ⌝ }
     requires { ⌜ base ≤ length (now words) ⌝ }
-    requires { ⌜ Noted (storeIn (now tape) (now old ++ now new)) (recordsAt nodeCodec (now tape) at i) (now words) base ⌝ }
-    ensures { λ r. ⌜ r ≡ refersAt (storeIn (now (tape .entry)) (now (old .entry) ++ now (new .entry))) from (now (tape .entry)) at i ⌝ }
+    requires { ⌜ Noted (storeIn (now tape) (now old ++ now new)) (recordsAt nodeCodec (now tape) at (min n i)) (now words) base ⌝ }
+    ensures { λ r. ⌜ r ≡ refersAmong (storeIn (now (tape .entry)) (now (old .entry) ++ now (new .entry))) from (now (tape .entry)) at n i ⌝ }
 {
     let place = at + 49 * i;
     if !asks_target(tape, place, from) {
         return false;
     }
     let p = first_plain(tape, st, place);
-    is_target_base(tape, st, words, base, old, new, at, i, p)
+    let k = smaller(n, i);
+    is_target_base(tape, st, words, base, old, new, at, k, p)
 }
 
 // The string of an answer, inserted.
@@ -295,8 +308,81 @@ pub fn note_ruby<'a>(
     insert_plain(tape, st, words, base, old, new, p);
 }
 
-// One walk over the nodes; each base that it passes is inserted.
-fn any_refers_back<'a>(
+// Node i, if it is one of the first n. The words before `base` are kept.
+fn note_first<'a>(
+    tape: &[u8],
+    st: store::Store,
+    words: &mut [u32],
+    base: usize,
+    old: &'a [u8],
+    new: &'a [u8],
+    at: usize,
+    i: usize,
+    n: usize,
+)
+    requires { ⌜ SoundNode (now tape) st (firstWords base (now words)) (now old) (now new) (at + 49 * i) ⌝ }
+    requires { ⌜ base ≤ length (now words) ⌝ }
+    requires { ⌜ Noted (storeIn (now tape) (now old ++ now new)) (recordsAt nodeCodec (now tape) at (min n i)) (now words) base ⌝ }
+    ensures { λ _. ⌜ (firstWords base (now (words .exit)) ≡ firstWords base (now (words .entry))) × Noted (storeIn (now (tape .entry)) (now (old .entry) ++ now (new .entry))) (recordsAt nodeCodec (now (tape .entry)) at (min n (i + 1))) (now (words .exit)) base ⌝ }
+{
+    if n <= i {
+        return;
+    }
+    note_ruby(tape, st, words, base, old, new, at + 49 * i);
+}
+
+// One walk over the nodes; each base among the first n is inserted when it is passed.
+fn any_refers_among<'a>(
+    tape: &[u8],
+    st: store::Store,
+    words: &mut [u32],
+    base: usize,
+    old: &'a [u8],
+    new: &'a [u8],
+    at: usize,
+    count: usize,
+    n: usize,
+    from: u32,
+) -> bool
+    requires { ⌜ Sound (now tape) st (firstWords base (now words)) (now old) (now new) at count ⌝ }
+    requires { ⌜ base ≤ length (now words) ⌝ }
+    ensures { λ r. ⌜ (r ≡ anyUpTo count (refersAmong (storeIn (now (tape .entry)) (now (old .entry) ++ now (new .entry))) from (now (tape .entry)) at n)) × (firstWords base (now (words .exit)) ≡ firstWords base (now (words .entry))) ⌝ }
+{
+    let mut i = 0;
+    while i < count {
+        if refers_among(tape, st, words, base, old, new, at, i, n, from) {
+            return true;
+        }
+        note_first(tape, st, words, base, old, new, at, i, n);
+        i += 1;
+    }
+    false
+}
+
+// The same with a filter that begins as zeros.
+fn part_refers<'a>(
+    tape: &[u8],
+    st: store::Store,
+    words: &mut [u32],
+    base: usize,
+    old: &'a [u8],
+    new: &'a [u8],
+    at: usize,
+    count: usize,
+    n: usize,
+    from: u32,
+) -> bool
+    requires { ⌜ Sound (now tape) st (firstWords base (now words)) (now old) (now new) at count ⌝ }
+    requires { ⌜ base ≤ length (now words) ⌝ }
+    ensures { λ r. ⌜ (r ≡ anyUpTo count (refersAmong (storeIn (now (tape .entry)) (now (old .entry) ++ now (new .entry))) from (now (tape .entry)) at n)) × (firstWords base (now (words .exit)) ≡ firstWords base (now (words .entry))) ⌝ }
+{
+    let end = words.len();
+    wire::zero_words(&mut words[base..end]);
+    any_refers_among(tape, st, words, base, old, new, at, count, n, from)
+}
+
+// Number 10 in parts of half as many nodes as the filter has words, a walk from each part on: so a target is seldom compared.
+fn refers_in_parts<'a>(
     tape: &[u8],
     st: store::Store,
     words: &mut [u32],
@@ -311,19 +397,79 @@ fn any_refers_back<'a>(
     requires { ⌜ base ≤ length (now words) ⌝ }
     ensures { λ r. ⌜ r ≡ dependsFrom (storeIn (now (tape .entry)) (now (old .entry) ++ now (new .entry))) from [] (recordsAt nodeCodec (now (tape .entry)) at count) ⌝ }
 {
+    let size = (words.len() - base) / 2 + 1;
     let mut i = 0;
     while i < count {
-        if refers_back(tape, st, words, base, old, new, at, i, from) {
+        let n = smaller(size, count - i);
+        if part_refers(
+            tape,
+            st,
+            words,
+            base,
+            old,
+            new,
+            at + 49 * i,
+            count - i,
+            n,
+            from,
+        ) {
             return true;
         }
-        note_ruby(tape, st, words, base, old, new, at + 49 * i);
-        i += 1;
+        i += n;
     }
     false
 }
 
+// The same by another index, in the first 1024 of other words.
+fn refers_by_words<'a>(
+    tape: &[u8],
+    st: store::Store,
+    index: &[u32],
+    words: &mut [u32],
+    old: &'a [u8],
+    new: &'a [u8],
+    at: usize,
+    count: usize,
+    from: u32,
+) -> bool
+    requires { ⌜ Sound (now tape) st (now index) (now old) (now new) at count ⌝ }
+    requires { ⌜ 1024 ≤ length (now words) ⌝ }
+    ensures { λ r. ⌜ r ≡ dependsFrom (storeIn (now (tape .entry)) (now (old .entry) ++ now (new .entry))) from [] (recordsAt nodeCodec (now (tape .entry)) at count) ⌝ }
+{
+    strings::index_strings(tape, st, old.len() + new.len(), &mut words[0..1024]);
+    refers_in_parts(tape, st, words, 1024, old, new, at, count, from)
+}
+
+// The same by an index and a filter of its own, where few words are lent.
+fn refers_by_own<'a>(
+    tape: &[u8],
+    st: store::Store,
+    index: &[u32],
+    old: &'a [u8],
+    new: &'a [u8],
+    at: usize,
+    count: usize,
+    from: u32,
+) -> bool
+    requires { ⌜ Sound (now tape) st (now index) (now old) (now new) at count ⌝ }
+    ensures { λ r. ⌜ r ≡ dependsFrom (storeIn (now (tape .entry)) (now (old .entry) ++ now (new .entry))) from [] (recordsAt nodeCodec (now (tape .entry)) at count) ⌝ }
+{
+    let mut own = [0u32; 2048];
+    refers_by_words(
+        tape,
+        st,
+        index,
+        &mut own[0..2048],
+        old,
+        new,
+        at,
+        count,
+        from,
+    )
+}
+
 // Number 10. `has_ruby_format_dependency`. The words before `base` have the index of the strings, those from `base` on take the filter
-// of the bases. They may hold anything; a filter that begins as zeros is the one that spares comparisons.
+// of the bases; they may hold anything. Where there are few of them, number 10 has an index and a filter of its own.
 pub fn has_ruby_format_dependency<'a>(
     tape: &[u8],
     st: store::Store,
@@ -340,5 +486,11 @@ pub fn has_ruby_format_dependency<'a>(
     ensures { λ r. ⌜ r ≡ dependsFrom (storeIn (now (tape .entry)) (now (old .entry) ++ now (new .entry))) from [] (recordsAt nodeCodec (now (tape .entry)) at count) ⌝ }
 {
     let n = asked_nodes(tape, at, count, from);
-    any_refers_back(tape, st, words, base, old, new, at, n, from)
+    if n == 0 {
+        return false;
+    }
+    if words.len() - base < 1024 {
+        return refers_by_own(tape, st, &words[0..base], old, new, at, n, from);
+    }
+    refers_in_parts(tape, st, words, base, old, new, at, n, from)
 }

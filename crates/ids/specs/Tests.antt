@@ -1,21 +1,21 @@
 -- Number 4 by the starts that a store remembers: what the code computes for a field, a body and a record, word by word.
 use mathlib.Core.Path.{_≡_, refl, sym, ap, _∙_}
-use Prim.Native.Nat.{ℕ, zero, suc, _+_, _≤_, _<_}
+use Prim.Native.Nat.{ℕ, zero, suc, _+_, _-_, _≤_, _<_}
 use native.Mathlib.Omega.{arith}
 use mathlib.Core.Bool.{Bool, true, false, cond, _&&_, _||_}
 use mathlib.Core.List.{List, [], _∷_}
 use lib.ListN.{length, getD}
 use lib.Dec.{leb, ltb, eqb}
-use borrow.Author.Tests.{eq-eqb, ne-eqb, lt-ltb, le-ltb}
+use borrow.Author.Tests.{eq-eqb, ne-eqb, lt-ltb, le-ltb, ltb-true, ltb-false}
 use Rattle.model.specs.Lists.{all}
 use Rattle.model.specs.Bytes.{byteAt, wordAt}
 use Rattle.model.specs.Limits.{noString}
 use Rattle.model.specs.Types.{Body, Content, Segment, SourceNode}
 use Rattle.model.specs.WellFormed.{wordOf}
 use Rattle.model.specs.Tape.{Field, Field.str, Field.optStr, Field.contentRange, Field.segRange, fieldsOf, nodeFields, recordAt, operandsAt, contentCodec, segmentCodec, nodeCodec}
-use Rattle.wire.specs.Loops.{allUpTo, Passed, all-passed, all-failed}
+use Rattle.wire.specs.Loops.{allUpTo, Passed, all-passed, all-failed, by-bool}
 use Rattle.records.specs.Values.{bodyAt, segment-body, node-body}
-use Rattle.records.specs.Uses.{wordUse}
+use Rattle.records.specs.Uses.{wordUse, usesOf, useAmong, uses-right, unused-from}
 use Rattle.records.specs.Words.{wordTest, all-by-words}
 use Rattle.store.specs.Pools.{rangeIn}
 use Rattle.store.specs.declared.Store.{Store}
@@ -93,11 +93,14 @@ module _ (st : Store) (u w next : ℕ) where
   unfolding usedWell
   used-not a b d e = rw (ne-eqb u 1 a, ne-eqb u 2 b, ne-eqb u 3 d, ne-eqb u 5 e) refl
 
--- what was read of word i
-pub word-read : (st : Store) (t : List ℕ) (p i u w next : ℕ) → u ≡ wordUse (byteAt t p) (byteAt t (p + 1)) i → w ≡ wordOf (bodyAt t p) i → next ≡ wordOf (bodyAt t p) (i + 1)
-    → usedWell st u w next ≡ wordIn st (bodyAt t p) i
-unfolding wordIn bodyAt
-word-read st t p i u w next e f g = rw (e, f, g) refl
+-- word i by its use u, as the code has it
+module _ (st : Store) (t : List ℕ) (p i : ℕ) {all u : ℕ} (e : all ≡ usesOf (byteAt t p) (byteAt t (p + 1))) (f : u ≡ useAmong all i) (h : i < 6) where
+  use-read : u ≡ wordUse (byteAt t p) (byteAt t (p + 1)) i
+  use-read = f ∙ ap (λ (k : ℕ). useAmong k i) e ∙ uses-right (byteAt t p) (byteAt t (p + 1)) i h
+
+  pub word-read : {r : Bool} → r ≡ usedWell st u (wordOf (bodyAt t p) i) (wordOf (bodyAt t p) (i + 1)) → wordIn st (bodyAt t p) i ≡ r
+  unfolding wordIn bodyAt
+  word-read q = sym (q ∙ ap (λ (k : ℕ). usedWell st k (wordOf (bodyAt t p) i) (wordOf (bodyAt t p) (i + 1))) use-read)
 
 module _ (st : Store) (b : Body) where
   body-words : bodyIn st b ≡ allUpTo 6 (wordIn st b)
@@ -109,6 +112,19 @@ module _ (st : Store) (b : Body) where
 
   pub body-failed : (i : ℕ) → i < 6 → wordIn st b i ≡ false → false ≡ bodyIn st b
   body-failed i h f = sym (body-words ∙ all-failed (wordIn st b) 6 i h f)
+
+-- the words from the first unused one on
+pub body-rest : (st : Store) (t : List ℕ) (p i : ℕ) {all u : ℕ} → all ≡ usesOf (byteAt t p) (byteAt t (p + 1)) → u ≡ useAmong all i → i < 6 → u ≡ 0
+    → Passed (wordIn st (bodyAt t p)) i → true ≡ bodyIn st (bodyAt t p)
+unfolding wordIn usedWell bodyAt
+body-rest st t p i e f h z m = body-passed st (bodyAt t p) 6 (omega arith) (omega arith) (record { all = λ k b. by-bool (ltb k i) (λ s. m .all k (ltb-true k i s)) (λ s. behind k b (ltb-false k i s)) })
+  where
+    behind : (k : ℕ) → k < 6 → i ≤ k → wordIn st (bodyAt t p) k ≡ true
+    behind k b l =
+        let q : i + (k - i) ≡ k = omega arith in
+        let n : wordUse (byteAt t p) (byteAt t (p + 1)) k ≡ 0 =
+        ap (wordUse (byteAt t p) (byteAt t (p + 1))) (sym q) ∙ unused-from (byteAt t p) (byteAt t (p + 1)) i (k - i) (omega arith) (sym (use-read st t p i e f h) ∙ z) in
+        rw n refl
 
 -- ---- the code's answers of single records
 

@@ -10,7 +10,7 @@ ghost use Rattle.model.specs.WellFormed.{wordOf, idsOk};
 ghost use Rattle.records.specs.Values.{bodyAt};
 ghost use Rattle.model.specs.Lists.{all};
 ghost use Rattle.model.specs.Tape.{recordAt, recordsAt, contentCodec, segmentCodec, nodeCodec, places, bookAt};
-ghost use Rattle.ids.specs.Tests.{contentsIn, segmentsIn, usedWell, wordIn, bodyIn, contentIn, segmentIn, nodeIn};
+ghost use Rattle.ids.specs.Tests.{contentsIn, segmentsIn, usedWell, bodyIn, contentIn, segmentIn, nodeIn};
 ghost use Rattle.ids.specs.Whole.{runsIn, layersIn, LayersFit, IdsFit};
 
 // Number 4. A range of contents, and one of segments.
@@ -64,25 +64,29 @@ pub fn next_word(tape: &[u8], at: usize, i: usize) -> u32
     records::body_word(tape, at, i + 1)
 }
 
-// Number 4. The field that begins at word i of the body at `at`.
-fn word_ok(tape: &[u8], st: store::Store, at: usize, i: usize) -> bool
+// Number 4. Word i of the body at `at`, which has that use.
+fn word_ok(tape: &[u8], st: store::Store, usage: u8, at: usize, i: usize) -> bool
     requires { ⌜ (at + 34 ≤ length (now tape)) × (i < 6) × (st .layers ≤ 32) ⌝ }
-    ensures { λ r. ⌜ r ≡ wordIn st (bodyAt (now (tape .entry)) at) i ⌝ }
+    ensures { λ r. ⌜ r ≡ usedWell st usage (wordOf (bodyAt (now (tape .entry)) at) i) (wordOf (bodyAt (now (tape .entry)) at) (i + 1)) ⌝ }
 {
-    let usage = records::word_use(tape[at], tape[at + 1], i);
     let w = records::body_word(tape, at, i);
     let next = next_word(tape, at, i);
     used_well(st, usage, w, next)
 }
 
-// Number 4. Every field of a body.
+// Number 4. Every field of a body: the words up to the first that has no use.
 pub fn body_ids_ok(tape: &[u8], st: store::Store, at: usize) -> bool
     requires { ⌜ (at + 34 ≤ length (now tape)) × (st .layers ≤ 32) ⌝ }
     ensures { λ r. ⌜ r ≡ bodyIn st (bodyAt (now (tape .entry)) at) ⌝ }
 {
+    let uses = records::uses_of(tape[at], tape[at + 1]);
     let mut i = 0;
     while i < 6 {
-        if !word_ok(tape, st, at, i) {
+        let usage = records::use_in(uses, i);
+        if usage == 0 {
+            return true;
+        }
+        if !word_ok(tape, st, usage, at, i) {
             return false;
         }
         i += 1;

@@ -12,11 +12,8 @@ use Rattle.model.specs.Store.{NodeStore}
 use Rattle.wire.specs.Overwrite.{overwrite}
 use Rattle.strings.specs.Index.{Indexed, indexIn, index-length, index-written}
 use Rattle.dependency.specs.Noted.{firstWords, Noted}
+use Rattle.dependency.specs.Words.{lastWords, first-length, first-front, first-last, last-front, last-back}
 use Rattle.region.specs.Words.{indexedWords, words-indexed}
-
--- `&words[middle..words.len()]`
-abbrev pub lastWords : ℕ → List ℕ → List ℕ
-lastWords middle words = take (length words - middle) (drop middle words)
 
 -- both indexes
 pub record BothIndexed (old new words : List ℕ) (base middle : ℕ) : Type 0 where
@@ -38,70 +35,12 @@ kept-more k l = record { size = l .size ∙ k .size; first = l .first ∙ k .fir
 -- ---- the words before `middle` written
 
 module _ (words : List ℕ) (middle : ℕ) (h : middle ≤ length words) (ys : List ℕ) (n : length ys ≡ length (take (middle - 0) words)) where
-  length-first : length ys ≡ middle
-  length-first = n ∙ length-take-le (middle - 0) words (omega (arith, h)) ∙ sub-zero middle
-
-  pub first-length : length (ys ++ drop (middle - 0) words) ≡ length words
-  first-length =
-      let a = length-append ys (drop (middle - 0) words) in
-      let b = length-drop (middle - 0) words in
-      omega (arith, a, b, length-first, h)
-
-  pub first-front : firstWords middle (ys ++ drop (middle - 0) words) ≡ ys
-  first-front =
-      ap (λ (k : ℕ). take k (ys ++ drop (middle - 0) words)) (sub-zero middle ∙ sym length-first) ∙ take-append-seam ys (drop (middle - 0) words)
-
-  pub first-back : drop middle (ys ++ drop (middle - 0) words) ≡ drop middle words
-  first-back =
-      ap (λ (k : ℕ). drop k (ys ++ drop (middle - 0) words)) (sym length-first) ∙ drop-append-seam ys (drop (middle - 0) words)
-      ∙ ap (λ (k : ℕ). drop k words) (sub-zero middle)
-
-  pub first-last : lastWords middle (ys ++ drop (middle - 0) words) ≡ lastWords middle words
-  first-last = ap₂ (λ (k : ℕ) (l : List ℕ). take (k - middle) l) first-length first-back
-
-  pub first-inside : {base : ℕ} → base ≤ middle → base ≤ length (firstWords middle (ys ++ drop (middle - 0) words))
-  first-inside b = let a = ap length first-front in omega (arith, a, length-first, b)
-
   pub first-kept : (base : ℕ) → firstWords base ys ≡ firstWords base (firstWords middle words) → KeptIndexes words base middle (ys ++ drop (middle - 0) words)
-  first-kept base e = record { size = first-length; first = ap (firstWords base) first-front ∙ e; last = first-last }
+  first-kept base e = record { size = first-length words middle h ys n; first = ap (firstWords base) (first-front words middle h ys n) ∙ e; last = first-last words middle h ys n }
 
 -- the same words
 pub noted-words : {st : NodeStore} {ns : List SourceNode} {words other : List ℕ} {base : ℕ} → words ≡ other → Noted st ns other base → Noted st ns words base
 noted-words e m = rw e m
-
--- ---- those behind it
-
-module _ (words : List ℕ) (middle : ℕ) (h : middle ≤ length words) (end : ℕ) (e : end ≡ length words) (zs : List ℕ) (n : length zs ≡ length (take (end - middle) (drop middle words))) where
-  abbrev after : List ℕ
-  after = take middle words ++ (zs ++ drop (end - middle) (drop middle words))
-
-  length-front : length (take middle words) ≡ middle
-  length-front = length-take-le middle words h
-
-  behind-none : drop (end - middle) (drop middle words) ≡ []
-  behind-none = let a = length-drop middle words in drop-of-length-le (drop middle words) {i = end - middle} (omega (arith, a, e))
-
-  after-is : after ≡ take middle words ++ zs
-  after-is = ap (λ (l : List ℕ). take middle words ++ l) (ap (λ (l : List ℕ). zs ++ l) behind-none ∙ append-nil zs)
-
-  pub last-front : firstWords middle after ≡ take middle words
-  last-front =
-      ap (firstWords middle) after-is ∙ ap (λ (k : ℕ). take k (take middle words ++ zs)) (sub-zero middle ∙ sym length-front)
-      ∙ take-append-seam (take middle words) zs
-
-  pub last-first : firstWords middle after ≡ firstWords middle words
-  last-first = last-front ∙ ap (λ (k : ℕ). take k words) (sym (sub-zero middle))
-
-  pub last-inside : middle ≤ length after
-  last-inside = let a = ap length after-is in let b = length-append (take middle words) zs in omega (arith, a, b, length-front)
-
-  pub last-back : lastWords middle after ≡ zs
-  last-back =
-      let a = length-append (take middle words) zs in
-      ap (lastWords middle) after-is
-      ∙ ap (λ (l : List ℕ). take (length (take middle words ++ zs) - middle) l)
-      (ap (λ (k : ℕ). drop k (take middle words ++ zs)) (sym length-front) ∙ drop-append-seam (take middle words) zs)
-      ∙ take-all (length (take middle words ++ zs) - middle) zs (omega (arith, a, length-front))
 
 -- ---- both
 

@@ -24,7 +24,8 @@ ghost use Rattle.dependency.specs.Noted.{firstWords, Noted};
 ghost use Rattle.region.specs.Ready.{Ready};
 ghost use Rattle.region.specs.Held.{Held};
 ghost use Rattle.introduces.specs.Linked.{formatFrom, refersTo, rubyForLater};
-ghost use Rattle.introduces.specs.Words.{lastWords, KeptIndexes, BothIndexed};
+ghost use Rattle.dependency.specs.Words.{lastWords};
+ghost use Rattle.introduces.specs.Words.{KeptIndexes, BothIndexed};
 
 fn any_ruby(tape: &[u8], at: usize, count: usize) -> bool
     requires { ⌜ at + 49 * count ≤ length (now tape) ⌝ }

@@ -1,15 +1,15 @@
--- A text of which a part between two characters is replaced by UTF-8 is UTF-8. Number 2.
+-- A text of which a part between two characters is replaced by UTF-8 is UTF-8, and which parts of UTF-8 are. Number 2.
 use mathlib.Core.Path.{_≡_, refl, sym, ap, _∙_}
-use Prim.Native.Nat.{ℕ, _≤_}
+use Prim.Native.Nat.{ℕ, _+_, _≤_}
 use native.Mathlib.Omega.{arith}
 use native.Mathlib.Nat.{add-zero}
-use mathlib.Core.Bool.{Bool, true, false, not, _&&_, false≢true}
+use mathlib.Core.Bool.{Bool, true, false, not, _&&_, and-false, false≢true}
 use mathlib.Core.List.{List, [], _∷_, _++_}
 use lib.ListN.{length, getD, take, drop, take-append-drop}
 use lib.Seq.{getD-drop}
 use lib.Dec.{leb}
-use borrow.Author.Tests.{leb-true, not-true, le-leb}
-use Rattle.model.specs.Utf8.{within, Utf8State, Utf8State.between, Utf8State.tail1, Utf8State.tail2, Utf8State.tail3, Utf8State.afterE0, Utf8State.afterED, Utf8State.afterF0, Utf8State.afterF4, Utf8State.bad, utf8Step, utf8From, isBetween, utf8, isCharBoundary}
+use borrow.Author.Tests.{leb-true, not-true, le-leb, lt-leb, ne-eqb}
+use Rattle.model.specs.Utf8.{within, Utf8State, Utf8State.between, Utf8State.tail1, Utf8State.tail2, Utf8State.tail3, Utf8State.afterE0, Utf8State.afterED, Utf8State.afterF0, Utf8State.afterF4, Utf8State.bad, utf8First, utf8Step, utf8From, isBetween, utf8, isCharBoundary}
 use Rattle.laws.specs.Lists.{both, join}
 use Rattle.laws.specs.Splice.{splice}
 
@@ -93,3 +93,64 @@ splice-utf8 a b r t u v p q =
     (from-append between (take a t) (r ++ drop b t) ∙ ap (λ (s : Utf8State). utf8From s (r ++ drop b t)) (boundary-state t a u p)
     ∙ from-append between r (drop b t) ∙ ap (λ (s : Utf8State). utf8From s (drop b t)) (is-between (utf8From between r) v) ∙ rest)
     ∙ u
+
+-- ---- parts of a text
+
+-- behind UTF-8 the rest decides
+pub utf8-append : (a b : List ℕ) → utf8 a ≡ true → utf8 (a ++ b) ≡ utf8 b
+unfolding utf8
+utf8-append a b u = ap isBetween (from-append between a b ∙ ap (λ (s : Utf8State). utf8From s b) (is-between (utf8From between a) u))
+
+pub utf8-behind : (n : ℕ) (t : List ℕ) → utf8 (take n t) ≡ true → utf8 t ≡ utf8 (drop n t)
+utf8-behind n t u = ap utf8 (sym (take-append-drop n t)) ∙ utf8-append (take n t) (drop n t) u
+
+-- 80..BF begins no character
+tail-first : (c : ℕ) → within 0x80 0xbf c ≡ true → utf8First c ≡ bad
+unfolding utf8First
+tail-first c e =
+    let w = both (leb 0x80 c) (leb c 0xbf) e in
+    let l = leb-true 0x80 c (w .0) in
+    let h = leb-true c 0xbf (w .1) in
+    rw (
+      lt-leb c 0x7f (omega arith),
+      and-false,
+      lt-leb 0xc2 c (omega arith),
+      ne-eqb c 0xe0 (λ k. omega arith),
+      lt-leb 0xe1 c (omega arith),
+      ne-eqb c 0xed (λ k. omega arith),
+      lt-leb 0xee c (omega arith),
+      ne-eqb c 0xf0 (λ k. omega arith),
+      lt-leb 0xf1 c (omega arith),
+      ne-eqb c 0xf4 (λ k. omega arith),
+    )
+    refl
+
+tail-bad : (l : List ℕ) → within 0x80 0xbf (getD l 0 0) ≡ true → isBetween (utf8From between l) ≡ false
+unfolding utf8From utf8Step isBetween
+tail-bad [] e = absurd (false≢true e)
+tail-bad (c ∷ l) e = ap isBetween (ap (λ (s : Utf8State). utf8From s l) (tail-first c e) ∙ bad-stays l)
+
+-- the first n bytes of UTF-8 are UTF-8 where no character lies across
+start-utf8 : (n : ℕ) (t : List ℕ) → utf8 t ≡ true → not (within 0x80 0xbf (getD t n 0)) ≡ utf8 (take n t)
+unfolding utf8 isBetween
+start-utf8 n t u = go (within 0x80 0xbf (getD t n 0)) refl (isBetween state) refl
+  where
+    state : Utf8State
+    state = utf8From between (take n t)
+
+    whole : isBetween (utf8From state (drop n t)) ≡ true
+    whole = ap isBetween (sym (from-append between (take n t) (drop n t)) ∙ ap (utf8From between) (take-append-drop n t)) ∙ u
+
+    here : getD (drop n t) 0 0 ≡ getD t n 0
+    here = getD-drop n t 0 0 ∙ ap (λ (k : ℕ). getD t k 0) (add-zero n)
+
+    go : (w : Bool) → within 0x80 0xbf (getD t n 0) ≡ w → (x : Bool) → isBetween state ≡ x → not w ≡ x
+    go true e true q =
+        absurd (false≢true (sym (tail-bad (drop n t) (ap (within 0x80 0xbf) here ∙ e)) ∙ ap (λ (s : Utf8State). isBetween (utf8From s (drop n t))) (sym (is-between state q)) ∙ whole))
+    go true e false q = refl
+    go false e x q = sym (sym q ∙ ap isBetween (starts-between state (drop n t) whole (ap (within 0x80 0xbf) here ∙ e)))
+
+-- the same of the bytes from a on
+pub part-utf8 : (a n : ℕ) (t : List ℕ) → a + n ≤ length t → utf8 (drop a t) ≡ true → isCharBoundary t (a + n) ≡ utf8 (take n (drop a t))
+unfolding isCharBoundary
+part-utf8 a n t h u = rw (le-leb (a + n) (length t) h) (ap (λ (k : ℕ). not (within 0x80 0xbf k)) (sym (getD-drop a t n 0)) ∙ start-utf8 n (drop a t) u)

@@ -1,7 +1,7 @@
 -- Number 5 by the starts that a store remembers: what the code computes. A range is looked at again before it is read, so that
 -- nothing here asks for number 4.
 use mathlib.Core.Path.{_≡_, refl, sym, ap, _∙_}
-use Prim.Native.Nat.{ℕ, zero, suc, _+_, _*_, _≤_, _<_}
+use Prim.Native.Nat.{ℕ, zero, suc, _+_, _-_, _*_, _≤_, _<_}
 use native.Mathlib.Omega.{arith}
 use mathlib.Core.Bool.{Bool, true, false, cond, _&&_, _||_}
 use mathlib.Core.List.{List, [], _∷_}
@@ -17,7 +17,7 @@ use Rattle.model.specs.Tape.{Field, Field.str, Field.optStr, Field.contentRange
 use Rattle.laws.specs.Lists.{both}
 use Rattle.wire.specs.Loops.{allUpTo, Passed, all-passed, all-failed, by-bool}
 use Rattle.records.specs.Values.{bodyAt, segment-body}
-use Rattle.records.specs.Uses.{wordUse}
+use Rattle.records.specs.Uses.{wordUse, usesOf, useAmong, uses-right, unused-from}
 use Rattle.records.specs.Words.{wordTest, all-by-words}
 use Rattle.places.specs.Again.{Frame, nodes-inside}
 use Rattle.store.specs.Pools.{rangeIn}
@@ -85,10 +85,14 @@ module _ (t : List ℕ) (st : Store) (level u w next : ℕ) where
   unfolding usedBelow
   used-other a b = rw (ne-eqb u 3 a, ne-eqb u 5 b) (by-bool (eqb u 1) (λ e. rw e refl) (λ e. rw e (by-bool (eqb u 2) (λ f. rw f refl) (λ f. rw f refl))))
 
-pub word-read : (t : List ℕ) (st : Store) (level p i u w next : ℕ) → u ≡ wordUse (byteAt t p) (byteAt t (p + 1)) i → w ≡ wordOf (bodyAt t p) i → next ≡ wordOf (bodyAt t p) (i + 1)
-    → usedBelow t st level u w next ≡ wordBelow t st level (bodyAt t p) i
-unfolding wordBelow bodyAt
-word-read t st level p i u w next e f g = rw (e, f, g) refl
+-- word i by its use u, as the code has it
+module _ (t : List ℕ) (st : Store) (level p i : ℕ) {all u : ℕ} (e : all ≡ usesOf (byteAt t p) (byteAt t (p + 1))) (f : u ≡ useAmong all i) (h : i < 6) where
+  use-read : u ≡ wordUse (byteAt t p) (byteAt t (p + 1)) i
+  use-read = f ∙ ap (λ (k : ℕ). useAmong k i) e ∙ uses-right (byteAt t p) (byteAt t (p + 1)) i h
+
+  pub word-read : {r : Bool} → r ≡ usedBelow t st level u (wordOf (bodyAt t p) i) (wordOf (bodyAt t p) (i + 1)) → wordBelow t st level (bodyAt t p) i ≡ r
+  unfolding wordBelow bodyAt
+  word-read q = sym (q ∙ ap (λ (k : ℕ). usedBelow t st level k (wordOf (bodyAt t p) i) (wordOf (bodyAt t p) (i + 1))) use-read)
 
 module _ (t : List ℕ) (st : Store) (level : ℕ) (b : Body) where
   body-words : bodyBelow t st level b ≡ allUpTo 6 (wordBelow t st level b)
@@ -100,6 +104,19 @@ module _ (t : List ℕ) (st : Store) (level : ℕ) (b : Body) where
 
   pub body-failed : (i : ℕ) → i < 6 → wordBelow t st level b i ≡ false → false ≡ bodyBelow t st level b
   body-failed i h f = sym (body-words ∙ all-failed (wordBelow t st level b) 6 i h f)
+
+-- the words from the first unused one on
+pub body-rest : (t : List ℕ) (st : Store) (level p i : ℕ) {all u : ℕ} → all ≡ usesOf (byteAt t p) (byteAt t (p + 1)) → u ≡ useAmong all i → i < 6 → u ≡ 0
+    → Passed (wordBelow t st level (bodyAt t p)) i → true ≡ bodyBelow t st level (bodyAt t p)
+unfolding wordBelow usedBelow bodyAt
+body-rest t st level p i e f h z m = body-passed t st level (bodyAt t p) 6 (omega arith) (omega arith) (record { all = λ k b. by-bool (ltb k i) (λ s. m .all k (ltb-true k i s)) (λ s. behind k b (ltb-false k i s)) })
+  where
+    behind : (k : ℕ) → k < 6 → i ≤ k → wordBelow t st level (bodyAt t p) k ≡ true
+    behind k b l =
+        let q : i + (k - i) ≡ k = omega arith in
+        let n : wordUse (byteAt t p) (byteAt t (p + 1)) k ≡ 0 =
+        ap (wordUse (byteAt t p) (byteAt t (p + 1))) (sym q) ∙ unused-from (byteAt t p) (byteAt t (p + 1)) i (k - i) (omega arith) (sym (use-read t st level p i e f h) ∙ z) in
+        rw n refl
 
 -- ---- the code's answers
 

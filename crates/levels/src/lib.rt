@@ -8,7 +8,8 @@ ghost use lib.ListN.{length};
 ghost use Rattle.model.specs.Lists.{all};
 ghost use Rattle.model.specs.Tape.{recordAt, recordsAt, contentCodec, segmentCodec, places};
 ghost use Rattle.records.specs.Values.{bodyAt};
-ghost use Rattle.levels.specs.Below.{LevelsFit, below, segmentsBelow, contentBelow, contentsBelow, usedBelow, wordBelow, bodyBelow, levelIn};
+ghost use Rattle.model.specs.WellFormed.{wordOf};
+ghost use Rattle.levels.specs.Below.{LevelsFit, below, segmentsBelow, contentBelow, contentsBelow, usedBelow, bodyBelow, levelIn};
 ghost use Rattle.levels.specs.Whole.{levelsIn};
 
 fn level_below(tape: &[u8], at: usize, level: u8) -> bool
@@ -102,12 +103,12 @@ fn used_below(tape: &[u8], st: store::Store, usage: u8, w: u32, next: u32, level
     true
 }
 
-fn word_below(tape: &[u8], st: store::Store, at: usize, i: usize, level: u8) -> bool
+// Word i of the body at `at`, which has that use.
+fn word_below(tape: &[u8], st: store::Store, usage: u8, at: usize, i: usize, level: u8) -> bool
     requires { ⌜ LevelsFit (now tape) st ⌝ }
     requires { ⌜ (at + 34 ≤ length (now tape)) × (i < 6) ⌝ }
-    ensures { λ r. ⌜ r ≡ wordBelow (now (tape .entry)) st level (bodyAt (now (tape .entry)) at) i ⌝ }
+    ensures { λ r. ⌜ r ≡ usedBelow (now (tape .entry)) st level usage (wordOf (bodyAt (now (tape .entry)) at) i) (wordOf (bodyAt (now (tape .entry)) at) (i + 1)) ⌝ }
 {
-    let usage = records::word_use(tape[at], tape[at + 1], i);
     let w = records::body_word(tape, at, i);
     let next = ids::next_word(tape, at, i);
     used_below(tape, st, usage, w, next, level)
@@ -118,9 +119,14 @@ fn body_below(tape: &[u8], st: store::Store, at: usize, level: u8) -> bool
     requires { ⌜ at + 34 ≤ length (now tape) ⌝ }
     ensures { λ r. ⌜ r ≡ bodyBelow (now (tape .entry)) st level (bodyAt (now (tape .entry)) at) ⌝ }
 {
+    let uses = records::uses_of(tape[at], tape[at + 1]);
     let mut i = 0;
     while i < 6 {
-        if !word_below(tape, st, at, i, level) {
+        let usage = records::use_in(uses, i);
+        if usage == 0 {
+            return true;
+        }
+        if !word_below(tape, st, usage, at, i, level) {
             return false;
         }
         i += 1;

@@ -1,5 +1,4 @@
 pub mod Values
-pub mod Table
 pub mod Uses
 pub mod Shapes
 pub mod Words

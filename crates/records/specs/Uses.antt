@@ -1,6 +1,7 @@
 -- What a word of a body is for: the rule from model's table of fields, the code's table, and that it follows the rule.
-use Prim.Native.Nat.{ℕ, zero, suc, _+_, _-_, _*_, _/_, _%_, _<_, _≤_}
+use Prim.Native.Nat.{ℕ, zero, suc, _+_, _-_, _*_, _/_, _%_, _^_, _<_, _≤_}
 use native.Mathlib.Omega.{arith}
+use native.Mathlib.Nat.{zero-div, zero-mod}
 use native.Mathlib.Numerals.{add-one}
 use mathlib.Core.Path.{_≡_, refl, sym, ap, _∙_}
 use mathlib.Core.Bool.{Bool, true, false, cond, not, _&&_, _||_, or-true, or-false, true≢false}
@@ -13,7 +14,6 @@ use Rattle.model.specs.Lists.{any, ascii}
 use Rattle.model.specs.Tape.{Field, Field.str, Field.optStr, Field.contentRange, Field.segRange, fieldTable, usesWord, unusedZero}
 use Rattle.laws.specs.Lists.{both}
 use Rattle.wire.specs.Loops.{by-bool, allUpTo, all-at}
-use Rattle.records.specs.Table.{every, every-at}
 
 -- ---- the rule
 
@@ -40,30 +40,46 @@ wordUse kind tag i = useIn i (getD (fieldTable tag) kind [])
 unfoldable pub wordFits : List Field → ℕ → ℕ → Bool
 wordFits fs i w = any (usesWord i) fs || eqb w 0
 
--- ---- the code's table
+-- ---- the code's numbers
 
-abbrev pub uses : List ℕ
-uses = ascii "100000343400340000341000120000000000122200122210122256"
+-- three bits a word, from the lowest on
+unfoldable pub formatUses : ℕ → ℕ
+formatUses tag = cond (ltb (tag % 4) 2) 35 99
 
-abbrev pub rows : List ℕ
-rows = ascii "0000111122330040555555555555555555552222000067860000000022221111"
+unfoldable pub mencodeUses : ℕ → ℕ
+mencodeUses tag = cond (eqb tag 2) 17 1
 
+unfoldable pub imageUses : ℕ → ℕ
+imageUses tag = cond (eqb tag 1) 5265 (cond (eqb tag 2) 218257 1169)
+
+-- kinds whose tag says nothing of their words
+unfoldable pub otherUses : ℕ → ℕ
+otherUses kind =
+    cond (eqb kind 0) 1 (cond (eqb kind 1) 2275 (cond (eqb kind 9) 35 (cond (eqb kind 10) 1
+    (cond (eqb kind 12) 1 (cond (eqb kind 13) 1 (cond (eqb kind 14) 35 (cond (eqb kind 15) 2275 0)))))))
+
+unfoldable pub usesOf : ℕ → ℕ → ℕ
+usesOf kind tag = cond (eqb kind 2) (formatUses tag) (cond (eqb kind 3) (mencodeUses tag) (cond (eqb kind 11) (imageUses tag) (otherUses kind)))
+
+unfoldable pub useAmong : ℕ → ℕ → ℕ
+useAmong u i = u / 2 ^ (3 * i) % 8
+
+-- the tags that matter
 unfoldable pub variantOf : ℕ → ℕ → ℕ
 variantOf kind tag = cond (eqb kind 2) (tag % 4) (cond (ltb tag 3) tag 3)
 
-unfoldable pub rowOf : ℕ → ℕ → ℕ
-rowOf kind tag = getD rows (4 * kind + variantOf kind tag) 0 - 48
+-- word i of kind n / 4 with tag n % 4, and that the words behind an unused one are unused
+unfoldable usesAt : ℕ → ℕ → Bool
+usesAt n i =
+    eqb (useAmong (usesOf (n / 4) (n % 4)) i) (wordUse (n / 4) (n % 4) i)
+    && (not (eqb (wordUse (n / 4) (n % 4) i) 0) || eqb (wordUse (n / 4) (n % 4) (i + 1)) 0)
 
--- word i of the row that the entry n of `rows` names by a digit x has its use
-unfoldable usesAt : ℕ → ℕ → ℕ → Bool
-usesAt n x i = eqb (getD uses (6 * (x - 48) + i) 0) (48 + wordUse (n / 4) (n % 4) i)
+unfoldable rowRight : ℕ → Bool
+rowRight n = allUpTo 6 (usesAt n)
 
-unfoldable rowRight : ℕ → ℕ → Bool
-rowRight n x = (leb 48 x && ltb x 57) && allUpTo 6 (usesAt n x)
-
--- the whole table
-rows-right : every rowRight 0 rows ≡ true
-unfolding rowRight usesAt allUpTo wordUse useIn useOf fieldTable
+-- all of them
+rows-right : allUpTo 64 rowRight ≡ true
+unfolding rowRight usesAt allUpTo wordUse useIn useOf fieldTable useAmong usesOf formatUses mencodeUses imageUses otherUses
 rows-right = refl
 
 -- ---- that it follows the rule
@@ -100,44 +116,65 @@ pub same-use : (k t i : ℕ) → wordUse k t i ≡ wordUse k (variantOf k t) i
 unfolding wordUse
 same-use k t i = ap (useIn i) (same-fields k t)
 
-module _ (k t : ℕ) (h : k < 16) where
-  row-test : rowRight (4 * k + variantOf k t) (getD rows (4 * k + variantOf k t) 0) ≡ true
-  row-test = every-at rowRight rows rows-right (4 * k + variantOf k t) (omega (arith, variant-small k t))
+same-uses : (k t : ℕ) → usesOf k t ≡ usesOf k (variantOf k t)
+unfolding usesOf variantOf formatUses mencodeUses imageUses
+same-uses k t =
+    by-bool (eqb k 2) (λ e. let m : t % 4 % 4 ≡ t % 4 = omega arith in rw (e, m) refl)
+    (λ e. rw (e, few t 1 (omega arith), few t 2 (omega arith)) refl)
 
-  row-parts : (48 ≤ getD rows (4 * k + variantOf k t) 0) × (getD rows (4 * k + variantOf k t) 0 < 57)
-      × (allUpTo 6 (usesAt (4 * k + variantOf k t) (getD rows (4 * k + variantOf k t) 0)) ≡ true)
-  unfolding rowRight
+module _ (k t : ℕ) (h : k < 16) (i : ℕ) (b : i < 6) where
+  row-parts : (useAmong (usesOf k t) i ≡ wordUse k t i) × ((not (eqb (wordUse k t i) 0) || eqb (wordUse k t (i + 1)) 0) ≡ true)
+  unfolding rowRight usesAt
   row-parts =
       let n = 4 * k + variantOf k t in
-      let x = getD rows n 0 in
-      let a = both (leb 48 x && ltb x 57) (allUpTo 6 (usesAt n x)) row-test in
-      let b = both (leb 48 x) (ltb x 57) (a .0) in
-      (leb-true 48 x (b .0), ltb-true x 57 (b .1), a .1)
-
-  pub row-digit : 48 ≤ getD rows (4 * k + variantOf k t) 0
-  row-digit = row-parts .0
-
-  pub row-below : getD rows (4 * k + variantOf k t) 0 < 57
-  row-below = row-parts .1
-
-  pub row-small : rowOf k t < 9
-  unfolding rowOf
-  row-small = omega (arith, row-parts .1)
-
-  pub uses-right : (i : ℕ) → i < 6 → getD uses (6 * rowOf k t + i) 0 ≡ 48 + wordUse k t i
-  unfolding rowOf usesAt
-  uses-right i b =
-      let n = 4 * k + variantOf k t in
-      let x = getD rows n 0 in
-      let a : getD uses (6 * (x - 48) + i) 0 ≡ 48 + wordUse (n / 4) (n % 4) i = eqb-true _ _ (all-at (usesAt n x) 6 i (row-parts .2) b) in
-      let e₁ : n / 4 ≡ k = omega (arith, variant-small k t) in
-      let e₂ : n % 4 ≡ variantOf k t = omega (arith, variant-small k t) in
-      a ∙ rw (e₁, e₂) (ap (λ (u : ℕ). 48 + u) (sym (same-use k t i)))
+      let v = variant-small k t in
+      let e₁ : n / 4 ≡ k = omega arith in
+      let e₂ : n % 4 ≡ variantOf k t = omega arith in
+      let a = all-at (usesAt n) 6 i (all-at rowRight 64 n rows-right (omega arith)) b in
+      let p = rw (e₁, e₂, ← same-uses k t, ← same-use k t i, ← same-use k t (i + 1)) at a in
+      let q = both _ _ p in
+      (eqb-true _ _ (q .0), q .1)
 
 -- a kind that is none has no fields
 pub use-none : (k t i : ℕ) → 16 ≤ k → wordUse k t i ≡ 0
 unfolding wordUse useIn fieldTable
 use-none k t i h = ap (useIn i) (List·getD-eq-default (fieldTable t) [] h)
+
+uses-none : (k t : ℕ) → 16 ≤ k → usesOf k t ≡ 0
+unfolding usesOf otherUses
+uses-none k t h =
+    rw (
+      ne-eqb k 2 (λ e. omega arith),
+      ne-eqb k 3 (λ e. omega arith),
+      ne-eqb k 11 (λ e. omega arith),
+      ne-eqb k 0 (λ e. omega arith),
+      ne-eqb k 1 (λ e. omega arith),
+      ne-eqb k 9 (λ e. omega arith),
+      ne-eqb k 10 (λ e. omega arith),
+      ne-eqb k 12 (λ e. omega arith),
+      ne-eqb k 13 (λ e. omega arith),
+      ne-eqb k 14 (λ e. omega arith),
+      ne-eqb k 15 (λ e. omega arith),
+    ) refl
+
+-- the code's number has the use of each word
+pub uses-right : (k t i : ℕ) → i < 6 → useAmong (usesOf k t) i ≡ wordUse k t i
+unfolding useAmong
+uses-right k t i b =
+    by-bool (ltb k 16) (λ e. row-parts k t (ltb-true k 16 e) i b .0)
+    (λ e. let h = ltb-false k 16 e in rw (uses-none k t h, use-none k t i h, zero-div) refl)
+
+-- the words behind an unused one are unused
+unused-next : (k t i : ℕ) → i < 6 → wordUse k t i ≡ 0 → wordUse k t (i + 1) ≡ 0
+unused-next k t i b e =
+    by-bool (ltb k 16)
+    (λ s. eqb-true (wordUse k t (i + 1)) 0 (rw e at (row-parts k t (ltb-true k 16 s) i b .1)))
+    (λ s. use-none k t (i + 1) (ltb-false k 16 s))
+
+pub unused-from : (k t i d : ℕ) → i + d ≤ 6 → wordUse k t i ≡ 0 → wordUse k t (i + d) ≡ 0
+unused-from k t i zero b e = ap (wordUse k t) (let z : i + 0 ≡ i = omega arith in z) ∙ e
+unused-from k t i (suc d) b e =
+    ap (wordUse k t) (let z : i + suc d ≡ i + d + 1 = omega arith in z) ∙ unused-next k t (i + d) (omega arith) (unused-from k t i d (omega arith) e)
 
 -- a field uses a word where it has a use for it
 uses-one : (i : ℕ) (f : Field) → usesWord i f ≡ not (eqb (useOf i f) 0)

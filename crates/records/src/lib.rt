@@ -12,7 +12,7 @@ ghost use Rattle.model.specs.Tape.{contentShape, segmentShape, nodeShape, pairS
 ghost use Rattle.model.specs.WellFormed.{wordOf};
 ghost use Rattle.records.specs.Values.{bodyOf, contentOf, segmentOf, sourceNodeOf, pairLinkOf, containerPairOf, diagnosticOf};
 ghost use Rattle.records.specs.Values.{bodyAt};
-ghost use Rattle.records.specs.Uses.{variantOf, rowOf, wordUse, fieldsFor, wordFits};
+ghost use Rattle.records.specs.Uses.{formatUses, mencodeUses, imageUses, usesOf, useAmong, wordUse, fieldsFor, wordFits};
 ghost use Rattle.records.specs.Shapes.{segmentHead, nodeHead};
 
 // Section 4. A body: what a `Node` or a text holds.
@@ -197,13 +197,6 @@ pub fn diagnostic_at(tape: &[u8], at: usize) -> Diagnostic
 // Section 4. How many tags each kind has.
 const TAGS: [u8; 16] = [1, 1, 16, 3, 1, 1, 1, 1, 1, 1, 1, 3, 1, 14, 1, 1];
 
-// What the six words of a body are for, in rows of six digits: 0 unused, 1 a string, 2 a string that may be missing, 3 and 4
-// start and length of contents, 5 and 6 start and length of segments.
-const USES: [u8; 54] = *b"100000343400340000341000120000000000122200122210122256";
-
-// The row of each kind, a digit for each of the four tags that `variant` tells apart.
-const ROWS: [u8; 64] = *b"0000111122330040555555555555555555552222000067860000000022221111";
-
 fn tag_count(kind: u8) -> u8
     ensures { λ r. ⌜ r ≡ getD tagCounts kind 0 ⌝ }
 {
@@ -214,37 +207,93 @@ fn tag_count(kind: u8) -> u8
     TAGS[k]
 }
 
-// Format's tag is origin × 4 + payload, and only the payload matters here; other kinds differ in tags 1 and 2 at most.
-fn variant(kind: u8, tag: u8) -> usize
-    ensures { λ r. ⌜ r ≡ variantOf kind tag ⌝ }
+// What the six words of a body are for, three bits a word from the lowest on: 0 unused, 1 a string, 2 a string that may be missing,
+// 3 and 4 start and length of contents, 5 and 6 start and length of segments. Plain numbers, as a table of constants would be
+// written to the stack at each call.
+
+// Format's tag is origin × 4 + payload, and only the payload matters here.
+fn format_uses(tag: u8) -> u32
+    ensures { λ r. ⌜ r ≡ formatUses tag ⌝ }
+{
+    if tag % 4 < 2 {
+        return 35;
+    }
+    99
+}
+
+fn mencode_uses(tag: u8) -> u32
+    ensures { λ r. ⌜ r ≡ mencodeUses tag ⌝ }
+{
+    if tag == 2 {
+        return 17;
+    }
+    1
+}
+
+fn image_uses(tag: u8) -> u32
+    ensures { λ r. ⌜ r ≡ imageUses tag ⌝ }
+{
+    if tag == 1 {
+        return 5265;
+    }
+    if tag == 2 {
+        return 218257;
+    }
+    1169
+}
+
+pub fn uses_of(kind: u8, tag: u8) -> u32
+    ensures { λ r. ⌜ r ≡ usesOf kind tag ⌝ }
 {
     if kind == 2 {
-        return (tag % 4) as usize;
+        return format_uses(tag);
     }
-    if tag < 3 {
-        return tag as usize;
+    if kind == 3 {
+        return mencode_uses(tag);
     }
-    3
+    if kind == 11 {
+        return image_uses(tag);
+    }
+    if kind == 0 {
+        return 1;
+    }
+    if kind == 1 {
+        return 2275;
+    }
+    if kind == 9 {
+        return 35;
+    }
+    if kind == 10 {
+        return 1;
+    }
+    if kind == 12 {
+        return 1;
+    }
+    if kind == 13 {
+        return 1;
+    }
+    if kind == 14 {
+        return 35;
+    }
+    if kind == 15 {
+        return 2275;
+    }
+    0
 }
 
-fn row_of(kind: u8, tag: u8) -> usize
-    requires { ⌜ kind < 16 ⌝ }
-    ensures { λ r. ⌜ r ≡ rowOf kind tag ⌝ }
+pub fn use_in(uses: u32, i: usize) -> u8
+    requires { ⌜ i < 6 ⌝ }
+    ensures { λ r. ⌜ r ≡ useAmong uses i ⌝ }
 {
-    let n = 4 * (kind as usize) + variant(kind, tag);
-    (ROWS[n] - 48) as usize
+    ((uses >> (3 * i)) % 8) as u8
 }
 
-// What word i of a body is for, as a digit of `USES`.
+// What word i of a body is for.
 pub fn word_use(kind: u8, tag: u8, i: usize) -> u8
     requires { ⌜ i < 6 ⌝ }
     ensures { λ r. ⌜ r ≡ wordUse kind tag i ⌝ }
 {
-    if 16 <= kind {
-        return 0;
-    }
-    let n = 6 * row_of(kind, tag) + i;
-    USES[n] - 48
+    use_in(uses_of(kind, tag), i)
 }
 
 // Section 4. Unused words are 0; a body that is not `used`, of a node of class 2 or 3, has no words.

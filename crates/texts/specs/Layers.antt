@@ -5,18 +5,20 @@ use Prim.Native.Nat.{ℕ, suc, _+_, _*_, _≤_, _<_}
 use native.Mathlib.Omega.{arith}
 use native.Mathlib.Numerals.{add-one}
 use mathlib.Core.Bool.{Bool, true, false, _&&_}
-use mathlib.Core.List.{List, _∷_}
+use mathlib.Core.List.{List, [], _∷_}
 use lib.ListN.{length, drop, drop-of-length-le}
 use lib.Seq.{drop-cons, drop-drop}
 use Rattle.model.specs.Lists.{all, sum}
 use Rattle.model.specs.Types.{Layer}
 use Rattle.model.specs.Utf8.{utf8}
 use Rattle.model.specs.Tape.{LayerPlaces, layerPlaces, places, recordsAt, stringCodec, stringLengths, layerAt, layersAt, pieces}
+use Rattle.laws.specs.Lists.{both}
 use Rattle.laws.specs.RoundTrip.{layer-end, stringBytes}
 use Rattle.places.specs.declared.LayerRuns.{LayerRuns}
 use Rattle.places.specs.Runs.{capped}
 use Rattle.places.specs.Found.{layerRuns}
 use Rattle.places.specs.Again.{AtLayer, at-first, at-inside, at-here, at-next, at-before}
+use Rattle.texts.specs.Strings.{pieces-behind}
 
 -- each string of a layer by itself
 abbrev pub layerUtf8 : Layer → Bool
@@ -25,6 +27,15 @@ layerUtf8 l = all utf8 (l .strings)
 -- the strings of layers, the first at the head of b
 abbrev pub layersUtf8 : List ℕ → List LayerPlaces → List ℕ → Bool
 layersUtf8 t ls b = all layerUtf8 (layersAt t ls b)
+
+-- where each string of each layer is UTF-8 the bytes behind them decide
+pub layers-behind : (t : List ℕ) (ls : List LayerPlaces) (b : List ℕ) → layersUtf8 t ls b ≡ true → utf8 b ≡ utf8 (drop (stringBytes t ls) b)
+unfolding layersAt layerAt
+layers-behind t [] b e = refl
+layers-behind t (l ∷ ls) b e =
+    let ns = stringLengths t l in
+    let w = both (all utf8 (pieces ns b)) (layersUtf8 t ls (drop (sum ns) b)) e in
+    pieces-behind ns b (w .0) ∙ layers-behind t ls (drop (sum ns) b) (w .1) ∙ ap utf8 (drop-drop (stringBytes t ls) (sum ns) b)
 
 -- what a frame that holds gives
 pub record LayersFit (t d : List ℕ) (layers from : ℕ) : Type 0 where
@@ -36,9 +47,10 @@ pub record LayersLeft (t d : List ℕ) (from i at place : ℕ) : Type 0 where
   pub here : AtLayer t i at
   pub is : layersUtf8 t (places t .layers) (drop from d) ≡ layersUtf8 t (drop i (places t .layers)) (drop place d)
   pub bytes : from + stringBytes t (places t .layers) ≡ place + stringBytes t (drop i (places t .layers))
+  pub whole : utf8 (drop place d) ≡ true
 
-pub layers-none : (t d : List ℕ) (from : ℕ) → LayersLeft t d from 0 9 from
-layers-none t d from = record { here = at-first t; is = refl; bytes = refl }
+pub layers-none : (t d : List ℕ) (from : ℕ) → utf8 (drop from d) ≡ true → LayersLeft t d from 0 9 from
+layers-none t d from w = record { here = at-first t; is = refl; bytes = refl; whole = w }
 
 module _ {t d : List ℕ} {from i at place : ℕ} (s : LayersLeft t d from i at place) {layers : ℕ} (fits : LayersFit t d layers from) where
   module _ (h : i < layers) where
@@ -99,6 +111,12 @@ module _ {t d : List ℕ} {from i at place : ℕ} (s : LayersLeft t d from i at 
         pub layers-bad : r ≡ false → false ≡ layersUtf8 t (places t .layers) (drop from d)
         layers-bad f = sym (split ∙ rw (sym q ∙ f) refl)
 
+        behind : {n : ℕ} → r ≡ true → n ≡ sum (stringLengths t (layerPlaces t at)) → utf8 (drop (place + n) d) ≡ true
+        behind {n} f m =
+            let ns = recordsAt stringCodec t (l .strings .at) (l .strings .count) in
+            let k : sum ns ≡ n = ap sum lengths ∙ sym m in
+            ap (λ (x : ℕ). utf8 (drop (place + x) d)) (sym k) ∙ ap utf8 (sym (drop-drop (sum ns) place d)) ∙ sym (pieces-behind ns (drop place d) (sym q ∙ f)) ∙ s .whole
+
         pub layers-more : {n : ℕ} → r ≡ true → n ≡ capped (length d) (sum (recordsAt stringCodec t (l .strings .at) (l .strings .count)))
             → LayersLeft t d from (i + 1) (l .end) (place + n)
         layers-more {n} f g =
@@ -107,6 +125,7 @@ module _ {t d : List ℕ} {from i at place : ℕ} (s : LayersLeft t d from i at 
               here = at-next (s .here) inside e;
               is = split ∙ rw (sym q ∙ f) (ap (λ (k : ℕ). layersUtf8 t (drop (i + 1) (places t .layers)) (drop (place + k) d)) (sym m));
               bytes = omega (arith, total, m);
+              whole = behind f m;
             }
 
   pub layers-all : layers ≤ i → true ≡ layersUtf8 t (places t .layers) (drop from d)

@@ -1,6 +1,7 @@
 // Numbers 2 and 3 of a tape whose frame holds, document 01 section 4. Number 2: both texts are UTF-8, and each string is by
-// itself, so that no character lies across two strings; the strings are walked layer by layer, as their bytes stand one behind
-// the other. Number 3: no text, pool, list or number of layers is over its limit, by the counts that `places_of` found.
+// itself. All bytes are tested together, and then that no character lies across the end of a text or string; the strings are
+// walked layer by layer, as their bytes stand one behind the other. Number 3: no text, pool, list or number of layers is over
+// its limit, by the counts that `places_of` found.
 ghost use mathlib.Core.Path.{_≡_};
 ghost use mathlib.Core.Bool.{true};
 ghost use Prim.Native.Nat.{_+_, _*_, _≤_};
@@ -37,17 +38,19 @@ pub fn within_limits(p: places::Places) -> bool
         & (p.layers <= MAX_LAYERS)
 }
 
+// A part of bytes that are UTF-8 from its start on: no character lies across its end.
 fn part_utf8(bytes: &[u8], at: usize, len: usize) -> bool
-    requires { ⌜ at + len ≤ length (now bytes) ⌝ }
+    requires { ⌜ (at + len ≤ length (now bytes)) × (utf8 (drop at (now bytes)) ≡ true) ⌝ }
     ensures { λ r. ⌜ r ≡ utf8 (take len (drop at (now (bytes .entry)))) ⌝ }
 {
-    utf8::is_utf8(&bytes[at..at + len])
+    utf8::is_char_boundary(bytes, at + len)
 }
 
-// Number 2, one layer: its string records stand at `at`, the bytes of its strings at `from`.
-pub fn strings_utf8(tape: &[u8], at: usize, count: usize, bytes: &[u8], from: usize) -> bool
+// Number 2, one layer: its string records stand at `at`, the bytes of its strings at `from`, from where on all is UTF-8.
+fn strings_utf8(tape: &[u8], at: usize, count: usize, bytes: &[u8], from: usize) -> bool
     requires { ⌜ at + 5 * count ≤ length (now tape) ⌝ }
     requires { ⌜ from + sum (recordsAt stringCodec (now tape) at count) ≤ length (now bytes) ⌝ }
+    requires { ⌜ utf8 (drop from (now bytes)) ≡ true ⌝ }
     ensures { λ r. ⌜ r ≡ all utf8 (pieces (recordsAt stringCodec (now (tape .entry)) at count) (drop from (now (bytes .entry)))) ⌝ }
 {
     let mut place = from;
@@ -63,9 +66,9 @@ pub fn strings_utf8(tape: &[u8], at: usize, count: usize, bytes: &[u8], from: us
     true
 }
 
-// Number 2, all layers: the first stands at 9, the bytes of their strings at `from`.
-pub fn layers_utf8(tape: &[u8], bytes: &[u8], layers: usize, from: usize) -> bool
-    requires { ⌜ LayersFit (now tape) (now bytes) layers from ⌝ }
+// Number 2, all layers: the first stands at 9, the bytes of their strings at `from`, from where on all is UTF-8.
+fn layers_utf8(tape: &[u8], bytes: &[u8], layers: usize, from: usize) -> bool
+    requires { ⌜ LayersFit (now tape) (now bytes) layers from × (utf8 (drop from (now bytes)) ≡ true) ⌝ }
     ensures { λ r. ⌜ r ≡ all layerUtf8 (layersAt (now (tape .entry)) (placesIn (now (tape .entry)) .layers) (drop from (now (bytes .entry)))) ⌝ }
 {
     let mut at = 9;
@@ -90,6 +93,9 @@ pub fn texts_utf8(tape: &[u8], bytes: &[u8], p: places::Places) -> bool
 {
     let text = p.text as usize;
     let normalized = p.normalized as usize;
+    if !utf8::is_utf8(bytes) {
+        return false;
+    }
     if !part_utf8(bytes, 0, text) {
         return false;
     }

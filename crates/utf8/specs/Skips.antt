@@ -37,6 +37,13 @@ step-skipped {s} {at} {r} p h =
     let e : at + (r - at) ≡ r = omega arith in
     record { fits = rw e (p .fits); none = λ z. absurd (omega arith); some = λ z. rw e (p .rest) }
 
+-- the characters from a place i that lies ahead
+pub step-stop : {s : List ℕ} {at i n : ℕ} → Skipped s at i → Step s i n → n ≡ 0 → Step s at 0
+step-stop p q z = record { fits = omega (arith, p .order, p .fits); none = λ e. p .rest ∙ q .none z; some = λ e. absurd (e refl) }
+
+pub step-on : {s : List ℕ} {at i n : ℕ} → Skipped s at i → Step s i n → (n ≡ 0 → ⊥) → Skipped s at (i + n)
+step-on p q z = record { order = omega (arith, p .order); fits = q .fits; rest = p .rest ∙ q .some z }
+
 module _ (s : List ℕ) (at : ℕ) (h : at < length s) where
   pub skip-char : (n : ℕ) → n ≡ charLen (drop at s) → (n ≡ 0 → ⊥) → Skipped s at (at + n)
   skip-char n e z = record { order = omega arith; fits = char-fits s at n e (omega arith); rest = char-next s at n e h z }

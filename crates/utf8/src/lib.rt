@@ -1,13 +1,15 @@
 // UTF-8 by RFC 3629, for document 01's returned numbers 2 (a text is not UTF-8), 8 and 16 (a place inside a character): a walk by
-// characters. specs/Skips.antt: runs of ASCII, and of three bytes, are skipped together.
+// characters. specs/Skips.antt: runs of ASCII, and of three bytes, are skipped together. specs/Blocks.antt: 64 bytes are
+// judged together by their neighbours.
 ghost use mathlib.Core.Path.{_≡_};
 ghost use mathlib.Core.Bool.{_&&_};
 ghost use Prim.Native.Nat.{_+_, _≤_, _<_};
 ghost use lib.ListN.{length, getD};
 ghost use lib.Dec.{ltb};
 ghost use Rattle.model.specs.Utf8.{utf8, isCharBoundary};
-ghost use Rattle.wire.specs.Loops.{allUpTo};
+ghost use Rattle.wire.specs.Loops.{allUpTo, anyUpTo};
 ghost use Rattle.utf8.specs.Skips.{Skipped, Step, asciiAt, isThree};
+ghost use Rattle.utf8.specs.Blocks.{isOdd, oddAt, lenOf, Clear};
 
 // A single `&` and no branches, so that LLVM tests the bytes together.
 fn four_ascii(a: u8, b: u8, c: u8, d: u8) -> bool
@@ -132,12 +134,105 @@ fn step_len(s: &[u8], at: usize) -> usize
     chars::char_len(s, at)
 }
 
+// At least 64 bytes of characters, or all that are left; 0 where there is none.
+fn slow_len(s: &[u8], at: usize) -> usize
+    requires { ⌜ at < length (now s) ⌝ }
+    ensures { λ r. ⌜ Step (now (s .entry)) at r ⌝ }
+{
+    let mut i = at;
+    while i < s.len() {
+        if 64 <= i - at {
+            return i - at;
+        }
+        let n = step_len(s, i);
+        if n == 0 {
+            return 0;
+        }
+        i += n;
+    }
+    i - at
+}
+
+// The byte b behind p and q is not as its neighbours ask, or leads a character that is not judged by neighbours.
+fn odd(p: u8, q: u8, b: u8) -> bool
+    ensures { λ r. ⌜ r ≡ isOdd p q b ⌝ }
+{
+    (chars::within(0x80, 0xbf, b) != ((0xc0 <= q) | (0xe0 <= p)))
+        | chars::within(0xc0, 0xc1, b)
+        | (b == 0xe0)
+        | (b == 0xed)
+        | (0xf0 <= b)
+}
+
+// One of the 64 bytes from `from` + 2 on is odd. No branches, so that LLVM judges 16 bytes together.
+fn odd_block(s: &[u8], from: usize) -> bool
+    requires { ⌜ from + 66 ≤ length (now s) ⌝ }
+    ensures { λ r. ⌜ r ≡ anyUpTo 64 (oddAt (now (s .entry)) from) ⌝ }
+{
+    let mut bad = false;
+    let mut i = 0;
+    while i < 64 {
+        bad = bad | odd(s[from + i], s[from + i + 1], s[from + i + 2]);
+        i += 1;
+    }
+    bad
+}
+
+// How far the last bound between two characters lies in a block whose last bytes are a and b.
+fn block_len(a: u8, b: u8) -> usize
+    ensures { λ r. ⌜ r ≡ lenOf a b ⌝ }
+{
+    if 0xc0 <= b {
+        return 63;
+    }
+    if 0xe0 <= a {
+        return 62;
+    }
+    64
+}
+
+// Two bytes before the end of the blocks that begin two bytes behind `from`.
+fn blocks_end(s: &[u8], from: usize) -> usize
+    requires { ⌜ (from + 2 ≤ length (now s)) × Clear (now s) from ⌝ }
+    ensures { λ r. ⌜ Skipped (now (s .entry)) (from + 2) (r + 2) ⌝ }
+{
+    let mut i = from;
+    while 66 <= s.len() - i {
+        if odd_block(s, i) {
+            return i;
+        }
+        i += block_len(s[i + 64], s[i + 65]);
+    }
+    i
+}
+
+// Behind the blocks from `at` on.
+fn plain_end(s: &[u8], at: usize) -> usize
+    requires { ⌜ at ≤ length (now s) ⌝ }
+    ensures { λ r. ⌜ Skipped (now (s .entry)) at r ⌝ }
+{
+    if at < 2 {
+        return at;
+    }
+    if 0xc0 <= s[at - 1] {
+        return at;
+    }
+    if 0xe0 <= s[at - 2] {
+        return at;
+    }
+    blocks_end(s, at - 2) + 2
+}
+
 pub fn is_utf8(s: &[u8]) -> bool
     ensures { λ r. ⌜ r ≡ utf8 (now (s .entry)) ⌝ }
 {
     let mut at = 0;
     while at < s.len() {
-        let n = step_len(s, at);
+        at = plain_end(s, ascii_blocks(s, at));
+        if s.len() <= at {
+            return true;
+        }
+        let n = slow_len(s, at);
         if n == 0 {
             return false;
         }

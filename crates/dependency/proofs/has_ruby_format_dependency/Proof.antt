@@ -1,25 +1,63 @@
 use Rattle.dependency.specs.Sound.{sound-before}
-use Rattle.dependency.specs.Asked.{asked-inside, asked-depends}
+use Rattle.dependency.specs.Asked.{asked-inside, asked-depends, asked-none}
 use borrow.Author.Needs.{needs}
 use Rattle.dependency.proofs.has_ruby_format_dependency.Statement.{statement}
 use Rattle.dependency.proofs.has_ruby_format_dependency.Tie as tie
 use Rattle.dependency.proofs.has_ruby_format_dependency.Reads as reads
 use Rattle.dependency.proofs.has_ruby_format_dependency.Lts as lts
-use Rattle.dependency.proofs.any_refers_back.Reads as any-refers-back-reads
 use Rattle.dependency.proofs.asked_nodes.Reads as asked-nodes-reads
+use Rattle.dependency.proofs.refers_by_own.Reads as refers-by-own-reads
+use Rattle.dependency.proofs.refers_in_parts.Reads as refers-in-parts-reads
 
 asked-nodes-requires : tie.Need-asked-nodes-requires
 asked-nodes-requires c κs = search needs
 
-any-refers-back-requires : tie.Need-any-refers-back-requires
-any-refers-back-requires c κs = (sound-before (c .before .before .before .before .before .before .pre .0) (asked-inside _ _ _ _ (c .before .asked-nodes .ensures)), c .before .before .before .before .before .before .pre .1)
+returns : tie.Need-returns
+returns c = asked-none _ _ _ _ (c .before .asked-nodes .ensures) _ (c .if1 .taken)
+
+sub-if2 : tie.Need-sub-if2
+sub-if2 c = search needs
+
+sub-refers-by-own : tie.Need-sub-refers-by-own
+sub-refers-by-own c = search needs
+
+part-refers-by-own-start : tie.Need-part-refers-by-own-start
+part-refers-by-own-start c = search needs
+
+part-refers-by-own-end : tie.Need-part-refers-by-own-end
+part-refers-by-own-end c = search needs
+
+refers-by-own-requires : tie.Need-refers-by-own-requires
+refers-by-own-requires c κs = sound-before (c .before .before .before .before .before .before .before .before .before .pre .0) (asked-inside _ _ _ _ (c .before .before .before .before .asked-nodes .ensures))
 
 same-length : tie.Need-same-length
 same-length c = search needs
 
-returns : tie.Need-returns
-returns c = asked-depends _ _ _ _ (c .before .before .before .before .asked-nodes .ensures) _ (c .before .before .any-refers-back .ensures)
+returns-2 : tie.Need-returns-2
+returns-2 c = asked-depends _ _ _ _ (c .before .before .before .before .before .asked-nodes .ensures) _ (c .refers-by-own .ensures)
+
+refers-in-parts-requires : tie.Need-refers-in-parts-requires
+refers-in-parts-requires c κs = (sound-before (c .before .before .before .before .before .before .before .before .pre .0) (asked-inside _ _ _ _ (c .before .before .before .asked-nodes .ensures)), c .before .before .before .before .before .before .before .before .pre .1)
+
+same-length-2 : tie.Need-same-length-2
+same-length-2 c = search needs
+
+returns-3 : tie.Need-returns-3
+returns-3 c = asked-depends _ _ _ _ (c .before .before .before .before .before .before .asked-nodes .ensures) _ (c .before .before .refers-in-parts .ensures)
 
 pub has-ruby-format-dependency-spec : {M : Type 1} → statement M
 has-ruby-format-dependency-spec =
-    tie.close (tie.spec asked-nodes-requires any-refers-back-requires same-length returns)
+    tie.close
+    (tie.spec
+    asked-nodes-requires
+    returns
+    sub-if2
+    sub-refers-by-own
+    part-refers-by-own-start
+    part-refers-by-own-end
+    refers-by-own-requires
+    same-length
+    returns-2
+    refers-in-parts-requires
+    same-length-2
+    returns-3)

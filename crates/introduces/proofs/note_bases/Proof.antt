@@ -1,4 +1,4 @@
-use Rattle.introduces.specs.Words.{last-first, last-inside}
+use Rattle.dependency.specs.Words.{last-first, last-inside}
 use Rattle.dependency.specs.Sound.{sound-index}
 use mathlib.Core.Path.{refl, _∙_}
 use borrow.Author.Needs.{needs}

@@ -1,5 +1,6 @@
 use Rattle.introduces.specs.Words.{KeptIndexes, kept-none, kept-more}
-use Rattle.introduces.specs.Pieces.{Unreferred, unreferred-none, unreferred-more, unreferred-all, referred-here, sound-piece}
+use Rattle.dependency.specs.Pieces.{sound-piece}
+use Rattle.introduces.specs.Pieces.{Unreferred, unreferred-none, unreferred-more, unreferred-all, referred-here}
 use Rattle.dependency.specs.Sound.{sound-index}
 use Rattle.strings.specs.Starts.{storeIn}
 use Rattle.model.specs.Tape.{recordsAt, nodeCodec}

@@ -1,4 +1,5 @@
-use Rattle.introduces.specs.Words.{first-front, first-inside, first-last, first-kept, noted-words}
+use Rattle.dependency.specs.Words.{first-front, first-inside, first-last}
+use Rattle.introduces.specs.Words.{first-kept, noted-words}
 use Rattle.dependency.specs.Sound.{sound-index}
 use borrow.Author.Needs.{needs}
 use Rattle.introduces.proofs.refers_to_some.Statement.{statement}

@@ -17,22 +17,22 @@ abbrev μ-loop : tie.MeasureT-loop
 μ-loop tape bytes layers from at₀ place₀ i₀ at place i = layers - i
 
 loop-holds : tie.Need-loop-holds Inv-loop μ-loop
-loop-holds c = (omega arith, layers-none _ _ _)
+loop-holds c = (omega arith, layers-none _ _ _ (c .before .before .pre .1))
 
 next-layer-requires : tie.Need-next-layer-requires Inv-loop μ-loop
-next-layer-requires c κs = layers-inside (c .before .loop .inv .1) (c .before .before .before .before .pre) (c .loop-test .taken)
+next-layer-requires c κs = layers-inside (c .before .loop .inv .1) (c .before .before .before .before .pre .0) (c .loop-test .taken)
 
 strings-utf8-requires : tie.Need-strings-utf8-requires Inv-loop μ-loop
-strings-utf8-requires c κs = (layers-records (c .before .before .loop .inv .1) (c .before .before .before .before .before .pre) (c .before .loop-test .taken) (c .next-layer .ensures), layers-bytes (c .before .before .loop .inv .1) (c .before .before .before .before .before .pre) (c .before .loop-test .taken) (c .next-layer .ensures))
+strings-utf8-requires c κs = (layers-records (c .before .before .loop .inv .1) (c .before .before .before .before .before .pre .0) (c .before .loop-test .taken) (c .next-layer .ensures), (layers-bytes (c .before .before .loop .inv .1) (c .before .before .before .before .before .pre .0) (c .before .loop-test .taken) (c .next-layer .ensures), c .before .before .loop .inv .1 .whole))
 
 returns : tie.Need-returns Inv-loop μ-loop
-returns c = layers-bad (c .before .before .before .before .loop .inv .1) (c .before .before .before .before .before .before .before .pre) (c .before .before .before .loop-test .taken) (c .before .before .next-layer .ensures) (c .before .strings-utf8 .ensures) (not-true _ (c .if1 .taken))
+returns c = layers-bad (c .before .before .before .before .loop .inv .1) (c .before .before .before .before .before .before .before .pre .0) (c .before .before .before .loop-test .taken) (c .before .before .next-layer .ensures) (c .before .strings-utf8 .ensures) (not-true _ (c .if1 .taken))
 
 strings-length-requires : tie.Need-strings-length-requires Inv-loop μ-loop
-strings-length-requires c κs = let inside = layers-records (c .before .before .before .before .loop .inv .1) (c .before .before .before .before .before .before .before .pre) (c .before .before .before .loop-test .taken) (c .before .before .next-layer .ensures) in (omega (arith, inside), omega arith)
+strings-length-requires c κs = let inside = layers-records (c .before .before .before .before .loop .inv .1) (c .before .before .before .before .before .before .before .pre .0) (c .before .before .before .loop-test .taken) (c .before .before .next-layer .ensures) in (omega (arith, inside), omega arith)
 
 add-place : tie.Need-add-place Inv-loop μ-loop
-add-place c = let fit = layers-place (c .before .before .before .before .before .loop .inv .1) (c .before .before .before .before .before .before .before .before .pre) (c .before .before .before .before .loop-test .taken) (c .before .before .before .next-layer .ensures) (c .strings-length .ensures) in omega (arith, fit)
+add-place c = let fit = layers-place (c .before .before .before .before .before .loop .inv .1) (c .before .before .before .before .before .before .before .before .pre .0) (c .before .before .before .before .loop-test .taken) (c .before .before .before .next-layer .ensures) (c .strings-length .ensures) in omega (arith, fit)
 
 add-i : tie.Need-add-i Inv-loop μ-loop
 add-i c = omega arith
@@ -41,10 +41,10 @@ loop-less : tie.Need-loop-less Inv-loop μ-loop
 loop-less c = omega arith
 
 loop-again : tie.Need-loop-again Inv-loop μ-loop
-loop-again c = (omega arith, layers-more (c .before .before .before .before .before .loop .inv .1) (c .before .before .before .before .before .before .before .before .pre) (c .before .before .before .before .loop-test .taken) (c .before .before .before .next-layer .ensures) (c .before .before .strings-utf8 .ensures) (not-false _ (c .before .if1 .left)) (c .strings-length .ensures))
+loop-again c = (omega arith, layers-more (c .before .before .before .before .before .loop .inv .1) (c .before .before .before .before .before .before .before .before .pre .0) (c .before .before .before .before .loop-test .taken) (c .before .before .before .next-layer .ensures) (c .before .before .strings-utf8 .ensures) (not-false _ (c .before .if1 .left)) (c .strings-length .ensures))
 
 returns-2 : tie.Need-returns-2 Inv-loop μ-loop
-returns-2 c = layers-all (c .before .loop .inv .1) (c .before .before .before .before .pre) (omega arith)
+returns-2 c = layers-all (c .before .loop .inv .1) (c .before .before .before .before .pre .0) (omega arith)
 
 pub layers-utf8-spec : {M : Type 1} → statement M
 layers-utf8-spec =

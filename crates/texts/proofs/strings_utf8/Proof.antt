@@ -16,7 +16,7 @@ abbrev μ-loop : tie.MeasureT-loop
 μ-loop tape at count bytes from place₀ i₀ place i = count - i
 
 loop-holds : tie.Need-loop-holds Inv-loop μ-loop
-loop-holds c = (omega arith, strings-none _ _ _ _ _)
+loop-holds c = (omega arith, strings-none _ _ _ _ _ (c .before .before .pre .1 .1))
 
 mul-u32-at : tie.Need-mul-u32-at Inv-loop μ-loop
 mul-u32-at c = omega arith
@@ -34,13 +34,13 @@ cast-n : tie.Need-cast-n Inv-loop μ-loop
 cast-n c = omega arith
 
 part-utf8-requires : tie.Need-part-utf8-requires Inv-loop μ-loop
-part-utf8-requires c κs = strings-fit (c .before .before .loop .inv .1) (c .before .loop-test .taken) (c .u32-at .ensures) (c .before .before .before .before .before .pre .1)
+part-utf8-requires c κs = (strings-fit (c .before .before .loop .inv .1) (c .before .loop-test .taken) (c .u32-at .ensures) (c .before .before .before .before .before .pre .1 .0), c .before .before .loop .inv .1 .whole)
 
 returns : tie.Need-returns Inv-loop μ-loop
 returns c = strings-bad (c .before .before .before .before .loop .inv .1) (c .before .before .before .loop-test .taken) (c .before .before .u32-at .ensures) (c .before .part-utf8 .ensures) (not-true _ (c .if1 .taken))
 
 add-place : tie.Need-add-place Inv-loop μ-loop
-add-place c = let fit = strings-fit (c .before .before .before .before .loop .inv .1) (c .before .before .before .loop-test .taken) (c .before .before .u32-at .ensures) (c .before .before .before .before .before .before .before .pre .1) in omega (arith, fit)
+add-place c = let fit = strings-fit (c .before .before .before .before .loop .inv .1) (c .before .before .before .loop-test .taken) (c .before .before .u32-at .ensures) (c .before .before .before .before .before .before .before .pre .1 .0) in omega (arith, fit)
 
 add-i : tie.Need-add-i Inv-loop μ-loop
 add-i c = omega arith

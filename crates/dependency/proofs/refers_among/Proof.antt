@@ -1,0 +1,51 @@
+use mathlib.Core.Path.{refl}
+use native.Mathlib.Omega.{arith}
+use borrow.Author.Tests.{not-true, not-false}
+use Rattle.dependency.specs.Sound.{sound-last, sound-before, format-first, plain-inside}
+use Rattle.dependency.specs.Parts.{refers-other, refers-target, noted-few}
+use borrow.Author.Needs.{needs}
+use Rattle.dependency.proofs.refers_among.Statement.{statement}
+use Rattle.dependency.proofs.refers_among.Tie as tie
+use Rattle.dependency.proofs.refers_among.Reads as reads
+use Rattle.dependency.proofs.refers_among.Lts as lts
+use Rattle.dependency.proofs.asks_target.Reads as asks-target-reads
+use Rattle.dependency.proofs.first_plain.Reads as first-plain-reads
+use Rattle.dependency.proofs.is_target_base.Reads as is-target-base-reads
+use Rattle.dependency.proofs.smaller.Reads as smaller-reads
+
+mul-place : tie.Need-mul-place
+mul-place c = search needs
+
+add-place : tie.Need-add-place
+add-place c = search needs
+
+asks-target-requires : tie.Need-asks-target-requires
+asks-target-requires c κs = search needs
+
+returns : tie.Need-returns
+returns c = refers-other _ _ _ _ refl (sound-last (c .before .before .before .before .before .before .args .i) (c .before .before .before .before .before .before .pre .0)) (c .before .asks-target .ensures) (not-true _ (c .if1 .taken))
+
+first-plain-requires : tie.Need-first-plain-requires
+first-plain-requires c κs = (c .before .before .before .before .before .before .pre .0 .strings .sides .store, ((sound-last (c .before .before .before .before .before .before .args .i) (c .before .before .before .before .before .before .pre .0)) .inside, format-first (sound-last (c .before .before .before .before .before .before .args .i) (c .before .before .before .before .before .before .pre .0)) _ (c .before .asks-target .ensures) (not-false _ (c .if1 .left))))
+
+smaller-requires : tie.Need-smaller-requires
+smaller-requires c κs = search needs
+
+is-target-base-requires : tie.Need-is-target-base-requires
+is-target-base-requires c κs = (sound-before (c .before .before .before .before .before .before .before .before .pre .0) (omega (arith, c .smaller .ensures)), (c .before .before .before .before .before .before .before .before .pre .1 .0, (noted-few _ _ _ _ _ _ _ (c .before .before .before .before .before .before .before .before .pre .1 .1) _ (c .smaller .ensures), plain-inside (sound-last (c .before .before .before .before .before .before .before .before .args .i) (c .before .before .before .before .before .before .before .before .pre .0)) (c .before .first-plain .ensures))))
+
+returns-2 : tie.Need-returns-2
+returns-2 c = refers-target _ _ _ _ refl (sound-last (c .before .before .before .before .before .before .before .before .before .args .i) (c .before .before .before .before .before .before .before .before .before .pre .0)) (c .before .before .before .before .asks-target .ensures) (not-false _ (c .before .before .before .if1 .left)) (c .before .before .first-plain .ensures) (c .before .smaller .ensures) (c .is-target-base .ensures)
+
+pub refers-among-spec : {M : Type 1} → statement M
+refers-among-spec =
+    tie.close
+    (tie.spec
+    mul-place
+    add-place
+    asks-target-requires
+    returns
+    first-plain-requires
+    smaller-requires
+    is-target-base-requires
+    returns-2)

@@ -1,0 +1,47 @@
+use Rattle.dependency.specs.Words.{first-length}
+use Rattle.dependency.specs.Parts.{readable-again, sound-own}
+use native.Mathlib.Omega.{arith}
+use borrow.Author.Needs.{needs}
+use Rattle.dependency.proofs.refers_by_words.Statement.{statement}
+use Rattle.dependency.proofs.refers_by_words.Tie as tie
+use Rattle.dependency.proofs.refers_by_words.Reads as reads
+use Rattle.dependency.proofs.refers_by_words.Lts as lts
+use Rattle.dependency.proofs.refers_in_parts.Reads as refers-in-parts-reads
+use Rattle.strings.proofs.index_strings.Reads as index-strings-reads
+
+add-index-strings : tie.Need-add-index-strings
+add-index-strings c = search needs
+
+sub-index-strings : tie.Need-sub-index-strings
+sub-index-strings c = search needs
+
+part-index-strings-start : tie.Need-part-index-strings-start
+part-index-strings-start c = search needs
+
+part-index-strings-end : tie.Need-part-index-strings-end
+part-index-strings-end c = search needs
+
+index-strings-requires : tie.Need-index-strings-requires
+index-strings-requires c κs = readable-again (c .before .before .before .before .before .before .pre .0 .strings)
+
+refers-in-parts-requires : tie.Need-refers-in-parts-requires
+refers-in-parts-requires c κs = (sound-own (c .before .before .before .before .before .before .before .before .before .before .pre .0) (c .before .before .before .before .before .before .before .before .before .before .args .words .now) 1024 (c .before .before .before .before .before .before .before .before .before .before .pre .1) (c .before .before .before .index-strings .last .1 .1 .1 .0) (c .before .before .before .index-strings .kept .1 .1 .1 .0) (c .before .before .before .index-strings .ensures), omega (arith, first-length (c .before .before .before .before .before .before .before .before .before .before .args .words .now) 1024 (c .before .before .before .before .before .before .before .before .before .before .pre .1) (c .before .before .before .index-strings .last .1 .1 .1 .0) (c .before .before .before .index-strings .kept .1 .1 .1 .0), c .before .before .before .before .before .before .before .before .before .before .pre .1))
+
+same-length : tie.Need-same-length
+same-length c = search needs
+
+returns : tie.Need-returns
+returns c = search needs
+
+pub refers-by-words-spec : {M : Type 1} → statement M
+refers-by-words-spec =
+    tie.close
+    (tie.spec
+    add-index-strings
+    sub-index-strings
+    part-index-strings-start
+    part-index-strings-end
+    index-strings-requires
+    refers-in-parts-requires
+    same-length
+    returns)

@@ -1,0 +1,94 @@
+use Rattle.dependency.specs.Noted.{firstWords}
+use Rattle.dependency.specs.Sound.{sound-index}
+use Rattle.dependency.specs.Pieces.{sound-piece}
+use Rattle.dependency.specs.Parts.{refersAmong, parts-none, parts-more, parts-found, parts-all}
+use Rattle.strings.specs.Starts.{storeIn}
+use Rattle.wire.specs.Loops.{Missed}
+use lib.ListN.{length}
+use mathlib.Core.Path.{_≡_, refl, _∙_}
+use mathlib.Core.List.{_++_}
+use native.Mathlib.Omega.{arith}
+use Prim.Native.Nat.{_≤_, _<_, _-_}
+use Rattle.dependency.proofs.refers_in_parts.Statement.{statement}
+use Rattle.dependency.proofs.refers_in_parts.Tie as tie
+use Rattle.dependency.proofs.refers_in_parts.Reads as reads
+use Rattle.dependency.proofs.refers_in_parts.Lts as lts
+use Rattle.dependency.proofs.part_refers.Reads as part-refers-reads
+use Rattle.dependency.proofs.smaller.Reads as smaller-reads
+
+abbrev Inv-loop : tie.InvT-loop
+Inv-loop tape st words₀ base old new at count from size i₀ words i = (i ≤ count) × (length words ≡ length words₀) × (firstWords base words ≡ firstWords base words₀) × Missed (refersAmong (storeIn tape (old ++ new)) from tape at i) count
+
+abbrev μ-loop : tie.MeasureT-loop
+μ-loop tape st words₀ base old new at count from size i₀ words i = count - i
+
+sub-size : tie.Need-sub-size Inv-loop μ-loop
+sub-size c = omega arith
+
+add-size : tie.Need-add-size Inv-loop μ-loop
+add-size c = omega (arith, (c .before .before .before .before .pre .0) .inside)
+
+loop-holds : tie.Need-loop-holds Inv-loop μ-loop
+loop-holds c = (omega arith, refl, refl, parts-none (storeIn (c .before .before .before .before .args .tape .now) (c .before .before .before .before .args .old .now ++ c .before .before .before .before .args .new .now)) (c .before .before .before .before .args .from) (c .before .before .before .before .args .tape .now) (c .before .before .before .before .args .at) (c .before .before .before .before .args .count))
+
+sub-smaller : tie.Need-sub-smaller Inv-loop μ-loop
+sub-smaller c = omega arith
+
+smaller-requires : tie.Need-smaller-requires Inv-loop μ-loop
+smaller-requires c κs = tt
+
+mul-part-refers : tie.Need-mul-part-refers Inv-loop μ-loop
+mul-part-refers c = omega (arith, (c .before .before .before .before .before .before .before .before .pre .0) .inside)
+
+add-part-refers : tie.Need-add-part-refers Inv-loop μ-loop
+add-part-refers c = omega (arith, (c .before .before .before .before .before .before .before .before .pre .0) .inside)
+
+sub-part-refers : tie.Need-sub-part-refers Inv-loop μ-loop
+sub-part-refers c = omega arith
+
+part-refers-requires : tie.Need-part-refers-requires Inv-loop μ-loop
+part-refers-requires c κs = (sound-piece (sound-index (c .before .before .before .loop .inv .2) (c .before .before .before .before .before .before .before .before .pre .0)) (c .before .before .before .loop .i) _ (omega (arith, c .before .before .loop-test .taken)), omega (arith, c .before .before .before .before .before .before .before .before .pre .1, c .before .before .before .loop .inv .1))
+
+same-length : tie.Need-same-length Inv-loop μ-loop
+same-length c = c .before .before .before .part-refers .kept .1 .1 .0 ∙ c .before .before .before .before .before .before .before .loop .inv .1
+
+returns : tie.Need-returns Inv-loop μ-loop
+returns c = parts-found (storeIn (c .before .before .before .before .before .before .before .before .before .before .before .before .args .tape .now) (c .before .before .before .before .before .before .before .before .before .before .before .before .args .old .now ++ c .before .before .before .before .before .before .before .before .before .before .before .before .args .new .now)) (c .before .before .before .before .before .before .before .before .before .before .before .before .args .from) (c .before .before .before .before .before .before .before .before .before .before .before .before .args .tape .now) (c .before .before .before .before .before .before .before .before .before .before .before .before .args .at) (c .before .before .before .before .before .before .before .before .before .before .before .before .args .count) (c .before .before .before .before .before .before .before .loop .i) _ (c .before .before .before .before .before .before .before .loop .inv .0) (c .before .before .before .part-refers .ensures .0) (c .if1 .taken)
+
+add-i : tie.Need-add-i Inv-loop μ-loop
+add-i c = omega (arith, c .before .before .before .before .before .smaller .ensures, c .before .before .before .before .before .before .before .loop .inv .0, c .before .before .before .before .before .before .loop-test .taken, (c .before .before .before .before .before .before .before .before .before .before .before .before .pre .0) .inside)
+
+loop-less : tie.Need-loop-less Inv-loop μ-loop
+loop-less c = omega (arith, c .before .before .before .before .before .smaller .ensures, c .before .before .before .before .before .before .loop-test .taken)
+
+loop-again : tie.Need-loop-again Inv-loop μ-loop
+loop-again c = (omega (arith, c .before .before .before .before .before .smaller .ensures, c .before .before .before .before .before .before .before .loop .inv .0), c .before .before .before .part-refers .kept .1 .1 .0 ∙ c .before .before .before .before .before .before .before .loop .inv .1, c .before .before .before .part-refers .ensures .1 ∙ c .before .before .before .before .before .before .before .loop .inv .2, parts-more (storeIn (c .before .before .before .before .before .before .before .before .before .before .before .before .args .tape .now) (c .before .before .before .before .before .before .before .before .before .before .before .before .args .old .now ++ c .before .before .before .before .before .before .before .before .before .before .before .before .args .new .now)) (c .before .before .before .before .before .before .before .before .before .before .before .before .args .from) (c .before .before .before .before .before .before .before .before .before .before .before .before .args .tape .now) (c .before .before .before .before .before .before .before .before .before .before .before .before .args .at) (c .before .before .before .before .before .before .before .before .before .before .before .before .args .count) (c .before .before .before .before .before .before .before .loop .i) _ (c .before .before .before .before .before .before .before .loop .inv .0) (c .before .before .before .part-refers .ensures .0) (c .before .before .before .before .before .before .before .loop .inv .3) (c .if1 .left))
+
+same-length-2 : tie.Need-same-length-2 Inv-loop μ-loop
+same-length-2 c = c .before .loop .inv .1
+
+returns-2 : tie.Need-returns-2 Inv-loop μ-loop
+returns-2 c = parts-all (storeIn (c .before .before .before .before .before .before .args .tape .now) (c .before .before .before .before .before .before .args .old .now ++ c .before .before .before .before .before .before .args .new .now)) (c .before .before .before .before .before .before .args .from) (c .before .before .before .before .before .before .args .tape .now) (c .before .before .before .before .before .before .args .at) (c .before .before .before .before .before .before .args .count) (c .before .loop .i) (omega (arith, c .before .loop .inv .0, c .loop-test .left)) (c .before .loop .inv .3)
+
+pub refers-in-parts-spec : {M : Type 1} → statement M
+refers-in-parts-spec =
+    tie.close
+    (tie.spec
+    Inv-loop
+    μ-loop
+    sub-size
+    add-size
+    loop-holds
+    sub-smaller
+    smaller-requires
+    mul-part-refers
+    add-part-refers
+    sub-part-refers
+    part-refers-requires
+    same-length
+    returns
+    add-i
+    loop-less
+    loop-again
+    same-length-2
+    returns-2)

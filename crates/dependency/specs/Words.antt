@@ -1,0 +1,74 @@
+-- The lent words in two parts: what stands before a place, and what is written before it or behind it.
+use mathlib.Core.Path.{_≡_, refl, sym, ap, ap₂, _∙_}
+use Prim.Native.Nat.{ℕ, _+_, _-_, _≤_}
+use native.Mathlib.Omega.{arith}
+use native.Mathlib.Nat.{sub-zero}
+use mathlib.Core.List.{List, [], _++_, append-nil}
+use lib.ListN.{length, take, drop, length-append, length-drop, drop-of-length-le}
+use lib.Seq.{length-take-le, take-append-seam, drop-append-seam, take-all}
+use Rattle.dependency.specs.Noted.{firstWords}
+
+-- `&words[middle..words.len()]`
+abbrev pub lastWords : ℕ → List ℕ → List ℕ
+lastWords middle words = take (length words - middle) (drop middle words)
+
+-- ---- the words before `middle` written
+
+module _ (words : List ℕ) (middle : ℕ) (h : middle ≤ length words) (ys : List ℕ) (n : length ys ≡ length (take (middle - 0) words)) where
+  length-first : length ys ≡ middle
+  length-first = n ∙ length-take-le (middle - 0) words (omega (arith, h)) ∙ sub-zero middle
+
+  pub first-length : length (ys ++ drop (middle - 0) words) ≡ length words
+  first-length =
+      let a = length-append ys (drop (middle - 0) words) in
+      let b = length-drop (middle - 0) words in
+      omega (arith, a, b, length-first, h)
+
+  pub first-front : firstWords middle (ys ++ drop (middle - 0) words) ≡ ys
+  first-front =
+      ap (λ (k : ℕ). take k (ys ++ drop (middle - 0) words)) (sub-zero middle ∙ sym length-first) ∙ take-append-seam ys (drop (middle - 0) words)
+
+  pub first-back : drop middle (ys ++ drop (middle - 0) words) ≡ drop middle words
+  first-back =
+      ap (λ (k : ℕ). drop k (ys ++ drop (middle - 0) words)) (sym length-first) ∙ drop-append-seam ys (drop (middle - 0) words)
+      ∙ ap (λ (k : ℕ). drop k words) (sub-zero middle)
+
+  pub first-last : lastWords middle (ys ++ drop (middle - 0) words) ≡ lastWords middle words
+  first-last = ap₂ (λ (k : ℕ) (l : List ℕ). take (k - middle) l) first-length first-back
+
+  pub first-inside : {base : ℕ} → base ≤ middle → base ≤ length (firstWords middle (ys ++ drop (middle - 0) words))
+  first-inside b = let a = ap length first-front in omega (arith, a, length-first, b)
+
+-- ---- those behind it
+
+module _ (words : List ℕ) (middle : ℕ) (h : middle ≤ length words) (end : ℕ) (e : end ≡ length words) (zs : List ℕ) (n : length zs ≡ length (take (end - middle) (drop middle words))) where
+  abbrev after : List ℕ
+  after = take middle words ++ (zs ++ drop (end - middle) (drop middle words))
+
+  length-front : length (take middle words) ≡ middle
+  length-front = length-take-le middle words h
+
+  behind-none : drop (end - middle) (drop middle words) ≡ []
+  behind-none = let a = length-drop middle words in drop-of-length-le (drop middle words) {i = end - middle} (omega (arith, a, e))
+
+  after-is : after ≡ take middle words ++ zs
+  after-is = ap (λ (l : List ℕ). take middle words ++ l) (ap (λ (l : List ℕ). zs ++ l) behind-none ∙ append-nil zs)
+
+  pub last-front : firstWords middle after ≡ take middle words
+  last-front =
+      ap (firstWords middle) after-is ∙ ap (λ (k : ℕ). take k (take middle words ++ zs)) (sub-zero middle ∙ sym length-front)
+      ∙ take-append-seam (take middle words) zs
+
+  pub last-first : firstWords middle after ≡ firstWords middle words
+  last-first = last-front ∙ ap (λ (k : ℕ). take k words) (sym (sub-zero middle))
+
+  pub last-inside : middle ≤ length after
+  last-inside = let a = ap length after-is in let b = length-append (take middle words) zs in omega (arith, a, b, length-front)
+
+  pub last-back : lastWords middle after ≡ zs
+  last-back =
+      let a = length-append (take middle words) zs in
+      ap (lastWords middle) after-is
+      ∙ ap (λ (l : List ℕ). take (length (take middle words ++ zs) - middle) l)
+      (ap (λ (k : ℕ). drop k (take middle words ++ zs)) (sym length-front) ∙ drop-append-seam (take middle words) zs)
+      ∙ take-all (length (take middle words ++ zs) - middle) zs (omega (arith, a, length-front))
