@@ -10,7 +10,8 @@ use Rattle.model.specs.WellFormed.{checkBook}
 use Rattle.model.specs.Tree.{shownNodes}
 use Rattle.model.specs.Region.{Edit, balancedRegion}
 use Rattle.model.specs.Merge.{Stored, Room, IncrementalOutput, merge}
-use Rattle.model.specs.Demand3.{Shown, shown, shownString, Correction, StoredBytes, regionBehind, Separate, BothOrders, Commutes, Demand3}
+use Rattle.model.specs.Lookup.{lookupStr}
+use Rattle.model.specs.Demand3.{Shown, shown, Correction, StoredBytes, regionBehind, Separate, BothOrders, Commutes, Demand3}
 use Rattle.laws.specs.Checks.{checked-book, checked-reading, merge-accepted, mergedOf}
 use Rattle.laws.specs.ReadFits.{read-fits}
 use Rattle.commute.specs.Step.{step-of}
@@ -60,5 +61,5 @@ module _ (stored : Stored) (book : LexOutput) (bytes : StoredBytes stored) (chec
   equal-totals = commutes .equalTotals
 
   -- Kept references: a string number of the first book shows the same in both final books.
-  pub kept-string : (id : ℕ) → id < sum (stringCounts (book .layers)) → shownString (commutes .final₁) id ≡ shownString (commutes .final₂) id
+  pub kept-string : (id : ℕ) → id < sum (stringCounts (book .layers)) → lookupStr (commutes .final₁) id ≡ lookupStr (commutes .final₂) id
   kept-string id h = commutes .kept₁ .strings id h ∙ sym (commutes .kept₂ .strings id h)

@@ -9,14 +9,14 @@ use lib.ListN.{length, replicate}
 use lib.Dec.{eqb, leb}
 use borrow.Author.Tests.{eqb-true, eqb-false, le-leb, lt-leb, leb-true, leb-false}
 use Rattle.model.specs.Refusal.{Checked, Checked.refused, Checked.accepted, _>>=_, refuse_if_, numberOf}
-use Rattle.model.specs.Bytes.{AreBytes}
+use Rattle.model.specs.Bytes.{AreBytes, zeros}
 use Rattle.model.specs.Tape.{places, bookAt}
 use Rattle.model.specs.WellFormed.{checkBook}
-use Rattle.model.specs.Merge.{Stored, Room, storedBook, fitsRoom, padded}
-use Rattle.model.specs.Lookup.{copyBook, copiedTape, copiedBytes}
+use Rattle.model.specs.Merge.{Stored, storedOf, Room, storedBook, fitsRoom, padded}
+use Rattle.model.specs.Lookup.{copyBook, copyInto, copiedTape, copiedBytes}
 use Rattle.laws.specs.RoundTrip.{read-write}
 use Rattle.wire.specs.Loops.{by-bool}
-use Rattle.wire.specs.Overwrite.{overwrite, zeros, overwrite-all}
+use Rattle.wire.specs.Overwrite.{overwrite, overwrite-all}
 use Rattle.tape.specs.Accepted.{Accepted, refusal-of, accepted-book}
 use Rattle.copy.specs.declared.Copied.{Copied}
 use Rattle.copy.specs.declared.Copied.the-variants as copied
@@ -28,16 +28,9 @@ unfoldable pub copiedOf : Checked Stored → Copied
 copiedOf (refused n) = copied.Refused n
 copiedOf (accepted s) = copied.Copied (length (s .tape)) (length (s .bytes))
 
-abbrev storedAs : List ℕ → List ℕ → Stored
-storedAs t d = record { tape = t; bytes = d }
-
 -- what is lent: two result buffers of these lengths, no work words
 abbrev roomFor : ℕ → ℕ → Room
 roomFor tape bytes = record { tapeBytes = tape; textBytes = bytes; workWords = 0 }
-
--- The copy of a book into result buffers of these lengths.
-unfoldable pub copyInto : List ℕ → List ℕ → ℕ → ℕ → Checked Stored
-copyInto t d tape bytes = copyBook (storedAs t d) (roomFor tape bytes)
 
 -- ---- refused, or copied
 
@@ -47,11 +40,11 @@ module _ (t d : List ℕ) (tape bytes : ℕ) where
   copy-refused e h = rw (refusal-of (checkBook t d) e h) refl
 
   module _ (are : AreBytes t) (a : Accepted t d) where
-    again : storedBook (bookAt t (places t) d) ≡ storedAs t d
+    again : storedBook (bookAt t (places t) d) ≡ storedOf t d
     unfolding storedBook
     again = let r = read-write t d (bookAt t (places t) d) are (a .parsed) in rw (r .0, r .1) refl
 
-    copy-if : copyInto t d tape bytes ≡ ((refuse_if_ 18 (not (fitsRoom (roomFor tape bytes) (storedAs t d)))) >>= λ _. accepted (storedAs t d))
+    copy-if : copyInto t d tape bytes ≡ ((refuse_if_ 18 (not (fitsRoom (roomFor tape bytes) (storedOf t d)))) >>= λ _. accepted (storedOf t d))
     unfolding copyInto copyBook _>>=_
     copy-if = rw (a .book, again) refl
 
@@ -63,13 +56,13 @@ module _ (t d : List ℕ) (tape bytes : ℕ) where
     unfolding fitsRoom refuse_if_ _>>=_
     copy-no-bytes h = copy-if ∙ rw (lt-leb (length d) bytes h, and-false) refl
 
-    pub copy-there : length t ≤ tape → length d ≤ bytes → copyInto t d tape bytes ≡ accepted (storedAs t d)
+    pub copy-there : length t ≤ tape → length d ≤ bytes → copyInto t d tape bytes ≡ accepted (storedOf t d)
     unfolding fitsRoom refuse_if_ _>>=_
     copy-there h k = copy-if ∙ rw (le-leb (length t) tape h, le-leb (length d) bytes k) refl
 
   -- what is known where the number is 0
   pub record Copies : Type 0 where
-    pub is : copyInto t d tape bytes ≡ accepted (storedAs t d)
+    pub is : copyInto t d tape bytes ≡ accepted (storedOf t d)
     pub tape-fits : length t ≤ tape
     pub bytes-fit : length d ≤ bytes
 

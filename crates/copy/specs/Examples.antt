@@ -4,10 +4,11 @@ use Prim.Native.Nat.{ℕ}
 use mathlib.Core.List.{List}
 use lib.ListN.{length}
 use Rattle.model.specs.Tape.{tapeOf, bytesOf}
+use Rattle.model.specs.Lookup.{copyInto}
 use Rattle.model.specs.Examples.{rubyReading}
 use Rattle.model.specs.Computed.{computed}
 use Rattle.copy.specs.declared.Copied.the-variants as copied
-use Rattle.copy.specs.Copying.{copiedOf, copyInto}
+use Rattle.copy.specs.Copying.{copiedOf}
 
 abbrev t : List ℕ
 t = tapeOf rubyReading

@@ -4,8 +4,8 @@ ghost use Prim.Native.Nat.{_≤_, _<_};
 ghost use lib.ListN.{length};
 ghost use Rattle.model.specs.Refusal.{numberOf};
 ghost use Rattle.model.specs.Merge.{padded};
-ghost use Rattle.model.specs.Lookup.{copiedTape, copiedBytes};
-ghost use Rattle.copy.specs.Copying.{copiedOf, copyInto};
+ghost use Rattle.model.specs.Lookup.{copiedTape, copiedBytes, copyInto};
+ghost use Rattle.copy.specs.Copying.{copiedOf};
 
 // How many bytes of the two result buffers the copy takes.
 pub enum Copied {

@@ -11,14 +11,10 @@ use Rattle.model.specs.Limits.{maxText}
 use Rattle.model.specs.Lists.{same}
 use Rattle.model.specs.Utf8.{utf8, isCharBoundary}
 use Rattle.model.specs.Types.{LexOutput}
-use Rattle.model.specs.Region.{Edit, edited, editOk}
+use Rattle.model.specs.Region.{Edit, edited, editOk, editOf}
 use Rattle.laws.specs.Lists.{both}
 use Rattle.wire.specs.Loops.{by-bool}
 use Rattle.edit.specs.Same.{edited-length}
-
--- the edit of these numbers and bytes
-unfoldable pub editOf : ℕ → ℕ → List ℕ → Edit
-editOf start end replacement = record { start = start; end = end; replacement = replacement }
 
 -- Number 8. Start ≤ end ≤ length, neither inside a character.
 unfoldable pub within : List ℕ → ℕ → ℕ → Bool

@@ -5,8 +5,8 @@ ghost use Prim.Native.Nat.{_≤_};
 ghost use lib.ListN.{length};
 ghost use Rattle.model.specs.Limits.{maxText};
 ghost use Rattle.model.specs.Lists.{same as sameBytes};
-ghost use Rattle.model.specs.Region.{edited};
-ghost use Rattle.edit.specs.Numbers.{editOf, within, lengthFits, editNumber};
+ghost use Rattle.model.specs.Region.{edited, editOf};
+ghost use Rattle.edit.specs.Numbers.{within, lengthFits, editNumber};
 
 const MAX_TEXT: usize = 16777215;
 

@@ -2,24 +2,24 @@
 // In every answer `number` is 0 or the number of the refusal, and what an answer does not have is 0.
 ghost use mathlib.Core.Path.{_≡_};
 ghost use lib.ListN.{length};
+ghost use Rattle.model.specs.Bytes.{zeros};
 ghost use Rattle.model.specs.Refusal.{numberOf};
-ghost use Rattle.model.specs.Merge.{merge};
+ghost use Rattle.model.specs.Merge.{merge, roomOf, storedOf};
 ghost use Rattle.model.specs.WellFormed.{checkBook, checkReading};
-ghost use Rattle.model.specs.Region.{chooseRegion};
+ghost use Rattle.model.specs.Region.{chooseRegion, editOf};
 ghost use Rattle.model.specs.Tape.{contentCodec, segmentCodec};
-ghost use Rattle.model.specs.Lookup.{askBook, diagnosticsAllowIncremental, nodeAtSource, lookupContents, lookupSegments, lookupStr, lookupStrSpan};
+ghost use Rattle.model.specs.Lookup.{askBook, diagnosticsAllowIncremental, nodeAtSource, lookupContents, lookupSegments, lookupStr, lookupStrSpan, contentsOk, segmentsOk, copyInto};
 ghost use Rattle.model.specs.Lookup.{copiedTape, copiedBytes};
-ghost use Rattle.wire.specs.Overwrite.{zeros};
+ghost use Rattle.model.specs.Demand3.{correctionOf};
 ghost use Rattle.store.specs.Stored.{storeAt};
 ghost use Rattle.store.specs.Standing.{contentPlace, segmentPlace};
 ghost use Rattle.lookup.specs.Asked.{allowedOf, nodeAtOf};
-ghost use Rattle.lookup.specs.Ranges.{contentsOk, segmentsOk, rangeAtOf, rangeShown};
+ghost use Rattle.lookup.specs.Ranges.{rangeAtOf, rangeShown};
 ghost use Rattle.lookup.specs.Strings.{strAtOf, strShown};
-ghost use Rattle.copy.specs.Copying.{copiedOf, copyInto};
-ghost use Rattle.edit.specs.Numbers.{editOf};
+ghost use Rattle.copy.specs.Copying.{copiedOf};
 ghost use Rattle.region.specs.Chosen.{chosenOf};
-ghost use Rattle.output.specs.Answer.{roomOf, Merged};
-ghost use Rattle.orders.specs.Orders.{storedOf, correctionOf, MergedBothOrders};
+ghost use Rattle.output.specs.Answer.{Merged};
+ghost use Rattle.orders.specs.Orders.{MergedBothOrders};
 ghost use Rattle.exports.specs.Answers.{allowedAnswer, nodeAnswer, rangeAnswer, rangeRead, strAnswer, strRead, copyAnswer, regionAnswer, outputRead, ordersRead};
 
 #[repr(C)]

@@ -6,14 +6,15 @@ use mathlib.Core.Bool.{Bool, true, false, true≢false}
 use mathlib.Core.List.{List, _++_, append-nil}
 use lib.ListN.{length, take, drop, length-take, length-replicate, drop-of-length-le}
 use native.Mathlib.Nat.{sub-zero}
+use Rattle.model.specs.Bytes.{zeros}
 use Rattle.model.specs.Offset.{Span}
 use Rattle.model.specs.Types.{LexOutput}
 use Rattle.model.specs.Refusal.{Checked, Checked.refused, Checked.accepted, _>>=_, numberOf}
 use Rattle.model.specs.Tape.{places, bookAt}
 use Rattle.model.specs.WellFormed.{checkBook, checkReading}
 use Rattle.model.specs.Region.{Edit, chosenRegion}
-use Rattle.model.specs.Merge.{Stored, Room, IncrementalOutput, merge, mergeBooks, tapeBuffer, textBuffer, workBuffer, padded}
-use Rattle.wire.specs.Overwrite.{overwrite, zeros, overwrite-tail}
+use Rattle.model.specs.Merge.{Stored, Room, IncrementalOutput, merge, mergeBooks, tapeBuffer, textBuffer, workBuffer, padded, roomOf}
+use Rattle.wire.specs.Overwrite.{overwrite, overwrite-tail}
 use Rattle.places.specs.declared.Places.{Places}
 use Rattle.places.specs.Found.{placesOf}
 use Rattle.store.specs.declared.Store.{Store}
@@ -24,7 +25,7 @@ use Rattle.region.specs.declared.Chosen.{Chosen}
 use Rattle.region.specs.declared.Chosen.the-variants.{Refused, Region}
 use Rattle.region.specs.Chosen.{chosenOf}
 use Rattle.output.specs.declared.IncrementalOutput.{IncrementalOutput as Output}
-use Rattle.output.specs.Answer.{refusedOutput, outputOf, roomOf, Merged, Written}
+use Rattle.output.specs.Answer.{refusedOutput, outputOf, Merged, Written}
 
 abbrev pub regionOf : ℕ → ℕ → Span
 regionOf start end = record { start = start; end = end }

@@ -9,23 +9,21 @@ use lib.ListN.{length, drop, length-take, length-replicate}
 use lib.Dec.{leb, ltb, eqb}
 use borrow.Author.Tests.{leb-true, ltb-false, eqb-true, eqb-false, lt-ltb, le-ltb, le-leb, lt-leb, eq-eqb, ne-eqb}
 use Rattle.model.specs.Limits.{maxPart}
-use Rattle.model.specs.Bytes.{wordAt, part}
+use Rattle.model.specs.Bytes.{wordAt, part, zeros}
 use Rattle.model.specs.Offset.{Span}
 use Rattle.model.specs.Types.{LexOutput}
 use Rattle.model.specs.Refusal.{Checked, Checked.refused, Checked.accepted, _>>=_, refuse_if_, numberOf}
 use Rattle.model.specs.WellFormed.{checkBook}
-use Rattle.model.specs.Region.{Edit, chosenRegion, chooseRegion}
+use Rattle.model.specs.Region.{Edit, chosenRegion, chooseRegion, editOf}
 use Rattle.laws.specs.Lists.{both}
 use Rattle.laws.specs.Numbers.{UpTo, book-up-to}
 use Rattle.wire.specs.Loops.{by-bool}
-use Rattle.wire.specs.Overwrite.{zeros}
 use Rattle.places.specs.declared.Places.{Places}
 use Rattle.places.specs.Found.{placesOf}
 use Rattle.store.specs.declared.Store.{Store}
 use Rattle.store.specs.Stored.{StoreFits, storeAt}
 use Rattle.tape.specs.Accepted.{Accepted, refusal-of, accepted-book, accepted-found, accepted-store}
 use Rattle.listing.specs.Strings.{Printable}
-use Rattle.edit.specs.Numbers.{editOf}
 use Rattle.region.specs.declared.Chosen.{Chosen}
 use Rattle.region.specs.declared.Chosen.the-variants.{Refused, Region}
 use Rattle.region.specs.Chosen.{chosenOf}

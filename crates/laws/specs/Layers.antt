@@ -1,9 +1,10 @@
 -- A layer on top changes nothing below: ids and ranges of the layers below stay right and show what they showed. And how the
 -- layers number what a new one holds.
 use mathlib.Core.Path.{_≡_, refl, sym, ap, ap₂, _∙_, subst}
-use Prim.Native.Nat.{ℕ, zero, suc, _+_, _≤_}
+use Prim.Native.Nat.{ℕ, zero, suc, _+_, _≤_, _<_}
 use native.Mathlib.Omega.{arith}
 use mathlib.Core.Bool.{Bool, true, false, cond, _&&_, _||_, false≢true}
+use mathlib.Core.Option.{some}
 use mathlib.Core.List.{List, [], _∷_, _++_, map, flatten}
 use lib.ListN.{length, getD, take, drop, length-append, length-drop, List·getD-append}
 use lib.Seq.{drop-append-le, take-append-le}
@@ -12,7 +13,7 @@ use borrow.Author.Tests.{leb-true, ltb-true, le-leb, lt-ltb}
 use Rattle.laws.specs.Checks.{id-facts}
 use Rattle.laws.specs.Keep.{all-append-is}
 use Rattle.laws.specs.Prefix.{Prefix}
-use Rattle.laws.specs.Lists.{both, all-take, all-drop, all-map, join, flatten-append, flatten-snoc, map-append}
+use Rattle.laws.specs.Lists.{both, item-in, all-take, all-drop, all-map, join, flatten-append, flatten-snoc, map-append}
 use Rattle.model.specs.Lists.{all, sum}
 use Rattle.model.specs.Types.{Body, Content, Segment, Layer, SourceNode, LexOutput}
 use Rattle.model.specs.Limits.{noString, maxLevel}
@@ -22,7 +23,8 @@ use Rattle.model.specs.WellFormed.{wordOf, fieldOk, contentOk, segmentOk, nodeO
 use Rattle.model.specs.Tree.{Tree, Tree.tree, Fields, Fields.done, Fields.text, Fields.absent, Fields.contents, Fields.segments}
 use Rattle.model.specs.Tree.{Contents, Contents.plain, Contents.segmented, Segments, Segments.segment}
 use Rattle.model.specs.Tree.{showSegments, showContents, showFields, showWith, showBody, showNode}
-use Rattle.model.specs.Demand3.{KeptReferences, shownString, shownContents, shownSegments}
+use Rattle.model.specs.Lookup.{lookupStr, lookupContents, lookupSegments}
+use Rattle.model.specs.Demand3.{KeptReferences, shownContents, shownSegments}
 use Rattle.model.specs.Graft.{NewLayer, layered, layerOf}
 use Rattle.laws.specs.Intern.{fresh-sound}
 use Rattle.laws.specs.Graft.{withLayer, Above, Numbered}
@@ -193,27 +195,6 @@ ids-pools b e =
       pool-all (λ (l : Layer). l .segments) (segmentOk ls) ls ∙ all-map layer (λ (l : Layer). all (segmentOk ls) (l .segments)) (λ l h. both (all (contentOk ls) (l .contents)) (all (segmentOk ls) (l .segments)) h .1) ls i,
     )
 
--- Kept references, of a book whose layers go on from those of a book that passes number 4.
-pub kept-references : (first later : LexOutput) (more : List Layer) → later .layers ≡ first .layers ++ more → idsOk first ≡ true → KeptReferences first later
-unfolding shownString shownContents shownSegments idOk
-kept-references first later more e ids =
-    let ls = first .layers in
-    let i = ids-pools first ids in
-    let cok = i .0 in
-    let sok = i .1 in
-    let st = storeOf (later .layers) in
-    let m : More (storeOf ls) st = subst (λ (k : List Layer). More (storeOf ls) (storeOf k)) (sym e) (more-layers ls more) in
-    let f : Body → Tree = λ x. showBody maxLevel st x in
-    let g : Body → Tree = λ x. showBody maxLevel (storeOf ls) x in
-    let agree : (b : Body) → all (fieldOk ls b) (fieldsOf b) ≡ true → f b ≡ g b = λ b h. show-same ls st m cok sok maxLevel b h in
-    record {
-      strings = λ id h. str-same ls st m id (lt-ltb id (sum (stringCounts ls)) h);
-      contents = λ start len h.
-          ap (showContents f st) (contents-same ls st m start len h)
-          ∙ show-contents-same ls st m cok sok f g agree (resolveContentRange (storeOf ls) start len) (run-contents-ok ls st m cok sok start len);
-      segments = λ start len h. show-run-same ls st m cok sok f g agree start len h;
-    }
-
 -- ---- ids and ranges of fewer layers are right
 
 sum-more : (a b : List ℕ) → sum a ≤ sum (a ++ b)
@@ -277,6 +258,55 @@ module _ (ls more : List Layer) where
   pub node-more : (n : SourceNode) → nodeOk ls n ≡ true → nodeOk (ls ++ more) n ≡ true
   unfolding nodeOk
   node-more n e = all-map (fieldOk ls (n .body)) (fieldOk (ls ++ more) (n .body)) (field-more (n .body)) (nodeFields n) e
+
+-- ---- kept references
+
+module _ (first later : LexOutput) (more : List Layer) (e : later .layers ≡ first .layers ++ more) (ids : idsOk first ≡ true) where
+  abbrev ls : List Layer
+  ls = first .layers
+
+  abbrev st : NodeStore
+  st = storeOf (later .layers)
+
+  grown : More (storeOf ls) st
+  grown = subst (λ (k : List Layer). More (storeOf ls) (storeOf k)) (sym e) (more-layers ls more)
+
+  shown-body : (b : Body) → all (fieldOk ls b) (fieldsOf b) ≡ true → showBody maxLevel st b ≡ showBody maxLevel (storeOf ls) b
+  shown-body b h = show-same ls st grown (ids-pools first ids .0) (ids-pools first ids .1) maxLevel b h
+
+  string-kept : (id : ℕ) → id < sum (stringCounts ls) → lookupStr later id ≡ lookupStr first id
+  unfolding lookupStr resolveStr idOk
+  string-kept id h =
+      let n = string-count ls in
+      let m = grown .strings in
+      let l = ap length (m .grown) ∙ length-append (storeOf ls .strings) (m .more) in
+      item-in (st .strings) id [] (omega (arith, h, n, l))
+      ∙ ap (λ (s : List ℕ). some s) (str-same ls st grown id (lt-ltb id (sum (stringCounts ls)) h))
+      ∙ sym (item-in (storeOf ls .strings) id [] (omega (arith, h, n)))
+
+  contents-kept : (start len : ℕ) → rangeOk (contentCounts ls) start len ≡ true → shownContents later start len ≡ shownContents first start len
+  unfolding shownContents lookupContents
+  contents-kept start len h =
+      let k : rangeOk (contentCounts (later .layers)) start len ≡ true = ap (λ (l : List Layer). rangeOk (contentCounts l) start len) e ∙ contents-more ls more start len h in
+      let i = ids-pools first ids in
+      rw (h, k)
+      (ap (λ (cs : Contents). some cs)
+      (ap (showContents (λ x. showBody maxLevel st x) st) (contents-same ls st grown start len h)
+      ∙ show-contents-same ls st grown (i .0) (i .1) (λ x. showBody maxLevel st x) (λ x. showBody maxLevel (storeOf ls) x) shown-body
+      (resolveContentRange (storeOf ls) start len) (run-contents-ok ls st grown (i .0) (i .1) start len)))
+
+  segments-kept : (start len : ℕ) → rangeOk (segmentCounts ls) start len ≡ true → shownSegments later start len ≡ shownSegments first start len
+  unfolding shownSegments lookupSegments
+  segments-kept start len h =
+      let k : rangeOk (segmentCounts (later .layers)) start len ≡ true = ap (λ (l : List Layer). rangeOk (segmentCounts l) start len) e ∙ segments-more ls more start len h in
+      let i = ids-pools first ids in
+      rw (h, k)
+      (ap (λ (ss : Segments). some ss)
+      (show-run-same ls st grown (i .0) (i .1) (λ x. showBody maxLevel st x) (λ x. showBody maxLevel (storeOf ls) x) shown-body start len h))
+
+  -- A book whose layers go on from those of a book that passes number 4 has every id and range of it, and each shows what it showed.
+  pub kept-references : KeptReferences first later
+  kept-references = record { strings = string-kept; contents = contents-kept; segments = segments-kept }
 
 -- ---- a new layer above
 

@@ -1,10 +1,12 @@
 -- Laws of Bool tests and of the list functions of `model`, that several files cite.
 use mathlib.Core.Path.{_≡_, refl, sym, ap, _∙_}
 use mathlib.Core.Logic.{_⊎_, inl, inr}
-use Prim.Native.Nat.{ℕ, zero, suc}
+use Prim.Native.Nat.{ℕ, zero, suc, _≤_, _<_}
+use native.Mathlib.Omega.{arith}
 use mathlib.Core.Bool.{Bool, true, false, cond, _&&_, _||_, false≢true}
+use mathlib.Core.Option.{none, some}
 use mathlib.Core.List.{List, [], _∷_, _++_, append-assoc, append-nil, map, flatten}
-use lib.ListN.{take, drop}
+use lib.ListN.{length, getD, getElem?, take, drop}
 use lib.Dec.{T}
 use Rattle.model.specs.Lists.{all, any, keep}
 
@@ -89,3 +91,15 @@ flatten-snoc (ys ∷ xss) xs = ap (λ l. ys ++ l) (flatten-snoc xss xs) ∙ sym 
 pub map-append : {A B : Type 0} (f : A → B) (xs ys : List A) → map f (xs ++ ys) ≡ map f xs ++ map f ys
 map-append f [] ys = refl
 map-append f (x ∷ xs) ys = ap (λ l. f x ∷ l) (map-append f xs ys)
+
+-- ---- the i-th of a list, where there may be none
+
+pub item-in : {A : Type 0} (l : List A) (i : ℕ) (default : A) → i < length l → getElem? l i ≡ some (getD l i default)
+item-in [] i default h = absurd (omega arith)
+item-in (x ∷ xs) zero default h = refl
+item-in (x ∷ xs) (suc i) default h = item-in xs i default (omega arith)
+
+pub item-out : {A : Type 0} (l : List A) (i : ℕ) → length l ≤ i → getElem? l i ≡ none
+item-out [] i h = refl
+item-out (x ∷ xs) zero h = absurd (omega arith)
+item-out (x ∷ xs) (suc i) h = item-out xs i (omega arith)

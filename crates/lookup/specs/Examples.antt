@@ -4,7 +4,7 @@ use mathlib.Core.Path.{_≡_, refl}
 use Prim.Native.Nat.{ℕ}
 use mathlib.Core.List.{List, []}
 use Rattle.model.specs.Tape.{tapeOf, bytesOf}
-use Rattle.model.specs.Lookup.{askBook, diagnosticsAllowIncremental, nodeAtSource, lookupStrSpan}
+use Rattle.model.specs.Lookup.{askBook, diagnosticsAllowIncremental, nodeAtSource, lookupStrSpan, contentsOk}
 use Rattle.model.specs.Examples.{rubyReading}
 use Rattle.model.specs.Computed.{computed}
 use Rattle.store.specs.Stored.{storeAt}
@@ -15,7 +15,7 @@ use Rattle.lookup.specs.declared.NodeAt.the-variants as node-at
 use Rattle.lookup.specs.declared.RangeAt.the-variants as range-at
 use Rattle.lookup.specs.declared.StrAt.the-variants as str-at
 use Rattle.lookup.specs.Asked.{allowedOf, nodeAtOf}
-use Rattle.lookup.specs.Ranges.{rangeIf, rangeAtOf, contentsOk}
+use Rattle.lookup.specs.Ranges.{rangeIf, rangeAtOf}
 use Rattle.lookup.specs.Strings.{strIf, strAtOf}
 
 abbrev t : List ℕ

@@ -11,7 +11,7 @@ use Rattle.model.specs.Bytes.{wordAt}
 use Rattle.model.specs.Tape.{Codec, recordsAt, places, bookAt, contentCodec, segmentCodec}
 use Rattle.model.specs.Store.{storeOf, contentCounts, segmentCounts, rangeOk, resolveContentRange, resolveSegRange}
 use Rattle.model.specs.WellFormed.{checkBook}
-use Rattle.model.specs.Lookup.{askBook, lookupContents, lookupSegments}
+use Rattle.model.specs.Lookup.{askBook, lookupContents, lookupSegments, contentsOk, segmentsOk}
 use Rattle.wire.specs.Loops.{by-bool}
 use Rattle.places.specs.declared.Places.{Places}
 use Rattle.store.specs.declared.Store.{Store}
@@ -61,13 +61,6 @@ module _ (t d : List ℕ) {A : Type 0} (c : Codec A) (ok : LexOutput → Bool) (
   )
 
 -- ---- contents and segments
-
--- is it a range of contents under section 3?
-abbrev pub contentsOk : ℕ → ℕ → LexOutput → Bool
-contentsOk start len b = rangeOk (contentCounts (b .layers)) start len
-
-abbrev pub segmentsOk : ℕ → ℕ → LexOutput → Bool
-segmentsOk start len b = rangeOk (segmentCounts (b .layers)) start len
 
 module _ (t d : List ℕ) (start len : ℕ) where
   -- where the strings of the layers begin

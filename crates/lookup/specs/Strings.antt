@@ -18,6 +18,7 @@ use Rattle.model.specs.Tape.{places, pieces, bookAt}
 use Rattle.model.specs.Store.{storeOf, stringSpan}
 use Rattle.model.specs.WellFormed.{checkBook}
 use Rattle.model.specs.Lookup.{askBook, lookupStr, lookupStrSpan}
+use Rattle.laws.specs.Lists.{item-in, item-out}
 use Rattle.laws.specs.RoundTrip.{pieces-lengths}
 use Rattle.wire.specs.Loops.{by-bool}
 use Rattle.places.specs.declared.Places.{Places}
@@ -58,16 +59,6 @@ spanFrom count from lengths id =
     cond (ltb id count) (some (record { start = from + at .start; end = from + at .end })) none
 
 -- ---- the strings of a tape's book
-
-item-in : {A : Type 0} (l : List A) (i : ℕ) (default : A) → i < length l → getElem? l i ≡ some (getD l i default)
-item-in [] i default h = absurd (omega arith)
-item-in (x ∷ xs) zero default h = refl
-item-in (x ∷ xs) (suc i) default h = item-in xs i default (omega arith)
-
-item-out : {A : Type 0} (l : List A) (i : ℕ) → length l ≤ i → getElem? l i ≡ none
-item-out [] i h = refl
-item-out (x ∷ xs) zero h = absurd (omega arith)
-item-out (x ∷ xs) (suc i) h = item-out xs i (omega arith)
 
 module _ (t d : List ℕ) (f : Frame t d) where
   -- the bytes of the strings

@@ -3,12 +3,12 @@
 ghost use mathlib.Core.Path.{_≡_};
 ghost use Prim.Native.Nat.{_≤_, _<_, _^_};
 ghost use Rattle.model.specs.Tape.{contentCodec, segmentCodec};
-ghost use Rattle.model.specs.Lookup.{askBook, diagnosticsAllowIncremental, nodeAtSource, lookupContents, lookupSegments, lookupStr, lookupStrSpan};
+ghost use Rattle.model.specs.Lookup.{askBook, diagnosticsAllowIncremental, nodeAtSource, lookupContents, lookupSegments, lookupStr, lookupStrSpan, contentsOk, segmentsOk};
 ghost use Rattle.store.specs.Stored.{storeAt};
 ghost use Rattle.store.specs.Pools.{rangeIn};
 ghost use Rattle.store.specs.Standing.{contentPlace, segmentPlace};
 ghost use Rattle.lookup.specs.Asked.{allowedOf, nodeAtOf, nodeFound};
-ghost use Rattle.lookup.specs.Ranges.{contentsOk, segmentsOk, rangeIf, rangeAtOf, rangeShown};
+ghost use Rattle.lookup.specs.Ranges.{rangeIf, rangeAtOf, rangeShown};
 ghost use Rattle.strings.specs.Starts.{lengthsIn, Readable};
 ghost use Rattle.lookup.specs.Strings.{strIf, strAtOf, strShown, spanFrom};
 

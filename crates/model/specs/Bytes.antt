@@ -1,7 +1,7 @@
 -- Section 4: bytes, and u32 little-endian words among them.
 use Prim.Native.Nat.{ℕ, _+_, _*_, _/_, _%_, _<_}
 use mathlib.Core.List.{List, [], _∷_}
-use lib.ListN.{length, getD, take, drop}
+use lib.ListN.{length, getD, take, drop, replicate}
 
 -- A tape or a buffer, as every `&[u8]` is: each element is below 256.
 pub record AreBytes (t : List ℕ) : Type 0 where
@@ -22,3 +22,7 @@ wordBytes n = n % 256 ∷ n / 256 % 256 ∷ n / 65536 % 256 ∷ n / 16777216 % 2
 -- The n bytes from place p on.
 abbrev pub part : List ℕ → ℕ → ℕ → List ℕ
 part b p n = take n (drop p b)
+
+-- so many zeros
+abbrev pub zeros : ℕ → List ℕ
+zeros n = replicate n 0

@@ -1,20 +1,22 @@
 -- Demand 3, stated: two corrections with separate regions, merged in both orders. Section 7, its second paragraph. It is a
 -- statement over `merge` on tapes; nothing is proved here.
 use mathlib.Core.Path.{_≡_}
-use Prim.Native.Nat.{ℕ, _+_, _≤_, _<_}
+use Prim.Native.Nat.{ℕ, _+_, _≤_, _<_, min}
 use mathlib.Core.Bool.{true}
+use mathlib.Core.Option.{Option, Option·map}
 use mathlib.Core.List.{List}
 use Rattle.model.specs.Lists.{sum}
 use Rattle.model.specs.Limits.{maxLevel}
 use Rattle.model.specs.Bytes.{AreBytes}
-use Rattle.model.specs.Offset.{Span}
+use Rattle.model.specs.Offset.{Span, maxU32}
 use Rattle.model.specs.Types.{PairLink, ContainerPair, Diagnostic, LexOutput}
 use Rattle.model.specs.Refusal.{Checked, Checked.accepted}
-use Rattle.model.specs.Store.{storeOf, stringCounts, contentCounts, segmentCounts, rangeOk, resolveStr, resolveContentRange, resolveSegRange}
+use Rattle.model.specs.Store.{storeOf, stringCounts, contentCounts, segmentCounts, rangeOk}
 use Rattle.model.specs.WellFormed.{checkBook}
 use Rattle.model.specs.Tree.{Contents, Segments, showBody, showContents, showSegments, ShownNode, shownNodes}
-use Rattle.model.specs.Region.{Edit, behindEdit, chosenRegion}
-use Rattle.model.specs.Merge.{Stored, Room, IncrementalOutput, merge}
+use Rattle.model.specs.Region.{Edit, editOf, behindEdit, chosenRegion}
+use Rattle.model.specs.Merge.{Stored, storedOf, Room, IncrementalOutput, merge}
+use Rattle.model.specs.Lookup.{lookupStr, lookupContents, lookupSegments}
 
 -- ---- what a book shows
 
@@ -38,24 +40,22 @@ shown b = record {
   diagnostics = b .diagnostics;
 }
 
--- Section 7. An id or range shows that string or list.
-unfoldable pub shownString : LexOutput → ℕ → List ℕ
-shownString b id = resolveStr (storeOf (b .layers)) id
-
-unfoldable pub shownContents : LexOutput → ℕ → ℕ → Contents
+-- Section 7. An id or range shows that string or list. One that the book does not have shows none, so that a reference that
+-- vanished is not an empty one; the string of an id is `lookupStr`.
+unfoldable pub shownContents : LexOutput → ℕ → ℕ → Option Contents
 shownContents b start len =
     let st = storeOf (b .layers) in
-    showContents (λ inner. showBody maxLevel st inner) st (resolveContentRange st start len)
+    Option·map (showContents (λ inner. showBody maxLevel st inner) st) (lookupContents b start len)
 
-unfoldable pub shownSegments : LexOutput → ℕ → ℕ → Segments
+unfoldable pub shownSegments : LexOutput → ℕ → ℕ → Option Segments
 shownSegments b start len =
     let st = storeOf (b .layers) in
-    showSegments (λ inner. showBody maxLevel st inner) (resolveSegRange st start len)
+    Option·map (showSegments (λ inner. showBody maxLevel st inner)) (lookupSegments b start len)
 
 -- Section 7. Meant is each string number below the first book's count and each range of its contents or segments under
 -- section 3, used by a node or not: it shows in the later book what it showed in the first.
 pub record KeptReferences (first later : LexOutput) : Type 0 where
-  pub strings : (id : ℕ) → id < sum (stringCounts (first .layers)) → shownString later id ≡ shownString first id
+  pub strings : (id : ℕ) → id < sum (stringCounts (first .layers)) → lookupStr later id ≡ lookupStr first id
   pub contents : (start len : ℕ) → rangeOk (contentCounts (first .layers)) start len ≡ true → shownContents later start len ≡ shownContents first start len
   pub segments : (start len : ℕ) → rangeOk (segmentCounts (first .layers)) start len ≡ true → shownSegments later start len ≡ shownSegments first start len
 
@@ -65,6 +65,13 @@ pub record KeptReferences (first later : LexOutput) : Type 0 where
 pub record Correction : Type 0 where
   pub edit : Edit
   pub reading : Stored
+
+abbrev pub correctionOf : ℕ → ℕ → List ℕ → List ℕ → List ℕ → Correction
+correctionOf start end replacement tape bytes = record { edit = editOf start end replacement; reading = storedOf tape bytes }
+
+-- the merge of a correction, in buffers of that room
+abbrev pub mergeOf : Stored → Correction → Room → Checked IncrementalOutput
+mergeOf book c room = merge book (c .edit) (c .reading) room
 
 -- a tape and a buffer of bytes, as every slice is
 pub record StoredBytes (s : Stored) : Type 0 where
@@ -131,3 +138,16 @@ Demand3 =
     → (earlier later : Correction) → StoredBytes (earlier .reading) → StoredBytes (later .reading) → Separate book earlier later
     → (orders : BothOrders stored earlier later)
     → Commutes book stored earlier later orders
+
+-- ---- as a caller asks for it
+
+-- Where an offset behind an edit stands in the new text, cut at the largest u32. Nothing is cut where both edits are accepted on one book.
+unfoldable pub cutBehind : Edit → ℕ → ℕ
+cutBehind e o = min (behindEdit e o) maxU32
+
+-- a correction that lies behind another, its offsets cut
+unfoldable pub cutMoved : Edit → Correction → Correction
+cutMoved other c = record {
+  edit = editOf (cutBehind other (c .edit .start)) (cutBehind other (c .edit .end)) (c .edit .replacement);
+  reading = c .reading;
+}

@@ -12,7 +12,7 @@ use Rattle.model.specs.Types.{Content, Segment, SourceNode, Diagnostic, 
 use Rattle.model.specs.Refusal.{Checked, Checked.refused, Checked.accepted, _>>=_, refuse_if_}
 use Rattle.model.specs.Store.{storeOf, contentCounts, segmentCounts, rangeOk, resolveContentRange, resolveSegRange, stringSpan}
 use Rattle.model.specs.WellFormed.{checkBook}
-use Rattle.model.specs.Merge.{Stored, Room, storedBook, fitsRoom, padded}
+use Rattle.model.specs.Merge.{Stored, storedOf, Room, storedBook, fitsRoom, padded}
 
 -- What is asked of a book: 1 to 7 first, then the answer.
 unfoldable pub askBook : {A : Type 0} → List ℕ → List ℕ → (LexOutput → A) → Checked A
@@ -49,15 +49,22 @@ lookupStrSpan b id =
     let at = stringSpan (map length strings) id in
     cond (ltb id (length strings)) (some (record { start = from + at .start; end = from + at .end })) none
 
+-- is it a range of contents, of segments, under section 3?
+abbrev pub contentsOk : ℕ → ℕ → LexOutput → Bool
+contentsOk start len b = rangeOk (contentCounts (b .layers)) start len
+
+abbrev pub segmentsOk : ℕ → ℕ → LexOutput → Bool
+segmentsOk start len b = rangeOk (segmentCounts (b .layers)) start len
+
 -- the contents of a range under section 3
 unfoldable pub lookupContents : LexOutput → ℕ → ℕ → Option (List Content)
 lookupContents b start len =
-    cond (rangeOk (contentCounts (b .layers)) start len) (some (resolveContentRange (storeOf (b .layers)) start len)) none
+    cond (contentsOk start len b) (some (resolveContentRange (storeOf (b .layers)) start len)) none
 
 -- the segments of a range under section 3
 unfoldable pub lookupSegments : LexOutput → ℕ → ℕ → Option (List Segment)
 lookupSegments b start len =
-    cond (rangeOk (segmentCounts (b .layers)) start len) (some (resolveSegRange (storeOf (b .layers)) start len)) none
+    cond (segmentsOk start len b) (some (resolveSegRange (storeOf (b .layers)) start len)) none
 
 -- `copy_book`: a book read and written again; 18 for a short buffer.
 unfoldable pub copyBook : Stored → Room → Checked Stored
@@ -65,6 +72,10 @@ copyBook stored room = do
   b ← checkBook (stored .tape) (stored .bytes)
   _ ← refuse 18 if not (fitsRoom room (storedBook b))
   accepted (storedBook b)
+
+-- The copy of a book into result buffers of these lengths; no work words are lent.
+unfoldable pub copyInto : List ℕ → List ℕ → ℕ → ℕ → Checked Stored
+copyInto t d tape bytes = copyBook (storedOf t d) (record { tapeBytes = tape; textBytes = bytes; workWords = 0 })
 
 -- What the two lent buffers hold after it: the copy and zeros behind it, or zeros after a refusal.
 unfoldable pub copiedTape : ℕ → Checked Stored → List ℕ

@@ -28,11 +28,18 @@ pub record Stored : Type 0 where
   pub tape : List ℕ
   pub bytes : List ℕ
 
+abbrev pub storedOf : List ℕ → List ℕ → Stored
+storedOf tape bytes = record { tape = tape; bytes = bytes }
+
 -- what is lent: the lengths of the two result buffers, and how many work words
 pub record Room : Type 0 where
   pub tapeBytes : ℕ
   pub textBytes : ℕ
   pub workWords : ℕ
+
+-- the room of these buffers and words
+abbrev pub roomOf : List ℕ → List ℕ → List ℕ → Room
+roomOf tape text work = record { tapeBytes = length tape; textBytes = length text; workWords = length work }
 
 -- Section 7. `IncrementalOutput`, and what is returned too: region, reused (old nodes kept), reread (reading's nodes), the
 -- seven counts. `reparsedNodes` is document 01's reread.
@@ -42,6 +49,18 @@ pub record IncrementalOutput : Type 0 where
   pub reusedNodes : ℕ
   pub reparsedNodes : ℕ
   pub stats : InternStats
+
+-- the tape and the bytes of an accepted result; none of a refused one
+unfoldable pub outputTape : Checked IncrementalOutput → List ℕ
+outputTape (refused n) = []
+outputTape (accepted a) = a .output .tape
+
+unfoldable pub outputBytes : Checked IncrementalOutput → List ℕ
+outputBytes (refused n) = []
+outputBytes (accepted a) = a .output .bytes
+
+unfoldable pub resultOf : Checked IncrementalOutput → Stored
+resultOf x = storedOf (outputTape x) (outputBytes x)
 
 -- ---- 12 to 15: what the reading must be
 

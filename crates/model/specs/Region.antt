@@ -22,6 +22,10 @@ pub record Edit : Type 0 where
   pub end : ℕ
   pub replacement : List ℕ
 
+-- the edit of these numbers and bytes
+unfoldable pub editOf : ℕ → ℕ → List ℕ → Edit
+editOf start end replacement = record { start = start; end = end; replacement = replacement }
+
 -- the new text
 unfoldable pub edited : List ℕ → Edit → List ℕ
 edited text e = take (e .start) text ++ (e .replacement ++ drop (e .end) text)

@@ -3,6 +3,7 @@
 -- references that no node uses.
 use mathlib.Core.Path.{_≡_, refl}
 use Prim.Native.Nat.{ℕ, suc, _+_}
+use mathlib.Core.Option.{Option, none, some}
 use mathlib.Core.List.{List, [], _∷_, _++_}
 use lib.ListN.{length}
 use Rattle.model.specs.Lists.{ascii}
@@ -13,8 +14,9 @@ use Rattle.model.specs.WellFormed.{checkBook}
 use Rattle.model.specs.Tree.{Tree.tree, Fields.done, Fields.text, Fields.contents, Contents, Contents.noContent, Contents.plain, ShownNode}
 use Rattle.model.specs.Region.{Edit}
 use Rattle.model.specs.Merge.{storedBook, merge}
+use Rattle.model.specs.Lookup.{lookupStr}
 use Rattle.model.specs.Runs.{programRoom}
-use Rattle.model.specs.Demand3.{Shown, shown, shownString, shownContents, movedBehind, regionBehind}
+use Rattle.model.specs.Demand3.{Shown, shown, shownContents, movedBehind, regionBehind}
 use Rattle.model.specs.Examples.{plainBook, rubyReading}
 use Rattle.model.specs.Computed.{computed}
 
@@ -98,8 +100,9 @@ pub record Told : Type 0 where
   pub rereadTotal : ℕ
   pub final : Shown
   pub layers : ℕ
-  pub string1 : List ℕ
-  pub content0 : Contents
+  pub string1 : Option (List ℕ)
+  pub content0 : Option Contents
+  pub string5 : Option (List ℕ)
 
 -- two merges, one behind the other; the second edit is already moved
 abbrev inTurn : Edit → RegionOutput → Edit → RegionOutput → Checked Told
@@ -113,8 +116,9 @@ inTurn e reading e′ reading′ = do
     rereadTotal = first .reparsedNodes + second .reparsedNodes;
     final = shown final;
     layers = length (final .layers);
-    string1 = shownString final 1;
+    string1 = lookupStr final 1;
     content0 = shownContents final 0 1;
+    string5 = lookupStr final 5;
   })
 
 abbrev shownKaeriten : ℕ → ℕ → ℕ → List ℕ → ShownNode
@@ -150,8 +154,9 @@ told first second = record {
   rereadTotal = 2;
   final = final;
   layers = 3;
-  string1 = ascii "q";
-  content0 = plain (ascii "q") noContent;
+  string1 = some (ascii "q");
+  content0 = some (plain (ascii "q") noContent);
+  string5 = none;
 }
 
 -- Both orders: the earlier region is 4..8, the later one 8..12, moved by one where it comes second; book, total and references
@@ -159,7 +164,7 @@ told first second = record {
 pub both-orders :
     (inTurn earlier earlierReading (movedBehind earlier later) laterReading ≡ accepted (told (span 4 8) (regionBehind earlier (span 8 12))))
     × (inTurn later laterReading earlier earlierReading ≡ accepted (told (span 8 12) (span 4 8)))
-unfolding computed shown shownString shownContents movedBehind regionBehind
+unfolding computed shown shownContents movedBehind regionBehind
 both-orders = (refl, refl)
 
 -- ---- pairs that are accepted in one order only

@@ -6,22 +6,10 @@ use mathlib.Core.List.{List}
 use lib.ListN.{length}
 use Rattle.model.specs.Offset.{Span, maxU32}
 use Rattle.model.specs.Types.{LexOutput}
-use Rattle.model.specs.Region.{Edit, edited, behindEdit}
-use Rattle.model.specs.Demand3.{Correction, movedBehind}
+use Rattle.model.specs.Region.{Edit, edited, behindEdit, editOf}
+use Rattle.model.specs.Demand3.{Correction, movedBehind, cutBehind, cutMoved}
 use Rattle.laws.specs.Checks.{Chosen}
-use Rattle.edit.specs.Numbers.{editOf}
 use Rattle.edit.specs.Same.{edited-length}
-
--- Where an offset behind an edit stands in the new text, cut at the largest u32.
-unfoldable pub cutBehind : Edit → ℕ → ℕ
-cutBehind e o = min (behindEdit e o) maxU32
-
--- a correction that lies behind another, its offsets cut
-unfoldable pub cutMoved : Edit → Correction → Correction
-cutMoved other c = record {
-  edit = editOf (cutBehind other (c .edit .start)) (cutBehind other (c .edit .end)) (c .edit .replacement);
-  reading = c .reading;
-}
 
 -- the three ways of the code
 module _ (start end offset : ℕ) (replacement : List ℕ) where

@@ -9,32 +9,16 @@ use lib.Seq.{take-append-seam}
 use Rattle.model.specs.Types.{LexOutput}
 use Rattle.model.specs.Refusal.{Checked, Checked.refused, Checked.accepted}
 use Rattle.model.specs.WellFormed.{checkBook}
-use Rattle.model.specs.Region.{Edit}
-use Rattle.model.specs.Merge.{Stored, Room, IncrementalOutput, merge, padded, tapeBuffer, textBuffer, workBuffer}
-use Rattle.model.specs.Demand3.{Correction, StoredBytes, Separate, BothOrders, Commutes, Demand3}
+use Rattle.model.specs.Region.{Edit, editOf}
+use Rattle.model.specs.Merge.{Stored, Room, IncrementalOutput, merge, padded, tapeBuffer, textBuffer, workBuffer, storedOf, resultOf, outputTape, outputBytes}
+use Rattle.model.specs.Demand3.{Correction, StoredBytes, Separate, BothOrders, Commutes, Demand3, correctionOf, mergeOf, cutBehind, cutMoved}
 use Rattle.laws.specs.Checks.{chosen-facts}
 use Rattle.laws.specs.Numbers.{UpTo, merge-numbers}
 use Rattle.commute.specs.Demand3.{demand3}
-use Rattle.edit.specs.Numbers.{editOf}
-use Rattle.output.specs.Answer.{Merged, outputOf, outputTape, outputBytes}
+use Rattle.output.specs.Answer.{Merged, outputOf}
 use Rattle.output.specs.declared.IncrementalOutput.{IncrementalOutput as Output}
 use Rattle.orders.specs.declared.BothOrders.{BothOrders as Answers}
-use Rattle.orders.specs.Moved.{cutBehind, cutMoved, moved-exact}
-
--- a tape and its bytes, and a correction, as they are lent
-abbrev pub storedOf : List ℕ → List ℕ → Stored
-storedOf tape bytes = record { tape = tape; bytes = bytes }
-
-abbrev pub correctionOf : ℕ → ℕ → List ℕ → List ℕ → List ℕ → Correction
-correctionOf start end replacement tape bytes = record { edit = editOf start end replacement; reading = storedOf tape bytes }
-
--- the merge of a correction, in buffers of that room
-abbrev pub mergeOf : Stored → Correction → Room → Checked IncrementalOutput
-mergeOf book c room = merge book (c .edit) (c .reading) room
-
--- what is stored by a merge: nothing where it is refused
-unfoldable pub resultOf : Checked IncrementalOutput → Stored
-resultOf x = storedOf (outputTape x) (outputBytes x)
+use Rattle.orders.specs.Moved.{moved-exact}
 
 -- ---- what the calls leave
 

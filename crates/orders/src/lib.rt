@@ -3,10 +3,10 @@
 ghost use mathlib.Core.Path.{_≡_};
 ghost use Prim.Native.Nat.{min};
 ghost use Rattle.model.specs.Offset.{maxU32};
-ghost use Rattle.output.specs.Answer.{roomOf};
-ghost use Rattle.edit.specs.Numbers.{editOf};
-ghost use Rattle.orders.specs.Moved.{cutBehind};
-ghost use Rattle.orders.specs.Orders.{storedOf, correctionOf, MergedInOrder, MergedBothOrders};
+ghost use Rattle.model.specs.Region.{editOf};
+ghost use Rattle.model.specs.Merge.{roomOf, storedOf};
+ghost use Rattle.model.specs.Demand3.{cutBehind, correctionOf};
+ghost use Rattle.orders.specs.Orders.{MergedInOrder, MergedBothOrders};
 
 // What the four calls answer. The earlier correction is the one that lies before the other.
 pub struct BothOrders {

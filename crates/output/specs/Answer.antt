@@ -42,10 +42,6 @@ outputOf (accepted a) = record {
   bytes = length (a .output .bytes);
 }
 
--- the lent buffers, by their lengths
-abbrev pub roomOf : List ℕ → List ℕ → List ℕ → Room
-roomOf out text work = record { tapeBytes = length out; textBytes = length text; workWords = length work }
-
 -- What a merge leaves: the answer, the result and zeros behind it in both buffers, zeros in all work words.
 pub record Merged (asked : Checked IncrementalOutput) (room : Room) (r : Output) (out text work : List ℕ) : Type 0 where
   pub answer : r ≡ outputOf asked
@@ -61,12 +57,3 @@ pub record Written (asked : Checked IncrementalOutput) (r : Output) (out text wo
   pub tapeLength : length out′ ≡ length out
   pub textLength : length text′ ≡ length text
   pub wordsLength : length work′ ≡ length work
-
--- the tape and the bytes of an accepted result; none of a refused one
-unfoldable pub outputTape : Checked IncrementalOutput → List ℕ
-outputTape (refused n) = []
-outputTape (accepted a) = a .output .tape
-
-unfoldable pub outputBytes : Checked IncrementalOutput → List ℕ
-outputBytes (refused n) = []
-outputBytes (accepted a) = a .output .bytes

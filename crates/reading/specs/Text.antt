@@ -11,10 +11,9 @@ use lib.Seq.{length-take-le, drop-append-le, take-all}
 use lib.Dec.{eqb}
 use Rattle.model.specs.Lists.{same}
 use Rattle.model.specs.Bytes.{part}
-use Rattle.model.specs.Region.{edited, behindEdit}
+use Rattle.model.specs.Region.{edited, behindEdit, editOf}
 use Rattle.laws.specs.Splice.{splice, drop-take, take-splice-rest}
 use Rattle.compare.specs.Compare.{same-length}
-use Rattle.edit.specs.Numbers.{editOf}
 use Rattle.edit.specs.Same.{parts}
 
 -- joined lists, part by part

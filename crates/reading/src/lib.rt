@@ -7,11 +7,10 @@ ghost use lib.ListN.{length};
 ghost use Rattle.model.specs.Lists.{any, same as sameBytes};
 ghost use Rattle.model.specs.Bytes.{part};
 ghost use Rattle.model.specs.Tape.{recordAt, recordsAt, nodeCodec, diagnosticCodec};
-ghost use Rattle.model.specs.Region.{edited, behindEdit};
+ghost use Rattle.model.specs.Region.{edited, behindEdit, editOf};
 ghost use Rattle.model.specs.Merge.{balancedNodes, isUnclosed, normalizedOffset};
 ghost use Rattle.reading.specs.Window.{endsOnBoundaries};
 ghost use Rattle.bounds.specs.Search.{InOrder};
-ghost use Rattle.edit.specs.Numbers.{editOf};
 ghost use Rattle.reading.specs.Balance.{closesUnopened};
 ghost use Rattle.reading.specs.Until.{Until};
 

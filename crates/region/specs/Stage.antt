@@ -12,10 +12,10 @@ use Rattle.model.specs.Offset.{Span}
 use Rattle.model.specs.Types.{LexOutput}
 use Rattle.model.specs.Refusal.{Checked, Checked.refused, Checked.accepted}
 use Rattle.model.specs.Tape.{recordsAt, nodeCodec, pairCodec, places, bookAt}
-use Rattle.model.specs.Region.{Edit, balancedRegion, isWhole, hasRubyFormatDependency, chosenRegion}
+use Rattle.model.specs.Region.{Edit, balancedRegion, isWhole, hasRubyFormatDependency, chosenRegion, editOf}
 use Rattle.places.specs.declared.Places.{Places}
 use Rattle.store.specs.declared.Store.{Store}
-use Rattle.edit.specs.Numbers.{editOf, editNumber, edit-inside}
+use Rattle.edit.specs.Numbers.{editNumber, edit-inside}
 use Rattle.balanced_region.specs.declared.Region.{Region as Cuts}
 use Rattle.balanced_region.specs.Ends.{balancedIn, regionOf, balanced-bounds, region-of-book}
 use Rattle.cuts.specs.Gaps.{NodesIn}

@@ -6,7 +6,8 @@ use native.Mathlib.Nat.{sub-zero}
 use mathlib.Core.List.{List, _++_, append-nil}
 use lib.ListN.{length, take, drop, length-drop, drop-of-length-le}
 use lib.Seq.{length-take-le, take-append-seam, drop-append-seam, take-all}
-use Rattle.wire.specs.Overwrite.{overwrite, zeros}
+use Rattle.model.specs.Bytes.{zeros}
+use Rattle.wire.specs.Overwrite.{overwrite}
 use Rattle.strings.specs.Index.{Indexed, indexIn, index-length, index-written}
 use Rattle.dependency.specs.Noted.{firstWords}
 

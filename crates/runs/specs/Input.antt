@@ -12,12 +12,12 @@ use Rattle.model.specs.Lists.{all, sum}
 use Rattle.model.specs.Limits.{maxPart}
 use Rattle.model.specs.Bytes.{wordAt, part}
 use Rattle.model.specs.Refusal.{Checked, Checked.refused, _>>=_, refuse_if_}
+use Rattle.model.specs.Region.{editOf}
 use Rattle.model.specs.Merge.{Room, IncrementalOutput, merge}
 use Rattle.model.specs.Runs.{partLengths, asked, program}
 use Rattle.laws.specs.Lists.{both}
 use Rattle.wire.specs.Loops.{by-bool}
 use Rattle.lines.specs.Input.{same-word}
-use Rattle.edit.specs.Numbers.{editOf}
 use Rattle.output.specs.Answer.{Merged, outputOf, refusedOutput}
 use Rattle.output.specs.declared.IncrementalOutput.{IncrementalOutput as Output}
 

@@ -12,8 +12,9 @@ use lib.Seq.{take-all}
 use lib.Dec.{leb, ltb, eqb}
 use borrow.Author.Tests.{le-leb, lt-leb, eq-eqb, ne-eqb, leb-true, leb-false, ltb-true, ltb-false}
 use Rattle.model.specs.Lists.{sum, any, tabulate}
+use Rattle.model.specs.Bytes.{zeros}
 use Rattle.model.specs.Store.{layerStarts, inOneLayer, rangeOk, idOk}
-use Rattle.wire.specs.Overwrite.{zeros, padded}
+use Rattle.wire.specs.Overwrite.{padded}
 use Rattle.wire.specs.Loops.{anyUpTo, any-tabulate, by-bool}
 
 -- ---- what the code computes

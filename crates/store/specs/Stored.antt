@@ -8,9 +8,10 @@ use mathlib.Core.List.{List, [], _∷_, _++_}
 use lib.ListN.{length, getD, take, set}
 use lib.Seq.{take-suc, take-all, length-take-le}
 use Rattle.model.specs.Lists.{sum}
+use Rattle.model.specs.Bytes.{zeros}
 use Rattle.model.specs.Store.{layerStarts}
 use Rattle.model.specs.Tape.{LayerPlaces, layerPlaces, places}
-use Rattle.wire.specs.Overwrite.{overwrite, zeros, overwrite-push, overwrite-nil, overwrite-zeros}
+use Rattle.wire.specs.Overwrite.{overwrite, overwrite-push, overwrite-nil, overwrite-zeros}
 use Rattle.places.specs.declared.LayerRuns.{LayerRuns}
 use Rattle.places.specs.declared.Places.{Places}
 use Rattle.places.specs.Found.{layerRuns, stringsIn, contentsIn, segmentsIn, found}

@@ -7,13 +7,11 @@ use native.Mathlib.Numerals.{add-one}
 use native.Mathlib.Nat.{zero-add, add-zero, sub-zero, add-assoc, zero-sub, suc-sub-suc}
 use lib.ListN.{length, take, drop, getD, set, replicate, length-append, length-drop, length-replicate, replicate-append-replicate, take-append-drop, List·getD-append}
 use lib.Seq.{take-suc, sets-eq, length-take-le, take-at, drop-at, drop-drop, drop-append-add, getD-append-add, getD-take, getD-drop, drop-length}
+use Rattle.model.specs.Bytes.{zeros}
 
 -- `d` with the elements `bs` in place of as many from index `at`
 unfoldable pub overwrite : List ℕ → ℕ → List ℕ → List ℕ
 overwrite d at bs = take at d ++ bs ++ drop (at + length bs) d
-
-abbrev pub zeros : ℕ → List ℕ
-zeros n = replicate n 0
 
 -- `bs`, and zeros up to n elements
 abbrev pub padded : ℕ → List ℕ → List ℕ

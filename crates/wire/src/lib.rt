@@ -5,8 +5,8 @@ ghost use mathlib.Core.Path.{_≡_};
 ghost use mathlib.Core.List.{_∷_, []};
 ghost use Prim.Native.Nat.{_+_, _-_, _*_, _≤_, _<_};
 ghost use lib.ListN.{length, take};
-ghost use Rattle.model.specs.Bytes.{byteAt, wordAt, wordBytes, part};
-ghost use Rattle.wire.specs.Overwrite.{overwrite, zeros};
+ghost use Rattle.model.specs.Bytes.{byteAt, wordAt, wordBytes, part, zeros};
+ghost use Rattle.wire.specs.Overwrite.{overwrite};
 
 // A function of numbers alone: its needs are arithmetic.
 pub fn word(a: u8, b: u8, c: u8, d: u8) -> u32

@@ -1,6 +1,6 @@
+use Rattle.model.specs.Region.{editOf}
 use Rattle.edit.specs.Same.{unchanged-length, unchanged-part}
 use mathlib.Core.Path.{sym, _∙_}
-use Rattle.edit.specs.Numbers.{editOf}
 use borrow.Author.Needs.{needs}
 use Rattle.edit.proofs.unchanged.Statement.{statement}
 use Rattle.edit.proofs.unchanged.Tie as tie

@@ -1,6 +1,6 @@
 use native.Mathlib.Omega.{arith}
 use mathlib.Core.Path.{refl}
-use Rattle.edit.specs.Numbers.{editOf}
+use Rattle.model.specs.Region.{editOf}
 use Rattle.result.specs.Checked.{resultChecked}
 use Rattle.incremental.specs.Stages.{written-refused, written-later}
 use Rattle.incremental.specs.Window.{given-inside, start-small, end-small, normal-order}

@@ -1,6 +1,6 @@
-use Rattle.edit.specs.Numbers.{editOf}
 use native.Mathlib.Omega.{arith}
 use borrow.Author.Tests.{not-true, not-false}
+use Rattle.model.specs.Region.{editOf}
 use Rattle.incremental.specs.Reading.{held-texts, held-nodes, held-diagnostics, region-asked, refused-12, refused-13, refused-14, refused-cut}
 use borrow.Author.Needs.{needs}
 use Rattle.incremental.proofs.reading_refusal.Statement.{statement}

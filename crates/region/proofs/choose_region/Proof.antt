@@ -1,6 +1,6 @@
-use Rattle.wire.specs.Overwrite.{zeros}
 use mathlib.Core.Path.{ap, _∙_}
 use borrow.Author.Needs.{needs}
+use Rattle.model.specs.Bytes.{zeros}
 use Rattle.region.proofs.choose_region.Statement.{statement}
 use Rattle.region.proofs.choose_region.Tie as tie
 use Rattle.region.proofs.choose_region.Reads as reads

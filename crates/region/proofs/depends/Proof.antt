@@ -1,6 +1,6 @@
-use Rattle.edit.specs.Numbers.{editOf}
 use mathlib.Core.Path.{refl}
 use native.Mathlib.Omega.{arith}
+use Rattle.model.specs.Region.{editOf}
 use Rattle.region.specs.Held.{ready-held}
 use Rattle.region.specs.Ready.{ready-cut, ready-sound, ready-depends}
 use borrow.Author.Needs.{needs}

@@ -1,9 +1,9 @@
+use Rattle.model.specs.Region.{editOf}
 use Rattle.result.specs.Merging.{old-fit, texts-inside, no-room, no-graft, no-size, at-small, lists-ready, bytes-small, merged}
 use Rattle.result.specs.Whole.{small}
 use Rattle.merged_lists.specs.Sizes.{room-facts}
 use Rattle.result.specs.Books.{inside}
 use borrow.Author.Tests.{not-true, not-false}
-use Rattle.edit.specs.Numbers.{editOf}
 use mathlib.Core.Path.{refl, sym, _∙_}
 use Prim.Native.Nat.{_-_}
 use native.Mathlib.Omega.{arith}

@@ -1,8 +1,8 @@
+use Rattle.model.specs.Region.{editOf}
 use Rattle.merged_lists.specs.declared.Lengths.{Lengths}
 use Rattle.result.specs.Merging.{texts-inside, nodes-at, source-fits, pools-fit}
 use Rattle.result.specs.Stages.{store-told}
 use Rattle.result.specs.Books.{inside}
-use Rattle.edit.specs.Numbers.{editOf}
 use mathlib.Core.Path.{ap}
 use Prim.Native.Nat.{_-_}
 use native.Mathlib.Omega.{arith}

@@ -1,5 +1,6 @@
 use native.Mathlib.Nat.{sub-self}
-use Rattle.wire.specs.Overwrite.{overwrite, zeros, zero-more, overwrite-nil}
+use Rattle.model.specs.Bytes.{zeros}
+use Rattle.wire.specs.Overwrite.{overwrite, zero-more, overwrite-nil}
 use mathlib.Core.Path.{_≡_, refl}
 use Prim.Native.Nat.{_+_, _-_, _≤_}
 use native.Mathlib.Omega.{arith}

@@ -1,4 +1,5 @@
-use Rattle.wire.specs.Overwrite.{overwrite, zeros, zero-more, overwrite-nil, overwrite-all}
+use Rattle.model.specs.Bytes.{zeros}
+use Rattle.wire.specs.Overwrite.{overwrite, zero-more, overwrite-nil, overwrite-all}
 use mathlib.Core.Path.{_≡_, refl, _∙_}
 use Prim.Native.Nat.{_-_, _≤_}
 use native.Mathlib.Omega.{arith}
