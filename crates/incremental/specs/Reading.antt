@@ -10,11 +10,10 @@ use lib.Dec.{leb}
 use borrow.Author.Tests.{le-leb, lt-leb}
 use Rattle.model.specs.Lists.{any, isEmpty, same}
 use Rattle.model.specs.Limits.{maxLayers}
-use Rattle.model.specs.Bytes.{part}
 use Rattle.model.specs.Offset.{Span}
 use Rattle.model.specs.Types.{SourceNode, LexOutput, RegionOutput}
 use Rattle.model.specs.Tape.{recordsAt, nodeCodec, diagnosticCodec, places, bookAt}
-use Rattle.model.specs.Region.{Edit, edited, behindEdit}
+use Rattle.model.specs.Region.{Edit, edited, regionText}
 use Rattle.model.specs.Merge.{newRegionText, balancedNodes, isUnclosed, introducesRubyFormatDependency, normalizedOffset, windowOf, cutsOk}
 use Rattle.places.specs.declared.Places.{Places}
 use Rattle.store.specs.declared.Store.{Store}
@@ -22,6 +21,7 @@ use Rattle.store.specs.Lengths.{BookLengths, book-lengths}
 use Rattle.tape.specs.Accepted.{accepted-places, accepted-order}
 use Rattle.tape.specs.Placed.{fit-nodes, fit-diagnostics}
 use Rattle.bounds.specs.Search.{InOrder}
+use Rattle.reading.specs.Text.{editWithin, region-length}
 use Rattle.reading.specs.Book.{text-book, text-found, normalized-found, balanced-book, unclosed-book, cuts-book}
 use Rattle.reading.specs.Window.{endsOnBoundaries}
 use Rattle.region.specs.Ready.{ready-inside}
@@ -97,35 +97,45 @@ module _ {t d : List ℕ} {p : Places} {st : Store} {e : Edit} {r : Span} {rt rd
   abbrev new : RegionOutput
   new = bookAt rt (places rt) rd
 
-  pub region-asked : (r .start ≤ e .start) × (e .start ≤ e .end) × (e .end ≤ r .end) × (r .end ≤ length (take (p .text - 0) d))
+  pub region-asked : (r .start ≤ e .start) × (e .start ≤ e .end) × (e .end ≤ r .end) × (r .end ≤ length (old .sanitized))
   region-asked =
       let i = given-inside (g .given) in
-      let n = ap length (held-text (g .given .held)) ∙ held-lengths (g .given .held) .text in
+      let n = held-lengths (g .given .held) .text in
       (i .start, i .edit, i .end, omega (arith, i .text, n))
 
-  module _ {x₁ : Bool} (f₁ : x₁ ≡ same (take (q .text - 0) rd) (part (edited (take (p .text - 0) d) e) (r .start) (behindEdit e (r .end) - r .start))) where
-    twelve : x₁ ≡ same (new .sanitized) (newRegionText old e r)
-    twelve = text-book old new e r (held-text (g .given .held)) (held-text (g .held)) f₁
+  -- the passage, as the code takes it
+  module _ {passage : List ℕ} (f : (b : LexOutput) → take (p .text - 0) d ≡ b .sanitized → passage ≡ regionText b r) where
+    is-passage : passage ≡ regionText old r
+    is-passage = f old (held-text (g .given .held))
 
-    pub refused-12 : x₁ ≡ false → 12 ≡ readingNumber old e r new
-    refused-12 = number-12 old e r new twelve
+    pub passage-asked : (e .start - r .start ≤ e .end - r .start) × (e .end - r .start ≤ length passage)
+    passage-asked =
+        let n = ap length is-passage ∙ region-length old r (omega (arith, region-asked)) (region-asked .3) in
+        (omega (arith, region-asked), omega (arith, region-asked, n))
 
-    module _ (h₁ : x₁ ≡ true) {x₂ : Bool} (f₂ : x₂ ≡ balancedNodes (recordsAt nodeCodec rt (q .nodes .at) (q .nodes .count))) where
-      thirteen : x₂ ≡ balancedNodes (new .sourceNodes)
-      thirteen = balanced-book rt rd (g .held .is) f₂
+    module _ {x₁ : Bool} (f₁ : x₁ ≡ same (take (q .text - 0) rd) (edited passage (editWithin r e))) where
+      twelve : x₁ ≡ same (new .sanitized) (newRegionText old e r)
+      twelve = text-book old new e r region-asked is-passage (held-text (g .held)) f₁
 
-      pub refused-13 : x₂ ≡ false → 13 ≡ readingNumber old e r new
-      refused-13 = number-13 old e r new twelve h₁ thirteen
+      pub refused-12 : x₁ ≡ false → 12 ≡ readingNumber old e r new
+      refused-12 = number-12 old e r new twelve
 
-      module _ (h₂ : x₂ ≡ true) {x₃ : Bool} (f₃ : x₃ ≡ any isUnclosed (recordsAt diagnosticCodec rt (q .diagnostics .at) (q .diagnostics .count))) where
-        fourteen : x₃ ≡ any isUnclosed (new .diagnostics)
-        fourteen = unclosed-book rt rd (g .held .is) f₃
+      module _ (h₁ : x₁ ≡ true) {x₂ : Bool} (f₂ : x₂ ≡ balancedNodes (recordsAt nodeCodec rt (q .nodes .at) (q .nodes .count))) where
+        thirteen : x₂ ≡ balancedNodes (new .sourceNodes)
+        thirteen = balanced-book rt rd (g .held .is) f₂
 
-        pub refused-14 : x₃ ≡ true → 14 ≡ readingNumber old e r new
-        refused-14 = number-14 old e r new twelve h₁ thirteen h₂ fourteen
+        pub refused-13 : x₂ ≡ false → 13 ≡ readingNumber old e r new
+        refused-13 = number-13 old e r new twelve h₁ thirteen
 
-        pub refused-cut : x₃ ≡ false → {n : ℕ} → n ≡ cutNumber old e r new → n ≡ readingNumber old e r new
-        refused-cut h₃ = number-rest old e r new twelve h₁ thirteen h₂ fourteen h₃
+        module _ (h₂ : x₂ ≡ true) {x₃ : Bool} (f₃ : x₃ ≡ any isUnclosed (recordsAt diagnosticCodec rt (q .diagnostics .at) (q .diagnostics .count))) where
+          fourteen : x₃ ≡ any isUnclosed (new .diagnostics)
+          fourteen = unclosed-book rt rd (g .held .is) f₃
+
+          pub refused-14 : x₃ ≡ true → 14 ≡ readingNumber old e r new
+          refused-14 = number-14 old e r new twelve h₁ thirteen h₂ fourteen
+
+          pub refused-cut : x₃ ≡ false → {n : ℕ} → n ≡ cutNumber old e r new → n ≡ readingNumber old e r new
+          refused-cut h₃ = number-rest old e r new twelve h₁ thirteen h₂ fourteen h₃
 
 module _ {t d : List ℕ} {p : Places} {st : Store} (h : Held t d p st) {rt rd : List ℕ} {q : Places} {own : Store} (k : Held rt rd q own) (e : Edit) (r : Span) where
   abbrev book : LexOutput

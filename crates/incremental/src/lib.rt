@@ -121,8 +121,11 @@ fn reading_refusal(
     ensures { λ r. ⌜ r ≡ readingNumber (bookAt (now (tape .entry)) (placesIn (now (tape .entry))) (now (bytes .entry))) (editOf start end (now (replacement .entry))) (regionOf (w .start) (w .end)) (bookAt (now (readingtape .entry)) (placesIn (now (readingtape .entry))) (now (readingbytes .entry))) ⌝ }
 {
     let text = &bytes[0..p.text as usize];
+    let passage = region::region_text(text, w.start, w.end);
     let own_text = &readingbytes[0..q.text as usize];
-    if !reading::is_region_text(text, start, end, replacement, w.start, w.end, own_text) {
+    let first = (start - w.start) as usize;
+    let last = (end - w.start) as usize;
+    if !reading::is_region_text(passage, first, last, replacement, own_text) {
         return 12;
     }
     if !reading::balanced_nodes(readingtape, q.nodes.at, q.nodes.count) {

@@ -1,51 +1,44 @@
 // What a reading must be, document 01 section 7: its text is the new region's (12), what it opens it closes (13), no diagnostic of it tells
 // of a bracket left open or a close left over (14); and that no cut falls inside a normalized character (16). Number 15 is crate
-// `introduces`. The new text is never built: the region of it is a part of the old text, the replacement and a part of the old text.
+// `introduces`. The new text is never built: the region of it is the passage with the edit made in it, compared part by part.
 ghost use mathlib.Core.Path.{_≡_};
 ghost use Prim.Native.Nat.{_+_, _-_, _*_, _≤_, _<_};
 ghost use lib.ListN.{length};
 ghost use Rattle.model.specs.Lists.{any, same as sameBytes};
-ghost use Rattle.model.specs.Bytes.{part};
 ghost use Rattle.model.specs.Tape.{recordAt, recordsAt, nodeCodec, diagnosticCodec};
-ghost use Rattle.model.specs.Region.{edited, behindEdit, editOf};
+ghost use Rattle.model.specs.Region.{edited, editOf};
 ghost use Rattle.model.specs.Merge.{balancedNodes, isUnclosed, normalizedOffset};
 ghost use Rattle.reading.specs.Window.{endsOnBoundaries};
 ghost use Rattle.bounds.specs.Search.{InOrder};
 ghost use Rattle.reading.specs.Balance.{closesUnopened};
 ghost use Rattle.reading.specs.Until.{Until};
 
-// Number 12. The reading's text is the text of the new region; `from` to `to` is the region in the old text.
+// Number 12. The reading's text is the passage with the edit made in it; `start` and `end` are offsets of the passage.
 pub fn is_region_text(
-    text: &[u8],
-    start: u32,
-    end: u32,
+    passage: &[u8],
+    start: usize,
+    end: usize,
     replacement: &[u8],
-    from: u32,
-    to: u32,
     reading: &[u8],
 ) -> bool
-    requires { ⌜ (from ≤ start) × (start ≤ end) × (end ≤ to) × (to ≤ length (now text)) ⌝ }
-    ensures { λ r. ⌜ r ≡ sameBytes (now (reading .entry)) (part (edited (now (text .entry)) (editOf start end (now (replacement .entry)))) from (behindEdit (editOf start end (now (replacement .entry))) to - from)) ⌝ }
+    requires { ⌜ (start ≤ end) × (end ≤ length (now passage)) ⌝ }
+    ensures { λ r. ⌜ r ≡ sameBytes (now (reading .entry)) (edited (now (passage .entry)) (editOf start end (now (replacement .entry)))) ⌝ }
 {
-    let before = (start - from) as usize;
-    let behind = (to - end) as usize;
-    if reading.len() < before + behind {
-        return false;
-    }
-    if reading.len() - before - behind != replacement.len() {
+    let behind = passage.len() - end;
+    if reading.len() < start + behind {
         return false;
     }
     let there = reading.len() - behind;
-    if !compare::same(&reading[0..before], &text[from as usize..start as usize]) {
+    if there - start != replacement.len() {
         return false;
     }
-    if !compare::same(&reading[before..there], replacement) {
+    if !compare::same(&reading[0..start], &passage[0..start]) {
         return false;
     }
-    compare::same(
-        &reading[there..reading.len()],
-        &text[end as usize..to as usize],
-    )
+    if !compare::same(&reading[start..there], replacement) {
+        return false;
+    }
+    compare::same(&reading[there..reading.len()], &passage[end..passage.len()])
 }
 
 // A node that closes what none has opened.

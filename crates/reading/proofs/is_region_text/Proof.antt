@@ -9,35 +9,28 @@ use Rattle.reading.proofs.is_region_text.Reads as reads
 use Rattle.reading.proofs.is_region_text.Lts as lts
 use Rattle.compare.proofs.same.Reads as same-reads
 
-sub-before : tie.Need-sub-before
-sub-before c = search needs
-
-cast-before : tie.Need-cast-before
-cast-before c = search needs
-
 sub-behind : tie.Need-sub-behind
 sub-behind c = search needs
-
-cast-behind : tie.Need-cast-behind
-cast-behind c = search needs
 
 add-if1 : tie.Need-add-if1
 add-if1 c = search needs
 
 returns : tie.Need-returns
-returns c = text-length (c .before .before .before .before .args .text .now) _ _ (c .before .before .before .before .args .replacement .now) _ _ (c .before .before .before .before .pre) (c .before .before .before .before .args .reading .now) (λ e. omega (arith, e, c .before .before .before .before .pre, c .if1 .taken))
+returns c =
+    let start = c .before .before .before .before in
+    text-length (start .args .passage .now) _ _ (start .args .replacement .now) (start .pre) (start .args .reading .now) (λ e. omega (arith, e, start .pre, c .if1 .taken))
+
+sub-there : tie.Need-sub-there
+sub-there c = search needs
 
 sub-if2 : tie.Need-sub-if2
 sub-if2 c = search needs
 
-sub-if2-2 : tie.Need-sub-if2-2
-sub-if2-2 c = search needs
-
 returns-2 : tie.Need-returns-2
-returns-2 c = text-length (c .before .before .before .before .before .args .text .now) _ _ (c .before .before .before .before .before .args .replacement .now) _ _ (c .before .before .before .before .before .pre) (c .before .before .before .before .before .args .reading .now) (λ e. omega (arith, e, c .before .before .before .before .before .pre, c .before .if1 .left, c .if2 .taken))
-
-sub-there : tie.Need-sub-there
-sub-there c = search needs
+returns-2 c =
+    let start = c .before .before .before .before .before in
+    text-length (start .args .passage .now) _ _ (start .args .replacement .now) (start .pre) (start .args .reading .now)
+    (λ e. omega (arith, e, start .pre, c .before .if1 .left, c .if2 .taken))
 
 sub-same : tie.Need-sub-same
 sub-same c = search needs
@@ -61,7 +54,10 @@ same-requires : tie.Need-same-requires
 same-requires c κs = search needs
 
 returns-3 : tie.Need-returns-3
-returns-3 c = text-first _ _ _ _ _ _ (c .before .before .before .before .before .before .before .before .before .pre) _ (omega (arith, c .before .before .before .before .before .before .before .before .before .pre, c .before .before .before .before .before .if1 .left, c .before .before .before .before .if2 .left)) _ _ refl refl (c .before .same .ensures) (not-true _ (c .if3 .taken))
+returns-3 c =
+    let sized = c .before .before .before .before in
+    let start = sized .before .before .before .before .before in
+    text-first _ _ _ _ (start .pre) _ (omega (arith, start .pre, sized .before .if1 .left, sized .if2 .left)) _ refl (c .before .same .ensures) (not-true _ (c .if3 .taken))
 
 sub-same-3 : tie.Need-sub-same-3
 sub-same-3 c = search needs
@@ -76,7 +72,12 @@ same-requires-2 : tie.Need-same-requires-2
 same-requires-2 c κs = search needs
 
 returns-4 : tie.Need-returns-4
-returns-4 c = text-second _ _ _ _ _ _ (c .before .before .before .before .before .before .before .before .before .before .before .before .pre) _ (omega (arith, c .before .before .before .before .before .before .before .before .before .before .before .before .pre, c .before .before .before .before .before .before .before .before .if1 .left, c .before .before .before .before .before .before .before .if2 .left)) _ _ refl refl (c .before .before .before .before .same .ensures) (not-false _ (c .before .before .before .if3 .left)) (c .before .same2 .ensures) (not-true _ (c .if4 .taken))
+returns-4 c =
+    let passed = c .before .before .before in
+    let sized = passed .before .before .before .before in
+    let start = sized .before .before .before .before .before in
+    text-second _ _ _ _ (start .pre) _ (omega (arith, start .pre, sized .before .if1 .left, sized .if2 .left)) _ refl (passed .before .same .ensures) (not-false _ (passed .if3 .left))
+    (c .before .same2 .ensures) (not-true _ (c .if4 .taken))
 
 sub-same-4 : tie.Need-sub-same-4
 sub-same-4 c = search needs
@@ -100,22 +101,24 @@ same-requires-3 : tie.Need-same-requires-3
 same-requires-3 c κs = search needs
 
 returns-5 : tie.Need-returns-5
-returns-5 c = text-third _ _ _ _ _ _ (c .before .before .before .before .before .before .before .before .before .before .before .before .before .before .before .pre) _ (omega (arith, c .before .before .before .before .before .before .before .before .before .before .before .before .before .before .before .pre, c .before .before .before .before .before .before .before .before .before .before .before .if1 .left, c .before .before .before .before .before .before .before .before .before .before .if2 .left)) _ _ refl refl (c .before .before .before .before .before .before .before .same .ensures) (not-false _ (c .before .before .before .before .before .before .if3 .left)) (c .before .before .before .before .same2 .ensures) (not-false _ (c .before .before .before .if4 .left)) (c .same3 .ensures)
+returns-5 c =
+    let passed2 = c .before .before .before in
+    let passed = passed2 .before .before .before in
+    let sized = passed .before .before .before .before in
+    let start = sized .before .before .before .before .before in
+    text-third _ _ _ _ (start .pre) _ (omega (arith, start .pre, sized .before .if1 .left, sized .if2 .left)) _ refl (passed .before .same .ensures) (not-false _ (passed .if3 .left))
+    (passed2 .before .same2 .ensures) (not-false _ (passed2 .if4 .left)) (c .same3 .ensures)
 
 pub is-region-text-spec : {M : Type 1} → statement M
 is-region-text-spec =
     tie.close
     (tie.spec
-    sub-before
-    cast-before
     sub-behind
-    cast-behind
     add-if1
     returns
-    sub-if2
-    sub-if2-2
-    returns-2
     sub-there
+    sub-if2
+    returns-2
     sub-same
     part-same-start
     part-same-end
