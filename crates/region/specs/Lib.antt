@@ -4,3 +4,4 @@ pub mod Held
 pub mod Stage
 pub mod Words
 pub mod Entry
+pub mod Passage

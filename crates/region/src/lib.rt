@@ -4,11 +4,11 @@
 // words will do, also none.
 ghost use mathlib.Core.Path.{_≡_};
 ghost use mathlib.Core.List.{List};
-ghost use Prim.Native.Nat.{ℕ, _+_, _-_, _≤_};
+ghost use Prim.Native.Nat.{ℕ, _+_, _≤_};
 ghost use lib.ListN.{length};
-ghost use Rattle.model.specs.Bytes.{part};
+ghost use Rattle.model.specs.Types.{LexOutput};
 ghost use Rattle.model.specs.Tape.{places as placesIn, bookAt};
-ghost use Rattle.model.specs.Region.{chosenRegion, chooseRegion, hasRubyFormatDependency};
+ghost use Rattle.model.specs.Region.{chosenRegion, chooseRegion, hasRubyFormatDependency, regionText};
 ghost use Rattle.wire.specs.Overwrite.{zeros};
 ghost use Rattle.strings.specs.Starts.{startIn, lengthsIn, Readable};
 ghost use Rattle.strings.specs.Shown.{oldStrings};
@@ -163,7 +163,7 @@ pub fn choose_region(
 
 // Section 6. The region is handed on as that part of the text; what lies outside of it is left out.
 pub fn region_text<'a>(text: &'a [u8], start: u32, end: u32) -> &'a [u8]
-    ensures { λ r. ⌜ now r ≡ part (now (text .entry)) start (end - start) ⌝ }
+    ensures { λ r. ⌜ ((b : LexOutput) → now (text .entry) ≡ b .sanitized → now r ≡ regionText b (record { start = start; end = end })) ⌝ }
 {
     wire::between(text, start as usize, end as usize)
 }
