@@ -13,7 +13,7 @@ use Rattle.model.specs.Limits.{maxPart}
 use Rattle.model.specs.Bytes.{wordAt, part}
 use Rattle.model.specs.Offset.{Span}
 use Rattle.model.specs.Types.{LexOutput}
-use Rattle.model.specs.Tape.{places, bookAt}
+use Rattle.model.specs.Tape.{bookAt}
 use Rattle.model.specs.Refusal.{Checked, Checked.refused, Checked.accepted, _>>=_, refuse_if_, numberOf}
 use Rattle.model.specs.WellFormed.{checkBook}
 use Rattle.model.specs.Region.{Edit, regionText, chosenRegion, chooseRegion}
@@ -34,7 +34,7 @@ use Rattle.region.specs.declared.Chosen.{Chosen}
 use Rattle.region.specs.declared.Chosen.the-variants.{Refused, Region}
 use Rattle.region.specs.Chosen.{chosenOf}
 use Rattle.inspect.specs.declared.Outcome.{Outcome}
-use Rattle.inspect.specs.Inspect.{tapeIn, bytesIn, behind, editAt, askedBook, askedEdit, askedBehind, asked, markOf, passageLine}
+use Rattle.inspect.specs.Inspect.{tapeIn, bytesIn, behind, editAt, askedBook, askedEdit, askedBehind, asked, markOf, bookOf, passageLine}
 
 -- A number, or the mark of a book that is shown; the number is 0 then.
 unfoldable pub outcomeOf : Checked (Option Span) → Outcome
@@ -286,15 +286,11 @@ asked-shown s z f g =
 -- ---- the passage
 
 -- the book's text, as the code cuts it out
-pub book-text : (t d : List ℕ) {n : ℕ} → n ≡ wordAt t 1 → {x : List ℕ} → x ≡ part d 0 (n - 0) → x ≡ bookAt t (places t) d .sanitized
+pub book-text : (t d : List ℕ) {n : ℕ} → n ≡ wordAt t 1 → {x : List ℕ} → x ≡ part d 0 (n - 0) → x ≡ bookOf t d .sanitized
 unfolding bookAt
 book-text t d {n} e q = let z : n - 0 ≡ n = omega arith in q ∙ rw (z, e) refl
 
-pub passage-text : (b : LexOutput) (start end : ℕ) {text x : List ℕ} → text ≡ b .sanitized → x ≡ part text start (end - start) → x ≡ regionText b (record { start = start; end = end })
-unfolding regionText
-passage-text b start end e q = q ∙ rw e refl
-
-pub passage-short : (t d : List ℕ) (r : Span) → length d ≤ 65536 → {x : List ℕ} → x ≡ regionText (bookAt t (places t) d) r → length x ≤ 65536
+pub passage-short : (t d : List ℕ) (r : Span) → length d ≤ 65536 → {x : List ℕ} → x ≡ regionText (bookOf t d) r → length x ≤ 65536
 unfolding regionText bookAt
 passage-short t d r h e =
     let text = take (wordAt t 1) d in

@@ -70,6 +70,10 @@ unfoldable pub markOf : Option Span → Mark
 markOf none = record { edit = false; start = 0; end = 0 }
 markOf (some r) = record { edit = true; start = r .start; end = r .end }
 
+-- the book of a tape and its bytes, where they are accepted
+abbrev pub bookOf : List ℕ → List ℕ → LexOutput
+bookOf t d = bookAt t (places t) d
+
 -- The passage that an edit makes be read anew: where it starts and ends, and its text in the old book.
 unfoldable pub passageLine : LexOutput → Span → List ℕ
 passageLine b r = numbered (ascii "passage ") (r .start) ++ (numbered (ascii " ") (r .end) ++ (ascii " " ++ (quoted (regionText b r) ++ ascii "\n")))
@@ -78,9 +82,8 @@ unfoldable pub passageLines : LexOutput → Option Span → List (List ℕ)
 passageLines b none = []
 passageLines b (some r) = passageLine b r ∷ []
 
--- `t` and `d` are the tape and the bytes of the book.
 unfoldable pub bookLines : List ℕ → List ℕ → Option Span → List (List ℕ)
-bookLines t d r = passageLines (bookAt t (places t) d) r ++ listing t d (markOf r)
+bookLines t d r = passageLines (bookOf t d) r ++ listing t d (markOf r)
 
 unfoldable pub linesOf : List ℕ → Checked (Option Span) → List (List ℕ)
 linesOf s (refused n) = refusedLine n ∷ []

@@ -9,10 +9,9 @@ ghost use mathlib.Core.Option.{some};
 ghost use mathlib.Core.List.{List};
 ghost use lib.ListN.{length, take};
 ghost use Rattle.model.specs.Refusal.{Checked.refused, Checked.accepted, numberOf};
-ghost use Rattle.model.specs.Tape.{places as placesIn, bookAt};
 ghost use Rattle.listing.specs.Coded.{labelBytes};
 ghost use Rattle.listing.specs.Strings.{Printable};
-ghost use Rattle.inspect.specs.Inspect.{tapeIn, bytesIn, behind, editAt, askedBook, askedEdit, asked, passageLine};
+ghost use Rattle.inspect.specs.Inspect.{tapeIn, bytesIn, behind, editAt, askedBook, askedEdit, asked, bookOf, passageLine};
 ghost use Rattle.inspect.specs.Answers.{outcomeOf, headNumber, editNumber, told, Shown};
 
 const MAX_PART: u32 = 65536;
@@ -210,14 +209,14 @@ fn print_refused(n: u32) {
 }
 
 fn book_text<'a>(tape: &[u8], bytes: &'a [u8]) -> &'a [u8]
-    ensures { λ r. ⌜ now r ≡ bookAt (now (tape .entry)) (placesIn (now (tape .entry))) (now (bytes .entry)) .sanitized ⌝ }
+    ensures { λ r. ⌜ now r ≡ bookOf (now (tape .entry)) (now (bytes .entry)) .sanitized ⌝ }
 {
     wire::between(bytes, 0, wide(wire::u32_or_zero(tape, 1)))
 }
 
 fn put_passage(out: &mut [u8], tape: &[u8], bytes: &[u8], m: listing::Mark) -> usize
     requires { ⌜ (262197 ≤ length (now out)) × (length (now bytes) ≤ 65536) ⌝ }
-    ensures { λ r. ⌜ (r ≤ length (now (out .exit))) × (take r (now (out .exit)) ≡ passageLine (bookAt (now (tape .entry)) (placesIn (now (tape .entry))) (now (bytes .entry))) (record { start = m .start; end = m .end })) ⌝ }
+    ensures { λ r. ⌜ (r ≤ length (now (out .exit))) × (take r (now (out .exit)) ≡ passageLine (bookOf (now (tape .entry)) (now (bytes .entry))) (record { start = m .start; end = m .end })) ⌝ }
 {
     let text = region::region_text(book_text(tape, bytes), m.start, m.end);
     let first = lines::put_number(out, 0, b"passage ", m.start as u64);

@@ -94,13 +94,6 @@ fn main() {
     let mut work = [0u32; 16384];
     let mut out = [0u8; 160];
     let n = io::read_full(STDIN_FILENO, &mut input);
-    let k = run_read(
-        &input,
-        n,
-        &mut outtape,
-        &mut outbytes,
-        &mut work,
-        &mut out,
-    );
+    let k = run_read(&input, n, &mut outtape, &mut outbytes, &mut work, &mut out);
     io::write_all(STDOUT_FILENO, &out[..k]);
 }

@@ -36,25 +36,58 @@ book-answer-requires : tie.Need-book-answer-requires
 book-answer-requires c κs = search needs
 
 returns-2 : tie.Need-returns-2
-returns-2 c = answer-book _ (c .before .before .before .before .before .before .head-refusal .ensures) (c .before .before .before .before .before .if1 .left) (c .before .before .before .before .tape-in .ensures) (c .before .before .before .bytes-in .ensures) (c .before .before .behind .ensures) (c .before .if2 .taken) (c .book-answer .ensures)
+returns-2 c =
+    let at-bytes-in = c .before .before .before in
+    let at-tape-in = at-bytes-in .before in
+    let at-if1 = at-tape-in .before in
+    let at-head-refusal = at-if1 .before in
+    answer-book _ (at-head-refusal .head-refusal .ensures) (at-if1 .if1 .left) (at-tape-in .tape-in .ensures) (at-bytes-in .bytes-in .ensures)
+    (c .before .before .behind .ensures) (c .before .if2 .taken) (c .book-answer .ensures)
 
 edit-refusal-requires : tie.Need-edit-refusal-requires
-edit-refusal-requires c κs = omega (arith, c .before .behind .ensures, behind-few (headed _ (c .before .before .before .before .before .head-refusal .ensures) (c .before .before .before .before .if1 .left)))
+edit-refusal-requires c κs =
+    let at-if1 = c .before .before .before .before in
+    let at-head-refusal = at-if1 .before in
+    omega (arith, c .before .behind .ensures, behind-few (headed _ (at-head-refusal .head-refusal .ensures) (at-if1 .if1 .left)))
 
 refused-requires-2 : tie.Need-refused-requires-2
 refused-requires-2 c κs = search needs
 
 returns-3 : tie.Need-returns-3
-returns-3 c = answer-edit _ (c .before .before .before .before .before .before .before .before .head-refusal .ensures) (c .before .before .before .before .before .before .before .if1 .left) (c .before .before .before .before .before .before .tape-in .ensures) (c .before .before .before .before .before .bytes-in .ensures) (c .before .before .before .before .behind .ensures) (c .before .before .before .if2 .left) (c .before .before .edit-refusal .ensures) (c .before .if3 .taken) (c .refused2 .ensures)
+returns-3 c =
+    let at-if2 = c .before .before .before in
+    let at-behind = at-if2 .before in
+    let at-bytes-in = at-behind .before in
+    let at-tape-in = at-bytes-in .before in
+    let at-if1 = at-tape-in .before in
+    let at-head-refusal = at-if1 .before in
+    answer-edit _ (at-head-refusal .head-refusal .ensures) (at-if1 .if1 .left) (at-tape-in .tape-in .ensures) (at-bytes-in .bytes-in .ensures)
+    (at-behind .behind .ensures) (at-if2 .if2 .left) (c .before .before .edit-refusal .ensures) (c .before .if3 .taken) (c .refused2 .ensures)
 
 edit-answer-requires : tie.Need-edit-answer-requires
-edit-answer-requires c κs = (omega (arith, c .before .before .before .before .behind .ensures, behind-few (headed _ (c .before .before .before .before .before .before .before .before .head-refusal .ensures) (c .before .before .before .before .before .before .before .if1 .left))), edit-there _ _ (c .before .before .edit-refusal .ensures) (c .before .if3 .left) .0)
+edit-answer-requires c κs =
+    let at-behind = c .before .before .before .before in
+    let at-if1 = at-behind .before .before .before in
+    let at-head-refusal = at-if1 .before in (
+      omega (arith, at-behind .behind .ensures, behind-few (headed _ (at-head-refusal .head-refusal .ensures) (at-if1 .if1 .left))),
+      edit-there _ _ (c .before .before .edit-refusal .ensures) (c .before .if3 .left) .0,
+    )
 
 same-length : tie.Need-same-length
 same-length c = search needs
 
 returns-4 : tie.Need-returns-4
-returns-4 c = answer-region _ (c .before .before .before .before .before .before .before .before .before .before .before .head-refusal .ensures) (c .before .before .before .before .before .before .before .before .before .before .if1 .left) (c .before .before .before .before .before .before .before .before .before .tape-in .ensures) (c .before .before .before .before .before .before .before .before .bytes-in .ensures) (c .before .before .before .before .before .before .before .behind .ensures) (c .before .before .before .before .before .before .if2 .left) (c .before .before .before .before .before .edit-refusal .ensures) (c .before .before .before .before .if3 .left) (c .before .before .edit-answer .ensures)
+returns-4 c =
+    let at-if3 = c .before .before .before .before in
+    let at-edit-refusal = at-if3 .before in
+    let at-if2 = at-edit-refusal .before in
+    let at-behind = at-if2 .before in
+    let at-bytes-in = at-behind .before in
+    let at-tape-in = at-bytes-in .before in
+    let at-if1 = at-tape-in .before in
+    let at-head-refusal = at-if1 .before in
+    answer-region _ (at-head-refusal .head-refusal .ensures) (at-if1 .if1 .left) (at-tape-in .tape-in .ensures) (at-bytes-in .bytes-in .ensures)
+    (at-behind .behind .ensures) (at-if2 .if2 .left) (at-edit-refusal .edit-refusal .ensures) (at-if3 .if3 .left) (c .before .before .edit-answer .ensures)
 
 pub answer-spec : {M : Type 1} → statement M
 answer-spec =

@@ -31,7 +31,10 @@ between-requires : tie.Need-between-requires
 between-requires c κs = search needs
 
 returns : tie.Need-returns
-returns c = bytes-part _ (c .before .before .before .wide .ensures ∙ c .before .before .before .before .u32-or-zero .ensures) (c .before .wide2 .ensures ∙ c .before .before .u32-or-zero2 .ensures) (c .between .ensures)
+returns c =
+    let at-wide = c .before .before .before in
+    let at-u32-or-zero = at-wide .before in
+    bytes-part _ (at-wide .wide .ensures ∙ at-u32-or-zero .u32-or-zero .ensures) (c .before .wide2 .ensures ∙ c .before .before .u32-or-zero2 .ensures) (c .between .ensures)
 
 pub bytes-in-spec : {M : Type 1} → statement M
 bytes-in-spec =

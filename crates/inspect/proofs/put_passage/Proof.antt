@@ -1,4 +1,5 @@
-use Rattle.inspect.specs.Answers.{passage-text, passage-short, passage-whole}
+use mathlib.Core.Path.{_∙_}
+use Rattle.inspect.specs.Answers.{passage-short, passage-whole}
 use native.Mathlib.Omega.{arith}
 use borrow.Author.Needs.{needs}
 use Rattle.inspect.proofs.put_passage.Statement.{statement}
@@ -43,12 +44,17 @@ put-text-requires c κs = search needs
 
 put-quoted-requires : tie.Need-put-quoted-requires
 put-quoted-requires c κs =
-    let start = c .before .before .before .before .before .before .before .before .before .before .before .before .before .before .before .before .before .before .before .before .before .before .before in
-    let text = passage-text _ (start .args .m .start) (start .args .m .end) (c .before .before .before .before .before .before .before .before .before .before .before .before .before .before .before .before .before .before .before .book-text .ensures) (c .before .before .before .before .before .before .before .before .before .before .before .before .before .before .before .before .before .before .region-text .ensures) in
+    let at-put-text = c .before .before .before in
+    let at-put-number2 = at-put-text .before .before .before .before .before in
+    let at-put-number = at-put-number2 .before .before .before .before .before .before in
+    let at-region-text = at-put-number .before .before .before .before in
+    let at-book-text = at-region-text .before in
+    let start = at-book-text .before .before .before .before in
+    let text = at-region-text .region-text .ensures _ (at-book-text .book-text .ensures) in
     let few = passage-short _ _ _ (start .pre .1) text in
-    let put-number = c .before .before .before .before .before .before .before .before .before .before .before .before .before .before .put-number in
-    let put-number2 = c .before .before .before .before .before .before .before .before .put-number2 in
-    let put-text = c .before .before .before .put-text in
+    let put-text = at-put-text .put-text in
+    let put-number2 = at-put-number2 .put-number2 in
+    let put-number = at-put-number .put-number in
     omega (arith, few, start .pre .0, put-number .ensures .0, put-number .kept .0, put-number2 .ensures .0, put-number2 .kept .0, put-text .ensures .0, put-text .kept .0)
 
 slice-aggregate-put-text-2 : tie.Need-slice-aggregate-put-text-2
@@ -56,13 +62,19 @@ slice-aggregate-put-text-2 c = search needs
 
 put-text-requires-2 : tie.Need-put-text-requires-2
 put-text-requires-2 c κs =
-    let start = c .before .before .before .before .before .before .before .before .before .before .before .before .before .before .before .before .before .before .before .before .before .before .before .before .before .before .before .before in
-    let text = passage-text _ (start .args .m .start) (start .args .m .end) (c .before .before .before .before .before .before .before .before .before .before .before .before .before .before .before .before .before .before .before .before .before .before .before .before .book-text .ensures) (c .before .before .before .before .before .before .before .before .before .before .before .before .before .before .before .before .before .before .before .before .before .before .before .region-text .ensures) in
+    let at-put-quoted = c .before .before .before .before in
+    let at-put-text = at-put-quoted .before .before .before .before in
+    let at-put-number2 = at-put-text .before .before .before .before .before in
+    let at-put-number = at-put-number2 .before .before .before .before .before .before in
+    let at-region-text = at-put-number .before .before .before .before in
+    let at-book-text = at-region-text .before in
+    let start = at-book-text .before .before .before .before in
+    let text = at-region-text .region-text .ensures _ (at-book-text .book-text .ensures) in
     let few = passage-short _ _ _ (start .pre .1) text in
-    let put-number = c .before .before .before .before .before .before .before .before .before .before .before .before .before .before .before .before .before .before .before .put-number in
-    let put-number2 = c .before .before .before .before .before .before .before .before .before .before .before .before .before .put-number2 in
-    let put-text = c .before .before .before .before .before .before .before .before .put-text in
-    let put-quoted = c .before .before .before .before .put-quoted in
+    let put-quoted = at-put-quoted .put-quoted in
+    let put-text = at-put-text .put-text in
+    let put-number2 = at-put-number2 .put-number2 in
+    let put-number = at-put-number .put-number in
     omega (arith, few, start .pre .0, put-number .ensures .0, put-number .kept .0, put-number2 .ensures .0, put-number2 .kept .0, put-text .ensures .0, put-text .kept .0, put-quoted .ensures .0, put-quoted .kept .0)
 
 same-length : tie.Need-same-length
@@ -70,16 +82,23 @@ same-length c = search needs
 
 returns : tie.Need-returns
 returns c =
-    let start = c .before .before .before .before .before .before .before .before .before .before .before .before .before .before .before .before .before .before .before .before .before .before .before .before .before .before .before .before .before .before .before in
-    let text = passage-text _ (start .args .m .start) (start .args .m .end) (c .before .before .before .before .before .before .before .before .before .before .before .before .before .before .before .before .before .before .before .before .before .before .before .before .before .before .before .book-text .ensures) (c .before .before .before .before .before .before .before .before .before .before .before .before .before .before .before .before .before .before .before .before .before .before .before .before .before .before .region-text .ensures) in
+    let at-put-text2 = c .before .before in
+    let at-put-quoted = at-put-text2 .before .before .before .before .before in
+    let at-put-text = at-put-quoted .before .before .before .before in
+    let at-put-number2 = at-put-text .before .before .before .before .before in
+    let at-put-number = at-put-number2 .before .before .before .before .before .before in
+    let at-region-text = at-put-number .before .before .before .before in
+    let at-book-text = at-region-text .before in
+    let start = at-book-text .before .before .before .before in
+    let text = at-region-text .region-text .ensures _ (at-book-text .book-text .ensures) in
     let few = passage-short _ _ _ (start .pre .1) text in
-    let put-number = c .before .before .before .before .before .before .before .before .before .before .before .before .before .before .before .before .before .before .before .before .before .before .put-number in
-    let put-number2 = c .before .before .before .before .before .before .before .before .before .before .before .before .before .before .before .before .put-number2 in
-    let put-text = c .before .before .before .before .before .before .before .before .before .before .before .put-text in
-    let put-quoted = c .before .before .before .before .before .before .before .put-quoted in
-    let put-text2 = c .before .before .put-text2 in
-    (
-      omega (arith, few, start .pre .0, put-number .ensures .0, put-number .kept .0, put-number2 .ensures .0, put-number2 .kept .0, put-text .ensures .0, put-text .kept .0, put-quoted .ensures .0, put-quoted .kept .0, put-text2 .ensures .0, put-text2 .kept .0),
+    let put-text2 = at-put-text2 .put-text2 in
+    let put-quoted = at-put-quoted .put-quoted in
+    let put-text = at-put-text .put-text in
+    let put-number2 = at-put-number2 .put-number2 in
+    let put-number = at-put-number .put-number in
+    let kept = put-text2 .kept .0 ∙ put-quoted .kept .0 ∙ put-text .kept .0 ∙ put-number2 .kept .0 ∙ put-number .kept .0 in (
+      omega (arith, few, start .pre .0, put-number .ensures .0, put-number2 .ensures .0, put-text .ensures .0, put-quoted .ensures .0, put-text2 .ensures .0, kept),
       passage-whole _ _ text (put-number .ensures .1) (put-number2 .ensures .1) (put-text .ensures .1) (put-quoted .ensures .1) (put-text2 .ensures .1),
     )
 

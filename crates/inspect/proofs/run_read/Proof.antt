@@ -27,33 +27,46 @@ returns c = search needs
 
 tape-read-requires : tie.Need-tape-read-requires
 tape-read-requires c κs =
-    let start = c .before .before .before .before .before .before .before .before .before .before in
+    let at-if1 = c .before in
+    let at-answer-read = at-if1 .before .before .before .before in
+    let start = at-answer-read .before .before .before .before .before in
     let all = read-itself (start .args .input .now) (start .args .n) (start .pre .0 .1) in
-    let none = outcome-none _ (c .before .before .before .before .before .answer-read .ensures _ all) (c .before .if1 .left) in
+    let none = outcome-none _ (at-answer-read .answer-read .ensures _ all) (at-if1 .if1 .left) in
     (start .pre .0, none)
 
 bytes-read-requires : tie.Need-bytes-read-requires
 bytes-read-requires c κs =
-    let start = c .before .before .before .before .before .before .before .before .before .before .before in
+    let at-if1 = c .before .before in
+    let at-answer-read = at-if1 .before .before .before .before in
+    let start = at-answer-read .before .before .before .before .before in
     let all = read-itself (start .args .input .now) (start .args .n) (start .pre .0 .1) in
-    let none = outcome-none _ (c .before .before .before .before .before .before .answer-read .ensures _ all) (c .before .before .if1 .left) in
+    let none = outcome-none _ (at-answer-read .answer-read .ensures _ all) (at-if1 .if1 .left) in
     (start .pre .0, none)
 
 print-passage-requires : tie.Need-print-passage-requires
 print-passage-requires c κs =
-    let start = c .before .before .before .before .before .before .before .before .before .before .before .before .before in
+    let at-bytes-read = c .before in
+    let at-tape-read = at-bytes-read .before in
+    let at-if1 = at-tape-read .before .before in
+    let at-answer-read = at-if1 .before .before .before .before in
+    let start = at-answer-read .before .before .before .before .before in
     let all = read-itself (start .args .input .now) (start .args .n) (start .pre .0 .1) in
-    let none = outcome-none _ (c .before .before .before .before .before .before .before .before .answer-read .ensures _ all) (c .before .before .before .before .if1 .left) in
-    let shown = asked-shown _ none (c .before .before .tape-read .ensures _ all) (c .before .bytes-read .ensures _ all) in
+    let none = outcome-none _ (at-answer-read .answer-read .ensures _ all) (at-if1 .if1 .left) in
+    let shown = asked-shown _ none (at-tape-read .tape-read .ensures _ all) (at-bytes-read .bytes-read .ensures _ all) in
     (omega (arith, start .pre .1), shown .short)
 
 print-book-requires : tie.Need-print-book-requires
 print-book-requires c κs =
-    let start = c .before .before .before .before .before .before .before .before .before .before .before .before .before .before .before .before .before in
+    let at-print-passage = c .before .before .before in
+    let at-bytes-read = at-print-passage .before .before in
+    let at-tape-read = at-bytes-read .before in
+    let at-if1 = at-tape-read .before .before in
+    let at-answer-read = at-if1 .before .before .before .before in
+    let start = at-answer-read .before .before .before .before .before in
     let all = read-itself (start .args .input .now) (start .args .n) (start .pre .0 .1) in
-    let none = outcome-none _ (c .before .before .before .before .before .before .before .before .before .before .before .before .answer-read .ensures _ all) (c .before .before .before .before .before .before .before .before .if1 .left) in
-    let shown = asked-shown _ none (c .before .before .before .before .before .before .tape-read .ensures _ all) (c .before .before .before .before .before .bytes-read .ensures _ all) in
-    (omega (arith, start .pre .1, c .before .before .before .print-passage .kept .0), shown)
+    let none = outcome-none _ (at-answer-read .answer-read .ensures _ all) (at-if1 .if1 .left) in
+    let shown = asked-shown _ none (at-tape-read .tape-read .ensures _ all) (at-bytes-read .bytes-read .ensures _ all) in
+    (omega (arith, start .pre .1, at-print-passage .print-passage .kept .0), shown)
 
 same-length-2 : tie.Need-same-length-2
 same-length-2 c = search needs
