@@ -1,4 +1,5 @@
-"""The program `inspect` as docs/FORMAT.md has it: the lines of a book, a line a record, or the number that refuses the input."""
+"""The program `inspect` as docs/FORMAT.md has it: the passage of an edit and the lines of a book, a line a record, or the number that
+refuses the input."""
 from gen import NONE, W
 from book import Refused, check_book, must, pool
 from graft import fields
@@ -34,6 +35,8 @@ def head(b, region):
     start, end = region
     return line + b'region %d %d ' % region + b' | '.join(map(quoted, [b.text[:start], b.text[start:end], b.text[end:]]))
 
+def passage(b, start, end): return b'passage %d %d ' % (start, end) + quoted(b.text[start:end])
+
 def content(b, tag, first, second): return b'plain ' + string(b, first) if tag == 0 else b'segments %d %d' % (first, second)
 
 def node(b, n):
@@ -46,6 +49,7 @@ def lines(b, region):
     def line(name, text=None):
         seen[name] = seen.get(name, -1) + 1
         return b'%s %d' % (name, seen[name]) + (b'' if text is None else b' ' + text)
+    if region is not None: yield passage(b, *region)
     yield head(b, region)
     for l in b.layers:
         yield line(b'layer')

@@ -4,17 +4,19 @@ use Prim.Native.Nat.{ℕ, _+_, _-_, _≤_, _<_}
 use native.Mathlib.Omega.{arith}
 use mathlib.Core.Bool.{false, cond, _&&_}
 use mathlib.Core.Option.{Option, none, some}
-use mathlib.Core.List.{List}
-use lib.ListN.{length, drop, length-take, length-replicate}
+use mathlib.Core.List.{List, _++_, append-assoc}
+use lib.ListN.{length, take, drop, length-take, length-replicate}
 use lib.Dec.{leb, ltb, eqb}
 use borrow.Author.Tests.{leb-true, ltb-false, eqb-true, eqb-false, lt-ltb, le-ltb, le-leb, lt-leb, eq-eqb, ne-eqb}
+use Rattle.model.specs.Lists.{ascii}
 use Rattle.model.specs.Limits.{maxPart}
 use Rattle.model.specs.Bytes.{wordAt, part, zeros}
 use Rattle.model.specs.Offset.{Span}
 use Rattle.model.specs.Types.{LexOutput}
+use Rattle.model.specs.Tape.{bookAt}
 use Rattle.model.specs.Refusal.{Checked, Checked.refused, Checked.accepted, _>>=_, refuse_if_, numberOf}
 use Rattle.model.specs.WellFormed.{checkBook}
-use Rattle.model.specs.Region.{Edit, chosenRegion, chooseRegion, editOf}
+use Rattle.model.specs.Region.{Edit, regionText, chosenRegion, chooseRegion, editOf}
 use Rattle.laws.specs.Lists.{both}
 use Rattle.laws.specs.Numbers.{UpTo, book-up-to}
 use Rattle.wire.specs.Loops.{by-bool}
@@ -23,12 +25,14 @@ use Rattle.places.specs.Found.{placesOf}
 use Rattle.store.specs.declared.Store.{Store}
 use Rattle.store.specs.Stored.{StoreFits, storeAt}
 use Rattle.tape.specs.Accepted.{Accepted, refusal-of, accepted-book, accepted-found, accepted-store}
-use Rattle.listing.specs.Strings.{Printable}
+use Rattle.lines.specs.Text.{numbered}
+use Rattle.lines.specs.Quoted.{quoted}
+use Rattle.listing.specs.Strings.{Printable, text-short}
 use Rattle.region.specs.declared.Chosen.{Chosen}
 use Rattle.region.specs.declared.Chosen.the-variants.{Refused, Region}
 use Rattle.region.specs.Chosen.{chosenOf}
 use Rattle.inspect.specs.declared.Outcome.{Outcome}
-use Rattle.inspect.specs.Inspect.{tapeIn, bytesIn, behind, editAt, askedBook, askedEdit, askedBehind, asked, markOf}
+use Rattle.inspect.specs.Inspect.{tapeIn, bytesIn, behind, editAt, askedBook, askedEdit, askedBehind, asked, markOf, bookOf, passageLine}
 
 -- A number, or the mark of a book that is shown; the number is 0 then.
 unfoldable pub outcomeOf : Checked (Option Span) → Outcome
@@ -108,6 +112,9 @@ headed s e z =
     record { head = ltb-false (length s) 8 a; tape = leb-true (wordAt s 0) maxPart (f .0); bytes = leb-true (wordAt s 4) maxPart (f .1) })
     (λ b. let q : 3 ≡ 0 = sym (rw (a, b) refl) ∙ sym e ∙ z in absurd (omega (arith, q))))
 
+pub behind-few : {s : List ℕ} → Headed s → behind s ≤ 131080
+behind-few h = omega (arith, h .tape, h .bytes)
+
 module _ (s : List ℕ) (p : ℕ) where
   pub edit-short : length s < p + 12 → 1 ≡ editNumber s p
   unfolding editNumber
@@ -136,6 +143,14 @@ edit-there s p e z =
     (λ b. (ltb-false (length s) (p + 12) a, leb-true (wordAt s (p + 8)) maxPart b))
     (λ b. let q : 3 ≡ 0 = sym (rw (a, b) refl) ∙ sym e ∙ z in absurd (omega (arith, q))))
 
+-- tape and bytes, as the code cuts them out
+module _ (s : List ℕ) {a : ℕ} (p : a ≡ wordAt s 0) where
+  pub tape-part : {x : List ℕ} → x ≡ part s 8 (8 + a - 8) → x ≡ tapeIn s
+  tape-part e = let z : 8 + a - 8 ≡ a = omega arith in e ∙ rw (z, p) refl
+
+  pub bytes-part : {b : ℕ} → b ≡ wordAt s 4 → {x : List ℕ} → x ≡ part s (8 + a) (8 + a + b - (8 + a)) → x ≡ bytesIn s
+  bytes-part {b} q e = let z : 8 + a + b - (8 + a) ≡ b = omega arith in e ∙ rw (z, p, q) refl
+
 -- ---- the answers
 
 refused-answer : (x : Checked (Option Span)) (n : ℕ) → x ≡ refused n → {r : Outcome} → r ≡ outcomeOf (refused n) → r ≡ outcomeOf x
@@ -149,31 +164,23 @@ module _ (s : List ℕ) {n : ℕ} (e : n ≡ headNumber s) where
     here : asked s ≡ bookOrEdit s
     here = asked-by s ∙ rw (← e, z) refl
 
-    pub answer-book : {a b : ℕ} → a ≡ wordAt s 0 → b ≡ wordAt s 4 → length s ≡ 8 + a + b → {t d : List ℕ} → t ≡ part s 8 (8 + a - 8) → d ≡ part s (8 + a) (8 + a + b - (8 + a))
-        → {r : Outcome} → r ≡ outcomeOf (askedBook t d) → r ≡ outcomeOf (asked s)
-    answer-book {a} {b} p q l {t} {d} f g i =
-        let x : 8 + a - 8 ≡ a = omega arith in
-        let y : 8 + a + b - (8 + a) ≡ b = omega arith in
-        let w : length s ≡ behind s = omega (arith, l, p, q) in
-        let j : askedBook t d ≡ askedBook (tapeIn s) (bytesIn s) = rw (f, g, x, y, p, q) refl in
-        let k : asked s ≡ askedBook (tapeIn s) (bytesIn s) = here ∙ rw (eq-eqb (length s) (behind s) w) refl in
-        i ∙ ap outcomeOf (j ∙ sym k)
+    module _ {t d : List ℕ} (f : t ≡ tapeIn s) (g : d ≡ bytesIn s) {p : ℕ} (q : p ≡ behind s) where
+      pub answer-book : length s ≡ p → {r : Outcome} → r ≡ outcomeOf (askedBook t d) → r ≡ outcomeOf (asked s)
+      answer-book l i =
+          let k : asked s ≡ askedBook t d = here ∙ rw (eq-eqb (length s) (behind s) (l ∙ q), f, g) refl in
+          i ∙ ap outcomeOf (sym k)
 
-    module _ {a b : ℕ} (p : a ≡ wordAt s 0) (q : b ≡ wordAt s 4) (l : length s ≡ 8 + a + b → ⊥) {k : ℕ} (o : k ≡ editNumber s (8 + a + b)) where
-      there : asked s ≡ askedBehind s (8 + a + b)
-      there = here ∙ rw (ne-eqb (length s) (behind s) (λ w. l (omega (arith, w, p, q))), p, q) refl
+      module _ (l : length s ≡ p → ⊥) {k : ℕ} (o : k ≡ editNumber s p) where
+        there : asked s ≡ askedBehind s p
+        there = here ∙ rw (ne-eqb (length s) (behind s) (λ w. l (w ∙ sym q)), q) refl
 
-      pub answer-edit : (k ≡ 0 → ⊥) → {r : Outcome} → r ≡ outcomeOf (refused k) → r ≡ outcomeOf (asked s)
-      answer-edit h i = refused-answer (asked s) k (there ∙ behind-by s (8 + a + b) ∙ rw (← o, ne-eqb k 0 h) refl) i
+        pub answer-edit : (k ≡ 0 → ⊥) → {r : Outcome} → r ≡ outcomeOf (refused k) → r ≡ outcomeOf (asked s)
+        answer-edit h i = refused-answer (asked s) k (there ∙ behind-by s p ∙ rw (← o, ne-eqb k 0 h) refl) i
 
-      pub answer-region : k ≡ 0 → {t d : List ℕ} → t ≡ part s 8 (8 + a - 8) → d ≡ part s (8 + a) (8 + a + b - (8 + a))
-          → {r : Outcome} → r ≡ outcomeOf (askedEdit t d (editAt s (8 + a + b))) → r ≡ outcomeOf (asked s)
-      answer-region h {t} {d} f g i =
-          let x : 8 + a - 8 ≡ a = omega arith in
-          let y : 8 + a + b - (8 + a) ≡ b = omega arith in
-          let j : askedEdit t d (editAt s (8 + a + b)) ≡ askedEdit (tapeIn s) (bytesIn s) (editAt s (8 + a + b)) = rw (f, g, x, y, p, q) refl in
-          let m : asked s ≡ askedEdit (tapeIn s) (bytesIn s) (editAt s (8 + a + b)) = there ∙ behind-by s (8 + a + b) ∙ rw (← o, h) refl in
-          i ∙ ap outcomeOf (j ∙ sym m)
+        pub answer-region : k ≡ 0 → {r : Outcome} → r ≡ outcomeOf (askedEdit t d (editAt s p)) → r ≡ outcomeOf (asked s)
+        answer-region h i =
+            let m : asked s ≡ askedEdit t d (editAt s p) = there ∙ behind-by s p ∙ rw (← o, h, f, g) refl in
+            i ∙ ap outcomeOf (sym m)
 
 -- ---- tape and bytes
 
@@ -265,24 +272,34 @@ asked-passed s z =
     let m : asked s ≡ refused (headNumber s) = asked-by s ∙ rw a refl in
     absurd (eqb-false (headNumber s) 0 a (sym (ap numberOf m) ∙ z)))
 
-pub record Inspected (s : List ℕ) : Type 0 where
-  pub headed : Headed s
-  pub shown : Shown (tapeIn s) (bytesIn s)
+-- the number of an outcome is 0: its input is not refused
+pub outcome-none : (s : List ℕ) {r : Outcome} → r ≡ outcomeOf (asked s) → r .number ≡ 0 → numberOf (asked s) ≡ 0
+outcome-none s e z = sym (numbers (asked s)) ∙ sym (ap (λ (x : Outcome). x .number) e) ∙ z
 
-pub inspected : (s : List ℕ) {r : Outcome} → r ≡ outcomeOf (asked s) → r .number ≡ 0 → Inspected s
-inspected s e z =
-    let a = asked-passed s (sym (numbers (asked s)) ∙ sym (ap (λ (x : Outcome). x .number) e) ∙ z) in
-    record { headed = a .0; shown = record { passed = a .1; short = bytes-short s (a .0 .bytes) } }
+pub asked-shown : (s : List ℕ) → numberOf (asked s) ≡ 0 → {t d : List ℕ} → t ≡ tapeIn s → d ≡ bytesIn s → Shown t d
+asked-shown s z f g =
+    let a = asked-passed s z in
+    rw (f, g) (record { passed = a .1; short = bytes-short s (a .0 .bytes) })
 
--- its tape and bytes, as the code cuts them out
-pub inspected-parts : {s : List ℕ} → Inspected s → {a b : ℕ} → a ≡ wordAt s 0 → b ≡ wordAt s 4 → {t d : List ℕ} → t ≡ part s 8 (8 + a - 8)
-    → d ≡ part s (8 + a) (8 + a + b - (8 + a)) → Shown t d
-inspected-parts {s} i {a} {b} p q {t} {d} f g =
-    let x : 8 + a - 8 ≡ a = omega arith in
-    let y : 8 + a + b - (8 + a) ≡ b = omega arith in
-    let u : t ≡ tapeIn s = f ∙ rw (x, p) refl in
-    let v : d ≡ bytesIn s = g ∙ rw (y, p, q) refl in
-    rw (u, v) (i .shown)
+-- ---- the passage
+
+-- the book's text, as the code cuts it out
+pub book-text : (t d : List ℕ) {n : ℕ} → n ≡ wordAt t 1 → {x : List ℕ} → x ≡ part d 0 (n - 0) → x ≡ bookOf t d .sanitized
+unfolding bookAt
+book-text t d {n} e q = let z : n - 0 ≡ n = omega arith in q ∙ rw (z, e) refl
+
+pub passage-short : (t d : List ℕ) (r : Span) → length d ≤ 65536 → {x : List ℕ} → x ≡ regionText (bookOf t d) r → length x ≤ 65536
+unfolding regionText bookAt
+passage-short t d r h e =
+    let text = take (wordAt t 1) d in
+    let k = text-short text (r .start) (r .end - r .start) in
+    k (let l = length-take (wordAt t 1) d in omega (arith, l, h)) e
+
+-- its parts, one behind the other
+pub passage-whole : (b : LexOutput) (r : Span) {text a c d e f : List ℕ} → text ≡ regionText b r → a ≡ numbered (ascii "passage ") (r .start) → c ≡ a ++ numbered (ascii " ") (r .end)
+    → d ≡ c ++ ascii " " → e ≡ d ++ quoted text → f ≡ e ++ ascii "\n" → f ≡ passageLine b r
+unfolding passageLine
+passage-whole b r h p q u v w = w ∙ rw (v, u, q, p, h, append-assoc, append-assoc, append-assoc) refl
 
 -- what the printing of a line asks
 pub shown-store : {t d : List ℕ} → Shown t d → {p : Places} → p ≡ placesOf t d → StoreFits t (p .layers)

@@ -5,16 +5,20 @@
 use Prim.Native.Nat.{ℕ, _+_}
 use mathlib.Core.Bool.{true, false, cond, not, _&&_}
 use mathlib.Core.Option.{Option, none, some}
-use mathlib.Core.List.{List, [], _∷_}
+use mathlib.Core.List.{List, [], _∷_, _++_}
 use lib.ListN.{length}
 use lib.Dec.{leb, ltb, eqb}
+use Rattle.model.specs.Lists.{ascii}
 use Rattle.model.specs.Limits.{maxPart}
 use Rattle.model.specs.Bytes.{wordAt, part}
 use Rattle.model.specs.Offset.{Span}
+use Rattle.model.specs.Types.{LexOutput}
+use Rattle.model.specs.Tape.{places, bookAt}
 use Rattle.model.specs.Refusal.{Checked, Checked.refused, Checked.accepted, _>>=_, refuse_if_}
 use Rattle.model.specs.WellFormed.{checkBook}
-use Rattle.model.specs.Region.{Edit, chooseRegion}
-use Rattle.lines.specs.Text.{refusedLine}
+use Rattle.model.specs.Region.{Edit, regionText, chooseRegion}
+use Rattle.lines.specs.Text.{numbered, refusedLine}
+use Rattle.lines.specs.Quoted.{quoted}
 use Rattle.listing.specs.declared.Mark.{Mark}
 use Rattle.listing.specs.Listing.{listing}
 
@@ -66,10 +70,26 @@ unfoldable pub markOf : Option Span → Mark
 markOf none = record { edit = false; start = 0; end = 0 }
 markOf (some r) = record { edit = true; start = r .start; end = r .end }
 
+-- the book of a tape and its bytes, where they are accepted
+abbrev pub bookOf : List ℕ → List ℕ → LexOutput
+bookOf t d = bookAt t (places t) d
+
+-- The passage that an edit makes be read anew: where it starts and ends, and its text in the old book.
+unfoldable pub passageLine : LexOutput → Span → List ℕ
+passageLine b r = numbered (ascii "passage ") (r .start) ++ (numbered (ascii " ") (r .end) ++ (ascii " " ++ (quoted (regionText b r) ++ ascii "\n")))
+
+unfoldable pub passageLines : LexOutput → Option Span → List (List ℕ)
+passageLines b none = []
+passageLines b (some r) = passageLine b r ∷ []
+
+unfoldable pub bookLines : List ℕ → List ℕ → Option Span → List (List ℕ)
+bookLines t d r = passageLines (bookOf t d) r ++ listing t d (markOf r)
+
 unfoldable pub linesOf : List ℕ → Checked (Option Span) → List (List ℕ)
 linesOf s (refused n) = refusedLine n ∷ []
-linesOf s (accepted r) = listing (tapeIn s) (bytesIn s) (markOf r)
+linesOf s (accepted r) = bookLines (tapeIn s) (bytesIn s) r
 
--- The lines that the program prints for an input: `refused N`, or those of the book, the region of an edit marked in its text.
+-- The lines that the program prints for an input: `refused N`, or with an edit its passage, then those of the book, the region marked in its
+-- text.
 unfoldable pub inspect : List ℕ → List (List ℕ)
 inspect s = linesOf s (asked s)

@@ -1,16 +1,17 @@
-// Prints a tape and its bytes as lines, a line a record; with an edit, its region is marked in the text. specs/Inspect.antt says what is
-// read and what is printed. All of a line is put into a buffer by crate listing, where it is proved to be the definition's; this program
-// decides whether the book is shown, goes from record to record, and writes each line.
+// Prints a tape and its bytes as lines, a line a record; with an edit, first the passage that it makes be read anew, which is marked in the
+// text too. specs/Inspect.antt says what is read and what is printed. All of a line is put into a buffer, by crate listing or here, and proved
+// to be the definition's; this program decides whether the book is shown, goes from record to record, and writes each line.
 use libc::STDIN_FILENO;
 use libc::STDOUT_FILENO;
 ghost use mathlib.Core.Path.{_≡_};
-ghost use Prim.Native.Nat.{_+_, _≤_, _<_};
-ghost use lib.ListN.{length};
-ghost use Rattle.model.specs.Refusal.{Checked.refused, Checked.accepted};
+ghost use Prim.Native.Nat.{ℕ, _+_, _≤_, _<_};
 ghost use mathlib.Core.Option.{some};
+ghost use mathlib.Core.List.{List};
+ghost use lib.ListN.{length, take};
+ghost use Rattle.model.specs.Refusal.{Checked.refused, Checked.accepted, numberOf};
 ghost use Rattle.listing.specs.Coded.{labelBytes};
 ghost use Rattle.listing.specs.Strings.{Printable};
-ghost use Rattle.inspect.specs.Inspect.{askedBook, askedEdit, asked, editAt};
+ghost use Rattle.inspect.specs.Inspect.{tapeIn, bytesIn, behind, editAt, askedBook, askedEdit, asked, bookOf, passageLine};
 ghost use Rattle.inspect.specs.Answers.{outcomeOf, headNumber, editNumber, told, Shown};
 
 const MAX_PART: u32 = 65536;
@@ -28,6 +29,25 @@ fn wide(x: u32) -> usize
 }
 
 // ---- the input
+
+fn tape_in<'a>(input: &'a [u8]) -> &'a [u8]
+    ensures { λ r. ⌜ now r ≡ tapeIn (now (input .entry)) ⌝ }
+{
+    wire::between(input, 8, 8 + wide(wire::u32_or_zero(input, 0)))
+}
+
+fn bytes_in<'a>(input: &'a [u8]) -> &'a [u8]
+    ensures { λ r. ⌜ now r ≡ bytesIn (now (input .entry)) ⌝ }
+{
+    let at = 8 + wide(wire::u32_or_zero(input, 0));
+    wire::between(input, at, at + wide(wire::u32_or_zero(input, 4)))
+}
+
+fn behind(input: &[u8]) -> usize
+    ensures { λ r. ⌜ r ≡ behind (now (input .entry)) ⌝ }
+{
+    8 + wide(wire::u32_or_zero(input, 0)) + wide(wire::u32_or_zero(input, 4))
+}
 
 // Numbers 1 and 3 of tape and bytes; 0 for neither.
 fn head_refusal(input: &[u8]) -> u32
@@ -141,10 +161,9 @@ fn answer(input: &[u8], words: &mut [u32]) -> Outcome
     if n != 0 {
         return refused(n);
     }
-    let first = 8 + wide(wire::u32_at(input, 0));
-    let at = first + wide(wire::u32_at(input, 4));
-    let tape = wire::between(input, 8, first);
-    let bytes = wire::between(input, first, at);
+    let tape = tape_in(input);
+    let bytes = bytes_in(input);
+    let at = behind(input);
     if input.len() == at {
         return book_answer(tape, bytes);
     }
@@ -155,11 +174,65 @@ fn answer(input: &[u8], words: &mut [u32]) -> Outcome
     edit_answer(input, tape, bytes, at, words)
 }
 
+// ---- a stream: `n` of its bytes stand in the buffer, all of them or as many as it holds. That is enough (`asked-cut` in specs/Cut.antt), for
+// a buffer of this size: eight, two parts of 65536, twelve, a part of 65536, and one that shows a surplus.
+
+fn answer_read(input: &[u8], n: usize, words: &mut [u32]) -> Outcome
+    requires { ⌜ (length (now input) ≡ 196629) × (n ≤ length (now input)) ⌝ }
+    ensures { λ r. ⌜ ((s : List ℕ) → take (length (now (input .entry))) s ≡ take n (now (input .entry)) → r ≡ outcomeOf (asked s)) ⌝ }
+{
+    answer(&input[..n], words)
+}
+
+fn tape_read<'a>(input: &'a [u8], n: usize) -> &'a [u8]
+    requires { ⌜ (length (now input) ≡ 196629) × (n ≤ length (now input)) ⌝ }
+    requires { ⌜ numberOf (asked (take n (now input))) ≡ 0 ⌝ }
+    ensures { λ r. ⌜ ((s : List ℕ) → take (length (now (input .entry))) s ≡ take n (now (input .entry)) → now r ≡ tapeIn s) ⌝ }
+{
+    tape_in(&input[..n])
+}
+
+fn bytes_read<'a>(input: &'a [u8], n: usize) -> &'a [u8]
+    requires { ⌜ (length (now input) ≡ 196629) × (n ≤ length (now input)) ⌝ }
+    requires { ⌜ numberOf (asked (take n (now input))) ≡ 0 ⌝ }
+    ensures { λ r. ⌜ ((s : List ℕ) → take (length (now (input .entry))) s ≡ take n (now (input .entry)) → now r ≡ bytesIn s) ⌝ }
+{
+    bytes_in(&input[..n])
+}
+
 // ---- the output
 
 fn print_refused(n: u32) {
     let mut out = [0u8; 29];
     let k = lines::put_refused(&mut out, n);
+    io::write_all(STDOUT_FILENO, &out[..k]);
+}
+
+fn book_text<'a>(tape: &[u8], bytes: &'a [u8]) -> &'a [u8]
+    ensures { λ r. ⌜ now r ≡ bookOf (now (tape .entry)) (now (bytes .entry)) .sanitized ⌝ }
+{
+    wire::between(bytes, 0, wide(wire::u32_or_zero(tape, 1)))
+}
+
+fn put_passage(out: &mut [u8], tape: &[u8], bytes: &[u8], m: listing::Mark) -> usize
+    requires { ⌜ (262197 ≤ length (now out)) × (length (now bytes) ≤ 65536) ⌝ }
+    ensures { λ r. ⌜ (r ≤ length (now (out .exit))) × (take r (now (out .exit)) ≡ passageLine (bookOf (now (tape .entry)) (now (bytes .entry))) (record { start = m .start; end = m .end })) ⌝ }
+{
+    let text = region::region_text(book_text(tape, bytes), m.start, m.end);
+    let first = lines::put_number(out, 0, b"passage ", m.start as u64);
+    let second = lines::put_number(out, first, b" ", m.end as u64);
+    let third = lines::put_text(out, second, b" ");
+    let last = lines::put_quoted(out, third, text);
+    lines::put_text(out, last, b"\n")
+}
+
+fn print_passage(out: &mut [u8], tape: &[u8], bytes: &[u8], m: listing::Mark)
+    requires { ⌜ (262197 ≤ length (now out)) × (length (now bytes) ≤ 65536) ⌝ }
+{
+    if !m.edit {
+        return;
+    }
+    let k = put_passage(out, tape, bytes, m);
     io::write_all(STDOUT_FILENO, &out[..k]);
 }
 
@@ -209,31 +282,26 @@ fn print_book(out: &mut [u8], tape: &[u8], bytes: &[u8], m: listing::Mark)
     print_lines(out, &labels, tape, bytes, st, m);
 }
 
-fn run(input: &[u8], words: &mut [u32], out: &mut [u8])
+fn run_read(input: &[u8], n: usize, words: &mut [u32], out: &mut [u8])
+    requires { ⌜ (length (now input) ≡ 196629) × (n ≤ length (now input)) ⌝ }
     requires { ⌜ 3932866 ≤ length (now out) ⌝ }
 {
-    let a = answer(input, words);
+    let a = answer_read(input, n, words);
     if a.number != 0 {
         print_refused(a.number);
         return;
     }
     let m = a.mark;
-    let first = 8 + wide(wire::u32_at(input, 0));
-    let at = first + wide(wire::u32_at(input, 4));
-    print_book(
-        out,
-        wire::between(input, 8, first),
-        wire::between(input, first, at),
-        m,
-    );
+    let tape = tape_read(input, n);
+    let bytes = bytes_read(input, n);
+    print_passage(out, tape, bytes, m);
+    print_book(out, tape, bytes, m);
 }
 
-// The first 196629 bytes are enough (`inspect-cut` in specs/Cut.antt): eight, two parts of 65536, twelve, a part of 65536, and one that shows
-// a surplus.
 fn main() {
     let mut input = [0u8; 196629];
     let mut words = [0u32; 8192];
     let mut out = [0u8; 3932866];
     let n = io::read_full(STDIN_FILENO, &mut input);
-    run(&input[..n], &mut words, &mut out);
+    run_read(&input, n, &mut words, &mut out);
 }

@@ -1,9 +1,10 @@
 // The program of document 01's 'Runs': an input of seven words and five parts is merged, and the line of P5 is printed, or the number of
-// the refusal. `run` is all of it but reading and printing: the line that it leaves is the model's, of the input that it is given.
+// the refusal. `run_read` is all of it but reading and printing: the line that it leaves is the model's, of the stream that was read.
 use libc::STDIN_FILENO;
 use libc::STDOUT_FILENO;
 ghost use mathlib.Core.Path.{_≡_};
-ghost use Prim.Native.Nat.{_+_, _≤_};
+ghost use Prim.Native.Nat.{ℕ, _+_, _≤_};
+ghost use mathlib.Core.List.{List};
 ghost use lib.ListN.{length, take};
 ghost use Rattle.model.specs.Runs.{asked, program, line};
 ghost use Rattle.output.specs.Answer.{outputOf};
@@ -69,7 +70,23 @@ fn run(
     runs::put_line(out, answer(input, outtape, outbytes, work))
 }
 
-// The first 327709 bytes are enough (`program-cut` in crate `runs`): 28, five parts of 65536, and one that shows a surplus.
+// The line of a stream: `n` of its bytes stand in the buffer, all of them or as many as it holds. That is enough (`program-cut` in crate
+// `runs`), for a buffer of this size: 28, five parts of 65536, and one that shows a surplus.
+fn run_read(
+    input: &[u8],
+    n: usize,
+    outtape: &mut [u8],
+    outbytes: &mut [u8],
+    work: &mut [u32],
+    out: &mut [u8],
+) -> usize
+    requires { ⌜ (length (now input) ≡ 327709) × (n ≤ length (now input)) ⌝ }
+    requires { ⌜ (length (now outtape) ≡ 65536) × (length (now outbytes) ≡ 65536) × (length (now work) ≡ 16384) × (160 ≤ length (now out)) ⌝ }
+    ensures { λ r. ⌜ (r ≤ length (now (out .exit))) × ((s : List ℕ) → take (length (now (input .entry))) s ≡ take n (now (input .entry)) → take r (now (out .exit)) ≡ line (program s)) ⌝ }
+{
+    run(&input[..n], outtape, outbytes, work, out)
+}
+
 fn main() {
     let mut input = [0u8; 327709];
     let mut outtape = [0u8; 65536];
@@ -77,12 +94,6 @@ fn main() {
     let mut work = [0u32; 16384];
     let mut out = [0u8; 160];
     let n = io::read_full(STDIN_FILENO, &mut input);
-    let k = run(
-        &input[..n],
-        &mut outtape,
-        &mut outbytes,
-        &mut work,
-        &mut out,
-    );
+    let k = run_read(&input, n, &mut outtape, &mut outbytes, &mut work, &mut out);
     io::write_all(STDOUT_FILENO, &out[..k]);
 }

@@ -10,32 +10,29 @@ slice-aggregate-read-full c = search needs
 read-full-requires : tie.Need-read-full-requires
 read-full-requires c κs = search needs
 
-array-share-prefix-input : tie.Need-array-share-prefix-input
-array-share-prefix-input c = search needs
+slice-aggregate-run-read : tie.Need-slice-aggregate-run-read
+slice-aggregate-run-read c = search needs
 
-slice-aggregate-run : tie.Need-slice-aggregate-run
-slice-aggregate-run c = search needs
+slice-aggregate-run-read-2 : tie.Need-slice-aggregate-run-read-2
+slice-aggregate-run-read-2 c = search needs
 
-slice-aggregate-run-2 : tie.Need-slice-aggregate-run-2
-slice-aggregate-run-2 c = search needs
+slice-aggregate-run-read-3 : tie.Need-slice-aggregate-run-read-3
+slice-aggregate-run-read-3 c = search needs
 
-slice-aggregate-run-3 : tie.Need-slice-aggregate-run-3
-slice-aggregate-run-3 c = search needs
+slice-aggregate-run-read-4 : tie.Need-slice-aggregate-run-read-4
+slice-aggregate-run-read-4 c = search needs
 
-slice-aggregate-run-4 : tie.Need-slice-aggregate-run-4
-slice-aggregate-run-4 c = search needs
+slice-aggregate-run-read-5 : tie.Need-slice-aggregate-run-read-5
+slice-aggregate-run-read-5 c = search needs
 
-slice-aggregate-run-5 : tie.Need-slice-aggregate-run-5
-slice-aggregate-run-5 c = search needs
-
-run-requires : tie.Need-run-requires
-run-requires c κs = search needs
+run-read-requires : tie.Need-run-read-requires
+run-read-requires c κs = ((search needs, search needs), (search needs, search needs, search needs, search needs))
 
 array-share-prefix-out : tie.Need-array-share-prefix-out
 array-share-prefix-out c = search needs
 
 slice-aggregate-write-all : tie.Need-slice-aggregate-write-all
-slice-aggregate-write-all c = sym (length-take-le _ _ (c .before .before .before .before .before .run .ensures .0))
+slice-aggregate-write-all c = sym (length-take-le _ _ (c .before .before .before .before .before .run-read .ensures .0))
 
 write-all-requires : tie.Need-write-all-requires
 write-all-requires c κs = search needs
@@ -49,13 +46,12 @@ main-spec =
     (tie.spec
     slice-aggregate-read-full
     read-full-requires
-    array-share-prefix-input
-    slice-aggregate-run
-    slice-aggregate-run-2
-    slice-aggregate-run-3
-    slice-aggregate-run-4
-    slice-aggregate-run-5
-    run-requires
+    slice-aggregate-run-read
+    slice-aggregate-run-read-2
+    slice-aggregate-run-read-3
+    slice-aggregate-run-read-4
+    slice-aggregate-run-read-5
+    run-read-requires
     array-share-prefix-out
     slice-aggregate-write-all
     write-all-requires
