@@ -13,7 +13,7 @@ use Rattle.model.specs.Refusal.{Checked, Checked.refused, Checked.accepted, _>>
 use Rattle.model.specs.Tape.{places, bookAt}
 use Rattle.model.specs.WellFormed.{checkBook, checkReading}
 use Rattle.model.specs.Region.{Edit, chosenRegion}
-use Rattle.model.specs.Merge.{Stored, Room, IncrementalOutput, merge, mergeBooks, tapeBuffer, textBuffer, workBuffer, padded, roomOf}
+use Rattle.model.specs.Merge.{storedOf, Room, IncrementalOutput, merge, mergeBooks, tapeBuffer, textBuffer, workBuffer, padded, roomOf}
 use Rattle.wire.specs.Overwrite.{overwrite, overwrite-tail}
 use Rattle.places.specs.declared.Places.{Places}
 use Rattle.places.specs.Found.{placesOf}
@@ -30,11 +30,7 @@ use Rattle.output.specs.Answer.{refusedOutput, outputOf, Merged, Written}
 abbrev pub regionOf : ℕ → ℕ → Span
 regionOf start end = record { start = start; end = end }
 
--- the merge that is asked for
-abbrev pub asked : List ℕ → List ℕ → Edit → List ℕ → List ℕ → Room → Checked IncrementalOutput
-asked t d e rt rd room = merge (record { tape = t; bytes = d }) e (record { tape = rt; bytes = rd }) room
-
--- its tail: the reading as the old book, then 12 to 18
+-- the merge of a book and a chosen region: the reading as the old book, then 12 to 18
 unfoldable pub askedReading : LexOutput → Edit → Span → List ℕ → List ℕ → Room → Checked IncrementalOutput
 askedReading old e r rt rd room = do
   reading ← checkReading rt rd
@@ -136,7 +132,7 @@ checked-chosen (accepted r) = refl
 
 module _ (t d : List ℕ) {n : ℕ} (q : n ≡ numberOf (checkBook t d)) where
   -- 1 to 7
-  pub book-refused : (n ≡ 0 → ⊥) → (e : Edit) (rt rd : List ℕ) (room : Room) → asked t d e rt rd room ≡ refused n
+  pub book-refused : (n ≡ 0 → ⊥) → (e : Edit) (rt rd : List ℕ) (room : Room) → merge (storedOf t d) e (storedOf rt rd) room ≡ refused n
   unfolding merge _>>=_
   book-refused h e rt rd room = rw (refusal-of (checkBook t d) q h) refl
 
@@ -152,7 +148,7 @@ module _ (t d : List ℕ) {n : ℕ} (q : n ≡ numberOf (checkBook t d)) where
       chosen-is h = sym (checked-chosen (chosenRegion old e)) ∙ ap checkedOf (sym k ∙ h)
 
       -- 8 to 11
-      pub edit-refused : {m : ℕ} → c ≡ Refused m → (rt rd : List ℕ) (room : Room) → asked t d e rt rd room ≡ refused m
+      pub edit-refused : {m : ℕ} → c ≡ Refused m → (rt rd : List ℕ) (room : Room) → merge (storedOf t d) e (storedOf rt rd) room ≡ refused m
       unfolding merge _>>=_ checkedOf
       edit-refused h rt rd room = rw (passed .book, chosen-is h) refl
 
@@ -164,7 +160,7 @@ module _ (t d : List ℕ) {n : ℕ} (q : n ≡ numberOf (checkBook t d)) where
         pub edit-chosen : {p : Places} → p ≡ placesOf t d → {st : Store} → st ≡ storeAt t → Given t d p st e (regionOf from to)
         edit-chosen {p} f g = record { held = record { accepted = passed; is = accepted-found passed p f; stored = g }; chosen = region-is }
 
-        pub asked-chosen : (rt rd : List ℕ) (room : Room) → asked t d e rt rd room ≡ askedReading old e (regionOf from to) rt rd room
+        pub asked-chosen : (rt rd : List ℕ) (room : Room) → merge (storedOf t d) e (storedOf rt rd) room ≡ askedReading old e (regionOf from to) rt rd room
         unfolding merge _>>=_ askedReading
         asked-chosen rt rd room = rw (passed .book, region-is) refl
 

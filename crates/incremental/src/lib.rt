@@ -10,14 +10,15 @@ ghost use Prim.Native.Nat.{_+_, _*_, _≤_, _<_, _^_};
 ghost use lib.ListN.{length};
 ghost use Rattle.model.specs.Tape.{recordsAt, nodeCodec, places as placesIn, bookAt};
 ghost use Rattle.model.specs.Region.{Edit, editOf};
-ghost use Rattle.model.specs.Merge.{normalizedOffset, mergeBooks, roomOf};
+ghost use Rattle.model.specs.Merge.{storedOf, normalizedOffset, mergeBooks, roomOf};
+ghost use Rattle.model.specs.Demand3.{correctionOf, mergeOf};
 ghost use Rattle.bounds.specs.Search.{InOrder};
 ghost use Rattle.output.specs.Answer.{refusedOutput, Written, Merged};
 ghost use Rattle.region.specs.Held.{Held};
 ghost use Rattle.splice.specs.Window.{windowValue};
 ghost use Rattle.incremental.specs.Numbers.{cutNumber, readingNumber};
 ghost use Rattle.incremental.specs.Window.{windowFrom};
-ghost use Rattle.incremental.specs.Stages.{asked, Given, Read, regionOf, askedReading};
+ghost use Rattle.incremental.specs.Stages.{Given, Read, regionOf, askedReading};
 
 // Section 1. Source offsets and normalized offsets are two measures of two texts. Only here does one become the other: a cut of the source
 // text, as a cut of the normalized text.
@@ -270,7 +271,7 @@ fn merge_checked(
     outbytes: &mut [u8],
     work: &mut [u32],
 ) -> IncrementalOutput
-    ensures { λ r. ⌜ Written (asked (now (tape .entry)) (now (bytes .entry)) (editOf start end (now (replacement .entry))) (now (readingtape .entry)) (now (readingbytes .entry)) (roomOf (now (outtape .entry)) (now (outbytes .entry)) (now (work .entry)))) r (now (outtape .entry)) (now (outbytes .entry)) (now (work .entry)) (now (outtape .exit)) (now (outbytes .exit)) (now (work .exit)) ⌝ }
+    ensures { λ r. ⌜ Written (mergeOf (storedOf (now (tape .entry)) (now (bytes .entry))) (correctionOf start end (now (replacement .entry)) (now (readingtape .entry)) (now (readingbytes .entry))) (roomOf (now (outtape .entry)) (now (outbytes .entry)) (now (work .entry)))) r (now (outtape .entry)) (now (outbytes .entry)) (now (work .entry)) (now (outtape .exit)) (now (outbytes .exit)) (now (work .exit)) ⌝ }
 {
     let n = tape::check_book(tape, bytes);
     if n != 0 {
@@ -319,7 +320,7 @@ pub fn merge(
     outbytes: &mut [u8],
     work: &mut [u32],
 ) -> IncrementalOutput
-    ensures { λ r. ⌜ Merged (asked (now (tape .entry)) (now (bytes .entry)) (editOf start end (now (replacement .entry))) (now (readingtape .entry)) (now (readingbytes .entry)) (roomOf (now (outtape .entry)) (now (outbytes .entry)) (now (work .entry)))) (roomOf (now (outtape .entry)) (now (outbytes .entry)) (now (work .entry))) r (now (outtape .exit)) (now (outbytes .exit)) (now (work .exit)) ⌝ }
+    ensures { λ r. ⌜ Merged (mergeOf (storedOf (now (tape .entry)) (now (bytes .entry))) (correctionOf start end (now (replacement .entry)) (now (readingtape .entry)) (now (readingbytes .entry))) (roomOf (now (outtape .entry)) (now (outbytes .entry)) (now (work .entry)))) (roomOf (now (outtape .entry)) (now (outbytes .entry)) (now (work .entry))) r (now (outtape .exit)) (now (outbytes .exit)) (now (work .exit)) ⌝ }
 {
     let r = merge_checked(
         tape,
