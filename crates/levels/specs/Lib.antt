@@ -1,3 +1,4 @@
 pub mod Below
+pub mod Table
 pub mod Whole
 pub mod Number

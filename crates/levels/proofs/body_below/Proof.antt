@@ -1,32 +1,31 @@
+use mathlib.Core.Path.{_≡_, refl, sym, ap, ap₂, _∙_}
+use mathlib.Core.Bool.{true, false, false≢true}
+use Prim.Native.Nat.{ℕ, _+_, _-_, _*_, _/_, _≤_, _<_}
+use native.Mathlib.Omega.{arith}
+use borrow.Author.Tests.{not-true, not-false}
+use borrow.Author.Needs.{needs}
+use Rattle.levels.specs.Below.{wordBelow, word-read, body-failed, body-passed, body-rest}
 use Rattle.records.specs.Values.{bodyAt}
 use Rattle.wire.specs.Loops.{Passed, passed-none, passed-more}
-use Rattle.levels.specs.Below.{wordBelow, word-read, body-failed, body-passed, body-rest}
-use borrow.Author.Tests.{not-true, not-false}
-use mathlib.Core.Path.{sym, _∙_}
-use Prim.Native.Nat.{_-_, _≤_}
-use native.Mathlib.Omega.{arith}
 use Rattle.levels.proofs.body_below.Statement.{statement}
 use Rattle.levels.proofs.body_below.Tie as tie
 use Rattle.levels.proofs.body_below.Reads as reads
 use Rattle.levels.proofs.body_below.Lts as lts
-use Rattle.levels.proofs.word_below.Reads as word-below-reads
-use Rattle.records.proofs.use_in.Reads as use-in-reads
-use Rattle.records.proofs.uses_of.Reads as uses-of-reads
 
 abbrev Inv-loop : tie.InvT-loop
-Inv-loop tape st at level uses i₀ i = (i ≤ 6) × Passed (wordBelow tape st level (bodyAt tape at)) i
+Inv-loop tape st tops heights at level uses i₀ i = (i ≤ 6) × Passed (wordBelow tape st level (bodyAt tape at)) i
 
 abbrev μ-loop : tie.MeasureT-loop
-μ-loop tape st at level uses i₀ i = 6 - i
+μ-loop tape st tops heights at level uses i₀ i = 6 - i
 
 shared-slice-read-uses-of : tie.Need-shared-slice-read-uses-of Inv-loop μ-loop
-shared-slice-read-uses-of c = omega (arith, c .before .before .pre .1)
+shared-slice-read-uses-of c = omega (arith, c .before .before .before .before .pre .1)
 
 add-uses-of : tie.Need-add-uses-of Inv-loop μ-loop
-add-uses-of c = omega (arith, c .before .before .pre .1)
+add-uses-of c = omega (arith, c .before .before .before .before .pre .1)
 
 shared-slice-read-uses-of-2 : tie.Need-shared-slice-read-uses-of-2 Inv-loop μ-loop
-shared-slice-read-uses-of-2 c = omega (arith, c .before .before .before .pre .1)
+shared-slice-read-uses-of-2 c = omega (arith, c .before .before .before .before .before .pre .1)
 
 uses-of-requires : tie.Need-uses-of-requires Inv-loop μ-loop
 uses-of-requires c κs = tt
@@ -38,13 +37,13 @@ use-in-requires : tie.Need-use-in-requires Inv-loop μ-loop
 use-in-requires c κs = c .loop-test .taken
 
 returns : tie.Need-returns Inv-loop μ-loop
-returns c = body-rest (c .before .before .before .before .before .before .before .before .args .tape .now) (c .before .before .before .before .before .before .before .before .args .st) (c .before .before .before .before .before .before .before .before .args .level) (c .before .before .before .before .before .before .before .before .args .at) (c .before .before .before .loop .i) (c .before .before .before .before .uses-of .ensures) (c .before .use-in .ensures) (c .before .before .loop-test .taken) (c .if1 .taken) (c .before .before .before .loop .inv .1)
+returns c = let start = c .before .before .before .before .before .before .before .before .before .before in let t = start .args .tape .now in let st = start .args .st in let level = start .args .level in let at = start .args .at in body-rest t st level at (c .before .before .before .loop .i) (c .before .before .before .before .uses-of .ensures) (c .before .use-in .ensures) (c .before .before .loop-test .taken) (c .if1 .taken) (c .before .before .before .loop .inv .1)
 
 word-below-requires : tie.Need-word-below-requires Inv-loop μ-loop
-word-below-requires c κs = (c .before .before .before .before .before .before .before .before .pre .0, (c .before .before .before .before .before .before .before .before .pre .1, c .before .before .loop-test .taken))
+word-below-requires c κs = (c .before .before .before .before .before .before .before .before .before .before .pre .0, (c .before .before .before .before .before .before .before .before .before .before .pre .1, c .before .before .loop-test .taken))
 
 returns-2 : tie.Need-returns-2 Inv-loop μ-loop
-returns-2 c = body-failed (c .before .before .before .before .before .before .before .before .before .before .args .tape .now) (c .before .before .before .before .before .before .before .before .before .before .args .st) (c .before .before .before .before .before .before .before .before .before .before .args .level) (bodyAt (c .before .before .before .before .before .before .before .before .before .before .args .tape .now) (c .before .before .before .before .before .before .before .before .before .before .args .at)) (c .before .before .before .before .before .loop .i) (c .before .before .before .before .loop-test .taken) (word-read (c .before .before .before .before .before .before .before .before .before .before .args .tape .now) (c .before .before .before .before .before .before .before .before .before .before .args .st) (c .before .before .before .before .before .before .before .before .before .before .args .level) (c .before .before .before .before .before .before .before .before .before .before .args .at) (c .before .before .before .before .before .loop .i) (c .before .before .before .before .before .before .uses-of .ensures) (c .before .before .before .use-in .ensures) (c .before .before .before .before .loop-test .taken) (c .before .word-below .ensures) ∙ not-true _ (c .if2 .taken))
+returns-2 c = let start = c .before .before .before .before .before .before .before .before .before .before .before .before in let t = start .args .tape .now in let st = start .args .st in let level = start .args .level in let at = start .args .at in body-failed t st level (bodyAt t at) (c .before .before .before .before .before .loop .i) (c .before .before .before .before .loop-test .taken) (word-read t st level at (c .before .before .before .before .before .loop .i) (c .before .before .before .before .before .before .uses-of .ensures) (c .before .before .before .use-in .ensures) (c .before .before .before .before .loop-test .taken) (c .before .word-below .ensures) ∙ not-true _ (c .if2 .taken))
 
 add-i : tie.Need-add-i Inv-loop μ-loop
 add-i c = omega arith
@@ -53,27 +52,10 @@ loop-less : tie.Need-loop-less Inv-loop μ-loop
 loop-less c = omega arith
 
 loop-again : tie.Need-loop-again Inv-loop μ-loop
-loop-again c = (omega arith, passed-more _ _ (c .before .before .before .before .before .loop .inv .1) (word-read (c .before .before .before .before .before .before .before .before .before .before .args .tape .now) (c .before .before .before .before .before .before .before .before .before .before .args .st) (c .before .before .before .before .before .before .before .before .before .before .args .level) (c .before .before .before .before .before .before .before .before .before .before .args .at) (c .before .before .before .before .before .loop .i) (c .before .before .before .before .before .before .uses-of .ensures) (c .before .before .before .use-in .ensures) (c .before .before .before .before .loop-test .taken) (c .before .word-below .ensures) ∙ not-false _ (c .if2 .left)))
+loop-again c = let start = c .before .before .before .before .before .before .before .before .before .before .before .before in let t = start .args .tape .now in let st = start .args .st in let level = start .args .level in let at = start .args .at in (omega arith, passed-more _ _ (c .before .before .before .before .before .loop .inv .1) (word-read t st level at (c .before .before .before .before .before .loop .i) (c .before .before .before .before .before .before .uses-of .ensures) (c .before .before .before .use-in .ensures) (c .before .before .before .before .loop-test .taken) (c .before .word-below .ensures) ∙ not-false _ (c .if2 .left)))
 
 returns-3 : tie.Need-returns-3 Inv-loop μ-loop
-returns-3 c = body-passed (c .before .before .before .before .before .before .args .tape .now) (c .before .before .before .before .before .before .args .st) (c .before .before .before .before .before .before .args .level) (bodyAt (c .before .before .before .before .before .before .args .tape .now) (c .before .before .before .before .before .before .args .at)) (c .before .loop .i) (omega arith) (omega arith) (c .before .loop .inv .1)
+returns-3 c = let start = c .before .before .before .before .before .before .before .before in let t = start .args .tape .now in let st = start .args .st in let level = start .args .level in let at = start .args .at in body-passed t st level (bodyAt t at) (c .before .loop .i) (omega arith) (omega arith) (c .before .loop .inv .1)
 
 pub body-below-spec : {M : Type 1} → statement M
-body-below-spec =
-    tie.close
-    (tie.spec
-    Inv-loop
-    μ-loop
-    shared-slice-read-uses-of
-    add-uses-of
-    shared-slice-read-uses-of-2
-    uses-of-requires
-    loop-holds
-    use-in-requires
-    returns
-    word-below-requires
-    returns-2
-    add-i
-    loop-less
-    loop-again
-    returns-3)
+body-below-spec = tie.close (tie.spec Inv-loop μ-loop shared-slice-read-uses-of add-uses-of shared-slice-read-uses-of-2 uses-of-requires loop-holds use-in-requires returns word-below-requires returns-2 add-i loop-less loop-again returns-3)

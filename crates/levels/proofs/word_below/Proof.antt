@@ -1,14 +1,14 @@
-use Rattle.levels.specs.Below.{usedBelow}
-use mathlib.Core.Path.{ap₂, _∙_}
-use Prim.Native.Nat.{ℕ}
+use mathlib.Core.Path.{_≡_, refl, sym, ap, ap₂, _∙_}
+use mathlib.Core.Bool.{true, false, false≢true}
+use Prim.Native.Nat.{ℕ, _+_, _-_, _*_, _/_, _≤_, _<_}
+use native.Mathlib.Omega.{arith}
+use borrow.Author.Tests.{not-true, not-false}
 use borrow.Author.Needs.{needs}
+use Rattle.levels.specs.Below.{usedBelow}
 use Rattle.levels.proofs.word_below.Statement.{statement}
 use Rattle.levels.proofs.word_below.Tie as tie
 use Rattle.levels.proofs.word_below.Reads as reads
 use Rattle.levels.proofs.word_below.Lts as lts
-use Rattle.ids.proofs.next_word.Reads as next-word-reads
-use Rattle.levels.proofs.used_below.Reads as used-below-reads
-use Rattle.records.proofs.body_word.Reads as body-word-reads
 
 body-word-requires : tie.Need-body-word-requires
 body-word-requires c κs = search needs
@@ -17,11 +17,10 @@ next-word-requires : tie.Need-next-word-requires
 next-word-requires c κs = search needs
 
 used-below-requires : tie.Need-used-below-requires
-used-below-requires c κs = search needs
+used-below-requires c κs = c .before .before .before .before .before .pre .0
 
 returns : tie.Need-returns
-returns c = c .used-below .ensures ∙ ap₂ (λ (w next : ℕ). usedBelow (c .before .before .before .before .args .tape .now) (c .before .before .before .before .args .st) (c .before .before .before .before .args .level) (c .before .before .before .before .args .usage) w next) (c .before .before .body-word .ensures) (c .before .next-word .ensures)
+returns c = let start = c .before .before .before .before .before .before in let t = start .args .tape .now in let st = start .args .st in let level = start .args .level in let both = ap₂ (λ (w next : ℕ). usedBelow t st level (start .args .usage) w next) (c .before .before .body-word .ensures) (c .before .next-word .ensures) in c .used-below .ensures ∙ both
 
 pub word-below-spec : {M : Type 1} → statement M
-word-below-spec =
-    tie.close (tie.spec body-word-requires next-word-requires used-below-requires returns)
+word-below-spec = tie.close (tie.spec body-word-requires next-word-requires used-below-requires returns)

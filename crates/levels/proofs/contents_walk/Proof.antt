@@ -1,0 +1,62 @@
+use mathlib.Core.Path.{_≡_, refl, sym, ap, ap₂, _∙_}
+use mathlib.Core.Bool.{true, false, false≢true}
+use Prim.Native.Nat.{ℕ, _+_, _-_, _*_, _/_, _≤_, _<_}
+use native.Mathlib.Omega.{arith}
+use borrow.Author.Tests.{not-true, not-false}
+use borrow.Author.Needs.{needs}
+use Rattle.levels.specs.Table.{walk-more}
+use Rattle.levels.specs.Below.{contentBelow}
+use Rattle.wire.specs.Loops.{Passed, passed-none, passed-more}
+use Rattle.records.specs.Runs.{testAt, run-failed, run-more, run-passed}
+use Rattle.model.specs.Tape.{contentCodec, segmentCodec, recordAt}
+use Rattle.levels.proofs.contents_walk.Statement.{statement}
+use Rattle.levels.proofs.contents_walk.Tie as tie
+use Rattle.levels.proofs.contents_walk.Reads as reads
+use Rattle.levels.proofs.contents_walk.Lts as lts
+
+abbrev Inv-loop : tie.InvT-loop
+Inv-loop tape st tops heights at start len level k₀ k = (k ≤ len) × Passed (testAt contentCodec (contentBelow tape st level) tape at) k
+
+abbrev μ-loop : tie.MeasureT-loop
+μ-loop tape st tops heights at start len level k₀ k = len - k
+
+loop-holds : tie.Need-loop-holds Inv-loop μ-loop
+loop-holds c = (omega arith, passed-none _)
+
+mul-content-step : tie.Need-mul-content-step Inv-loop μ-loop
+mul-content-step c = omega (arith, c .before .before .before .before .before .pre .1 .0)
+
+add-content-step : tie.Need-add-content-step Inv-loop μ-loop
+add-content-step c = omega (arith, c .before .before .before .before .before .pre .1 .0)
+
+add-content-step-2 : tie.Need-add-content-step-2 Inv-loop μ-loop
+add-content-step-2 c = omega (arith, c .before .before .before .before .before .pre .1 .0)
+
+add-content-step-3 : tie.Need-add-content-step-3 Inv-loop μ-loop
+add-content-step-3 c = omega (arith, c .before .before .before .before .before .pre .1 .0)
+
+content-step-requires : tie.Need-content-step-requires Inv-loop μ-loop
+content-step-requires c κs = (c .before .before .before .before .before .pre .0, (omega (arith, c .before .before .before .before .before .pre .1 .0), omega arith))
+
+add-if1 : tie.Need-add-if1 Inv-loop μ-loop
+add-if1 c = omega (arith, c .before .before .before .before .before .before .pre .1 .0)
+
+returns : tie.Need-returns Inv-loop μ-loop
+unfolding contentCodec
+returns c = let start = c .before .before .before .before .before .before .before in let t = start .args .tape .now in let st = start .args .st in let level = start .args .level in let at = start .args .at in run-failed contentCodec (contentBelow t st level) t at (c .before .before .before .loop .k) _ refl _ refl _ (c .before .before .loop-test .taken) (c .before .content-step .ensures .stuck (c .if1 .taken))
+
+sub-k : tie.Need-sub-k Inv-loop μ-loop
+sub-k c = omega (arith, c .before .content-step .ensures .on)
+
+loop-less : tie.Need-loop-less Inv-loop μ-loop
+loop-less c = let s = c .before .content-step .ensures in omega (arith, s .on, s .far, c .if1 .left, c .before .before .loop-test .taken)
+
+loop-again : tie.Need-loop-again Inv-loop μ-loop
+unfolding testAt contentCodec
+loop-again c = let start = c .before .before .before .before .before .before .before in let t = start .args .tape .now in let st = start .args .st in let level = start .args .level in let at = start .args .at in let s = c .before .content-step .ensures in (omega (arith, s .on, s .far), walk-more (testAt contentCodec (contentBelow t st level) t at) s (start .pre .1 .1) refl (c .before .before .before .loop .inv .1))
+
+returns-2 : tie.Need-returns-2 Inv-loop μ-loop
+returns-2 c = let start = c .before .before .before .before .before in let t = start .args .tape .now in let st = start .args .st in let level = start .args .level in let at = start .args .at in run-passed contentCodec (contentBelow t st level) t at _ (c .before .loop .k) (omega arith) (c .before .loop .inv .1)
+
+pub contents-walk-spec : {M : Type 1} → statement M
+contents-walk-spec = tie.close (tie.spec Inv-loop μ-loop loop-holds mul-content-step add-content-step add-content-step-2 add-content-step-3 content-step-requires add-if1 returns sub-k loop-less loop-again returns-2)

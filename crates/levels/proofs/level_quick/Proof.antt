@@ -1,0 +1,44 @@
+use mathlib.Core.Path.{_≡_, refl, sym, ap, ap₂, _∙_}
+use mathlib.Core.Bool.{true, false, false≢true}
+use Prim.Native.Nat.{ℕ, _+_, _-_, _*_, _/_, _≤_, _<_}
+use native.Mathlib.Omega.{arith}
+use borrow.Author.Tests.{not-true, not-false}
+use borrow.Author.Needs.{needs}
+use Rattle.levels.specs.Below.{level-text, level-low, level-high, level-node}
+use Rattle.levels.proofs.level_quick.Statement.{statement}
+use Rattle.levels.proofs.level_quick.Tie as tie
+use Rattle.levels.proofs.level_quick.Reads as reads
+use Rattle.levels.proofs.level_quick.Lts as lts
+
+add-level : tie.Need-add-level
+add-level c = omega (arith, c .before .pre .1)
+
+shared-slice-read-level : tie.Need-shared-slice-read-level
+shared-slice-read-level c = omega (arith, c .before .before .pre .1)
+
+add-if1 : tie.Need-add-if1
+add-if1 c = omega (arith, c .before .before .pre .1)
+
+shared-slice-read-if1 : tie.Need-shared-slice-read-if1
+shared-slice-read-if1 c = omega (arith, c .before .before .before .pre .1)
+
+returns : tie.Need-returns
+returns c = let start = c .before .before .before .before in let t = start .args .tape .now in let st = start .args .st in let at = start .args .at in λ e. sym (level-text t st at (c .if1 .taken)) ∙ e
+
+returns-2 : tie.Need-returns-2
+returns-2 c = λ e. absurd (false≢true e)
+
+returns-3 : tie.Need-returns-3
+returns-3 c = λ e. absurd (false≢true e)
+
+add-body-quick : tie.Need-add-body-quick
+add-body-quick c = omega (arith, c .before .before .before .before .before .before .pre .1)
+
+body-quick-requires : tie.Need-body-quick-requires
+body-quick-requires c κs = (c .before .before .before .before .before .before .pre .0, omega (arith, c .before .before .before .before .before .before .pre .1))
+
+returns-4 : tie.Need-returns-4
+returns-4 c = let start = c .before .before .before .before .before .before .before in let t = start .args .tape .now in let st = start .args .st in let at = start .args .at in λ e. sym (level-node t st at (c .before .before .before .if1 .left) true (c .before .before .if2 .left) (c .before .if3 .left) (sym (c .body-quick .ensures e)))
+
+pub level-quick-spec : {M : Type 1} → statement M
+level-quick-spec = tie.close (tie.spec add-level shared-slice-read-level add-if1 shared-slice-read-if1 returns returns-2 returns-3 add-body-quick body-quick-requires returns-4)

@@ -1,0 +1,56 @@
+use mathlib.Core.Path.{_≡_, refl, sym, ap, ap₂, _∙_}
+use mathlib.Core.Bool.{true, false, false≢true}
+use Prim.Native.Nat.{ℕ, _+_, _-_, _*_, _/_, _≤_, _<_}
+use native.Mathlib.Omega.{arith}
+use borrow.Author.Tests.{not-true, not-false}
+use borrow.Author.Needs.{needs}
+use Rattle.levels.specs.Table.{Block, segmentTest, block-none, block-more, block-end}
+use Rattle.levels.proofs.top_of.Statement.{statement}
+use Rattle.levels.proofs.top_of.Tie as tie
+use Rattle.levels.proofs.top_of.Reads as reads
+use Rattle.levels.proofs.top_of.Lts as lts
+
+abbrev Inv-loop : tie.InvT-loop
+Inv-loop tape st k total m₀ i₀ m i = (16 * k ≤ i) × (i ≤ 16 * k + 16) × Block (segmentTest tape st) (st .totals .segments) (16 * k) i m
+
+abbrev μ-loop : tie.MeasureT-loop
+μ-loop tape st k total m₀ i₀ m i = 16 * k + 16 - i
+
+cast-total : tie.Need-cast-total Inv-loop μ-loop
+cast-total c = omega arith
+
+mul-i : tie.Need-mul-i Inv-loop μ-loop
+mul-i c = omega arith
+
+loop-holds : tie.Need-loop-holds Inv-loop μ-loop
+loop-holds c = (omega arith, omega arith, block-none _ _ _ _)
+
+mul-loop : tie.Need-mul-loop Inv-loop μ-loop
+mul-loop c = omega arith
+
+add-loop : tie.Need-add-loop Inv-loop μ-loop
+add-loop c = omega arith
+
+returns : tie.Need-returns Inv-loop μ-loop
+returns c = block-end _ (c .before .before .loop .inv .2) (c .if1 .taken)
+
+cast-raised : tie.Need-cast-raised Inv-loop μ-loop
+cast-raised c = omega arith
+
+raised-requires : tie.Need-raised-requires Inv-loop μ-loop
+raised-requires c κs = (c .before .before .before .before .before .pre .0, c .if1 .left)
+
+add-i : tie.Need-add-i Inv-loop μ-loop
+add-i c = omega arith
+
+loop-less : tie.Need-loop-less Inv-loop μ-loop
+loop-less c = omega arith
+
+loop-again : tie.Need-loop-again Inv-loop μ-loop
+loop-again c = (omega arith, omega arith, block-more (c .before .before .before .loop .inv .2) (c .raised .ensures))
+
+returns-2 : tie.Need-returns-2 Inv-loop μ-loop
+returns-2 c = let e : c .before .loop .i ≡ 16 * c .before .before .before .before .args .k + 16 = omega arith in rw e at (c .before .loop .inv .2)
+
+pub top-of-spec : {M : Type 1} → statement M
+top-of-spec = tie.close (tie.spec Inv-loop μ-loop cast-total mul-i loop-holds mul-loop add-loop returns cast-raised raised-requires add-i loop-less loop-again returns-2)

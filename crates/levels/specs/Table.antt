@@ -1,0 +1,360 @@
+-- Tables of a pool: for each block of 16 items a level that they are below, 255 where none is known, and above these the greatest
+-- of each 16 entries: entry 65536 + i / 16 is above entry i. An item's test is known wherever its entry, or one above it, is at
+-- most the level.
+use mathlib.Core.Path.{_≡_, refl, sym, ap, _∙_}
+use Prim.Native.Nat.{ℕ, zero, suc, _+_, _*_, _-_, _/_, _≤_, _<_}
+use native.Mathlib.Omega.{arith}
+use native.Mathlib.Nat.{add-sub-cancel-left}
+use mathlib.Core.Bool.{Bool, true, false, cond, _&&_, true≢false}
+use mathlib.Core.List.{List, [], _∷_}
+use lib.ListN.{length, getD, take, drop, set, length-set}
+use lib.Seq.{getD-take, getD-drop, getD-set-same, getD-set-other}
+use lib.Dec.{leb, ltb, eqb}
+use borrow.Author.Tests.{lt-ltb, ltb-true, ltb-false, eqb-true, eqb-false}
+use Rattle.model.specs.Lists.{all, tabulate}
+use Rattle.model.specs.Bytes.{byteAt}
+use Rattle.model.specs.Types.{Content, Segment}
+use Rattle.model.specs.Store.{storeOf, resolveContentRange, resolveSegRange}
+use Rattle.model.specs.Tape.{Codec, recordSize, recordAt, recordsAt, contentCodec, segmentCodec, places, layersAt}
+use Rattle.laws.specs.Lists.{both}
+use Rattle.wire.specs.Loops.{Passed, by-bool}
+use Rattle.records.specs.Runs.{testAt}
+use Rattle.store.specs.Standing.{contentPlace, segmentPlace, content-at, segment-at, content-range, segment-range, content-inside, segment-inside}
+use Rattle.store.specs.declared.Store.{Store}
+use Rattle.ids.specs.Tests.{contentsIn, segmentsIn}
+use Rattle.levels.specs.Below.{LevelsFit, below, segmentsBelow, contentBelow, contentsBelow, level-read, range-within}
+
+-- ---- the tests of the two pools: item j at a level
+
+unfoldable pub segmentTest : List ℕ → Store → ℕ → ℕ → Bool
+segmentTest t st level j = below level (recordAt segmentCodec t (segmentPlace st j))
+
+unfoldable pub contentTest : List ℕ → Store → ℕ → ℕ → Bool
+contentTest t st level j = contentBelow t st level (recordAt contentCodec t (contentPlace st j))
+
+-- ---- what a table says
+
+-- the entry of item j's block is at most the level
+pub record Says (table : List ℕ) (level j : ℕ) : Type 0 where
+  pub inside : j < 1048576
+  pub low : getD table (j / 16) 0 ≤ level
+  pub known : level < 255
+
+-- it says so of all items from i up to r
+pub record Skips (table : List ℕ) (level i r : ℕ) : Type 0 where
+  pub on : i ≤ r
+  pub says : (j : ℕ) → i ≤ j → j < r → Says table level j
+
+-- entries below n are at least those that they are above
+pub record Risen (table : List ℕ) (n : ℕ) : Type 0 where
+  pub size : length table ≡ 69904
+  pub up : (i : ℕ) → 65536 + i / 16 < n → getD table i 0 ≤ getD table (65536 + i / 16) 0
+
+-- the first n entries are right
+pub record Filled (P : ℕ → ℕ → Bool) (total : ℕ) (table : List ℕ) (n : ℕ) : Type 0 where
+  pub size : length table ≡ 69904
+  pub right : (j level : ℕ) → j < total → j / 16 < n → getD table (j / 16) 0 ≤ level → level < 255 → P level j ≡ true
+
+-- what the code found of a run that begins with item `start`, where the table says so
+pub record Said (table : List ℕ) (level start len : ℕ) (test : ℕ → Bool) : Type 0 where
+  pub says : (n : ℕ) → n < len → Says table level (start + n) → test n ≡ true
+
+-- a step from item i, whose own test is b, up to r: no step where that fails
+pub record Step (table : List ℕ) (level : ℕ) (b : Bool) (i end r : ℕ) : Type 0 where
+  pub on : i ≤ r
+  pub far : r ≤ end
+  pub stuck : r ≡ i → b ≡ false
+  pub passed : (test : ℕ → Bool) → ((j : ℕ) → i ≤ j → j < end → Says table level j → test j ≡ true) → b ≡ test i → (j : ℕ) → i ≤ j → j < r → test j ≡ true
+
+-- ---- the ends of blocks
+
+pub skips-none : (table : List ℕ) (level i : ℕ) → Skips table level i i
+skips-none table level i = record { on = omega arith; says = λ j a b. absurd (omega (arith, a, b)) }
+
+module _ {table : List ℕ} (w : Risen table 69904) (level i : ℕ) (l : level ≤ 254) (h : i ≤ 1048575) where
+  pub skips-16 : getD table (i / 16) 0 ≤ level → Skips table level i (16 * (i / 16) + 16)
+  skips-16 e = record {
+    on = omega arith;
+    says = λ j a b.
+        let q : j / 16 ≡ i / 16 = omega (arith, a, b) in
+        record { inside = omega (arith, a, b, h); low = rw q e; known = omega (arith, l) };
+  }
+
+  pub skips-256 : getD table (65536 + i / 16 / 16) 0 ≤ level → Skips table level i (256 * (i / 16 / 16) + 256)
+  skips-256 e = record {
+    on = omega arith;
+    says = λ j a b.
+        let q : j / 16 / 16 ≡ i / 16 / 16 = omega (arith, a, b) in
+        let s = w .up (j / 16) (omega (arith, a, b, h)) in
+        let x : getD table (65536 + j / 16 / 16) 0 ≤ level = rw q e in
+        record { inside = omega (arith, a, b, h); low = omega (arith, s, x); known = omega (arith, l) };
+  }
+
+  pub skips-4096 : getD table (65536 + (65536 + i / 16 / 16) / 16) 0 ≤ level → Skips table level i (4096 * (i / 4096) + 4096)
+  skips-4096 e = record {
+    on = omega arith;
+    says = λ j a b.
+        let q : (65536 + j / 16 / 16) / 16 ≡ (65536 + i / 16 / 16) / 16 = omega (arith, a, b) in
+        let s = w .up (j / 16) (omega (arith, a, b, h)) in
+        let u = w .up (65536 + j / 16 / 16) (omega (arith, a, b, h)) in
+        let x : getD table (65536 + (65536 + j / 16 / 16) / 16) 0 ≤ level = rw q e in
+        record { inside = omega (arith, a, b, h); low = omega (arith, s, u, x); known = omega (arith, l) };
+  }
+
+  pub skips-65536 : getD table (65536 + (65536 + (65536 + i / 16 / 16) / 16) / 16) 0 ≤ level → Skips table level i (65536 * (i / 65536) + 65536)
+  skips-65536 e = record {
+    on = omega arith;
+    says = λ j a b.
+        let q : (65536 + (65536 + j / 16 / 16) / 16) / 16 ≡ (65536 + (65536 + i / 16 / 16) / 16) / 16 = omega (arith, a, b) in
+        let s = w .up (j / 16) (omega (arith, a, b, h)) in
+        let u = w .up (65536 + j / 16 / 16) (omega (arith, a, b, h)) in
+        let v = w .up (65536 + (65536 + j / 16 / 16) / 16) (omega (arith, a, b, h)) in
+        let x : getD table (65536 + (65536 + (65536 + j / 16 / 16) / 16) / 16) 0 ≤ level = rw q e in
+        record { inside = omega (arith, a, b, h); low = omega (arith, s, u, v, x); known = omega (arith, l) };
+  }
+
+-- ---- steps
+
+module _ {table : List ℕ} {level i end : ℕ} (h : i < end) where
+  pub step-end : {b : Bool} {r : ℕ} → Skips table level i r → end < r → Step table level b i end end
+  step-end k l = record {
+    on = omega (arith, h);
+    far = omega arith;
+    stuck = λ e. absurd (omega (arith, e, h));
+    passed = λ test known e j a b. known j a b (k .says j a (omega (arith, b, l)));
+  }
+
+  pub step-known : {b : Bool} {r : ℕ} → Skips table level i r → r ≤ end → i < r → Step table level b i end r
+  step-known k l m = record {
+    on = k .on;
+    far = l;
+    stuck = λ e. absurd (omega (arith, e, m));
+    passed = λ test known e j a b. known j a (omega (arith, b, l)) (k .says j a b);
+  }
+
+  pub step-one : {b : Bool} → b ≡ true → Step table level b i end (i + 1)
+  step-one y = record {
+    on = omega arith;
+    far = omega (arith, h);
+    stuck = λ e. absurd (omega (arith, e));
+    passed = λ test known e j a b. let q : j ≡ i = omega (arith, a, b) in rw q (sym e ∙ y);
+  }
+
+  pub step-none : {b : Bool} → b ≡ false → Step table level b i end i
+  step-none n = record { on = omega arith; far = omega (arith, h); stuck = λ e. n; passed = λ test known e j a b. absurd (omega (arith, a, b)) }
+
+-- a turn of a walk, and where it ends
+pub walk-more : (test : ℕ → Bool) {table : List ℕ} {level start k len r : ℕ} {b : Bool} → Step table level b (start + k) (start + len) r → Said table level start len test → b ≡ test k
+    → Passed test k → Passed test (r - start)
+walk-more test {table} {level} {start} {k} {len} {r} s said e p = record {
+  all = λ n h.
+      by-bool (ltb n k) (λ x. p .all n (ltb-true n k x))
+      (λ x. let y = ltb-false n k x in let on = s .on in
+      let back : (n : ℕ) → start + n - start ≡ n = λ n. add-sub-cancel-left start n in
+      sym (ap test (back n)) ∙ s .passed (λ (j : ℕ). test (j - start))
+      (λ j a g z. let q : start + (j - start) ≡ j = omega (arith, a) in said .says (j - start) (omega (arith, a, g)) (rw q z))
+      (e ∙ ap test (sym (back k))) (start + n) (omega (arith, y)) (omega (arith, h, on)));
+}
+
+-- ---- a run of a pool, item by item
+
+getD-tabulate : {A : Type 0} (n i : ℕ) (f : ℕ → A) (default : A) → i < n → getD (tabulate n f) i default ≡ f i
+getD-tabulate zero i f default h = absurd (omega arith)
+getD-tabulate (suc n) zero f default h = refl
+getD-tabulate (suc n) (suc i) f default h = getD-tabulate n i (λ j. f (suc j)) default (omega arith)
+
+item-read : {A : Type 0} (c : Codec A) (t : List ℕ) (pool : List A) (default : A) (start len at n q : ℕ) → take len (drop start pool) ≡ recordsAt c t at len
+    → getD pool (start + n) default ≡ recordAt c t q → n < len → recordAt c t (at + recordSize c * n) ≡ recordAt c t q
+unfolding recordsAt
+item-read c t pool default start len at n q e f h =
+    sym (getD-tabulate len n (λ (i : ℕ). recordAt c t (at + recordSize c * i)) default h)
+    ∙ ap (λ l. getD l n default) (sym e) ∙ getD-take len (drop start pool) n default h ∙ getD-drop start pool n default ∙ f
+
+-- ---- the two pools
+
+pub record Tops (t : List ℕ) (st : Store) (tops : List ℕ) : Type 0 where
+  pub fit : LevelsFit t st
+  pub risen : Risen tops 69904
+  pub filled : Filled (segmentTest t st) (st .totals .segments) tops 65536
+
+pub record Tables (t : List ℕ) (st : Store) (tops heights : List ℕ) : Type 0 where
+  pub segments : Tops t st tops
+  pub risen : Risen heights 69904
+  pub filled : Filled (contentTest t st) (st .totals .contents) heights 65536
+
+module _ (t : List ℕ) (st : Store) (level start len at : ℕ) where
+  pub segments-said : {tops : List ℕ} → Tops t st tops → {r : Bool} → r ≡ segmentsIn st start len → r ≡ true → at ≡ segmentPlace st start
+      → Said tops level start len (testAt segmentCodec (below level) t at)
+  unfolding testAt segmentTest resolveSegRange
+  segments-said {tops} w e y place = record {
+    says = λ n h s.
+        let stored = w .fit .stored in
+        let within = range-within (st .segments) (st .layers) (st .totals .segments) start len (sym e ∙ y) in
+        let run = segment-range t st stored [] start len (sym e ∙ y) ∙ ap (λ (p : ℕ). recordsAt segmentCodec t p len) (sym place) in
+        let item = segment-at t st stored [] (start + n) (omega (arith, within, h)) (recordAt segmentCodec t 0) in
+        ap (below level) (item-read segmentCodec t (storeOf (layersAt t (places t .layers) []) .segments) (recordAt segmentCodec t 0) start len at n (segmentPlace st (start + n)) run item h)
+        ∙ w .filled .right (start + n) level (omega (arith, within, h)) (let k = s .inside in omega (arith, k)) (s .low) (s .known);
+  }
+
+  pub contents-said : {tops heights : List ℕ} → Tables t st tops heights → {r : Bool} → r ≡ contentsIn st start len → r ≡ true → at ≡ contentPlace st start
+      → Said heights level start len (testAt contentCodec (contentBelow t st level) t at)
+  unfolding testAt contentTest resolveContentRange
+  contents-said {tops} {heights} w e y place = record {
+    says = λ n h s.
+        let stored = w .segments .fit .stored in
+        let within = range-within (st .contents) (st .layers) (st .totals .contents) start len (sym e ∙ y) in
+        let run = content-range t st stored [] start len (sym e ∙ y) ∙ ap (λ (p : ℕ). recordsAt contentCodec t p len) (sym place) in
+        let item = content-at t st stored [] (start + n) (omega (arith, within, h)) (recordAt contentCodec t 0) in
+        ap (contentBelow t st level) (item-read contentCodec t (storeOf (layersAt t (places t .layers) []) .contents) (recordAt contentCodec t 0) start len at n (contentPlace st (start + n)) run item h)
+        ∙ w .filled .right (start + n) level (omega (arith, within, h)) (let k = s .inside in omega (arith, k)) (s .low) (s .known);
+  }
+
+-- ---- greater levels
+
+below-more : (m l : ℕ) (x : Segment) → m ≤ l → below m x ≡ true → below l x ≡ true
+unfolding below
+below-more m l x h e = let y = ltb-true (x .level) m e in lt-ltb (x .level) l (omega (arith, y, h))
+
+all-follow : {A : Type 0} (q p : A → Bool) (xs : List A) → ((x : A) → q x ≡ true → p x ≡ true) → all q xs ≡ true → all p xs ≡ true
+all-follow q p [] e h = refl
+all-follow q p (x ∷ xs) e h = let b = both (q x) (all q xs) h in rw (e x (b .0)) (all-follow q p xs e (b .1))
+
+content-more : (t : List ℕ) (st : Store) (m l : ℕ) (x : Content) → m ≤ l → contentBelow t st m x ≡ true → contentBelow t st l x ≡ true
+unfolding contentBelow segmentsBelow
+content-more t st m l x h e = by-bool (eqb (x .tag) 0) (λ z. rw z refl)
+    (λ z. let b = both (segmentsIn st (x .first) (x .second)) (all (below m) (recordsAt segmentCodec t (segmentPlace st (x .first)) (x .second))) (rw z at e) in
+    rw (z, b .0) (all-follow (below m) (below l) (recordsAt segmentCodec t (segmentPlace st (x .first)) (x .second)) (λ y. below-more m l y h) (b .1)))
+
+-- ---- entries made
+
+-- item i is below every level from r on, and so is what was below m
+pub record Lifts (P : ℕ → ℕ → Bool) (i m r : ℕ) : Type 0 where
+  pub more : m ≤ r
+  pub here : (level : ℕ) → r ≤ level → level < 255 → P level i ≡ true
+
+pub lifts-none : (P : ℕ → ℕ → Bool) (i m : ℕ) → m ≤ 255 → Lifts P i m 255
+lifts-none P i m h = record { more = h; here = λ level a b. absurd (omega (arith, a, b)) }
+
+-- the segment at its place has level v
+pub lifts-segment : (t : List ℕ) (st : Store) (i m r at : ℕ) → at ≡ segmentPlace st i → m ≤ r → byteAt t (at + 2) < r → Lifts (segmentTest t st) i m r
+unfolding segmentTest
+lifts-segment t st i m r at e h l = record {
+  more = h;
+  here = λ level a b.
+      ap (λ (p : ℕ). below level (recordAt segmentCodec t p)) (sym e) ∙ sym (level-read t at level) ∙ lt-ltb (byteAt t (at + 2)) level (omega (arith, l, a));
+}
+
+pub lifts-content : (t : List ℕ) (st : Store) (i m r at : ℕ) → at ≡ contentPlace st i → m ≤ r → {b : Bool} → b ≡ contentBelow t st r (recordAt contentCodec t at) → b ≡ true
+    → Lifts (contentTest t st) i m r
+unfolding contentTest
+lifts-content t st i m r at e h q y = record {
+  more = h;
+  here = λ level a b.
+      ap (λ (p : ℕ). contentBelow t st level (recordAt contentCodec t p)) (sym e) ∙ content-more t st r level (recordAt contentCodec t at) a (sym q ∙ y);
+}
+
+pub segment-fits : (t : List ℕ) (st : Store) (i at : ℕ) → LevelsFit t st → i < st .totals .segments → at ≡ segmentPlace st i → at + 37 ≤ length t
+segment-fits t st i at f h e = let k = segment-inside t st (f .stored) i 1 h (omega (arith, h)) in omega (arith, k, e, f .inside)
+
+pub content-fits : (t : List ℕ) (st : Store) (i at : ℕ) → LevelsFit t st → i < st .totals .contents → at ≡ contentPlace st i → at + 10 ≤ length t
+content-fits t st i at f h e = let k = content-inside t st (f .stored) i 1 h (omega (arith, h)) in omega (arith, k, e, f .inside)
+
+-- items from a up to b are below every level from r on
+pub record Block (P : ℕ → ℕ → Bool) (total a b r : ℕ) : Type 0 where
+  pub right : (j level : ℕ) → a ≤ j → j < b → j < total → r ≤ level → level < 255 → P level j ≡ true
+
+pub block-none : (P : ℕ → ℕ → Bool) (total a r : ℕ) → Block P total a a r
+block-none P total a r = record { right = λ j level x y. absurd (omega (arith, x, y)) }
+
+pub block-more : {P : ℕ → ℕ → Bool} {total a i m r : ℕ} → Block P total a i m → Lifts P i m r → Block P total a (i + 1) r
+block-more {P} {total} {a} {i} w f = record {
+  right = λ j level x y z u v.
+      by-bool (ltb j i) (λ e. let more = f .more in w .right j level x (ltb-true j i e) z (omega (arith, u, more)) v)
+      (λ e. let q : j ≡ i = let g = ltb-false j i e in omega (arith, g, y) in rw q (f .here level u v));
+}
+
+-- the pool ends before the block
+pub block-end : {P : ℕ → ℕ → Bool} {total a i m : ℕ} (b : ℕ) → Block P total a i m → total ≤ i → Block P total a b m
+block-end b w h = record { right = λ j level x y z. w .right j level x (omega (arith, z, h)) z }
+
+-- ---- the tables filled
+
+pub filled-none : (P : ℕ → ℕ → Bool) (total : ℕ) (table : List ℕ) → length table ≡ 69904 → Filled P total table 0
+filled-none P total table e = record { size = e; right = λ j level a b. absurd (omega (arith, b)) }
+
+pub filled-more : {P : ℕ → ℕ → Bool} {total : ℕ} {table : List ℕ} {k : ℕ} → Filled P total table k → k < 65536 → (r : ℕ) → Block P total (16 * k) (16 * k + 16) r
+    → Filled P total (set table k r) (k + 1)
+filled-more {P} {total} {table} {k} w h r b = record {
+  size = length-set table k r ∙ w .size;
+  right = λ j level x y z v.
+      by-bool (eqb (j / 16) k)
+      (λ e. let q = eqb-true (j / 16) k e in
+      let s = w .size in
+      let g : getD (set table k r) (j / 16) 0 ≡ r = rw q (getD-set-same table k r 0 (omega (arith, s, h))) in
+      b .right j level (omega (arith, q)) (omega (arith, q)) x (omega (arith, g, z)) v)
+      (λ e. let n = eqb-false (j / 16) k e in
+      let g = getD-set-other table k (j / 16) r 0 n in
+      let m : j / 16 < k = by-bool (ltb (j / 16) k) (λ u. ltb-true (j / 16) k u) (λ u. absurd (n (let f = ltb-false (j / 16) k u in omega (arith, f, y)))) in
+      w .right j level x m (omega (arith, g, z)) v);
+}
+
+pub filled-all : {P : ℕ → ℕ → Bool} {total : ℕ} {table : List ℕ} {k : ℕ} → Filled P total table k → total ≤ 16 * k → Filled P total table 65536
+filled-all w h = record { size = w .size; right = λ j level x y z v. w .right j level x (omega (arith, x, h)) z v }
+
+-- ---- the entries above
+
+-- no entry of n from `from` on is above r
+pub record Greatest (table : List ℕ) (from n r : ℕ) : Type 0 where
+  pub most : (i : ℕ) → i < n → getD table (from + i) 0 ≤ r
+
+pub greatest-none : (table : List ℕ) (from r : ℕ) → Greatest table from 0 r
+greatest-none table from r = record { most = λ i h. absurd (omega (arith, h)) }
+
+pub greatest-more : {table : List ℕ} {from n m r : ℕ} → Greatest table from n m → m ≤ r → getD table (from + n) 0 ≤ r → Greatest table from (n + 1) r
+greatest-more {table} {from} {n} w h e = record {
+  most = λ i l.
+      by-bool (ltb i n) (λ x. let y = w .most i (ltb-true i n x) in omega (arith, y, h)) (λ x. let q : i ≡ n = let y = ltb-false i n x in omega (arith, y, l) in rw q e);
+}
+
+-- the entries of blocks are as they were
+pub record Kept (d l : List ℕ) : Type 0 where
+  pub kept : (i : ℕ) → i < 65536 → getD l i 0 ≡ getD d i 0
+
+pub kept-all : (d : List ℕ) → Kept d d
+kept-all d = record { kept = λ i h. refl }
+
+pub kept-set : {d l : List ℕ} → Kept d l → (k r : ℕ) → 65536 ≤ k → Kept d (set l k r)
+kept-set {d} {l} w k r h = record { kept = λ i a. getD-set-other l k i r 0 (λ e. let z : ⊥ = omega (arith, a, h, e) in z) ∙ w .kept i a }
+
+pub filled-kept : {P : ℕ → ℕ → Bool} {total : ℕ} {d l : List ℕ} → Filled P total d 65536 → Kept d l → length l ≡ 69904 → Filled P total l 65536
+filled-kept w k e = record { size = e; right = λ j level x y z v. let g = k .kept (j / 16) y in w .right j level x y (omega (arith, g, z)) v }
+
+pub risen-none : (table : List ℕ) → length table ≡ 69904 → Risen table 65536
+risen-none table e = record { size = e; up = λ i h. absurd (omega (arith, h)) }
+
+pub risen-more : {table : List ℕ} {k : ℕ} → Risen table k → 65536 ≤ k → k < 69904 → (r : ℕ) → Greatest table (16 * (k - 65536)) 16 r → Risen (set table k r) (k + 1)
+risen-more {table} {k} w a b r g = record {
+  size = length-set table k r ∙ w .size;
+  up = λ i h.
+      let other : getD (set table k r) i 0 ≡ getD table i 0 = getD-set-other table k i r 0 (λ e. let z : ⊥ = omega (arith, e, h, b) in z) in
+      by-bool (eqb (65536 + i / 16) k)
+      (λ e. let q = eqb-true (65536 + i / 16) k e in
+      let s = w .size in
+      let top : getD (set table k r) (65536 + i / 16) 0 ≡ r = rw q (getD-set-same table k r 0 (omega (arith, s, b))) in
+      let p : 16 * (k - 65536) + (i - 16 * (k - 65536)) ≡ i = omega (arith, q) in
+      let m : getD table i 0 ≤ r = rw p at (g .most (i - 16 * (k - 65536)) (omega (arith, q))) in
+      omega (arith, other, top, m))
+      (λ e. let n = eqb-false (65536 + i / 16) k e in
+      let top = getD-set-other table k (65536 + i / 16) r 0 n in
+      let l : 65536 + i / 16 < k = by-bool (ltb (65536 + i / 16) k) (λ u. ltb-true (65536 + i / 16) k u) (λ u. absurd (n (let f = ltb-false (65536 + i / 16) k u in omega (arith, f, h)))) in
+      let m = w .up i l in
+      omega (arith, other, top, m));
+}
+
+-- ---- both tables made
+
+pub tops-made : {t : List ℕ} {st : Store} {d l : List ℕ} → LevelsFit t st → Filled (segmentTest t st) (st .totals .segments) d 65536 → Risen l 69904 → Kept d l → Tops t st l
+tops-made f w r k = record { fit = f; risen = r; filled = filled-kept w k (r .size) }
+
+pub tables-made : {t : List ℕ} {st : Store} {tops d l : List ℕ} → Tops t st tops → Filled (contentTest t st) (st .totals .contents) d 65536 → Risen l 69904 → Kept d l → Tables t st tops l
+tables-made s w r k = record { segments = s; risen = r; filled = filled-kept w k (r .size) }
