@@ -214,6 +214,7 @@ fn book_text<'a>(tape: &[u8], bytes: &'a [u8]) -> &'a [u8]
     wire::between(bytes, 0, wide(wire::u32_or_zero(tape, 1)))
 }
 
+// Up to 50 bytes before the text, two quotes and a newline, and four for each of its bytes.
 fn put_passage(out: &mut [u8], tape: &[u8], bytes: &[u8], m: listing::Mark) -> usize
     requires { ⌜ (262197 ≤ length (now out)) × (length (now bytes) ≤ 65536) ⌝ }
     ensures { λ r. ⌜ (r ≤ length (now (out .exit))) × (take r (now (out .exit)) ≡ passageLine (bookOf (now (tape .entry)) (now (bytes .entry))) (record { start = m .start; end = m .end })) ⌝ }
