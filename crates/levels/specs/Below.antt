@@ -197,11 +197,13 @@ module _ (t : List ℕ) (st : Store) (p : ℕ) where
   level-text h = sym (level-at ∙ rw (lt-ltb (byteAt t (p + 1)) 3 h) refl)
 
   module _ (h : 3 ≤ byteAt t (p + 1)) where
-    pub level-low : byteAt t (p + 2) < 1 → false ≡ levelIn t st (recordAt segmentCodec t p)
-    level-low l = sym (level-at ∙ rw (le-ltb (byteAt t (p + 1)) 3 h, lt-leb 1 (byteAt t (p + 2)) l) refl)
+    pub level-out : {r : Bool} → r ≡ (leb 1 (byteAt t (p + 2)) && leb (byteAt t (p + 2)) maxLevel) → r ≡ false → false ≡ levelIn t st (recordAt segmentCodec t p)
+    level-out e n =
+        sym (level-at ∙ rw (le-ltb (byteAt t (p + 1)) 3 h)
+        (by-bool (leb 1 (byteAt t (p + 2))) (λ x. let y : leb (byteAt t (p + 2)) maxLevel ≡ false = rw x at (sym e ∙ n) in rw (x, y) refl) (λ x. rw x refl)))
 
-    pub level-high : 1 ≤ byteAt t (p + 2) → 32 < byteAt t (p + 2) → false ≡ levelIn t st (recordAt segmentCodec t p)
-    level-high l m = sym (level-at ∙ rw (le-ltb (byteAt t (p + 1)) 3 h, le-leb 1 (byteAt t (p + 2)) l, lt-leb (byteAt t (p + 2)) 32 m) refl)
-
-    pub level-node : (r : Bool) → 1 ≤ byteAt t (p + 2) → byteAt t (p + 2) ≤ 32 → r ≡ bodyBelow t st (byteAt t (p + 2)) (bodyAt t (p + 3)) → r ≡ levelIn t st (recordAt segmentCodec t p)
-    level-node r l m a = a ∙ sym (level-at ∙ rw (le-ltb (byteAt t (p + 1)) 3 h, le-leb 1 (byteAt t (p + 2)) l, le-leb (byteAt t (p + 2)) 32 m) refl)
+    pub level-node : {q : Bool} → q ≡ (leb 1 (byteAt t (p + 2)) && leb (byteAt t (p + 2)) maxLevel) → q ≡ true → (r : Bool) → r ≡ bodyBelow t st (byteAt t (p + 2)) (bodyAt t (p + 3))
+        → r ≡ levelIn t st (recordAt segmentCodec t p)
+    level-node e y r a =
+        let b = both (leb 1 (byteAt t (p + 2))) (leb (byteAt t (p + 2)) maxLevel) (sym e ∙ y) in
+        a ∙ sym (level-at ∙ rw (le-ltb (byteAt t (p + 1)) 3 h, b .0, b .1) refl)

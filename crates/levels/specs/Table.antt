@@ -228,26 +228,26 @@ content-more t st m l x h e = by-bool (eqb (x .tag) 0) (λ z. rw z refl)
 -- ---- entries made
 
 -- item i is below every level from r on, and so is what was below m
-pub record Lifts (P : ℕ → ℕ → Bool) (i m r : ℕ) : Type 0 where
+pub record Bound (P : ℕ → ℕ → Bool) (i m r : ℕ) : Type 0 where
   pub more : m ≤ r
   pub here : (level : ℕ) → r ≤ level → level < 255 → P level i ≡ true
 
-pub lifts-none : (P : ℕ → ℕ → Bool) (i m : ℕ) → m ≤ 255 → Lifts P i m 255
-lifts-none P i m h = record { more = h; here = λ level a b. absurd (omega (arith, a, b)) }
+pub bound-none : (P : ℕ → ℕ → Bool) (i m : ℕ) → m ≤ 255 → Bound P i m 255
+bound-none P i m h = record { more = h; here = λ level a b. absurd (omega (arith, a, b)) }
 
 -- the segment at its place has level v
-pub lifts-segment : (t : List ℕ) (st : Store) (i m r at : ℕ) → at ≡ segmentPlace st i → m ≤ r → byteAt t (at + 2) < r → Lifts (segmentTest t st) i m r
+pub bound-segment : (t : List ℕ) (st : Store) (i m r at : ℕ) → at ≡ segmentPlace st i → m ≤ r → byteAt t (at + 2) < r → Bound (segmentTest t st) i m r
 unfolding segmentTest
-lifts-segment t st i m r at e h l = record {
+bound-segment t st i m r at e h l = record {
   more = h;
   here = λ level a b.
       ap (λ (p : ℕ). below level (recordAt segmentCodec t p)) (sym e) ∙ sym (level-read t at level) ∙ lt-ltb (byteAt t (at + 2)) level (omega (arith, l, a));
 }
 
-pub lifts-content : (t : List ℕ) (st : Store) (i m r at : ℕ) → at ≡ contentPlace st i → m ≤ r → {b : Bool} → b ≡ contentBelow t st r (recordAt contentCodec t at) → b ≡ true
-    → Lifts (contentTest t st) i m r
+pub bound-content : (t : List ℕ) (st : Store) (i m r at : ℕ) → at ≡ contentPlace st i → m ≤ r → {b : Bool} → b ≡ contentBelow t st r (recordAt contentCodec t at) → b ≡ true
+    → Bound (contentTest t st) i m r
 unfolding contentTest
-lifts-content t st i m r at e h q y = record {
+bound-content t st i m r at e h q y = record {
   more = h;
   here = λ level a b.
       ap (λ (p : ℕ). contentBelow t st level (recordAt contentCodec t p)) (sym e) ∙ content-more t st r level (recordAt contentCodec t at) a (sym q ∙ y);
@@ -266,7 +266,7 @@ pub record Block (P : ℕ → ℕ → Bool) (total a b r : ℕ) : Type 0 where
 pub block-none : (P : ℕ → ℕ → Bool) (total a r : ℕ) → Block P total a a r
 block-none P total a r = record { right = λ j level x y. absurd (omega (arith, x, y)) }
 
-pub block-more : {P : ℕ → ℕ → Bool} {total a i m r : ℕ} → Block P total a i m → Lifts P i m r → Block P total a (i + 1) r
+pub block-more : {P : ℕ → ℕ → Bool} {total a i m r : ℕ} → Block P total a i m → Bound P i m r → Block P total a (i + 1) r
 block-more {P} {total} {a} {i} w f = record {
   right = λ j level x y z u v.
       by-bool (ltb j i) (λ e. let more = f .more in w .right j level x (ltb-true j i e) z (omega (arith, u, more)) v)

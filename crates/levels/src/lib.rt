@@ -8,7 +8,9 @@
 // 16 segments, and each 16 contents, a level that they are below, and above that the greatest of each 16 entries, up to blocks of
 // 65536. A range is then walked from block to block, and an item is read only where its block is not below the level.
 ghost use mathlib.Core.Path.{_≡_};
-ghost use mathlib.Core.Bool.{true};
+ghost use mathlib.Core.Bool.{true, _&&_};
+ghost use lib.Dec.{leb};
+ghost use Rattle.model.specs.Limits.{maxLevel};
 ghost use Prim.Native.Nat.{_+_, _*_, _^_, _≤_, _<_};
 ghost use lib.ListN.{length};
 ghost use Rattle.model.specs.Lists.{all};
@@ -17,7 +19,7 @@ ghost use Rattle.records.specs.Values.{bodyAt};
 ghost use Rattle.records.specs.Runs.{testAt};
 ghost use Rattle.model.specs.WellFormed.{wordOf};
 ghost use Rattle.levels.specs.Below.{LevelsFit, below, segmentsBelow, contentBelow, contentsBelow, usedBelow, bodyBelow, levelIn};
-ghost use Rattle.levels.specs.Table.{segmentTest, contentTest, Skips, Step, Said, Risen, Filled, Kept, Lifts, Block, Greatest, Tops, Tables};
+ghost use Rattle.levels.specs.Table.{segmentTest, contentTest, Skips, Step, Said, Risen, Filled, Kept, Bound, Block, Greatest, Tops, Tables};
 ghost use Rattle.levels.specs.Whole.{levelsIn};
 
 fn level_below(tape: &[u8], at: usize, level: u8) -> bool
@@ -39,6 +41,16 @@ fn levels_below(tape: &[u8], at: usize, count: usize, level: u8) -> bool
         i += 1;
     }
     true
+}
+
+// Section 4. A Node's own level is 1..32.
+fn level_in_range(level: u8) -> bool
+    ensures { λ r. ⌜ r ≡ (leb 1 level && leb level maxLevel) ⌝ }
+{
+    if level < 1 {
+        return false;
+    }
+    level <= 32
 }
 
 // ---- ranges up to 16; 'false' says nothing
@@ -157,10 +169,7 @@ fn level_quick(tape: &[u8], st: store::Store, at: usize) -> bool
     if tape[at + 1] < 3 {
         return level == 0;
     }
-    if level < 1 {
-        return false;
-    }
-    if 32 < level {
+    if !level_in_range(level) {
         return false;
     }
     body_quick(tape, st, at + 3, level)
@@ -475,10 +484,7 @@ fn level_ok(tape: &[u8], st: store::Store, tops: &[u8], heights: &[u8], at: usiz
     if tape[at + 1] < 3 {
         return level == 0;
     }
-    if level < 1 {
-        return false;
-    }
-    if 32 < level {
+    if !level_in_range(level) {
         return false;
     }
     body_below(tape, st, tops, heights, at + 3, level)
@@ -527,10 +533,10 @@ fn levels_by(tape: &[u8], st: store::Store, tops: &[u8], heights: &[u8], layers:
 // ---- the tables made
 
 // The least level, from m on, that segment i is below; 255 above 32.
-fn raised(tape: &[u8], st: store::Store, i: u32, m: u8) -> u8
+fn segment_bound(tape: &[u8], st: store::Store, i: u32, m: u8) -> u8
     requires { ⌜ LevelsFit (now tape) st ⌝ }
     requires { ⌜ i < st .totals .segments ⌝ }
-    ensures { λ r. ⌜ Lifts (segmentTest (now (tape .entry)) st) i m r ⌝ }
+    ensures { λ r. ⌜ Bound (segmentTest (now (tape .entry)) st) i m r ⌝ }
 {
     let at = store::segment_place(st, i);
     let v = tape[at + 2];
@@ -555,7 +561,7 @@ fn top_of(tape: &[u8], st: store::Store, k: usize) -> u8
         if total <= i {
             return m;
         }
-        m = raised(tape, st, i as u32, m);
+        m = segment_bound(tape, st, i as u32, m);
         i += 1;
     }
     m
@@ -578,10 +584,10 @@ fn put_tops(tape: &[u8], st: store::Store, tops: &mut [u8])
 }
 
 // The least level, from m on, that content i is below; 255 above 33.
-fn heightened(tape: &[u8], st: store::Store, tops: &[u8], i: u32, m: u8) -> u8
+fn content_bound(tape: &[u8], st: store::Store, tops: &[u8], i: u32, m: u8) -> u8
     requires { ⌜ Tops (now tape) st (now tops) ⌝ }
     requires { ⌜ i < st .totals .contents ⌝ }
-    ensures { λ r. ⌜ Lifts (contentTest (now (tape .entry)) st) i m r ⌝ }
+    ensures { λ r. ⌜ Bound (contentTest (now (tape .entry)) st) i m r ⌝ }
 {
     let at = store::content_place(st, i);
     let mut r = m;
@@ -606,7 +612,7 @@ fn height_of(tape: &[u8], st: store::Store, tops: &[u8], k: usize) -> u8
         if total <= i {
             return m;
         }
-        m = heightened(tape, st, tops, i as u32, m);
+        m = content_bound(tape, st, tops, i as u32, m);
         i += 1;
     }
     m

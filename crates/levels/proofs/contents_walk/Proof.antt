@@ -1,14 +1,11 @@
-use mathlib.Core.Path.{_≡_, refl, sym, ap, ap₂, _∙_}
-use mathlib.Core.Bool.{true, false, false≢true}
-use Prim.Native.Nat.{ℕ, _+_, _-_, _*_, _/_, _≤_, _<_}
+use mathlib.Core.Path.{refl}
+use Prim.Native.Nat.{_-_, _≤_}
 use native.Mathlib.Omega.{arith}
-use borrow.Author.Tests.{not-true, not-false}
-use borrow.Author.Needs.{needs}
 use Rattle.levels.specs.Table.{walk-more}
 use Rattle.levels.specs.Below.{contentBelow}
-use Rattle.wire.specs.Loops.{Passed, passed-none, passed-more}
-use Rattle.records.specs.Runs.{testAt, run-failed, run-more, run-passed}
-use Rattle.model.specs.Tape.{contentCodec, segmentCodec, recordAt}
+use Rattle.wire.specs.Loops.{Passed, passed-none}
+use Rattle.records.specs.Runs.{testAt, run-failed, run-passed}
+use Rattle.model.specs.Tape.{contentCodec}
 use Rattle.levels.proofs.contents_walk.Statement.{statement}
 use Rattle.levels.proofs.contents_walk.Tie as tie
 use Rattle.levels.proofs.contents_walk.Reads as reads
@@ -43,20 +40,61 @@ add-if1 c = omega (arith, c .before .before .before .before .before .before .pre
 
 returns : tie.Need-returns Inv-loop μ-loop
 unfolding contentCodec
-returns c = let start = c .before .before .before .before .before .before .before in let t = start .args .tape .now in let st = start .args .st in let level = start .args .level in let at = start .args .at in run-failed contentCodec (contentBelow t st level) t at (c .before .before .before .loop .k) _ refl _ refl _ (c .before .before .loop-test .taken) (c .before .content-step .ensures .stuck (c .if1 .taken))
+returns c =
+    let start = c .before .before .before .before .before .before .before in
+    let loop = c .before .before .before .loop in
+    let loop-test = c .before .before .loop-test in
+    let t = start .args .tape .now in
+    let st = start .args .st in
+    let level = start .args .level in
+    let at = start .args .at in
+    run-failed contentCodec (contentBelow t st level) t at (loop .k) _ refl _ refl _ (loop-test .taken) (c .before .content-step .ensures .stuck (c .if1 .taken))
 
 sub-k : tie.Need-sub-k Inv-loop μ-loop
 sub-k c = omega (arith, c .before .content-step .ensures .on)
 
 loop-less : tie.Need-loop-less Inv-loop μ-loop
-loop-less c = let s = c .before .content-step .ensures in omega (arith, s .on, s .far, c .if1 .left, c .before .before .loop-test .taken)
+loop-less c =
+    let loop-test = c .before .before .loop-test in
+    let s = c .before .content-step .ensures in
+    omega (arith, s .on, s .far, c .if1 .left, c .before .before .loop-test .taken)
 
 loop-again : tie.Need-loop-again Inv-loop μ-loop
 unfolding testAt contentCodec
-loop-again c = let start = c .before .before .before .before .before .before .before in let t = start .args .tape .now in let st = start .args .st in let level = start .args .level in let at = start .args .at in let s = c .before .content-step .ensures in (omega (arith, s .on, s .far), walk-more (testAt contentCodec (contentBelow t st level) t at) s (start .pre .1 .1) refl (c .before .before .before .loop .inv .1))
+loop-again c =
+    let start = c .before .before .before .before .before .before .before in
+    let loop = c .before .before .before .loop in
+    let t = start .args .tape .now in
+    let st = start .args .st in
+    let level = start .args .level in
+    let at = start .args .at in
+    let s = c .before .content-step .ensures in
+    (omega (arith, s .on, s .far), walk-more (testAt contentCodec (contentBelow t st level) t at) s (start .pre .1 .1) refl (loop .inv .1))
 
 returns-2 : tie.Need-returns-2 Inv-loop μ-loop
-returns-2 c = let start = c .before .before .before .before .before in let t = start .args .tape .now in let st = start .args .st in let level = start .args .level in let at = start .args .at in run-passed contentCodec (contentBelow t st level) t at _ (c .before .loop .k) (omega arith) (c .before .loop .inv .1)
+returns-2 c =
+    let start = c .before .before .before .before .before in
+    let t = start .args .tape .now in
+    let st = start .args .st in
+    let level = start .args .level in
+    let at = start .args .at in
+    run-passed contentCodec (contentBelow t st level) t at _ (c .before .loop .k) (omega arith) (c .before .loop .inv .1)
 
 pub contents-walk-spec : {M : Type 1} → statement M
-contents-walk-spec = tie.close (tie.spec Inv-loop μ-loop loop-holds mul-content-step add-content-step add-content-step-2 add-content-step-3 content-step-requires add-if1 returns sub-k loop-less loop-again returns-2)
+contents-walk-spec =
+    tie.close
+    (tie.spec
+    Inv-loop
+    μ-loop
+    loop-holds
+    mul-content-step
+    add-content-step
+    add-content-step-2
+    add-content-step-3
+    content-step-requires
+    add-if1
+    returns
+    sub-k
+    loop-less
+    loop-again
+    returns-2)

@@ -1,9 +1,6 @@
-use mathlib.Core.Path.{_≡_, refl, sym, ap, ap₂, _∙_}
-use mathlib.Core.Bool.{true, false, false≢true}
-use Prim.Native.Nat.{ℕ, _+_, _-_, _*_, _/_, _≤_, _<_}
+use mathlib.Core.Path.{_≡_}
+use Prim.Native.Nat.{_-_, _≤_}
 use native.Mathlib.Omega.{arith}
-use borrow.Author.Tests.{not-true, not-false}
-use borrow.Author.Needs.{needs}
 use Rattle.levels.specs.Table.{Greatest, greatest-none, greatest-more}
 use Rattle.levels.proofs.greatest.Statement.{statement}
 use Rattle.levels.proofs.greatest.Tie as tie
@@ -41,4 +38,16 @@ returns : tie.Need-returns Inv-loop μ-loop
 returns c = let e : c .before .loop .i ≡ 16 = omega arith in rw e at (c .before .loop .inv .1)
 
 pub greatest-spec : {M : Type 1} → statement M
-greatest-spec = tie.close (tie.spec Inv-loop μ-loop loop-holds add-greater shared-slice-read-greater greater-requires add-i loop-less loop-again returns)
+greatest-spec =
+    tie.close
+    (tie.spec
+    Inv-loop
+    μ-loop
+    loop-holds
+    add-greater
+    shared-slice-read-greater
+    greater-requires
+    add-i
+    loop-less
+    loop-again
+    returns)

@@ -1,9 +1,4 @@
-use mathlib.Core.Path.{_≡_, refl, sym, ap, ap₂, _∙_}
-use mathlib.Core.Bool.{true, false, false≢true}
-use Prim.Native.Nat.{ℕ, _+_, _-_, _*_, _/_, _≤_, _<_}
 use native.Mathlib.Omega.{arith}
-use borrow.Author.Tests.{not-true, not-false}
-use borrow.Author.Needs.{needs}
 use Rattle.levels.specs.Table.{skips-none, skips-16, skips-256, skips-4096, skips-65536}
 use Rattle.levels.proofs.known_end.Statement.{statement}
 use Rattle.levels.proofs.known_end.Tie as tie
@@ -35,7 +30,11 @@ add-result : tie.Need-add-result
 add-result c = omega arith
 
 returns-4 : tie.Need-returns-4
-returns-4 c = let start = c .before .before .before .before .before .before in skips-16 (start .pre) (start .args .level) (start .args .i) (c .before .before .before .before .before .if1 .left) (c .before .before .before .before .if2 .left) (c .before .before .if3 .left)
+returns-4 c =
+    let start = c .before .before .before .before .before .before in
+    let if1 = c .before .before .before .before .before .if1 in
+    let if2 = c .before .before .before .before .if2 in
+    skips-16 (start .pre) (start .args .level) (start .args .i) (if1 .left) (if2 .left) (c .before .before .if3 .left)
 
 add-three : tie.Need-add-three
 add-three c = omega arith
@@ -50,7 +49,11 @@ add-result-2 : tie.Need-add-result-2
 add-result-2 c = omega arith
 
 returns-5 : tie.Need-returns-5
-returns-5 c = let start = c .before .before .before .before .before .before .before .before in skips-256 (start .pre) (start .args .level) (start .args .i) (c .before .before .before .before .before .before .before .if1 .left) (c .before .before .before .before .before .before .if2 .left) (c .before .before .if4 .left)
+returns-5 c =
+    let start = c .before .before .before .before .before .before .before .before in
+    let if1 = c .before .before .before .before .before .before .before .if1 in
+    let if2 = c .before .before .before .before .before .before .if2 in
+    skips-256 (start .pre) (start .args .level) (start .args .i) (if1 .left) (if2 .left) (c .before .before .if4 .left)
 
 add-four : tie.Need-add-four
 add-four c = omega arith
@@ -65,7 +68,11 @@ add-result-3 : tie.Need-add-result-3
 add-result-3 c = omega arith
 
 returns-6 : tie.Need-returns-6
-returns-6 c = let start = c .before .before .before .before .before .before .before .before .before .before in skips-4096 (start .pre) (start .args .level) (start .args .i) (c .before .before .before .before .before .before .before .before .before .if1 .left) (c .before .before .before .before .before .before .before .before .if2 .left) (c .before .before .if5 .left)
+returns-6 c =
+    let start = c .before .before .before .before .before .before .before .before .before .before in
+    let if1 = c .before .before .before .before .before .before .before .before .before .if1 in
+    let if2 = c .before .before .before .before .before .before .before .before .if2 in
+    skips-4096 (start .pre) (start .args .level) (start .args .i) (if1 .left) (if2 .left) (c .before .before .if5 .left)
 
 mul-result-4 : tie.Need-mul-result-4
 mul-result-4 c = omega arith
@@ -74,7 +81,35 @@ add-result-4 : tie.Need-add-result-4
 add-result-4 c = omega arith
 
 returns-7 : tie.Need-returns-7
-returns-7 c = let start = c .before .before .before .before .before .before .before .before .before .before in skips-65536 (start .pre) (start .args .level) (start .args .i) (c .before .before .before .before .before .before .before .before .before .if1 .left) (c .before .before .before .before .before .before .before .before .if2 .left) (c .if6 .left)
+returns-7 c =
+    let start = c .before .before .before .before .before .before .before .before .before .before in
+    let if1 = c .before .before .before .before .before .before .before .before .before .if1 in
+    let if2 = c .before .before .before .before .before .before .before .before .if2 in
+    skips-65536 (start .pre) (start .args .level) (start .args .i) (if1 .left) (if2 .left) (c .if6 .left)
 
 pub known-end-spec : {M : Type 1} → statement M
-known-end-spec = tie.close (tie.spec returns returns-2 shared-slice-read-if3 returns-3 add-two shared-slice-read-if4 mul-result add-result returns-4 add-three shared-slice-read-if5 mul-result-2 add-result-2 returns-5 add-four shared-slice-read-if6 mul-result-3 add-result-3 returns-6 mul-result-4 add-result-4 returns-7)
+known-end-spec =
+    tie.close
+    (tie.spec
+    returns
+    returns-2
+    shared-slice-read-if3
+    returns-3
+    add-two
+    shared-slice-read-if4
+    mul-result
+    add-result
+    returns-4
+    add-three
+    shared-slice-read-if5
+    mul-result-2
+    add-result-2
+    returns-5
+    add-four
+    shared-slice-read-if6
+    mul-result-3
+    add-result-3
+    returns-6
+    mul-result-4
+    add-result-4
+    returns-7)

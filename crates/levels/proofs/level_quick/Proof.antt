@@ -1,10 +1,8 @@
-use mathlib.Core.Path.{_≡_, refl, sym, ap, ap₂, _∙_}
+use mathlib.Core.Path.{sym, _∙_}
 use mathlib.Core.Bool.{true, false, false≢true}
-use Prim.Native.Nat.{ℕ, _+_, _-_, _*_, _/_, _≤_, _<_}
 use native.Mathlib.Omega.{arith}
-use borrow.Author.Tests.{not-true, not-false}
-use borrow.Author.Needs.{needs}
-use Rattle.levels.specs.Below.{level-text, level-low, level-high, level-node}
+use borrow.Author.Tests.{not-false}
+use Rattle.levels.specs.Below.{level-text, level-node}
 use Rattle.levels.proofs.level_quick.Statement.{statement}
 use Rattle.levels.proofs.level_quick.Tie as tie
 use Rattle.levels.proofs.level_quick.Reads as reads
@@ -23,13 +21,18 @@ shared-slice-read-if1 : tie.Need-shared-slice-read-if1
 shared-slice-read-if1 c = omega (arith, c .before .before .before .pre .1)
 
 returns : tie.Need-returns
-returns c = let start = c .before .before .before .before in let t = start .args .tape .now in let st = start .args .st in let at = start .args .at in λ e. sym (level-text t st at (c .if1 .taken)) ∙ e
+returns c =
+    let start = c .before .before .before .before in
+    let t = start .args .tape .now in
+    let st = start .args .st in
+    let at = start .args .at in
+    λ e. sym (level-text t st at (c .if1 .taken)) ∙ e
+
+level-in-range-requires : tie.Need-level-in-range-requires
+level-in-range-requires c κs = tt
 
 returns-2 : tie.Need-returns-2
 returns-2 c = λ e. absurd (false≢true e)
-
-returns-3 : tie.Need-returns-3
-returns-3 c = λ e. absurd (false≢true e)
 
 add-body-quick : tie.Need-add-body-quick
 add-body-quick c = omega (arith, c .before .before .before .before .before .before .pre .1)
@@ -37,8 +40,27 @@ add-body-quick c = omega (arith, c .before .before .before .before .before .befo
 body-quick-requires : tie.Need-body-quick-requires
 body-quick-requires c κs = (c .before .before .before .before .before .before .pre .0, omega (arith, c .before .before .before .before .before .before .pre .1))
 
-returns-4 : tie.Need-returns-4
-returns-4 c = let start = c .before .before .before .before .before .before .before in let t = start .args .tape .now in let st = start .args .st in let at = start .args .at in λ e. sym (level-node t st at (c .before .before .before .if1 .left) true (c .before .before .if2 .left) (c .before .if3 .left) (sym (c .body-quick .ensures e)))
+returns-3 : tie.Need-returns-3
+returns-3 c =
+    let start = c .before .before .before .before .before .before .before in
+    let if1 = c .before .before .before .if1 in
+    let level-in-range = c .before .before .level-in-range in
+    let t = start .args .tape .now in
+    let st = start .args .st in
+    let at = start .args .at in
+    λ e. sym (level-node t st at (if1 .left) (level-in-range .ensures) (not-false _ (c .before .if2 .left)) true (sym (c .body-quick .ensures e)))
 
 pub level-quick-spec : {M : Type 1} → statement M
-level-quick-spec = tie.close (tie.spec add-level shared-slice-read-level add-if1 shared-slice-read-if1 returns returns-2 returns-3 add-body-quick body-quick-requires returns-4)
+level-quick-spec =
+    tie.close
+    (tie.spec
+    add-level
+    shared-slice-read-level
+    add-if1
+    shared-slice-read-if1
+    returns
+    level-in-range-requires
+    returns-2
+    add-body-quick
+    body-quick-requires
+    returns-3)

@@ -1,9 +1,6 @@
-use mathlib.Core.Path.{_≡_, refl, sym, ap, ap₂, _∙_}
-use mathlib.Core.Bool.{true, false, false≢true}
-use Prim.Native.Nat.{ℕ, _+_, _-_, _*_, _/_, _≤_, _<_}
+use Prim.Native.Nat.{_-_, _≤_}
 use native.Mathlib.Omega.{arith}
 use borrow.Author.Tests.{not-true, not-false}
-use borrow.Author.Needs.{needs}
 use Rattle.levels.specs.Whole.{Walked, walked-none, walked-inside, walked-fits, walked-failed, walked-more, walked-all}
 use Rattle.levels.proofs.levels_by.Statement.{statement}
 use Rattle.levels.proofs.levels_by.Tie as tie
@@ -23,10 +20,17 @@ next-layer-requires : tie.Need-next-layer-requires Inv-loop μ-loop
 next-layer-requires c κs = walked-inside (c .before .loop .inv .1) (c .before .before .before .before .before .pre .1) (c .loop-test .taken)
 
 run-levels-ok-requires : tie.Need-run-levels-ok-requires Inv-loop μ-loop
-run-levels-ok-requires c κs = (c .before .before .before .before .before .before .pre .0, walked-fits (c .before .before .loop .inv .1) (c .before .before .before .before .before .before .pre .1) (c .before .loop-test .taken) (c .next-layer .ensures) (c .before .before .before .before .before .before .pre .0 .segments .fit))
+run-levels-ok-requires c κs =
+    let start = c .before .before .before .before .before .before in
+    (start .pre .0, walked-fits (c .before .before .loop .inv .1) (start .pre .1) (c .before .loop-test .taken) (c .next-layer .ensures) (start .pre .0 .segments .fit))
 
 returns : tie.Need-returns Inv-loop μ-loop
-returns c = walked-failed (c .before .before .before .before .loop .inv .1) (c .before .before .before .before .before .before .before .before .pre .1) (c .before .before .before .loop-test .taken) (c .before .before .next-layer .ensures) (c .before .run-levels-ok .ensures) (not-true _ (c .if1 .taken))
+returns c =
+    let start = c .before .before .before .before .before .before .before .before in
+    let loop = c .before .before .before .before .loop in
+    let loop-test = c .before .before .before .loop-test in
+    let next-layer = c .before .before .next-layer in
+    walked-failed (loop .inv .1) (start .pre .1) (loop-test .taken) (next-layer .ensures) (c .before .run-levels-ok .ensures) (not-true _ (c .if1 .taken))
 
 add-i : tie.Need-add-i Inv-loop μ-loop
 add-i c = omega arith
@@ -35,10 +39,27 @@ loop-less : tie.Need-loop-less Inv-loop μ-loop
 loop-less c = omega arith
 
 loop-again : tie.Need-loop-again Inv-loop μ-loop
-loop-again c = (omega arith, walked-more (c .before .before .before .before .loop .inv .1) (c .before .before .before .before .before .before .before .before .pre .1) (c .before .before .before .loop-test .taken) (c .before .before .next-layer .ensures) (c .before .run-levels-ok .ensures) (not-false _ (c .if1 .left)))
+loop-again c =
+    let start = c .before .before .before .before .before .before .before .before in
+    let loop = c .before .before .before .before .loop in
+    let loop-test = c .before .before .before .loop-test in
+    let next-layer = c .before .before .next-layer in
+    (omega arith, walked-more (loop .inv .1) (start .pre .1) (loop-test .taken) (next-layer .ensures) (c .before .run-levels-ok .ensures) (not-false _ (c .if1 .left)))
 
 returns-2 : tie.Need-returns-2 Inv-loop μ-loop
 returns-2 c = walked-all (c .before .loop .inv .1) (c .before .before .before .before .before .pre .1) (c .loop-test .left)
 
 pub levels-by-spec : {M : Type 1} → statement M
-levels-by-spec = tie.close (tie.spec Inv-loop μ-loop loop-holds next-layer-requires run-levels-ok-requires returns add-i loop-less loop-again returns-2)
+levels-by-spec =
+    tie.close
+    (tie.spec
+    Inv-loop
+    μ-loop
+    loop-holds
+    next-layer-requires
+    run-levels-ok-requires
+    returns
+    add-i
+    loop-less
+    loop-again
+    returns-2)

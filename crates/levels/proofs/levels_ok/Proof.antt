@@ -1,9 +1,4 @@
-use mathlib.Core.Path.{_≡_, refl, sym, ap, ap₂, _∙_}
-use mathlib.Core.Bool.{true, false, false≢true}
-use Prim.Native.Nat.{ℕ, _+_, _-_, _*_, _/_, _≤_, _<_}
-use native.Mathlib.Omega.{arith}
-use borrow.Author.Tests.{not-true, not-false}
-use borrow.Author.Needs.{needs}
+use mathlib.Core.Path.{sym}
 use Rattle.levels.proofs.levels_ok.Statement.{statement}
 use Rattle.levels.proofs.levels_ok.Tie as tie
 use Rattle.levels.proofs.levels_ok.Reads as reads

@@ -1,8 +1,4 @@
-use mathlib.Core.Path.{_≡_, refl, sym, ap, ap₂, _∙_}
-use mathlib.Core.Bool.{true, false, false≢true}
-use Prim.Native.Nat.{ℕ, _+_, _-_, _*_, _/_, _≤_, _<_}
-use native.Mathlib.Omega.{arith}
-use borrow.Author.Tests.{not-true, not-false}
+use Prim.Native.Nat.{ℕ}
 use borrow.Author.Needs.{needs}
 use Rattle.levels.specs.Table.{tops-made, tables-made}
 use lib.ListN.{length-replicate}
@@ -30,7 +26,12 @@ slice-aggregate-put-heights-2 : tie.Need-slice-aggregate-put-heights-2
 slice-aggregate-put-heights-2 c = search needs
 
 put-heights-requires : tie.Need-put-heights-requires
-put-heights-requires c κs = let made = tops-made (c .before .before .before .before .before .before .before .before .before .pre .0) (c .before .before .before .before .before .before .put-tops .ensures) (c .before .before .before .put-uppers .ensures .0) (c .before .before .before .put-uppers .ensures .1) in (made, length-replicate {A = ℕ} 69904 0)
+put-heights-requires c κs =
+    let start = c .before .before .before .before .before .before .before .before .before in
+    let put-tops = c .before .before .before .before .before .before .put-tops in
+    let put-uppers = c .before .before .before .put-uppers in
+    let made = tops-made (start .pre .0) (put-tops .ensures) (put-uppers .ensures .0) (put-uppers .ensures .1) in
+    (made, length-replicate {A = ℕ} 69904 0)
 
 slice-aggregate-put-uppers-2 : tie.Need-slice-aggregate-put-uppers-2
 slice-aggregate-put-uppers-2 c = search needs
@@ -45,10 +46,32 @@ slice-aggregate-levels-by-2 : tie.Need-slice-aggregate-levels-by-2
 slice-aggregate-levels-by-2 c = search needs
 
 levels-by-requires : tie.Need-levels-by-requires
-levels-by-requires c κs = let made = tops-made (c .before .before .before .before .before .before .before .before .before .before .before .before .before .before .before .before .pre .0) (c .before .before .before .before .before .before .before .before .before .before .before .before .before .put-tops .ensures) (c .before .before .before .before .before .before .before .before .before .before .put-uppers .ensures .0) (c .before .before .before .before .before .before .before .before .before .before .put-uppers .ensures .1) in (tables-made made (c .before .before .before .before .before .before .put-heights .ensures) (c .before .before .before .put-uppers2 .ensures .0) (c .before .before .before .put-uppers2 .ensures .1), c .before .before .before .before .before .before .before .before .before .before .before .before .before .before .before .before .pre .1)
+levels-by-requires c κs =
+    let start = c .before .before .before .before .before .before .before .before .before .before .before .before .before .before .before .before in
+    let put-tops = c .before .before .before .before .before .before .before .before .before .before .before .before .before .put-tops in
+    let put-uppers = c .before .before .before .before .before .before .before .before .before .before .put-uppers in
+    let put-heights = c .before .before .before .before .before .before .put-heights in
+    let put-uppers2 = c .before .before .before .put-uppers2 in
+    let made = tops-made (start .pre .0) (put-tops .ensures) (put-uppers .ensures .0) (put-uppers .ensures .1) in
+    (tables-made made (put-heights .ensures) (put-uppers2 .ensures .0) (put-uppers2 .ensures .1), start .pre .1)
 
 returns : tie.Need-returns
 returns c = c .levels-by .ensures
 
 pub levels-tabled-spec : {M : Type 1} → statement M
-levels-tabled-spec = tie.close (tie.spec slice-aggregate-put-tops put-tops-requires slice-aggregate-put-uppers put-uppers-requires slice-aggregate-put-heights slice-aggregate-put-heights-2 put-heights-requires slice-aggregate-put-uppers-2 put-uppers-requires-2 slice-aggregate-levels-by slice-aggregate-levels-by-2 levels-by-requires returns)
+levels-tabled-spec =
+    tie.close
+    (tie.spec
+    slice-aggregate-put-tops
+    put-tops-requires
+    slice-aggregate-put-uppers
+    put-uppers-requires
+    slice-aggregate-put-heights
+    slice-aggregate-put-heights-2
+    put-heights-requires
+    slice-aggregate-put-uppers-2
+    put-uppers-requires-2
+    slice-aggregate-levels-by
+    slice-aggregate-levels-by-2
+    levels-by-requires
+    returns)

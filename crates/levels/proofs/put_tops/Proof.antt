@@ -1,9 +1,6 @@
-use mathlib.Core.Path.{_≡_, refl, sym, ap, ap₂, _∙_}
-use mathlib.Core.Bool.{true, false, false≢true}
-use Prim.Native.Nat.{ℕ, _+_, _-_, _*_, _/_, _≤_, _<_}
+use mathlib.Core.Path.{_≡_, refl}
+use Prim.Native.Nat.{_-_, _≤_}
 use native.Mathlib.Omega.{arith}
-use borrow.Author.Tests.{not-true, not-false}
-use borrow.Author.Needs.{needs}
 use Rattle.levels.specs.Table.{Filled, segmentTest, filled-none, filled-more, filled-all}
 use lib.ListN.{length, length-set}
 use Rattle.levels.proofs.put_tops.Statement.{statement}
@@ -45,7 +42,10 @@ loop-less : tie.Need-loop-less Inv-loop μ-loop
 loop-less c = omega arith
 
 loop-again : tie.Need-loop-again Inv-loop μ-loop
-loop-again c = (omega arith, simp length-set (c .before .before .before .loop .inv .1), filled-more (c .before .before .before .loop .inv .2) (c .before .before .loop-test .taken) _ (c .top-of .ensures))
+loop-again c =
+    let loop = c .before .before .before .loop in
+    let loop-test = c .before .before .loop-test in
+    (omega arith, simp length-set (loop .inv .1), filled-more (loop .inv .2) (loop-test .taken) _ (c .top-of .ensures))
 
 same-length-2 : tie.Need-same-length-2 Inv-loop μ-loop
 same-length-2 c = c .before .loop .inv .1
@@ -54,4 +54,20 @@ returns-2 : tie.Need-returns-2 Inv-loop μ-loop
 returns-2 c = let e : c .before .loop .k ≡ 65536 = omega arith in rw e at (c .before .loop .inv .2)
 
 pub put-tops-spec : {M : Type 1} → statement M
-put-tops-spec = tie.close (tie.spec Inv-loop μ-loop cast-total loop-holds mul-if1 same-length returns top-of-requires slice-write-tops add-k loop-less loop-again same-length-2 returns-2)
+put-tops-spec =
+    tie.close
+    (tie.spec
+    Inv-loop
+    μ-loop
+    cast-total
+    loop-holds
+    mul-if1
+    same-length
+    returns
+    top-of-requires
+    slice-write-tops
+    add-k
+    loop-less
+    loop-again
+    same-length-2
+    returns-2)

@@ -1,9 +1,6 @@
-use mathlib.Core.Path.{_≡_, refl, sym, ap, ap₂, _∙_}
-use mathlib.Core.Bool.{true, false, false≢true}
-use Prim.Native.Nat.{ℕ, _+_, _-_, _*_, _/_, _≤_, _<_}
+use mathlib.Core.Path.{_≡_, sym, _∙_}
+use Prim.Native.Nat.{_-_, _≤_}
 use native.Mathlib.Omega.{arith}
-use borrow.Author.Tests.{not-true, not-false}
-use borrow.Author.Needs.{needs}
 use Rattle.levels.specs.Table.{Risen, Kept, risen-none, risen-more, kept-all, kept-set}
 use Rattle.levels.proofs.put_uppers.Statement.{statement}
 use Rattle.levels.proofs.put_uppers.Tie as tie
@@ -38,13 +35,32 @@ loop-less : tie.Need-loop-less Inv-loop μ-loop
 loop-less c = omega arith
 
 loop-again : tie.Need-loop-again Inv-loop μ-loop
-loop-again c = (omega arith, omega arith, risen-more (c .before .before .before .loop .inv .2) (c .before .before .before .loop .inv .0) (c .before .before .loop-test .taken) _ (c .greatest .ensures), kept-set (c .before .before .before .loop .inv .3) _ _ (c .before .before .before .loop .inv .0))
+loop-again c =
+    let loop = c .before .before .before .loop in
+    let loop-test = c .before .before .loop-test in
+    (omega arith, omega arith, risen-more (loop .inv .2) (loop .inv .0) (loop-test .taken) _ (c .greatest .ensures), kept-set (loop .inv .3) _ _ (loop .inv .0))
 
 same-length : tie.Need-same-length Inv-loop μ-loop
 same-length c = c .before .loop .inv .2 .size ∙ sym (c .before .before .before .pre)
 
 returns : tie.Need-returns Inv-loop μ-loop
-returns c = let e : c .before .loop .k ≡ 69904 = omega arith in (rw e at (c .before .loop .inv .2), c .before .loop .inv .3)
+returns c =
+    let e : c .before .loop .k ≡ 69904 = omega arith in
+    (rw e at (c .before .loop .inv .2), c .before .loop .inv .3)
 
 pub put-uppers-spec : {M : Type 1} → statement M
-put-uppers-spec = tie.close (tie.spec Inv-loop μ-loop loop-holds sub-greatest mul-greatest greatest-requires slice-write-table add-k loop-less loop-again same-length returns)
+put-uppers-spec =
+    tie.close
+    (tie.spec
+    Inv-loop
+    μ-loop
+    loop-holds
+    sub-greatest
+    mul-greatest
+    greatest-requires
+    slice-write-table
+    add-k
+    loop-less
+    loop-again
+    same-length
+    returns)

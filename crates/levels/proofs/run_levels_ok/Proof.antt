@@ -1,13 +1,11 @@
-use mathlib.Core.Path.{_≡_, refl, sym, ap, ap₂, _∙_}
-use mathlib.Core.Bool.{true, false, false≢true}
-use Prim.Native.Nat.{ℕ, _+_, _-_, _*_, _/_, _≤_, _<_}
+use mathlib.Core.Path.{refl}
+use Prim.Native.Nat.{_-_, _≤_}
 use native.Mathlib.Omega.{arith}
 use borrow.Author.Tests.{not-true, not-false}
-use borrow.Author.Needs.{needs}
 use Rattle.levels.specs.Below.{levelIn}
-use Rattle.wire.specs.Loops.{Passed, passed-none, passed-more}
+use Rattle.wire.specs.Loops.{Passed, passed-none}
 use Rattle.records.specs.Runs.{testAt, run-failed, run-more, run-passed}
-use Rattle.model.specs.Tape.{contentCodec, segmentCodec, recordAt}
+use Rattle.model.specs.Tape.{segmentCodec}
 use Rattle.levels.proofs.run_levels_ok.Statement.{statement}
 use Rattle.levels.proofs.run_levels_ok.Tie as tie
 use Rattle.levels.proofs.run_levels_ok.Reads as reads
@@ -33,7 +31,14 @@ level-ok-requires c κs = (c .before .before .before .before .before .pre .0, om
 
 returns : tie.Need-returns Inv-loop μ-loop
 unfolding segmentCodec
-returns c = let start = c .before .before .before .before .before .before .before in let t = start .args .tape .now in let st = start .args .st in let at = start .args .at in run-failed segmentCodec (levelIn t st) t at (c .before .before .before .loop .i) _ refl _ (c .before .level-ok .ensures) _ (c .before .before .loop-test .taken) (not-true _ (c .if1 .taken))
+returns c =
+    let start = c .before .before .before .before .before .before .before in
+    let loop = c .before .before .before .loop in
+    let loop-test = c .before .before .loop-test in
+    let t = start .args .tape .now in
+    let st = start .args .st in
+    let at = start .args .at in
+    run-failed segmentCodec (levelIn t st) t at (loop .i) _ refl _ (c .before .level-ok .ensures) _ (loop-test .taken) (not-true _ (c .if1 .taken))
 
 add-i : tie.Need-add-i Inv-loop μ-loop
 add-i c = omega arith
@@ -43,10 +48,34 @@ loop-less c = omega arith
 
 loop-again : tie.Need-loop-again Inv-loop μ-loop
 unfolding segmentCodec
-loop-again c = let start = c .before .before .before .before .before .before .before in let t = start .args .tape .now in let st = start .args .st in let at = start .args .at in (omega arith, run-more segmentCodec (levelIn t st) t at (c .before .before .before .loop .i) _ refl _ (c .before .level-ok .ensures) (not-false _ (c .if1 .left)) (c .before .before .before .loop .inv .1))
+loop-again c =
+    let start = c .before .before .before .before .before .before .before in
+    let loop = c .before .before .before .loop in
+    let t = start .args .tape .now in
+    let st = start .args .st in
+    let at = start .args .at in
+    (omega arith, run-more segmentCodec (levelIn t st) t at (loop .i) _ refl _ (c .before .level-ok .ensures) (not-false _ (c .if1 .left)) (loop .inv .1))
 
 returns-2 : tie.Need-returns-2 Inv-loop μ-loop
-returns-2 c = let start = c .before .before .before .before .before in let t = start .args .tape .now in let st = start .args .st in let at = start .args .at in run-passed segmentCodec (levelIn t st) t at _ (c .before .loop .i) (omega arith) (c .before .loop .inv .1)
+returns-2 c =
+    let start = c .before .before .before .before .before in
+    let t = start .args .tape .now in
+    let st = start .args .st in
+    let at = start .args .at in
+    run-passed segmentCodec (levelIn t st) t at _ (c .before .loop .i) (omega arith) (c .before .loop .inv .1)
 
 pub run-levels-ok-spec : {M : Type 1} → statement M
-run-levels-ok-spec = tie.close (tie.spec Inv-loop μ-loop loop-holds mul-level-ok add-level-ok level-ok-requires returns add-i loop-less loop-again returns-2)
+run-levels-ok-spec =
+    tie.close
+    (tie.spec
+    Inv-loop
+    μ-loop
+    loop-holds
+    mul-level-ok
+    add-level-ok
+    level-ok-requires
+    returns
+    add-i
+    loop-less
+    loop-again
+    returns-2)

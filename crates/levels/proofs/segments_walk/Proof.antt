@@ -1,14 +1,11 @@
-use mathlib.Core.Path.{_≡_, refl, sym, ap, ap₂, _∙_}
-use mathlib.Core.Bool.{true, false, false≢true}
-use Prim.Native.Nat.{ℕ, _+_, _-_, _*_, _/_, _≤_, _<_}
+use mathlib.Core.Path.{refl}
+use Prim.Native.Nat.{_-_, _≤_}
 use native.Mathlib.Omega.{arith}
-use borrow.Author.Tests.{not-true, not-false}
-use borrow.Author.Needs.{needs}
 use Rattle.levels.specs.Table.{walk-more}
 use Rattle.levels.specs.Below.{below}
-use Rattle.wire.specs.Loops.{Passed, passed-none, passed-more}
-use Rattle.records.specs.Runs.{testAt, run-failed, run-more, run-passed}
-use Rattle.model.specs.Tape.{contentCodec, segmentCodec, recordAt}
+use Rattle.wire.specs.Loops.{Passed, passed-none}
+use Rattle.records.specs.Runs.{testAt, run-failed, run-passed}
+use Rattle.model.specs.Tape.{segmentCodec}
 use Rattle.levels.proofs.segments_walk.Statement.{statement}
 use Rattle.levels.proofs.segments_walk.Tie as tie
 use Rattle.levels.proofs.segments_walk.Reads as reads
@@ -43,20 +40,58 @@ add-if1 c = omega (arith, c .before .before .before .before .before .pre .1 .0)
 
 returns : tie.Need-returns Inv-loop μ-loop
 unfolding segmentCodec
-returns c = let start = c .before .before .before .before .before .before in let t = start .args .tape .now in let level = start .args .level in let at = start .args .at in run-failed segmentCodec (below level) t at (c .before .before .before .loop .k) _ refl _ refl _ (c .before .before .loop-test .taken) (c .before .segment-step .ensures .stuck (c .if1 .taken))
+returns c =
+    let start = c .before .before .before .before .before .before in
+    let loop = c .before .before .before .loop in
+    let loop-test = c .before .before .loop-test in
+    let t = start .args .tape .now in
+    let level = start .args .level in
+    let at = start .args .at in
+    run-failed segmentCodec (below level) t at (loop .k) _ refl _ refl _ (loop-test .taken) (c .before .segment-step .ensures .stuck (c .if1 .taken))
 
 sub-k : tie.Need-sub-k Inv-loop μ-loop
 sub-k c = omega (arith, c .before .segment-step .ensures .on)
 
 loop-less : tie.Need-loop-less Inv-loop μ-loop
-loop-less c = let s = c .before .segment-step .ensures in omega (arith, s .on, s .far, c .if1 .left, c .before .before .loop-test .taken)
+loop-less c =
+    let loop-test = c .before .before .loop-test in
+    let s = c .before .segment-step .ensures in
+    omega (arith, s .on, s .far, c .if1 .left, c .before .before .loop-test .taken)
 
 loop-again : tie.Need-loop-again Inv-loop μ-loop
 unfolding testAt segmentCodec
-loop-again c = let start = c .before .before .before .before .before .before in let t = start .args .tape .now in let level = start .args .level in let at = start .args .at in let s = c .before .segment-step .ensures in (omega (arith, s .on, s .far), walk-more (testAt segmentCodec (below level) t at) s (start .pre .1 .1) refl (c .before .before .before .loop .inv .1))
+loop-again c =
+    let start = c .before .before .before .before .before .before in
+    let loop = c .before .before .before .loop in
+    let t = start .args .tape .now in
+    let level = start .args .level in
+    let at = start .args .at in
+    let s = c .before .segment-step .ensures in
+    (omega (arith, s .on, s .far), walk-more (testAt segmentCodec (below level) t at) s (start .pre .1 .1) refl (loop .inv .1))
 
 returns-2 : tie.Need-returns-2 Inv-loop μ-loop
-returns-2 c = let start = c .before .before .before .before in let t = start .args .tape .now in let level = start .args .level in let at = start .args .at in run-passed segmentCodec (below level) t at _ (c .before .loop .k) (omega arith) (c .before .loop .inv .1)
+returns-2 c =
+    let start = c .before .before .before .before in
+    let t = start .args .tape .now in
+    let level = start .args .level in
+    let at = start .args .at in
+    run-passed segmentCodec (below level) t at _ (c .before .loop .k) (omega arith) (c .before .loop .inv .1)
 
 pub segments-walk-spec : {M : Type 1} → statement M
-segments-walk-spec = tie.close (tie.spec Inv-loop μ-loop loop-holds mul-segment-step add-segment-step add-segment-step-2 add-segment-step-3 segment-step-requires add-if1 returns sub-k loop-less loop-again returns-2)
+segments-walk-spec =
+    tie.close
+    (tie.spec
+    Inv-loop
+    μ-loop
+    loop-holds
+    mul-segment-step
+    add-segment-step
+    add-segment-step-2
+    add-segment-step-3
+    segment-step-requires
+    add-if1
+    returns
+    sub-k
+    loop-less
+    loop-again
+    returns-2)

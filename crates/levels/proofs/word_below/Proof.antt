@@ -1,8 +1,5 @@
-use mathlib.Core.Path.{_≡_, refl, sym, ap, ap₂, _∙_}
-use mathlib.Core.Bool.{true, false, false≢true}
-use Prim.Native.Nat.{ℕ, _+_, _-_, _*_, _/_, _≤_, _<_}
-use native.Mathlib.Omega.{arith}
-use borrow.Author.Tests.{not-true, not-false}
+use mathlib.Core.Path.{ap₂, _∙_}
+use Prim.Native.Nat.{ℕ}
 use borrow.Author.Needs.{needs}
 use Rattle.levels.specs.Below.{usedBelow}
 use Rattle.levels.proofs.word_below.Statement.{statement}
@@ -20,7 +17,14 @@ used-below-requires : tie.Need-used-below-requires
 used-below-requires c κs = c .before .before .before .before .before .pre .0
 
 returns : tie.Need-returns
-returns c = let start = c .before .before .before .before .before .before in let t = start .args .tape .now in let st = start .args .st in let level = start .args .level in let both = ap₂ (λ (w next : ℕ). usedBelow t st level (start .args .usage) w next) (c .before .before .body-word .ensures) (c .before .next-word .ensures) in c .used-below .ensures ∙ both
+returns c =
+    let start = c .before .before .before .before .before .before in
+    let body-word = c .before .before .body-word in
+    let t = start .args .tape .now in
+    let st = start .args .st in
+    let level = start .args .level in
+    let both = ap₂ (λ (w next : ℕ). usedBelow t st level (start .args .usage) w next) (body-word .ensures) (c .before .next-word .ensures) in
+    c .used-below .ensures ∙ both
 
 pub word-below-spec : {M : Type 1} → statement M
 word-below-spec = tie.close (tie.spec body-word-requires next-word-requires used-below-requires returns)

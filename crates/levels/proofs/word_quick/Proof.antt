@@ -1,8 +1,5 @@
-use mathlib.Core.Path.{_≡_, refl, sym, ap, ap₂, _∙_}
-use mathlib.Core.Bool.{true, false, false≢true}
-use Prim.Native.Nat.{ℕ, _+_, _-_, _*_, _/_, _≤_, _<_}
-use native.Mathlib.Omega.{arith}
-use borrow.Author.Tests.{not-true, not-false}
+use mathlib.Core.Path.{sym, ap₂, _∙_}
+use Prim.Native.Nat.{ℕ}
 use borrow.Author.Needs.{needs}
 use Rattle.levels.specs.Below.{usedBelow}
 use Rattle.levels.proofs.word_quick.Statement.{statement}
@@ -20,7 +17,14 @@ used-quick-requires : tie.Need-used-quick-requires
 used-quick-requires c κs = c .before .before .before .pre .0
 
 returns : tie.Need-returns
-returns c = let start = c .before .before .before .before in let t = start .args .tape .now in let st = start .args .st in let level = start .args .level in let both = ap₂ (λ (w next : ℕ). usedBelow t st level (start .args .usage) w next) (c .before .before .body-word .ensures) (c .before .next-word .ensures) in λ e. sym both ∙ c .used-quick .ensures e
+returns c =
+    let start = c .before .before .before .before in
+    let body-word = c .before .before .body-word in
+    let t = start .args .tape .now in
+    let st = start .args .st in
+    let level = start .args .level in
+    let both = ap₂ (λ (w next : ℕ). usedBelow t st level (start .args .usage) w next) (body-word .ensures) (c .before .next-word .ensures) in
+    λ e. sym both ∙ c .used-quick .ensures e
 
 pub word-quick-spec : {M : Type 1} → statement M
 word-quick-spec = tie.close (tie.spec body-word-requires next-word-requires used-quick-requires returns)
