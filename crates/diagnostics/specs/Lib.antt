@@ -5,3 +5,4 @@ pub mod Exchanged
 pub mod Runs
 pub mod Cutting
 pub mod Merging
+pub mod Taking
