@@ -7,3 +7,4 @@ pub mod Noted
 pub mod Words
 pub mod Pieces
 pub mod Parts
+pub mod Rows

@@ -22,12 +22,9 @@ use Rattle.strings.specs.PlainContent.{plainOf, plainString}
 use Rattle.strings.specs.declared.Plain.{Plain}
 use Rattle.strings.specs.declared.Plain.the-variants.{Id, Nothing}
 use Rattle.bloom.specs.Filter.{mayContain, inserted, inserted-own, inserted-kept, inserted-front}
+pub use Rattle.sorted_ids.specs.Row.{firstWords}
 use Rattle.dependency.specs.Bases.{isPlain, hasBase, any-snoc}
 use Rattle.dependency.specs.Sound.{SoundNode, firstContents, plain-first}
-
--- `&words[0..base]`, which has the index of the strings
-abbrev pub firstWords : ℕ → List ℕ → List ℕ
-firstWords base words = take (base - 0) words
 
 -- a string inserted; None is not
 unfoldable pub insertedPlain : List ℕ → ℕ → Option (List ℕ) → List ℕ

@@ -65,6 +65,14 @@ module _ (words : List ℕ) (middle : ℕ) (h : middle ≤ length words) (end : 
   pub last-inside : middle ≤ length after
   last-inside = let a = ap length after-is in let b = length-append (take middle words) zs in omega (arith, a, b, length-front)
 
+  pub last-length : length after ≡ length words
+  last-length =
+      let a = ap length after-is in
+      let b = length-append (take middle words) zs in
+      let d = length-drop middle words in
+      let l = length-take-le (end - middle) (drop middle words) (omega (arith, d, e)) in
+      omega (arith, a, b, length-front, n, l, h, e)
+
   pub last-back : lastWords middle after ≡ zs
   last-back =
       let a = length-append (take middle words) zs in

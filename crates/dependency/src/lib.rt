@@ -19,7 +19,10 @@ ghost use Rattle.dependency.specs.Bases.{isPlain, hasBase, amongBases, a
 ghost use Rattle.dependency.specs.Parts.{refersAmong};
 ghost use Rattle.dependency.specs.Asked.{asksAt, countToLast};
 ghost use Rattle.dependency.specs.Sound.{Sound, SoundNode, FirstRange, PlainIn, firstContents};
-ghost use Rattle.dependency.specs.Noted.{firstWords, insertedPlain, notedBy, Noted};
+ghost use Rattle.dependency.specs.Noted.{insertedPlain, notedBy, Noted};
+ghost use Rattle.dependency.specs.Rows.{Told, isOne, isBaseOf, Rowed, amongRow, refersRow};
+ghost use Rattle.sorted_ids.specs.Row.{firstWords, Row, Inserted};
+ghost use lib.Dec.{eqb};
 
 // An Inline Ruby.
 pub fn is_ruby(tape: &[u8], at: usize) -> bool
@@ -171,7 +174,7 @@ pub fn is_ruby_base<'a>(
     false
 }
 
-// The same, with the filter of these bases asked first.
+// The same, with the filter of these bases asked first: 1 if it is, 0 if the filter says that it is not, 2 if that took comparing.
 pub fn is_filtered_base<'a>(
     tape: &[u8],
     st: store::Store,
@@ -182,17 +185,20 @@ pub fn is_filtered_base<'a>(
     at: usize,
     count: usize,
     s: &[u8],
-) -> bool
+) -> u32
     requires { ⌜ Sound (now tape) st (firstWords base (now words)) (now old) (now new) at count ⌝ }
     requires { ⌜ base ≤ length (now words) ⌝ }
     requires { ⌜ Noted (storeIn (now tape) (now old ++ now new)) (recordsAt nodeCodec (now tape) at count) (now words) base ⌝ }
-    ensures { λ r. ⌜ r ≡ any (hasBase (storeIn (now (tape .entry)) (now (old .entry) ++ now (new .entry))) (now (s .entry))) (recordsAt nodeCodec (now (tape .entry)) at count) ⌝ }
+    ensures { λ r. ⌜ eqb r 1 ≡ any (hasBase (storeIn (now (tape .entry)) (now (old .entry) ++ now (new .entry))) (now (s .entry))) (recordsAt nodeCodec (now (tape .entry)) at count) ⌝ }
 {
     let h = hash::fx_hash(s);
     if !bloom::may_contain(words, base, h) {
-        return false;
+        return 0;
     }
-    is_ruby_base(tape, st, &words[0..base], old, new, at, count, s)
+    if is_ruby_base(tape, st, &words[0..base], old, new, at, count, s) {
+        return 1;
+    }
+    2
 }
 
 fn is_target_base<'a>(
@@ -205,12 +211,12 @@ fn is_target_base<'a>(
     at: usize,
     count: usize,
     p: Plain,
-) -> bool
+) -> u32
     requires { ⌜ Sound (now tape) st (firstWords base (now words)) (now old) (now new) at count ⌝ }
     requires { ⌜ base ≤ length (now words) ⌝ }
     requires { ⌜ Noted (storeIn (now tape) (now old ++ now new)) (recordsAt nodeCodec (now tape) at count) (now words) base ⌝ }
     requires { ⌜ PlainIn st p ⌝ }
-    ensures { λ r. ⌜ r ≡ amongBases (storeIn (now (tape .entry)) (now (old .entry) ++ now (new .entry))) (recordsAt nodeCodec (now (tape .entry)) at count) (plainString (storeIn (now (tape .entry)) (now (old .entry) ++ now (new .entry))) p) ⌝ }
+    ensures { λ r. ⌜ eqb r 1 ≡ amongBases (storeIn (now (tape .entry)) (now (old .entry) ++ now (new .entry))) (recordsAt nodeCodec (now (tape .entry)) at count) (plainString (storeIn (now (tape .entry)) (now (old .entry) ++ now (new .entry))) p) ⌝ }
 {
     match p {
         Plain::Id(id) => {
@@ -218,7 +224,7 @@ fn is_target_base<'a>(
             return is_filtered_base(tape, st, words, base, old, new, at, count, s);
         }
         Plain::Nothing => {
-            return false;
+            return 0;
         }
     }
 }
@@ -244,15 +250,15 @@ fn refers_among<'a>(
     i: usize,
     n: usize,
     from: u32,
-) -> bool
+) -> u32
     requires { ⌜ Sound (now tape) st (firstWords base (now words)) (now old) (now new) at (i + 1) ⌝ }
     requires { ⌜ base ≤ length (now words) ⌝ }
     requires { ⌜ Noted (storeIn (now tape) (now old ++ now new)) (recordsAt nodeCodec (now tape) at (min n i)) (now words) base ⌝ }
-    ensures { λ r. ⌜ r ≡ refersAmong (storeIn (now (tape .entry)) (now (old .entry) ++ now (new .entry))) from (now (tape .entry)) at n i ⌝ }
+    ensures { λ r. ⌜ eqb r 1 ≡ refersAmong (storeIn (now (tape .entry)) (now (old .entry) ++ now (new .entry))) from (now (tape .entry)) at n i ⌝ }
 {
     let place = at + 49 * i;
     if !asks_target(tape, place, from) {
-        return false;
+        return 0;
     }
     let p = first_plain(tape, st, place);
     let k = smaller(n, i);
@@ -331,8 +337,180 @@ fn note_first<'a>(
     note_ruby(tape, st, words, base, old, new, at + 49 * i);
 }
 
-// One walk over the nodes; each base among the first n is inserted when it is passed.
+// How many targets were compared in vain, after one more answer.
+pub fn in_vain(vain: u32, answer: u32) -> u32
+    requires { ⌜ vain < 1000 ⌝ }
+    ensures { λ r. ⌜ r ≤ vain + 1 ⌝ }
+{
+    if answer == 2 {
+        return vain + 1;
+    }
+    vain
+}
+
+// One walk over the nodes; each base among the first n is inserted when it is passed. 1 or 0; 2 for not known, where bases crowd the filter
+// so that more than 128 targets were compared in vain.
 fn any_refers_among<'a>(
+    tape: &[u8],
+    st: store::Store,
+    words: &mut [u32],
+    base: usize,
+    old: &'a [u8],
+    new: &'a [u8],
+    at: usize,
+    count: usize,
+    n: usize,
+    from: u32,
+) -> u32
+    requires { ⌜ Sound (now tape) st (firstWords base (now words)) (now old) (now new) at count ⌝ }
+    requires { ⌜ base ≤ length (now words) ⌝ }
+    ensures { λ r. ⌜ Told r (anyUpTo count (refersAmong (storeIn (now (tape .entry)) (now (old .entry) ++ now (new .entry))) from (now (tape .entry)) at n)) × (firstWords base (now (words .exit)) ≡ firstWords base (now (words .entry))) ⌝ }
+{
+    let mut vain = 0;
+    let mut i = 0;
+    while i < count {
+        let r = refers_among(tape, st, words, base, old, new, at, i, n, from);
+        if r == 1 {
+            return 1;
+        }
+        vain = in_vain(vain, r);
+        if 128 < vain {
+            return 2;
+        }
+        note_first(tape, st, words, base, old, new, at, i, n);
+        i += 1;
+    }
+    0
+}
+
+// Is the string of an answer in the row of m ids?
+fn is_plain_in_row<'a>(
+    tape: &[u8],
+    st: store::Store,
+    words: &[u32],
+    base: usize,
+    m: usize,
+    old: &'a [u8],
+    new: &'a [u8],
+    p: Plain,
+) -> bool
+    requires { ⌜ Resolvable (now tape) st (firstWords base (now words)) (now old) (now new) ⌝ }
+    requires { ⌜ base ≤ length (now words) ⌝ }
+    requires { ⌜ Row (storeIn (now tape) (now old ++ now new)) (st .totals .strings) (now words) base m ⌝ }
+    requires { ⌜ PlainIn st p ⌝ }
+    ensures { λ r. ⌜ r ≡ amongRow (storeIn (now (tape .entry)) (now (old .entry) ++ now (new .entry))) (now (words .entry)) base m (plainString (storeIn (now (tape .entry)) (now (old .entry) ++ now (new .entry))) p) ⌝ }
+{
+    match p {
+        Plain::Id(id) => {
+            let s = strings::resolve_str(tape, st, &words[0..base], old, new, id);
+            return sorted_ids::contains(tape, st, words, base, m, old, new, s);
+        }
+        Plain::Nothing => {
+            return false;
+        }
+    }
+}
+
+// Number 10, a node: a Referenced Format that ends behind `from` and whose target is in the row.
+fn refers_to_row<'a>(
+    tape: &[u8],
+    st: store::Store,
+    words: &[u32],
+    base: usize,
+    m: usize,
+    old: &'a [u8],
+    new: &'a [u8],
+    place: usize,
+    from: u32,
+) -> bool
+    requires { ⌜ SoundNode (now tape) st (firstWords base (now words)) (now old) (now new) place ⌝ }
+    requires { ⌜ base ≤ length (now words) ⌝ }
+    requires { ⌜ Row (storeIn (now tape) (now old ++ now new)) (st .totals .strings) (now words) base m ⌝ }
+    ensures { λ r. ⌜ r ≡ refersRow (storeIn (now (tape .entry)) (now (old .entry) ++ now (new .entry))) from (now (words .entry)) base m (recordAt nodeCodec (now (tape .entry)) place) ⌝ }
+{
+    if !asks_target(tape, place, from) {
+        return false;
+    }
+    let p = first_plain(tape, st, place);
+    is_plain_in_row(tape, st, words, base, m, old, new, p)
+}
+
+// The string of an answer, put into the row.
+fn insert_id<'a>(
+    tape: &[u8],
+    st: store::Store,
+    words: &mut [u32],
+    base: usize,
+    m: usize,
+    old: &'a [u8],
+    new: &'a [u8],
+    p: Plain,
+) -> usize
+    requires { ⌜ Resolvable (now tape) st (firstWords base (now words)) (now old) (now new) ⌝ }
+    requires { ⌜ Row (storeIn (now tape) (now old ++ now new)) (st .totals .strings) (now words) base m ⌝ }
+    requires { ⌜ base + m < length (now words) ⌝ }
+    requires { ⌜ PlainIn st p ⌝ }
+    ensures { λ r. ⌜ Inserted (storeIn (now (tape .entry)) (now (old .entry) ++ now (new .entry))) (st .totals .strings) (isOne (plainString (storeIn (now (tape .entry)) (now (old .entry) ++ now (new .entry))) p)) (now (words .entry)) base m (now (words .exit)) r ⌝ }
+{
+    match p {
+        Plain::Id(id) => {
+            return sorted_ids::insert(tape, st, words, base, m, old, new, id);
+        }
+        Plain::Nothing => {
+            return m;
+        }
+    }
+}
+
+// The plain base of a Ruby, put into the row.
+pub fn insert_base<'a>(
+    tape: &[u8],
+    st: store::Store,
+    words: &mut [u32],
+    base: usize,
+    m: usize,
+    old: &'a [u8],
+    new: &'a [u8],
+    at: usize,
+) -> usize
+    requires { ⌜ SoundNode (now tape) st (firstWords base (now words)) (now old) (now new) at ⌝ }
+    requires { ⌜ Row (storeIn (now tape) (now old ++ now new)) (st .totals .strings) (now words) base m ⌝ }
+    requires { ⌜ base + m < length (now words) ⌝ }
+    ensures { λ r. ⌜ Inserted (storeIn (now (tape .entry)) (now (old .entry) ++ now (new .entry))) (st .totals .strings) (isBaseOf (storeIn (now (tape .entry)) (now (old .entry) ++ now (new .entry))) (recordAt nodeCodec (now (tape .entry)) at)) (now (words .entry)) base m (now (words .exit)) r ⌝ }
+{
+    if !is_ruby(tape, at) {
+        return m;
+    }
+    let p = first_plain(tape, st, at);
+    insert_id(tape, st, words, base, m, old, new, p)
+}
+
+// Node i, if it is one of the first n.
+fn insert_first<'a>(
+    tape: &[u8],
+    st: store::Store,
+    words: &mut [u32],
+    base: usize,
+    m: usize,
+    old: &'a [u8],
+    new: &'a [u8],
+    at: usize,
+    i: usize,
+    n: usize,
+) -> usize
+    requires { ⌜ SoundNode (now tape) st (firstWords base (now words)) (now old) (now new) (at + 49 * i) ⌝ }
+    requires { ⌜ Rowed (storeIn (now tape) (now old ++ now new)) (st .totals .strings) (recordsAt nodeCodec (now tape) at (min n i)) (now words) base m ⌝ }
+    requires { ⌜ (m ≤ i) × (base + n ≤ length (now words)) ⌝ }
+    ensures { λ r. ⌜ (firstWords base (now (words .exit)) ≡ firstWords base (now (words .entry))) × (r ≤ i + 1) × Rowed (storeIn (now (tape .entry)) (now (old .entry) ++ now (new .entry))) (st .totals .strings) (recordsAt nodeCodec (now (tape .entry)) at (min n (i + 1))) (now (words .exit)) base r ⌝ }
+{
+    if n <= i {
+        return m;
+    }
+    insert_base(tape, st, words, base, m, old, new, at + 49 * i)
+}
+
+// The same walk with the bases in a row.
+fn any_refers_sorted<'a>(
     tape: &[u8],
     st: store::Store,
     words: &mut [u32],
@@ -345,21 +523,22 @@ fn any_refers_among<'a>(
     from: u32,
 ) -> bool
     requires { ⌜ Sound (now tape) st (firstWords base (now words)) (now old) (now new) at count ⌝ }
-    requires { ⌜ base ≤ length (now words) ⌝ }
+    requires { ⌜ base + n ≤ length (now words) ⌝ }
     ensures { λ r. ⌜ (r ≡ anyUpTo count (refersAmong (storeIn (now (tape .entry)) (now (old .entry) ++ now (new .entry))) from (now (tape .entry)) at n)) × (firstWords base (now (words .exit)) ≡ firstWords base (now (words .entry))) ⌝ }
 {
+    let mut m = 0;
     let mut i = 0;
     while i < count {
-        if refers_among(tape, st, words, base, old, new, at, i, n, from) {
+        if refers_to_row(tape, st, words, base, m, old, new, at + 49 * i, from) {
             return true;
         }
-        note_first(tape, st, words, base, old, new, at, i, n);
+        m = insert_first(tape, st, words, base, m, old, new, at, i, n);
         i += 1;
     }
     false
 }
 
-// The same with a filter that begins as zeros.
+// The same with a filter that begins as zeros, or a row where the filter does not tell.
 fn part_refers<'a>(
     tape: &[u8],
     st: store::Store,
@@ -373,12 +552,16 @@ fn part_refers<'a>(
     from: u32,
 ) -> bool
     requires { ⌜ Sound (now tape) st (firstWords base (now words)) (now old) (now new) at count ⌝ }
-    requires { ⌜ base ≤ length (now words) ⌝ }
+    requires { ⌜ base + n ≤ length (now words) ⌝ }
     ensures { λ r. ⌜ (r ≡ anyUpTo count (refersAmong (storeIn (now (tape .entry)) (now (old .entry) ++ now (new .entry))) from (now (tape .entry)) at n)) × (firstWords base (now (words .exit)) ≡ firstWords base (now (words .entry))) ⌝ }
 {
     let end = words.len();
     wire::zero_words(&mut words[base..end]);
-    any_refers_among(tape, st, words, base, old, new, at, count, n, from)
+    let r = any_refers_among(tape, st, words, base, old, new, at, count, n, from);
+    if r == 2 {
+        return any_refers_sorted(tape, st, words, base, old, new, at, count, n, from);
+    }
+    r == 1
 }
 
 // Number 10 in parts of half as many nodes as the filter has words, a walk from each part on: so a target is seldom compared.
@@ -394,7 +577,7 @@ fn refers_in_parts<'a>(
     from: u32,
 ) -> bool
     requires { ⌜ Sound (now tape) st (firstWords base (now words)) (now old) (now new) at count ⌝ }
-    requires { ⌜ base ≤ length (now words) ⌝ }
+    requires { ⌜ base + 2 ≤ length (now words) ⌝ }
     ensures { λ r. ⌜ r ≡ dependsFrom (storeIn (now (tape .entry)) (now (old .entry) ++ now (new .entry))) from [] (recordsAt nodeCodec (now (tape .entry)) at count) ⌝ }
 {
     let size = (words.len() - base) / 2 + 1;
@@ -420,7 +603,7 @@ fn refers_in_parts<'a>(
     false
 }
 
-// The same by another index, in the first 1024 of other words.
+// The same by another index, in the first 8192 of other words.
 fn refers_by_words<'a>(
     tape: &[u8],
     st: store::Store,
@@ -433,11 +616,11 @@ fn refers_by_words<'a>(
     from: u32,
 ) -> bool
     requires { ⌜ Sound (now tape) st (now index) (now old) (now new) at count ⌝ }
-    requires { ⌜ 1024 ≤ length (now words) ⌝ }
+    requires { ⌜ 8194 ≤ length (now words) ⌝ }
     ensures { λ r. ⌜ r ≡ dependsFrom (storeIn (now (tape .entry)) (now (old .entry) ++ now (new .entry))) from [] (recordsAt nodeCodec (now (tape .entry)) at count) ⌝ }
 {
-    strings::index_strings(tape, st, old.len() + new.len(), &mut words[0..1024]);
-    refers_in_parts(tape, st, words, 1024, old, new, at, count, from)
+    strings::index_strings(tape, st, old.len() + new.len(), &mut words[0..8192]);
+    refers_in_parts(tape, st, words, 8192, old, new, at, count, from)
 }
 
 // The same by an index and a filter of its own, where few words are lent.
@@ -454,12 +637,12 @@ fn refers_by_own<'a>(
     requires { ⌜ Sound (now tape) st (now index) (now old) (now new) at count ⌝ }
     ensures { λ r. ⌜ r ≡ dependsFrom (storeIn (now (tape .entry)) (now (old .entry) ++ now (new .entry))) from [] (recordsAt nodeCodec (now (tape .entry)) at count) ⌝ }
 {
-    let mut own = [0u32; 2048];
+    let mut own = [0u32; 16384];
     refers_by_words(
         tape,
         st,
         index,
-        &mut own[0..2048],
+        &mut own[0..16384],
         old,
         new,
         at,
@@ -489,7 +672,7 @@ pub fn has_ruby_format_dependency<'a>(
     if n == 0 {
         return false;
     }
-    if words.len() - base < 1024 {
+    if words.len() - base < 8192 {
         return refers_by_own(tape, st, &words[0..base], old, new, at, n, from);
     }
     refers_in_parts(tape, st, words, base, old, new, at, n, from)

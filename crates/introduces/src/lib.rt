@@ -143,13 +143,13 @@ fn is_base_of<'a, 'b>(
     front: &'b [u8],
     back: &'b [u8],
     p: Plain,
-) -> bool
+) -> u32
     requires { ⌜ Sound (now tape) st (firstWords base (now words)) (now old) (now new) at count ⌝ }
     requires { ⌜ base ≤ length (now words) ⌝ }
     requires { ⌜ Noted (storeIn (now tape) (now old ++ now new)) (recordsAt nodeCodec (now tape) at count) (now words) base ⌝ }
     requires { ⌜ Resolvable (now reading) own (now index) (now front) (now back) ⌝ }
     requires { ⌜ PlainIn own p ⌝ }
-    ensures { λ r. ⌜ r ≡ amongBases (storeIn (now (tape .entry)) (now (old .entry) ++ now (new .entry))) (recordsAt nodeCodec (now (tape .entry)) at count) (plainString (storeIn (now (reading .entry)) (now (front .entry) ++ now (back .entry))) p) ⌝ }
+    ensures { λ r. ⌜ eqb r 1 ≡ amongBases (storeIn (now (tape .entry)) (now (old .entry) ++ now (new .entry))) (recordsAt nodeCodec (now (tape .entry)) at count) (plainString (storeIn (now (reading .entry)) (now (front .entry) ++ now (back .entry))) p) ⌝ }
 {
     match p {
         Plain::Id(id) => {
@@ -157,7 +157,7 @@ fn is_base_of<'a, 'b>(
             return dependency::is_filtered_base(tape, st, words, base, old, new, at, count, s);
         }
         Plain::Nothing => {
-            return false;
+            return 0;
         }
     }
 }
@@ -178,15 +178,15 @@ fn refers_to<'a, 'b>(
     front: &'b [u8],
     back: &'b [u8],
     place: usize,
-) -> bool
+) -> u32
     requires { ⌜ Sound (now tape) st (firstWords base (now words)) (now old) (now new) at count ⌝ }
     requires { ⌜ base ≤ length (now words) ⌝ }
     requires { ⌜ Noted (storeIn (now tape) (now old ++ now new)) (recordsAt nodeCodec (now tape) at count) (now words) base ⌝ }
     requires { ⌜ SoundNode (now reading) own (now index) (now front) (now back) place ⌝ }
-    ensures { λ r. ⌜ r ≡ refersTo (storeIn (now (tape .entry)) (now (old .entry) ++ now (new .entry))) (recordsAt nodeCodec (now (tape .entry)) at count) (storeIn (now (reading .entry)) (now (front .entry) ++ now (back .entry))) (recordAt nodeCodec (now (reading .entry)) place) ⌝ }
+    ensures { λ r. ⌜ eqb r 1 ≡ refersTo (storeIn (now (tape .entry)) (now (old .entry) ++ now (new .entry))) (recordsAt nodeCodec (now (tape .entry)) at count) (storeIn (now (reading .entry)) (now (front .entry) ++ now (back .entry))) (recordAt nodeCodec (now (reading .entry)) place) ⌝ }
 {
     if !dependency::is_referenced_format(reading, place) {
-        return false;
+        return 0;
     }
     let p = dependency::first_plain(reading, own, place);
     is_base_of(
@@ -223,16 +223,17 @@ fn any_refers_to<'a, 'b>(
     back: &'b [u8],
     place: usize,
     nodes: usize,
-) -> bool
+) -> u32
     requires { ⌜ Sound (now tape) st (firstWords base (now words)) (now old) (now new) at count ⌝ }
     requires { ⌜ base ≤ length (now words) ⌝ }
     requires { ⌜ Noted (storeIn (now tape) (now old ++ now new)) (recordsAt nodeCodec (now tape) at count) (now words) base ⌝ }
     requires { ⌜ Sound (now reading) own (now index) (now front) (now back) place nodes ⌝ }
-    ensures { λ r. ⌜ r ≡ any (refersTo (storeIn (now (tape .entry)) (now (old .entry) ++ now (new .entry))) (recordsAt nodeCodec (now (tape .entry)) at count) (storeIn (now (reading .entry)) (now (front .entry) ++ now (back .entry)))) (recordsAt nodeCodec (now (reading .entry)) place nodes) ⌝ }
+    ensures { λ r. ⌜ Told r (any (refersTo (storeIn (now (tape .entry)) (now (old .entry) ++ now (new .entry))) (recordsAt nodeCodec (now (tape .entry)) at count) (storeIn (now (reading .entry)) (now (front .entry) ++ now (back .entry)))) (recordsAt nodeCodec (now (reading .entry)) place nodes)) ⌝ }
 {
+    let mut vain = 0;
     let mut i = 0;
     while i < nodes {
-        if refers_to(
+        let r = refers_to(
             tape,
             st,
             words,
@@ -241,6 +242,133 @@ fn any_refers_to<'a, 'b>(
             new,
             at,
             count,
+            reading,
+            own,
+            index,
+            front,
+            back,
+            place + 49 * i,
+        );
+        if r == 1 {
+            return 1;
+        }
+        vain = dependency::in_vain(vain, r);
+        if 128 < vain {
+            return 2;
+        }
+        i += 1;
+    }
+    0
+}
+
+// The bases of the Rubies among these nodes in a row. Answers how many there are.
+fn row_of<'a>(
+    tape: &[u8],
+    st: store::Store,
+    words: &mut [u32],
+    base: usize,
+    old: &'a [u8],
+    new: &'a [u8],
+    at: usize,
+    count: usize,
+) -> usize {
+    let mut m = 0;
+    let mut i = 0;
+    while i < count {
+        m = dependency::insert_base(tape, st, words, base, m, old, new, at + 49 * i);
+        i += 1;
+    }
+    m
+}
+
+fn is_in_row<'a, 'b>(
+    tape: &[u8],
+    st: store::Store,
+    words: &[u32],
+    base: usize,
+    m: usize,
+    old: &'a [u8],
+    new: &'a [u8],
+    reading: &[u8],
+    own: store::Store,
+    index: &[u32],
+    front: &'b [u8],
+    back: &'b [u8],
+    p: Plain,
+) -> bool {
+    match p {
+        Plain::Id(id) => {
+            let s = strings::resolve_str(reading, own, index, front, back, id);
+            return sorted_ids::contains(tape, st, words, base, m, old, new, s);
+        }
+        Plain::Nothing => {
+            return false;
+        }
+    }
+}
+
+fn refers_to_row<'a, 'b>(
+    tape: &[u8],
+    st: store::Store,
+    words: &[u32],
+    base: usize,
+    m: usize,
+    old: &'a [u8],
+    new: &'a [u8],
+    reading: &[u8],
+    own: store::Store,
+    index: &[u32],
+    front: &'b [u8],
+    back: &'b [u8],
+    place: usize,
+) -> bool {
+    if !dependency::is_referenced_format(reading, place) {
+        return false;
+    }
+    let p = dependency::first_plain(reading, own, place);
+    is_in_row(
+        tape,
+        st,
+        words,
+        base,
+        m,
+        old,
+        new,
+        reading,
+        own,
+        index,
+        front,
+        back,
+        p,
+    )
+}
+
+fn any_refers_to_row<'a, 'b>(
+    tape: &[u8],
+    st: store::Store,
+    words: &[u32],
+    base: usize,
+    m: usize,
+    old: &'a [u8],
+    new: &'a [u8],
+    reading: &[u8],
+    own: store::Store,
+    index: &[u32],
+    front: &'b [u8],
+    back: &'b [u8],
+    place: usize,
+    nodes: usize,
+) -> bool {
+    let mut i = 0;
+    while i < nodes {
+        if refers_to_row(
+            tape,
+            st,
+            words,
+            base,
+            m,
+            old,
+            new,
             reading,
             own,
             index,
@@ -277,6 +405,48 @@ fn index_both(
     strings::index_strings(reading, own, space, &mut words[middle..end]);
 }
 
+// The same by a row of the bases.
+fn refers_by_row<'a, 'b>(
+    tape: &[u8],
+    st: store::Store,
+    words: &mut [u32],
+    base: usize,
+    middle: usize,
+    old: &'a [u8],
+    new: &'a [u8],
+    at: usize,
+    count: usize,
+    reading: &[u8],
+    own: store::Store,
+    front: &'b [u8],
+    back: &'b [u8],
+    place: usize,
+    nodes: usize,
+) -> bool
+    requires { ⌜ (base ≤ middle) × (middle ≤ length (now words)) ⌝ }
+    requires { ⌜ Sound (now tape) st (firstWords base (firstWords middle (now words))) (now old) (now new) at count ⌝ }
+    requires { ⌜ Sound (now reading) own (lastWords middle (now words)) (now front) (now back) place nodes ⌝ }
+    ensures { λ r. ⌜ (r ≡ any (refersTo (storeIn (now (tape .entry)) (now (old .entry) ++ now (new .entry))) (recordsAt nodeCodec (now (tape .entry)) at count) (storeIn (now (reading .entry)) (now (front .entry) ++ now (back .entry)))) (recordsAt nodeCodec (now (reading .entry)) place nodes)) × KeptIndexes (now (words .entry)) base middle (now (words .exit)) ⌝ }
+{
+    let m = row_of(tape, st, &mut words[0..middle], base, old, new, at, count);
+    any_refers_to_row(
+        tape,
+        st,
+        &words[0..middle],
+        base,
+        m,
+        old,
+        new,
+        reading,
+        own,
+        &words[middle..words.len()],
+        front,
+        back,
+        place,
+        nodes,
+    )
+}
+
 // A Referenced Format of the reading whose target is the base of a Ruby among the old nodes, by words that have both indexes. The indexes
 // are kept.
 fn refers_to_some<'a, 'b>(
@@ -302,7 +472,7 @@ fn refers_to_some<'a, 'b>(
     ensures { λ r. ⌜ (r ≡ any (refersTo (storeIn (now (tape .entry)) (now (old .entry) ++ now (new .entry))) (recordsAt nodeCodec (now (tape .entry)) at count) (storeIn (now (reading .entry)) (now (front .entry) ++ now (back .entry)))) (recordsAt nodeCodec (now (reading .entry)) place nodes)) × KeptIndexes (now (words .entry)) base middle (now (words .exit)) ⌝ }
 {
     note_bases(tape, st, &mut words[0..middle], base, old, new, at, count);
-    any_refers_to(
+    let r = any_refers_to(
         tape,
         st,
         &words[0..middle],
@@ -318,7 +488,27 @@ fn refers_to_some<'a, 'b>(
         back,
         place,
         nodes,
-    )
+    );
+    if r == 2 {
+        return refers_by_row(
+            tape,
+            st,
+            words,
+            base,
+            middle,
+            old,
+            new,
+            at,
+            count,
+            reading,
+            own,
+            front,
+            back,
+            place,
+            nodes,
+        );
+    }
+    r == 1
 }
 
 fn fewer(a: usize, b: usize) -> usize
@@ -353,7 +543,7 @@ fn refers_by_index<'a, 'b>(
     requires { ⌜ Sound (now reading) own (lastWords middle (now words)) (now front) (now back) place nodes ⌝ }
     ensures { λ r. ⌜ r ≡ any (refersTo (storeIn (now (tape .entry)) (now (old .entry) ++ now (new .entry))) (recordsAt nodeCodec (now (tape .entry)) at count) (storeIn (now (reading .entry)) (now (front .entry) ++ now (back .entry)))) (recordsAt nodeCodec (now (reading .entry)) place nodes) ⌝ }
 {
-    let size = middle - base + 1;
+    let size = (middle - base) / 2 + 1;
     let mut i = 0;
     while i < count {
         let n = fewer(size, count - i);
@@ -425,6 +615,48 @@ fn refers_before(
     )
 }
 
+// A Referenced Format of the reading whose target is the base of a Ruby before the region, by words that may hold anything.
+fn refers_by_words(
+    tape: &[u8],
+    bytes: &[u8],
+    p: places::Places,
+    st: store::Store,
+    reading: &[u8],
+    letters: &[u8],
+    q: places::Places,
+    own: store::Store,
+    words: &mut [u32],
+    start: u32,
+) -> bool {
+    let base = words.len() / 3;
+    let middle = base + base;
+    index_both(
+        tape,
+        st,
+        bytes.len(),
+        reading,
+        own,
+        letters.len(),
+        words,
+        base,
+        middle,
+    );
+    refers_before(
+        tape,
+        bytes,
+        p,
+        st,
+        reading,
+        letters,
+        q,
+        own,
+        words,
+        base,
+        middle,
+        start,
+    )
+}
+
 // Number 15. `introduces_ruby_format_dependency` of a book and a reading that passed 1 to 7, with the region from `start` to `end`.
 pub fn introduces_ruby_format_dependency(
     tape: &[u8],
@@ -457,31 +689,20 @@ pub fn introduces_ruby_format_dependency(
     if !any_format_from(reading, q.nodes.at, q.nodes.count, 0) {
         return false;
     }
-    let base = words.len() / 3;
-    let middle = base + base;
-    index_both(
-        tape,
-        st,
-        bytes.len(),
-        reading,
-        own,
-        letters.len(),
-        words,
-        base,
-        middle,
-    );
-    refers_before(
-        tape,
-        bytes,
-        p,
-        st,
-        reading,
-        letters,
-        q,
-        own,
-        words,
-        base,
-        middle,
-        start,
-    )
+    if words.len() < 16384 {
+        let mut lent = [0u32; 16384];
+        return refers_by_words(
+            tape,
+            bytes,
+            p,
+            st,
+            reading,
+            letters,
+            q,
+            own,
+            &mut lent[0..16384],
+            start,
+        );
+    }
+    refers_by_words(tape, bytes, p, st, reading, letters, q, own, words, start)
 }

@@ -1,3 +1,4 @@
+use native.Mathlib.Omega.{arith}
 use Rattle.dependency.specs.Sound.{sound-before}
 use Rattle.dependency.specs.Asked.{asked-inside, asked-depends, asked-none}
 use borrow.Author.Needs.{needs}
@@ -37,7 +38,7 @@ returns-2 : tie.Need-returns-2
 returns-2 c = asked-depends _ _ _ _ (c .before .before .before .before .before .asked-nodes .ensures) _ (c .refers-by-own .ensures)
 
 refers-in-parts-requires : tie.Need-refers-in-parts-requires
-refers-in-parts-requires c κs = (sound-before (c .before .before .before .before .before .before .before .before .pre .0) (asked-inside _ _ _ _ (c .before .before .before .asked-nodes .ensures)), c .before .before .before .before .before .before .before .before .pre .1)
+refers-in-parts-requires c κs = (sound-before (c .before .before .before .before .before .before .before .before .pre .0) (asked-inside _ _ _ _ (c .before .before .before .asked-nodes .ensures)), omega (arith, c .before .before .before .before .before .before .before .before .pre .1, c .before .if2 .left))
 
 same-length-2 : tie.Need-same-length-2
 same-length-2 c = search needs

@@ -1,13 +1,18 @@
 use borrow.Author.Tests.{not-true}
 use Rattle.dependency.specs.Noted.{base-absent}
+use mathlib.Core.Path.{_≡_, refl, sym, ap, _∙_}
+use mathlib.Core.List.{List, [], _∷_, _++_}
+use Prim.Native.Nat.{ℕ, zero, suc, _+_, _-_, _*_, _%_, _/_, _^_, _≤_, _<_}
+use native.Mathlib.Omega.{arith}
+use lib.ListN.{length, getD, take, drop, set, replicate, length-set, length-take, length-drop, length-append, length-replicate}
 use borrow.Author.Needs.{needs}
 use Rattle.dependency.proofs.is_filtered_base.Statement.{statement}
 use Rattle.dependency.proofs.is_filtered_base.Tie as tie
 use Rattle.dependency.proofs.is_filtered_base.Reads as reads
 use Rattle.dependency.proofs.is_filtered_base.Lts as lts
+use Rattle.bloom.proofs.may_contain.Reads as may-contain-reads
 use Rattle.dependency.proofs.is_ruby_base.Reads as is-ruby-base-reads
 use Rattle.hash.proofs.fx_hash.Reads as fx-hash-reads
-use Rattle.bloom.proofs.may_contain.Reads as may-contain-reads
 
 fx-hash-requires : tie.Need-fx-hash-requires
 fx-hash-requires c κs = search needs
@@ -31,7 +36,10 @@ is-ruby-base-requires : tie.Need-is-ruby-base-requires
 is-ruby-base-requires c κs = search needs
 
 returns-2 : tie.Need-returns-2
-returns-2 c = search needs
+returns-2 c = sym (c .if2 .taken) ∙ (c .before .is-ruby-base .ensures)
+
+returns-3 : tie.Need-returns-3
+returns-3 c = sym (c .if2 .left) ∙ (c .before .is-ruby-base .ensures)
 
 pub is-filtered-base-spec : {M : Type 1} → statement M
 is-filtered-base-spec =
@@ -44,4 +52,5 @@ is-filtered-base-spec =
     part-is-ruby-base-start
     part-is-ruby-base-end
     is-ruby-base-requires
-    returns-2)
+    returns-2
+    returns-3)

@@ -8,7 +8,7 @@ use lib.ListN.{length}
 use mathlib.Core.Path.{_≡_, refl, _∙_}
 use mathlib.Core.List.{_++_}
 use native.Mathlib.Omega.{arith}
-use Prim.Native.Nat.{_≤_, _<_, _-_}
+use Prim.Native.Nat.{_+_, _≤_, _<_, _-_}
 use Rattle.dependency.proofs.refers_in_parts.Statement.{statement}
 use Rattle.dependency.proofs.refers_in_parts.Tie as tie
 use Rattle.dependency.proofs.refers_in_parts.Reads as reads
@@ -17,7 +17,7 @@ use Rattle.dependency.proofs.part_refers.Reads as part-refers-reads
 use Rattle.dependency.proofs.smaller.Reads as smaller-reads
 
 abbrev Inv-loop : tie.InvT-loop
-Inv-loop tape st words₀ base old new at count from size i₀ words i = (i ≤ count) × (length words ≡ length words₀) × (firstWords base words ≡ firstWords base words₀) × Missed (refersAmong (storeIn tape (old ++ new)) from tape at i) count
+Inv-loop tape st words₀ base old new at count from size i₀ words i = (i ≤ count) × (length words ≡ length words₀) × (firstWords base words ≡ firstWords base words₀) × Missed (refersAmong (storeIn tape (old ++ new)) from tape at i) count × (base + size ≤ length words₀)
 
 abbrev μ-loop : tie.MeasureT-loop
 μ-loop tape st words₀ base old new at count from size i₀ words i = count - i
@@ -29,7 +29,7 @@ add-size : tie.Need-add-size Inv-loop μ-loop
 add-size c = omega (arith, (c .before .before .before .before .pre .0) .inside)
 
 loop-holds : tie.Need-loop-holds Inv-loop μ-loop
-loop-holds c = (omega arith, refl, refl, parts-none (storeIn (c .before .before .before .before .args .tape .now) (c .before .before .before .before .args .old .now ++ c .before .before .before .before .args .new .now)) (c .before .before .before .before .args .from) (c .before .before .before .before .args .tape .now) (c .before .before .before .before .args .at) (c .before .before .before .before .args .count))
+loop-holds c = (omega arith, refl, refl, parts-none (storeIn (c .before .before .before .before .args .tape .now) (c .before .before .before .before .args .old .now ++ c .before .before .before .before .args .new .now)) (c .before .before .before .before .args .from) (c .before .before .before .before .args .tape .now) (c .before .before .before .before .args .at) (c .before .before .before .before .args .count), omega (arith, c .before .before .before .before .pre .1))
 
 sub-smaller : tie.Need-sub-smaller Inv-loop μ-loop
 sub-smaller c = omega arith
@@ -47,7 +47,7 @@ sub-part-refers : tie.Need-sub-part-refers Inv-loop μ-loop
 sub-part-refers c = omega arith
 
 part-refers-requires : tie.Need-part-refers-requires Inv-loop μ-loop
-part-refers-requires c κs = (sound-piece (sound-index (c .before .before .before .loop .inv .2) (c .before .before .before .before .before .before .before .before .pre .0)) (c .before .before .before .loop .i) _ (omega (arith, c .before .before .loop-test .taken)), omega (arith, c .before .before .before .before .before .before .before .before .pre .1, c .before .before .before .loop .inv .1))
+part-refers-requires c κs = (sound-piece (sound-index (c .before .before .before .loop .inv .2) (c .before .before .before .before .before .before .before .before .pre .0)) (c .before .before .before .loop .i) _ (omega (arith, c .before .before .loop-test .taken)), omega (arith, c .before .smaller .ensures, c .before .before .before .loop .inv .4, c .before .before .before .loop .inv .1))
 
 same-length : tie.Need-same-length Inv-loop μ-loop
 same-length c = c .before .before .before .part-refers .kept .1 .1 .0 ∙ c .before .before .before .before .before .before .before .loop .inv .1
@@ -62,7 +62,7 @@ loop-less : tie.Need-loop-less Inv-loop μ-loop
 loop-less c = omega (arith, c .before .before .before .before .before .smaller .ensures, c .before .before .before .before .before .before .loop-test .taken)
 
 loop-again : tie.Need-loop-again Inv-loop μ-loop
-loop-again c = (omega (arith, c .before .before .before .before .before .smaller .ensures, c .before .before .before .before .before .before .before .loop .inv .0), c .before .before .before .part-refers .kept .1 .1 .0 ∙ c .before .before .before .before .before .before .before .loop .inv .1, c .before .before .before .part-refers .ensures .1 ∙ c .before .before .before .before .before .before .before .loop .inv .2, parts-more (storeIn (c .before .before .before .before .before .before .before .before .before .before .before .before .args .tape .now) (c .before .before .before .before .before .before .before .before .before .before .before .before .args .old .now ++ c .before .before .before .before .before .before .before .before .before .before .before .before .args .new .now)) (c .before .before .before .before .before .before .before .before .before .before .before .before .args .from) (c .before .before .before .before .before .before .before .before .before .before .before .before .args .tape .now) (c .before .before .before .before .before .before .before .before .before .before .before .before .args .at) (c .before .before .before .before .before .before .before .before .before .before .before .before .args .count) (c .before .before .before .before .before .before .before .loop .i) _ (c .before .before .before .before .before .before .before .loop .inv .0) (c .before .before .before .part-refers .ensures .0) (c .before .before .before .before .before .before .before .loop .inv .3) (c .if1 .left))
+loop-again c = (omega (arith, c .before .before .before .before .before .smaller .ensures, c .before .before .before .before .before .before .before .loop .inv .0), c .before .before .before .part-refers .kept .1 .1 .0 ∙ c .before .before .before .before .before .before .before .loop .inv .1, c .before .before .before .part-refers .ensures .1 ∙ c .before .before .before .before .before .before .before .loop .inv .2, parts-more (storeIn (c .before .before .before .before .before .before .before .before .before .before .before .before .args .tape .now) (c .before .before .before .before .before .before .before .before .before .before .before .before .args .old .now ++ c .before .before .before .before .before .before .before .before .before .before .before .before .args .new .now)) (c .before .before .before .before .before .before .before .before .before .before .before .before .args .from) (c .before .before .before .before .before .before .before .before .before .before .before .before .args .tape .now) (c .before .before .before .before .before .before .before .before .before .before .before .before .args .at) (c .before .before .before .before .before .before .before .before .before .before .before .before .args .count) (c .before .before .before .before .before .before .before .loop .i) _ (c .before .before .before .before .before .before .before .loop .inv .0) (c .before .before .before .part-refers .ensures .0) (c .before .before .before .before .before .before .before .loop .inv .3) (c .if1 .left), c .before .before .before .before .before .before .before .loop .inv .4)
 
 same-length-2 : tie.Need-same-length-2 Inv-loop μ-loop
 same-length-2 c = c .before .loop .inv .1
