@@ -14,6 +14,9 @@ use crate::syntax::ast::store::{ContentRange, SegRange};
 use crate::syntax::ast::{ContainerPair, LexOutput, NodeRef, NodeStore, RegionOutput, Registry, SourceNode};
 use crate::syntax::*;
 
+#[path = "quick.rs"]
+pub mod quick;
+
 const MISSING: u32 = 0xffff_ffff;
 
 pub(crate) type Plain = (u32, u32);

@@ -1,15 +1,17 @@
 // The benchmark: the proved merge, tape to tape, beside the Rust's reparse on the same inputs, in one process. benchmark TEMPLATE DOCS writes
-// DOCS/BENCHMARKS.md and DOCS/benchmarks.svg and prints the tables. BUDGET is the number of seconds that the timed calls take together, about.
+// DOCS/BENCHMARKS.md and DOCS/benchmarks.svg and prints the tables. BUDGET is the number of seconds that the timed calls take together, about;
+// HOSTILE says how far the books made to be slow go (hostile.rs): 4mb, limits or off.
 use std::hint::black_box;
 use std::sync::Arc;
 use std::time::Instant;
 
 use oracle::judge::{Merged, edited, reparse};
-use oracle::tape::{Book as RustBook, Reading as RustReading};
+use oracle::tape::{Book as RustBook, Reading as RustReading, quick};
 
 include!("archive.rs");
 include!("book.rs");
 include!("cases.rs");
+include!("hostile.rs");
 include!("plot.rs");
 include!("document.rs");
 
@@ -18,7 +20,8 @@ include!("document.rs");
 struct Times { best: f64, median: f64, calls: usize }
 
 // What is timed. The first three are the merge: with result buffers of just the size and 16384 work words; with buffers of twice the size; with
-// 262144 words. The second and the third are timed where the size of the book varies, and only there.
+// 262144 words. The second and the third are timed where the size of the book varies, and only there. TAPES is the Rust with tapes read and written
+// by oracle/src/tape.rs, QUICK the same by oracle/src/quick.rs.
 const MERGE: usize = 0;
 const TWICE: usize = 1;
 const WORDS: usize = 2;
@@ -26,7 +29,10 @@ const CHECK: usize = 3;
 const REGION: usize = 4;
 const REPARSE: usize = 5;
 const TAPES: usize = 6;
-const SIDES: usize = 7;
+const QUICK: usize = 7;
+const LIMIT: usize = 8;
+const INTERN: usize = 9; // of QUICK the interning of the old strings, in the case with Rubies of 1 MB
+const SIDES: usize = 10;
 
 struct Row { shown: Vec<(Group, String)>, text: usize, nodes: usize, bytes: usize, times: [Option<Times>; SIDES] }
 
@@ -38,6 +44,13 @@ impl Row {
 unsafe extern "C" {
     fn clock_gettime(clock: i32, time: *mut [i64; 2]) -> i32;
     fn mallopt(what: i32, value: i32) -> i32;
+}
+
+// limit.c
+unsafe extern "C" {
+    fn limit_known() -> i32;
+    fn limit_utf8(s: *const u8, n: usize) -> i32;
+    fn limit_words(t: *const u8, n: usize) -> u64;
 }
 
 // What the Rust frees stays in the process, so that its next call finds pages that were touched before, as our lent buffers are. By its own choice
@@ -112,25 +125,47 @@ fn with_tapes(c: &Case) -> (Tape, Merged, InRust) {
     (m.book.write(), m, r)
 }
 
+fn quickly(c: &Case) -> quick::Answer {
+    quick::merge((&c.book.0, &c.book.1), c.edit.0..c.edit.1, c.replacement, (&c.reading.0, &c.reading.1)).unwrap()
+}
+
+// UTF-8 of the old bytes, each word of the old tape, and a copy of the result: no merge that answers a book can do less.
+fn limit(c: &Case, result: &Tape, copy: &mut Tape) -> (i32, u64) {
+    let told = unsafe { (limit_utf8(c.book.1.as_ptr(), c.book.1.len()), limit_words(c.book.0.as_ptr(), c.book.0.len())) };
+    copy.0.copy_from_slice(&result.0);
+    copy.1.copy_from_slice(&result.1);
+    black_box(&copy);
+    told
+}
+
 fn ours(c: &Case, o: &mut Buffers) -> Answer { merge(&c.book, c.edit, c.replacement.as_bytes(), &c.reading, o) }
 
-// Both sides on one case: they must agree in the region, the nodes kept and reread, the seven counts, the tape and the bytes. The answer has the
-// lengths that a caller has to lend.
-fn agree(label: &str, c: &Case) -> Answer {
+// All sides on one case: they must agree in the region, the nodes kept and reread, the seven counts, the tape and the bytes. Answers the result,
+// whose lengths a caller has to lend.
+fn agree(label: &str, c: &Case) -> Tape {
     let mut o = Buffers::new(c.book.0.len() + 4 * c.reading.0.len() + 4096, c.book.1.len() + 2 * c.reading.1.len() + 4096);
     let a = ours(c, &mut o);
     assert_eq!(a.number, 0, "{label}");
     let ((tape, bytes), m, _) = with_tapes(c);
     assert_eq!((m.region.start, m.region.end, m.reused, m.reread, m.counts()), (a.start, a.end, a.reused, a.reread, a.counts), "{label}");
     assert!(tape == o.tape[..a.tape] && bytes == o.bytes[..a.bytes], "{label}: tape and bytes");
+    let q = quickly(c);
+    assert_eq!((q.region.start, q.region.end, q.reused, q.reread, q.counts), (a.start, a.end, a.reused, a.reread, a.counts), "{label}, quick");
+    assert!(q.tape == o.tape[..a.tape] && q.bytes == o.bytes[..a.bytes], "{label}: tape and bytes, quick");
+    assert!(q.tape.capacity() == q.tape.len() && q.bytes.capacity() == q.bytes.len(), "{label}: room, quick");
     assert!(o.tape[a.tape..].iter().chain(&o.bytes[a.bytes..]).all(|b| *b == 0), "{label}: zeros behind the result");
-    a
+    (tape, bytes)
 }
+
+// how long both texts of a book are
+fn text_bytes(tape: &[u8]) -> usize { [1, 5].map(|at| u32::from_le_bytes(tape[at..at + 4].try_into().unwrap()) as usize).iter().sum() }
 
 fn time(entry: &Entry, seconds: f64, cost: f64) -> Row {
     let c = (entry.make)();
-    let a = agree(&entry.shown[0].1, &c);
-    let (mut exact, mut twice, mut more) = (Buffers::new(a.tape, a.bytes), Buffers::new(2 * a.tape, 2 * a.bytes), Buffers::new(a.tape, a.bytes));
+    let result = agree(&entry.shown[0].1, &c);
+    let (tape, bytes) = (result.0.len(), result.1.len());
+    let (mut exact, mut twice, mut more) = (Buffers::new(tape, bytes), Buffers::new(2 * tape, 2 * bytes), Buffers::new(tape, bytes));
+    let mut copy = (vec![7; tape], vec![7; bytes]);
     more.work = vec![7; 262144];
     let mut words = vec![7; 16384];
     let r = in_rust(&c);
@@ -140,7 +175,16 @@ fn time(entry: &Entry, seconds: f64, cost: f64) -> Row {
         (REGION, Box::new(|| clock(|| choose_region(&c.book, c.edit, c.replacement.as_bytes(), &mut words)))),
         (REPARSE, Box::new(|| { let (source, lexed) = (Arc::clone(&r.source), r.reading.lexed()); clock(|| reparse(&r.book, source, c.edit.0..c.edit.1, lexed)) })),
         (TAPES, Box::new(|| clock(|| with_tapes(&c)))),
+        (QUICK, Box::new(|| clock(|| quickly(&c)))),
     ];
+    let old_strings = core::str::from_utf8(&c.book.1[text_bytes(&c.book.0)..]).unwrap();
+    if entry.shown[0] == (Group::Sizes(Kind::Ruby), "1 MB".to_string()) {
+        sides.push((INTERN, Box::new(|| clock(|| quick::intern_first_layer(&c.book.0, old_strings).unwrap()))));
+    }
+    if unsafe { limit_known() } == 1 {
+        assert_eq!(limit(&c, &result, &mut copy).0, 1, "the limit's UTF-8");
+        sides.push((LIMIT, Box::new(|| clock(|| limit(&c, &result, &mut copy)))));
+    }
     if let Group::Sizes(_) = entry.shown[0].0 {
         sides.push((TWICE, Box::new(|| clock(|| ours(&c, &mut twice)))));
         sides.push((WORDS, Box::new(|| clock(|| ours(&c, &mut more)))));
@@ -154,6 +198,7 @@ fn main() {
     let args: Vec<String> = std::env::args().collect();
     let [_, template, docs] = &args[..] else { panic!("benchmark TEMPLATE DOCS") };
     let budget: f64 = std::env::var("BUDGET").map_or(130.0, |s| s.parse().expect("BUDGET in seconds"));
+    let hostile = std::env::var("HOSTILE").unwrap_or("4mb".into());
     keep_memory();
     let run = Run { start: Instant::now(), load: load(), clock: clock_cost() };
     let cases = all_cases();
@@ -163,7 +208,8 @@ fn main() {
         eprintln!("{}", line(&row));
         rows.push(row);
     }
+    let slow = hostile_rows(&hostile);
     let largest = cases.iter().find(|e| e.shown[0] == (Group::Sizes(Kind::Ruby), "16 MB".to_string())).unwrap();
     let profile = profile(&(largest.make)(), 4);
-    write(template, docs, &rows, &profile, &run);
+    write(template, docs, &rows, &slow, &profile, &run);
 }

@@ -40,7 +40,7 @@ fn thousands(n: usize) -> String {
 }
 
 fn line(r: &Row) -> String {
-    let all: Vec<String> = [MERGE, CHECK, REGION, REPARSE, TAPES].map(|i| duration(r.median(i))).into();
+    let all: Vec<String> = [MERGE, CHECK, REGION, REPARSE, TAPES, QUICK, LIMIT].map(|i| duration(r.median(i))).into();
     let calls: usize = r.times.iter().flatten().map(|t| t.calls).sum();
     format!("{}: {} ({calls} calls)", name_of(r), all.join(", "))
 }
@@ -57,10 +57,13 @@ fn shown(rows: &[Row], group: Group) -> Vec<(&str, &Row)> {
 }
 
 fn table(rows: &[Row], group: Group, first: &str) -> String {
-    let mut s = format!("| {first} | nodes | tape and bytes | ours | of it `check_book` | up to the region | the Rust's `reparse` | with tapes read and written | ours / `reparse` | ours / with tapes |\n|---|---|---|---|---|---|---|---|---|---|\n");
+    let heads = [first, "nodes", "tape and bytes", "ours", "of it `check_book`", "up to the region", "the limit", "the Rust's `reparse`", "with tapes, plain", "with tapes, quick",
+        "ours / limit", "ours / `reparse`", "ours / plain", "ours / quick"];
+    let mut s = format!("| {} |\n{}|\n", heads.join(" | "), "|---".repeat(heads.len()));
     for (label, r) in shown(rows, group) {
-        s += &format!("| {label} | {} | {} | {} | {} | {} | {} | {} | **{}** | **{}** |\n", thousands(r.nodes), thousands(r.bytes), cell(r.times[MERGE]), cell(r.times[CHECK]), cell(r.times[REGION]), cell(r.times[REPARSE]),
-            cell(r.times[TAPES]), figures(r.ratio(MERGE, REPARSE)), figures(r.ratio(MERGE, TAPES)));
+        let times = [MERGE, CHECK, REGION, LIMIT, REPARSE, TAPES, QUICK].map(|i| if i == LIMIT && r.times[i].is_none() { "no AVX2".into() } else { cell(r.times[i]) });
+        let ratios = [LIMIT, REPARSE, TAPES, QUICK].map(|i| r.times[i].map_or(String::new(), |_| format!("**{}**", figures(r.ratio(MERGE, i)))));
+        s += &format!("| {label} | {} | {} | {} | {} |\n", thousands(r.nodes), thousands(r.bytes), times.join(" | "), ratios.join(" | "));
     }
     s
 }
@@ -140,11 +143,10 @@ fn profile(c: &Case, seconds: u32) -> Profile {
     sums
 }
 
-const DOES: [(&str, &str); 8] = [
+const DOES: [(&str, &str); 7] = [
     ("utf8::is_utf8", "number 2: UTF-8 of both texts and of every string of the old book and of the reading"),
     ("incremental::merge", "the merge with all that is inlined into it: the result is written (texts, strings, layers, nodes and the other lists copied, offsets moved), numbers 12 to 16 tested"),
     ("tape::book_refusal", "numbers 3 to 7 of each record: limits, ids and ranges, levels, places, drift"),
-    ("records::word_use", "which word of a record is an id, a range, unused: asked for each word of each node and segment, by three of the tests"),
     ("places::places_of", "number 1: where each list begins"),
     ("layout::layout", "number 1: the shape of each record"),
     ("region::chosen_region", "the edit and the region, numbers 8 to 11"),
@@ -161,10 +163,19 @@ fn profile_table(p: &Profile) -> String {
     s
 }
 
-fn write(template: &str, docs: &str, rows: &[Row], p: &Profile, run: &Run) {
+// the rows whose ratio to the limit is at most so much, and the range of all
+fn to_limit(rows: &[Row]) -> String {
+    let mut v: Vec<f64> = rows.iter().map(|r| r.ratio(MERGE, LIMIT)).filter(|x| !x.is_nan()).collect();
+    v.sort_by(f64::total_cmp);
+    let [first, .., last] = v[..] else { return "unknown, as this processor has no AVX2".into() };
+    let within = |most: f64| v.iter().filter(|x| **x <= most).count();
+    format!("{} to {} times the limit; at most 2 times in {} of {} cases, at most 3 times in {}", figures(first), figures(last), within(2.0), v.len(), within(3.0))
+}
+
+fn write(template: &str, docs: &str, rows: &[Row], slow: &[HostileRow], p: &Profile, run: &Run) {
     let row = |kind: Kind, label: &str| shown(rows, Group::Sizes(kind)).into_iter().find(|s| s.0 == label).unwrap().1;
     let percent = |x: f64| format!("{:.0} %", 100.0 * x);
-    let (largest, formats) = (row(Kind::Ruby, "16 MB"), row(Kind::Formats, "16 MB"));
+    let (largest, formats, usual) = (row(Kind::Ruby, "16 MB"), row(Kind::Formats, "16 MB"), row(Kind::Ruby, "1 MB"));
     let values: Vec<(&str, String)> = vec![
         ("date", said_by("date", &["-u", "+%F %H:%M UTC"])),
         ("machine", machine()),
@@ -184,6 +195,15 @@ fn write(template: &str, docs: &str, rows: &[Row], p: &Profile, run: &Run) {
         ("ahead-count", count(rows, REPARSE, MERGE)),
         ("behind-tapes-count", count(rows, MERGE, TAPES)),
         ("ahead-tapes-count", count(rows, TAPES, MERGE)),
+        ("behind-quick-count", count(rows, MERGE, QUICK)),
+        ("ahead-quick-count", count(rows, QUICK, MERGE)),
+        ("behind-quick", list(rows, MERGE, QUICK, 99)),
+        ("intern-share", percent(usual.ratio(INTERN, QUICK))),
+        ("without-intern", figures(usual.median(MERGE) / (usual.median(QUICK) - usual.median(INTERN)))),
+        ("to-limit", to_limit(rows)),
+        ("hostile", hostile_table(slow)),
+        ("hostile-summary", if slow.is_empty() { String::new() } else { hostile_summary(slow) }),
+        ("archive", std::env::var("ARCHIVE").map_or("`rt staticlib exports`".into(), |s| format!("an archive that was given, `{s}`, which may be unproved"))),
         ("behind", list(rows, MERGE, REPARSE, 6)),
         ("ahead", list(rows, REPARSE, MERGE, 99)),
         ("behind-tapes", list(rows, MERGE, TAPES, 99)),

@@ -1,12 +1,14 @@
 // docs/benchmarks.svg: time over the size of the text, both axes logarithmic, one panel for each kind of book.
 struct Line { side: usize, name: &'static str, colour: &'static str, dash: &'static str, mark: &'static str }
 
-const LINES: [Line; 5] = [
-    Line { side: TAPES, name: "the Rust's reparse with tapes read and written", colour: "#e69f00", dash: "", mark: "M-4.5,3.5 L4.5,3.5 L0,-5 Z" },
+const LINES: [Line; 7] = [
+    Line { side: TAPES, name: "the Rust's reparse with tapes, plain reader and writer", colour: "#e69f00", dash: "", mark: "M-4.5,3.5 L4.5,3.5 L0,-5 Z" },
+    Line { side: QUICK, name: "the Rust's reparse with tapes, quick reader and writer", colour: "#cc79a7", dash: "", mark: "M-4.5,-3.5 L4.5,-3.5 L0,5 Z" },
     Line { side: MERGE, name: "our merge, tape to tape, 16384 work words", colour: "#0072b2", dash: "", mark: "M-4,0 A4,4 0 1,0 4,0 A4,4 0 1,0 -4,0 Z" },
     Line { side: WORDS, name: "our merge with 262144 work words", colour: "#009e73", dash: "6 4", mark: "M0,-5 L5,0 L0,5 L-5,0 Z" },
     Line { side: CHECK, name: "of it check_book, which the Rust does not do", colour: "#777777", dash: "2 3", mark: "M-3.5,-3.5 L3.5,3.5 M-3.5,3.5 L3.5,-3.5" },
     Line { side: REPARSE, name: "the Rust's reparse alone, in its own types", colour: "#d55e00", dash: "", mark: "M-4,-4 L4,-4 L4,4 L-4,4 Z" },
+    Line { side: LIMIT, name: "the limit: UTF-8 by AVX2, each word read, a copy", colour: "#000000", dash: "1 4", mark: "M-4,0 L4,0 M0,-4 L0,4" },
 ];
 
 const PANELS: [(Kind, &str); 3] = [(Kind::Plain, "text alone"), (Kind::Ruby, "a Ruby in each paragraph"), (Kind::Formats, "Rubies and up to 2,000 Formats")];
@@ -49,7 +51,8 @@ fn panel(rows: &[Row], number: usize, from: i32, to: i32) -> String {
     }
     s += &format!("<rect x=\"{left}\" y=\"{TOP}\" width=\"{WIDTH}\" height=\"{HEIGHT}\" fill=\"none\" stroke=\"#555\"/>\n");
     for l in &LINES {
-        let points: Vec<(f64, f64)> = shown(rows, Group::Sizes(kind)).iter().map(|(_, r)| (x(r.text as f64), y(r.median(l.side)))).collect();
+        let points: Vec<(f64, f64)> = shown(rows, Group::Sizes(kind)).iter().filter(|(_, r)| r.times[l.side].is_some())
+            .map(|(_, r)| (x(r.text as f64), y(r.median(l.side)))).collect();
         s += &stroke(l, &points);
         for (x, y) in points { s += &marked(l, x, y); }
     }
@@ -74,7 +77,7 @@ fn legend(top: f64) -> String {
 
 fn plot(rows: &[Row]) -> String {
     let (from, to) = decades(rows);
-    let (width, height) = (LEFT + 3.0 * WIDTH + 2.0 * GAP + 20.0, TOP + HEIGHT + 130.0);
+    let (width, height) = (LEFT + 3.0 * WIDTH + 2.0 * GAP + 20.0, TOP + HEIGHT + 152.0);
     let mut s = format!("<svg xmlns=\"http://www.w3.org/2000/svg\" viewBox=\"0 0 {width} {height}\" width=\"{width}\" height=\"{height}\" font-family=\"sans-serif\" font-size=\"12\" fill=\"#222\">\n");
     s += &format!("<rect width=\"{width}\" height=\"{height}\" fill=\"white\"/>\n");
     s += &text_at(width / 2.0, 24.0, "middle", "font-size=\"15\" font-weight=\"bold\"", "One passage corrected in the middle of a book: median time of one call");

@@ -1,0 +1,410 @@
+// Books made to be slow: books that are accepted (two are refused at their very end) and on which a step of ours is quadratic or worse if it is
+// written without care. Each is called at doubling sizes, up to about 4 MB of tape and bytes; the exponent says how the time grows.
+use std::cell::RefCell;
+
+const FOUR_MB: usize = 4_000_000;
+const MAX_POOL: usize = 1_048_575;
+const MAX_LIST: usize = 262_143;
+const MAX_TEXT: usize = 16_777_215;
+
+// the entry that is timed
+#[derive(Clone, Copy, PartialEq)]
+enum Timed { Check, Region, Merge }
+
+struct Hostile { book: Tape, edit: (usize, usize), reading: Tape }
+
+// `most` is the n at which a limit of document 01 is met. `make` is given n and the words that are lent.
+struct Shape { name: &'static str, timed: Timed, words: &'static [usize], most: usize, make: Box<dyn Fn(usize, usize) -> Hostile> }
+
+// ---- strings
+
+const FX_PRIME: u64 = 0x517c_c1b7_2722_0a95;
+
+fn fx_hash(start: u64, bytes: &[u8]) -> u64 { bytes.iter().fold(start, |h, b| (h.rotate_left(5) ^ *b as u64).wrapping_mul(FX_PRIME)) }
+
+// Unlike strings of one length that all fall on word 0 of a Bloom filter of so many words (crates/bloom: the upper half of the hash, modulo the
+// words). The last byte is looked for; where a string has none that does, the next is tried.
+struct Crowd { start: String, filter: usize, products: Vec<(u64, u64)>, found: Vec<String>, tried: u64 }
+
+impl Crowd {
+    fn new(start: &str, filter: usize) -> Self {
+        let mut products = Vec::new();
+        if filter.is_power_of_two() { products.extend((0..128).map(|j| (FX_PRIME.wrapping_mul(j) % ((filter as u64) << 32), j))); }
+        products.sort();
+        Crowd { start: start.to_string(), filter, products, found: Vec::new(), tried: 0 }
+    }
+    // The last step is (rotated + j) * prime for j = 0..127. Modulo a power of two the j that makes it small enough is found in the sorted products.
+    fn last_byte(&self, h: u64) -> Option<u8> {
+        if self.products.is_empty() { return (0..128).find(|b| (fx_hash(h, &[*b]) >> 32) as u32 % self.filter as u32 == 0); }
+        let (modulus, rotated) = ((self.filter as u64) << 32, h.rotate_left(5));
+        let from = (rotated & !127).wrapping_mul(FX_PRIME) % modulus;
+        let wanted = (modulus - from) % modulus;
+        let (product, j) = self.products[self.products.partition_point(|p| p.0 < wanted) % 128];
+        ((from + product) % modulus < 1 << 32).then_some((rotated & 127 ^ j) as u8)
+    }
+    fn first(&mut self, n: usize) -> &[String] {
+        let start = fx_hash(0, self.start.as_bytes());
+        while self.found.len() < n {
+            let middle: [u8; 6] = core::array::from_fn(|i| b'0' + (self.tried >> (6 * i) & 63) as u8);
+            self.tried += 1;
+            let Some(last) = self.last_byte(fx_hash(start, &middle)) else { continue };
+            let s = format!("{}{}{}", self.start, core::str::from_utf8(&middle).unwrap(), last as char);
+            assert_eq!((fx_hash(0, s.as_bytes()) >> 32) as usize % self.filter, 0);
+            self.found.push(s);
+        }
+        &self.found[..n]
+    }
+}
+
+// For each count of words a crowd of its own, kept from one size to the next.
+fn crowds(start: &'static str, filter: fn(usize) -> usize) -> impl Fn(usize, usize) -> Vec<String> {
+    let made: RefCell<Vec<Crowd>> = RefCell::new(Vec::new());
+    move |n, words| {
+        let (mut made, size) = (made.borrow_mut(), filter(words));
+        let at = made.iter().position(|c| c.filter == size).unwrap_or_else(|| { made.push(Crowd::new(start, size)); made.len() - 1 });
+        made[at].first(n).to_vec()
+    }
+}
+
+fn unlike(n: usize, _: usize) -> Vec<String> { (0..n).map(|i| format!("{i:08}")).collect() }
+
+// Without many words number 10 has 1024 for its filter, else half of what is lent; number 15 has a third.
+fn filter_of_10(words: usize) -> usize { (words / 2).max(1024) }
+fn filter_of_15(words: usize) -> usize { (words / 3).max(1) }
+
+// ---- books
+
+// a book whose first line is corrected, and the reading of that line
+fn first_line(b: &Book) -> Hostile {
+    let mut r = Book::default();
+    r.put("x\n\n");
+    Hostile { book: b.done(), edit: (0, 1), reading: r.done() }
+}
+
+fn pools(fill: impl FnOnce(&mut Book)) -> Hostile {
+    let mut b = Book::default();
+    b.put("a\n\nb");
+    b.string("x");
+    fill(&mut b);
+    first_line(&b)
+}
+
+fn texts(b: &mut Book, n: usize) { for _ in 0..n { b.segment(0, 0, 0, [0; 6]); } }
+
+// numbers that look random, the same in each run
+struct Random(u64);
+impl Random {
+    fn below(&mut self, n: u32) -> u32 {
+        self.0 ^= self.0 << 13;
+        self.0 ^= self.0 >> 7;
+        self.0 ^= self.0 << 17;
+        (self.0 >> 33) as u32 % n
+    }
+}
+
+// n MarginNotes, each with all of n contents as its base and as its note, each content all of n text segments
+fn margin_notes(n: usize) -> Hostile {
+    pools(|b| {
+        let m = n as u32;
+        for _ in 0..n { b.content(1, 0, m); }
+        texts(b, n);
+        for _ in 0..n { b.segment(3, 1, 15, [0, m, 0, m, 0, 0]); }
+    })
+}
+
+fn ruby_runs(n: usize) -> Hostile {
+    pools(|b| {
+        for _ in 0..n { b.content(0, 0, 0); }
+        for _ in 0..n { b.segment(3, 1, 1, [0, n as u32, 0, 0, 0, 0]); }
+    })
+}
+
+fn captions(n: usize) -> Hostile {
+    pools(|b| {
+        texts(b, n);
+        for _ in 0..n {
+            let at = b.segments.len();
+            b.segment(3, 1, 11, [0, u32::MAX, u32::MAX, u32::MAX, 0, n as u32]);
+            b.segments[at + 4] = 2;
+        }
+    })
+}
+
+// Runs that begin and end somewhere in the first and the last 64. The first and the last item of each pool have level 32 and are in no run, so that
+// the greatest level of a block of items says nothing about the part of the block that is in a run.
+fn edges(n: usize) -> Hostile {
+    pools(|b| {
+        let (mut random, m) = (Random(88172645463325252), n as u32);
+        let mut run = || { let (start, end) = (1 + random.below(63), m - 1 - random.below(63)); [start, end - start] };
+        b.content(1, 0, 1);
+        for _ in 2..n { let [start, len] = run(); b.content(1, start, len); }
+        b.content(1, m - 1, 1);
+        b.segment(3, 32, 1, [0; 6]);
+        texts(b, n - 2);
+        b.segment(3, 32, 1, [0; 6]);
+        for _ in 0..n { let ([s, l], [t, k]) = (run(), run()); b.segment(3, 1, 1, [s, l, t, k, 0, 0]); }
+    })
+}
+
+fn short_runs(n: usize) -> Hostile {
+    pools(|b| {
+        for _ in 0..n { b.content(1, 0, 128); }
+        texts(b, 128);
+        for i in 0..n - 256 { b.segment(3, 1, 1, [i as u32, 128, i as u32 + 64, 128, 0, 0]); }
+    })
+}
+
+// n Rubies, then n Formats: the strings are n bases and n targets
+fn dependency(strings: &[String]) -> Hostile {
+    let (bases, targets) = strings.split_at(strings.len() / 2);
+    let mut b = Book::default();
+    b.put("a\n\n");
+    for s in bases { let words = [b.plain(s), 1, 0, 0, 0, 0]; b.node("r", 1, 0, words); }
+    for s in targets { b.format("f", s); }
+    b.put("\n\nb");
+    first_line(&b)
+}
+
+// n Rubies in the book, n Formats in the reading
+fn introduced(strings: &[String]) -> Hostile {
+    let (bases, targets) = strings.split_at(strings.len() / 2);
+    let (mut b, mut r) = (Book::default(), Book::default());
+    for s in bases { let words = [b.plain(s), 1, 0, 0, 0, 0]; b.node("r", 1, 0, words); }
+    b.put("\n\n");
+    let at = b.text.len();
+    b.put("a");
+    b.put(&"f".repeat(targets.len()));
+    b.put("\n\n");
+    r.put("x");
+    for s in targets { r.format("f", s); }
+    r.put("\n\n");
+    Hostile { book: b.done(), edit: (at, at + 1), reading: r.done() }
+}
+
+// A safe cut at one end of the book, n brackets over gaps behind it or in front of it, and the edit at the other end.
+fn bracketed(front: bool, fill: impl FnOnce(&mut Book)) -> Hostile {
+    let mut b = Book::default();
+    b.put("a\n\n");
+    let first = b.text.len();
+    b.put("y");
+    fill(&mut b);
+    let last = b.text.len();
+    b.put("y\n\nb");
+    let at = if front { first } else { last };
+    Hostile { book: b.done(), edit: (at, at + 1), reading: (Vec::new(), Vec::new()) }
+}
+
+fn bracket(b: &mut Book, inside: impl FnOnce(&mut Book)) {
+    let start = b.text.len();
+    b.put("「");
+    inside(b);
+    b.put("」");
+    let end = b.text.len();
+    b.pair((start, start + 3), (end - 3, end));
+}
+
+fn nested(b: &mut Book, n: usize) {
+    let mut opens = Vec::new();
+    for _ in 0..n { opens.push(b.text.len()); b.put("「\n\n"); }
+    while let Some(o) = opens.pop() { let c = b.text.len() + 2; b.put("\n\n」"); b.pair((o, o + 3), (c, c + 3)); }
+}
+
+// n diagnostics; where each starts. The edit is behind them.
+fn diagnosed_by(n: usize, start: impl Fn(usize) -> usize) -> Hostile {
+    let (mut b, mut r) = (Book::default(), Book::default());
+    b.put(&"d".repeat(n + 1));
+    b.put("\n\n");
+    let at = b.text.len();
+    b.put("a\n\n");
+    r.put("x\n\n");
+    for i in 0..n { b.diagnostic(start(i), start(i) + 1); }
+    Hostile { book: b.done(), edit: (at, at + 1), reading: r.done() }
+}
+
+// text alone of n bytes, at most
+fn written(n: usize, part: &str) -> Book {
+    let mut b = Book::default();
+    b.put(&part.repeat((n - 8) / part.len()));
+    b
+}
+
+// the last string breaks off in a character
+fn damaged(n: usize) -> Hostile {
+    let mut b = written(n, "青空文庫の本を読む人は、声に出して読んでいた。\n\n");
+    b.string("青");
+    b.strings.pop();
+    b.lengths[0] -= 1;
+    first_line(&b)
+}
+
+fn shape(name: &'static str, timed: Timed, words: &'static [usize], most: usize, make: impl Fn(usize, usize) -> Hostile + 'static) -> Shape {
+    Shape { name, timed, words, most, make: Box::new(make) }
+}
+
+fn all_shapes() -> Vec<Shape> {
+    const ALL: &[usize] = &[0, 256, 16384, 262144];
+    const NONE_OR_SOME: &[usize] = &[0, 16384];
+    const ONE: &[usize] = &[16384];
+    use Timed::{Check, Merge, Region};
+    let common: &'static str = Box::leak("青空文庫の本を読む人は".repeat(6).into_boxed_str());
+    let (on_one_word, with_prefix, on_one_of_15) = (crowds("", filter_of_10), crowds(common, filter_of_10), crowds("", filter_of_15));
+    vec![
+        shape("number 5: n MarginNotes over n contents over n segments, n a multiple of 64", Check, ONE, MAX_POOL / 2, |n, _| margin_notes(n / 64 * 64)),
+        shape("number 5: n MarginNotes over n contents over n segments, n no multiple of 64", Check, ONE, MAX_POOL / 2, |n, _| margin_notes(n / 64 * 64 + 37)),
+        shape("number 5: n Rubies over one run of n contents", Check, ONE, MAX_POOL, |n, _| ruby_runs(n)),
+        shape("number 5: n captions over one run of n segments", Check, ONE, MAX_POOL / 2, |n, _| captions(n)),
+        shape("number 5: n Rubies over runs with random edges, over runs with random edges", Check, ONE, MAX_POOL / 2, |n, _| edges(n)),
+        shape("number 5: runs of 128 contents, each of 128 segments", Check, ONE, MAX_POOL, |n, _| short_runs(n)),
+        shape("number 10: n Rubies, n Formats, unlike strings of one length", Region, ALL, MAX_LIST / 2, |n, _| dependency(&unlike(2 * n, 0))),
+        shape("number 10: n Rubies, n Formats, unlike strings of one length", Merge, &[0, 256, 16384], MAX_LIST / 2, |n, _| dependency(&unlike(2 * n, 0))),
+        shape("number 10: strings that fall on one word of the filter", Region, ALL, MAX_LIST / 2, move |n, words| dependency(&on_one_word(2 * n, words))),
+        shape("number 10: strings that fall on one word of the filter, behind a common prefix of 198 bytes", Region, NONE_OR_SOME, MAX_LIST / 2, move |n, words| dependency(&with_prefix(2 * n, words))),
+        shape("number 15: n Rubies, n Formats in the reading, unlike strings of one length", Merge, ALL, MAX_LIST, |n, _| introduced(&unlike(2 * n, 0))),
+        shape("number 15: strings that fall on one word of the filter", Merge, &[256, 16384], MAX_LIST, move |n, words| introduced(&on_one_of_15(2 * n, words))),
+        shape("region: n brackets in a row over blank lines, the edit behind them", Region, ALL, MAX_LIST, |n, _| bracketed(false, |b| for _ in 0..n { bracket(b, |b| b.put("\n\n")) })),
+        shape("region: n brackets in a row over blank lines, the edit before them", Region, NONE_OR_SOME, MAX_LIST, |n, _| bracketed(true, |b| for _ in 0..n { bracket(b, |b| b.put("\n\n")) })),
+        shape("region: n brackets, an unmatched close in each, the edit behind them", Region, NONE_OR_SOME, MAX_LIST, |n, _| {
+            bracketed(false, |b| for _ in 0..n { bracket(b, |b| { b.put("\n\n"); b.block("c", 3); }) })
+        }),
+        shape("region: n brackets, one in the other, over gaps, the edit behind them", Region, NONE_OR_SOME, MAX_LIST, |n, _| bracketed(false, |b| nested(b, n))),
+        shape("region: n brackets, one in the other, over gaps, the edit before them", Region, NONE_OR_SOME, MAX_LIST, |n, _| bracketed(true, |b| nested(b, n))),
+        shape("diagnostics in falling order", Merge, ONE, MAX_LIST, |n, _| diagnosed_by(n, |i| n - i)),
+        shape("diagnostics with equal keys", Merge, ONE, MAX_LIST, |n, _| diagnosed_by(n, |_| 1)),
+        shape("UTF-8: characters of four bytes", Check, ONE, MAX_TEXT, |n, _| first_line(&written(n, "𠀋𡈽𠮟😀𩸽"))),
+        shape("UTF-8: E0 and ED in each 64 bytes", Check, ONE, MAX_TEXT, |n, _| first_line(&written(n, "青空文庫の本を読む人はไ声に出して힘"))),
+        shape("UTF-8: damaged at the very end", Check, ONE, MAX_TEXT, |n, _| damaged(n)),
+    ]
+}
+
+// ---- times
+
+const LONG: f64 = 2.0; // seconds: no further doubling
+const LONGEST: f64 = 60.0;
+
+// a call of one size
+#[derive(Clone, Copy)]
+struct Point { n: usize, input: usize, number: u32, seconds: f64 }
+
+struct HostileRow { name: &'static str, timed: Timed, words: usize, points: Vec<Point>, stopped: bool, limit: Option<Result<Point, f64>> }
+
+// the median of up to seven calls, as many as there is time for
+fn call(h: &Hostile, timed: Timed, words: usize) -> (u32, f64) {
+    let (mut taken, mut number) = (Vec::new(), 0);
+    let mut lent = vec![7; words];
+    let mut o = Buffers { tape: Vec::new(), bytes: Vec::new(), work: vec![7; words] };
+    if timed == Timed::Merge { (o.tape, o.bytes) = (vec![7; h.book.0.len() + 2 * h.reading.0.len() + 64], vec![7; h.book.1.len() + 2 * h.reading.1.len() + 64]); }
+    while taken.len() < 7 && taken.iter().sum::<f64>() < 0.1 {
+        let start = now();
+        number = black_box(match timed {
+            Timed::Check => check_book(&h.book),
+            Timed::Region => choose_region(&h.book, h.edit, b"x", &mut lent).number,
+            Timed::Merge => merge(&h.book, h.edit, b"x", &h.reading, &mut o).number,
+        });
+        taken.push(now() - start);
+    }
+    taken.sort_by(f64::total_cmp);
+    (number, taken[taken.len() / 2])
+}
+
+fn point(s: &Shape, n: usize, words: usize) -> Point {
+    let h = (s.make)(n, words);
+    let (number, seconds) = call(&h, s.timed, words);
+    Point { n, input: size_of_input(&h), number, seconds }
+}
+
+fn size_of_input(h: &Hostile) -> usize { h.book.0.len() + h.book.1.len() + h.reading.0.len() + h.reading.1.len() }
+
+// the n that makes an input of about 4 MB
+fn n_of_4_mb(s: &Shape, words: usize) -> usize {
+    let [a, b] = [1024, 2048].map(|n| size_of_input(&(s.make)(n, words)) as f64);
+    (1024.0 + 1024.0 * (FOUR_MB as f64 - a) / (b - a)) as usize
+}
+
+fn growth(a: &Point, b: &Point) -> f64 { (b.seconds / a.seconds).ln() / (b.n as f64 / a.n as f64).ln() }
+
+// Over the last two doublings: 1 is linear, 2 quadratic.
+fn exponent(points: &[Point]) -> Option<f64> { if let [.., a, _, b] = points { Some(growth(a, b)) } else { None } }
+
+// One call at the n of document 01's limits, or the seconds that it would take, by the exponent, where they are over a minute.
+fn at_limits(s: &Shape, words: usize, points: &[Point]) -> Result<Point, f64> {
+    let last = points.last().unwrap();
+    let expected = last.seconds * (s.most as f64 / last.n as f64).powf(exponent(points).unwrap_or(3.0).max(1.0));
+    if expected > LONGEST { Err(expected) } else { Ok(point(s, s.most, words)) }
+}
+
+fn hostile_row(s: &Shape, words: usize, limits: bool) -> HostileRow {
+    let most = n_of_4_mb(s, words).min(s.most);
+    let mut points: Vec<Point> = Vec::new();
+    for k in (0..=8).rev() {
+        points.push(point(s, most >> k, words));
+        if points.last().unwrap().seconds > LONG { break; }
+    }
+    let stopped = points.len() < 9;
+    HostileRow { name: s.name, timed: s.timed, words, limit: limits.then(|| at_limits(s, words, &points)), points, stopped }
+}
+
+// `how`: "4mb", "limits" or "off"
+fn hostile_rows(how: &str) -> Vec<HostileRow> {
+    assert!(["4mb", "limits", "off"].contains(&how), "HOSTILE=4mb|limits|off");
+    let mut rows = Vec::new();
+    if how == "off" { return rows; }
+    for s in &all_shapes() {
+        for words in s.words {
+            let row = hostile_row(s, *words, how == "limits");
+            eprintln!("{}", hostile_line(&row));
+            rows.push(row);
+        }
+    }
+    rows
+}
+
+fn entry_name(t: Timed) -> &'static str { match t { Timed::Check => "`check_book`", Timed::Region => "`choose_region`", Timed::Merge => "`merge`" } }
+
+fn shown_exponent(r: &HostileRow) -> String { exponent(&r.points).map_or("unknown".into(), |e| format!("{e:.2}")) }
+
+fn shown_limit(r: &HostileRow) -> String {
+    match r.limit {
+        None => String::new(),
+        Some(Ok(p)) => format!("{} of {} MB, exponent from there {:.2}", duration(p.seconds), figures(p.input as f64 / 1e6), growth(r.points.last().unwrap(), &p)),
+        Some(Err(seconds)) => format!("not run: {} expected", duration(seconds)),
+    }
+}
+
+fn hostile_line(r: &HostileRow) -> String {
+    let p = r.points.last().unwrap();
+    let words = if r.timed == Timed::Check { String::new() } else { format!(" {} words", r.words) };
+    format!("{}, {}{words}: n {} in {}, exponent {}{} {}", r.name, entry_name(r.timed), p.n, duration(p.seconds), shown_exponent(r), if r.stopped { ", stopped" } else { "" }, shown_limit(r))
+}
+
+fn hostile_table(rows: &[HostileRow]) -> String {
+    if rows.is_empty() { return "(Left out in this run: `HOSTILE=off`.)\n".into(); }
+    let limits = rows.iter().any(|r| r.limit.is_some());
+    let mut s = "| book | timed | work words | answer | n | tapes and bytes | at a quarter of n | at half of n | at n | exponent |".to_string() + if limits { " at the limits of document 01 |" } else { "" };
+    s += if limits { "\n|---|---|---|---|---|---|---|---|---|---|---|\n" } else { "\n|---|---|---|---|---|---|---|---|---|---|\n" };
+    for r in rows {
+        let p = r.points.last().unwrap();
+        let before = |k: usize| r.points.len().checked_sub(k + 1).map_or(String::new(), |i| duration(r.points[i].seconds));
+        let words = if r.timed == Timed::Check { "".into() } else { thousands(r.words) };
+        s += &format!("| {} | {} | {words} | {} | {} | {} | {} | {} | {} | **{}**{} |", r.name, entry_name(r.timed), p.number, thousands(p.n), thousands(p.input), before(2), before(1), duration(p.seconds),
+            shown_exponent(r), if r.stopped { ", stopped here" } else { "" });
+        s += &if limits { format!(" {} |\n", shown_limit(r)) } else { "\n".into() };
+    }
+    s
+}
+
+// A row that was stopped, or grows faster than n to the 1.6 and takes a millisecond at least.
+fn is_slow(r: &HostileRow) -> bool {
+    let last = r.points.last().unwrap();
+    let at_limits = match &r.limit { Some(Ok(p)) => growth(last, p), Some(Err(_)) => 2.0, None => 0.0 };
+    r.stopped || (exponent(&r.points).unwrap_or(0.0).max(at_limits) > 1.6 && last.seconds > 1e-3)
+}
+
+fn hostile_summary(rows: &[HostileRow]) -> String {
+    let item = |r: &HostileRow| {
+        let (p, words) = (r.points.last().unwrap(), if r.timed == Timed::Check { String::new() } else { format!(", {} words", thousands(r.words)) });
+        format!("\n- {}, {}{words}: exponent {}, {} at {} bytes", r.name, entry_name(r.timed), shown_exponent(r), duration(p.seconds), thousands(p.input))
+    };
+    let all: Vec<String> = rows.iter().filter(|r| is_slow(r)).map(item).collect();
+    if all.is_empty() { return "None of these rows was stopped, and none has an exponent above 1.6.".into(); }
+    format!("{} of {} rows were stopped or have an exponent above 1.6; **there ours is slow still**:\n{}", all.len(), rows.len(), all.concat())
+}
