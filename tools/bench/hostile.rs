@@ -362,10 +362,17 @@ fn entry_name(t: Timed) -> &'static str { match t { Timed::Check => "`check_book
 
 fn shown_exponent(r: &HostileRow) -> String { exponent(&r.points).map_or("unknown".into(), |e| format!("{e:.2}")) }
 
+// From the last size to the limits, where they are twice as far at least.
+fn growth_to_limits(r: &HostileRow) -> Option<f64> {
+    let last = r.points.last().unwrap();
+    match &r.limit { Some(Ok(p)) if p.n >= 2 * last.n => Some(growth(last, p)), _ => None }
+}
+
 fn shown_limit(r: &HostileRow) -> String {
+    let grown = growth_to_limits(r).map_or(String::new(), |e| format!(", exponent up to there {e:.2}"));
     match r.limit {
         None => String::new(),
-        Some(Ok(p)) => format!("{} of {} MB, exponent from there {:.2}", duration(p.seconds), figures(p.input as f64 / 1e6), growth(r.points.last().unwrap(), &p)),
+        Some(Ok(p)) => format!("{} of {} MB{grown}", duration(p.seconds), figures(p.input as f64 / 1e6)),
         Some(Err(seconds)) => format!("not run: {} expected", duration(seconds)),
     }
 }
@@ -392,11 +399,10 @@ fn hostile_table(rows: &[HostileRow]) -> String {
     s
 }
 
-// A row that was stopped, or grows faster than n to the 1.6 and takes a millisecond at least.
+// A row that was stopped, or was not run at the limits, or grows faster than n to the 1.6 and takes a millisecond at least.
 fn is_slow(r: &HostileRow) -> bool {
-    let last = r.points.last().unwrap();
-    let at_limits = match &r.limit { Some(Ok(p)) => growth(last, p), Some(Err(_)) => 2.0, None => 0.0 };
-    r.stopped || (exponent(&r.points).unwrap_or(0.0).max(at_limits) > 1.6 && last.seconds > 1e-3)
+    let greatest = exponent(&r.points).unwrap_or(0.0).max(growth_to_limits(r).unwrap_or(0.0));
+    r.stopped || matches!(r.limit, Some(Err(_))) || (greatest > 1.6 && r.points.last().unwrap().seconds > 1e-3)
 }
 
 fn hostile_summary(rows: &[HostileRow]) -> String {
