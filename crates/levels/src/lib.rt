@@ -20,7 +20,7 @@ ghost use Rattle.records.specs.Runs.{testAt};
 ghost use Rattle.model.specs.WellFormed.{wordOf};
 ghost use Rattle.levels.specs.Below.{LevelsFit, below, segmentsBelow, contentBelow, contentsBelow, usedBelow, bodyBelow, levelIn};
 ghost use Rattle.levels.specs.Table.{segmentTest, contentTest, Skips, Step, Said, Risen, Filled, Kept, Bound, Block, Greatest, Tops, Tables};
-ghost use Rattle.levels.specs.Whole.{levelsIn};
+ghost use Rattle.levels.specs.Whole.{levelsIn, Walked};
 
 fn level_below(tape: &[u8], at: usize, level: u8) -> bool
     requires { ⌜ at + 37 ≤ length (now tape) ⌝ }
@@ -190,13 +190,15 @@ fn run_levels_quick(tape: &[u8], st: store::Store, at: usize, count: usize) -> b
     true
 }
 
-fn levels_quick(tape: &[u8], st: store::Store, layers: usize) -> bool
+// The layers behind the first, which was walked and ends at `from`.
+fn levels_quick(tape: &[u8], st: store::Store, from: usize, layers: usize) -> bool
     requires { ⌜ LevelsFit (now tape) st ⌝ }
     requires { ⌜ layers ≡ length (places (now tape) .layers) ⌝ }
+    requires { ⌜ (1 ≤ layers) × Walked (now tape) st 1 from ⌝ }
     ensures { λ r. ⌜ (r ≡ true → levelsIn (now (tape .entry)) st ≡ true) ⌝ }
 {
-    let mut at = 9;
-    let mut i = 0;
+    let mut at = from;
+    let mut i = 1;
     while i < layers {
         let l = places::next_layer(tape, at);
         if !run_levels_quick(tape, st, l.segments.at, l.segments.count) {
@@ -682,13 +684,21 @@ fn levels_tabled(tape: &[u8], st: store::Store, layers: usize) -> bool
     levels_by(tape, st, &tops, &heights, layers)
 }
 
-// Number 5, whole.
+// Number 5, whole. The first layer is asked by itself: called from two places, `levels_tabled` is not made part of its caller, and
+// a book that needs no tables needs no room for them.
 pub fn levels_ok(tape: &[u8], st: store::Store, layers: usize) -> bool
     requires { ⌜ LevelsFit (now tape) st ⌝ }
     requires { ⌜ layers ≡ length (places (now tape) .layers) ⌝ }
     ensures { λ r. ⌜ r ≡ levelsIn (now (tape .entry)) st ⌝ }
 {
-    if levels_quick(tape, st, layers) {
+    if layers == 0 {
+        return true;
+    }
+    let l = places::next_layer(tape, 9);
+    if !run_levels_quick(tape, st, l.segments.at, l.segments.count) {
+        return levels_tabled(tape, st, layers);
+    }
+    if levels_quick(tape, st, l.end, layers) {
         return true;
     }
     levels_tabled(tape, st, layers)
