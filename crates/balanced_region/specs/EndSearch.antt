@@ -5,17 +5,16 @@ use mathlib.Core.Path.{_≡_, refl, sym, ap, _∙_}
 use mathlib.Core.Bool.{Bool, true, false, cond, _&&_, and-false, and-true}
 use mathlib.Core.List.{List}
 use lib.ListN.{length}
-use lib.Dec.{leb, ltb}
-use borrow.Author.Tests.{ltb-true, ltb-false, leb-true, leb-false}
+use lib.Dec.{leb, ltb, eqb}
+use borrow.Author.Tests.{ltb-true, ltb-false, leb-true, leb-false, eqb-true, eqb-false}
 use Rattle.model.specs.Types.{SourceNode, PairLink}
 use Rattle.model.specs.Region.{newlineAt, blankLineBefore, nodesAllowCut, pairsAllowCut}
 use Rattle.wire.specs.Loops.{by-bool}
 use Rattle.cuts.specs.Safe.{cutAllowed, safe-test, safeCutIn}
 use Rattle.balanced_region.specs.Ends.{regionEndIn}
 use Rattle.cuts.specs.Offsets.{Refused, refused-none, refused-join, firstIn, first-is, refused-part, first-none, First, first-of}
-use Rattle.cuts.specs.Pairs.{endOr, acrossOf, end-at-least, around, end-free, end-covers}
+use Rattle.cuts.specs.Pairs.{reach, reach-free, reach-covers}
 use Rattle.cuts.specs.Gaps.{depthsZero}
-use Rattle.cuts.specs.declared.Across.{Across}
 
 -- text and pairs allow it
 unfoldable pub textPairsAllow : List ℕ → List PairLink → ℕ → Bool
@@ -23,25 +22,25 @@ textPairsAllow text ps c = blankLineBefore text c && pairsAllowCut ps c
 
 -- the next offset to try, from c on: c itself if text and pairs allow it; those that are passed over they refuse
 unfoldable pub nextTry : List ℕ → List PairLink → ℕ → ℕ
-nextTry text ps c = cond (blankLineBefore text c) (endOr (acrossOf ps c) c) (c + 1)
+nextTry text ps c = cond (blankLineBefore text c) (max c (reach ps c)) (c + 1)
 
 module _ (text : List ℕ) (ps : List PairLink) (c : ℕ) where
   pub try-at-least : c ≤ nextTry text ps c
   unfolding nextTry
-  try-at-least = by-bool (blankLineBefore text c) (λ e. rw e (end-at-least ps c (acrossOf ps c) (around ps c))) (λ e. rw e (omega arith))
+  try-at-least = by-bool (blankLineBefore text c) (λ e. rw e (omega arith)) (λ e. rw e (omega arith))
 
   pub try-allows : nextTry text ps c ≡ c → textPairsAllow text ps c ≡ true
   unfolding nextTry textPairsAllow
   try-allows h =
       by-bool (blankLineBefore text c)
-      (λ e. rw e (end-free ps c (acrossOf ps c) (around ps c) (rw e at h)))
+      (λ e. rw e (reach-free ps c (rw e at h)))
       (λ e. let q : c + 1 ≡ c = rw e at h in absurd (omega arith))
 
   pub try-refuses : Refused (textPairsAllow text ps) c (nextTry text ps c)
   unfolding nextTry textPairsAllow
   try-refuses =
       by-bool (blankLineBefore text c)
-      (λ e. rw e (record { fails = λ k a b. rw (end-covers ps c (acrossOf ps c) (around ps c) .fails k a b, and-false) refl }))
+      (λ e. rw e (record { fails = λ k a b. rw (reach-covers ps c .fails k a b, and-false) refl }))
       (λ e. rw e (record { fails = λ k a b. let q : k ≡ c = omega arith in rw (q, e) refl }))
 
   pub try-rises : (r : ℕ) → r ≡ nextTry text ps c → (r ≡ c → ⊥) → c < r
@@ -52,9 +51,16 @@ module _ (text : List ℕ) (ps : List PairLink) (c : ℕ) where
   unfolding nextTry
   try-no-line x q e = rw (← q, e) refl
 
-  pub try-pair : (x : Bool) → x ≡ blankLineBefore text c → x ≡ true → (a : Across) → a ≡ acrossOf ps c → endOr a c ≡ nextTry text ps c
+  pub try-pair : (x : Bool) → x ≡ blankLineBefore text c → x ≡ true → (a : ℕ) → a ≡ reach ps c → (r : ℕ) → r ≡ max c a → r ≡ nextTry text ps c
   unfolding nextTry
-  try-pair x q e a f = rw (← q, e, f) refl
+  try-pair x q e a f r s = s ∙ rw (← q, e, f) refl
+
+  -- the offset itself is tried next just if it is allowed
+  pub try-same : (r : ℕ) → r ≡ nextTry text ps c → eqb r c ≡ textPairsAllow text ps c
+  try-same r q =
+      by-bool (eqb r c)
+      (λ e. e ∙ sym (try-allows (sym q ∙ eqb-true r c e)))
+      (λ e. e ∙ sym (try-refuses .fails c (omega arith) (omega (arith, q, eqb-false r c e, try-at-least))))
 
 -- the search in one gap: c is the offset to try next
 pub record Tried (P : ℕ → Bool) (lo c : ℕ) : Type 0 where

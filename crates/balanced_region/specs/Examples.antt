@@ -6,11 +6,10 @@ use Rattle.model.specs.Types.{PairLink}
 use Rattle.model.specs.Region.{depthBehind, depth, nodesBefore, nodesAllowCut, pairsAllowCut, blankLineBefore}
 use Rattle.cuts.specs.Safe.{safeCutIn, cutAllowed}
 use Rattle.balanced_region.specs.Ends.{regionStartIn, regionEndIn}
-use Rattle.cuts.specs.Pairs.{acrossOf, widened, joined, startOr, endOr}
+use Rattle.cuts.specs.Pairs.{reach, reachOf}
 use Rattle.balanced_region.specs.EndSearch.{nextTry}
 use Rattle.balanced_region.specs.Unmatched.{depthsBefore, noDepths, depthsPast, lastUnmatched, isUnmatched}
 use Rattle.cuts.specs.Gaps.{closesNothing}
-use Rattle.balanced_region.specs.StartSearch.{earlierTry, lastTry}
 use Rattle.cuts.specs.Examples.{nodeOf, lines}
 
 abbrev pairOf : ℕ → ℕ → PairLink
@@ -32,8 +31,7 @@ unmatched-close : depthsBefore 8 noDepths (nodeOf 3 0 0 2 3 ∷ nodeOf 2 0 0 4 5
 unfolding depthsBefore noDepths depthsPast lastUnmatched isUnmatched closesNothing depthBehind
 unmatched-close = refl
 
--- the search goes on where the pair across the offset ends, and back where it starts
-pairs-across : (nextTry lines (pairOf 3 9 ∷ []) 7 ≡ 9) × (regionEndIn lines [] (pairOf 3 9 ∷ []) 9 3 ≡ 10)
-    × (earlierTry lines (pairOf 3 9 ∷ []) 7 ≡ 3) × (lastTry lines (pairOf 3 9 ∷ []) 1 9 9 ≡ 2) × (regionStartIn lines [] (pairOf 3 9 ∷ []) 9 ≡ 2)
-unfolding nextTry acrossOf widened joined startOr endOr earlierTry lastTry regionStartIn regionEndIn safeCutIn cutAllowed blankLineBefore nodesAllowCut nodesBefore depth pairsAllowCut
-pairs-across = (refl, refl, refl, refl, refl)
+-- the search goes on where the pair across the offset ends; the start lies before it
+pairs-across : (nextTry lines (pairOf 3 9 ∷ []) 7 ≡ 9) × (regionEndIn lines [] (pairOf 3 9 ∷ []) 9 3 ≡ 10) × (regionStartIn lines [] (pairOf 3 9 ∷ []) 9 ≡ 2)
+unfolding nextTry reach reachOf regionStartIn regionEndIn safeCutIn cutAllowed blankLineBefore nodesAllowCut nodesBefore depth pairsAllowCut
+pairs-across = (refl, refl, refl)

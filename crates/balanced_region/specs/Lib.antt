@@ -1,7 +1,6 @@
 pub mod Ends
 pub mod EndSearch
 pub mod Unmatched
-pub mod Blank
 pub mod StartSearch
 pub mod Walks
 pub mod Examples

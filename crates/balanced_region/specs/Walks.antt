@@ -1,6 +1,7 @@
 -- The loops of the crate, turn by turn: the walks over the nodes, and the search for the start.
 use Prim.Native.Nat.{ℕ, _+_, _-_, _≤_, _<_, max, min}
 use native.Mathlib.Omega.{arith}
+use mathlib.Core.Logic.{inl}
 use mathlib.Core.Path.{_≡_, refl, sym, ap, _∙_}
 use mathlib.Core.Bool.{Bool, false}
 use mathlib.Core.List.{List}
@@ -14,16 +15,15 @@ use Rattle.places.specs.declared.Run.{Run}
 use Rattle.wire.specs.Loops.{by-bool}
 use Rattle.cuts.specs.Safe.{cutAllowed}
 use Rattle.balanced_region.specs.Ends.{regionEndIn, regionStartIn}
-use Rattle.cuts.specs.Offsets.{Refused, refused-none}
+use Rattle.cuts.specs.Offsets.{Refused, refused-none, Latest, latest-none}
 use Rattle.cuts.specs.Pairs.{pairsOf}
 use Rattle.cuts.specs.Gaps.{Walked, nodesOf, walked-none, in-order-nodes, depthsZero, walked-rest, nodeAt, walked-gap}
 use Rattle.cuts.specs.Gaps.{walked-more, NodesIn, walked-span, walked-refused}
 use Rattle.balanced_region.specs.EndSearch.{gapFirst, end-last, gap-searched, Searched, end-found, refused-on, allowed-not}
 use Rattle.balanced_region.specs.Unmatched.{depthsAt, depthsBefore, noDepths, gapFrom, Front, front-of, unmatched-small, blocks-back, warichu-back}
 use Rattle.balanced_region.specs.Unmatched.{GapAt, gap-at, gap-next, gap-rises}
-use Rattle.balanced_region.specs.Blank.{lastAllowed, cut-latest}
-use Rattle.balanced_region.specs.StartSearch.{refused-text, gapLast, lastCut, Down, gap-down, cut-found, cut-none, cut-over, endsBehindNewline, start-none}
-use Rattle.balanced_region.specs.StartSearch.{start-found, start-more}
+use Rattle.balanced_region.specs.StartSearch.{gapLast, lastCut, Down, gap-down, cut-found, cut-none, cut-over, endsBehindNewline, start-is, start-found, start-more}
+use Rattle.balanced_region.specs.StartSearch.{latest-gap, latest-node, latest-cut, cut-latest}
 use Rattle.balanced_region.specs.declared.Depths.{Depths}
 
 -- ---- `region_end`: no offset behind o and before `from` is a cut
@@ -111,9 +111,9 @@ module _ {text t : List ℕ} {r p : Run} {d : Depths} {bound : ℕ} (n : InOrder
         walked-gap (g .walked) h (n .sourceSpan .start) (n .sourceSpan .end) refl refl k (omega (arith, q, g .low)) (omega (arith, w .before h)))
         (λ e. walked-rest (g .walked) (ltb-false i (r .count) e) k (omega (arith, q, g .low))))
 
-    module _ (c : ℕ) (e : c ≡ gapLast text (pairsOf t p) blocks warichu lo hi) where
+    module _ (e₀ : ℕ) (m₀ : e₀ ≡ min (lo - 1) hi) (c : ℕ) (e : c ≡ gapLast text (pairsOf t p) blocks warichu lo (hi + 1) e₀) where
       down-here : Down (cutAllowed text (nodesOf t r) (pairsOf t p)) lo hi c
-      down-here = gap-down text (nodesOf t r) (pairsOf t p) blocks warichu lo hi down-positive down-gap c e
+      down-here = gap-down text (nodesOf t r) (pairsOf t p) blocks warichu lo hi down-positive down-gap e₀ m₀ c e
 
       low : gapFrom t r (d .unmatched) ≤ lo
       low = omega (arith, q, gap-rises (n .size) t r (in-order-nodes n) (i - d .unmatched) (d .unmatched) i (omega (arith, w .from)) (omega (arith, w .upto, f .within)))
@@ -155,86 +155,97 @@ module _ {text t : List ℕ} {r p : Run} {d : Depths} {bound : ℕ} (n : InOrder
                 lo c low down-here start h inner);
           }
 
--- ---- `region_start`: no offset behind `bound`, up to o, is a cut, and the nodes from the one numbered `front` on start behind it
+-- ---- `last_cut_before`: `last` is the last cut before `from`
 
-pub record StartWalk (text t : List ℕ) (r p : Run) (o bound front : ℕ) : Type 0 where
-  pub inside : o ≤ length text
-  pub notEnd : endsBehindNewline text o ≡ false
-  pub below : bound ≤ o
-  pub within : front ≤ r .count
-  pub before : front < r .count → bound ≤ nodeAt t r front .sourceSpan .start
-  pub none : Refused (cutAllowed text (nodesOf t r) (pairsOf t p)) (bound + 1) (o + 1)
+pub record LastWalk (text t : List ℕ) (r p : Run) (bound i from blocks warichu last : ℕ) : Type 0 where
+  pub size : ℕ
+  pub walked : Walked size t r i from blocks warichu
+  pub latest : Latest (cutAllowed text (nodesOf t r) (pairsOf t p)) from last
+  pub below : last ≤ bound
 
-pub start-walk-none : (text t : List ℕ) (r p : Run) (o : ℕ) → o ≤ length text → (x : Bool) → x ≡ endsBehindNewline text o → x ≡ false → StartWalk text t r p o o (r .count)
-start-walk-none text t r p o h x q e = record {
-  inside = h;
-  notEnd = sym q ∙ e;
+pub last-walk-none : (text t : List ℕ) (r p : Run) (bound : ℕ) → InOrder (nodesOf t r) → LastWalk text t r p bound 0 0 0 0 0
+last-walk-none text t r p bound h = record {
+  size = h .size;
+  walked = walked-none (h .size) t r (in-order-nodes h);
+  latest = latest-none (cutAllowed text (nodesOf t r) (pairsOf t p));
   below = omega arith;
-  within = omega arith;
-  before = λ b. absurd (omega arith);
-  none = refused-none (o + 1) (o + 1) (omega arith);
 }
 
-module _ {text t : List ℕ} {r p : Run} {o bound front : ℕ} (w : StartWalk text t r p o bound front) where
-  pub start-walk-done : bound ≤ 0 → 0 ≡ regionStartIn text (nodesOf t r) (pairsOf t p) o
-  start-walk-done z = start-none text (nodesOf t r) (pairsOf t p) o bound (w .none) (w .below) (w .notEnd) (w .inside) (omega arith)
+module _ {text t : List ℕ} {r p : Run} {bound i from blocks warichu last : ℕ} (w : LastWalk text t r p bound i from blocks warichu last) where
+  pub last-walk-done : r .count ≤ i → (c : ℕ) → c ≡ gapLast text (pairsOf t p) blocks warichu from (bound + 1) last → c ≡ lastCut text (nodesOf t r) (pairsOf t p) 1 bound
+  last-walk-done h c q =
+      latest-cut text (nodesOf t r) (pairsOf t p)
+      (latest-gap text (nodesOf t r) (pairsOf t p) blocks warichu from (bound + 1) last (w .latest) (λ k x y. walked-rest (w .walked) h k x) c q bound (w .below) (omega arith))
 
-  module _ (d : Depths) (q : d ≡ depthsBefore bound noDepths (recordsAt nodeCodec t (r .at) front)) where
-    pub start-front : Front t r bound d
-    start-front = front-of t r bound front (w .within) (w .before) d q .0
+  module _ (h : i < r .count) (start : ℕ) (q : start ≡ nodeAt t r i .sourceSpan .start) where
+    gap : (k : ℕ) → from ≤ k → k ≤ start → nodesAllowCut (nodesOf t r) k ≡ depthsZero blocks warichu
+    gap k x y = walked-gap (w .walked) h start (nodeAt t r i .sourceSpan .end) q refl k x y
 
-    pub start-falls : d .unmatched ≤ front
-    start-falls =
-        let f = front-of t r bound front (w .within) (w .before) d q in
-        omega (arith, ap (λ (x : Depths). x .unmatched) (f .0 .is), unmatched-small t (r .at) (d .count), f .1)
+    pub last-walk-stop : bound ≤ start → (c : ℕ) → c ≡ gapLast text (pairsOf t p) blocks warichu from (bound + 1) last → c ≡ lastCut text (nodesOf t r) (pairsOf t p) 1 bound
+    last-walk-stop b c e =
+        latest-cut text (nodesOf t r) (pairsOf t p)
+        (latest-gap text (nodesOf t r) (pairsOf t p) blocks warichu from (bound + 1) last (w .latest) (λ k x y. gap k x (omega arith)) c e bound (w .below) (omega arith))
 
-    module _ (n : InOrder (nodesOf t r)) (c : ℕ) (e : c ≡ lastCut text (nodesOf t r) (pairsOf t p) (gapFrom t r (d .unmatched)) bound) where
-      gap-here : GapAt (n .size) t r (d .unmatched)
-      gap-here = gap-of t r n (d .unmatched) (omega (arith, start-falls, w .within))
+    pub last-walk-more : start < bound → (c : ℕ) → c ≡ gapLast text (pairsOf t p) blocks warichu from (start + 1) last
+        → (end : ℕ) → end ≡ nodeAt t r i .sourceSpan .end → (blocks′ warichu′ : ℕ) → blocks′ ≡ depthBehind isBlockOpen isBlockClose blocks (nodeAt t r i)
+        → warichu′ ≡ depthBehind isWarichuOpen isWarichuClose warichu (nodeAt t r i) → LastWalk text t r p bound (i + 1) end blocks′ warichu′ c
+    last-walk-more b c g end q₁ blocks′ warichu′ e f =
+        let l = latest-gap text (nodesOf t r) (pairsOf t p) blocks warichu from (start + 1) last (w .latest) (λ k x y. gap k x (omega arith)) c g bound (w .below) (omega arith) in
+        record {
+          size = w .size;
+          walked = walked-more (w .walked) h start end q q₁ blocks′ warichu′ e f;
+          latest = latest-node text (nodesOf t r) (pairsOf t p) start (l .0) (walked-refused (w .walked) h start end q q₁);
+          below = l .1;
+        }
 
-      pub start-walk-found : 0 < c → c ≡ regionStartIn text (nodesOf t r) (pairsOf t p) o
-      start-walk-found h =
-          start-found text (nodesOf t r) (pairsOf t p) o bound (w .none) (w .below) (gapFrom t r (d .unmatched)) c (gap-here .positive) e h
-          (w .notEnd) (w .inside)
+-- ---- `region_start`: behind the last unmatched close, then before it
 
-      behind-gap : c ≤ 0 → Refused (cutAllowed text (nodesOf t r) (pairsOf t p)) (gapFrom t r (d .unmatched)) (o + 1)
-      behind-gap z = start-more text (nodesOf t r) (pairsOf t p) o bound (w .none) (w .below) (gapFrom t r (d .unmatched)) c (gap-here .positive) e z
+module _ (t : List ℕ) (r : Run) (o : ℕ) (d : Depths) (q : d ≡ depthsBefore o noDepths (nodesOf t r)) where
+  pub start-front : Front t r o d
+  start-front = front-of t r o (r .count) (omega arith) (λ b. absurd (omega arith)) d q .0
 
-      pub start-walk-first : c ≤ 0 → d .unmatched ≡ 0 → 0 ≡ regionStartIn text (nodesOf t r) (pairsOf t p) o
-      unfolding gapFrom
-      start-walk-first z h =
-          let f : Refused (cutAllowed text (nodesOf t r) (pairsOf t p)) (0 + 1) (o + 1) = rw h at (behind-gap z) in
-          start-none text (nodesOf t r) (pairsOf t p) o 0 f (omega arith) (w .notEnd) (w .inside) refl
+  pub start-falls : d .unmatched ≤ r .count
+  start-falls = let f = start-front in omega (arith, ap (λ (x : Depths). x .unmatched) (f .is), unmatched-small t (r .at) (d .count), f .within)
 
-      -- from the last unmatched close on, downwards
-      pub start-walk-more : c ≤ 0 → (d .unmatched ≡ 0 → ⊥) → (front′ : ℕ) → front′ ≡ d .unmatched - 1
-          → (start : ℕ) → start ≡ nodeAt t r front′ .sourceSpan .start → (hi : ℕ) → hi ≡ min bound start
-          → (bound′ : ℕ) → bound′ ≡ lastAllowed text (nodesOf t r) hi → StartWalk text t r p o bound′ front′
-      start-walk-more z h front′ s start a hi m bound′ last =
-          let v : d .unmatched ≡ front′ + 1 = omega (arith, h) in
-          let l : front′ < r .count = omega (arith, start-falls, w .within) in
-          let g = gap-of t r n front′ (omega arith) in
-          let end : gapFrom t r (d .unmatched) ≡ nodeAt t r front′ .sourceSpan .end = ap (gapFrom t r) v ∙ gap-next t r front′ in
-          let inner = walked-refused (g .walked) l start (nodeAt t r front′ .sourceSpan .end) a refl in
-          let all = behind-gap z in
-          let latest = cut-latest text (nodesOf t r) hi bound′ last in
-          record {
-            inside = w .inside;
-            notEnd = w .notEnd;
-            below = omega (arith, m, latest .1, w .below);
-            within = omega arith;
-            before = λ b. omega (arith, a, m, latest .1);
-            none = record {
-              fails = λ k x y.
-                  by-bool (ltb k (hi + 1))
-                  (λ u. refused-text text (nodesOf t r) (pairsOf t p) k (latest .0 .behind .fails k x (ltb-true k (hi + 1) u)))
-                  (λ v. let z₁ = ltb-false k (hi + 1) v in by-bool (ltb k (bound + 1))
-                  (λ u. by-bool (ltb k (gapFrom t r (d .unmatched)))
-                  (λ i.
-                  let x₁ = ltb-true k (bound + 1) u in
-                  let y₁ = ltb-true k (gapFrom t r (d .unmatched)) i in
-                  allowed-not text (nodesOf t r) (pairsOf t p) k (inner .fails k (omega (arith, m)) (omega (arith, end))))
-                  (λ i. all .fails k (ltb-false k (gapFrom t r (d .unmatched)) i) y))
-                  (λ u. w .none .fails k (ltb-false k (bound + 1) u) y));
-            };
-          }
+  module _ (text : List ℕ) (p : Run) (inside : o ≤ length text) (x : Bool) (ends : x ≡ endsBehindNewline text o) (no : x ≡ false) (n : InOrder (nodesOf t r))
+      (c : ℕ) (e : c ≡ lastCut text (nodesOf t r) (pairsOf t p) (gapFrom t r (d .unmatched)) o) where
+    gap-here : GapAt (n .size) t r (d .unmatched)
+    gap-here = gap-of t r n (d .unmatched) start-falls
+
+    pub start-walk-found : 0 < c → c ≡ regionStartIn text (nodesOf t r) (pairsOf t p) o
+    start-walk-found h = start-found text (nodesOf t r) (pairsOf t p) o (gapFrom t r (d .unmatched)) c (gap-here .positive) e h (sym ends ∙ no) inside
+
+    behind-gap : c ≤ 0 → Refused (cutAllowed text (nodesOf t r) (pairsOf t p)) (gapFrom t r (d .unmatched)) (o + 1)
+    behind-gap z = start-more text (nodesOf t r) (pairsOf t p) o (gapFrom t r (d .unmatched)) c (gap-here .positive) e z
+
+    pub start-walk-first : c ≤ 0 → d .unmatched ≡ 0 → 0 ≡ regionStartIn text (nodesOf t r) (pairsOf t p) o
+    unfolding gapFrom
+    start-walk-first z h =
+        let f : Refused (cutAllowed text (nodesOf t r) (pairsOf t p)) (0 + 1) (o + 1) = rw h at (behind-gap z) in
+        start-is text (nodesOf t r) (pairsOf t p) o 0 (sym ends ∙ no) inside (omega arith) (record { passes = inl refl; behind = f })
+
+    -- before the last unmatched close, numbered j
+    pub start-walk-rest : c ≤ 0 → (d .unmatched ≡ 0 → ⊥) → (j : ℕ) → j ≡ d .unmatched - 1 → (start : ℕ) → start ≡ nodeAt t r j .sourceSpan .start
+        → (hi : ℕ) → hi ≡ min o start → (c′ : ℕ) → c′ ≡ lastCut text (nodesOf t r) (pairsOf t p) 1 hi → c′ ≡ regionStartIn text (nodesOf t r) (pairsOf t p) o
+    start-walk-rest z h j s start a hi m c′ last =
+        let v : d .unmatched ≡ j + 1 = omega (arith, h) in
+        let l : j < r .count = omega (arith, start-falls) in
+        let g = gap-of t r n j (omega arith) in
+        let end : gapFrom t r (d .unmatched) ≡ nodeAt t r j .sourceSpan .end = ap (gapFrom t r) v ∙ gap-next t r j in
+        let inner = walked-refused (g .walked) l start (nodeAt t r j .sourceSpan .end) a refl in
+        let latest = cut-latest text (nodesOf t r) (pairsOf t p) hi c′ last in
+        start-is text (nodesOf t r) (pairsOf t p) o c′ (sym ends ∙ no) inside (omega (arith, m, latest .1)) (record {
+          passes = latest .0 .passes;
+          behind = record {
+            fails = λ k x y.
+                by-bool (ltb k (hi + 1))
+                (λ u. latest .0 .behind .fails k x (ltb-true k (hi + 1) u))
+                (λ u.
+                let z₁ = ltb-false k (hi + 1) u in
+                by-bool (ltb k (gapFrom t r (d .unmatched)))
+                (λ i.
+                let y₁ = ltb-true k (gapFrom t r (d .unmatched)) i in
+                allowed-not text (nodesOf t r) (pairsOf t p) k (inner .fails k (omega (arith, m)) (omega (arith, end))))
+                (λ i. behind-gap z .fails k (ltb-false k (gapFrom t r (d .unmatched)) i) y));
+          };
+        })

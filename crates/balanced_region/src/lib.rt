@@ -1,62 +1,54 @@
 // The two ends of a region, document 01 section 6, over the text, the nodes and the pairs of a book's tape. They are not found by
 // asking `safe_cut` of each newline: an offset that the nodes allow lies in a gap between two of them behind which both depths are 0,
-// so one walk over the nodes meets all of them, and the pairs are walked only for an offset that text and nodes allow. The end is
-// found by one walk. For the start one walk counts the depths and one goes back from gap to gap; depths can be counted backwards
-// only as far as the last close without an open. Before such a close one walk finds the last offset that text and nodes allow, and
-// the search begins again there: so walks are added only where such a close lies between two offsets that pairs refuse.
+// so one walk over the nodes meets all of them. What the pairs say of an offset that text and nodes allow is read from a window of
+// offsets in lent words, which one walk over the pairs fills (crate `cuts`). The end is found by one walk over the nodes. For the start
+// one walk counts the depths and one goes back from gap to gap; depths can be counted backwards only as far as the last close without
+// an open. If there is no cut behind it, one more walk, forwards, finds the last before it.
 ghost use mathlib.Core.Path.{_≡_};
 ghost use Prim.Native.Nat.{_+_, _-_, _*_, _≤_, _<_, max, min};
 ghost use lib.ListN.{length};
 ghost use Rattle.model.specs.Tape.{recordAt, nodeCodec};
-ghost use Rattle.model.specs.Region.{blankLineBefore, isBlockOpen, isBlockClose, isWarichuOpen, isWarichuClose, depthBehind, across};
+ghost use Rattle.model.specs.Region.{isBlockOpen, isBlockClose, isWarichuOpen, isWarichuClose, depthBehind};
 ghost use Rattle.bounds.specs.Search.{InOrder};
 ghost use Rattle.balanced_region.specs.Ends.{regionEndIn, regionStartIn, regionOf, balancedIn};
 ghost use Rattle.cuts.specs.Offsets.{firstIn, lastFrom};
-ghost use Rattle.cuts.specs.Pairs.{pairsOf, startOr, endOr};
+ghost use Rattle.cuts.specs.Pairs.{pairsOf};
+ghost use Rattle.cuts.specs.Window.{Window};
 ghost use Rattle.cuts.specs.Gaps.{nodesOf, NodesIn};
 ghost use Rattle.balanced_region.specs.EndSearch.{nextTry, textPairsAllow, gapFirst};
 ghost use Rattle.balanced_region.specs.Unmatched.{isUnmatched, lastUnmatched, depthsPast, depthsBefore, noDepths, gapFrom, Front};
-ghost use Rattle.balanced_region.specs.Blank.{gapBlank, lastAllowed};
-ghost use Rattle.balanced_region.specs.StartSearch.{earlierTry, lastTry, gapLast, lastCut, endsBehindNewline};
-
-// Where they start, else the offset itself.
-fn start_or(a: cuts::Across, o: usize) -> usize
-    ensures { λ r. ⌜ r ≡ startOr a o ⌝ }
-{
-    match a {
-        cuts::Across::Pair(start, _) => start as usize,
-        cuts::Across::Nothing => o,
-    }
-}
-
-fn end_or(a: cuts::Across, o: usize) -> usize
-    ensures { λ r. ⌜ r ≡ endOr a o ⌝ }
-{
-    match a {
-        cuts::Across::Pair(_, end) => end as usize,
-        cuts::Across::Nothing => o,
-    }
-}
+ghost use Rattle.balanced_region.specs.StartSearch.{gapLast, lastCut, endsBehindNewline};
 
 // The next offset to try for a cut that text and pairs allow: where a pair lies across, all up to its end are refused.
-fn next_try(tape: &[u8], text: &[u8], pairs: places::Run, o: usize) -> usize
+fn next_try(tape: &[u8], text: &[u8], pairs: places::Run, o: usize, words: &mut [u32]) -> usize
     requires { ⌜ (pairs .at + 18 * pairs .count ≤ length (now tape)) × (o ≤ length (now text)) ⌝ }
+    requires { ⌜ Window (pairsOf (now tape) pairs) (now words) ⌝ }
     ensures { λ r. ⌜ r ≡ nextTry (now (text .entry)) (pairsOf (now (tape .entry)) pairs) o ⌝ }
+    ensures { λ _. ⌜ Window (pairsOf (now (tape .entry)) pairs) (now (words .exit)) ⌝ }
 {
     if !cuts::blank_line_before(text, o) {
         return o + 1;
     }
-    end_or(cuts::pair_across(tape, pairs, o), o)
+    later(o, cuts::reach_at(tape, pairs, o, words) as usize)
 }
 
 // The first offset from lo on and before hi that text and pairs allow, else hi.
-fn first_cut_in(tape: &[u8], text: &[u8], pairs: places::Run, lo: usize, hi: usize) -> usize
+fn first_cut_in(
+    tape: &[u8],
+    text: &[u8],
+    pairs: places::Run,
+    lo: usize,
+    hi: usize,
+    words: &mut [u32],
+) -> usize
     requires { ⌜ (pairs .at + 18 * pairs .count ≤ length (now tape)) × (hi ≤ length (now text)) ⌝ }
+    requires { ⌜ Window (pairsOf (now tape) pairs) (now words) ⌝ }
     ensures { λ r. ⌜ r ≡ firstIn (textPairsAllow (now (text .entry)) (pairsOf (now (tape .entry)) pairs)) (hi - lo) hi ⌝ }
+    ensures { λ _. ⌜ Window (pairsOf (now (tape .entry)) pairs) (now (words .exit)) ⌝ }
 {
     let mut c = lo;
     while c < hi {
-        let next = next_try(tape, text, pairs, c);
+        let next = next_try(tape, text, pairs, c, words);
         if next == c {
             return c;
         }
@@ -84,14 +76,17 @@ fn gap_first(
     hi: usize,
     blocks: usize,
     warichu: usize,
+    words: &mut [u32],
 ) -> usize
     requires { ⌜ (pairs .at + 18 * pairs .count ≤ length (now tape)) × (hi ≤ length (now text)) × (o ≤ length (now text)) ⌝ }
+    requires { ⌜ Window (pairsOf (now tape) pairs) (now words) ⌝ }
     ensures { λ r. ⌜ r ≡ gapFirst (now (text .entry)) (pairsOf (now (tape .entry)) pairs) blocks warichu (max from (o + 1)) hi ⌝ }
+    ensures { λ _. ⌜ Window (pairsOf (now (tape .entry)) pairs) (now (words .exit)) ⌝ }
 {
     if !cuts::depths_zero(blocks, warichu) {
         return hi;
     }
-    first_cut_in(tape, text, pairs, later(from, o + 1), hi)
+    first_cut_in(tape, text, pairs, later(from, o + 1), hi, words)
 }
 
 // Section 6. End: the first safe offset after a newline at or behind an offset, else the length.
@@ -101,10 +96,13 @@ pub fn region_end(
     nodes: places::Run,
     pairs: places::Run,
     o: usize,
+    words: &mut [u32],
 ) -> usize
     requires { ⌜ (nodes .at + 49 * nodes .count ≤ length (now tape)) × (pairs .at + 18 * pairs .count ≤ length (now tape)) × (o ≤ length (now text)) ⌝ }
     requires { ⌜ NodesIn (length (now text)) (nodesOf (now tape) nodes) ⌝ }
+    requires { ⌜ Window (pairsOf (now tape) pairs) (now words) ⌝ }
     ensures { λ r. ⌜ r ≡ regionEndIn (now (text .entry)) (nodesOf (now (tape .entry)) nodes) (pairsOf (now (tape .entry)) pairs) (length (now (text .entry)) - o) o ⌝ }
+    ensures { λ _. ⌜ Window (pairsOf (now (tape .entry)) pairs) (now (words .exit)) ⌝ }
 {
     let mut from: usize = 0;
     let mut blocks: usize = 0;
@@ -113,7 +111,17 @@ pub fn region_end(
     while i < nodes.count {
         let p = nodes.at + 49 * i;
         let start = records::node_start(tape, p) as usize;
-        let c = gap_first(tape, text, pairs, from, o, start + 1, blocks, warichu);
+        let c = gap_first(
+            tape,
+            text,
+            pairs,
+            from,
+            o,
+            start + 1,
+            blocks,
+            warichu,
+            words,
+        );
         if c <= start {
             return c;
         }
@@ -122,7 +130,17 @@ pub fn region_end(
         warichu = cuts::warichu_depth(tape, p, warichu);
         i += 1;
     }
-    gap_first(tape, text, pairs, from, o, text.len(), blocks, warichu)
+    gap_first(
+        tape,
+        text,
+        pairs,
+        from,
+        o,
+        text.len(),
+        blocks,
+        warichu,
+        words,
+    )
 }
 
 // The depths counted backwards: the same over a node with open and close exchanged, unless the node closes at depth 0.
@@ -211,40 +229,45 @@ fn depths_before(tape: &[u8], nodes: places::Run, bound: usize) -> Depths
     d
 }
 
-// The next offset to try, downwards, for a cut that text and pairs allow: where a pair lies across, all from its start on are refused.
-fn earlier_try(tape: &[u8], text: &[u8], pairs: places::Run, o: usize) -> usize
-    requires { ⌜ (pairs .at + 18 * pairs .count ≤ length (now tape)) × (o ≤ length (now text)) × (1 ≤ o) ⌝ }
-    ensures { λ r. ⌜ r ≡ earlierTry (now (text .entry)) (pairsOf (now (tape .entry)) pairs) o ⌝ }
+// Do text and pairs allow it?
+fn text_pairs_allow(
+    tape: &[u8],
+    text: &[u8],
+    pairs: places::Run,
+    o: usize,
+    words: &mut [u32],
+) -> bool
+    requires { ⌜ (pairs .at + 18 * pairs .count ≤ length (now tape)) × (o ≤ length (now text)) ⌝ }
+    requires { ⌜ Window (pairsOf (now tape) pairs) (now words) ⌝ }
+    ensures { λ r. ⌜ r ≡ textPairsAllow (now (text .entry)) (pairsOf (now (tape .entry)) pairs) o ⌝ }
+    ensures { λ _. ⌜ Window (pairsOf (now (tape .entry)) pairs) (now (words .exit)) ⌝ }
 {
-    if !cuts::blank_line_before(text, o) {
-        return o - 1;
-    }
-    start_or(cuts::pair_across(tape, pairs, o), o)
+    next_try(tape, text, pairs, o, words) == o
 }
 
-// The tries from `hi` down to the first that text and pairs allow or that lies before lo.
-fn last_try(tape: &[u8], text: &[u8], pairs: places::Run, lo: usize, hi: usize) -> usize
-    requires { ⌜ (pairs .at + 18 * pairs .count ≤ length (now tape)) × (hi ≤ length (now text)) × (1 ≤ lo) ⌝ }
-    ensures { λ r. ⌜ r ≡ lastTry (now (text .entry)) (pairsOf (now (tape .entry)) pairs) lo hi hi ⌝ }
+// The last offset from lo on and before hi that text and pairs allow, else d.
+fn last_cut_in(
+    tape: &[u8],
+    text: &[u8],
+    pairs: places::Run,
+    lo: usize,
+    hi: usize,
+    d: usize,
+    words: &mut [u32],
+) -> usize
+    requires { ⌜ (pairs .at + 18 * pairs .count ≤ length (now tape)) × (hi ≤ length (now text) + 1) ⌝ }
+    requires { ⌜ Window (pairsOf (now tape) pairs) (now words) ⌝ }
+    ensures { λ r. ⌜ r ≡ lastFrom (textPairsAllow (now (text .entry)) (pairsOf (now (tape .entry)) pairs)) (hi - lo) lo d ⌝ }
+    ensures { λ _. ⌜ Window (pairsOf (now (tape .entry)) pairs) (now (words .exit)) ⌝ }
 {
     let mut c = hi;
-    while lo <= c {
-        let next = earlier_try(tape, text, pairs, c);
-        if next == c {
-            return c;
+    while lo < c {
+        if text_pairs_allow(tape, text, pairs, c - 1, words) {
+            return c - 1;
         }
-        c = next;
+        c -= 1;
     }
-    c
-}
-
-fn earlier(a: usize, b: usize) -> usize
-    ensures { λ r. ⌜ r ≡ min a b ⌝ }
-{
-    if a < b {
-        return a;
-    }
-    b
+    d
 }
 
 // The same of a gap where the nodes before it leave these depths.
@@ -256,14 +279,27 @@ fn gap_last(
     hi: usize,
     blocks: usize,
     warichu: usize,
+    d: usize,
+    words: &mut [u32],
 ) -> usize
-    requires { ⌜ (pairs .at + 18 * pairs .count ≤ length (now tape)) × (hi ≤ length (now text)) × (1 ≤ lo) ⌝ }
-    ensures { λ r. ⌜ r ≡ gapLast (now (text .entry)) (pairsOf (now (tape .entry)) pairs) blocks warichu lo hi ⌝ }
+    requires { ⌜ (pairs .at + 18 * pairs .count ≤ length (now tape)) × (hi ≤ length (now text) + 1) ⌝ }
+    requires { ⌜ Window (pairsOf (now tape) pairs) (now words) ⌝ }
+    ensures { λ r. ⌜ r ≡ gapLast (now (text .entry)) (pairsOf (now (tape .entry)) pairs) blocks warichu lo hi d ⌝ }
+    ensures { λ _. ⌜ Window (pairsOf (now (tape .entry)) pairs) (now (words .exit)) ⌝ }
 {
     if !cuts::depths_zero(blocks, warichu) {
-        return earlier(lo - 1, hi);
+        return d;
     }
-    last_try(tape, text, pairs, lo, hi)
+    last_cut_in(tape, text, pairs, lo, hi, d, words)
+}
+
+fn earlier(a: usize, b: usize) -> usize
+    ensures { λ r. ⌜ r ≡ min a b ⌝ }
+{
+    if a < b {
+        return a;
+    }
+    b
 }
 
 // Where the gap behind i nodes begins; that before the first node at 1, since 0 needs no search.
@@ -285,11 +321,14 @@ fn last_cut(
     pairs: places::Run,
     d: Depths,
     bound: usize,
+    words: &mut [u32],
 ) -> usize
     requires { ⌜ (nodes .at + 49 * nodes .count ≤ length (now tape)) × (pairs .at + 18 * pairs .count ≤ length (now tape)) × (bound ≤ length (now text)) ⌝ }
     requires { ⌜ InOrder (nodesOf (now tape) nodes) ⌝ }
     requires { ⌜ Front (now tape) nodes bound d ⌝ }
+    requires { ⌜ Window (pairsOf (now tape) pairs) (now words) ⌝ }
     ensures { λ r. ⌜ r ≡ lastCut (now (text .entry)) (nodesOf (now (tape .entry)) nodes) (pairsOf (now (tape .entry)) pairs) (gapFrom (now (tape .entry)) nodes (d .unmatched)) bound ⌝ }
+    ensures { λ _. ⌜ Window (pairsOf (now (tape .entry)) pairs) (now (words .exit)) ⌝ }
 {
     let mut i = d.count;
     let mut blocks = d.blocks;
@@ -297,7 +336,17 @@ fn last_cut(
     let mut hi = bound;
     while d.unmatched < i {
         let lo = gap_from(tape, nodes, i);
-        let c = gap_last(tape, text, pairs, lo, hi, blocks, warichu);
+        let c = gap_last(
+            tape,
+            text,
+            pairs,
+            lo,
+            hi + 1,
+            blocks,
+            warichu,
+            earlier(lo - 1, hi),
+            words,
+        );
         if lo <= c {
             return c;
         }
@@ -308,44 +357,37 @@ fn last_cut(
         warichu = warichu_before(tape, p, warichu);
     }
     let lo = gap_from(tape, nodes, i);
-    let c = gap_last(tape, text, pairs, lo, hi, blocks, warichu);
+    let c = gap_last(
+        tape,
+        text,
+        pairs,
+        lo,
+        hi + 1,
+        blocks,
+        warichu,
+        earlier(lo - 1, hi),
+        words,
+    );
     if lo <= c {
         return c;
     }
     0
 }
 
-// The last blank line from lo on and before hi, else d.
-fn last_blank(text: &[u8], lo: usize, hi: usize, d: usize) -> usize
-    requires { ⌜ hi ≤ length (now text) + 1 ⌝ }
-    ensures { λ r. ⌜ r ≡ lastFrom (blankLineBefore (now (text .entry))) (hi - lo) lo d ⌝ }
-{
-    let mut c = hi;
-    while lo < c {
-        if cuts::blank_line_before(text, c - 1) {
-            return c - 1;
-        }
-        c -= 1;
-    }
-    d
-}
-
-// The same of a gap where the nodes before it leave these depths.
-fn gap_blank(text: &[u8], lo: usize, hi: usize, blocks: usize, warichu: usize, d: usize) -> usize
-    requires { ⌜ hi ≤ length (now text) + 1 ⌝ }
-    ensures { λ r. ⌜ r ≡ gapBlank (now (text .entry)) blocks warichu lo hi d ⌝ }
-{
-    if !cuts::depths_zero(blocks, warichu) {
-        return d;
-    }
-    last_blank(text, lo, hi, d)
-}
-
-// The last offset at or before `bound` that text and nodes allow, else 0.
-fn last_allowed(tape: &[u8], text: &[u8], nodes: places::Run, bound: usize) -> usize
-    requires { ⌜ (nodes .at + 49 * nodes .count ≤ length (now tape)) × (bound ≤ length (now text)) ⌝ }
+// The last offset at or before `bound` that is a cut, else 0, by a walk from the first node on.
+fn last_cut_before(
+    tape: &[u8],
+    text: &[u8],
+    nodes: places::Run,
+    pairs: places::Run,
+    bound: usize,
+    words: &mut [u32],
+) -> usize
+    requires { ⌜ (nodes .at + 49 * nodes .count ≤ length (now tape)) × (pairs .at + 18 * pairs .count ≤ length (now tape)) × (bound ≤ length (now text)) ⌝ }
     requires { ⌜ InOrder (nodesOf (now tape) nodes) ⌝ }
-    ensures { λ r. ⌜ r ≡ lastAllowed (now (text .entry)) (nodesOf (now (tape .entry)) nodes) bound ⌝ }
+    requires { ⌜ Window (pairsOf (now tape) pairs) (now words) ⌝ }
+    ensures { λ r. ⌜ r ≡ lastCut (now (text .entry)) (nodesOf (now (tape .entry)) nodes) (pairsOf (now (tape .entry)) pairs) 1 bound ⌝ }
+    ensures { λ _. ⌜ Window (pairsOf (now (tape .entry)) pairs) (now (words .exit)) ⌝ }
 {
     let mut from: usize = 0;
     let mut blocks: usize = 0;
@@ -356,15 +398,45 @@ fn last_allowed(tape: &[u8], text: &[u8], nodes: places::Run, bound: usize) -> u
         let p = nodes.at + 49 * i;
         let start = records::node_start(tape, p) as usize;
         if bound <= start {
-            return gap_blank(text, from, bound + 1, blocks, warichu, last);
+            return gap_last(
+                tape,
+                text,
+                pairs,
+                from,
+                bound + 1,
+                blocks,
+                warichu,
+                last,
+                words,
+            );
         }
-        last = gap_blank(text, from, start + 1, blocks, warichu, last);
+        last = gap_last(
+            tape,
+            text,
+            pairs,
+            from,
+            start + 1,
+            blocks,
+            warichu,
+            last,
+            words,
+        );
         from = records::node_end(tape, p) as usize;
         blocks = cuts::block_depth(tape, p, blocks);
         warichu = cuts::warichu_depth(tape, p, warichu);
         i += 1;
     }
-    gap_blank(text, from, bound + 1, blocks, warichu, last)
+    gap_last(
+        tape,
+        text,
+        pairs,
+        from,
+        bound + 1,
+        blocks,
+        warichu,
+        last,
+        words,
+    )
 }
 
 // The length behind a newline.
@@ -388,43 +460,58 @@ pub fn region_start(
     nodes: places::Run,
     pairs: places::Run,
     o: usize,
+    words: &mut [u32],
 ) -> usize
     requires { ⌜ (nodes .at + 49 * nodes .count ≤ length (now tape)) × (pairs .at + 18 * pairs .count ≤ length (now tape)) × (o ≤ length (now text)) ⌝ }
     requires { ⌜ InOrder (nodesOf (now tape) nodes) ⌝ }
+    requires { ⌜ Window (pairsOf (now tape) pairs) (now words) ⌝ }
     ensures { λ r. ⌜ r ≡ regionStartIn (now (text .entry)) (nodesOf (now (tape .entry)) nodes) (pairsOf (now (tape .entry)) pairs) o ⌝ }
+    ensures { λ _. ⌜ Window (pairsOf (now (tape .entry)) pairs) (now (words .exit)) ⌝ }
 {
     if ends_behind_newline(text, o) {
         return o;
     }
-    let mut bound = o;
-    let mut front = nodes.count;
-    while 0 < bound {
-        let d = depths_before(
-            tape,
-            places::Run {
-                at: nodes.at,
-                count: front,
-            },
-            bound,
-        );
-        let c = last_cut(tape, text, nodes, pairs, d, bound);
-        if 0 < c {
-            return c;
-        }
-        if d.unmatched == 0 {
-            return 0;
-        }
-        front = d.unmatched - 1;
-        let start = records::node_start(tape, nodes.at + 49 * front) as usize;
-        bound = last_allowed(tape, text, nodes, earlier(bound, start));
+    let d = depths_before(tape, nodes, o);
+    let c = last_cut(tape, text, nodes, pairs, d, o, words);
+    if 0 < c {
+        return c;
     }
-    0
+    if d.unmatched == 0 {
+        return 0;
+    }
+    let start = records::node_start(tape, nodes.at + 49 * (d.unmatched - 1)) as usize;
+    last_cut_before(tape, text, nodes, pairs, earlier(o, start), words)
 }
 
 // Offsets of the old text.
 pub struct Region {
     pub start: usize,
     pub end: usize,
+}
+
+// The same with these words for the windows.
+fn region_in(
+    tape: &[u8],
+    text: &[u8],
+    nodes: places::Run,
+    pairs: places::Run,
+    start: usize,
+    end: usize,
+    words: &mut [u32],
+) -> Region
+    requires { ⌜ (nodes .at + 49 * nodes .count ≤ length (now tape)) × (pairs .at + 18 * pairs .count ≤ length (now tape)) ⌝ }
+    requires { ⌜ (start ≤ length (now text)) × (end ≤ length (now text)) ⌝ }
+    requires { ⌜ NodesIn (length (now text)) (nodesOf (now tape) nodes) ⌝ }
+    ensures { λ r. ⌜ regionOf r ≡ balancedIn (now (text .entry)) (nodesOf (now (tape .entry)) nodes) (pairsOf (now (tape .entry)) pairs) start end ⌝ }
+{
+    cuts::no_window(words);
+    let from = region_start(tape, text, nodes, pairs, start, words);
+    cuts::no_window(words);
+    let to = region_end(tape, text, nodes, pairs, end, words);
+    Region {
+        start: from,
+        end: to,
+    }
 }
 
 // Section 6. `balanced_region` of the edit from `start` to `end`.
@@ -435,14 +522,16 @@ pub fn balanced_region(
     pairs: places::Run,
     start: usize,
     end: usize,
+    words: &mut [u32],
 ) -> Region
     requires { ⌜ (nodes .at + 49 * nodes .count ≤ length (now tape)) × (pairs .at + 18 * pairs .count ≤ length (now tape)) ⌝ }
     requires { ⌜ (start ≤ length (now text)) × (end ≤ length (now text)) ⌝ }
     requires { ⌜ NodesIn (length (now text)) (nodesOf (now tape) nodes) ⌝ }
     ensures { λ r. ⌜ regionOf r ≡ balancedIn (now (text .entry)) (nodesOf (now (tape .entry)) nodes) (pairsOf (now (tape .entry)) pairs) start end ⌝ }
 {
-    Region {
-        start: region_start(tape, text, nodes, pairs, start),
-        end: region_end(tape, text, nodes, pairs, end),
+    if words.len() < 4096 {
+        let mut own = [0u32; 16384];
+        return region_in(tape, text, nodes, pairs, start, end, &mut own);
     }
+    region_in(tape, text, nodes, pairs, start, end, words)
 }

@@ -1,173 +1,118 @@
--- The pairs across an offset, and which offsets they refuse.
-use Prim.Native.Nat.{ℕ, suc, _+_, _-_, _*_, _≤_, _<_, min, max}
+-- How far the pairs reach that start before an offset, and that this tells whether one lies across it.
+use Prim.Native.Nat.{ℕ, suc, _+_, _-_, _*_, _≤_, _<_, max}
 use native.Mathlib.Omega.{arith}
-use mathlib.Core.Path.{_≡_, refl, ap, _∙_}
-use mathlib.Core.Bool.{Bool, true, false, cond}
+use mathlib.Core.Path.{_≡_, refl, sym, ap, _∙_}
+use mathlib.Core.Bool.{Bool, true, false, cond, true≢false}
 use mathlib.Core.List.{List, [], _∷_}
-use lib.Dec.{ltb}
-use borrow.Author.Tests.{lt-ltb, ltb-true, ltb-false}
+use lib.Dec.{ltb, leb}
+use borrow.Author.Tests.{lt-ltb, le-ltb, ltb-true, ltb-false, leb-true, leb-false, le-leb, lt-leb}
 use Rattle.model.specs.Types.{PairLink}
 use Rattle.model.specs.Tape.{recordAt, recordsAt, pairCodec}
-use Rattle.model.specs.Region.{across, pairsAllowCut}
-use Rattle.laws.specs.Lists.{both}
+use Rattle.model.specs.Region.{pairsAllowCut}
 use Rattle.records.specs.Runs.{run-cons, run-none}
 use Rattle.wire.specs.Loops.{by-bool}
 use Rattle.places.specs.declared.Run.{Run}
-use Rattle.cuts.specs.declared.Across.{Across}
-use Rattle.cuts.specs.declared.Across.the-variants.{Pair, Nothing}
 use Rattle.cuts.specs.Offsets.{Refused}
 
 abbrev pub pairsOf : List ℕ → Run → List PairLink
 pairsOf t r = recordsAt pairCodec t (r .at) (r .count)
 
-abbrev pub pairAcross : ℕ → PairLink → Bool
-pairAcross o p = across o (p .opening .start) (p .closing .end)
+-- the pairs from number i on
+abbrev pub pairsFrom : List ℕ → Run → ℕ → List PairLink
+pairsFrom t r i = recordsAt pairCodec t (r .at + 18 * i) (r .count - i)
 
--- from where to where two pairs across an offset reach
-unfoldable pub joined : Across → ℕ → ℕ → Across
-joined Nothing a b = Pair a b
-joined (Pair x y) a b = Pair (min x a) (max y b)
+-- what a pair adds to the reach at an offset: its end, if it starts before
+unfoldable pub reachOf : ℕ → ℕ → ℕ → ℕ
+reachOf start end o = cond (ltb start o) end 0
 
-unfoldable pub widened : Across → ℕ → ℕ → ℕ → Across
-widened x a b o = cond (across o a b) (joined x a b) x
-
--- Section 6. The pairs with open start < offset < close end: from the least start to the greatest end.
-unfoldable pub acrossOf : List PairLink → ℕ → Across
-acrossOf [] o = Nothing
-acrossOf (p ∷ ps) o = widened (acrossOf ps o) (p .opening .start) (p .closing .end) o
-
-unfoldable pub isNothing : Across → Bool
-isNothing (Pair a b) = false
-isNothing Nothing = true
-
--- where they start and end, or else the offset d
-unfoldable pub startOr : Across → ℕ → ℕ
-startOr (Pair a b) d = a
-startOr Nothing d = d
-
-unfoldable pub endOr : Across → ℕ → ℕ
-endOr (Pair a b) d = b
-endOr Nothing d = d
+-- the greatest end of the pairs that start before an offset, 0 if there are none
+unfoldable pub reach : List PairLink → ℕ → ℕ
+reach [] o = 0
+reach (p ∷ ps) o = max (reach ps o) (reachOf (p .opening .start) (p .closing .end) o)
 
 -- the code's answers
-module _ (x : Across) (a b o : ℕ) (t : Bool) (q : t ≡ across o a b) where
-  pub widened-not : t ≡ false → x ≡ widened x a b o
-  unfolding widened
-  widened-not e = rw (← q, e) refl
+module _ (start end o : ℕ) where
+  pub reach-before : start < o → end ≡ reachOf start end o
+  unfolding reachOf
+  reach-before h = rw (lt-ltb start o h) refl
 
-  pub widened-by : t ≡ true → (r : Across) → r ≡ joined x a b → r ≡ widened x a b o
-  unfolding widened
-  widened-by e r f = f ∙ rw (← q, e) refl
+  pub reach-behind : o ≤ start → 0 ≡ reachOf start end o
+  unfolding reachOf
+  reach-behind h = rw (le-ltb start o h) refl
 
-joined-some : (x : Across) (a b : ℕ) → isNothing (joined x a b) ≡ false
-unfolding isNothing joined
-joined-some Nothing a b = refl
-joined-some (Pair x y) a b = refl
+same-test : (a b o : ℕ) → ((a ≤ o → b ≤ o) × (b ≤ o → a ≤ o)) → leb a o ≡ leb b o
+same-test a b o s =
+    by-bool (leb b o)
+    (λ e. le-leb a o (s .1 (leb-true b o e)) ∙ sym e)
+    (λ e. by-bool (leb a o) (λ f. absurd (omega (arith, s .0 (leb-true a o f), leb-false b o e))) (λ f. f ∙ sym e))
 
-pub pairs-allow : (ps : List PairLink) (o : ℕ) → isNothing (acrossOf ps o) ≡ pairsAllowCut ps o
-unfolding isNothing acrossOf widened pairsAllowCut
-pairs-allow [] o = refl
+-- no pair lies across an offset that the reach does not pass
+pairs-allow : (ps : List PairLink) (o : ℕ) → leb (reach ps o) o ≡ pairsAllowCut ps o
+unfolding reach pairsAllowCut
+pairs-allow [] o = le-leb 0 o (omega arith)
 pairs-allow (p ∷ ps) o =
-    by-bool (pairAcross o p) (λ e. rw e (joined-some (acrossOf ps o) (p .opening .start) (p .closing .end))) (λ e. rw e (pairs-allow ps o))
-
--- ---- what the pairs that were found refuse
-
--- what the answer tells of the offset c: no pair is across it, or from a to b a pair is across every offset between
-abbrev pub Around : List PairLink → ℕ → Across → Type 0
-Around ps c Nothing = pairsAllowCut ps c ≡ true
-Around ps c (Pair a b) = (a < c) × (c < b) × ((k : ℕ) → a < k → k < b → pairsAllowCut ps k ≡ false)
-
-refused-here : (p : PairLink) (ps : List PairLink) (k : ℕ) → p .opening .start < k → k < p .closing .end → pairsAllowCut (p ∷ ps) k ≡ false
-unfolding pairsAllowCut
-refused-here p ps k x y = rw (lt-ltb (p .opening .start) k x, lt-ltb k (p .closing .end) y) refl
-
-refused-later : (p : PairLink) (ps : List PairLink) (k : ℕ) → pairsAllowCut ps k ≡ false → pairsAllowCut (p ∷ ps) k ≡ false
-unfolding pairsAllowCut
-refused-later p ps k f = by-bool (pairAcross k p) (λ t. rw t refl) (λ t. rw t f)
-
-around-more : (p : PairLink) (ps : List PairLink) (c : ℕ) (x : Across) → pairAcross c p ≡ false → Around ps c x → Around (p ∷ ps) c x
-unfolding pairsAllowCut
-around-more p ps c Nothing e h = rw e h
-around-more p ps c (Pair a b) e h = (h .0, h .1, λ k x y. refused-later p ps k (h .2 k x y))
-
--- a pair more that is across c
-around-joined : (p : PairLink) (ps : List PairLink) (c : ℕ) (x : Across) → p .opening .start < c → c < p .closing .end → Around ps c x
-    → Around (p ∷ ps) c (joined x (p .opening .start) (p .closing .end))
-unfolding joined
-around-joined p ps c Nothing l r h = (l, r, refused-here p ps)
-around-joined p ps c (Pair a b) l r h = (omega (arith, h .0), omega (arith, h .1), between)
-  where
-    between : (k : ℕ) → min a (p .opening .start) < k → k < max b (p .closing .end) → pairsAllowCut (p ∷ ps) k ≡ false
-    between k x y =
-        by-bool (ltb (p .opening .start) k)
-        (λ t. by-bool (ltb k (p .closing .end))
-        (λ u. refused-here p ps k (ltb-true (p .opening .start) k t) (ltb-true k (p .closing .end) u))
-        (λ u. let v = ltb-false k (p .closing .end) u in refused-later p ps k (h .2 k (omega (arith, h .0)) (omega arith))))
-        (λ t. let v = ltb-false (p .opening .start) k t in refused-later p ps k (h .2 k (omega arith) (omega (arith, h .1))))
-
-pub around : (ps : List PairLink) (c : ℕ) → Around ps c (acrossOf ps c)
-unfolding acrossOf widened pairsAllowCut
-around [] c = refl
-around (p ∷ ps) c =
     let a = p .opening .start in
     let b = p .closing .end in
-    by-bool (pairAcross c p)
+    by-bool (ltb a o)
     (λ e.
-    let s = both (ltb a c) (ltb c b) e in
-    rw e (around-joined p ps c (acrossOf ps c) (ltb-true a c (s .0)) (ltb-true c b (s .1)) (around ps c)))
-    (λ e. rw e (around-more p ps c (acrossOf ps c) e (around ps c)))
+    let q : reachOf a b o ≡ b = sym (reach-before a b o (ltb-true a o e)) in
+    by-bool (ltb o b)
+    (λ f. let g = ltb-true o b f in rw (e, f, q) (lt-leb (max (reach ps o) b) o (omega arith)))
+    (λ f. let g = ltb-false o b f in rw (e, f, q) (same-test (max (reach ps o) b) (reach ps o) o (λ x. omega arith, λ x. omega arith) ∙ pairs-allow ps o)))
+    (λ e.
+    let q : reachOf a b o ≡ 0 = sym (reach-behind a b o (ltb-false a o e)) in
+    rw (e, q) (same-test (max (reach ps o) 0) (reach ps o) o (λ x. omega arith, λ x. omega arith) ∙ pairs-allow ps o))
+
+pub reach-allows : (ps : List PairLink) (o x : ℕ) → x ≡ reach ps o → leb x o ≡ pairsAllowCut ps o
+reach-allows ps o x e = rw e (pairs-allow ps o)
+
+pub reach-rises : (ps : List PairLink) (c k : ℕ) → c ≤ k → reach ps c ≤ reach ps k
+unfolding reach reachOf
+reach-rises [] c k h = omega arith
+reach-rises (p ∷ ps) c k h =
+    let a = p .opening .start in
+    let r = reach-rises ps c k h in
+    by-bool (ltb a c)
+    (λ e. rw (e, lt-ltb a k (omega (arith, ltb-true a c e))) (omega (arith, r)))
+    (λ e. rw e (omega (arith, r)))
 
 module _ (ps : List PairLink) (c : ℕ) where
-  pub end-at-least : (x : Across) → Around ps c x → c ≤ endOr x c
-  unfolding endOr
-  end-at-least Nothing h = omega arith
-  end-at-least (Pair a b) h = omega (arith, h .1)
+  pub reach-free : max c (reach ps c) ≡ c → pairsAllowCut ps c ≡ true
+  reach-free e = sym (pairs-allow ps c) ∙ le-leb (reach ps c) c (omega arith)
 
-  pub end-free : (x : Across) → Around ps c x → endOr x c ≡ c → pairsAllowCut ps c ≡ true
-  unfolding endOr
-  end-free Nothing h e = h
-  end-free (Pair a b) h e = absurd (omega (arith, h .1))
+  -- where a pair lies across, one lies across every offset up to its end
+  pub reach-covers : Refused (pairsAllowCut ps) c (max c (reach ps c))
+  reach-covers = record { fails = λ k a b. sym (pairs-allow ps k) ∙ lt-leb (reach ps k) k (omega (arith, reach-rises ps c k a)) }
 
-  pub end-covers : (x : Across) → Around ps c x → Refused (pairsAllowCut ps) c (endOr x c)
-  unfolding endOr
-  end-covers Nothing h = record { fails = λ k x y. absurd (omega arith) }
-  end-covers (Pair a b) h = record { fails = λ k x y. h .2 k (omega (arith, h .0)) y }
+-- ---- a walk over the pairs, from the last to the first: those from i on
 
-  pub start-at-most : (x : Across) → Around ps c x → startOr x c ≤ c
-  unfolding startOr
-  start-at-most Nothing h = omega arith
-  start-at-most (Pair a b) h = omega (arith, h .0)
+module _ (t : List ℕ) (r : Run) where
+  pub pairs-none : pairsFrom t r (r .count) ≡ []
+  pairs-none = let z : r .count - r .count ≡ 0 = omega arith in rw (z, run-none pairCodec t (r .at + 18 * r .count)) refl
 
-  pub start-free : (x : Across) → Around ps c x → startOr x c ≡ c → pairsAllowCut ps c ≡ true
-  unfolding startOr
-  start-free Nothing h e = h
-  start-free (Pair a b) h e = absurd (omega (arith, h .0))
-
-  pub start-covers : (x : Across) → Around ps c x → Refused (pairsAllowCut ps) (startOr x c + 1) (c + 1)
-  unfolding startOr
-  start-covers Nothing h = record { fails = λ k x y. absurd (omega arith) }
-  start-covers (Pair a b) h = record { fails = λ k x y. h .2 k (omega arith) (omega (arith, h .1)) }
-
--- ---- the loop over the pairs, from the last to the first: those from i on
-
-module _ (t : List ℕ) (at count o : ℕ) where
-  pub across-none : Nothing ≡ acrossOf (recordsAt pairCodec t (at + 18 * count) (count - count)) o
-  unfolding acrossOf
-  across-none = let z : count - count ≡ 0 = omega arith in rw (z, run-none pairCodec t (at + 18 * count)) refl
-
-  pub across-all : (i : ℕ) → i ≡ 0 → acrossOf (recordsAt pairCodec t (at + 18 * i) (count - i)) o ≡ acrossOf (recordsAt pairCodec t at count) o
-  across-all i e =
-      let e₁ : at + 18 * i ≡ at = omega arith in
-      let e₂ : count - i ≡ count = omega arith in
+  pub pairs-all : (i : ℕ) → i ≡ 0 → pairsFrom t r i ≡ pairsOf t r
+  pairs-all i e =
+      let e₁ : r .at + 18 * i ≡ r .at = omega arith in
+      let e₂ : r .count - i ≡ r .count = omega arith in
       rw (e₁, e₂) refl
 
   -- the pair before them, numbered j
-  pub across-more : (x : Across) (i : ℕ) → x ≡ acrossOf (recordsAt pairCodec t (at + 18 * i) (count - i)) o → i ≤ count → (j : ℕ) → j ≡ i - 1 → 0 < i → (a b : ℕ)
-      → a ≡ recordAt pairCodec t (at + 18 * j) .opening .start → b ≡ recordAt pairCodec t (at + 18 * j) .closing .end
-      → (y : Across) → y ≡ widened x a b o → y ≡ acrossOf (recordsAt pairCodec t (at + 18 * j) (count - j)) o
-  unfolding acrossOf pairCodec
-  across-more x i e h j q l a b f g y w =
-      let n : count - j ≡ suc (count - i) = omega arith in
-      let s : recordsAt pairCodec t (at + 18 * j) (count - j) ≡ (recordAt pairCodec t (at + 18 * j) ∷ recordsAt pairCodec t (at + 18 * i) (count - i))
-      = ap (λ (k : ℕ). recordsAt pairCodec t (at + 18 * j) k) n ∙ run-cons pairCodec t (count - i) (at + 18 * j) (at + 18 * i) (omega arith) in
-      w ∙ rw (s, ← e, ← f, ← g) refl
+  pub pairs-more : (i j : ℕ) → j ≡ i - 1 → 0 < i → i ≤ r .count → pairsFrom t r j ≡ (recordAt pairCodec t (r .at + 18 * j) ∷ pairsFrom t r i)
+  unfolding pairCodec
+  pairs-more i j q l h =
+      let n : r .count - j ≡ suc (r .count - i) = omega arith in
+      ap (λ (k : ℕ). recordsAt pairCodec t (r .at + 18 * j) k) n ∙ run-cons pairCodec t (r .count - i) (r .at + 18 * j) (r .at + 18 * i) (omega arith)
+
+  module _ (o : ℕ) where
+    pub reach-none : 0 ≡ reach (pairsFrom t r (r .count)) o
+    unfolding reach
+    reach-none = rw pairs-none refl
+
+    pub reach-more : (x i : ℕ) → x ≡ reach (pairsFrom t r i) o → i ≤ r .count → (j : ℕ) → j ≡ i - 1 → 0 < i → (a b : ℕ)
+        → a ≡ recordAt pairCodec t (r .at + 18 * j) .opening .start → b ≡ recordAt pairCodec t (r .at + 18 * j) .closing .end
+        → (y : ℕ) → y ≡ reachOf a b o → (z : ℕ) → z ≡ max x y → z ≡ reach (pairsFrom t r j) o
+    unfolding reach
+    reach-more x i e h j q l a b f g y s z w = w ∙ rw (pairs-more i j q l h, ← e, ← f, ← g, ← s) refl
+
+    pub reach-all : (x i : ℕ) → x ≡ reach (pairsFrom t r i) o → i ≡ 0 → x ≡ reach (pairsOf t r) o
+    reach-all x i e h = e ∙ ap (λ (ps : List PairLink). reach ps o) (pairs-all i h)

@@ -1,7 +1,8 @@
+use Rattle.balanced_region.specs.Walks.{start-front, start-falls, start-walk-found, start-walk-first, start-walk-rest}
+use Rattle.balanced_region.specs.StartSearch.{start-end}
 use mathlib.Core.Path.{refl, sym, _∙_}
 use native.Mathlib.Omega.{arith}
-use Rattle.balanced_region.specs.StartSearch.{start-end}
-use Rattle.balanced_region.specs.Walks.{StartWalk, start-walk-none, start-front, start-falls, start-walk-found, start-walk-first, start-walk-more, start-walk-done}
+use borrow.Author.Needs.{needs}
 use Rattle.balanced_region.proofs.region_start.Statement.{statement}
 use Rattle.balanced_region.proofs.region_start.Tie as tie
 use Rattle.balanced_region.proofs.region_start.Reads as reads
@@ -9,87 +10,127 @@ use Rattle.balanced_region.proofs.region_start.Lts as lts
 use Rattle.balanced_region.proofs.depths_before.Reads as depths-before-reads
 use Rattle.balanced_region.proofs.earlier.Reads as earlier-reads
 use Rattle.balanced_region.proofs.ends_behind_newline.Reads as ends-behind-newline-reads
-use Rattle.balanced_region.proofs.last_allowed.Reads as last-allowed-reads
 use Rattle.balanced_region.proofs.last_cut.Reads as last-cut-reads
+use Rattle.balanced_region.proofs.last_cut_before.Reads as last-cut-before-reads
 use Rattle.records.proofs.node_start.Reads as node-start-reads
 
-abbrev Inv-loop : tie.InvT-loop
-Inv-loop tape text nodes pairs o bound₀ front₀ bound front = StartWalk text tape nodes pairs o bound front
+ends-behind-newline-requires : tie.Need-ends-behind-newline-requires
+ends-behind-newline-requires c κs = search needs
 
-abbrev μ-loop : tie.MeasureT-loop
-μ-loop tape text nodes pairs o bound₀ front₀ bound front = front
+returns : tie.Need-returns
+returns c =
+    let start = c .before .before .before .before .before in
+    (start-end _ _ _ _ (sym (c .before .ends-behind-newline .ensures) ∙ c .if1 .taken), start .pre .1 .1)
 
-ends-behind-newline-requires : tie.Need-ends-behind-newline-requires Inv-loop μ-loop
-ends-behind-newline-requires c κs = omega arith
+depths-before-requires : tie.Need-depths-before-requires
+depths-before-requires c κs = search needs
 
-returns : tie.Need-returns Inv-loop μ-loop
-returns c = start-end _ _ _ _ (sym (c .before .ends-behind-newline .ensures) ∙ c .if1 .taken)
+last-cut-requires : tie.Need-last-cut-requires
+last-cut-requires c κs =
+    let start = c .before .before .before .before .before .before .before in
+    ((start .pre .0 .0, start .pre .0 .1, start .pre .0 .2), (start .pre .1 .0, (start-front _ _ _ _ (c .before .depths-before .ensures), start .pre .1 .1)))
 
-loop-holds : tie.Need-loop-holds Inv-loop μ-loop
-loop-holds c = start-walk-none _ _ _ _ _ (c .before .before .before .before .pre .0 .2) _ (c .before .ends-behind-newline .ensures) (c .if1 .left)
+same-length : tie.Need-same-length
+same-length c = search needs
 
-depths-before-requires : tie.Need-depths-before-requires Inv-loop μ-loop
-depths-before-requires c κs = omega arith
+returns-2 : tie.Need-returns-2
+returns-2 c =
+    let at-last-cut = c .before .before .before in
+    let at-depths-before = at-last-cut .before .before in
+    let at-if1 = at-depths-before .before in
+    let at-ends-behind-newline = at-if1 .before in
+    let start = at-ends-behind-newline .before .before .before .before in (
+      start-walk-found _ _ _ _ (at-depths-before .depths-before .ensures) _ _ (start .pre .0 .2) _ (at-ends-behind-newline .ends-behind-newline .ensures) (at-if1 .if1 .left)
+          (start .pre .1 .0) _ (at-last-cut .last-cut .ensures .0) (c .if2 .taken),
+      at-last-cut .last-cut .ensures .1,
+    )
 
-last-cut-requires : tie.Need-last-cut-requires Inv-loop μ-loop
-last-cut-requires c κs = ((c .before .before .before .before .before .before .before .pre .0 .0, c .before .before .before .before .before .before .before .pre .0 .1, omega arith), (c .before .before .before .before .before .before .before .pre .1, start-front (c .before .before .loop .inv) _ (c .depths-before .ensures)))
+same-length-2 : tie.Need-same-length-2
+same-length-2 c = search needs
 
-returns-2 : tie.Need-returns-2 Inv-loop μ-loop
-returns-2 c = start-walk-found (c .before .before .before .before .loop .inv) _ (c .before .before .depths-before .ensures) (c .before .before .before .before .before .before .before .before .before .pre .1) _ (c .before .last-cut .ensures) (c .if2 .taken)
+returns-3 : tie.Need-returns-3
+returns-3 c =
+    let at-last-cut = c .before .before .before .before .before in
+    let at-depths-before = at-last-cut .before .before in
+    let at-if1 = at-depths-before .before in
+    let at-ends-behind-newline = at-if1 .before in
+    let start = at-ends-behind-newline .before .before .before .before in (
+      start-walk-first _ _ _ _ (at-depths-before .depths-before .ensures) _ _ (start .pre .0 .2) _ (at-ends-behind-newline .ends-behind-newline .ensures) (at-if1 .if1 .left)
+          (start .pre .1 .0) _ (at-last-cut .last-cut .ensures .0) (c .before .before .if2 .left) (c .if3 .taken),
+      at-last-cut .last-cut .ensures .1,
+    )
 
-returns-3 : tie.Need-returns-3 Inv-loop μ-loop
-returns-3 c = start-walk-first (c .before .before .before .before .before .before .loop .inv) _ (c .before .before .before .before .depths-before .ensures) (c .before .before .before .before .before .before .before .before .before .before .before .pre .1) _ (c .before .before .before .last-cut .ensures) (c .before .before .if2 .left) (c .if3 .taken)
+sub-node-start : tie.Need-sub-node-start
+sub-node-start c = search needs
 
-sub-front : tie.Need-sub-front Inv-loop μ-loop
-sub-front c = omega arith
+mul-node-start : tie.Need-mul-node-start
+mul-node-start c =
+    let at-depths-before = c .before .before .before .before .before .before .before .before in
+    let start = at-depths-before .before .before .before .before .before .before in
+    omega (arith, start-falls _ _ _ _ (at-depths-before .depths-before .ensures), c .before .if3 .left, start .pre .0 .0)
 
-mul-node-start : tie.Need-mul-node-start Inv-loop μ-loop
-mul-node-start c = omega (arith, c .before .if3 .left, start-falls (c .before .before .before .before .before .before .before .loop .inv) _ (c .before .before .before .before .before .depths-before .ensures))
+add-node-start : tie.Need-add-node-start
+add-node-start c =
+    let at-depths-before = c .before .before .before .before .before .before .before .before .before in
+    let start = at-depths-before .before .before .before .before .before .before in
+    omega (arith, start-falls _ _ _ _ (at-depths-before .depths-before .ensures), c .before .before .if3 .left, start .pre .0 .0)
 
-add-node-start : tie.Need-add-node-start Inv-loop μ-loop
-add-node-start c = omega (arith, c .before .before .if3 .left, start-falls (c .before .before .before .before .before .before .before .before .loop .inv) _ (c .before .before .before .before .before .before .depths-before .ensures))
+node-start-requires : tie.Need-node-start-requires
+node-start-requires c κs =
+    let at-depths-before = c .before .before .before .before .before .before .before .before .before in
+    let start = at-depths-before .before .before .before .before .before .before in
+    omega (arith, start-falls _ _ _ _ (at-depths-before .depths-before .ensures), c .before .before .if3 .left, start .pre .0 .0)
 
-node-start-requires : tie.Need-node-start-requires Inv-loop μ-loop
-node-start-requires c κs = omega (arith, c .before .before .if3 .left, start-falls (c .before .before .before .before .before .before .before .before .loop .inv) _ (c .before .before .before .before .before .before .depths-before .ensures))
+cast-start : tie.Need-cast-start
+cast-start c = search needs
 
-cast-start : tie.Need-cast-start Inv-loop μ-loop
-cast-start c = omega arith
+earlier-requires : tie.Need-earlier-requires
+earlier-requires c κs = search needs
 
-earlier-requires : tie.Need-earlier-requires Inv-loop μ-loop
-earlier-requires c κs = omega arith
+last-cut-before-requires : tie.Need-last-cut-before-requires
+last-cut-before-requires c κs =
+    let at-last-cut = c .before .before .before .before .before .before .before .before .before .before in
+    let start = at-last-cut .before .before .before .before .before .before .before .before in
+    ((start .pre .0 .0, start .pre .0 .1, omega (arith, c .before .earlier .ensures, start .pre .0 .2)), (start .pre .1 .0, at-last-cut .last-cut .ensures .1))
 
-last-allowed-requires : tie.Need-last-allowed-requires Inv-loop μ-loop
-last-allowed-requires c κs = ((c .before .before .before .before .before .before .before .before .before .before .before .before .before .before .before .pre .0 .0, omega (arith, c .earlier .ensures)), c .before .before .before .before .before .before .before .before .before .before .before .before .before .before .before .pre .1)
+same-length-3 : tie.Need-same-length-3
+same-length-3 c = search needs
 
-loop-less : tie.Need-loop-less Inv-loop μ-loop
-loop-less c = omega (arith, c .before .before .before .before .before .if3 .left, start-falls (c .before .before .before .before .before .before .before .before .before .before .before .loop .inv) _ (c .before .before .before .before .before .before .before .before .before .depths-before .ensures))
-
-loop-again : tie.Need-loop-again Inv-loop μ-loop
-loop-again c = start-walk-more (c .before .before .before .before .before .before .before .before .before .before .before .loop .inv) _ (c .before .before .before .before .before .before .before .before .before .depths-before .ensures) (c .before .before .before .before .before .before .before .before .before .before .before .before .before .before .before .before .pre .1) _ (c .before .before .before .before .before .before .before .before .last-cut .ensures) (c .before .before .before .before .before .before .before .if2 .left) (c .before .before .before .before .before .if3 .left) _ refl _ (c .before .before .node-start .ensures) _ (c .before .earlier .ensures) _ (c .last-allowed .ensures)
-
-returns-4 : tie.Need-returns-4 Inv-loop μ-loop
-returns-4 c = start-walk-done (c .before .loop .inv) (c .loop-test .left)
+returns-4 : tie.Need-returns-4
+returns-4 c =
+    let at-earlier = c .before .before .before .before in
+    let at-node-start = at-earlier .before in
+    let at-if3 = at-node-start .before .before .before in
+    let at-if2 = at-if3 .before .before in
+    let at-last-cut = at-if2 .before .before .before in
+    let at-depths-before = at-last-cut .before .before in
+    let at-if1 = at-depths-before .before in
+    let at-ends-behind-newline = at-if1 .before in
+    let start = at-ends-behind-newline .before .before .before .before in (
+      start-walk-rest _ _ _ _ (at-depths-before .depths-before .ensures) _ _ (start .pre .0 .2) _ (at-ends-behind-newline .ends-behind-newline .ensures) (at-if1 .if1 .left)
+          (start .pre .1 .0) _ (at-last-cut .last-cut .ensures .0) (at-if2 .if2 .left) (at-if3 .if3 .left) _ refl _ (at-node-start .node-start .ensures) _ (at-earlier .earlier .ensures) _
+          (c .before .before .last-cut-before .ensures .0),
+      c .before .before .last-cut-before .ensures .1,
+    )
 
 pub region-start-spec : {M : Type 1} → statement M
 region-start-spec =
     tie.close
     (tie.spec
-    Inv-loop
-    μ-loop
     ends-behind-newline-requires
     returns
-    loop-holds
     depths-before-requires
     last-cut-requires
+    same-length
     returns-2
+    same-length-2
     returns-3
-    sub-front
+    sub-node-start
     mul-node-start
     add-node-start
     node-start-requires
     cast-start
     earlier-requires
-    last-allowed-requires
-    loop-less
-    loop-again
+    last-cut-before-requires
+    same-length-3
     returns-4)

@@ -27,7 +27,9 @@ edit-refusal-requires : tie.Need-edit-refusal-requires
 edit-refusal-requires c κs = stage-short (c .before .before .before .before .before .before .pre .0)
 
 returns : tie.Need-returns
-returns c = stage-edit (c .before .before .before .before .before .before .before .before .pre .0) _ _ _ (c .before .edit-refusal .ensures) (c .if1 .taken)
+returns c =
+    let start = c .before .before .before .before .before .before .before .before in
+    stage-edit (start .pre .0) _ _ _ (c .before .edit-refusal .ensures) (c .if1 .taken)
 
 depends-requires : tie.Need-depends-requires
 depends-requires c κs = search needs
@@ -36,10 +38,26 @@ same-length : tie.Need-same-length
 same-length c = search needs
 
 returns-2 : tie.Need-returns-2
-returns-2 c = stage-depends (c .before .before .before .before .before .before .before .before .before .before .before .before .before .pre .0) _ _ _ (c .before .before .before .before .before .before .edit-refusal .ensures) (c .before .before .before .before .before .if1 .left) (c .before .before .before .depends .ensures) (c .if2 .taken)
+returns-2 c =
+    let at-depends = c .before .before .before in
+    let at-if1 = at-depends .before .before in
+    let at-edit-refusal = at-if1 .before in
+    let start = at-edit-refusal .before .before .before .before .before .before .before in
+    stage-depends (start .pre .0) _ _ _ (at-edit-refusal .edit-refusal .ensures) (at-if1 .if1 .left) (at-depends .depends .ensures) (c .if2 .taken)
 
 balanced-region-requires : tie.Need-balanced-region-requires
-balanced-region-requires c κs = (ready-runs (c .before .before .before .before .before .before .before .before .before .before .before .before .before .pre .0), (stage-region (c .before .before .before .before .before .before .before .before .before .before .before .before .before .pre .0) _ _ _ (c .before .before .before .before .before .before .edit-refusal .ensures) (c .before .before .before .before .before .if1 .left) (c .before .before .before .depends .ensures), stage-nodes (c .before .before .before .before .before .before .before .before .before .before .before .before .before .pre .0) _ _ _ (c .before .before .before .before .before .before .edit-refusal .ensures) (c .before .before .before .before .before .if1 .left) (c .before .before .before .depends .ensures)))
+balanced-region-requires c κs =
+    let at-depends = c .before .before .before .before in
+    let at-if1 = at-depends .before .before in
+    let at-edit-refusal = at-if1 .before in
+    let start = at-edit-refusal .before .before .before .before .before .before .before in (
+      ready-runs (start .pre .0),
+      (
+        stage-region (start .pre .0) _ _ _ (at-edit-refusal .edit-refusal .ensures) (at-if1 .if1 .left) (at-depends .depends .ensures),
+        stage-nodes
+            (start .pre .0) _ _ _ (at-edit-refusal .edit-refusal .ensures) (at-if1 .if1 .left) (at-depends .depends .ensures),
+      ),
+    )
 
 is-whole-requires : tie.Need-is-whole-requires
 is-whole-requires c κs = search needs
@@ -48,19 +66,52 @@ same-length-2 : tie.Need-same-length-2
 same-length-2 c = search needs
 
 returns-3 : tie.Need-returns-3
-returns-3 c = stage-whole (c .before .before .before .before .before .before .before .before .before .before .before .before .before .before .before .before .pre .0) _ _ _ (c .before .before .before .before .before .before .before .before .before .edit-refusal .ensures) (c .before .before .before .before .before .before .before .before .if1 .left) (c .before .before .before .before .before .before .depends .ensures) (c .before .before .before .if2 .left) (c .before .before .balanced-region .ensures) (c .before .is-whole .ensures) (c .if3 .taken)
+returns-3 c =
+    let at-balanced-region = c .before .before .before .before in
+    let at-if2 = at-balanced-region .before .before in
+    let at-depends = at-if2 .before .before .before in
+    let at-if1 = at-depends .before .before in
+    let at-edit-refusal = at-if1 .before in
+    let start = at-edit-refusal .before .before .before .before .before .before .before in
+    stage-whole (start .pre .0) _ _ _ (at-edit-refusal .edit-refusal .ensures) (at-if1 .if1 .left) (at-depends .depends .ensures) (at-if2 .if2 .left)
+    (at-balanced-region .balanced-region .ensures) (c .before .is-whole .ensures) (c .if3 .taken)
 
-cast-t22 : tie.Need-cast-t22
-cast-t22 c = let f = stage-fits (c .before .before .before .before .before .before .before .before .before .before .before .before .before .before .before .before .before .pre .0) _ _ _ (c .before .before .before .before .before .before .before .before .before .before .edit-refusal .ensures) (c .before .before .before .before .before .before .before .before .before .if1 .left) (c .before .before .before .before .before .before .before .depends .ensures) (c .before .before .before .before .if2 .left) (c .before .before .before .balanced-region .ensures) in omega (arith, f)
+cast-t24 : tie.Need-cast-t24
+cast-t24 c =
+    let at-balanced-region = c .before .before .before .before .before in
+    let at-if2 = at-balanced-region .before .before in
+    let at-depends = at-if2 .before .before .before in
+    let at-if1 = at-depends .before .before in
+    let at-edit-refusal = at-if1 .before in
+    let start = at-edit-refusal .before .before .before .before .before .before .before in
+    let f = stage-fits (start .pre .0) _ _ _ (at-edit-refusal .edit-refusal .ensures) (at-if1 .if1 .left) (at-depends .depends .ensures) (at-if2 .if2 .left)
+    (at-balanced-region .balanced-region .ensures) in omega (arith, f)
 
-cast-t23 : tie.Need-cast-t23
-cast-t23 c = let f = stage-fits (c .before .before .before .before .before .before .before .before .before .before .before .before .before .before .before .before .before .before .pre .0) _ _ _ (c .before .before .before .before .before .before .before .before .before .before .before .edit-refusal .ensures) (c .before .before .before .before .before .before .before .before .before .before .if1 .left) (c .before .before .before .before .before .before .before .before .depends .ensures) (c .before .before .before .before .before .if2 .left) (c .before .before .before .before .balanced-region .ensures) in omega (arith, f)
+cast-t25 : tie.Need-cast-t25
+cast-t25 c =
+    let at-balanced-region = c .before .before .before .before .before .before in
+    let at-if2 = at-balanced-region .before .before in
+    let at-depends = at-if2 .before .before .before in
+    let at-if1 = at-depends .before .before in
+    let at-edit-refusal = at-if1 .before in
+    let start = at-edit-refusal .before .before .before .before .before .before .before in
+    let f = stage-fits (start .pre .0) _ _ _ (at-edit-refusal .edit-refusal .ensures) (at-if1 .if1 .left) (at-depends .depends .ensures) (at-if2 .if2 .left)
+    (at-balanced-region .balanced-region .ensures) in omega (arith, f)
 
 same-length-3 : tie.Need-same-length-3
 same-length-3 c = search needs
 
 returns-4 : tie.Need-returns-4
-returns-4 c = stage-chosen (c .before .before .before .before .before .before .before .before .before .before .before .before .before .before .before .before .before .before .pre .0) _ _ _ (c .before .before .before .before .before .before .before .before .before .before .before .edit-refusal .ensures) (c .before .before .before .before .before .before .before .before .before .before .if1 .left) (c .before .before .before .before .before .before .before .before .depends .ensures) (c .before .before .before .before .before .if2 .left) (c .before .before .before .before .balanced-region .ensures) (c .before .before .before .is-whole .ensures) (c .before .before .if3 .left)
+returns-4 c =
+    let at-is-whole = c .before .before .before in
+    let at-balanced-region = at-is-whole .before .before .before in
+    let at-if2 = at-balanced-region .before .before in
+    let at-depends = at-if2 .before .before .before in
+    let at-if1 = at-depends .before .before in
+    let at-edit-refusal = at-if1 .before in
+    let start = at-edit-refusal .before .before .before .before .before .before .before in
+    stage-chosen (start .pre .0) _ _ _ (at-edit-refusal .edit-refusal .ensures) (at-if1 .if1 .left) (at-depends .depends .ensures) (at-if2 .if2 .left)
+    (at-balanced-region .balanced-region .ensures) (at-is-whole .is-whole .ensures) (c .before .before .if3 .left)
 
 pub chosen-region-spec : {M : Type 1} → statement M
 chosen-region-spec =
@@ -79,7 +130,7 @@ chosen-region-spec =
     is-whole-requires
     same-length-2
     returns-3
-    cast-t22
-    cast-t23
+    cast-t24
+    cast-t25
     same-length-3
     returns-4)
