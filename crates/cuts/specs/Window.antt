@@ -9,10 +9,10 @@ use lib.ListN.{length, getD, set, take, drop, length-set, length-append, List·g
 use lib.Seq.{getD-set-same, getD-set-other}
 use lib.Dec.{ltb, leb, eqb}
 use borrow.Author.Tests.{lt-ltb, le-ltb, ltb-true, ltb-false, leb-true, leb-false, le-leb, lt-leb, eq-eqb, ne-eqb, eqb-true, eqb-false}
+use Rattle.model.specs.Bytes.{zeros}
 use Rattle.model.specs.Types.{PairLink}
 use Rattle.model.specs.Tape.{recordAt, pairCodec}
 use Rattle.wire.specs.Loops.{by-bool}
-use Rattle.wire.specs.Overwrite.{zeros}
 use Rattle.places.specs.declared.Run.{Run}
 use Rattle.cuts.specs.Pairs.{reach, reachOf, pairsFrom, pairsOf, pairs-none, pairs-all, pairs-more}
 
