@@ -348,7 +348,8 @@ fn hostile_rows(how: &str) -> Vec<HostileRow> {
     assert!(["4mb", "limits", "off"].contains(&how), "HOSTILE=4mb|limits|off");
     let mut rows = Vec::new();
     if how == "off" { return rows; }
-    for s in &all_shapes() {
+    let wanted = std::env::var("SHAPE").unwrap_or_default();
+    for s in all_shapes().iter().filter(|s| s.name.contains(&wanted)) {
         for words in s.words {
             let row = hostile_row(s, *words, how == "limits");
             eprintln!("{}", hostile_line(&row));
