@@ -1,6 +1,6 @@
 -- The bases of the Rubies passed, in a Bloom filter: each base is found in it, so that a string which is not found is no base.
 use mathlib.Core.Path.{_≡_, refl, sym, ap, _∙_}
-use Prim.Native.Nat.{ℕ, _+_, _-_, _*_}
+use Prim.Native.Nat.{ℕ, _+_, _*_}
 use native.Mathlib.Numerals.{add-one}
 use native.Mathlib.Nat.{sub-zero}
 use mathlib.Core.Bool.{Bool, true, false, cond, _||_, false≢true}

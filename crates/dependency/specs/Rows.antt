@@ -5,10 +5,10 @@ use native.Mathlib.Omega.{arith}
 use native.Mathlib.Numerals.{add-one}
 use mathlib.Core.Bool.{Bool, true, false, _&&_, _||_}
 use mathlib.Core.Option.{Option, none, some}
-use mathlib.Core.List.{List, [], _∷_, _++_}
+use mathlib.Core.List.{List, _++_}
 use lib.ListN.{length}
 use lib.Dec.{eqb}
-use Rattle.model.specs.Lists.{any, same}
+use Rattle.model.specs.Lists.{any}
 use Rattle.model.specs.Types.{SourceNode}
 use Rattle.model.specs.Store.{NodeStore, resolveStr}
 use Rattle.model.specs.Tape.{recordAt, recordsAt, nodeCodec}

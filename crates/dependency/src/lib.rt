@@ -1,7 +1,10 @@
 // Number 10, document 01 section 6: a Referenced Format behind the edit's start whose target is the base of an earlier Ruby. A base
 // and a target are compared as plain strings: a string's bytes are found by the index of crate `strings`, and only where its length
 // is the one that is asked for. The walk puts the hash of each base into a Bloom filter, so that a target that is no base seldom has to be
-// compared; a filter takes the bases of some nodes at a time, and each such part costs one walk over the nodes from it on. specs/Bases.antt says what is asked, specs/Sound.antt what number 4 has shown of it, specs/Noted.antt what the filter says.
+// compared; a filter takes the bases of some nodes at a time, and each such part costs one walk over the nodes from it on. Bases can be
+// chosen so that they crowd the filter: then the part's bases go into a row of ids that is sorted by their strings, and a target is found by
+// bisection. specs/Bases.antt says what is asked, specs/Sound.antt what number 4 has shown of it, specs/Noted.antt what the filter says,
+// specs/Rows.antt what the row says.
 use strings::Plain;
 ghost use mathlib.Core.Path.{_≡_};
 ghost use mathlib.Core.List.{List, [], _++_};
@@ -216,7 +219,8 @@ fn is_target_base<'a>(
     requires { ⌜ base ≤ length (now words) ⌝ }
     requires { ⌜ Noted (storeIn (now tape) (now old ++ now new)) (recordsAt nodeCodec (now tape) at count) (now words) base ⌝ }
     requires { ⌜ PlainIn st p ⌝ }
-    ensures { λ r. ⌜ eqb r 1 ≡ amongBases (storeIn (now (tape .entry)) (now (old .entry) ++ now (new .entry))) (recordsAt nodeCodec (now (tape .entry)) at count) (plainString (storeIn (now (tape .entry)) (now (old .entry) ++ now (new .entry))) p) ⌝ }
+    ensures { λ r. ⌜ eqb r 1 ≡ amongBases (storeIn (now (tape .entry)) (now (old .entry) ++ now (new .entry))) (recordsAt nodeCodec (now (tape .entry)) at count) (plainString (storeIn (now
+        (tape .entry)) (now (old .entry) ++ now (new .entry))) p) ⌝ }
 {
     match p {
         Plain::Id(id) => {
@@ -364,7 +368,8 @@ fn any_refers_among<'a>(
 ) -> u32
     requires { ⌜ Sound (now tape) st (firstWords base (now words)) (now old) (now new) at count ⌝ }
     requires { ⌜ base ≤ length (now words) ⌝ }
-    ensures { λ r. ⌜ Told r (anyUpTo count (refersAmong (storeIn (now (tape .entry)) (now (old .entry) ++ now (new .entry))) from (now (tape .entry)) at n)) × (firstWords base (now (words .exit)) ≡ firstWords base (now (words .entry))) ⌝ }
+    ensures { λ r. ⌜ Told r (anyUpTo count (refersAmong (storeIn (now (tape .entry)) (now (old .entry) ++ now (new .entry))) from (now (tape .entry)) at n)) × (firstWords base (now
+        (words .exit)) ≡ firstWords base (now (words .entry))) ⌝ }
 {
     let mut vain = 0;
     let mut i = 0;
@@ -450,7 +455,8 @@ fn insert_id<'a>(
     requires { ⌜ Row (storeIn (now tape) (now old ++ now new)) (st .totals .strings) (now words) base m ⌝ }
     requires { ⌜ base + m < length (now words) ⌝ }
     requires { ⌜ PlainIn st p ⌝ }
-    ensures { λ r. ⌜ Inserted (storeIn (now (tape .entry)) (now (old .entry) ++ now (new .entry))) (st .totals .strings) (isOne (plainString (storeIn (now (tape .entry)) (now (old .entry) ++ now (new .entry))) p)) (now (words .entry)) base m (now (words .exit)) r ⌝ }
+    ensures { λ r. ⌜ Inserted (storeIn (now (tape .entry)) (now (old .entry) ++ now (new .entry))) (st .totals .strings) (isOne (plainString (storeIn (now (tape .entry)) (now (old .entry) ++ now
+        (new .entry))) p)) (now (words .entry)) base m (now (words .exit)) r ⌝ }
 {
     match p {
         Plain::Id(id) => {
@@ -476,7 +482,8 @@ pub fn insert_base<'a>(
     requires { ⌜ SoundNode (now tape) st (firstWords base (now words)) (now old) (now new) at ⌝ }
     requires { ⌜ Row (storeIn (now tape) (now old ++ now new)) (st .totals .strings) (now words) base m ⌝ }
     requires { ⌜ base + m < length (now words) ⌝ }
-    ensures { λ r. ⌜ Inserted (storeIn (now (tape .entry)) (now (old .entry) ++ now (new .entry))) (st .totals .strings) (isBaseOf (storeIn (now (tape .entry)) (now (old .entry) ++ now (new .entry))) (recordAt nodeCodec (now (tape .entry)) at)) (now (words .entry)) base m (now (words .exit)) r ⌝ }
+    ensures { λ r. ⌜ Inserted (storeIn (now (tape .entry)) (now (old .entry) ++ now (new .entry))) (st .totals .strings) (isBaseOf (storeIn (now (tape .entry)) (now (old .entry) ++ now (new .entry)))
+        (recordAt nodeCodec (now (tape .entry)) at)) (now (words .entry)) base m (now (words .exit)) r ⌝ }
 {
     if !is_ruby(tape, at) {
         return m;
@@ -501,12 +508,13 @@ fn insert_first<'a>(
     requires { ⌜ SoundNode (now tape) st (firstWords base (now words)) (now old) (now new) (at + 49 * i) ⌝ }
     requires { ⌜ Rowed (storeIn (now tape) (now old ++ now new)) (st .totals .strings) (recordsAt nodeCodec (now tape) at (min n i)) (now words) base m ⌝ }
     requires { ⌜ (m ≤ i) × (base + n ≤ length (now words)) ⌝ }
-    ensures { λ r. ⌜ (firstWords base (now (words .exit)) ≡ firstWords base (now (words .entry))) × (r ≤ i + 1) × Rowed (storeIn (now (tape .entry)) (now (old .entry) ++ now (new .entry))) (st .totals .strings) (recordsAt nodeCodec (now (tape .entry)) at (min n (i + 1))) (now (words .exit)) base r ⌝ }
+    ensures { λ r. ⌜ (firstWords base (now (words .exit)) ≡ firstWords base (now (words .entry))) × (r ≤ i + 1) × Rowed (storeIn (now (tape .entry)) (now (old .entry) ++ now (new .entry)))
+        (st .totals .strings) (recordsAt nodeCodec (now (tape .entry)) at (min n (i + 1))) (now (words .exit)) base r ⌝ }
 {
-    if n <= i {
-        return m;
+    if i < n {
+        return insert_base(tape, st, words, base, m, old, new, at + 49 * i);
     }
-    insert_base(tape, st, words, base, m, old, new, at + 49 * i)
+    m
 }
 
 // The same walk with the bases in a row.

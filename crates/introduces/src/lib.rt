@@ -1,8 +1,9 @@
 // Number 15, document 01 section 7: `introduces_ruby_format_dependency`. A Ruby of the reading and a Referenced Format behind the region, or
 // a Referenced Format of the reading whose target is the base of a Ruby before the region. The bases go into a Bloom filter, so that a
-// target that is no base seldom has to be compared; a filter takes as many old nodes as it has words, and each such part of the old nodes
-// costs one walk over the reading's. The lent words have three parts: an index of the old book's strings, the filter, an index of the
-// reading's strings. Any number of words will do, also none.
+// target that is no base seldom has to be compared; a filter takes half as many old nodes as it has words, and each such part of the old nodes
+// costs one walk over the reading's. Where bases crowd the filter, those of a part go into a row that is bisected, as number 10 has it. The
+// words have three parts: an index of the old book's strings, the filter or the row, an index of the reading's strings. Where fewer than
+// 16384 are lent, number 15 has words of its own.
 use strings::Plain;
 ghost use mathlib.Core.Path.{_≡_};
 ghost use mathlib.Core.List.{_++_};
@@ -20,12 +21,16 @@ ghost use Rattle.strings.specs.Shown.{Resolvable};
 ghost use Rattle.strings.specs.PlainContent.{plainString};
 ghost use Rattle.dependency.specs.Bases.{amongBases};
 ghost use Rattle.dependency.specs.Sound.{Sound, SoundNode, PlainIn};
-ghost use Rattle.dependency.specs.Noted.{firstWords, Noted};
+ghost use Rattle.dependency.specs.Noted.{Noted};
+ghost use Rattle.dependency.specs.Rows.{Told, Rowed, amongRow};
+ghost use Rattle.sorted_ids.specs.Row.{firstWords, Row};
+ghost use lib.Dec.{eqb};
 ghost use Rattle.region.specs.Ready.{Ready};
 ghost use Rattle.region.specs.Held.{Held};
 ghost use Rattle.introduces.specs.Linked.{formatFrom, refersTo, rubyForLater};
 ghost use Rattle.dependency.specs.Words.{lastWords};
 ghost use Rattle.introduces.specs.Words.{KeptIndexes, BothIndexed};
+ghost use Rattle.introduces.specs.Rows.{refersToRow};
 
 fn any_ruby(tape: &[u8], at: usize, count: usize) -> bool
     requires { ⌜ at + 49 * count ≤ length (now tape) ⌝ }
@@ -149,7 +154,8 @@ fn is_base_of<'a, 'b>(
     requires { ⌜ Noted (storeIn (now tape) (now old ++ now new)) (recordsAt nodeCodec (now tape) at count) (now words) base ⌝ }
     requires { ⌜ Resolvable (now reading) own (now index) (now front) (now back) ⌝ }
     requires { ⌜ PlainIn own p ⌝ }
-    ensures { λ r. ⌜ eqb r 1 ≡ amongBases (storeIn (now (tape .entry)) (now (old .entry) ++ now (new .entry))) (recordsAt nodeCodec (now (tape .entry)) at count) (plainString (storeIn (now (reading .entry)) (now (front .entry) ++ now (back .entry))) p) ⌝ }
+    ensures { λ r. ⌜ eqb r 1 ≡ amongBases (storeIn (now (tape .entry)) (now (old .entry) ++ now (new .entry))) (recordsAt nodeCodec (now (tape .entry)) at count) (plainString (storeIn (now
+        (reading .entry)) (now (front .entry) ++ now (back .entry))) p) ⌝ }
 {
     match p {
         Plain::Id(id) => {
@@ -183,7 +189,8 @@ fn refers_to<'a, 'b>(
     requires { ⌜ base ≤ length (now words) ⌝ }
     requires { ⌜ Noted (storeIn (now tape) (now old ++ now new)) (recordsAt nodeCodec (now tape) at count) (now words) base ⌝ }
     requires { ⌜ SoundNode (now reading) own (now index) (now front) (now back) place ⌝ }
-    ensures { λ r. ⌜ eqb r 1 ≡ refersTo (storeIn (now (tape .entry)) (now (old .entry) ++ now (new .entry))) (recordsAt nodeCodec (now (tape .entry)) at count) (storeIn (now (reading .entry)) (now (front .entry) ++ now (back .entry))) (recordAt nodeCodec (now (reading .entry)) place) ⌝ }
+    ensures { λ r. ⌜ eqb r 1 ≡ refersTo (storeIn (now (tape .entry)) (now (old .entry) ++ now (new .entry))) (recordsAt nodeCodec (now (tape .entry)) at count) (storeIn (now (reading .entry)) (now
+        (front .entry) ++ now (back .entry))) (recordAt nodeCodec (now (reading .entry)) place) ⌝ }
 {
     if !dependency::is_referenced_format(reading, place) {
         return 0;
@@ -228,7 +235,8 @@ fn any_refers_to<'a, 'b>(
     requires { ⌜ base ≤ length (now words) ⌝ }
     requires { ⌜ Noted (storeIn (now tape) (now old ++ now new)) (recordsAt nodeCodec (now tape) at count) (now words) base ⌝ }
     requires { ⌜ Sound (now reading) own (now index) (now front) (now back) place nodes ⌝ }
-    ensures { λ r. ⌜ Told r (any (refersTo (storeIn (now (tape .entry)) (now (old .entry) ++ now (new .entry))) (recordsAt nodeCodec (now (tape .entry)) at count) (storeIn (now (reading .entry)) (now (front .entry) ++ now (back .entry)))) (recordsAt nodeCodec (now (reading .entry)) place nodes)) ⌝ }
+    ensures { λ r. ⌜ Told r (any (refersTo (storeIn (now (tape .entry)) (now (old .entry) ++ now (new .entry))) (recordsAt nodeCodec (now (tape .entry)) at count) (storeIn (now (reading .entry)) (now
+        (front .entry) ++ now (back .entry)))) (recordsAt nodeCodec (now (reading .entry)) place nodes)) ⌝ }
 {
     let mut vain = 0;
     let mut i = 0;
@@ -271,7 +279,12 @@ fn row_of<'a>(
     new: &'a [u8],
     at: usize,
     count: usize,
-) -> usize {
+) -> usize
+    requires { ⌜ Sound (now tape) st (firstWords base (now words)) (now old) (now new) at count ⌝ }
+    requires { ⌜ base + count ≤ length (now words) ⌝ }
+    ensures { λ r. ⌜ (firstWords base (now (words .exit)) ≡ firstWords base (now (words .entry))) × Rowed (storeIn (now (tape .entry)) (now (old .entry) ++ now (new .entry))) (st .totals .strings)
+        (recordsAt nodeCodec (now (tape .entry)) at count) (now (words .exit)) base r ⌝ }
+{
     let mut m = 0;
     let mut i = 0;
     while i < count {
@@ -295,7 +308,14 @@ fn is_in_row<'a, 'b>(
     front: &'b [u8],
     back: &'b [u8],
     p: Plain,
-) -> bool {
+) -> bool
+    requires { ⌜ Resolvable (now tape) st (firstWords base (now words)) (now old) (now new) ⌝ }
+    requires { ⌜ Row (storeIn (now tape) (now old ++ now new)) (st .totals .strings) (now words) base m ⌝ }
+    requires { ⌜ Resolvable (now reading) own (now index) (now front) (now back) ⌝ }
+    requires { ⌜ PlainIn own p ⌝ }
+    ensures { λ r. ⌜ r ≡ amongRow (storeIn (now (tape .entry)) (now (old .entry) ++ now (new .entry))) (now (words .entry)) base m (plainString (storeIn (now (reading .entry)) (now
+        (front .entry) ++ now (back .entry))) p) ⌝ }
+{
     match p {
         Plain::Id(id) => {
             let s = strings::resolve_str(reading, own, index, front, back, id);
@@ -321,7 +341,13 @@ fn refers_to_row<'a, 'b>(
     front: &'b [u8],
     back: &'b [u8],
     place: usize,
-) -> bool {
+) -> bool
+    requires { ⌜ Resolvable (now tape) st (firstWords base (now words)) (now old) (now new) ⌝ }
+    requires { ⌜ Row (storeIn (now tape) (now old ++ now new)) (st .totals .strings) (now words) base m ⌝ }
+    requires { ⌜ SoundNode (now reading) own (now index) (now front) (now back) place ⌝ }
+    ensures { λ r. ⌜ r ≡ refersToRow (storeIn (now (tape .entry)) (now (old .entry) ++ now (new .entry))) (now (words .entry)) base m (storeIn (now (reading .entry)) (now (front .entry) ++ now
+        (back .entry))) (recordAt nodeCodec (now (reading .entry)) place) ⌝ }
+{
     if !dependency::is_referenced_format(reading, place) {
         return false;
     }
@@ -358,7 +384,13 @@ fn any_refers_to_row<'a, 'b>(
     back: &'b [u8],
     place: usize,
     nodes: usize,
-) -> bool {
+) -> bool
+    requires { ⌜ Resolvable (now tape) st (firstWords base (now words)) (now old) (now new) ⌝ }
+    requires { ⌜ Row (storeIn (now tape) (now old ++ now new)) (st .totals .strings) (now words) base m ⌝ }
+    requires { ⌜ Sound (now reading) own (now index) (now front) (now back) place nodes ⌝ }
+    ensures { λ r. ⌜ r ≡ any (refersToRow (storeIn (now (tape .entry)) (now (old .entry) ++ now (new .entry))) (now (words .entry)) base m (storeIn (now (reading .entry)) (now (front .entry) ++ now
+        (back .entry)))) (recordsAt nodeCodec (now (reading .entry)) place nodes) ⌝ }
+{
     let mut i = 0;
     while i < nodes {
         if refers_to_row(
@@ -405,6 +437,51 @@ fn index_both(
     strings::index_strings(reading, own, space, &mut words[middle..end]);
 }
 
+// A Referenced Format of the reading whose target is the base of a Ruby among the old nodes, by words that have both indexes. The indexes
+// are kept. 2 for not known.
+fn refers_by_filter<'a, 'b>(
+    tape: &[u8],
+    st: store::Store,
+    words: &mut [u32],
+    base: usize,
+    middle: usize,
+    old: &'a [u8],
+    new: &'a [u8],
+    at: usize,
+    count: usize,
+    reading: &[u8],
+    own: store::Store,
+    front: &'b [u8],
+    back: &'b [u8],
+    place: usize,
+    nodes: usize,
+) -> u32
+    requires { ⌜ (base ≤ middle) × (middle ≤ length (now words)) ⌝ }
+    requires { ⌜ Sound (now tape) st (firstWords base (firstWords middle (now words))) (now old) (now new) at count ⌝ }
+    requires { ⌜ Sound (now reading) own (lastWords middle (now words)) (now front) (now back) place nodes ⌝ }
+    ensures { λ r. ⌜ Told r (any (refersTo (storeIn (now (tape .entry)) (now (old .entry) ++ now (new .entry))) (recordsAt nodeCodec (now (tape .entry)) at count) (storeIn (now (reading .entry)) (now
+        (front .entry) ++ now (back .entry)))) (recordsAt nodeCodec (now (reading .entry)) place nodes)) × KeptIndexes (now (words .entry)) base middle (now (words .exit)) ⌝ }
+{
+    note_bases(tape, st, &mut words[0..middle], base, old, new, at, count);
+    any_refers_to(
+        tape,
+        st,
+        &words[0..middle],
+        base,
+        old,
+        new,
+        at,
+        count,
+        reading,
+        own,
+        &words[middle..words.len()],
+        front,
+        back,
+        place,
+        nodes,
+    )
+}
+
 // The same by a row of the bases.
 fn refers_by_row<'a, 'b>(
     tape: &[u8],
@@ -423,7 +500,7 @@ fn refers_by_row<'a, 'b>(
     place: usize,
     nodes: usize,
 ) -> bool
-    requires { ⌜ (base ≤ middle) × (middle ≤ length (now words)) ⌝ }
+    requires { ⌜ (base + count ≤ middle) × (middle ≤ length (now words)) ⌝ }
     requires { ⌜ Sound (now tape) st (firstWords base (firstWords middle (now words))) (now old) (now new) at count ⌝ }
     requires { ⌜ Sound (now reading) own (lastWords middle (now words)) (now front) (now back) place nodes ⌝ }
     ensures { λ r. ⌜ (r ≡ any (refersTo (storeIn (now (tape .entry)) (now (old .entry) ++ now (new .entry))) (recordsAt nodeCodec (now (tape .entry)) at count) (storeIn (now (reading .entry)) (now (front .entry) ++ now (back .entry)))) (recordsAt nodeCodec (now (reading .entry)) place nodes)) × KeptIndexes (now (words .entry)) base middle (now (words .exit)) ⌝ }
@@ -447,8 +524,7 @@ fn refers_by_row<'a, 'b>(
     )
 }
 
-// A Referenced Format of the reading whose target is the base of a Ruby among the old nodes, by words that have both indexes. The indexes
-// are kept.
+// The same by a filter, or by a row where the filter does not tell.
 fn refers_to_some<'a, 'b>(
     tape: &[u8],
     st: store::Store,
@@ -466,24 +542,23 @@ fn refers_to_some<'a, 'b>(
     place: usize,
     nodes: usize,
 ) -> bool
-    requires { ⌜ (base ≤ middle) × (middle ≤ length (now words)) ⌝ }
+    requires { ⌜ (base + count ≤ middle) × (middle ≤ length (now words)) ⌝ }
     requires { ⌜ Sound (now tape) st (firstWords base (firstWords middle (now words))) (now old) (now new) at count ⌝ }
     requires { ⌜ Sound (now reading) own (lastWords middle (now words)) (now front) (now back) place nodes ⌝ }
     ensures { λ r. ⌜ (r ≡ any (refersTo (storeIn (now (tape .entry)) (now (old .entry) ++ now (new .entry))) (recordsAt nodeCodec (now (tape .entry)) at count) (storeIn (now (reading .entry)) (now (front .entry) ++ now (back .entry)))) (recordsAt nodeCodec (now (reading .entry)) place nodes)) × KeptIndexes (now (words .entry)) base middle (now (words .exit)) ⌝ }
 {
-    note_bases(tape, st, &mut words[0..middle], base, old, new, at, count);
-    let r = any_refers_to(
+    let r = refers_by_filter(
         tape,
         st,
-        &words[0..middle],
+        words,
         base,
+        middle,
         old,
         new,
         at,
         count,
         reading,
         own,
-        &words[middle..words.len()],
         front,
         back,
         place,
@@ -520,7 +595,7 @@ fn fewer(a: usize, b: usize) -> usize
     b
 }
 
-// The same, with no more old nodes at a time than the filter has words.
+// The same, with half as many old nodes at a time as the filter has words.
 fn refers_by_index<'a, 'b>(
     tape: &[u8],
     st: store::Store,
@@ -538,7 +613,7 @@ fn refers_by_index<'a, 'b>(
     place: usize,
     nodes: usize,
 ) -> bool
-    requires { ⌜ (base ≤ middle) × (middle ≤ length (now words)) ⌝ }
+    requires { ⌜ (base + 2 ≤ middle) × (middle ≤ length (now words)) ⌝ }
     requires { ⌜ Sound (now tape) st (firstWords base (firstWords middle (now words))) (now old) (now new) at count ⌝ }
     requires { ⌜ Sound (now reading) own (lastWords middle (now words)) (now front) (now back) place nodes ⌝ }
     ensures { λ r. ⌜ r ≡ any (refersTo (storeIn (now (tape .entry)) (now (old .entry) ++ now (new .entry))) (recordsAt nodeCodec (now (tape .entry)) at count) (storeIn (now (reading .entry)) (now (front .entry) ++ now (back .entry)))) (recordsAt nodeCodec (now (reading .entry)) place nodes) ⌝ }
@@ -586,7 +661,7 @@ fn refers_before(
     middle: usize,
     start: u32,
 ) -> bool
-    requires { ⌜ (base ≤ middle) × (middle ≤ length (now words)) ⌝ }
+    requires { ⌜ (base + 2 ≤ middle) × (middle ≤ length (now words)) ⌝ }
     requires { ⌜ Ready (now tape) (now bytes) p st (firstWords base (firstWords middle (now words))) ⌝ }
     requires { ⌜ Ready (now reading) (now letters) q own (lastWords middle (now words)) ⌝ }
     ensures { λ r. ⌜ r ≡ any (refersTo (storeOf (bookAt (now (tape .entry)) (placesIn (now (tape .entry))) (now (bytes .entry)) .layers)) (keep (endsBy start) (bookAt (now (tape .entry)) (placesIn (now (tape .entry))) (now (bytes .entry)) .sourceNodes)) (storeOf (bookAt (now (reading .entry)) (placesIn (now (reading .entry))) (now (letters .entry)) .layers))) (bookAt (now (reading .entry)) (placesIn (now (reading .entry))) (now (letters .entry)) .sourceNodes) ⌝ }
@@ -627,7 +702,12 @@ fn refers_by_words(
     own: store::Store,
     words: &mut [u32],
     start: u32,
-) -> bool {
+) -> bool
+    requires { ⌜ Held (now tape) (now bytes) p st ⌝ }
+    requires { ⌜ Held (now reading) (now letters) q own ⌝ }
+    requires { ⌜ 6 ≤ length (now words) ⌝ }
+    ensures { λ r. ⌜ r ≡ any (refersTo (storeOf (bookAt (now (tape .entry)) (placesIn (now (tape .entry))) (now (bytes .entry)) .layers)) (keep (endsBy start) (bookAt (now (tape .entry)) (placesIn (now (tape .entry))) (now (bytes .entry)) .sourceNodes)) (storeOf (bookAt (now (reading .entry)) (placesIn (now (reading .entry))) (now (letters .entry)) .layers))) (bookAt (now (reading .entry)) (placesIn (now (reading .entry))) (now (letters .entry)) .sourceNodes) ⌝ }
+{
     let base = words.len() / 3;
     let middle = base + base;
     index_both(
@@ -653,6 +733,37 @@ fn refers_by_words(
         words,
         base,
         middle,
+        start,
+    )
+}
+
+// The same by words of its own, where few are lent.
+fn refers_by_own(
+    tape: &[u8],
+    bytes: &[u8],
+    p: places::Places,
+    st: store::Store,
+    reading: &[u8],
+    letters: &[u8],
+    q: places::Places,
+    own: store::Store,
+    start: u32,
+) -> bool
+    requires { ⌜ Held (now tape) (now bytes) p st ⌝ }
+    requires { ⌜ Held (now reading) (now letters) q own ⌝ }
+    ensures { λ r. ⌜ r ≡ any (refersTo (storeOf (bookAt (now (tape .entry)) (placesIn (now (tape .entry))) (now (bytes .entry)) .layers)) (keep (endsBy start) (bookAt (now (tape .entry)) (placesIn (now (tape .entry))) (now (bytes .entry)) .sourceNodes)) (storeOf (bookAt (now (reading .entry)) (placesIn (now (reading .entry))) (now (letters .entry)) .layers))) (bookAt (now (reading .entry)) (placesIn (now (reading .entry))) (now (letters .entry)) .sourceNodes) ⌝ }
+{
+    let mut words = [0u32; 16384];
+    refers_by_words(
+        tape,
+        bytes,
+        p,
+        st,
+        reading,
+        letters,
+        q,
+        own,
+        &mut words[0..16384],
         start,
     )
 }
@@ -690,19 +801,7 @@ pub fn introduces_ruby_format_dependency(
         return false;
     }
     if words.len() < 16384 {
-        let mut lent = [0u32; 16384];
-        return refers_by_words(
-            tape,
-            bytes,
-            p,
-            st,
-            reading,
-            letters,
-            q,
-            own,
-            &mut lent[0..16384],
-            start,
-        );
+        return refers_by_own(tape, bytes, p, st, reading, letters, q, own, start);
     }
     refers_by_words(tape, bytes, p, st, reading, letters, q, own, words, start)
 }

@@ -29,7 +29,10 @@ part-refers-by-own-end : tie.Need-part-refers-by-own-end
 part-refers-by-own-end c = search needs
 
 refers-by-own-requires : tie.Need-refers-by-own-requires
-refers-by-own-requires c κs = sound-before (c .before .before .before .before .before .before .before .before .before .pre .0) (asked-inside _ _ _ _ (c .before .before .before .before .asked-nodes .ensures))
+refers-by-own-requires c κs =
+    let at-asked-nodes = c .before .before .before .before in
+    let start = at-asked-nodes .before .before .before .before .before in
+    sound-before (start .pre .0) (asked-inside _ _ _ _ (at-asked-nodes .asked-nodes .ensures))
 
 same-length : tie.Need-same-length
 same-length c = search needs
@@ -38,13 +41,18 @@ returns-2 : tie.Need-returns-2
 returns-2 c = asked-depends _ _ _ _ (c .before .before .before .before .before .asked-nodes .ensures) _ (c .refers-by-own .ensures)
 
 refers-in-parts-requires : tie.Need-refers-in-parts-requires
-refers-in-parts-requires c κs = (sound-before (c .before .before .before .before .before .before .before .before .pre .0) (asked-inside _ _ _ _ (c .before .before .before .asked-nodes .ensures)), omega (arith, c .before .before .before .before .before .before .before .before .pre .1, c .before .if2 .left))
+refers-in-parts-requires c κs =
+    let at-asked-nodes = c .before .before .before in
+    let start = at-asked-nodes .before .before .before .before .before in
+    (sound-before (start .pre .0) (asked-inside _ _ _ _ (at-asked-nodes .asked-nodes .ensures)), omega (arith, start .pre .1, c .before .if2 .left))
 
 same-length-2 : tie.Need-same-length-2
 same-length-2 c = search needs
 
 returns-3 : tie.Need-returns-3
-returns-3 c = asked-depends _ _ _ _ (c .before .before .before .before .before .before .asked-nodes .ensures) _ (c .before .before .refers-in-parts .ensures)
+returns-3 c =
+    let at-asked-nodes = c .before .before .before .before .before .before in
+    asked-depends _ _ _ _ (at-asked-nodes .asked-nodes .ensures) _ (c .before .before .refers-in-parts .ensures)
 
 pub has-ruby-format-dependency-spec : {M : Type 1} → statement M
 has-ruby-format-dependency-spec =

@@ -1,11 +1,6 @@
 use borrow.Author.Tests.{not-true, not-false}
 use Rattle.dependency.specs.Sound.{ruby-first, plain-inside}
 use Rattle.dependency.specs.Rows.{row-other, row-ruby}
-use mathlib.Core.Path.{_≡_, refl, sym, ap, _∙_}
-use mathlib.Core.List.{List, [], _∷_, _++_}
-use Prim.Native.Nat.{ℕ, zero, suc, _+_, _-_, _*_, _%_, _/_, _^_, _≤_, _<_}
-use native.Mathlib.Omega.{arith}
-use lib.ListN.{length, getD, take, drop, set, replicate, length-set, length-take, length-drop, length-append, length-replicate}
 use borrow.Author.Needs.{needs}
 use Rattle.dependency.proofs.insert_base.Statement.{statement}
 use Rattle.dependency.proofs.insert_base.Tie as tie
@@ -19,19 +14,30 @@ is-ruby-requires : tie.Need-is-ruby-requires
 is-ruby-requires c κs = search needs
 
 returns : tie.Need-returns
-returns c = row-other (c .before .before .before .before .before .before .pre .0) (c .before .is-ruby .ensures) (not-true _ (c .if1 .taken)) (c .before .before .before .before .before .before .pre .1 .0)
+returns c =
+    let start = c .before .before .before .before .before .before in
+    row-other (start .pre .0) (c .before .is-ruby .ensures) (not-true _ (c .if1 .taken)) (start .pre .1 .0)
 
 first-plain-requires : tie.Need-first-plain-requires
-first-plain-requires c κs = (c .before .before .before .before .before .before .pre .0 .strings .sides .store, (c .before .before .before .before .before .before .pre .0 .inside, ruby-first (c .before .before .before .before .before .before .pre .0) (c .before .is-ruby .ensures) (not-false _ (c .if1 .left))))
+first-plain-requires c κs =
+    let start = c .before .before .before .before .before .before in
+    (start .pre .0 .strings .sides .store, (start .pre .0 .inside, ruby-first (start .pre .0) (c .before .is-ruby .ensures) (not-false _ (c .if1 .left))))
 
 insert-id-requires : tie.Need-insert-id-requires
-insert-id-requires c κs = (c .before .before .before .before .before .before .before .before .pre .0 .strings, (c .before .before .before .before .before .before .before .before .pre .1 .0, (c .before .before .before .before .before .before .before .before .pre .1 .1, plain-inside (c .before .before .before .before .before .before .before .before .pre .0) (c .before .first-plain .ensures))))
+insert-id-requires c κs =
+    let start = c .before .before .before .before .before .before .before .before in
+    (start .pre .0 .strings, (start .pre .1 .0, (start .pre .1 .1, plain-inside (start .pre .0) (c .before .first-plain .ensures))))
 
 same-length : tie.Need-same-length
 same-length c = search needs
 
 returns-2 : tie.Need-returns-2
-returns-2 c = row-ruby (c .before .before .before .before .before .before .before .before .before .before .before .pre .0) (c .before .before .before .before .before .before .is-ruby .ensures) (not-false _ (c .before .before .before .before .before .if1 .left)) (c .before .before .before .before .first-plain .ensures) (c .before .before .insert-id .ensures)
+returns-2 c =
+    let at-first-plain = c .before .before .before .before in
+    let at-if1 = at-first-plain .before in
+    let at-is-ruby = at-if1 .before in
+    let start = at-is-ruby .before .before .before .before .before in
+    row-ruby (start .pre .0) (at-is-ruby .is-ruby .ensures) (not-false _ (at-if1 .if1 .left)) (at-first-plain .first-plain .ensures) (c .before .before .insert-id .ensures)
 
 pub insert-base-spec : {M : Type 1} → statement M
 insert-base-spec =

@@ -1,18 +1,12 @@
 use Rattle.dependency.specs.Rows.{rowed-past, rowed-one}
-use mathlib.Core.Path.{_≡_, refl, sym, ap, _∙_}
-use mathlib.Core.List.{List, [], _∷_, _++_}
-use Prim.Native.Nat.{ℕ, zero, suc, _+_, _-_, _*_, _%_, _/_, _^_, _≤_, _<_}
+use mathlib.Core.Path.{refl}
 use native.Mathlib.Omega.{arith}
-use lib.ListN.{length, getD, take, drop, set, replicate, length-set, length-take, length-drop, length-append, length-replicate}
 use borrow.Author.Needs.{needs}
 use Rattle.dependency.proofs.insert_first.Statement.{statement}
 use Rattle.dependency.proofs.insert_first.Tie as tie
 use Rattle.dependency.proofs.insert_first.Reads as reads
 use Rattle.dependency.proofs.insert_first.Lts as lts
 use Rattle.dependency.proofs.insert_base.Reads as insert-base-reads
-
-returns : tie.Need-returns
-returns c = (refl, omega (arith, c .before .before .before .before .before .pre .1 .1), rowed-past _ _ _ _ _ _ (c .before .before .before .before .before .pre .1 .0) (c .if1 .taken))
 
 mul-insert-base : tie.Need-mul-insert-base
 mul-insert-base c = search needs
@@ -21,15 +15,28 @@ add-insert-base : tie.Need-add-insert-base
 add-insert-base c = search needs
 
 insert-base-requires : tie.Need-insert-base-requires
-insert-base-requires c κs = (c .before .before .before .before .before .before .pre .0, (c .before .before .before .before .before .before .pre .1 .0 .row, omega (arith, c .before .before .before .before .before .before .pre .1 .1)))
+insert-base-requires c κs =
+    let start = c .before .before .before .before .before .before in
+    (start .pre .0, (start .pre .1 .0 .row, omega (arith, start .pre .1 .1)))
 
 same-length : tie.Need-same-length
 same-length c = search needs
 
+returns : tie.Need-returns
+returns c =
+    let at-if1 = c .before .before .before .before in
+    let start = at-if1 .before .before .before .before .before in (
+      c .before .before .insert-base .ensures .front,
+      omega (arith, c .before .before .insert-base .ensures .few, start .pre .1 .1),
+      rowed-one _ _ _ _ _ _ (start .pre .1 .0) (at-if1 .if1 .taken) (c .before .before .insert-base .ensures),
+    )
+
 returns-2 : tie.Need-returns-2
-returns-2 c = (c .before .before .insert-base .ensures .front, omega (arith, c .before .before .insert-base .ensures .few, c .before .before .before .before .before .before .before .before .before .pre .1 .1), rowed-one _ _ _ _ _ _ (c .before .before .before .before .before .before .before .before .before .pre .1 .0) (omega arith) (c .before .before .insert-base .ensures))
+returns-2 c =
+    let start = c .before .before .before .before .before in
+    (refl, omega (arith, start .pre .1 .1), rowed-past _ _ _ _ _ _ (start .pre .1 .0) (c .if1 .left))
 
 pub insert-first-spec : {M : Type 1} → statement M
 insert-first-spec =
     tie.close
-    (tie.spec returns mul-insert-base add-insert-base insert-base-requires same-length returns-2)
+    (tie.spec mul-insert-base add-insert-base insert-base-requires same-length returns returns-2)

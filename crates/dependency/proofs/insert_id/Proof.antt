@@ -1,9 +1,4 @@
 use Rattle.dependency.specs.Rows.{row-some, row-none}
-use mathlib.Core.Path.{_≡_, refl, sym, ap, _∙_}
-use mathlib.Core.List.{List, [], _∷_, _++_}
-use Prim.Native.Nat.{ℕ, zero, suc, _+_, _-_, _*_, _%_, _/_, _^_, _≤_, _<_}
-use native.Mathlib.Omega.{arith}
-use lib.ListN.{length, getD, take, drop, set, replicate, length-set, length-take, length-drop, length-append, length-replicate}
 use borrow.Author.Needs.{needs}
 use Rattle.dependency.proofs.insert_id.Statement.{statement}
 use Rattle.dependency.proofs.insert_id.Tie as tie
@@ -15,7 +10,9 @@ enum-known-p : tie.Need-enum-known-p
 enum-known-p c = search needs
 
 insert-requires : tie.Need-insert-requires
-insert-requires c κs = (c .before .before .before .before .before .before .before .before .pre .0, (c .before .before .before .before .before .before .before .before .pre .1 .0, (c .before .before .before .before .before .before .before .before .pre .1 .1 .0, (c .before .before .before .before .before .before .before .before .pre .1 .1 .1 .inside _ (c .before .before .p .given .1)))))
+insert-requires c κs =
+    let start = c .before .before .before .before .before .before .before .before in
+    (start .pre .0, (start .pre .1 .0, (start .pre .1 .1 .0, (start .pre .1 .1 .1 .inside _ (c .before .before .p .given .1)))))
 
 same-length : tie.Need-same-length
 same-length c = search needs

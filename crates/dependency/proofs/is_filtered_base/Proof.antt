@@ -1,10 +1,6 @@
 use borrow.Author.Tests.{not-true}
 use Rattle.dependency.specs.Noted.{base-absent}
-use mathlib.Core.Path.{_≡_, refl, sym, ap, _∙_}
-use mathlib.Core.List.{List, [], _∷_, _++_}
-use Prim.Native.Nat.{ℕ, zero, suc, _+_, _-_, _*_, _%_, _/_, _^_, _≤_, _<_}
-use native.Mathlib.Omega.{arith}
-use lib.ListN.{length, getD, take, drop, set, replicate, length-set, length-take, length-drop, length-append, length-replicate}
+use mathlib.Core.Path.{sym, _∙_}
 use borrow.Author.Needs.{needs}
 use Rattle.dependency.proofs.is_filtered_base.Statement.{statement}
 use Rattle.dependency.proofs.is_filtered_base.Tie as tie
@@ -21,7 +17,9 @@ may-contain-requires : tie.Need-may-contain-requires
 may-contain-requires c κs = search needs
 
 returns : tie.Need-returns
-returns c = base-absent (c .before .before .before .before .before .before .before .before .pre .1 .1) _ (c .before .before .fx-hash .ensures) (c .before .may-contain .ensures) (not-true _ (c .if1 .taken))
+returns c =
+    let start = c .before .before .before .before .before .before .before .before in
+    base-absent (start .pre .1 .1) _ (c .before .before .fx-hash .ensures) (c .before .may-contain .ensures) (not-true _ (c .if1 .taken))
 
 sub-is-ruby-base : tie.Need-sub-is-ruby-base
 sub-is-ruby-base c = search needs

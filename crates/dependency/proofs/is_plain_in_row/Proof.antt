@@ -1,10 +1,6 @@
 use Rattle.strings.specs.Shown.{shown-str}
 use Rattle.dependency.specs.Rows.{among-some, among-nothing}
-use mathlib.Core.Path.{_≡_, refl, sym, ap, _∙_}
-use mathlib.Core.List.{List, [], _∷_, _++_}
-use Prim.Native.Nat.{ℕ, zero, suc, _+_, _-_, _*_, _%_, _/_, _^_, _≤_, _<_}
-use native.Mathlib.Omega.{arith}
-use lib.ListN.{length, getD, take, drop, set, replicate, length-set, length-take, length-drop, length-append, length-replicate}
+use mathlib.Core.Path.{_∙_}
 use borrow.Author.Needs.{needs}
 use Rattle.dependency.proofs.is_plain_in_row.Statement.{statement}
 use Rattle.dependency.proofs.is_plain_in_row.Tie as tie
@@ -26,13 +22,18 @@ part-resolve-str-end : tie.Need-part-resolve-str-end
 part-resolve-str-end c = search needs
 
 resolve-str-requires : tie.Need-resolve-str-requires
-resolve-str-requires c κs = (c .before .before .before .before .before .before .before .before .pre .0, (c .before .before .before .before .before .before .before .before .pre .1 .1 .1 .inside _ (c .before .before .p .given .1)))
+resolve-str-requires c κs =
+    let start = c .before .before .before .before .before .before .before .before in
+    (start .pre .0, (start .pre .1 .1 .1 .inside _ (c .before .before .p .given .1)))
 
 contains-requires : tie.Need-contains-requires
 contains-requires c κs = search needs
 
 returns : tie.Need-returns
-returns c = among-some _ _ _ _ _ _ (c .before .before .before .before .p .given .1) (c .before .resolve-str .ensures ∙ shown-str (c .before .before .before .before .before .before .before .before .before .before .pre .0 .sides) _ (c .before .before .before .before .before .before .before .before .before .before .pre .1 .1 .1 .inside _ (c .before .before .before .before .p .given .1))) (c .contains .ensures)
+returns c =
+    let at-p = c .before .before .before .before in
+    let start = at-p .before .before .before .before .before .before in
+    among-some _ _ _ _ _ _ (at-p .p .given .1) (c .before .resolve-str .ensures ∙ shown-str (start .pre .0 .sides) _ (start .pre .1 .1 .1 .inside _ (at-p .p .given .1))) (c .contains .ensures)
 
 enum-told : tie.Need-enum-told
 enum-told c = search needs

@@ -1,12 +1,8 @@
 use Rattle.dependency.specs.Words.{last-length}
-use lib.ListN.{length}
 use Rattle.dependency.specs.Sound.{sound-index}
 use Rattle.dependency.specs.Words.{last-first, last-inside}
-use mathlib.Core.Path.{_≡_, refl, sym, ap, _∙_}
-use mathlib.Core.List.{List, [], _∷_, _++_}
-use Prim.Native.Nat.{ℕ, zero, suc, _+_, _-_, _*_, _%_, _/_, _^_, _≤_, _<_}
+use mathlib.Core.Path.{refl, _∙_}
 use native.Mathlib.Omega.{arith}
-use lib.ListN.{length, getD, take, drop, set, replicate, length-set, length-take, length-drop, length-append, length-replicate}
 use borrow.Author.Needs.{needs}
 use Rattle.dependency.proofs.part_refers.Statement.{statement}
 use Rattle.dependency.proofs.part_refers.Tie as tie
@@ -32,22 +28,55 @@ zero-words-requires : tie.Need-zero-words-requires
 zero-words-requires c κs = search needs
 
 any-refers-among-requires : tie.Need-any-refers-among-requires
-any-refers-among-requires c κs = (sound-index (last-first (c .before .before .before .before .before .before .before .before .before .args .words .now) (c .before .before .before .before .before .before .before .before .before .args .base) (omega (arith, c .before .before .before .before .before .before .before .before .before .pre .1)) _ refl (c .before .before .before .zero-words .last .0) (c .before .before .before .zero-words .kept .0)) (c .before .before .before .before .before .before .before .before .before .pre .0), last-inside (c .before .before .before .before .before .before .before .before .before .args .words .now) (c .before .before .before .before .before .before .before .before .before .args .base) (omega (arith, c .before .before .before .before .before .before .before .before .before .pre .1)) _ refl (c .before .before .before .zero-words .last .0) (c .before .before .before .zero-words .kept .0))
+any-refers-among-requires c κs =
+    let at-zero-words = c .before .before .before in
+    let start = at-zero-words .before .before .before .before .before .before in (
+      sound-index (last-first (start .args .words .now) (start .args .base) (omega (arith, start .pre .1)) _ refl
+          (at-zero-words .zero-words .last .0) (at-zero-words .zero-words .kept .0)) (start .pre .0),
+      last-inside (start .args .words .now) (start .args .base) (omega (arith, start .pre .1)) _ refl (at-zero-words .zero-words .last .0) (at-zero-words .zero-words .kept .0),
+    )
 
 any-refers-sorted-requires : tie.Need-any-refers-sorted-requires
-any-refers-sorted-requires c κs = (sound-index ((c .before .before .before .before .any-refers-among .ensures .1) ∙ last-first (c .before .before .before .before .before .before .before .before .before .before .before .before .before .before .args .words .now) (c .before .before .before .before .before .before .before .before .before .before .before .before .before .before .args .base) (omega (arith, c .before .before .before .before .before .before .before .before .before .before .before .before .before .before .pre .1)) _ refl (c .before .before .before .before .before .before .before .before .zero-words .last .0) (c .before .before .before .before .before .before .before .before .zero-words .kept .0)) (c .before .before .before .before .before .before .before .before .before .before .before .before .before .before .pre .0), omega (arith, c .before .before .before .before .any-refers-among .kept .1 .1 .0, last-length (c .before .before .before .before .before .before .before .before .before .before .before .before .before .before .args .words .now) (c .before .before .before .before .before .before .before .before .before .before .before .before .before .before .args .base) (omega (arith, c .before .before .before .before .before .before .before .before .before .before .before .before .before .before .pre .1)) _ refl (c .before .before .before .before .before .before .before .before .zero-words .last .0) (c .before .before .before .before .before .before .before .before .zero-words .kept .0), c .before .before .before .before .before .before .before .before .before .before .before .before .before .before .pre .1))
+any-refers-sorted-requires c κs =
+    let at-any-refers-among = c .before .before .before .before in
+    let at-zero-words = at-any-refers-among .before .before .before .before in
+    let start = at-zero-words .before .before .before .before .before .before in (
+      sound-index ((at-any-refers-among .any-refers-among .ensures .1)
+          ∙ last-first (start .args .words .now) (start .args .base) (omega (arith, start .pre .1)) _ refl (at-zero-words .zero-words .last .0) (at-zero-words .zero-words .kept .0)) (start .pre .0),
+      omega (
+        arith,
+        at-any-refers-among .any-refers-among .kept .1 .1 .0,
+        last-length (start .args .words .now) (start .args .base)
+            (omega (arith, start .pre .1)) _ refl (at-zero-words .zero-words .last .0) (at-zero-words .zero-words .kept .0),
+        start .pre .1,
+      ),
+    )
 
 same-length : tie.Need-same-length
 same-length c = search needs
 
 returns : tie.Need-returns
-returns c = (c .before .before .any-refers-sorted .ensures .0, (c .before .before .any-refers-sorted .ensures .1) ∙ (c .before .before .before .before .before .before .before .any-refers-among .ensures .1) ∙ last-first (c .before .before .before .before .before .before .before .before .before .before .before .before .before .before .before .before .before .args .words .now) (c .before .before .before .before .before .before .before .before .before .before .before .before .before .before .before .before .before .args .base) (omega (arith, c .before .before .before .before .before .before .before .before .before .before .before .before .before .before .before .before .before .pre .1)) _ refl (c .before .before .before .before .before .before .before .before .before .before .before .zero-words .last .0) (c .before .before .before .before .before .before .before .before .before .before .before .zero-words .kept .0))
+returns c =
+    let at-any-refers-among = c .before .before .before .before .before .before .before in
+    let at-zero-words = at-any-refers-among .before .before .before .before in
+    let start = at-zero-words .before .before .before .before .before .before in (
+      c .before .before .any-refers-sorted .ensures .0,
+      (c .before .before .any-refers-sorted .ensures .1) ∙ (at-any-refers-among .any-refers-among .ensures .1)
+          ∙ last-first (start .args .words .now) (start .args .base) (omega (arith, start .pre .1)) _ refl (at-zero-words .zero-words .last .0) (at-zero-words .zero-words .kept .0),
+    )
 
 same-length-2 : tie.Need-same-length-2
 same-length-2 c = search needs
 
 returns-2 : tie.Need-returns-2
-returns-2 c = (c .before .before .before .any-refers-among .ensures .0 .told (c .if1 .left), (c .before .before .before .any-refers-among .ensures .1) ∙ last-first (c .before .before .before .before .before .before .before .before .before .before .before .before .before .args .words .now) (c .before .before .before .before .before .before .before .before .before .before .before .before .before .args .base) (omega (arith, c .before .before .before .before .before .before .before .before .before .before .before .before .before .pre .1)) _ refl (c .before .before .before .before .before .before .before .zero-words .last .0) (c .before .before .before .before .before .before .before .zero-words .kept .0))
+returns-2 c =
+    let at-any-refers-among = c .before .before .before in
+    let at-zero-words = at-any-refers-among .before .before .before .before in
+    let start = at-zero-words .before .before .before .before .before .before in (
+      at-any-refers-among .any-refers-among .ensures .0 .told (c .if1 .left),
+      (at-any-refers-among .any-refers-among .ensures .1)
+          ∙ last-first (start .args .words .now) (start .args .base) (omega (arith, start .pre .1)) _ refl (at-zero-words .zero-words .last .0) (at-zero-words .zero-words .kept .0),
+    )
 
 pub part-refers-spec : {M : Type 1} → statement M
 part-refers-spec =

@@ -25,7 +25,18 @@ index-strings-requires : tie.Need-index-strings-requires
 index-strings-requires c κs = readable-again (c .before .before .before .before .before .before .pre .0 .strings)
 
 refers-in-parts-requires : tie.Need-refers-in-parts-requires
-refers-in-parts-requires c κs = (sound-own (c .before .before .before .before .before .before .before .before .before .before .pre .0) (c .before .before .before .before .before .before .before .before .before .before .args .words .now) 8192 (omega (arith, c .before .before .before .before .before .before .before .before .before .before .pre .1)) (c .before .before .before .index-strings .last .1 .1 .1 .0) (c .before .before .before .index-strings .kept .1 .1 .1 .0) (c .before .before .before .index-strings .ensures), omega (arith, first-length (c .before .before .before .before .before .before .before .before .before .before .args .words .now) 8192 (omega (arith, c .before .before .before .before .before .before .before .before .before .before .pre .1)) (c .before .before .before .index-strings .last .1 .1 .1 .0) (c .before .before .before .index-strings .kept .1 .1 .1 .0), c .before .before .before .before .before .before .before .before .before .before .pre .1))
+refers-in-parts-requires c κs =
+    let at-index-strings = c .before .before .before in
+    let start = at-index-strings .before .before .before .before .before .before .before in (
+      sound-own (start .pre .0) (start .args .words .now) 8192 (omega (arith, start .pre .1)) (at-index-strings .index-strings .last .1 .1 .1 .0)
+          (at-index-strings .index-strings .kept .1 .1 .1 .0) (at-index-strings .index-strings .ensures),
+      omega (
+        arith,
+        first-length (start .args .words .now) 8192 (omega (arith, start .pre .1))
+            (at-index-strings .index-strings .last .1 .1 .1 .0) (at-index-strings .index-strings .kept .1 .1 .1 .0),
+        start .pre .1,
+      ),
+    )
 
 same-length : tie.Need-same-length
 same-length c = search needs

@@ -8,7 +8,7 @@ use lib.ListN.{length}
 use mathlib.Core.Path.{_≡_, refl, _∙_}
 use mathlib.Core.List.{_++_}
 use native.Mathlib.Omega.{arith}
-use Prim.Native.Nat.{_+_, _≤_, _<_, _-_}
+use Prim.Native.Nat.{_+_, _≤_, _-_}
 use Rattle.dependency.proofs.refers_in_parts.Statement.{statement}
 use Rattle.dependency.proofs.refers_in_parts.Tie as tie
 use Rattle.dependency.proofs.refers_in_parts.Reads as reads
@@ -17,7 +17,12 @@ use Rattle.dependency.proofs.part_refers.Reads as part-refers-reads
 use Rattle.dependency.proofs.smaller.Reads as smaller-reads
 
 abbrev Inv-loop : tie.InvT-loop
-Inv-loop tape st words₀ base old new at count from size i₀ words i = (i ≤ count) × (length words ≡ length words₀) × (firstWords base words ≡ firstWords base words₀) × Missed (refersAmong (storeIn tape (old ++ new)) from tape at i) count × (base + size ≤ length words₀)
+Inv-loop tape st words₀ base old new at count from size i₀ words i =
+    (i ≤ count)
+    × (length words ≡ length words₀)
+    × (firstWords base words ≡ firstWords base words₀)
+    × Missed (refersAmong (storeIn tape (old ++ new)) from tape at i) count
+    × (base + size ≤ length words₀)
 
 abbrev μ-loop : tie.MeasureT-loop
 μ-loop tape st words₀ base old new at count from size i₀ words i = count - i
@@ -29,7 +34,14 @@ add-size : tie.Need-add-size Inv-loop μ-loop
 add-size c = omega (arith, (c .before .before .before .before .pre .0) .inside)
 
 loop-holds : tie.Need-loop-holds Inv-loop μ-loop
-loop-holds c = (omega arith, refl, refl, parts-none (storeIn (c .before .before .before .before .args .tape .now) (c .before .before .before .before .args .old .now ++ c .before .before .before .before .args .new .now)) (c .before .before .before .before .args .from) (c .before .before .before .before .args .tape .now) (c .before .before .before .before .args .at) (c .before .before .before .before .args .count), omega (arith, c .before .before .before .before .pre .1))
+loop-holds c =
+    let start = c .before .before .before .before in (
+      omega arith,
+      refl,
+      refl,
+      parts-none (storeIn (start .args .tape .now) (start .args .old .now ++ start .args .new .now)) (start .args .from) (start .args .tape .now) (start .args .at) (start .args .count),
+      omega (arith, start .pre .1),
+    )
 
 sub-smaller : tie.Need-sub-smaller Inv-loop μ-loop
 sub-smaller c = omega arith
@@ -47,28 +59,63 @@ sub-part-refers : tie.Need-sub-part-refers Inv-loop μ-loop
 sub-part-refers c = omega arith
 
 part-refers-requires : tie.Need-part-refers-requires Inv-loop μ-loop
-part-refers-requires c κs = (sound-piece (sound-index (c .before .before .before .loop .inv .2) (c .before .before .before .before .before .before .before .before .pre .0)) (c .before .before .before .loop .i) _ (omega (arith, c .before .before .loop-test .taken)), omega (arith, c .before .smaller .ensures, c .before .before .before .loop .inv .4, c .before .before .before .loop .inv .1))
+part-refers-requires c κs =
+    let turn = c .before .before .before in
+    let start = turn .before .before .before .before .before in (
+      sound-piece (sound-index (turn .loop .inv .2) (start .pre .0)) (turn .loop .i) _ (omega (arith, c .before .before .loop-test .taken)),
+      omega (arith, c .before .smaller .ensures, turn .loop .inv .4, turn .loop .inv .1),
+    )
 
 same-length : tie.Need-same-length Inv-loop μ-loop
-same-length c = c .before .before .before .part-refers .kept .1 .1 .0 ∙ c .before .before .before .before .before .before .before .loop .inv .1
+same-length c =
+    let at-part-refers = c .before .before .before in
+    let turn = at-part-refers .before .before .before .before in
+    at-part-refers .part-refers .kept .1 .1 .0 ∙ turn .loop .inv .1
 
 returns : tie.Need-returns Inv-loop μ-loop
-returns c = parts-found (storeIn (c .before .before .before .before .before .before .before .before .before .before .before .before .args .tape .now) (c .before .before .before .before .before .before .before .before .before .before .before .before .args .old .now ++ c .before .before .before .before .before .before .before .before .before .before .before .before .args .new .now)) (c .before .before .before .before .before .before .before .before .before .before .before .before .args .from) (c .before .before .before .before .before .before .before .before .before .before .before .before .args .tape .now) (c .before .before .before .before .before .before .before .before .before .before .before .before .args .at) (c .before .before .before .before .before .before .before .before .before .before .before .before .args .count) (c .before .before .before .before .before .before .before .loop .i) _ (c .before .before .before .before .before .before .before .loop .inv .0) (c .before .before .before .part-refers .ensures .0) (c .if1 .taken)
+returns c =
+    let at-part-refers = c .before .before .before in
+    let turn = at-part-refers .before .before .before .before in
+    let start = turn .before .before .before .before .before in
+    parts-found (storeIn (start .args .tape .now) (start .args .old .now ++ start .args .new .now)) (start .args .from) (start .args .tape .now)
+    (start .args .at) (start .args .count) (turn .loop .i) _ (turn .loop .inv .0) (at-part-refers .part-refers .ensures .0) (c .if1 .taken)
 
 add-i : tie.Need-add-i Inv-loop μ-loop
-add-i c = omega (arith, c .before .before .before .before .before .smaller .ensures, c .before .before .before .before .before .before .before .loop .inv .0, c .before .before .before .before .before .before .loop-test .taken, (c .before .before .before .before .before .before .before .before .before .before .before .before .pre .0) .inside)
+add-i c =
+    let at-smaller = c .before .before .before .before .before in
+    let at-loop-test = at-smaller .before in
+    let turn = at-loop-test .before in
+    let start = turn .before .before .before .before .before in
+    omega (arith, at-smaller .smaller .ensures, turn .loop .inv .0, at-loop-test .loop-test .taken, (start .pre .0) .inside)
 
 loop-less : tie.Need-loop-less Inv-loop μ-loop
-loop-less c = omega (arith, c .before .before .before .before .before .smaller .ensures, c .before .before .before .before .before .before .loop-test .taken)
+loop-less c =
+    let at-smaller = c .before .before .before .before .before in
+    let at-loop-test = at-smaller .before in
+    omega (arith, at-smaller .smaller .ensures, at-loop-test .loop-test .taken)
 
 loop-again : tie.Need-loop-again Inv-loop μ-loop
-loop-again c = (omega (arith, c .before .before .before .before .before .smaller .ensures, c .before .before .before .before .before .before .before .loop .inv .0), c .before .before .before .part-refers .kept .1 .1 .0 ∙ c .before .before .before .before .before .before .before .loop .inv .1, c .before .before .before .part-refers .ensures .1 ∙ c .before .before .before .before .before .before .before .loop .inv .2, parts-more (storeIn (c .before .before .before .before .before .before .before .before .before .before .before .before .args .tape .now) (c .before .before .before .before .before .before .before .before .before .before .before .before .args .old .now ++ c .before .before .before .before .before .before .before .before .before .before .before .before .args .new .now)) (c .before .before .before .before .before .before .before .before .before .before .before .before .args .from) (c .before .before .before .before .before .before .before .before .before .before .before .before .args .tape .now) (c .before .before .before .before .before .before .before .before .before .before .before .before .args .at) (c .before .before .before .before .before .before .before .before .before .before .before .before .args .count) (c .before .before .before .before .before .before .before .loop .i) _ (c .before .before .before .before .before .before .before .loop .inv .0) (c .before .before .before .part-refers .ensures .0) (c .before .before .before .before .before .before .before .loop .inv .3) (c .if1 .left), c .before .before .before .before .before .before .before .loop .inv .4)
+loop-again c =
+    let at-part-refers = c .before .before .before in
+    let at-smaller = at-part-refers .before .before in
+    let turn = at-smaller .before .before in
+    let start = turn .before .before .before .before .before in (
+      omega (arith, at-smaller .smaller .ensures, turn .loop .inv .0),
+      at-part-refers .part-refers .kept .1 .1 .0 ∙ turn .loop .inv .1,
+      at-part-refers .part-refers .ensures .1 ∙ turn .loop .inv .2,
+      parts-more (storeIn (start .args .tape .now) (start .args .old .now ++ start .args .new .now)) (start .args .from) (start .args .tape .now)
+          (start .args .at) (start .args .count) (turn .loop .i) _ (turn .loop .inv .0) (at-part-refers .part-refers .ensures .0) (turn .loop .inv .3) (c .if1 .left),
+      turn .loop .inv .4,
+    )
 
 same-length-2 : tie.Need-same-length-2 Inv-loop μ-loop
 same-length-2 c = c .before .loop .inv .1
 
 returns-2 : tie.Need-returns-2 Inv-loop μ-loop
-returns-2 c = parts-all (storeIn (c .before .before .before .before .before .before .args .tape .now) (c .before .before .before .before .before .before .args .old .now ++ c .before .before .before .before .before .before .args .new .now)) (c .before .before .before .before .before .before .args .from) (c .before .before .before .before .before .before .args .tape .now) (c .before .before .before .before .before .before .args .at) (c .before .before .before .before .before .before .args .count) (c .before .loop .i) (omega (arith, c .before .loop .inv .0, c .loop-test .left)) (c .before .loop .inv .3)
+returns-2 c =
+    let start = c .before .before .before .before .before .before in
+    parts-all (storeIn (start .args .tape .now) (start .args .old .now ++ start .args .new .now)) (start .args .from) (start .args .tape .now)
+    (start .args .at) (start .args .count) (c .before .loop .i) (omega (arith, c .before .loop .inv .0, c .loop-test .left)) (c .before .loop .inv .3)
 
 pub refers-in-parts-spec : {M : Type 1} → statement M
 refers-in-parts-spec =

@@ -1,11 +1,6 @@
 use borrow.Author.Tests.{not-true, not-false}
 use Rattle.dependency.specs.Sound.{format-first, plain-inside}
 use Rattle.dependency.specs.Rows.{row-asks-not, row-target}
-use mathlib.Core.Path.{_≡_, refl, sym, ap, _∙_}
-use mathlib.Core.List.{List, [], _∷_, _++_}
-use Prim.Native.Nat.{ℕ, zero, suc, _+_, _-_, _*_, _%_, _/_, _^_, _≤_, _<_}
-use native.Mathlib.Omega.{arith}
-use lib.ListN.{length, getD, take, drop, set, replicate, length-set, length-take, length-drop, length-append, length-replicate}
 use borrow.Author.Needs.{needs}
 use Rattle.dependency.proofs.refers_to_row.Statement.{statement}
 use Rattle.dependency.proofs.refers_to_row.Tie as tie
@@ -19,16 +14,25 @@ asks-target-requires : tie.Need-asks-target-requires
 asks-target-requires c κs = search needs
 
 returns : tie.Need-returns
-returns c = row-asks-not (c .before .before .before .before .before .before .pre .0) _ _ _ _ (c .before .asks-target .ensures) (not-true _ (c .if1 .taken))
+returns c =
+    let start = c .before .before .before .before .before .before in
+    row-asks-not (start .pre .0) _ _ _ _ (c .before .asks-target .ensures) (not-true _ (c .if1 .taken))
 
 first-plain-requires : tie.Need-first-plain-requires
-first-plain-requires c κs = (c .before .before .before .before .before .before .pre .0 .strings .sides .store, (c .before .before .before .before .before .before .pre .0 .inside, format-first (c .before .before .before .before .before .before .pre .0) _ (c .before .asks-target .ensures) (not-false _ (c .if1 .left))))
+first-plain-requires c κs =
+    let start = c .before .before .before .before .before .before in
+    (start .pre .0 .strings .sides .store, (start .pre .0 .inside, format-first (start .pre .0) _ (c .before .asks-target .ensures) (not-false _ (c .if1 .left))))
 
 is-plain-in-row-requires : tie.Need-is-plain-in-row-requires
-is-plain-in-row-requires c κs = (c .before .before .before .before .before .before .before .pre .0 .strings, (c .before .before .before .before .before .before .before .pre .1 .0, (c .before .before .before .before .before .before .before .pre .1 .1, plain-inside (c .before .before .before .before .before .before .before .pre .0) (c .first-plain .ensures))))
+is-plain-in-row-requires c κs =
+    let start = c .before .before .before .before .before .before .before in
+    (start .pre .0 .strings, (start .pre .1 .0, (start .pre .1 .1, plain-inside (start .pre .0) (c .first-plain .ensures))))
 
 returns-2 : tie.Need-returns-2
-returns-2 c = row-target (c .before .before .before .before .before .before .before .before .pre .0) _ _ _ _ (c .before .before .before .asks-target .ensures) (not-false _ (c .before .before .if1 .left)) (c .before .first-plain .ensures) (c .is-plain-in-row .ensures)
+returns-2 c =
+    let at-asks-target = c .before .before .before in
+    let start = at-asks-target .before .before .before .before .before in
+    row-target (start .pre .0) _ _ _ _ (at-asks-target .asks-target .ensures) (not-false _ (c .before .before .if1 .left)) (c .before .first-plain .ensures) (c .is-plain-in-row .ensures)
 
 pub refers-to-row-spec : {M : Type 1} → statement M
 refers-to-row-spec =

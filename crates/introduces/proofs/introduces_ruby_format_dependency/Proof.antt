@@ -1,6 +1,6 @@
-use Rattle.region.specs.Held.{held-inside, held-readable, held-ready}
-use Rattle.introduces.specs.Books.{introduces-later, introduces-none, introduces-refers}
 use borrow.Author.Tests.{not-true}
+use Rattle.introduces.specs.Books.{introduces-later, introduces-none, introduces-refers}
+use Rattle.region.specs.Held.{held-inside}
 use native.Mathlib.Omega.{arith}
 use borrow.Author.Needs.{needs}
 use Rattle.introduces.proofs.introduces_ruby_format_dependency.Statement.{statement}
@@ -8,36 +8,55 @@ use Rattle.introduces.proofs.introduces_ruby_format_dependency.Tie as t
 use Rattle.introduces.proofs.introduces_ruby_format_dependency.Reads as reads
 use Rattle.introduces.proofs.introduces_ruby_format_dependency.Lts as lts
 use Rattle.introduces.proofs.any_format_from.Reads as any-format-from-reads
-use Rattle.introduces.proofs.index_both.Reads as index-both-reads
-use Rattle.introduces.proofs.refers_before.Reads as refers-before-reads
+use Rattle.introduces.proofs.refers_by_own.Reads as refers-by-own-reads
+use Rattle.introduces.proofs.refers_by_words.Reads as refers-by-words-reads
 use Rattle.introduces.proofs.ruby_for_later.Reads as ruby-for-later-reads
 
 ruby-for-later-requires : tie.Need-ruby-for-later-requires
-ruby-for-later-requires c κs = (held-inside (c .before .before .before .before .before .pre .0), held-inside (c .before .before .before .before .before .pre .1))
+ruby-for-later-requires c κs =
+    let start = c .before .before .before .before .before in
+    (held-inside (start .pre .0), held-inside (start .pre .1))
 
 returns : tie.Need-returns
-returns c = introduces-later (c .before .before .before .before .before .before .before .pre .0) (c .before .before .before .before .before .before .before .pre .1) _ _ (c .before .ruby-for-later .ensures) (c .if1 .taken)
+returns c =
+    let start = c .before .before .before .before .before .before .before in
+    introduces-later (start .pre .0) (start .pre .1) _ _ (c .before .ruby-for-later .ensures) (c .if1 .taken)
 
 any-format-from-requires : tie.Need-any-format-from-requires
 any-format-from-requires c κs = held-inside (c .before .before .before .before .before .before .before .pre .1)
 
 returns-2 : tie.Need-returns-2
-returns-2 c = introduces-none (c .before .before .before .before .before .before .before .before .before .pre .0) (c .before .before .before .before .before .before .before .before .before .pre .1) _ _ (c .before .before .before .ruby-for-later .ensures) (c .before .before .if1 .left) (c .before .any-format-from .ensures) (not-true _ (c .if2 .taken))
+returns-2 c =
+    let at-ruby-for-later = c .before .before .before in
+    let start = at-ruby-for-later .before .before .before .before .before .before in
+    introduces-none (start .pre .0) (start .pre .1) _ _ (at-ruby-for-later .ruby-for-later .ensures) (c .before .before .if1 .left) (c .before .any-format-from .ensures) (not-true _ (c .if2 .taken))
 
-add-middle : tie.Need-add-middle
-add-middle c = omega (arith, c .before .before .before .before .before .before .before .before .before .good)
+refers-by-own-requires : tie.Need-refers-by-own-requires
+refers-by-own-requires c κs =
+    let start = c .before .before .before .before .before .before .before .before .before .before in
+    (start .pre .0, start .pre .1)
 
-index-both-requires : tie.Need-index-both-requires
-index-both-requires c κs = (held-readable (c .before .before .before .before .before .before .before .before .before .before .pre .0) (omega arith), (held-readable (c .before .before .before .before .before .before .before .before .before .before .pre .1) (omega arith), (omega arith, omega arith)))
+returns-3 : tie.Need-returns-3
+returns-3 c =
+    let at-if1 = c .before .before .before .before in
+    let at-ruby-for-later = at-if1 .before in
+    let start = at-ruby-for-later .before .before .before .before .before .before in
+    introduces-refers (start .pre .0) (start .pre .1) _ _ (at-ruby-for-later .ruby-for-later .ensures) (at-if1 .if1 .left) (c .refers-by-own .ensures)
 
-refers-before-requires : tie.Need-refers-before-requires
-refers-before-requires c κs = ((omega arith, omega (arith, c .before .before .before .index-both .kept .1 .1 .1 .1 .1 .1 .0)), (held-ready (c .before .before .before .before .before .before .before .before .before .before .before .before .before .before .pre .0) ((c .before .before .before .index-both .ensures) .first), held-ready (c .before .before .before .before .before .before .before .before .before .before .before .before .before .before .pre .1) ((c .before .before .before .index-both .ensures) .last)))
+refers-by-words-requires : tie.Need-refers-by-words-requires
+refers-by-words-requires c κs =
+    let start = c .before .before .before .before .before .before .before .before .before .before .before in
+    (start .pre .0, (start .pre .1, omega arith))
 
 same-length : tie.Need-same-length
 same-length c = search needs
 
-returns-3 : tie.Need-returns-3
-returns-3 c = introduces-refers (c .before .before .before .before .before .before .before .before .before .before .before .before .before .before .before .before .before .pre .0) (c .before .before .before .before .before .before .before .before .before .before .before .before .before .before .before .before .before .pre .1) _ _ (c .before .before .before .before .before .before .before .before .before .before .before .ruby-for-later .ensures) (c .before .before .before .before .before .before .before .before .before .before .if1 .left) (c .before .before .refers-before .ensures)
+returns-4 : tie.Need-returns-4
+returns-4 c =
+    let at-if1 = c .before .before .before .before .before .before .before in
+    let at-ruby-for-later = at-if1 .before in
+    let start = at-ruby-for-later .before .before .before .before .before .before in
+    introduces-refers (start .pre .0) (start .pre .1) _ _ (at-ruby-for-later .ruby-for-later .ensures) (at-if1 .if1 .left) (c .before .before .refers-by-words .ensures)
 
 pub introduces-ruby-format-dependency-spec : {M : Type 1} → statement M
 introduces-ruby-format-dependency-spec =
@@ -47,8 +66,8 @@ introduces-ruby-format-dependency-spec =
     returns
     any-format-from-requires
     returns-2
-    add-middle
-    index-both-requires
-    refers-before-requires
+    refers-by-own-requires
+    returns-3
+    refers-by-words-requires
     same-length
-    returns-3)
+    returns-4)
