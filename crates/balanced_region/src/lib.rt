@@ -489,7 +489,7 @@ pub struct Region {
     pub end: usize,
 }
 
-// The same with these words for the windows.
+// The region, with these words for the windows.
 fn region_in(
     tape: &[u8],
     text: &[u8],
@@ -514,6 +514,9 @@ fn region_in(
     }
 }
 
+// Where fewer words are lent, so many of its own are used: with a small window the pairs are walked more often.
+const WINDOW_WORDS: usize = 16384;
+
 // Section 6. `balanced_region` of the edit from `start` to `end`.
 pub fn balanced_region(
     tape: &[u8],
@@ -529,8 +532,8 @@ pub fn balanced_region(
     requires { ⌜ NodesIn (length (now text)) (nodesOf (now tape) nodes) ⌝ }
     ensures { λ r. ⌜ regionOf r ≡ balancedIn (now (text .entry)) (nodesOf (now (tape .entry)) nodes) (pairsOf (now (tape .entry)) pairs) start end ⌝ }
 {
-    if words.len() < 4096 {
-        let mut own = [0u32; 16384];
+    if words.len() < WINDOW_WORDS {
+        let mut own = [0u32; WINDOW_WORDS];
         return region_in(tape, text, nodes, pairs, start, end, &mut own);
     }
     region_in(tape, text, nodes, pairs, start, end, words)
