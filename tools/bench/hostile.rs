@@ -68,9 +68,9 @@ fn crowds(start: &'static str, filter: fn(usize) -> usize) -> impl Fn(usize, usi
 
 fn unlike(n: usize, _: usize) -> Vec<String> { (0..n).map(|i| format!("{i:08}")).collect() }
 
-// Without many words number 10 has 1024 for its filter, else half of what is lent; number 15 has a third.
-fn filter_of_10(words: usize) -> usize { (words / 2).max(1024) }
-fn filter_of_15(words: usize) -> usize { (words / 3).max(1) }
+// Number 10 has half of the lent words for its filter, number 15 a third; of their own, where few are lent, 8192 and 5461.
+fn filter_of_10(words: usize) -> usize { (words / 2).max(8192) }
+fn filter_of_15(words: usize) -> usize { words.max(16384) / 3 }
 
 // ---- books
 
