@@ -1,9 +1,9 @@
 -- A Bloom filter: which bits of which word a hash sets, that a hash which was inserted is found, and that it stays.
-use mathlib.Core.Path.{_≡_, refl, sym, ap, ap₂, _∙_}
+use mathlib.Core.Path.{_≡_, refl, sym, ap, ap₂, _∙_, subst}
 use Prim.Native.Nat.{ℕ, _+_, _-_, _*_, _/_, _%_, _^_, _≤_, _<_, min, max}
 use native.Mathlib.Omega.{arith}
-use native.Mathlib.Nat.{mod-lt, mod-eq-of-lt}
-use mathlib.Core.Bool.{Bool, true, false, cond}
+use native.Mathlib.Nat.{mod-lt, mod-eq-of-lt, div-lt-iff-lt-mul, mul-lt-mul-of-pos-right, mul-le-mul, mul-comm}
+use mathlib.Core.Bool.{Bool, true, false, cond, _&&_, false≢true}
 use mathlib.Core.List.{List}
 use lib.ListN.{length, getD, set, take, length-set}
 use lib.Seq.{getD-set-same, getD-set-other, take-set-le}
@@ -13,22 +13,30 @@ use lib.Bits.{bitAnd, bitOr, and-step, and-zero-r, or-shr, or-step}
 use lib.Pow.{pow-lt}
 use borrow.Author.Tests.{lt-ltb, le-ltb, ltb-true, ltb-false, eq-eqb, eqb-true, eqb-false}
 
--- where the bits of a hash stand: in one of the words from `base` on, by its high half
+-- where 32 bits of a hash have their word: among those from `base` on, in the share that they have of all 32 bits
 unfoldable pub hashPlace : ℕ → ℕ → ℕ → ℕ
-hashPlace base len h = base + h / 4294967296 % (len - base)
+hashPlace base len x = base + x * min (len - base) 4294967296 / 4294967296
 
--- the bits themselves, at most four, by its low half
+-- the bits of a hash, at most four, by its low end
 unfoldable pub hashBits : ℕ → ℕ
 hashBits h = bitOr (bitOr (2 ^ (h % 32)) (2 ^ (h / 32 % 32))) (bitOr (2 ^ (h / 1024 % 32)) (2 ^ (h / 32768 % 32)))
 
--- Are the bits of a hash set? Where there are no words behind `base`, yes.
-unfoldable pub mayContain : List ℕ → ℕ → ℕ → Bool
-mayContain words base h = cond (ltb base (length words)) (eqb (bitAnd (getD words (hashPlace base (length words) h) 0) (hashBits h)) (hashBits h)) true
+-- are these bits set in the word of x, and the words with them set
+unfoldable pub hasBits : List ℕ → ℕ → ℕ → ℕ → Bool
+hasBits words base x m = eqb (bitAnd (getD words (hashPlace base (length words) x) 0) m) m
 
--- the bits of a hash set
+unfoldable pub withBits : List ℕ → ℕ → ℕ → ℕ → List ℕ
+withBits words base x m = set words (hashPlace base (length words) x) (bitOr (getD words (hashPlace base (length words) x) 0) m)
+
+-- The two words of a hash are those of its bits 32 to 63 and 16 to 47. Are its bits set in both? Where there are no words behind `base`, yes.
+unfoldable pub mayContain : List ℕ → ℕ → ℕ → Bool
+mayContain words base h =
+    cond (ltb base (length words)) (hasBits words base (h / 4294967296 % 4294967296) (hashBits h) && hasBits words base (h / 65536 % 4294967296) (hashBits h)) true
+
+-- its bits set in both
 unfoldable pub inserted : List ℕ → ℕ → ℕ → List ℕ
 inserted words base h =
-    cond (ltb base (length words)) (set words (hashPlace base (length words) h) (bitOr (getD words (hashPlace base (length words) h) 0) (hashBits h))) words
+    cond (ltb base (length words)) (withBits (withBits words base (h / 4294967296 % 4294967296) (hashBits h)) base (h / 65536 % 4294967296) (hashBits h)) words
 
 -- ---- bits
 
@@ -76,11 +84,98 @@ power-fits k h = let e : 1 * 2 ^ k ≡ 2 ^ k = omega arith in ap (λ (x : ℕ). 
 
 -- ---- places
 
-pub place-inside : (base len h : ℕ) → base < len → (base ≤ hashPlace base len h) × (hashPlace base len h < len)
-unfolding hashPlace
-place-inside base len h b = let m = mod-lt (h / 4294967296) {m = len - base} (omega arith) in (omega arith, omega (arith, m))
+-- as the code has them
+pub share-fits : (n : ℕ) {x y : ℕ} → y ≡ min n 4294967296 → x < 4294967296 → x * y < 2 ^ 64
+share-fits n {x} {y} e h = let m = mul-le-mul {n₁ = x} {m₁ = y} {n₂ = 4294967295} {m₂ = 4294967296} (omega (arith, h)) (omega (arith, e)) in omega (arith, m)
 
--- ---- words behind `base`, or none
+share-below : (n x : ℕ) → 0 < n → x < 4294967296 → x * n / 4294967296 < n
+share-below n x p h =
+    div-lt-iff-lt-mul {k = 4294967296} {x = x * n} {y = n} (omega arith) .1 (subst (λ (k : ℕ). x * n < k) (mul-comm 4294967296 n) (mul-lt-mul-of-pos-right h p))
+
+pub place-inside : (base len x : ℕ) → base < len → x < 4294967296 → (base ≤ hashPlace base len x) × (hashPlace base len x < len)
+unfolding hashPlace
+place-inside base len x b h = let s = share-below (min (len - base) 4294967296) x (omega (arith, b)) h in (omega arith, omega (arith, s, b))
+
+pub place-at : (base len x : ℕ) {y : ℕ} → y ≡ min (len - base) 4294967296 → base + x * y / 4294967296 ≡ hashPlace base len x
+unfolding hashPlace
+place-at base len x e = rw e refl
+
+-- ---- one word
+
+-- a test of two numbers, with what it shows
+by-place : {A : Type 0} (i j : ℕ) → (i ≡ j → A) → ((i ≡ j → ⊥) → A) → A
+by-place {A} i j same other = go (eqb i j) refl
+  where
+    go : (b : Bool) → eqb i j ≡ b → A
+    go true e = same (eqb-true i j e)
+    go false e = other (eqb-false i j e)
+
+module _ (words : List ℕ) (base x m : ℕ) where
+  abbrev at : ℕ
+  at = hashPlace base (length words) x
+
+  -- as the code has them
+  pub with-at : {i : ℕ} → i ≡ at → set words i (bitOr (getD words i 0) m) ≡ withBits words base x m
+  unfolding withBits
+  with-at e = rw e refl
+
+  pub has-at : {i : ℕ} → i ≡ at → eqb (bitAnd (getD words i 0) m) m ≡ hasBits words base x m
+  unfolding hasBits
+  has-at e = rw e refl
+
+  pub with-inside : {a : List ℕ} → a ≡ withBits words base x m → base < length words → base < length a
+  unfolding withBits
+  with-inside e s = let n = ap length e ∙ length-set words at (bitOr (getD words at 0) m) in omega (arith, n, s)
+
+  with-length : length (withBits words base x m) ≡ length words
+  unfolding withBits
+  with-length = length-set words at (bitOr (getD words at 0) m)
+
+  module _ (some : base < length words) (small : x < 4294967296) where
+    with-front : take base (withBits words base x m) ≡ take base words
+    unfolding withBits
+    with-front = take-set-le base words at (bitOr (getD words at 0) m) (place-inside base (length words) x some small .0)
+
+    -- in the same word, and in each other
+    same-word : getD (withBits words base x m) at 0 ≡ bitOr (getD words at 0) m
+    unfolding withBits
+    same-word = getD-set-same words at (bitOr (getD words at 0) m) 0 (place-inside base (length words) x some small .1)
+
+    other-word : (j : ℕ) → (j ≡ at → ⊥) → getD (withBits words base x m) j 0 ≡ getD words j 0
+    unfolding withBits
+    other-word j d = getD-set-other words at j (bitOr (getD words at 0) m) 0 d
+
+    -- bits that are set stay
+    word-kept : (j k : ℕ) → bitAnd (getD words j 0) k ≡ k → bitAnd (getD (withBits words base x m) j 0) k ≡ k
+    word-kept j k e =
+        by-place j at
+        (λ q.
+        ap (λ (i : ℕ). bitAnd (getD (withBits words base x m) i 0) k) q ∙ ap (λ (v : ℕ). bitAnd v k) same-word
+        ∙ bits-kept k (getD words at 0) m (ap (λ (i : ℕ). bitAnd (getD words i 0) k) (sym q) ∙ e))
+        (λ d. ap (λ (v : ℕ). bitAnd v k) (other-word j d) ∙ e)
+
+    with-own : hasBits (withBits words base x m) base x m ≡ true
+    unfolding hasBits
+    with-own =
+        eq-eqb (bitAnd (getD (withBits words base x m) (hashPlace base (length (withBits words base x m)) x) 0) m) m
+        (ap (λ (n : ℕ). bitAnd (getD (withBits words base x m) (hashPlace base n x) 0) m) with-length
+        ∙ ap (λ (v : ℕ). bitAnd v m) same-word ∙ bits-own m (getD words at 0))
+
+    with-kept : (y k : ℕ) → hasBits words base y k ≡ true → hasBits (withBits words base x m) base y k ≡ true
+    unfolding hasBits
+    with-kept y k e =
+        eq-eqb (bitAnd (getD (withBits words base x m) (hashPlace base (length (withBits words base x m)) y) 0) k) k
+        (ap (λ (n : ℕ). bitAnd (getD (withBits words base x m) (hashPlace base n y) 0) k) with-length
+        ∙ word-kept (hashPlace base (length words) y) k (eqb-true (bitAnd (getD words (hashPlace base (length words) y) 0) k) k e))
+
+-- ---- both words of a hash
+
+pub half-small : (x : ℕ) → x % 4294967296 < 4294967296
+half-small x = omega arith
+
+both-true : (a b : Bool) → (a && b) ≡ true → (a ≡ true) × (b ≡ true)
+both-true true b e = (refl, e)
+both-true false b e = absurd (false≢true e)
 
 module _ (words : List ℕ) (base h : ℕ) where
   pub inserted-none : length words ≤ base → inserted words base h ≡ words
@@ -92,31 +187,30 @@ module _ (words : List ℕ) (base h : ℕ) where
   found-none n = rw (le-ltb base (length words) n) refl
 
   module _ (some : base < length words) where
-    pub inserted-some : inserted words base h ≡ set words (hashPlace base (length words) h) (bitOr (getD words (hashPlace base (length words) h) 0) (hashBits h))
+    inserted-some : inserted words base h ≡ withBits (withBits words base (h / 4294967296 % 4294967296) (hashBits h)) base (h / 65536 % 4294967296) (hashBits h)
     unfolding inserted
     inserted-some = rw (lt-ltb base (length words) some) refl
 
-    pub found-some : mayContain words base h ≡ eqb (bitAnd (getD words (hashPlace base (length words) h) 0) (hashBits h)) (hashBits h)
+    -- as the code has them
+    pub inserted-both : {m : ℕ} {a b : List ℕ} → m ≡ hashBits h → a ≡ withBits words base (h / 4294967296 % 4294967296) m
+        → b ≡ withBits a base (h / 65536 % 4294967296) m → b ≡ inserted words base h
+    inserted-both e f g = rw (g, f, e) (sym inserted-some)
+
+    found-some : mayContain words base h ≡ (hasBits words base (h / 4294967296 % 4294967296) (hashBits h) && hasBits words base (h / 65536 % 4294967296) (hashBits h))
     unfolding mayContain
     found-some = rw (lt-ltb base (length words) some) refl
 
-    -- as the code has them
-    pub inserted-at : {i v : ℕ} → i ≡ hashPlace base (length words) h → v ≡ hashBits h → set words i (bitOr (getD words i 0) v) ≡ inserted words base h
-    inserted-at e f = rw (e, f) (sym inserted-some)
+    pub found-not : {m : ℕ} {x : Bool} → m ≡ hashBits h → x ≡ hasBits words base (h / 4294967296 % 4294967296) m → x ≡ false → false ≡ mayContain words base h
+    found-not e f g =
+        sym (found-some ∙ ap (λ (b : Bool). b && hasBits words base (h / 65536 % 4294967296) (hashBits h))
+        (ap (hasBits words base (h / 4294967296 % 4294967296)) (sym e) ∙ sym f ∙ g))
 
-    pub found-at : {i v : ℕ} → i ≡ hashPlace base (length words) h → v ≡ hashBits h → eqb (bitAnd (getD words i 0) v) v ≡ mayContain words base h
-    found-at e f = rw (e, f) (sym found-some)
-
-    pub found-inside : hashPlace base (length words) h < length words
-    found-inside = place-inside base (length words) h some .1
-
--- a test of two numbers, with what it shows
-by-place : {A : Type 0} (i j : ℕ) → (i ≡ j → A) → ((i ≡ j → ⊥) → A) → A
-by-place {A} i j same other = go (eqb i j) refl
-  where
-    go : (b : Bool) → eqb i j ≡ b → A
-    go true e = same (eqb-true i j e)
-    go false e = other (eqb-false i j e)
+    pub found-both : {m : ℕ} {x y : Bool} → m ≡ hashBits h → x ≡ hasBits words base (h / 4294967296 % 4294967296) m → x ≡ true
+        → y ≡ hasBits words base (h / 65536 % 4294967296) m → y ≡ mayContain words base h
+    found-both e f g k =
+        k ∙ ap (hasBits words base (h / 65536 % 4294967296)) e
+        ∙ sym (found-some ∙ ap (λ (b : Bool). b && hasBits words base (h / 65536 % 4294967296) (hashBits h))
+        (ap (hasBits words base (h / 4294967296 % 4294967296)) (sym e) ∙ sym f ∙ g))
 
 by-words : {A : Type 0} (words : List ℕ) (base : ℕ) → (length words ≤ base → A) → (base < length words → A) → A
 by-words {A} words base none some = go (ltb base (length words)) refl
@@ -125,73 +219,68 @@ by-words {A} words base none some = go (ltb base (length words)) refl
     go true e = some (ltb-true base (length words) e)
     go false e = none (ltb-false base (length words) e)
 
--- ---- the length and the words before `base` stay
-
 module _ (words : List ℕ) (base h : ℕ) where
+  abbrev high : ℕ
+  high = h / 4294967296 % 4294967296
+
+  abbrev low : ℕ
+  low = h / 65536 % 4294967296
+
+  abbrev once : List ℕ
+  once = withBits words base high (hashBits h)
+
+  once-length : length once ≡ length words
+  once-length = with-length words base high (hashBits h)
+
+  once-some : base < length words → base < length once
+  once-some = with-inside words base high (hashBits h) refl
+
+  -- ---- the length and the words before `base` stay
+
   pub inserted-length : length (inserted words base h) ≡ length words
   inserted-length =
       by-words words base
       (λ n. ap length (inserted-none words base h n))
-      (λ s. ap length (inserted-some words base h s) ∙ length-set words (hashPlace base (length words) h) (bitOr (getD words (hashPlace base (length words) h) 0) (hashBits h)))
+      (λ s. ap length (inserted-some words base h s) ∙ with-length once base low (hashBits h) ∙ once-length)
 
   pub inserted-front : take base (inserted words base h) ≡ take base words
   inserted-front =
       by-words words base
       (λ n. ap (take base) (inserted-none words base h n))
-      (λ s. ap (take base) (inserted-some words base h s)
-      ∙ take-set-le base words (hashPlace base (length words) h) (bitOr (getD words (hashPlace base (length words) h) 0) (hashBits h)) (place-inside base (length words) h s .0))
+      (λ s.
+      ap (take base) (inserted-some words base h s) ∙ with-front once base low (hashBits h) (once-some s) (half-small (h / 65536))
+      ∙ with-front words base high (hashBits h) s (half-small (h / 4294967296)))
 
   -- ---- and is found
-
-  module _ (some : base < length words) where
-    more : base < length (inserted words base h)
-    more = let n = inserted-length in omega (arith, some, n)
-
-    -- the bits of a hash, once another is inserted
-    found-after : (k : ℕ) → mayContain (inserted words base h) base k ≡ eqb (bitAnd (getD (inserted words base h) (hashPlace base (length words) k) 0) (hashBits k)) (hashBits k)
-    found-after k =
-        found-some (inserted words base h) base k more
-        ∙ ap (λ (n : ℕ). eqb (bitAnd (getD (inserted words base h) (hashPlace base n k) 0) (hashBits k)) (hashBits k)) inserted-length
-
-    -- in the same word, and in each other
-    same-word : getD (inserted words base h) (hashPlace base (length words) h) 0 ≡ bitOr (getD words (hashPlace base (length words) h) 0) (hashBits h)
-    same-word =
-        ap (λ (l : List ℕ). getD l (hashPlace base (length words) h) 0) (inserted-some words base h some)
-        ∙ getD-set-same words (hashPlace base (length words) h) (bitOr (getD words (hashPlace base (length words) h) 0) (hashBits h)) 0 (found-inside words base h some)
-
-    other-word : (j : ℕ) → (j ≡ hashPlace base (length words) h → ⊥) → getD (inserted words base h) j 0 ≡ getD words j 0
-    other-word j d =
-        ap (λ (l : List ℕ). getD l j 0) (inserted-some words base h some)
-        ∙ getD-set-other words (hashPlace base (length words) h) j (bitOr (getD words (hashPlace base (length words) h) 0) (hashBits h)) 0 d
-
-    -- bits that are set stay
-    word-kept : (j m : ℕ) → bitAnd (getD words j 0) m ≡ m → bitAnd (getD (inserted words base h) j 0) m ≡ m
-    word-kept j m e =
-        by-place j (hashPlace base (length words) h)
-        (λ q.
-        let w = getD words (hashPlace base (length words) h) 0 in
-        ap (λ (i : ℕ). bitAnd (getD (inserted words base h) i 0) m) q ∙ ap (λ (v : ℕ). bitAnd v m) same-word
-        ∙ bits-kept m w (hashBits h) (ap (λ (i : ℕ). bitAnd (getD words i 0) m) (sym q) ∙ e))
-        (λ d. ap (λ (v : ℕ). bitAnd v m) (other-word j d) ∙ e)
-
-    own-bits : bitAnd (getD (inserted words base h) (hashPlace base (length words) h) 0) (hashBits h) ≡ hashBits h
-    own-bits = ap (λ (v : ℕ). bitAnd v (hashBits h)) same-word ∙ bits-own (hashBits h) (getD words (hashPlace base (length words) h) 0)
 
   none-after : (k : ℕ) → length words ≤ base → mayContain (inserted words base h) base k ≡ true
   none-after k n = let l = inserted-length in found-none (inserted words base h) base k (omega (arith, l, n))
 
+  module _ (some : base < length words) where
+    found-after : (k : ℕ) → hasBits (inserted words base h) base (k / 4294967296 % 4294967296) (hashBits k) ≡ true
+        → hasBits (inserted words base h) base (k / 65536 % 4294967296) (hashBits k) ≡ true → mayContain (inserted words base h) base k ≡ true
+    found-after k e f = let l = inserted-length in found-some (inserted words base h) base k (omega (arith, l, some)) ∙ ap₂ (λ (a b : Bool). a && b) e f
+
+    bits-after : (y k : ℕ) → hasBits once base y k ≡ true → hasBits (inserted words base h) base y k ≡ true
+    bits-after y k e =
+        ap (λ (l : List ℕ). hasBits l base y k) (inserted-some words base h some)
+        ∙ with-kept once base low (hashBits h) (once-some some) (half-small (h / 65536)) y k e
+
+    own-after : mayContain (inserted words base h) base h ≡ true
+    own-after =
+        found-after h (bits-after high (hashBits h) (with-own words base high (hashBits h) some (half-small (h / 4294967296))))
+        (ap (λ (l : List ℕ). hasBits l base low (hashBits h)) (inserted-some words base h some)
+        ∙ with-own once base low (hashBits h) (once-some some) (half-small (h / 65536)))
+
+    kept-after : (k : ℕ) → mayContain words base k ≡ true → mayContain (inserted words base h) base k ≡ true
+    kept-after k e =
+        let b = both-true (hasBits words base (k / 4294967296 % 4294967296) (hashBits k)) (hasBits words base (k / 65536 % 4294967296) (hashBits k)) (sym (found-some words base k some) ∙ e) in
+        let again = with-kept words base high (hashBits h) some (half-small (h / 4294967296)) in
+        found-after k (bits-after (k / 4294967296 % 4294967296) (hashBits k) (again (k / 4294967296 % 4294967296) (hashBits k) (b .0)))
+        (bits-after (k / 65536 % 4294967296) (hashBits k) (again (k / 65536 % 4294967296) (hashBits k) (b .1)))
+
   pub inserted-own : mayContain (inserted words base h) base h ≡ true
-  inserted-own =
-      by-words words base
-      (none-after h)
-      (λ s. found-after s h ∙ eq-eqb (bitAnd (getD (inserted words base h) (hashPlace base (length words) h) 0) (hashBits h)) (hashBits h) (own-bits s))
+  inserted-own = by-words words base (none-after h) own-after
 
   pub inserted-kept : (k : ℕ) → mayContain words base k ≡ true → mayContain (inserted words base h) base k ≡ true
-  inserted-kept k e =
-      by-words words base
-      (none-after k)
-      (λ s.
-      let w = getD words (hashPlace base (length words) k) 0 in
-      let b = eqb-true (bitAnd w (hashBits k)) (hashBits k) (sym (found-some words base k s) ∙ e) in
-      found-after s k
-      ∙ eq-eqb (bitAnd (getD (inserted words base h) (hashPlace base (length words) k) 0) (hashBits k)) (hashBits k) (word-kept s (hashPlace base (length words) k) (hashBits k) b))
+  inserted-kept k e = by-words words base (none-after k) (λ s. kept-after s k e)

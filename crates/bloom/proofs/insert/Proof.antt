@@ -1,51 +1,32 @@
 use mathlib.Core.Path.{sym}
-use native.Mathlib.Omega.{arith}
-use Rattle.bloom.specs.Filter.{inserted-none, inserted-at, found-inside}
+use Rattle.bloom.specs.Filter.{inserted-none, inserted-both, with-inside, half-small}
 use borrow.Author.Needs.{needs}
 use Rattle.bloom.proofs.insert.Statement.{statement}
 use Rattle.bloom.proofs.insert.Tie as tie
 use Rattle.bloom.proofs.insert.Reads as reads
 use Rattle.bloom.proofs.insert.Lts as lts
 use Rattle.bloom.proofs.bits_of.Reads as bits-of-reads
-use Rattle.bloom.proofs.place_of.Reads as place-of-reads
+use Rattle.bloom.proofs.set_bits.Reads as set-bits-reads
 
 returns : tie.Need-returns
 returns c = sym (inserted-none _ _ _ (c .if1 .taken))
 
-place-of-requires : tie.Need-place-of-requires
-place-of-requires c κs = search needs
-
-mul-w : tie.Need-mul-w
-mul-w c = let p = found-inside (c .before .before .before .args .words .now) (c .before .before .before .args .base) (c .before .before .before .args .h) (c .before .if1 .left) in omega (arith, p, c .place-of .ensures)
-
-slice-read-w : tie.Need-slice-read-w
-slice-read-w c = let p = found-inside (c .before .before .before .before .args .words .now) (c .before .before .before .before .args .base) (c .before .before .before .before .args .h) (c .before .before .if1 .left) in omega (arith, p, c .before .place-of .ensures)
-
 bits-of-requires : tie.Need-bits-of-requires
 bits-of-requires c κs = search needs
 
-mul-words : tie.Need-mul-words
-mul-words c = let p = found-inside (c .before .before .before .before .before .args .words .now) (c .before .before .before .before .before .args .base) (c .before .before .before .before .before .args .h) (c .before .before .before .if1 .left) in omega (arith, p, c .before .before .place-of .ensures)
+set-bits-requires : tie.Need-set-bits-requires
+set-bits-requires c κs = (c .before .before .if1 .left, half-small _)
 
-slice-write-words : tie.Need-slice-write-words
-slice-write-words c = let p = found-inside (c .before .before .before .before .before .args .words .now) (c .before .before .before .before .before .args .base) (c .before .before .before .before .before .args .h) (c .before .before .before .if1 .left) in omega (arith, p, c .before .before .place-of .ensures)
+set-bits-requires-2 : tie.Need-set-bits-requires-2
+set-bits-requires-2 c κs = (with-inside _ _ _ _ (c .before .before .before .set-bits .ensures) (c .before .before .before .before .before .before .if1 .left), half-small _)
 
 same-length : tie.Need-same-length
 same-length c = search needs
 
 returns-2 : tie.Need-returns-2
-returns-2 c = inserted-at _ _ _ (c .before .before .before .if1 .left) (c .before .before .place-of .ensures) (c .bits-of .ensures)
+returns-2 c = inserted-both _ _ _ (c .before .before .before .before .before .before .before .before .before .if1 .left) (c .before .before .before .before .before .before .before .before .bits-of .ensures) (c .before .before .before .before .before .before .set-bits .ensures) (c .before .before .set-bits2 .ensures)
 
 pub insert-spec : {M : Type 1} → statement M
 insert-spec =
     tie.close
-    (tie.spec
-    returns
-    place-of-requires
-    mul-w
-    slice-read-w
-    bits-of-requires
-    mul-words
-    slice-write-words
-    same-length
-    returns-2)
+    (tie.spec returns bits-of-requires set-bits-requires set-bits-requires-2 same-length returns-2)
