@@ -4,7 +4,7 @@ use mathlib.Core.Path.{_≡_, refl, sym, ap, ap₂, _∙_, subst}
 use Prim.Native.Nat.{ℕ, zero, suc, _+_, _-_, _*_, _≤_, _<_, min}
 use native.Mathlib.Omega.{arith}
 use native.Mathlib.Numerals.{add-one}
-use mathlib.Core.Bool.{Bool, true, false, _&&_, _||_, false≢true, true≢false, and-false}
+use mathlib.Core.Bool.{Bool, true, false, _&&_, _||_, true≢false, and-false}
 use mathlib.Core.List.{List, [], _++_}
 use lib.ListN.{length, take, drop}
 use lib.Dec.{ltb}
@@ -13,15 +13,15 @@ use Rattle.model.specs.Types.{SourceNode}
 use Rattle.model.specs.Store.{NodeStore}
 use Rattle.model.specs.Tape.{recordAt, recordsAt, nodeCodec}
 use Rattle.model.specs.Region.{firstPlain, dependsFrom}
-use Rattle.wire.specs.Loops.{anyUpTo, Missed, any-missed, any-found, by-bool}
+use Rattle.wire.specs.Loops.{anyUpTo, Missed, any-missed, by-bool}
 use Rattle.records.specs.Runs.{run-none}
 use Rattle.store.specs.declared.Store.{Store}
 use Rattle.wire.specs.Overwrite.{overwrite}
-use Rattle.strings.specs.Starts.{Readable, storeIn, lengthsIn}
+use Rattle.strings.specs.Starts.{storeIn, lengthsIn}
 use Rattle.strings.specs.Index.{Indexed, indexIn, index-written}
-use Rattle.strings.specs.Shown.{Resolvable}
 use Rattle.strings.specs.PlainContent.{plainOf, plainString}
 use Rattle.strings.specs.declared.Plain.{Plain}
+use Rattle.sorted_ids.specs.Row.{any-false}
 use Rattle.dependency.specs.Bases.{asksTarget, amongBases, refersBack, refersAt, depends-records}
 use Rattle.dependency.specs.Noted.{firstWords, Noted, notedBy, noted-none, noted-next}
 use Rattle.dependency.specs.Words.{first-front}
@@ -68,9 +68,6 @@ or-left false y e = refl
 or-right : (x y : Bool) → (x || y) ≡ false → y ≡ false
 or-right true y e = absurd (true≢false e)
 or-right false y e = e
-
-any-false : (P : ℕ → Bool) (n k : ℕ) → anyUpTo n P ≡ false → k < n → P k ≡ false
-any-false P n k e h = by-bool (P k) (λ t. absurd (true≢false (sym (any-found P n k h t) ∙ e))) (λ f. f)
 
 module _ (st : NodeStore) (from : ℕ) (t : List ℕ) (at : ℕ) where
   -- node i + k, by the first i nodes and by the next m
@@ -161,9 +158,6 @@ module _ {t : List ℕ} {st : Store} {words old new : List ℕ} (at i n from : �
       sym (here ∙ rw (← e, h, ← g) (ap (amongBases (storeIn t (old ++ new)) (recordsAt nodeCodec t at k)) (plain-first s f) ∙ sym q))
 
 -- ---- an index of one's own
-
-pub readable-again : {t : List ℕ} {st : Store} {words old new : List ℕ} → Resolvable t st words old new → Readable t st (length old + length new)
-readable-again {t} {st} {words} {old} {new} r = record { store = r .sides .store; bytes = omega (arith, r .sides .whole); small = r .small }
 
 -- by an index that was written into the first words
 pub sound-own : {t : List ℕ} {st : Store} {index old new : List ℕ} {at count : ℕ} → Sound t st index old new at count → (words : List ℕ) (middle : ℕ) → middle ≤ length words

@@ -21,7 +21,9 @@ use Rattle.records.specs.Values.{bodyAt, node-body}
 use Rattle.store.specs.declared.Store.{Store}
 use Rattle.store.specs.Pools.{rangeIn}
 use Rattle.store.specs.Standing.{string-id-ok, content-range-ok}
-use Rattle.strings.specs.Starts.{storeIn}
+use Rattle.wire.specs.Overwrite.{overwrite}
+use Rattle.strings.specs.Starts.{storeIn, lengthsIn}
+use Rattle.strings.specs.Index.{indexIn}
 use Rattle.strings.specs.Shown.{Resolvable}
 use Rattle.strings.specs.PlainContent.{plainOf, plainString, plain-string}
 use Rattle.strings.specs.declared.Plain.{Plain}
@@ -31,6 +33,10 @@ use Rattle.dependency.specs.Bases.{asksTarget}
 -- the layers of a tape with these string bytes
 abbrev pub layersIn : List ℕ → List ℕ → List Layer
 layersIn t b = layersAt t (places t .layers) b
+
+-- an index in no words, where none has been made yet
+abbrev pub noIndex : List ℕ → List ℕ
+noIndex t = overwrite [] 0 (indexIn (lengthsIn t) [])
 
 -- a store whose strings can be shown, and a run of nodes over it that passed number 4
 pub record Sound (t : List ℕ) (st : Store) (words old new : List ℕ) (at count : ℕ) : Type 0 where

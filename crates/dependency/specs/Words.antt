@@ -1,12 +1,23 @@
 -- The lent words in two parts: what stands before a place, and what is written before it or behind it.
 use mathlib.Core.Path.{_≡_, sym, ap, ap₂, _∙_}
-use Prim.Native.Nat.{ℕ, _-_, _≤_}
+use Prim.Native.Nat.{ℕ, _-_, _≤_, min}
 use native.Mathlib.Omega.{arith}
 use native.Mathlib.Nat.{sub-zero}
 use mathlib.Core.List.{List, [], _++_, append-nil}
 use lib.ListN.{length, take, drop, length-append, length-drop, drop-of-length-le}
 use lib.Seq.{length-take-le, take-append-seam, drop-append-seam, take-all}
+use mathlib.Core.Bool.{Bool, false, _&&_}
+use lib.Dec.{ltb}
+use borrow.Author.Tests.{ltb-false}
+use Rattle.wire.specs.Loops.{by-bool}
 use Rattle.dependency.specs.Noted.{firstWords}
+
+-- where the lent words are used, they are not few
+pub lent-enough : (w n : ℕ) {x : Bool} → x ≡ (ltb w 65536 && ltb w n) → x ≡ false → min 65536 n ≤ w
+lent-enough w n e f =
+    by-bool (ltb w 65536)
+    (λ t. let g = ltb-false w n (sym (ap (λ (b : Bool). b && ltb w n) t) ∙ sym e ∙ f) in omega (arith, g))
+    (λ g. let h = ltb-false w 65536 g in omega (arith, h))
 
 -- `&words[middle..words.len()]`
 abbrev pub lastWords : ℕ → List ℕ → List ℕ

@@ -21,11 +21,12 @@ ghost use Rattle.wire.specs.Loops.{anyUpTo};
 ghost use Rattle.dependency.specs.Bases.{isPlain, hasBase, amongBases, asksTarget};
 ghost use Rattle.dependency.specs.Parts.{refersAmong};
 ghost use Rattle.dependency.specs.Asked.{asksAt, countToLast};
-ghost use Rattle.dependency.specs.Sound.{Sound, SoundNode, FirstRange, PlainIn, firstContents};
+ghost use Rattle.dependency.specs.Sound.{Sound, SoundNode, FirstRange, PlainIn, firstContents, noIndex};
 ghost use Rattle.dependency.specs.Noted.{insertedPlain, notedBy, Noted};
 ghost use Rattle.dependency.specs.Rows.{Told, isOne, isBaseOf, Rowed, amongRow, refersRow};
 ghost use Rattle.sorted_ids.specs.Row.{firstWords, Row, Inserted};
-ghost use lib.Dec.{eqb};
+ghost use lib.Dec.{eqb, ltb};
+ghost use mathlib.Core.Bool.{_&&_};
 
 // An Inline Ruby.
 pub fn is_ruby(tape: &[u8], at: usize) -> bool
@@ -611,11 +612,10 @@ fn refers_in_parts<'a>(
     false
 }
 
-// The same by another index, in the first 8192 of other words.
+// Number 10 by words that may hold anything: an index of the strings in the first quarter, the filter in the others.
 fn refers_by_words<'a>(
     tape: &[u8],
     st: store::Store,
-    index: &[u32],
     words: &mut [u32],
     old: &'a [u8],
     new: &'a [u8],
@@ -623,65 +623,62 @@ fn refers_by_words<'a>(
     count: usize,
     from: u32,
 ) -> bool
-    requires { ⌜ Sound (now tape) st (now index) (now old) (now new) at count ⌝ }
-    requires { ⌜ 8194 ≤ length (now words) ⌝ }
+    requires { ⌜ Sound (now tape) st (noIndex (now tape)) (now old) (now new) at count ⌝ }
+    requires { ⌜ 2 ≤ length (now words) ⌝ }
     ensures { λ r. ⌜ r ≡ dependsFrom (storeIn (now (tape .entry)) (now (old .entry) ++ now (new .entry))) from [] (recordsAt nodeCodec (now (tape .entry)) at count) ⌝ }
 {
-    strings::index_strings(tape, st, old.len() + new.len(), &mut words[0..8192]);
-    refers_in_parts(tape, st, words, 8192, old, new, at, count, from)
+    let base = words.len() / 4;
+    strings::index_strings(tape, st, old.len() + new.len(), &mut words[0..base]);
+    refers_in_parts(tape, st, words, base, old, new, at, count, from)
 }
 
-// The same by an index and a filter of its own, where few words are lent.
+// The same by words of its own, where so few are lent that there would be many parts.
 fn refers_by_own<'a>(
     tape: &[u8],
     st: store::Store,
-    index: &[u32],
     old: &'a [u8],
     new: &'a [u8],
     at: usize,
     count: usize,
     from: u32,
 ) -> bool
-    requires { ⌜ Sound (now tape) st (now index) (now old) (now new) at count ⌝ }
+    requires { ⌜ Sound (now tape) st (noIndex (now tape)) (now old) (now new) at count ⌝ }
     ensures { λ r. ⌜ r ≡ dependsFrom (storeIn (now (tape .entry)) (now (old .entry) ++ now (new .entry))) from [] (recordsAt nodeCodec (now (tape .entry)) at count) ⌝ }
 {
-    let mut own = [0u32; 16384];
-    refers_by_words(
-        tape,
-        st,
-        index,
-        &mut own[0..16384],
-        old,
-        new,
-        at,
-        count,
-        from,
-    )
+    let mut own = [0u32; 65536];
+    refers_by_words(tape, st, &mut own[0..65536], old, new, at, count, from)
 }
 
-// Number 10. `has_ruby_format_dependency`. The words before `base` have the index of the strings, those from `base` on take the filter
-// of the bases; they may hold anything. Where there are few of them, number 10 has an index and a filter of its own.
+// Are the lent words so few that words of one's own, 65536 of them, make fewer parts of the nodes?
+pub fn in_many_parts(words: usize, nodes: usize) -> bool
+    ensures { λ r. ⌜ r ≡ (ltb words 65536 && ltb words nodes) ⌝ }
+{
+    if 65536 <= words {
+        return false;
+    }
+    words < nodes
+}
+
+// Number 10. `has_ruby_format_dependency`. The words may hold anything. A book without a Format that refers to a target behind `from` needs none.
 pub fn has_ruby_format_dependency<'a>(
     tape: &[u8],
     st: store::Store,
     words: &mut [u32],
-    base: usize,
     old: &'a [u8],
     new: &'a [u8],
     at: usize,
     count: usize,
     from: u32,
 ) -> bool
-    requires { ⌜ Sound (now tape) st (firstWords base (now words)) (now old) (now new) at count ⌝ }
-    requires { ⌜ base ≤ length (now words) ⌝ }
+    requires { ⌜ Sound (now tape) st (noIndex (now tape)) (now old) (now new) at count ⌝ }
     ensures { λ r. ⌜ r ≡ dependsFrom (storeIn (now (tape .entry)) (now (old .entry) ++ now (new .entry))) from [] (recordsAt nodeCodec (now (tape .entry)) at count) ⌝ }
 {
     let n = asked_nodes(tape, at, count, from);
     if n == 0 {
         return false;
     }
-    if words.len() - base < 8192 {
-        return refers_by_own(tape, st, &words[0..base], old, new, at, n, from);
+    if in_many_parts(words.len(), n + 1) {
+        return refers_by_own(tape, st, old, new, at, n, from);
     }
-    refers_in_parts(tape, st, words, base, old, new, at, n, from)
+    refers_by_words(tape, st, words, old, new, at, n, from)
 }

@@ -279,9 +279,7 @@ fn merge_checked(
     }
     let p = places::places_of(tape, bytes);
     let st = store::store_of(tape, p.layers);
-    let base = work.len() / 2;
-    region::index_words(tape, st, bytes.len(), work, base);
-    let found = region::chosen_region(tape, bytes, p, st, work, base, start, end, replacement);
+    let found = region::chosen_region(tape, bytes, p, st, work, start, end, replacement);
     match found {
         Chosen::Refused(k) => {
             return output::refused_output(k);

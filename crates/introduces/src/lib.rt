@@ -2,8 +2,8 @@
 // a Referenced Format of the reading whose target is the base of a Ruby before the region. The bases go into a Bloom filter, so that a
 // target that is no base seldom has to be compared; a filter takes half as many old nodes as it has words, and each such part of the old nodes
 // costs one walk over the reading's. Where bases crowd the filter, those of a part go into a row that is bisected, as number 10 has it. The
-// words have three parts: an index of the old book's strings, the filter or the row, an index of the reading's strings. Where fewer than
-// 16384 are lent, number 15 has words of its own.
+// words have three parts: an index of the old book's strings in an eighth of them, the filter or the row, an index of the reading's strings in
+// the last eighth. Where few are lent, number 15 has words of its own.
 use strings::Plain;
 ghost use mathlib.Core.Path.{_≡_};
 ghost use mathlib.Core.List.{_++_};
@@ -708,8 +708,8 @@ fn refers_by_words(
     requires { ⌜ 6 ≤ length (now words) ⌝ }
     ensures { λ r. ⌜ r ≡ any (refersTo (storeOf (bookAt (now (tape .entry)) (placesIn (now (tape .entry))) (now (bytes .entry)) .layers)) (keep (endsBy start) (bookAt (now (tape .entry)) (placesIn (now (tape .entry))) (now (bytes .entry)) .sourceNodes)) (storeOf (bookAt (now (reading .entry)) (placesIn (now (reading .entry))) (now (letters .entry)) .layers))) (bookAt (now (reading .entry)) (placesIn (now (reading .entry))) (now (letters .entry)) .sourceNodes) ⌝ }
 {
-    let base = words.len() / 3;
-    let middle = base + base;
+    let base = words.len() / 8;
+    let middle = words.len() - base;
     index_both(
         tape,
         st,
@@ -753,7 +753,7 @@ fn refers_by_own(
     requires { ⌜ Held (now reading) (now letters) q own ⌝ }
     ensures { λ r. ⌜ r ≡ any (refersTo (storeOf (bookAt (now (tape .entry)) (placesIn (now (tape .entry))) (now (bytes .entry)) .layers)) (keep (endsBy start) (bookAt (now (tape .entry)) (placesIn (now (tape .entry))) (now (bytes .entry)) .sourceNodes)) (storeOf (bookAt (now (reading .entry)) (placesIn (now (reading .entry))) (now (letters .entry)) .layers))) (bookAt (now (reading .entry)) (placesIn (now (reading .entry))) (now (letters .entry)) .sourceNodes) ⌝ }
 {
-    let mut words = [0u32; 16384];
+    let mut words = [0u32; 65536];
     refers_by_words(
         tape,
         bytes,
@@ -763,7 +763,7 @@ fn refers_by_own(
         letters,
         q,
         own,
-        &mut words[0..16384],
+        &mut words[0..65536],
         start,
     )
 }
@@ -800,7 +800,7 @@ pub fn introduces_ruby_format_dependency(
     if !any_format_from(reading, q.nodes.at, q.nodes.count, 0) {
         return false;
     }
-    if words.len() < 16384 {
+    if dependency::in_many_parts(words.len(), 2 * p.nodes.count + 6) {
         return refers_by_own(tape, bytes, p, st, reading, letters, q, own, start);
     }
     refers_by_words(tape, bytes, p, st, reading, letters, q, own, words, start)

@@ -1,8 +1,7 @@
 -- `choose_region` on any tape and bytes, for each of its returns.
 use mathlib.Core.Path.{_≡_, refl, sym, _∙_}
-use Prim.Native.Nat.{ℕ, _^_, _<_}
+use Prim.Native.Nat.{ℕ}
 use mathlib.Core.List.{List}
-use lib.ListN.{length}
 use Rattle.model.specs.Refusal.{_>>=_, numberOf}
 use Rattle.model.specs.Tape.{places, bookAt}
 use Rattle.model.specs.WellFormed.{checkBook}
@@ -11,13 +10,11 @@ use Rattle.places.specs.declared.Places.{Places}
 use Rattle.places.specs.Found.{placesOf}
 use Rattle.store.specs.declared.Store.{Store}
 use Rattle.store.specs.Stored.{StoreFits, storeAt}
-use Rattle.strings.specs.Starts.{lengthsIn, Readable}
-use Rattle.strings.specs.Index.{Indexed}
 use Rattle.tape.specs.Accepted.{Accepted, accepted-book, accepted-found, accepted-store, refusal-of}
 use Rattle.region.specs.declared.Chosen.{Chosen}
 use Rattle.region.specs.declared.Chosen.the-variants.{Refused}
 use Rattle.region.specs.Chosen.{chosenOf}
-use Rattle.region.specs.Ready.{Ready, accepted-readable}
+use Rattle.region.specs.Held.{Held}
 
 module _ (t d : List ℕ) {n : ℕ} (q : n ≡ numberOf (checkBook t d)) where
   pub choose-refused : (e : Edit) → (n ≡ 0 → ⊥) → Refused n ≡ chosenOf (chooseRegion t d e)
@@ -37,8 +34,5 @@ module _ (t d : List ℕ) {n : ℕ} (q : n ≡ numberOf (checkBook t d)) where
       choose-store = accepted-store passed (accepted-found passed p e)
 
       module _ {st : Store} (f : st ≡ storeAt t) where
-        pub choose-ready : {words : List ℕ} → Indexed (lengthsIn t) words → Ready t d p st words
-        choose-ready i = record { accepted = passed; is = accepted-found passed p e; stored = f; indexed = i }
-
-        pub choose-readable : length d < 2 ^ 63 → Readable t st (length d)
-        choose-readable h = accepted-readable passed (accepted-found passed p e) f h
+        pub choose-held : Held t d p st
+        choose-held = record { accepted = passed; is = accepted-found passed p e; stored = f }

@@ -1,7 +1,7 @@
 // Numbers 8 to 11, document 01 section 6: where a correction's passage begins and ends. `chosen_region` is the stage for a book that
 // passed 1 to 7; `choose_region` is the entry, on any tape and bytes; `region_text` hands the passage on as a part of the text.
-// Number 10 asks strings of the book, by an index in the first half of the lent words, and a filter of bases in the second: any number of
-// words will do, also none.
+// Number 10 takes the lent words for an index of the strings and a filter of bases, if a Format asks at all: any number of words will do, also
+// none.
 ghost use mathlib.Core.Path.{_≡_};
 ghost use mathlib.Core.List.{List};
 ghost use Prim.Native.Nat.{ℕ, _+_, _≤_};
@@ -12,9 +12,7 @@ ghost use Rattle.model.specs.Tape.{places as placesIn, bookAt};
 ghost use Rattle.model.specs.Region.{chosenRegion, chooseRegion, hasRubyFormatDependency, regionText, editOf};
 ghost use Rattle.strings.specs.Starts.{startIn, lengthsIn, Readable};
 ghost use Rattle.strings.specs.Shown.{oldStrings};
-ghost use Rattle.dependency.specs.Noted.{firstWords};
 ghost use Rattle.region.specs.Chosen.{chosenOf, wholeText};
-ghost use Rattle.region.specs.Ready.{Ready};
 ghost use Rattle.region.specs.Held.{Held};
 ghost use Rattle.region.specs.Words.{indexedWords};
 
@@ -51,11 +49,9 @@ fn depends(
     p: places::Places,
     st: store::Store,
     words: &mut [u32],
-    base: usize,
     from: u32,
 ) -> bool
-    requires { ⌜ Ready (now tape) (now bytes) p st (firstWords base (now words)) ⌝ }
-    requires { ⌜ base ≤ length (now words) ⌝ }
+    requires { ⌜ Held (now tape) (now bytes) p st ⌝ }
     ensures { λ r. ⌜ ((end : ℕ) (replacement : List ℕ) → r ≡ hasRubyFormatDependency (bookAt (now (tape .entry)) (placesIn (now (tape .entry))) (now (bytes .entry))) (editOf from end replacement)) ⌝ }
 {
     let first = p.text as usize + p.normalized as usize;
@@ -64,7 +60,6 @@ fn depends(
         tape,
         st,
         words,
-        base,
         &bytes[first..cut],
         &bytes[cut..bytes.len()],
         p.nodes.at,
@@ -73,20 +68,18 @@ fn depends(
     )
 }
 
-// Numbers 8 to 11 of a book that passed 1 to 7: the words before `base` have the index of its strings.
+// Numbers 8 to 11 of a book that passed 1 to 7. The words may hold anything.
 pub fn chosen_region(
     tape: &[u8],
     bytes: &[u8],
     p: places::Places,
     st: store::Store,
     words: &mut [u32],
-    base: usize,
     start: u32,
     end: u32,
     replacement: &[u8],
 ) -> Chosen
-    requires { ⌜ Ready (now tape) (now bytes) p st (firstWords base (now words)) ⌝ }
-    requires { ⌜ base ≤ length (now words) ⌝ }
+    requires { ⌜ Held (now tape) (now bytes) p st ⌝ }
     ensures { λ r. ⌜ r ≡ chosenOf (chosenRegion (bookAt (now (tape .entry)) (placesIn (now (tape .entry))) (now (bytes .entry))) (editOf start end (now (replacement .entry)))) ⌝ }
 {
     let text = &bytes[0..p.text as usize];
@@ -94,7 +87,7 @@ pub fn chosen_region(
     if n != 0 {
         return Chosen::Refused(n);
     }
-    if depends(tape, bytes, p, st, words, base, start) {
+    if depends(tape, bytes, p, st, words, start) {
         return Chosen::Refused(10);
     }
     let r = balanced_region::balanced_region(
@@ -123,8 +116,8 @@ pub fn index_words(tape: &[u8], st: store::Store, room: usize, words: &mut [u32]
     wire::zero_words(&mut words[base..end]);
 }
 
-// Numbers 1 to 11, with an index of the book's strings and a filter of its bases left in the words.
-fn region_by_index(
+// Numbers 1 to 11; the words are left as they are used.
+fn region_of(
     tape: &[u8],
     bytes: &[u8],
     start: u32,
@@ -140,9 +133,7 @@ fn region_by_index(
     }
     let p = places::places_of(tape, bytes);
     let st = store::store_of(tape, p.layers);
-    let base = words.len() / 2;
-    index_words(tape, st, bytes.len(), words, base);
-    chosen_region(tape, bytes, p, st, words, base, start, end, replacement)
+    chosen_region(tape, bytes, p, st, words, start, end, replacement)
 }
 
 // `choose_region`: choosing the region alone runs up to 11. The words come back as zeros.
@@ -156,7 +147,7 @@ pub fn choose_region(
 ) -> Chosen
     ensures { λ r. ⌜ (r ≡ chosenOf (chooseRegion (now (tape .entry)) (now (bytes .entry)) (editOf start end (now (replacement .entry))))) × (now (words .exit) ≡ zeros (length (now (words .entry)))) ⌝ }
 {
-    let found = region_by_index(tape, bytes, start, end, replacement, words);
+    let found = region_of(tape, bytes, start, end, replacement, words);
     wire::zero_words(words);
     found
 }

@@ -1,6 +1,9 @@
-use Rattle.dependency.specs.Words.{first-length}
-use Rattle.dependency.specs.Parts.{readable-again, sound-own}
+use Prim.Native.Nat.{_/_}
+use lib.ListN.{length}
 use native.Mathlib.Omega.{arith}
+use Rattle.strings.specs.Shown.{sides-readable}
+use Rattle.dependency.specs.Words.{first-length}
+use Rattle.dependency.specs.Parts.{sound-own}
 use borrow.Author.Needs.{needs}
 use Rattle.dependency.proofs.refers_by_words.Statement.{statement}
 use Rattle.dependency.proofs.refers_by_words.Tie as tie
@@ -22,17 +25,18 @@ part-index-strings-end : tie.Need-part-index-strings-end
 part-index-strings-end c = search needs
 
 index-strings-requires : tie.Need-index-strings-requires
-index-strings-requires c κs = readable-again (c .before .before .before .before .before .before .pre .0 .strings)
+index-strings-requires c κs = sides-readable (c .before .before .before .before .before .pre .0 .strings)
 
 refers-in-parts-requires : tie.Need-refers-in-parts-requires
-refers-in-parts-requires c κs =
+refers-in-parts-requires c κs = 
     let at-index-strings = c .before .before .before in
-    let start = at-index-strings .before .before .before .before .before .before .before in (
-      sound-own (start .pre .0) (start .args .words .now) 8192 (omega (arith, start .pre .1)) (at-index-strings .index-strings .last .1 .1 .1 .0)
+    let start = c .before .before .before .before .before .before .before .before .before in
+    let base = length (start .args .words .now) / 4 in (
+      sound-own (start .pre .0) (start .args .words .now) base (omega arith) (at-index-strings .index-strings .last .1 .1 .1 .0)
           (at-index-strings .index-strings .kept .1 .1 .1 .0) (at-index-strings .index-strings .ensures),
       omega (
         arith,
-        first-length (start .args .words .now) 8192 (omega (arith, start .pre .1))
+        first-length (start .args .words .now) base (omega arith)
             (at-index-strings .index-strings .last .1 .1 .1 .0) (at-index-strings .index-strings .kept .1 .1 .1 .0),
         start .pre .1,
       ),
