@@ -1,4 +1,5 @@
 use native.Mathlib.Omega.{arith}
+use Rattle.region.specs.Held.{held-without}
 use Rattle.region.specs.Ready.{ready-inside, ready-runs}
 use Rattle.region.specs.Stage.{stage-short, stage-edit, stage-depends, stage-region, stage-nodes, stage-fits, stage-whole, stage-chosen}
 use borrow.Author.Needs.{needs}
@@ -21,15 +22,15 @@ part-text-start : tie.Need-part-text-start
 part-text-start c = search needs
 
 part-text-end : tie.Need-part-text-end
-part-text-end c = let i = ready-inside (c .before .before .before .before .before .pre .0) in omega (arith, i)
+part-text-end c = let i = ready-inside (held-without (c .before .before .before .before .before .pre)) in omega (arith, i)
 
 edit-refusal-requires : tie.Need-edit-refusal-requires
-edit-refusal-requires c κs = stage-short (c .before .before .before .before .before .before .pre .0)
+edit-refusal-requires c κs = stage-short (held-without (c .before .before .before .before .before .before .pre))
 
 returns : tie.Need-returns
 returns c =
     let start = c .before .before .before .before .before .before .before .before in
-    stage-edit (start .pre .0) _ _ _ (c .before .edit-refusal .ensures) (c .if1 .taken)
+    stage-edit (held-without (start .pre)) _ _ _ (c .before .edit-refusal .ensures) (c .if1 .taken)
 
 depends-requires : tie.Need-depends-requires
 depends-requires c κs = search needs
@@ -43,7 +44,7 @@ returns-2 c =
     let at-if1 = at-depends .before .before in
     let at-edit-refusal = at-if1 .before in
     let start = at-edit-refusal .before .before .before .before .before .before .before in
-    stage-depends (start .pre .0) _ _ _ (at-edit-refusal .edit-refusal .ensures) (at-if1 .if1 .left) (at-depends .depends .ensures) (c .if2 .taken)
+    stage-depends (held-without (start .pre)) _ _ _ (at-edit-refusal .edit-refusal .ensures) (at-if1 .if1 .left) (at-depends .depends .ensures) (c .if2 .taken)
 
 balanced-region-requires : tie.Need-balanced-region-requires
 balanced-region-requires c κs =
@@ -51,11 +52,11 @@ balanced-region-requires c κs =
     let at-if1 = at-depends .before .before in
     let at-edit-refusal = at-if1 .before in
     let start = at-edit-refusal .before .before .before .before .before .before .before in (
-      ready-runs (start .pre .0),
+      ready-runs (held-without (start .pre)),
       (
-        stage-region (start .pre .0) _ _ _ (at-edit-refusal .edit-refusal .ensures) (at-if1 .if1 .left) (at-depends .depends .ensures),
+        stage-region (held-without (start .pre)) _ _ _ (at-edit-refusal .edit-refusal .ensures) (at-if1 .if1 .left) (at-depends .depends .ensures),
         stage-nodes
-            (start .pre .0) _ _ _ (at-edit-refusal .edit-refusal .ensures) (at-if1 .if1 .left) (at-depends .depends .ensures),
+            (held-without (start .pre)) _ _ _ (at-edit-refusal .edit-refusal .ensures) (at-if1 .if1 .left) (at-depends .depends .ensures),
       ),
     )
 
@@ -73,29 +74,29 @@ returns-3 c =
     let at-if1 = at-depends .before .before in
     let at-edit-refusal = at-if1 .before in
     let start = at-edit-refusal .before .before .before .before .before .before .before in
-    stage-whole (start .pre .0) _ _ _ (at-edit-refusal .edit-refusal .ensures) (at-if1 .if1 .left) (at-depends .depends .ensures) (at-if2 .if2 .left)
+    stage-whole (held-without (start .pre)) _ _ _ (at-edit-refusal .edit-refusal .ensures) (at-if1 .if1 .left) (at-depends .depends .ensures) (at-if2 .if2 .left)
     (at-balanced-region .balanced-region .ensures) (c .before .is-whole .ensures) (c .if3 .taken)
 
-cast-t24 : tie.Need-cast-t24
-cast-t24 c =
+cast-t23 : tie.Need-cast-t23
+cast-t23 c =
     let at-balanced-region = c .before .before .before .before .before in
     let at-if2 = at-balanced-region .before .before in
     let at-depends = at-if2 .before .before .before in
     let at-if1 = at-depends .before .before in
     let at-edit-refusal = at-if1 .before in
     let start = at-edit-refusal .before .before .before .before .before .before .before in
-    let f = stage-fits (start .pre .0) _ _ _ (at-edit-refusal .edit-refusal .ensures) (at-if1 .if1 .left) (at-depends .depends .ensures) (at-if2 .if2 .left)
+    let f = stage-fits (held-without (start .pre)) _ _ _ (at-edit-refusal .edit-refusal .ensures) (at-if1 .if1 .left) (at-depends .depends .ensures) (at-if2 .if2 .left)
     (at-balanced-region .balanced-region .ensures) in omega (arith, f)
 
-cast-t25 : tie.Need-cast-t25
-cast-t25 c =
+cast-t24 : tie.Need-cast-t24
+cast-t24 c =
     let at-balanced-region = c .before .before .before .before .before .before in
     let at-if2 = at-balanced-region .before .before in
     let at-depends = at-if2 .before .before .before in
     let at-if1 = at-depends .before .before in
     let at-edit-refusal = at-if1 .before in
     let start = at-edit-refusal .before .before .before .before .before .before .before in
-    let f = stage-fits (start .pre .0) _ _ _ (at-edit-refusal .edit-refusal .ensures) (at-if1 .if1 .left) (at-depends .depends .ensures) (at-if2 .if2 .left)
+    let f = stage-fits (held-without (start .pre)) _ _ _ (at-edit-refusal .edit-refusal .ensures) (at-if1 .if1 .left) (at-depends .depends .ensures) (at-if2 .if2 .left)
     (at-balanced-region .balanced-region .ensures) in omega (arith, f)
 
 same-length-3 : tie.Need-same-length-3
@@ -110,7 +111,7 @@ returns-4 c =
     let at-if1 = at-depends .before .before in
     let at-edit-refusal = at-if1 .before in
     let start = at-edit-refusal .before .before .before .before .before .before .before in
-    stage-chosen (start .pre .0) _ _ _ (at-edit-refusal .edit-refusal .ensures) (at-if1 .if1 .left) (at-depends .depends .ensures) (at-if2 .if2 .left)
+    stage-chosen (held-without (start .pre)) _ _ _ (at-edit-refusal .edit-refusal .ensures) (at-if1 .if1 .left) (at-depends .depends .ensures) (at-if2 .if2 .left)
     (at-balanced-region .balanced-region .ensures) (at-is-whole .is-whole .ensures) (c .before .before .if3 .left)
 
 pub chosen-region-spec : {M : Type 1} → statement M
@@ -130,7 +131,7 @@ chosen-region-spec =
     is-whole-requires
     same-length-2
     returns-3
+    cast-t23
     cast-t24
-    cast-t25
     same-length-3
     returns-4)
