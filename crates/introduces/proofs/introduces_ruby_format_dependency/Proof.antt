@@ -1,3 +1,6 @@
+use Prim.Native.Nat.{_+_, _*_}
+use lib.ListN.{length}
+use Rattle.dependency.specs.Words.{lent-enough}
 use borrow.Author.Tests.{not-true}
 use Rattle.introduces.specs.Books.{introduces-later, introduces-none, introduces-refers}
 use Rattle.region.specs.Held.{held-inside}
@@ -7,6 +10,7 @@ use Rattle.introduces.proofs.introduces_ruby_format_dependency.Statemen
 use Rattle.introduces.proofs.introduces_ruby_format_dependency.Tie as tie
 use Rattle.introduces.proofs.introduces_ruby_format_dependency.Reads as reads
 use Rattle.introduces.proofs.introduces_ruby_format_dependency.Lts as lts
+use Rattle.dependency.proofs.in_many_parts.Reads as in-many-parts-reads
 use Rattle.introduces.proofs.any_format_from.Reads as any-format-from-reads
 use Rattle.introduces.proofs.refers_by_own.Reads as refers-by-own-reads
 use Rattle.introduces.proofs.refers_by_words.Reads as refers-by-words-reads
@@ -31,32 +35,36 @@ returns-2 c =
     let start = at-ruby-for-later .before .before .before .before .before .before in
     introduces-none (start .pre .0) (start .pre .1) _ _ (at-ruby-for-later .ruby-for-later .ensures) (c .before .before .if1 .left) (c .before .any-format-from .ensures) (not-true _ (c .if2 .taken))
 
+mul-in-many-parts : tie.Need-mul-in-many-parts
+mul-in-many-parts c = let h = held-inside (c .before .before .before .before .before .before .before .before .before .before .pre .0) in omega (arith, h)
+
+add-in-many-parts : tie.Need-add-in-many-parts
+add-in-many-parts c = let h = held-inside (c .before .before .before .before .before .before .before .before .before .before .pre .0) in omega (arith, h)
+
+in-many-parts-requires : tie.Need-in-many-parts-requires
+in-many-parts-requires c κs = search needs
+
 refers-by-own-requires : tie.Need-refers-by-own-requires
-refers-by-own-requires c κs =
-    let start = c .before .before .before .before .before .before .before .before .before .before in
-    (start .pre .0, start .pre .1)
+refers-by-own-requires c κs = search needs
 
 returns-3 : tie.Need-returns-3
 returns-3 c =
-    let at-if1 = c .before .before .before .before in
-    let at-ruby-for-later = at-if1 .before in
-    let start = at-ruby-for-later .before .before .before .before .before .before in
-    introduces-refers (start .pre .0) (start .pre .1) _ _ (at-ruby-for-later .ruby-for-later .ensures) (at-if1 .if1 .left) (c .refers-by-own .ensures)
+    let start = c .before .before .before .before .before .before .before .before .before .before .before .before .before in
+    introduces-refers (start .pre .0) (start .pre .1) _ _ (c .before .before .before .before .before .before .before .ruby-for-later .ensures) (c .before .before .before .before .before .before .if1 .left) (c .refers-by-own .ensures)
 
 refers-by-words-requires : tie.Need-refers-by-words-requires
 refers-by-words-requires c κs =
-    let start = c .before .before .before .before .before .before .before .before .before .before .before in
-    (start .pre .0, (start .pre .1, omega arith))
+    let start = c .before .before .before .before .before .before .before .before .before .before .before .before .before in
+    let enough = lent-enough (length (start .args .words .now)) (2 * start .args .p .nodes .count + 6) (c .before .before .in-many-parts .ensures) (c .before .if3 .left) in
+    (start .pre .0, (start .pre .1, omega (arith, enough)))
 
 same-length : tie.Need-same-length
 same-length c = search needs
 
 returns-4 : tie.Need-returns-4
 returns-4 c =
-    let at-if1 = c .before .before .before .before .before .before .before in
-    let at-ruby-for-later = at-if1 .before in
-    let start = at-ruby-for-later .before .before .before .before .before .before in
-    introduces-refers (start .pre .0) (start .pre .1) _ _ (at-ruby-for-later .ruby-for-later .ensures) (at-if1 .if1 .left) (c .before .before .refers-by-words .ensures)
+    let start = c .before .before .before .before .before .before .before .before .before .before .before .before .before .before .before .before in
+    introduces-refers (start .pre .0) (start .pre .1) _ _ (c .before .before .before .before .before .before .before .before .before .before .ruby-for-later .ensures) (c .before .before .before .before .before .before .before .before .before .if1 .left) (c .before .before .refers-by-words .ensures)
 
 pub introduces-ruby-format-dependency-spec : {M : Type 1} → statement M
 introduces-ruby-format-dependency-spec =
@@ -66,6 +74,9 @@ introduces-ruby-format-dependency-spec =
     returns
     any-format-from-requires
     returns-2
+    mul-in-many-parts
+    add-in-many-parts
+    in-many-parts-requires
     refers-by-own-requires
     returns-3
     refers-by-words-requires

@@ -15,7 +15,7 @@ part-words-end : tie.Need-part-words-end
 part-words-end c = search needs
 
 refers-by-words-requires : tie.Need-refers-by-words-requires
-refers-by-words-requires c κs = (c .before .before .before .before .before .pre .0, (c .before .before .before .before .before .pre .1, search needs))
+refers-by-words-requires c κs = let start = c .before .before .before .before .before in (start .pre .0, (start .pre .1, search needs))
 
 returns : tie.Need-returns
 returns c = search needs

@@ -8,8 +8,8 @@ use Rattle.introduces.proofs.refers_by_words.Lts as lts
 use Rattle.introduces.proofs.index_both.Reads as index-both-reads
 use Rattle.introduces.proofs.refers_before.Reads as refers-before-reads
 
-add-middle : tie.Need-add-middle
-add-middle c = omega (arith, c .before .before .before .before .before .good)
+sub-middle : tie.Need-sub-middle
+sub-middle c = omega (arith, c .before .before .before .before .before .good)
 
 index-both-requires : tie.Need-index-both-requires
 index-both-requires c κs =
@@ -32,4 +32,4 @@ returns c = c .before .before .refers-before .ensures
 
 pub refers-by-words-spec : {M : Type 1} → statement M
 refers-by-words-spec =
-    tie.close (tie.spec add-middle index-both-requires refers-before-requires same-length returns)
+    tie.close (tie.spec sub-middle index-both-requires refers-before-requires same-length returns)
