@@ -1,7 +1,5 @@
-use native.Mathlib.Omega.{arith}
-use mathlib.Core.Path.{refl, _∙_}
-use Rattle.region.specs.Words.{words-indexed}
-use Rattle.region.specs.Entry.{choose-store, choose-ready, choose-readable}
+use mathlib.Core.Path.{refl}
+use Rattle.region.specs.Entry.{choose-store, choose-held}
 use Rattle.incremental.specs.Stages.{written-refused, written-later, book-refused, edit-refused, edit-chosen, asked-chosen, askedReading}
 use borrow.Author.Needs.{needs}
 use Rattle.incremental.proofs.merge_checked.Statement.{statement}
@@ -12,7 +10,6 @@ use Rattle.incremental.proofs.merge_reading.Reads as merge-reading-read
 use Rattle.output.proofs.refused_output.Reads as refused-output-reads
 use Rattle.places.proofs.places_of.Reads as places-of-reads
 use Rattle.region.proofs.chosen_region.Reads as chosen-region-reads
-use Rattle.region.proofs.index_words.Reads as index-words-reads
 use Rattle.store.proofs.store_of.Reads as store-of-reads
 use Rattle.tape.proofs.check_book.Reads as check-book-reads
 
@@ -31,11 +28,8 @@ places-of-requires c κs = search needs
 store-of-requires : tie.Need-store-of-requires
 store-of-requires c κs = choose-store _ _ (c .before .before .check-book .ensures) (c .before .if1 .left) (c .places-of .ensures)
 
-index-words-requires : tie.Need-index-words-requires
-index-words-requires c κs = (choose-readable _ _ (c .before .before .before .before .check-book .ensures) (c .before .before .before .if1 .left) (c .before .before .places-of .ensures) (c .before .store-of .ensures) (omega (arith, c .before .before .before .before .before .before .before .before .before .before .before .before .before .good)), omega arith)
-
 chosen-region-requires : tie.Need-chosen-region-requires
-chosen-region-requires c κs = (choose-ready _ _ (c .before .before .before .before .before .before .before .before .check-book .ensures) (c .before .before .before .before .before .before .before .if1 .left) (c .before .before .before .before .before .before .places-of .ensures) (c .before .before .before .before .before .store-of .ensures) (words-indexed _ _ _ (omega arith) (c .before .before .before .index-words .ensures)), omega (arith, c .before .before .before .index-words .kept .1 .1 .1 .0))
+chosen-region-requires c κs = choose-held _ _ (c .before .before .before .before .check-book .ensures) (c .before .before .before .if1 .left) (c .before .before .places-of .ensures) (c .before .store-of .ensures)
 
 enum-known-found : tie.Need-enum-known-found
 enum-known-found c = search needs
@@ -47,13 +41,21 @@ same-length : tie.Need-same-length
 same-length c = search needs
 
 returns-2 : tie.Need-returns-2
-returns-2 c = written-refused (edit-refused _ _ (c .before .before .before .before .before .before .before .before .before .before .before .before .before .before .before .check-book .ensures) (c .before .before .before .before .before .before .before .before .before .before .before .before .before .before .if1 .left) _ (c .before .before .before .before .before .before .chosen-region .ensures) (c .before .before .found .given .1) _ _ _) (c .refused-output2 .ensures) refl refl (c .before .before .before .before .before .before .chosen-region .kept .1 .1 .1 .1 .0 ∙ c .before .before .before .before .before .before .before .before .before .before .index-words .kept .1 .1 .1 .0)
+returns-2 c =
+    let at-chosen-region = c .before .before .before .before .before .before in
+    let at-if1 = c .before .before .before .before .before .before .before .before .before .before in
+    written-refused (edit-refused _ _ (at-if1 .before .check-book .ensures) (at-if1 .if1 .left) _ (at-chosen-region .chosen-region .ensures) (c .before .before .found .given .1) _ _ _)
+    (c .refused-output2 .ensures) refl refl (at-chosen-region .chosen-region .kept .1 .1 .1 .1 .0)
 
 enum-known-found-2 : tie.Need-enum-known-found-2
 enum-known-found-2 c = search needs
 
 merge-reading-requires : tie.Need-merge-reading-requires
-merge-reading-requires c κs = edit-chosen _ _ (c .before .before .before .before .before .before .before .before .before .before .before .before .before .before .before .before .before .check-book .ensures) (c .before .before .before .before .before .before .before .before .before .before .before .before .before .before .before .before .if1 .left) _ (c .before .before .before .before .before .before .before .before .chosen-region .ensures) (c .before .before .before .before .found2 .given .1) (c .before .before .before .before .before .before .before .before .before .before .before .before .before .before .before .places-of .ensures) (c .before .before .before .before .before .before .before .before .before .before .before .before .before .before .store-of .ensures)
+merge-reading-requires c κs =
+    let at-store-of = c .before .before .before .before .before .before .before .before .before .before in
+    let at-if1 = at-store-of .before .before in
+    edit-chosen _ _ (at-if1 .before .check-book .ensures) (at-if1 .if1 .left) _ (c .before .before .before .before .before .before .before .before .chosen-region .ensures) (c .before .before .before .before .found2 .given .1) (at-store-of .before .places-of .ensures)
+    (at-store-of .store-of .ensures)
 
 same-length-2 : tie.Need-same-length-2
 same-length-2 c = search needs
@@ -65,7 +67,12 @@ same-length-4 : tie.Need-same-length-4
 same-length-4 c = search needs
 
 returns-3 : tie.Need-returns-3
-returns-3 c = written-later _ _ (askedReading _ _ _ _ _) (asked-chosen _ _ (c .before .before .before .before .before .before .before .before .before .before .before .before .before .before .before .before .before .before .before .before .before .before .before .before .check-book .ensures) (c .before .before .before .before .before .before .before .before .before .before .before .before .before .before .before .before .before .before .before .before .before .before .before .if1 .left) _ (c .before .before .before .before .before .before .before .before .before .before .before .before .before .before .before .chosen-region .ensures) (c .before .before .before .before .before .before .before .before .before .before .before .found2 .given .1) _ _ _) (c .before .before .before .before .before .before .before .before .before .before .before .before .before .before .before .chosen-region .kept .1 .1 .1 .1 .0 ∙ c .before .before .before .before .before .before .before .before .before .before .before .before .before .before .before .before .before .before .before .index-words .kept .1 .1 .1 .0) (c .before .before .before .before .before .before .merge-reading .ensures)
+returns-3 c =
+    let at-chosen-region = c .before .before .before .before .before .before .before .before .before .before .before .before .before .before .before in
+    let at-if1 = at-chosen-region .before .before .before .before in
+    written-later _ _ (askedReading _ _ _ _ _)
+    (asked-chosen _ _ (at-if1 .before .check-book .ensures) (at-if1 .if1 .left) _ (at-chosen-region .chosen-region .ensures) (c .before .before .before .before .before .before .before .before .before .before .before .found2 .given .1) _ _ _)
+    (at-chosen-region .chosen-region .kept .1 .1 .1 .1 .0) (c .before .before .before .before .before .before .merge-reading .ensures)
 
 pub merge-checked-spec : {M : Type 1} → statement M
 merge-checked-spec =
@@ -76,7 +83,6 @@ merge-checked-spec =
     returns
     places-of-requires
     store-of-requires
-    index-words-requires
     chosen-region-requires
     enum-known-found
     refused-output-requires-2
