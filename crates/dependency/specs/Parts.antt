@@ -5,14 +5,16 @@ use Prim.Native.Nat.{ℕ, zero, suc, _+_, _-_, _*_, _≤_, _<_, min}
 use native.Mathlib.Omega.{arith}
 use native.Mathlib.Numerals.{add-one}
 use mathlib.Core.Bool.{Bool, true, false, _&&_, _||_, true≢false, and-false}
-use mathlib.Core.List.{List, [], _++_}
+use mathlib.Core.Option.{Option, none, some}
+use mathlib.Core.List.{List, [], _∷_, _++_}
 use lib.ListN.{length, take, drop}
 use lib.Dec.{ltb}
 use borrow.Author.Tests.{ltb-true, ltb-false}
 use Rattle.model.specs.Types.{SourceNode}
 use Rattle.model.specs.Store.{NodeStore}
 use Rattle.model.specs.Tape.{recordAt, recordsAt, nodeCodec}
-use Rattle.model.specs.Region.{firstPlain, dependsFrom}
+use Rattle.model.specs.Lists.{any}
+use Rattle.model.specs.Region.{isRuby, firstPlain, dependsFrom}
 use Rattle.wire.specs.Loops.{anyUpTo, Missed, any-missed, by-bool}
 use Rattle.records.specs.Runs.{run-none}
 use Rattle.store.specs.declared.Store.{Store}
@@ -22,7 +24,7 @@ use Rattle.strings.specs.Index.{Indexed, indexIn, index-written}
 use Rattle.strings.specs.PlainContent.{plainOf, plainString}
 use Rattle.strings.specs.declared.Plain.{Plain}
 use Rattle.sorted_ids.specs.Row.{any-false}
-use Rattle.dependency.specs.Bases.{asksTarget, amongBases, refersBack, refersAt, depends-records}
+use Rattle.dependency.specs.Bases.{isPlain, hasBase, asksTarget, amongBases, refersBack, refersAt, depends-records}
 use Rattle.dependency.specs.Noted.{firstWords, Noted, notedBy, noted-none, noted-next}
 use Rattle.dependency.specs.Words.{first-front}
 use Rattle.dependency.specs.Sound.{Sound, SoundNode, firstContents, plain-first}
@@ -156,6 +158,36 @@ module _ {t : List ℕ} {st : Store} {words old new : List ℕ} (at i n from : �
   unfolding refersBack
   refers-target h f {k} g q =
       sym (here ∙ rw (← e, h, ← g) (ap (amongBases (storeIn t (old ++ new)) (recordsAt nodeCodec t at k)) (plain-first s f) ∙ sym q))
+
+-- ---- a part without a Ruby
+
+base-none : (st : NodeStore) (s : List ℕ) (ns : List SourceNode) → any isRuby ns ≡ false → any (hasBase st s) ns ≡ false
+unfolding hasBase
+base-none st s [] e = refl
+base-none st s (n ∷ ns) e =
+    ap₂ (λ (a b : Bool). (a && isPlain s (firstPlain st n)) || b) (or-left (isRuby n) (any isRuby ns) e) (base-none st s ns (or-right (isRuby n) (any isRuby ns) e))
+
+among-none-of : (st : NodeStore) (ns : List SourceNode) (p : Option (List ℕ)) → any isRuby ns ≡ false → amongBases st ns p ≡ false
+unfolding amongBases
+among-none-of st ns none e = refl
+among-none-of st ns (some s) e = base-none st s ns e
+
+module _ (st : NodeStore) (from : ℕ) (t : List ℕ) (at n : ℕ) {x : Bool} (r : x ≡ any isRuby (recordsAt nodeCodec t at n)) (e : x ≡ false) where
+  none-back : (m : SourceNode) → refersBack st from (recordsAt nodeCodec t at n) m ≡ false
+  unfolding refersBack
+  none-back m = ap (λ (b : Bool). asksTarget from m && b) (among-none-of st (recordsAt nodeCodec t at n) (firstPlain st m) (sym r ∙ e)) ∙ and-false (asksTarget from m)
+
+  pub part-without : (count : ℕ) → false ≡ anyUpTo count (refersAmong st from t at n)
+  unfolding refersAmong
+  part-without count = sym (any-missed (refersAmong st from t at n) count (record { none = λ i h. absent i }))
+    where
+      absent : (i : ℕ) → refersBack st from (recordsAt nodeCodec t at (min n i)) (recordAt nodeCodec t (at + 49 * i)) ≡ false
+      absent i =
+          let m = recordAt nodeCodec t (at + 49 * i) in
+          let q : n ≡ min n i + (n - min n i) = omega arith in
+          or-left (refersBack st from (recordsAt nodeCodec t at (min n i)) m) (refersBack st from (recordsAt nodeCodec t (at + 49 * min n i) (n - min n i)) m)
+          (sym (ap (λ (l : List SourceNode). refersBack st from l m) (ap (recordsAt nodeCodec t at) q ∙ run-join t at (min n i) (n - min n i))
+          ∙ refers-join st from (recordsAt nodeCodec t at (min n i)) (recordsAt nodeCodec t (at + 49 * min n i) (n - min n i)) m) ∙ none-back m)
 
 -- ---- an index of one's own
 

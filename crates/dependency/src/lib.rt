@@ -39,6 +39,20 @@ pub fn is_ruby(tape: &[u8], at: usize) -> bool
     tape[at + 15] == 1
 }
 
+pub fn any_ruby(tape: &[u8], at: usize, count: usize) -> bool
+    requires { ⌜ at + 49 * count ≤ length (now tape) ⌝ }
+    ensures { λ r. ⌜ r ≡ any isRuby (recordsAt nodeCodec (now (tape .entry)) at count) ⌝ }
+{
+    let mut i = 0;
+    while i < count {
+        if is_ruby(tape, at + 49 * i) {
+            return true;
+        }
+        i += 1;
+    }
+    false
+}
+
 // An Inline Format whose `ForwardOrigin` is Referenced.
 pub fn is_referenced_format(tape: &[u8], at: usize) -> bool
     requires { ⌜ at + 49 ≤ length (now tape) ⌝ }
@@ -573,6 +587,29 @@ fn part_refers<'a>(
     r == 1
 }
 
+// The same; a part without a Ruby takes no walk.
+fn refers_to_part<'a>(
+    tape: &[u8],
+    st: store::Store,
+    words: &mut [u32],
+    base: usize,
+    old: &'a [u8],
+    new: &'a [u8],
+    at: usize,
+    count: usize,
+    n: usize,
+    from: u32,
+) -> bool
+    requires { ⌜ Sound (now tape) st (firstWords base (now words)) (now old) (now new) at count ⌝ }
+    requires { ⌜ (n ≤ count) × (base + n ≤ length (now words)) ⌝ }
+    ensures { λ r. ⌜ (r ≡ anyUpTo count (refersAmong (storeIn (now (tape .entry)) (now (old .entry) ++ now (new .entry))) from (now (tape .entry)) at n)) × (firstWords base (now (words .exit)) ≡ firstWords base (now (words .entry))) ⌝ }
+{
+    if any_ruby(tape, at, n) {
+        return part_refers(tape, st, words, base, old, new, at, count, n, from);
+    }
+    false
+}
+
 // Number 10 in parts of half as many nodes as the filter has words, a walk from each part on: so a target is seldom compared.
 fn refers_in_parts<'a>(
     tape: &[u8],
@@ -593,7 +630,7 @@ fn refers_in_parts<'a>(
     let mut i = 0;
     while i < count {
         let n = smaller(size, count - i);
-        if part_refers(
+        if refers_to_part(
             tape,
             st,
             words,

@@ -32,20 +32,6 @@ ghost use Rattle.dependency.specs.Words.{lastWords};
 ghost use Rattle.introduces.specs.Words.{KeptIndexes, BothIndexed};
 ghost use Rattle.introduces.specs.Rows.{refersToRow};
 
-fn any_ruby(tape: &[u8], at: usize, count: usize) -> bool
-    requires { ⌜ at + 49 * count ≤ length (now tape) ⌝ }
-    ensures { λ r. ⌜ r ≡ any isRuby (recordsAt nodeCodec (now (tape .entry)) at count) ⌝ }
-{
-    let mut i = 0;
-    while i < count {
-        if dependency::is_ruby(tape, at + 49 * i) {
-            return true;
-        }
-        i += 1;
-    }
-    false
-}
-
 fn is_format_from(tape: &[u8], at: usize, from: u32) -> bool
     requires { ⌜ at + 49 ≤ length (now tape) ⌝ }
     ensures { λ r. ⌜ r ≡ formatFrom from (recordAt nodeCodec (now (tape .entry)) at) ⌝ }
@@ -84,7 +70,7 @@ fn ruby_for_later(
     requires { ⌜ (at + 49 * count ≤ length (now tape)) × (place + 49 * nodes ≤ length (now reading)) ⌝ }
     ensures { λ r. ⌜ r ≡ rubyForLater (recordsAt nodeCodec (now (reading .entry)) place nodes) (recordsAt nodeCodec (now (tape .entry)) at count) end ⌝ }
 {
-    if !any_ruby(reading, place, nodes) {
+    if !dependency::any_ruby(reading, place, nodes) {
         return false;
     }
     any_format_from(tape, at, count, end)

@@ -13,7 +13,7 @@ use Rattle.dependency.proofs.refers_in_parts.Statement.{statement}
 use Rattle.dependency.proofs.refers_in_parts.Tie as tie
 use Rattle.dependency.proofs.refers_in_parts.Reads as reads
 use Rattle.dependency.proofs.refers_in_parts.Lts as lts
-use Rattle.dependency.proofs.part_refers.Reads as part-refers-reads
+use Rattle.dependency.proofs.refers_to_part.Reads as refers-to-part-reads
 use Rattle.dependency.proofs.smaller.Reads as smaller-reads
 
 abbrev Inv-loop : tie.InvT-loop
@@ -49,36 +49,36 @@ sub-smaller c = omega arith
 smaller-requires : tie.Need-smaller-requires Inv-loop μ-loop
 smaller-requires c κs = tt
 
-mul-part-refers : tie.Need-mul-part-refers Inv-loop μ-loop
-mul-part-refers c = omega (arith, (c .before .before .before .before .before .before .before .before .pre .0) .inside)
+mul-refers-to-part : tie.Need-mul-refers-to-part Inv-loop μ-loop
+mul-refers-to-part c = omega (arith, (c .before .before .before .before .before .before .before .before .pre .0) .inside)
 
-add-part-refers : tie.Need-add-part-refers Inv-loop μ-loop
-add-part-refers c = omega (arith, (c .before .before .before .before .before .before .before .before .pre .0) .inside)
+add-refers-to-part : tie.Need-add-refers-to-part Inv-loop μ-loop
+add-refers-to-part c = omega (arith, (c .before .before .before .before .before .before .before .before .pre .0) .inside)
 
-sub-part-refers : tie.Need-sub-part-refers Inv-loop μ-loop
-sub-part-refers c = omega arith
+sub-refers-to-part : tie.Need-sub-refers-to-part Inv-loop μ-loop
+sub-refers-to-part c = omega arith
 
-part-refers-requires : tie.Need-part-refers-requires Inv-loop μ-loop
-part-refers-requires c κs =
+refers-to-part-requires : tie.Need-refers-to-part-requires Inv-loop μ-loop
+refers-to-part-requires c κs =
     let turn = c .before .before .before in
     let start = turn .before .before .before .before .before in (
       sound-piece (sound-index (turn .loop .inv .2) (start .pre .0)) (turn .loop .i) _ (omega (arith, c .before .before .loop-test .taken)),
-      omega (arith, c .before .smaller .ensures, turn .loop .inv .4, turn .loop .inv .1),
+      (omega (arith, c .before .smaller .ensures), omega (arith, c .before .smaller .ensures, turn .loop .inv .4, turn .loop .inv .1)),
     )
 
 same-length : tie.Need-same-length Inv-loop μ-loop
 same-length c =
-    let at-part-refers = c .before .before .before in
-    let turn = at-part-refers .before .before .before .before in
-    at-part-refers .part-refers .kept .1 .1 .0 ∙ turn .loop .inv .1
+    let at-refers-to-part = c .before .before .before in
+    let turn = at-refers-to-part .before .before .before .before in
+    at-refers-to-part .refers-to-part .kept .1 .1 .0 ∙ turn .loop .inv .1
 
 returns : tie.Need-returns Inv-loop μ-loop
 returns c =
-    let at-part-refers = c .before .before .before in
-    let turn = at-part-refers .before .before .before .before in
+    let at-refers-to-part = c .before .before .before in
+    let turn = at-refers-to-part .before .before .before .before in
     let start = turn .before .before .before .before .before in
     parts-found (storeIn (start .args .tape .now) (start .args .old .now ++ start .args .new .now)) (start .args .from) (start .args .tape .now)
-    (start .args .at) (start .args .count) (turn .loop .i) _ (turn .loop .inv .0) (at-part-refers .part-refers .ensures .0) (c .if1 .taken)
+    (start .args .at) (start .args .count) (turn .loop .i) _ (turn .loop .inv .0) (at-refers-to-part .refers-to-part .ensures .0) (c .if1 .taken)
 
 add-i : tie.Need-add-i Inv-loop μ-loop
 add-i c =
@@ -96,15 +96,15 @@ loop-less c =
 
 loop-again : tie.Need-loop-again Inv-loop μ-loop
 loop-again c =
-    let at-part-refers = c .before .before .before in
-    let at-smaller = at-part-refers .before .before in
+    let at-refers-to-part = c .before .before .before in
+    let at-smaller = at-refers-to-part .before .before in
     let turn = at-smaller .before .before in
     let start = turn .before .before .before .before .before in (
       omega (arith, at-smaller .smaller .ensures, turn .loop .inv .0),
-      at-part-refers .part-refers .kept .1 .1 .0 ∙ turn .loop .inv .1,
-      at-part-refers .part-refers .ensures .1 ∙ turn .loop .inv .2,
+      at-refers-to-part .refers-to-part .kept .1 .1 .0 ∙ turn .loop .inv .1,
+      at-refers-to-part .refers-to-part .ensures .1 ∙ turn .loop .inv .2,
       parts-more (storeIn (start .args .tape .now) (start .args .old .now ++ start .args .new .now)) (start .args .from) (start .args .tape .now)
-          (start .args .at) (start .args .count) (turn .loop .i) _ (turn .loop .inv .0) (at-part-refers .part-refers .ensures .0) (turn .loop .inv .3) (c .if1 .left),
+          (start .args .at) (start .args .count) (turn .loop .i) _ (turn .loop .inv .0) (at-refers-to-part .refers-to-part .ensures .0) (turn .loop .inv .3) (c .if1 .left),
       turn .loop .inv .4,
     )
 
@@ -128,10 +128,10 @@ refers-in-parts-spec =
     loop-holds
     sub-smaller
     smaller-requires
-    mul-part-refers
-    add-part-refers
-    sub-part-refers
-    part-refers-requires
+    mul-refers-to-part
+    add-refers-to-part
+    sub-refers-to-part
+    refers-to-part-requires
     same-length
     returns
     add-i

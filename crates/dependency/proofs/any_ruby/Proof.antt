@@ -5,11 +5,11 @@ use Prim.Native.Nat.{_-_, _≤_}
 use native.Mathlib.Omega.{arith}
 use Rattle.model.specs.Region.{isRuby}
 use mathlib.Core.Path.{refl}
-use Rattle.introduces.proofs.any_ruby.Statement.{statement}
-use Rattle.introduces.proofs.any_ruby.Tie as tie
-use Rattle.introduces.proofs.any_ruby.Reads as reads
-use Rattle.introduces.proofs.any_ruby.Lts as lts
+use Rattle.dependency.proofs.any_ruby.Statement.{statement}
+use Rattle.dependency.proofs.any_ruby.Tie as tie
+use Rattle.dependency.proofs.any_ruby.Reads as reads
+use Rattle.dependency.proofs.any_ruby.Lts as lts
 use Rattle.dependency.proofs.is_ruby.Reads as is-ruby-reads
 
 abbrev Inv-loop : tie.InvT-loop
 Inv-loop tape at count i₀ i = (i ≤ count) × Missed (testAt nodeCodec isRuby tape at) i
