@@ -72,8 +72,17 @@ module _ (text : List ℕ) (e : Edit) (rising : e .start ≤ e .end) (inside : e
       let p₁ : e .start + n + i + 2 - 1 ≡ e .start + n + (i + 1) = omega arith in
       let q₂ : e .end + i + 2 - 2 ≡ e .end + i = omega arith in
       let q₁ : e .end + i + 2 - 1 ≡ e .end + (i + 1) = omega arith in
-      rw (p, p₂, p₁, q₂, q₁, le-leb 2 (e .start + n + i + 2) (omega arith), le-leb 2 (e .end + i + 2) (omega arith),
-      byte-rest (e .start) (e .end) (e .replacement) text rising inside i, byte-rest (e .start) (e .end) (e .replacement) text rising inside (i + 1)) refl
+      rw (
+        p,
+        p₂,
+        p₁,
+        q₂,
+        q₁,
+        le-leb 2 (e .start + n + i + 2) (omega arith),
+        le-leb 2 (e .end + i + 2) (omega arith),
+        byte-rest (e .start) (e .end) (e .replacement) text rising inside i,
+        byte-rest (e .start) (e .end) (e .replacement) text rising inside (i + 1),
+      ) refl
 
   blank-later : (o : ℕ) → e .end < o → blankLineBefore (edited text e) (behindEdit e (o + 1)) ≡ blankLineBefore text (o + 1)
   blank-later o h = let q : o + 1 ≡ e .end + (o - (e .end + 1)) + 2 = omega arith in rw q (blank-beyond (o - (e .end + 1)))

@@ -570,16 +570,7 @@ pub fn balanced_region(
 {
     if words.len() < WINDOW_WORDS {
         let mut own = [0u32; WINDOW_WORDS];
-        return region_in(
-            tape,
-            text,
-            nodes,
-            pairs,
-            start,
-            end,
-            replacement,
-            &mut own,
-        );
+        return region_in(tape, text, nodes, pairs, start, end, replacement, &mut own);
     }
     region_in(tape, text, nodes, pairs, start, end, replacement, words)
 }

@@ -60,7 +60,7 @@ module _ {t d : List ℕ} {p : Places} {st : Store} {words : List ℕ} (r : Read
 
       module _ (g : x ≡ false) {s : Cuts}
           (e : regionOf s ≡ balancedIn (take (p .text - 0) d) (recordsAt nodeCodec t (p .nodes .at) (p .nodes .count)) (recordsAt pairCodec t (p .pairs .at) (p .pairs .count))
-            start (searchFrom (take (p .text - 0) d) start end replacement)) where
+          start (searchFrom (take (p .text - 0) d) start end replacement)) where
         region-is : regionOf s ≡ balancedRegion (bookAt t (places t) d) (editOf start end replacement)
         unfolding editOf
         region-is =
@@ -71,7 +71,7 @@ module _ {t d : List ℕ} {p : Places} {st : Store} {words : List ℕ} (r : Read
         pub stage-fits : (s .start < 2 ^ 32) × (s .end < 2 ^ 32)
         stage-fits =
             let b = balanced-bounds (take (p .text - 0) d) (recordsAt nodeCodec t (p .nodes .at) (p .nodes .count)) (recordsAt pairCodec t (p .pairs .at) (p .pairs .count))
-              start (searchFrom (take (p .text - 0) d) start end replacement) (search-bounds (take (p .text - 0) d) start end replacement (inside .1) .1) in
+            start (searchFrom (take (p .text - 0) d) start end replacement) (search-bounds (take (p .text - 0) d) start end replacement (inside .1) .1) in
             let u = ap (λ (y : Span). y .start) e in
             let v = ap (λ (y : Span). y .end) e in
             let w = stage-short in
