@@ -1,13 +1,13 @@
 -- Section 6, the two ends of a region over the three lists of a book that they depend on: text, nodes and pairs.
 use Prim.Native.Nat.{ℕ, zero, suc, _+_, _-_, _≤_}
 use native.Mathlib.Omega.{arith}
-use mathlib.Core.Path.{_≡_, refl, _∙_}
+use mathlib.Core.Path.{_≡_, refl}
 use mathlib.Core.Bool.{cond, _&&_}
 use mathlib.Core.List.{List}
 use lib.ListN.{length}
 use Rattle.model.specs.Offset.{Span}
 use Rattle.model.specs.Types.{SourceNode, PairLink, LexOutput}
-use Rattle.model.specs.Region.{Edit, newlineAt, regionStart, regionEnd, balancedRegion}
+use Rattle.model.specs.Region.{newlineAt, regionStart}
 use Rattle.wire.specs.Loops.{by-bool}
 use Rattle.balanced_region.specs.declared.Region.{Region}
 use Rattle.cuts.specs.Safe.{safeCutIn, safe-book}
@@ -26,9 +26,9 @@ regionEndIn text ns ps (suc n) o =
     let later = regionEndIn text ns ps n (o + 1) in
     cond (newlineAt text o && safeCutIn text ns ps (o + 1)) (o + 1) later
 
--- Section 6. `balanced_region` of the edit from `start` to `end`.
+-- Section 6. Both ends, by the offsets from which they are looked for.
 unfoldable pub balancedIn : List ℕ → List SourceNode → List PairLink → ℕ → ℕ → Span
-balancedIn text ns ps start end = record { start = regionStartIn text ns ps start; end = regionEndIn text ns ps (length text - end) end }
+balancedIn text ns ps start from = record { start = regionStartIn text ns ps start; end = regionEndIn text ns ps (length text - from) from }
 
 abbrev pub regionOf : Region → Span
 regionOf r = record { start = r .start; end = r .end }
@@ -49,10 +49,10 @@ module _ (text : List ℕ) (ns : List SourceNode) (ps : List PairLink) where
       let later = end-bound n (o + 1) (omega arith) in
       by-bool (newlineAt text o && safeCutIn text ns ps (o + 1)) (λ e. rw e (omega arith, omega arith)) (λ e. rw e (omega (arith, later), later .1))
 
-  pub balanced-bounds : (start end : ℕ) → end ≤ length text
-      → (balancedIn text ns ps start end .start ≤ start) × (end ≤ balancedIn text ns ps start end .end) × (balancedIn text ns ps start end .end ≤ length text)
+  pub balanced-bounds : (start from : ℕ) → from ≤ length text
+      → (balancedIn text ns ps start from .start ≤ start) × (from ≤ balancedIn text ns ps start from .end) × (balancedIn text ns ps start from .end ≤ length text)
   unfolding balancedIn
-  balanced-bounds start end h = let e = end-bound (length text - end) end (omega arith) in (start-bound start, e .0, e .1)
+  balanced-bounds start from h = let e = end-bound (length text - from) from (omega arith) in (start-bound start, e .0, e .1)
 
 -- ---- of a book
 
@@ -61,18 +61,3 @@ module _ (b : LexOutput) where
   unfolding regionStartIn regionStart
   start-book zero = refl
   start-book (suc o) = rw (safe-book b (suc o), start-book o) refl
-
-  pub end-book : (n o : ℕ) → regionEndIn (b .sanitized) (b .sourceNodes) (b .pairs) n o ≡ regionEnd b n o
-  unfolding regionEndIn regionEnd
-  end-book zero o = refl
-  end-book (suc n) o = rw (safe-book b (o + 1), end-book n (o + 1)) refl
-
-  pub balanced-book : (e : Edit) → balancedIn (b .sanitized) (b .sourceNodes) (b .pairs) (e .start) (e .end) ≡ balancedRegion b e
-  unfolding balancedIn balancedRegion
-  balanced-book e =
-      rw (start-book (e .start), end-book (length (b .sanitized) - e .end) (e .end)) refl
-
--- the region of a book whose three lists the code has
-pub region-of-book : (b : LexOutput) (e : Edit) {text : List ℕ} {ns : List SourceNode} {ps : List PairLink} {s : Span} → text ≡ b .sanitized → ns ≡ b .sourceNodes → ps ≡ b .pairs
-    → s ≡ balancedIn text ns ps (e .start) (e .end) → s ≡ balancedRegion b e
-region-of-book b e {text} {ns} {ps} {s} q₁ q₂ q₃ h = h ∙ rw (q₁, q₂, q₃) (balanced-book b e)

@@ -1,4 +1,5 @@
 pub mod Ends
+pub mod Survives
 pub mod EndSearch
 pub mod Unmatched
 pub mod StartSearch

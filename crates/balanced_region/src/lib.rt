@@ -1,9 +1,10 @@
 // The two ends of a region, document 01 section 6, over the text, the nodes and the pairs of a book's tape. They are not found by
 // asking `safe_cut` of each newline: an offset that the nodes allow lies in a gap between two of them behind which both depths are 0,
 // so one walk over the nodes meets all of them. What the pairs say of an offset that text and nodes allow is read from a window of
-// offsets in lent words, which one walk over the pairs fills (crate `cuts`). The end is found by one walk over the nodes. For the start
-// one walk counts the depths and one goes back from gap to gap; depths can be counted backwards only as far as the last close without
-// an open. If there is no cut behind it, one more walk, forwards, finds the last before it.
+// offsets in lent words, which one walk over the pairs fills (crate `cuts`). The end is found by one walk over the nodes, which begins
+// at the edit's end, or one byte on where the first cut would lose its blank line (wish 1). For the start one walk counts the depths and
+// one goes back from gap to gap; depths can be counted backwards only as far as the last close without an open. If there is no cut
+// behind it, one more walk, forwards, finds the last before it.
 ghost use mathlib.Core.Path.{_≡_};
 ghost use Prim.Native.Nat.{_+_, _-_, _*_, _≤_, _<_, max, min};
 ghost use lib.ListN.{length};
@@ -11,6 +12,7 @@ ghost use Rattle.model.specs.Tape.{recordAt, nodeCodec};
 ghost use Rattle.model.specs.Region.{isBlockOpen, isBlockClose, isWarichuOpen, isWarichuClose, depthBehind};
 ghost use Rattle.bounds.specs.Search.{InOrder};
 ghost use Rattle.balanced_region.specs.Ends.{regionEndIn, regionStartIn, regionOf, balancedIn};
+ghost use Rattle.balanced_region.specs.Survives.{newlineKept, searchFrom};
 ghost use Rattle.cuts.specs.Offsets.{firstIn, lastFrom};
 ghost use Rattle.cuts.specs.Pairs.{pairsOf};
 ghost use Rattle.cuts.specs.Window.{Window};
@@ -489,6 +491,37 @@ pub struct Region {
     pub end: usize,
 }
 
+// Wish 1. Is the last byte before the edit's end a newline in the new text? It is the replacement's, or else the last one before the
+// edit.
+fn newline_kept(text: &[u8], start: usize, replacement: &[u8]) -> bool
+    requires { ⌜ start ≤ length (now text) ⌝ }
+    ensures { λ r. ⌜ r ≡ newlineKept (now (text .entry)) start (now (replacement .entry)) ⌝ }
+{
+    let n = replacement.len();
+    if 0 < n {
+        return replacement[n - 1] == 10;
+    }
+    if start < 1 {
+        return false;
+    }
+    text[start - 1] == 10
+}
+
+// Wish 1. Where the search for the end begins. Only the cut one byte behind the edit's end can lose its blank line in the new text;
+// then it is passed over.
+fn search_from(text: &[u8], start: usize, end: usize, replacement: &[u8]) -> usize
+    requires { ⌜ (start ≤ length (now text)) × (end ≤ length (now text)) ⌝ }
+    ensures { λ r. ⌜ r ≡ searchFrom (now (text .entry)) start end (now (replacement .entry)) ⌝ }
+{
+    if end == text.len() {
+        return end;
+    }
+    if newline_kept(text, start, replacement) {
+        return end;
+    }
+    end + 1
+}
+
 // The region, with these words for the windows.
 fn region_in(
     tape: &[u8],
@@ -497,17 +530,19 @@ fn region_in(
     pairs: places::Run,
     start: usize,
     end: usize,
+    replacement: &[u8],
     words: &mut [u32],
 ) -> Region
     requires { ⌜ (nodes .at + 49 * nodes .count ≤ length (now tape)) × (pairs .at + 18 * pairs .count ≤ length (now tape)) ⌝ }
     requires { ⌜ (start ≤ length (now text)) × (end ≤ length (now text)) ⌝ }
     requires { ⌜ NodesIn (length (now text)) (nodesOf (now tape) nodes) ⌝ }
-    ensures { λ r. ⌜ regionOf r ≡ balancedIn (now (text .entry)) (nodesOf (now (tape .entry)) nodes) (pairsOf (now (tape .entry)) pairs) start end ⌝ }
+    ensures { λ r. ⌜ regionOf r ≡ balancedIn (now (text .entry)) (nodesOf (now (tape .entry)) nodes) (pairsOf (now (tape .entry)) pairs) start (searchFrom (now (text .entry)) start end (now (replacement .entry))) ⌝ }
 {
+    let behind = search_from(text, start, end, replacement);
     cuts::no_window(words);
     let from = region_start(tape, text, nodes, pairs, start, words);
     cuts::no_window(words);
-    let to = region_end(tape, text, nodes, pairs, end, words);
+    let to = region_end(tape, text, nodes, pairs, behind, words);
     Region {
         start: from,
         end: to,
@@ -525,16 +560,17 @@ pub fn balanced_region(
     pairs: places::Run,
     start: usize,
     end: usize,
+    replacement: &[u8],
     words: &mut [u32],
 ) -> Region
     requires { ⌜ (nodes .at + 49 * nodes .count ≤ length (now tape)) × (pairs .at + 18 * pairs .count ≤ length (now tape)) ⌝ }
     requires { ⌜ (start ≤ length (now text)) × (end ≤ length (now text)) ⌝ }
     requires { ⌜ NodesIn (length (now text)) (nodesOf (now tape) nodes) ⌝ }
-    ensures { λ r. ⌜ regionOf r ≡ balancedIn (now (text .entry)) (nodesOf (now (tape .entry)) nodes) (pairsOf (now (tape .entry)) pairs) start end ⌝ }
+    ensures { λ r. ⌜ regionOf r ≡ balancedIn (now (text .entry)) (nodesOf (now (tape .entry)) nodes) (pairsOf (now (tape .entry)) pairs) start (searchFrom (now (text .entry)) start end (now (replacement .entry))) ⌝ }
 {
     if words.len() < WINDOW_WORDS {
         let mut own = [0u32; WINDOW_WORDS];
-        return region_in(tape, text, nodes, pairs, start, end, &mut own);
+        return region_in(tape, text, nodes, pairs, start, end, replacement, &mut own);
     }
-    region_in(tape, text, nodes, pairs, start, end, words)
+    region_in(tape, text, nodes, pairs, start, end, replacement, words)
 }

@@ -6,8 +6,7 @@ use native.Mathlib.Omega.{arith}
 use mathlib.Core.Bool.{Bool, true, false, not, _&&_}
 use mathlib.Core.Option.{some}
 use mathlib.Core.List.{List, _++_, map}
-use lib.ListN.{length, getD, take, drop, List·getD-append}
-use lib.Seq.{length-take-le, getD-take, getD-drop}
+use lib.ListN.{length, getD}
 use lib.IntN.{pos}
 use lib.Dec.{ltb, eqb}
 use borrow.Author.Tests.{leb-true, ltb-true, ltb-false, not-true, le-ltb, lt-ltb}
@@ -22,7 +21,7 @@ use Rattle.laws.specs.Lists.{both}
 use Rattle.laws.specs.Keep.{keep-append, keep-all, all-kept, any-all, same-le}
 use Rattle.laws.specs.Checks.{mergedOf}
 use Rattle.laws.specs.Shift.{shift-up, shift-by, offset-by, shift-answers}
-use Rattle.laws.specs.Splice.{splice, splice-length, drop-splice-rest}
+use Rattle.laws.specs.Splice.{splice-length, byte-front, byte-rest}
 use Rattle.laws.specs.Located.{startOf, endOf, Carried, keep-front, keep-rest, across-front, across-rest}
 use Rattle.laws.specs.Nodes.{Sound, span-facts, pair-facts, container-facts, endsBy, startsAt, nodeIn, acrossNode, SafeCut, before-split, split, normal-rises, depth-append, depth-map}
 use Rattle.commute.specs.Cut.{SameBefore, SameBehind}
@@ -166,9 +165,7 @@ module _ {old : LexOutput} {e : Edit} {reading : RegionOutput} {r : Span} (f : F
 
   text-before : (i : ℕ) → i < r .start → getD (edited (old .sanitized) e) i 0 ≡ getD (old .sanitized) i 0
   unfolding edited
-  text-before i h =
-      let l = length-take-le (e .start) (old .sanitized) (omega arith) in
-      List·getD-append (take (e .start) (old .sanitized)) (e .replacement ++ drop (e .end) (old .sanitized)) 0 i (omega arith) ∙ getD-take (e .start) (old .sanitized) i 0 (omega arith)
+  text-before i h = byte-front (e .start) (e .end) (e .replacement) (old .sanitized) (f .rising) (omega arith) i (omega arith)
 
   -- the grafted nodes lie as the reading's
   pub newNodes : GraftedNodes old reading
@@ -213,11 +210,9 @@ module _ {old : LexOutput} {e : Edit} {reading : RegionOutput} {r : Span} (f : F
   unfolding edited
   text-behind i i′ h g =
       let a = f .rising in
-      let n : i′ ≡ e .start + length (e .replacement) + (i - e .end) + 0 = omega arith in
-      let m : e .end + (i - e .end) + 0 ≡ i = omega arith in
-      rw n (sym (getD-drop (e .start + length (e .replacement) + (i - e .end)) (splice (e .start) (e .end) (e .replacement) (old .sanitized)) 0 0)
-      ∙ ap (λ (l : List ℕ). getD l 0 0) (drop-splice-rest (e .start) (e .end) (e .replacement) (old .sanitized) a (omega arith) (i - e .end))
-      ∙ getD-drop (e .end + (i - e .end)) (old .sanitized) 0 0 ∙ ap (λ (k : ℕ). getD (old .sanitized) k 0) m)
+      let n : i′ ≡ e .start + length (e .replacement) + (i - e .end) = omega arith in
+      let m : e .end + (i - e .end) ≡ i = omega arith in
+      rw n (byte-rest (e .start) (e .end) (e .replacement) (old .sanitized) a (omega arith) (i - e .end) ∙ ap (λ (k : ℕ). getD (old .sanitized) k 0) m)
 
   pairs-behind : (k : ℕ) → pairsAllowCut (mergedOf old e reading r .pairs) (end′ + suc k) ≡ pairsAllowCut (old .pairs) (r .end + suc k)
   unfolding pairsAllowCut mergedBook pairLocated windowOf

@@ -11,7 +11,7 @@ use Rattle.model.specs.Offset.{Span}
 use Rattle.model.specs.Types.{LexOutput, RegionOutput}
 use Rattle.model.specs.Region.{Edit, behindEdit, newlineAt, safeCut, regionStart, regionEnd, balancedRegion}
 use Rattle.model.specs.Demand3.{movedBehind, regionBehind}
-use Rattle.commute.specs.Cut.{SameBefore, SameBehind, Starts, starts, Ends, ends, start-before, end-behind, length-safe}
+use Rattle.commute.specs.Cut.{SameBefore, SameBehind, SameEdit, Starts, starts, Ends, ends, start-before, end-behind, length-safe}
 
 -- number 12, as lengths: the reading is as long as the region, moved by the change in length
 abbrev pub Twelve : Edit → RegionOutput → Span → Type 0
@@ -23,7 +23,7 @@ pub record Bounds (b : LexOutput) (e : Edit) (r : Span) : Type 0 where
 
 pub bounds : (b : LexOutput) (e : Edit) → e .end ≤ length (b .sanitized) → Bounds b e (balancedRegion b e)
 unfolding balancedRegion
-bounds b e h = record { starts = starts b (e .start); ends = ends b (length (b .sanitized) - e .end) (e .end) (omega arith) }
+bounds b e h = record { starts = starts b (e .start); ends = ends b e (length (b .sanitized) - e .end) (e .end) (omega arith) }
 
 -- ---- the earlier edit, merged second
 
@@ -44,7 +44,7 @@ start-zero b b′ = refl
 
 module _ {b b′ : LexOutput} {l : ℕ} (same : SameBefore l b b′) (e : Edit) (reading : RegionOutput)
     (rising : e .start ≤ e .end) (inside : e .end ≤ length (b .sanitized)) (inside′ : e .end ≤ length (b′ .sanitized)) (far : l ≤ length (b′ .sanitized))
-    (apart : regionEnd b (length (b .sanitized) - e .end) (e .end) ≤ l)
+    (apart : regionEnd b e (length (b .sanitized) - e .end) (e .end) ≤ l)
     (grown : e .end ≡ length (b .sanitized) → length (b .sanitized) < length (b′ .sanitized))
     (twelve : Twelve e reading (balancedRegion b e)) (twelve′ : Twelve e reading (balancedRegion b′ e)) where
   start-again : regionStart b′ (e .start) ≡ regionStart b (e .start)
@@ -96,7 +96,7 @@ module _ {b b′ : LexOutput} {l : ℕ} (same : SameBefore l b b′) (e : Edit) 
   unfolding balancedRegion
   region-again =
       let s = start-again in
-      let m : regionEnd b′ (length (b′ .sanitized) - e .end) (e .end) ≡ regionEnd b (length (b .sanitized) - e .end) (e .end) = omega arith in
+      let m : regionEnd b′ e (length (b′ .sanitized) - e .end) (e .end) ≡ regionEnd b e (length (b .sanitized) - e .end) (e .end) = omega arith in
       λ i. record { start = s i; end = m i }
 
 -- ---- the later edit, merged second
@@ -114,17 +114,27 @@ module _ {b b′ : LexOutput} (first e : Edit) (r : Span) (same : SameBehind (r 
   moves : (o : ℕ) → first .end ≤ o → behindEdit first o + first .end ≡ o + (length (first .replacement) + first .start)
   moves o h = behind-is first o first-rising h
 
-  -- k bytes from the cut to the edit's end, n from there to the text's
-  end-moved : (k n n′ : ℕ) → r .end + k ≡ e .end → e .end + n ≡ length (b .sanitized) → n′ ≡ n
-      → (regionEnd b′ n′ (behindEdit first (e .end)) ≡ behindEdit first (regionEnd b n (e .end))) × (e .end ≤ regionEnd b n (e .end))
-  end-moved k n n′ p q t =
-      let x = end-behind same n k (omega arith) in
-      let u = ends b n (e .end) q .behind in
+  -- the edit lies behind the first one's cut, and so does the moved one
+  moved-edit : SameEdit (r .end) (behindEdit first (r .end)) e (movedBehind first e)
+  unfolding movedBehind
+  moved-edit =
+      let a = starts b (e .start) .before in
       let m₁ = moves (r .end) first-inside in
       let m₂ = moves (e .end) (omega arith) in
-      let m₃ = moves (regionEnd b n (e .end)) (omega arith) in
+      let m₃ = moves (e .start) (omega arith) in
+      record { behind = omega arith; rising = rising; start = omega arith; end = omega arith; replacement = refl }
+
+  -- k bytes from the cut to the edit's end, n from there to the text's
+  end-moved : (k n n′ : ℕ) → r .end + k ≡ e .end → e .end + n ≡ length (b .sanitized) → n′ ≡ n
+      → (regionEnd b′ (movedBehind first e) n′ (behindEdit first (e .end)) ≡ behindEdit first (regionEnd b e n (e .end))) × (e .end ≤ regionEnd b e n (e .end))
+  end-moved k n n′ p q t =
+      let x = end-behind same moved-edit inside n k (omega arith) (omega arith) in
+      let u = ends b e n (e .end) q .behind in
+      let m₁ = moves (r .end) first-inside in
+      let m₂ = moves (e .end) (omega arith) in
+      let m₃ = moves (regionEnd b e n (e .end)) (omega arith) in
       let e₂ : behindEdit first (r .end) + k ≡ behindEdit first (e .end) = omega arith in
-      let y : regionEnd b′ n (behindEdit first (e .end)) + r .end ≡ regionEnd b n (e .end) + behindEdit first (r .end) = rw (p, e₂) at x in
+      let y : regionEnd b′ (movedBehind first e) n (behindEdit first (e .end)) + r .end ≡ regionEnd b e n (e .end) + behindEdit first (r .end) = rw (p, e₂) at x in
       (rw t (omega arith), u)
 
   pub region-moved : balancedRegion b′ (movedBehind first e) ≡ regionBehind first (balancedRegion b e)
@@ -137,6 +147,6 @@ module _ {b b′ : LexOutput} (first e : Edit) (r : Span) (same : SameBehind (r 
       let m₃ = moves (e .start) (omega arith) in
       let m = end-moved (e .end - r .end) n (length (b′ .sanitized) - behindEdit first (e .end)) (omega arith) (omega arith) (omega arith) in
       let m₄ = moves (regionStart b (e .start)) (omega arith) in
-      let m₅ = moves (regionEnd b n (e .end)) (omega (arith, m .1)) in
+      let m₅ = moves (regionEnd b e n (e .end)) (omega (arith, m .1)) in
       let t : regionStart b′ (behindEdit first (e .start)) ≡ behindEdit first (regionStart b (e .start)) = omega (arith, m .0) in
       λ i. record { start = t i; end = m .0 i }

@@ -1,11 +1,11 @@
 -- Two parts of a text replaced, in both orders.
 use mathlib.Core.Path.{_≡_, sym, ap, ap₂, _∙_}
-use Prim.Native.Nat.{ℕ, zero, suc, _+_, _-_, _≤_}
+use Prim.Native.Nat.{ℕ, zero, suc, _+_, _-_, _≤_, _<_}
 use native.Mathlib.Nat.{zero-add, suc-add}
 use native.Mathlib.Omega.{arith}
 use mathlib.Core.List.{List, [], _∷_, _++_, append-assoc}
-use lib.ListN.{length, take, drop, length-append, length-drop}
-use lib.Seq.{take-nil, length-take-le, take-append-le, drop-append-le, take-append-add, drop-append-add, take-take, drop-drop}
+use lib.ListN.{length, getD, take, drop, length-append, length-drop, List·getD-append}
+use lib.Seq.{take-nil, length-take-le, take-append-le, drop-append-le, take-append-add, drop-append-add, take-take, drop-drop, getD-take, getD-drop, getD-append-add}
 
 -- the part from a to b replaced
 abbrev pub splice : ℕ → ℕ → List ℕ → List ℕ → List ℕ
@@ -46,6 +46,24 @@ module _ (a b : ℕ) (r t : List ℕ) (h₁ : a ≤ b) (h₂ : b ≤ length t) w
       ap₂ (λ (n : ℕ) (l : List ℕ). take n l) (ap (λ (n : ℕ). n + k) (sym long)) (sym (append-assoc (take a t) r (drop b t)))
       ∙ take-append-add (take a t ++ r) (drop b t) k
       ∙ append-assoc (take a t) r (take k (drop b t))
+
+  -- a byte before the part, in it, behind it
+  pub byte-front : (i : ℕ) → i < a → getD (splice a b r t) i 0 ≡ getD t i 0
+  byte-front i h =
+      let e = length-take-le a t (omega arith) in
+      List·getD-append (take a t) (r ++ drop b t) 0 i (omega arith) ∙ getD-take a t i 0 h
+
+  pub byte-inner : (i : ℕ) → i < length r → getD (splice a b r t) (a + i) 0 ≡ getD r i 0
+  byte-inner i h =
+      let e = length-take-le a t (omega arith) in
+      ap (λ (k : ℕ). getD (splice a b r t) (k + i) 0) (sym e) ∙ getD-append-add (take a t) (r ++ drop b t) i 0 ∙ List·getD-append r (drop b t) 0 i h
+
+  pub byte-rest : (i : ℕ) → getD (splice a b r t) (a + length r + i) 0 ≡ getD t (b + i) 0
+  byte-rest i =
+      let e = length-take-le a t (omega arith) in
+      let k : a + length r + i ≡ length (take a t) + (length r + i) = omega arith in
+      ap (λ (n : ℕ). getD (splice a b r t) n 0) k ∙ getD-append-add (take a t) (r ++ drop b t) (length r + i) 0
+      ∙ getD-append-add r (drop b t) i 0 ∙ getD-drop b t i 0
 
 pub splice-comm : (a b c d : ℕ) (r s t : List ℕ) → a ≤ b → b ≤ c → c ≤ d → d ≤ length t
     → splice (c + length r - (b - a)) (d + length r - (b - a)) s (splice a b r t) ≡ splice a b r (splice c d s t)

@@ -120,19 +120,23 @@ regionStart b (suc o) =
     let earlier = regionStart b o in
     cond (newlineAt (b .sanitized) o && safeCut b (suc o)) (suc o) earlier
 
--- Section 6. End: the first safe offset after a newline at or behind an offset o, else the length. It is the newline that is
--- at or behind, so the end lies behind o. n bytes are left to look at.
-unfoldable pub regionEnd : LexOutput → ℕ → ℕ → ℕ
-regionEnd b zero o = length (b .sanitized)
-regionEnd b (suc n) o =
-    let later = regionEnd b n (o + 1) in
-    cond (newlineAt (b .sanitized) o && safeCut b (o + 1)) (o + 1) later
+-- Wish 1. An end cut other than the text's end shall also have two newline bytes before its moved place in the new text.
+unfoldable pub endCut : LexOutput → Edit → ℕ → Bool
+endCut b e o = safeCut b o && (eqb o (length (b .sanitized)) || blankLineBefore (edited (b .sanitized) e) (behindEdit e o))
+
+-- Section 6. End: the first end cut after a newline at or behind an offset o, else the length. It is the newline that is at or
+-- behind, so the end lies behind o. n bytes are left to look at.
+unfoldable pub regionEnd : LexOutput → Edit → ℕ → ℕ → ℕ
+regionEnd b e zero o = length (b .sanitized)
+regionEnd b e (suc n) o =
+    let later = regionEnd b e n (o + 1) in
+    cond (newlineAt (b .sanitized) o && endCut b e (o + 1)) (o + 1) later
 
 -- Section 6. `balanced_region`, in offsets of the old text.
 unfoldable pub balancedRegion : LexOutput → Edit → Span
 balancedRegion b e = record {
   start = regionStart b (e .start);
-  end = regionEnd b (length (b .sanitized) - e .end) (e .end);
+  end = regionEnd b e (length (b .sanitized) - e .end) (e .end);
 }
 
 -- Number 11. The region would be the whole text.

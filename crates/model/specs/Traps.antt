@@ -172,8 +172,13 @@ pub level-of-a-text-segment : (number (textSegment 0) ≡ 0) × (number (textSeg
 unfolding computed
 level-of-a-text-segment = (refl, refl)
 
--- The end cut lies behind the edit's end: it is the newline that is at or behind it.
-pub end-behind-the-edit : (regionIn (ascii "aa\n\nbb\n\ncc") (edit 4 4) ≡ region 4 8) × (regionIn (ascii "aa\n\nbb\n\ncc") (edit 10 10) ≡ region 8 10)
+-- the region of an edit of plain text, with its replacement
+abbrev regionOver : List ℕ → ℕ → ℕ → List ℕ → Checked Span
+regionOver text start end replacement = regionIn text (record { start = start; end = end; replacement = replacement })
+
+-- The end cut lies behind the edit's end: it is the newline that is at or behind it. The first replacement ends in a blank line, so
+-- that the edit's end itself would pass as an end cut.
+pub end-behind-the-edit : (regionOver (ascii "aa\n\nbb\n\ncc") 4 4 (ascii "x\n\n") ≡ region 4 8) × (regionIn (ascii "aa\n\nbb\n\ncc") (edit 10 10) ≡ region 8 10)
 unfolding computed
 end-behind-the-edit = (refl, refl)
 
@@ -235,6 +240,44 @@ closesFirst = record {
 pub depth-below-zero : chooseRegion (tapeOf closesFirst) (bytesOf closesFirst) (edit 3 4) ≡ region 3 4
 unfolding computed
 depth-below-zero = refl
+
+-- Wish 1. "x" over the first of two newlines leaves one before the moved cut. P7's text has no later cut, which is 11. P7 stays
+-- (Examples), since its newline leaves two.
+pub blank-line-lost : regionOver (ascii "aa\n\nbb") 2 3 (ascii "x") ≡ refused 11
+unfolding computed
+blank-line-lost = refl
+
+-- Wish 1. Where there is a later cut the search goes on to it: the first of two newlines overwritten or taken away, a letter put between
+-- the two, two of three newlines taken away, and one of three at the text's start, where only one byte is left before the first cut.
+pub later-cut-taken :
+    (regionOver (ascii "aa\n\nbb\n\ncc") 2 3 (ascii "x") ≡ region 0 8)
+    × (regionOver (ascii "aa\n\nbb\n\ncc") 2 3 [] ≡ region 0 8)
+    × (regionOver (ascii "aa\n\nbb\n\ncc") 3 3 (ascii "x") ≡ region 0 8)
+    × (regionOver (ascii "a\n\n\nbb\n\nc") 1 3 [] ≡ region 0 8)
+    × (regionOver (ascii "\n\n\nbb") 0 1 [] ≡ region 0 3)
+unfolding computed
+later-cut-taken = (refl, refl, refl, refl, refl)
+
+-- Wish 1. A replacement that ends in a newline leaves two before the moved cut; so does one newline of three taken away.
+pub blank-line-survives :
+    (regionOver (ascii "aa\n\nbb\n\ncc") 2 3 (ascii "x\n") ≡ region 0 4)
+    × (regionOver (ascii "aa\n\nbb\n\ncc") 1 3 (ascii "\n") ≡ region 0 4)
+    × (regionOver (ascii "a\n\n\nbb\n\nc") 2 3 [] ≡ region 0 4)
+unfolding computed
+blank-line-survives = (refl, refl, refl)
+
+-- Wish 1. The text's end needs no blank line, neither in the old text nor in the new one.
+pub text-end-stays :
+    (regionOver (ascii "aa\n\nbb\n\n") 6 7 (ascii "x") ≡ region 4 8) × (regionOver (ascii "aa\n\nbb\n") 5 6 (ascii "x") ≡ region 4 7)
+unfolding computed
+text-end-stays = (refl, refl)
+
+-- Wish 1. Passages that a correction joins are read as one: the region is 0..8, and the reading of 0..4 alone is refused with 12.
+pub joined-passages :
+    (numberOf (merge (storedBook (threeWith [] [] [])) (edit 2 3) (storedBook (plainBook (ascii "aax\n"))) programRoom) ≡ 12)
+    × (numberOf (merge (storedBook (threeWith [] [] [])) (edit 2 3) (storedBook (plainBook (ascii "aax\nbb\n\n"))) programRoom) ≡ 0)
+unfolding computed
+joined-passages = (refl, refl)
 
 -- 16384 work words are asked for also where nothing is grafted.
 pub work-words-always :

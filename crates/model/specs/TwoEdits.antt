@@ -178,14 +178,6 @@ numberSecond old e reading e′ reading′ = do
 abbrev over : ℕ → ℕ → List ℕ → Edit
 over start end replacement = record { start = start; end = end; replacement = replacement }
 
--- A blank line destroyed: "x" over the first of the two newlines that end region 0..4. The adjacent passage 4..8 has no safe cut
--- before it any more, and its reading is refused with 12. The other way round both are accepted.
-pub blank-line-destroyed :
-    (numberSecond (ascii "aa\n\nbb\n\ncc") (over 2 3 (ascii "x")) (ascii "aax\n") (over 4 5 (ascii "y")) (ascii "yb\n\n") ≡ accepted 12)
-    × (numberSecond (ascii "aa\n\nbb\n\ncc") (over 4 5 (ascii "y")) (ascii "yb\n\n") (over 2 3 (ascii "x")) (ascii "aax\n") ≡ accepted 0)
-unfolding computed
-blank-line-destroyed = (refl, refl)
-
 -- A text's end that was safe only as the end: region 4..7 ends there. Once "x" is put behind it, the region goes on to the new
 -- end, and the reading is refused with 12. The other way round both are accepted.
 pub end-only-safe-as-the-end :

@@ -17,7 +17,8 @@ use Rattle.places.specs.declared.Places.{Places}
 use Rattle.store.specs.declared.Store.{Store}
 use Rattle.edit.specs.Numbers.{editNumber, edit-inside}
 use Rattle.balanced_region.specs.declared.Region.{Region as Cuts}
-use Rattle.balanced_region.specs.Ends.{balancedIn, regionOf, balanced-bounds, region-of-book}
+use Rattle.balanced_region.specs.Ends.{balancedIn, regionOf, balanced-bounds}
+use Rattle.balanced_region.specs.Survives.{searchFrom, search-bounds, region-of-book}
 use Rattle.cuts.specs.Gaps.{NodesIn}
 use Rattle.region.specs.declared.Chosen.{Chosen}
 use Rattle.region.specs.declared.Chosen.the-variants.{Refused, Region}
@@ -58,14 +59,19 @@ module _ {t d : List ℕ} {p : Places} {st : Store} {words : List ℕ} (r : Read
       stage-nodes = subst (λ (k : ℕ). NodesIn k (recordsAt nodeCodec t (p .nodes .at) (p .nodes .count))) (sym text-length) (ready-order r)
 
       module _ (g : x ≡ false) {s : Cuts}
-          (e : regionOf s ≡ balancedIn (take (p .text - 0) d) (recordsAt nodeCodec t (p .nodes .at) (p .nodes .count)) (recordsAt pairCodec t (p .pairs .at) (p .pairs .count)) start end) where
+          (e : regionOf s ≡ balancedIn (take (p .text - 0) d) (recordsAt nodeCodec t (p .nodes .at) (p .nodes .count)) (recordsAt pairCodec t (p .pairs .at) (p .pairs .count))
+          start (searchFrom (take (p .text - 0) d) start end replacement)) where
         region-is : regionOf s ≡ balancedRegion (bookAt t (places t) d) (editOf start end replacement)
         unfolding editOf
-        region-is = region-of-book (bookAt t (places t) d) (editOf start end replacement) text-is (ready-nodes r) (ready-pairs r) e
+        region-is =
+            let i = inside in
+            let l : end ≤ length (bookAt t (places t) d .sanitized) = omega (arith, i .1, ap length text-is) in
+            region-of-book (bookAt t (places t) d) (editOf start end replacement) (i .0) l text-is (ready-nodes r) (ready-pairs r) e
 
         pub stage-fits : (s .start < 2 ^ 32) × (s .end < 2 ^ 32)
         stage-fits =
-            let b = balanced-bounds (take (p .text - 0) d) (recordsAt nodeCodec t (p .nodes .at) (p .nodes .count)) (recordsAt pairCodec t (p .pairs .at) (p .pairs .count)) start end (inside .1) in
+            let b = balanced-bounds (take (p .text - 0) d) (recordsAt nodeCodec t (p .nodes .at) (p .nodes .count)) (recordsAt pairCodec t (p .pairs .at) (p .pairs .count))
+            start (searchFrom (take (p .text - 0) d) start end replacement) (search-bounds (take (p .text - 0) d) start end replacement (inside .1) .1) in
             let u = ap (λ (y : Span). y .start) e in
             let v = ap (λ (y : Span). y .end) e in
             let w = stage-short in

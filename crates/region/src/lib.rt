@@ -97,6 +97,7 @@ pub fn chosen_region(
         p.pairs,
         start as usize,
         end as usize,
+        replacement,
         words,
     );
     if is_whole(p.text, r) {
