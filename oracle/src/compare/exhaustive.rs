@@ -1,5 +1,5 @@
 //! Every short text over "a", a newline and "あ", every edit; and every place for one or two records in a few texts. The Rust alone is the judge, but for
-//! an edit inside a character or one that ends before it starts (8).
+//! an edit inside a character or one that ends before it starts (8), and for one that takes away the blank line at the end of the Rust's region (doc01.rs).
 use crate::book::*;
 use crate::books::boundaries;
 use crate::run::Compare;
@@ -24,13 +24,13 @@ const NEW: [&str; 5] = ["", "a", "\n", "あ", "\n\n"];
 type Read = fn(&[u8]) -> Book;
 
 /// The merge of a reading, where there is a region.
-fn merge(compare: &mut Compare, class: &'static str, book: &tape::Book, c: &mut Case, region: [u32; 2], read: Read) {
+fn merge(compare: &mut Compare, class: &'static str, book: &tape::Book, c: &mut Case, (region, left): ([u32; 2], bool), read: Read) {
     let (start, end) = (c.start as usize, c.end as usize);
     let text = book.text().as_bytes();
     let new = [&text[..start], &c.replacement, &text[end..]].concat();
     let reading = read(&new[region[0] as usize..region[1] as usize + new.len() - text.len()]);
     (c.rtape, c.rbytes) = (reading.tape(), reading.bytes());
-    compare.merge(class, c, book, [c.tape.len() + c.rtape.len(), 2 * new.len() + c.bytes.len() + c.rbytes.len(), 16384]);
+    compare.merge(class, c, book, [c.tape.len() + c.rtape.len(), 2 * new.len() + c.bytes.len() + c.rbytes.len(), 16384], left);
 }
 
 /// Every edit of a book: regions, and merges if there are readings.

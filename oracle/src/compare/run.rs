@@ -7,6 +7,7 @@ use crate::books::Rng;
 use oracle::judge::{self, Answer as Said, Merged, judge};
 use oracle::tape::{Book, Reading};
 use std::collections::HashMap;
+use std::ops::Range;
 use std::panic::{AssertUnwindSafe, catch_unwind};
 use std::path::Path;
 
@@ -17,11 +18,14 @@ pub struct Tally {
     pub refused: [u64; 19],
     /// cases that were put to the Rust
     pub rust: u64,
+    /// cases that wish 1 of document 02 leaves to the list of differences: doc01.rs alone is the judge
+    pub left: u64,
     pub differences: u64,
 }
 
 pub enum Outcome {
-    Merged { answer: Box<Answer>, rust: Box<Merged> },
+    /// `book`: the result in the Rust's types
+    Merged { answer: Box<Answer>, book: Box<Book> },
     Refused(u32),
 }
 
@@ -31,7 +35,7 @@ pub struct Compare {
     classes: Vec<(&'static str, Tally)>,
     aims: HashMap<&'static str, u64>,
     pub differences: u64,
-    /// the two listed differences
+    /// two of the listed differences; the third is `left`
     keys_moved: u64,
     earlier_counts: u64,
     lookups: u64,
@@ -73,6 +77,22 @@ fn answer_of(m: &Merged) -> Answer {
     Answer { region: [m.region.start, m.region.end], reused: m.reused, reread: m.reread, counts: m.counts(), tape, bytes }
 }
 
+/// Whether the blank line before the end of this region, which is the Rust's, is gone in the new text. The Rust does not ask that.
+fn blank_line_lost(book: &Book, edit: &Range<usize>, replacement: &str, region: &Range<usize>) -> bool {
+    let (old, new) = (book.text(), judge::edited(book.text(), edit, replacement));
+    region.end != old.len() && !new[..region.end + new.len() - old.len()].ends_with("\n\n")
+}
+
+/// The Rust's answer; anything else than a merge or a number is a difference.
+fn rust_alone(book: &Book, c: &Case) -> Result<Result<Answer, u32>, Said> {
+    let reading = Reading::read(&c.rtape, &c.rbytes).expect("a generated reading");
+    match judge(book, c.start as usize..c.end as usize, std::str::from_utf8(&c.replacement).expect("generated text"), &reading) {
+        Said::Merged(m) => Ok(Ok(answer_of(&m))),
+        Said::None(n) => Ok(Err(n)),
+        other => Err(other),
+    }
+}
+
 /// What is lent to a case that does not say: what the answer needs and a little more, or any little for a refusal.
 fn room(answer: &Result<Answer, u32>, r: &mut Rng) -> Room {
     let more = *r.pick(&[0, 1, 7, 64, 300]);
@@ -92,6 +112,17 @@ impl Compare {
             self.classes.len() - 1
         });
         &mut self.classes[at].1
+    }
+    /// A case of the short texts, with its judge's number.
+    fn count(&mut self, class: &'static str, number: Option<u32>, left: bool) {
+        let t = self.tally(class);
+        t.cases += 1;
+        match number {
+            None => t.accepted += 1,
+            Some(n) => t.refused[n as usize] += 1,
+        }
+        t.left += u64::from(left);
+        t.rust += u64::from(!left && number != Some(8));
     }
     pub fn accepted(&mut self, class: &'static str) -> u64 {
         self.tally(class).accepted
@@ -179,9 +210,12 @@ impl Compare {
     fn rust(&mut self, class: &'static str, c: &Case, book: &Book, room: Room, said: Result<Answer, u32>) -> Outcome {
         let (edit, replacement) = (c.start as usize..c.end as usize, std::str::from_utf8(&c.replacement).expect("passed number 2"));
         let number = said.as_ref().err().copied().unwrap_or(0);
+        let theirs = catch_unwind(AssertUnwindSafe(|| judge::region(book, edit.clone(), replacement)));
+        if let Ok(Ok(region)) = &theirs && blank_line_lost(book, &edit, replacement, region) {
+            return self.leave(class, c, said, region);
+        }
         if (9..=11).contains(&number) {
             self.tally(class).rust += 1;
-            let theirs = catch_unwind(AssertUnwindSafe(|| judge::region(book, edit, replacement)));
             if !matches!(theirs, Ok(Err(n)) if n == number) {
                 self.differ(class, &format!("refused {number}, the Rust {theirs:?}"), Some(c));
             }
@@ -211,7 +245,7 @@ impl Compare {
                 if a != b {
                     self.differ(class, &format!("ours {} the Rust {}", short(&Ok(a.clone())), short(&Ok(b))), Some(c));
                 }
-                return Outcome::Merged { answer: Box::new(a), rust: m };
+                return Outcome::Merged { answer: Box::new(a), book: Box::new(m.book) };
             }
             (Err(n @ (13..=16)), Said::None(m)) if n == m => {
                 if let Some(sample) = &mut self.sample {
@@ -230,6 +264,20 @@ impl Compare {
             }
         }
         Outcome::Refused(number)
+    }
+
+    /// A case that is left to the list of differences: `said` was compared with ours, and has another region than the Rust.
+    fn leave(&mut self, class: &'static str, c: &Case, said: Result<Answer, u32>, region: &Range<usize>) -> Outcome {
+        self.tally(class).left += 1;
+        let answer = match said {
+            Ok(answer) => answer,
+            Err(n) => return Outcome::Refused(n),
+        };
+        if answer.region[1] as usize <= region.end {
+            self.differ(class, &format!("a cut without its blank line: ours {} the Rust {region:?}", short(&Ok(answer.clone()))), Some(c));
+        }
+        let book = Book::read(&answer.tape, &answer.bytes).expect("a merged book is a book");
+        Outcome::Merged { answer: Box::new(answer), book: Box::new(book) }
     }
 
     fn meet(&mut self, c: &Case, a: &Answer) -> Vec<&'static str> {
@@ -260,48 +308,35 @@ impl Compare {
         }
     }
 
-    /// The region alone, of ours and of the Rust.
-    pub fn region(&mut self, class: &'static str, c: &Case, book: &Book, words: usize) -> Option<[u32; 2]> {
+    /// The region alone, of ours and of the Rust, or of document 01 where the case is left to it.
+    /// The region and whether it was.
+    pub fn region(&mut self, class: &'static str, c: &Case, book: &Book, words: usize) -> Option<([u32; 2], bool)> {
         let ours = self.archive.region(&c.tape, &c.bytes, c.start, c.end, &c.replacement, words);
         self.regions += 1;
         let (edit, replacement) = (c.start as usize..c.end as usize, std::str::from_utf8(&c.replacement).expect("generated text"));
         let on_edges = book.text().is_char_boundary(edit.start) && book.text().is_char_boundary(edit.end);
-        let theirs = if edit.start > edit.end || !on_edges { Err(8) } else { judge::region(book, edit, replacement).map(|r| [r.start as u32, r.end as u32]) };
-        let t = self.tally(class);
-        t.cases += 1;
-        match theirs {
-            Ok(_) => t.accepted += 1,
-            Err(n) => t.refused[n as usize] += 1,
+        let theirs = if edit.start > edit.end || !on_edges { Err(8) } else { judge::region(book, edit.clone(), replacement) };
+        let left = theirs.as_ref().is_ok_and(|r| blank_line_lost(book, &edit, replacement, r));
+        let theirs = theirs.map(|r| [r.start as u32, r.end as u32]);
+        let said = if left { doc01::choose_region(&c.tape, &c.bytes, c.start, c.end, &c.replacement).map(|r| r.map(|n| n as u32)) } else { theirs };
+        self.count(class, said.err(), left);
+        if ours != said || left && said == theirs {
+            self.differ(class, &format!("region: ours {ours:?} document 01 {said:?} the Rust {theirs:?}"), Some(c));
         }
-        t.rust += u64::from(theirs != Err(8));
-        if ours != theirs {
-            self.differ(class, &format!("region: ours {ours:?} the Rust {theirs:?}"), Some(c));
-        }
-        ours.ok()
+        Some((ours.ok()?, left))
     }
 
-    /// A merge without document 01's check: ours and the Rust.
-    pub fn merge(&mut self, class: &'static str, c: &Case, book: &Book, room: Room) {
-        let reading = Reading::read(&c.rtape, &c.rbytes).expect("a generated reading");
-        let (edit, replacement) = (c.start as usize..c.end as usize, std::str::from_utf8(&c.replacement).expect("generated text"));
-        let theirs = match judge(book, edit, replacement, &reading) {
-            Said::Merged(m) => Ok(answer_of(&m)),
-            Said::None(n) => Err(n),
-            other => {
-                self.differ(class, &format!("the Rust {other:?}"), Some(c));
-                return;
-            }
+    /// A merge without document 01's check: ours and the Rust. `left`: ours and document 01.
+    pub fn merge(&mut self, class: &'static str, c: &Case, book: &Book, room: Room, left: bool) {
+        let said = if left { Ok(doc01::in_room(doc01::merge_in_any_room(c), room)) } else { rust_alone(book, c) };
+        let said = match said {
+            Ok(said) => said,
+            Err(other) => return self.differ(class, &format!("the Rust {other:?}"), Some(c)),
         };
-        let t = self.tally(class);
-        t.cases += 1;
-        t.rust += 1;
-        match &theirs {
-            Ok(_) => t.accepted += 1,
-            Err(n) => t.refused[*n as usize] += 1,
-        }
+        self.count(class, said.as_ref().err().copied(), left);
         match self.ours(c, room) {
             Err(what) => self.differ(class, &what, Some(c)),
-            Ok(ours) if ours != theirs => self.differ(class, &format!("ours {} the Rust {}", short(&ours), short(&theirs)), Some(c)),
+            Ok(ours) if ours != said => self.differ(class, &format!("ours {} the judge {}", short(&ours), short(&said)), Some(c)),
             Ok(_) => {}
         }
     }
@@ -336,20 +371,21 @@ impl Compare {
 
     pub fn table(&self, seed: u64, count: u64) {
         println!("seed {seed}, {count} books\n");
-        println!("| class | cases | accepted | put to the Rust | refused: number (times) | differences |\n|---|---|---|---|---|---|");
+        println!("| class | cases | accepted | put to the Rust | left to the list of differences | refused: number (times) | differences |\n|---|---|---|---|---|---|---|");
         let mut all = Tally::default();
         for (name, t) in &self.classes {
             row(name, t);
             all.cases += t.cases;
             all.accepted += t.accepted;
             all.rust += t.rust;
+            all.left += t.left;
             all.differences += t.differences;
             for (a, b) in all.refused.iter_mut().zip(t.refused) {
                 *a += b;
             }
         }
         row("together", &all);
-        println!("\nlisted differences: equal keys in another order {}, counts of an earlier merge {}", self.keys_moved, self.earlier_counts);
+        println!("\nlisted differences: equal keys in another order {}, counts of an earlier merge {}, blank line lost at the end cut {}", self.keys_moved, self.earlier_counts, all.left);
         println!("lookups: {}, regions alone: {}, regions of books by document 01: {}", self.lookups, self.regions, self.regions_of_books);
         let met: Vec<String> = MET.iter().zip(self.met).map(|(what, n)| format!("{what} {n}")).collect();
         println!("accepted merges with {}", met.join(", "));
@@ -360,7 +396,7 @@ impl Compare {
 
 fn row(name: &str, t: &Tally) {
     let numbers: Vec<String> = (1..19).filter(|n| t.refused[*n] > 0).map(|n| format!("{n} ({})", t.refused[n])).collect();
-    println!("| {name} | {} | {} | {} | {} | {} |", t.cases, t.accepted, t.rust, numbers.join(", "), t.differences);
+    println!("| {name} | {} | {} | {} | {} | {} | {} |", t.cases, t.accepted, t.rust, t.left, numbers.join(", "), t.differences);
 }
 
 /// Whether the Rust's result is one of those that document 01 refuses with 18.
