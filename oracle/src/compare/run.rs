@@ -20,6 +20,10 @@ pub struct Tally {
     pub rust: u64,
     /// cases that wish 1 of document 02 leaves to the list of differences: doc01.rs alone is the judge
     pub left: u64,
+    /// those of them that are accepted
+    pub left_accepted: u64,
+    /// of the region alone
+    pub regions: bool,
     pub differences: u64,
 }
 
@@ -39,7 +43,6 @@ pub struct Compare {
     keys_moved: u64,
     earlier_counts: u64,
     lookups: u64,
-    regions: u64,
     regions_of_books: u64,
     /// what accepted merges met
     met: [u64; MET.len()],
@@ -122,6 +125,7 @@ impl Compare {
             Some(n) => t.refused[n as usize] += 1,
         }
         t.left += u64::from(left);
+        t.left_accepted += u64::from(left && number.is_none());
         t.rust += u64::from(!left && number != Some(8));
     }
     pub fn accepted(&mut self, class: &'static str) -> u64 {
@@ -268,7 +272,9 @@ impl Compare {
 
     /// A case that is left to the list of differences: `said` was compared with ours, and has another region than the Rust.
     fn leave(&mut self, class: &'static str, c: &Case, said: Result<Answer, u32>, region: &Range<usize>) -> Outcome {
-        self.tally(class).left += 1;
+        let t = self.tally(class);
+        t.left += 1;
+        t.left_accepted += u64::from(said.is_ok());
         let answer = match said {
             Ok(answer) => answer,
             Err(n) => return Outcome::Refused(n),
@@ -312,7 +318,6 @@ impl Compare {
     /// The region and whether it was.
     pub fn region(&mut self, class: &'static str, c: &Case, book: &Book, words: usize) -> Option<([u32; 2], bool)> {
         let ours = self.archive.region(&c.tape, &c.bytes, c.start, c.end, &c.replacement, words);
-        self.regions += 1;
         let (edit, replacement) = (c.start as usize..c.end as usize, std::str::from_utf8(&c.replacement).expect("generated text"));
         let on_edges = book.text().is_char_boundary(edit.start) && book.text().is_char_boundary(edit.end);
         let theirs = if edit.start > edit.end || !on_edges { Err(8) } else { judge::region(book, edit.clone(), replacement) };
@@ -320,6 +325,7 @@ impl Compare {
         let theirs = theirs.map(|r| [r.start as u32, r.end as u32]);
         let said = if left { doc01::choose_region(&c.tape, &c.bytes, c.start, c.end, &c.replacement).map(|r| r.map(|n| n as u32)) } else { theirs };
         self.count(class, said.err(), left);
+        self.tally(class).regions = true;
         if ours != said || left && said == theirs {
             self.differ(class, &format!("region: ours {ours:?} document 01 {said:?} the Rust {theirs:?}"), Some(c));
         }
@@ -372,26 +378,38 @@ impl Compare {
     pub fn table(&self, seed: u64, count: u64) {
         println!("seed {seed}, {count} books\n");
         println!("| class | cases | accepted | put to the Rust | left to the list of differences | refused: number (times) | differences |\n|---|---|---|---|---|---|---|");
-        let mut all = Tally::default();
         for (name, t) in &self.classes {
             row(name, t);
-            all.cases += t.cases;
-            all.accepted += t.accepted;
-            all.rust += t.rust;
-            all.left += t.left;
-            all.differences += t.differences;
-            for (a, b) in all.refused.iter_mut().zip(t.refused) {
-                *a += b;
-            }
         }
+        let all = sum(self.classes.iter().map(|c| &c.1));
         row("together", &all);
+        for (what, regions) in [("merges", false), ("regions alone", true)] {
+            let t = sum(self.classes.iter().map(|c| &c.1).filter(|t| t.regions == regions));
+            println!("\n{what}: {}, put to the Rust {}, left {}; accepted {}, of them by the Rust {}", t.cases, t.rust, t.left, t.accepted, t.accepted - t.left_accepted);
+        }
         println!("\nlisted differences: equal keys in another order {}, counts of an earlier merge {}, blank line lost at the end cut {}", self.keys_moved, self.earlier_counts, all.left);
-        println!("lookups: {}, regions alone: {}, regions of books by document 01: {}", self.lookups, self.regions, self.regions_of_books);
+        println!("lookups: {}, regions of books by document 01: {}", self.lookups, self.regions_of_books);
         let met: Vec<String> = MET.iter().zip(self.met).map(|(what, n)| format!("{what} {n}")).collect();
         println!("accepted merges with {}", met.join(", "));
         let unmet: Vec<&str> = crate::damage::ALL.iter().map(|d| d.0).filter(|n| self.aims.get(n).is_none_or(|k| *k == 0)).collect();
         println!("damages that were never possible: {unmet:?}");
     }
+}
+
+fn sum<'a>(tallies: impl Iterator<Item = &'a Tally>) -> Tally {
+    let mut all = Tally::default();
+    for t in tallies {
+        all.cases += t.cases;
+        all.accepted += t.accepted;
+        all.rust += t.rust;
+        all.left += t.left;
+        all.left_accepted += t.left_accepted;
+        all.differences += t.differences;
+        for (a, b) in all.refused.iter_mut().zip(t.refused) {
+            *a += b;
+        }
+    }
+    all
 }
 
 fn row(name: &str, t: &Tally) {
