@@ -138,7 +138,7 @@ refused(12, 'blank line lost between two passages with nodes, the reading of the
 # ---- both orders of a pair, demand 3
 class Stored:
     """a result, as the next old book"""
-    def __init__(s, tape, data): s.tape, s.bytes = lambda: tape, lambda: data
+    def __init__(s, tape, data): s.tape, s.bytes, s.text = lambda: tape, lambda: data, check_book(tape, data).text
 def pair(label, old, first, last):
     by = len(first[2]) - (first[1] - first[0])
     ends = []
