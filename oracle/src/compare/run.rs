@@ -7,7 +7,6 @@ use crate::books::Rng;
 use oracle::judge::{self, Answer as Said, Merged, judge};
 use oracle::tape::{Book, Reading};
 use std::collections::HashMap;
-use std::ops::Range;
 use std::panic::{AssertUnwindSafe, catch_unwind};
 use std::path::Path;
 
@@ -80,10 +79,19 @@ fn answer_of(m: &Merged) -> Answer {
     Answer { region: [m.region.start, m.region.end], reused: m.reused, reread: m.reread, counts: m.counts(), tape, bytes }
 }
 
-/// Whether the blank line before the end of this region, which is the Rust's, is gone in the new text. The Rust does not ask that.
-fn blank_line_lost(book: &Book, edit: &Range<usize>, replacement: &str, region: &Range<usize>) -> bool {
-    let (old, new) = (book.text(), judge::edited(book.text(), edit, replacement));
-    region.end != old.len() && !new[..region.end + new.len() - old.len()].ends_with("\n\n")
+/// Document 02, wish 1: whether the two newlines before the end of the Rust's region are not both there in the new text. The Rust does not ask that. It can
+/// only be the cut one byte behind the edit's end.
+fn blank_line_lost(book: &Book, c: &Case) -> bool {
+    let (edit, replacement) = (c.start as usize..c.end as usize, std::str::from_utf8(&c.replacement).expect("passed number 2"));
+    let Ok(Ok(region)) = catch_unwind(AssertUnwindSafe(|| judge::region(book, edit.clone(), replacement))) else { return false };
+    let (old, new) = (book.text(), judge::edited(book.text(), &edit, replacement));
+    let cut = region.end;
+    cut == edit.end + 1 && cut < old.len() && old[..cut].ends_with("\n\n") && !new[..cut + new.len() - old.len()].ends_with("\n\n")
+}
+
+/// The same new text by a longer edit, which writes the newline behind the edit once more. No blank line is lost, so that the Rust's region is the wish's.
+fn longer(c: &Case, room: Option<Room>) -> Case {
+    Case { end: c.end + 1, replacement: [&c.replacement[..], b"\n"].concat(), room, ..c.clone() }
 }
 
 /// The Rust's answer; anything else than a merge or a number is a difference.
@@ -197,7 +205,7 @@ impl Compare {
             }
         };
         self.lookups(class, c, book, r);
-        self.rust(class, c, book, room, said)
+        if blank_line_lost(book, c) { self.leave(class, c, book, room, said) } else { self.rust(class, c, book, room, said) }
     }
 
     fn lookups(&mut self, class: &'static str, c: &Case, book: &Book, r: &mut Rng) {
@@ -214,12 +222,9 @@ impl Compare {
     fn rust(&mut self, class: &'static str, c: &Case, book: &Book, room: Room, said: Result<Answer, u32>) -> Outcome {
         let (edit, replacement) = (c.start as usize..c.end as usize, std::str::from_utf8(&c.replacement).expect("passed number 2"));
         let number = said.as_ref().err().copied().unwrap_or(0);
-        let theirs = catch_unwind(AssertUnwindSafe(|| judge::region(book, edit.clone(), replacement)));
-        if let Ok(Ok(region)) = &theirs && blank_line_lost(book, &edit, replacement, region) {
-            return self.leave(class, c, said, region);
-        }
         if (9..=11).contains(&number) {
             self.tally(class).rust += 1;
+            let theirs = catch_unwind(AssertUnwindSafe(|| judge::region(book, edit, replacement)));
             if !matches!(theirs, Ok(Err(n)) if n == number) {
                 self.differ(class, &format!("refused {number}, the Rust {theirs:?}"), Some(c));
             }
@@ -270,20 +275,18 @@ impl Compare {
         Outcome::Refused(number)
     }
 
-    /// A case that is left to the list of differences: `said` was compared with ours, and has another region than the Rust.
-    fn leave(&mut self, class: &'static str, c: &Case, said: Result<Answer, u32>, region: &Range<usize>) -> Outcome {
+    /// A case that is left to the list of differences: document 01 alone judges it. The longer edit is one more case, with the same answer.
+    fn leave(&mut self, class: &'static str, c: &Case, book: &Book, room: Room, said: Result<Answer, u32>) -> Outcome {
         let t = self.tally(class);
         t.left += 1;
         t.left_accepted += u64::from(said.is_ok());
-        let answer = match said {
-            Ok(answer) => answer,
-            Err(n) => return Outcome::Refused(n),
-        };
-        if answer.region[1] as usize <= region.end {
-            self.differ(class, &format!("a cut without its blank line: ours {} the Rust {region:?}", short(&Ok(answer.clone()))), Some(c));
+        let sample = self.sample.take();
+        let out = self.run("those left, by a longer edit", &longer(c, Some(room)), said.as_ref().err().copied(), Some(book), &mut Rng::new(0, 0));
+        self.sample = sample;
+        if let Ok(said) = &said && !matches!(&out, Outcome::Merged { answer, .. } if **answer == *said) {
+            self.differ(class, &format!("by a longer edit another answer than {}", short(&Ok(said.clone()))), Some(c));
         }
-        let book = Book::read(&answer.tape, &answer.bytes).expect("a merged book is a book");
-        Outcome::Merged { answer: Box::new(answer), book: Box::new(book) }
+        out
     }
 
     fn meet(&mut self, c: &Case, a: &Answer) -> Vec<&'static str> {
@@ -314,31 +317,39 @@ impl Compare {
         }
     }
 
-    /// The region alone, of ours and of the Rust, or of document 01 where the case is left to it.
+    /// The region alone, of ours and of the Rust; of ours and document 01, and the Rust by a longer edit, where the case is left to the list of differences.
     /// The region and whether it was.
     pub fn region(&mut self, class: &'static str, c: &Case, book: &Book, words: usize) -> Option<([u32; 2], bool)> {
         let ours = self.archive.region(&c.tape, &c.bytes, c.start, c.end, &c.replacement, words);
-        let (edit, replacement) = (c.start as usize..c.end as usize, std::str::from_utf8(&c.replacement).expect("generated text"));
+        let edit = c.start as usize..c.end as usize;
         let on_edges = book.text().is_char_boundary(edit.start) && book.text().is_char_boundary(edit.end);
-        let theirs = if edit.start > edit.end || !on_edges { Err(8) } else { judge::region(book, edit.clone(), replacement) };
-        let left = theirs.as_ref().is_ok_and(|r| blank_line_lost(book, &edit, replacement, r));
-        let theirs = theirs.map(|r| [r.start as u32, r.end as u32]);
-        let said = if left { doc01::choose_region(&c.tape, &c.bytes, c.start, c.end, &c.replacement).map(|r| r.map(|n| n as u32)) } else { theirs };
+        let theirs = |c: &Case| {
+            let replacement = std::str::from_utf8(&c.replacement).expect("generated text");
+            judge::region(book, c.start as usize..c.end as usize, replacement).map(|r| [r.start as u32, r.end as u32])
+        };
+        let left = edit.start <= edit.end && on_edges && blank_line_lost(book, c);
+        let said = match left {
+            true => doc01::choose_region(&c.tape, &c.bytes, c.start, c.end, &c.replacement).map(|r| r.map(|n| n as u32)),
+            false if edit.start > edit.end || !on_edges => Err(8),
+            false => theirs(c),
+        };
         self.count(class, said.err(), left);
         self.tally(class).regions = true;
-        if ours != said || left && said == theirs {
-            self.differ(class, &format!("region: ours {ours:?} document 01 {said:?} the Rust {theirs:?}"), Some(c));
+        if ours != said || left && said != theirs(&longer(c, None)) {
+            self.differ(class, &format!("region: ours {ours:?} the judge {said:?}"), Some(c));
         }
         Some((ours.ok()?, left))
     }
 
-    /// A merge without document 01's check: ours and the Rust. `left`: ours and document 01.
+    /// A merge without document 01's check: ours and the Rust. `left`: ours and document 01, and the Rust by a longer edit.
     pub fn merge(&mut self, class: &'static str, c: &Case, book: &Book, room: Room, left: bool) {
-        let said = if left { Ok(doc01::in_room(doc01::merge_in_any_room(c), room)) } else { rust_alone(book, c) };
-        let said = match said {
+        let said = match if left { rust_alone(book, &longer(c, None)) } else { rust_alone(book, c) } {
             Ok(said) => said,
             Err(other) => return self.differ(class, &format!("the Rust {other:?}"), Some(c)),
         };
+        if left && said != doc01::in_room(doc01::merge_in_any_room(c), room) {
+            self.differ(class, &format!("by a longer edit another answer: {}", short(&said)), Some(c));
+        }
         self.count(class, said.as_ref().err().copied(), left);
         match self.ours(c, room) {
             Err(what) => self.differ(class, &what, Some(c)),
