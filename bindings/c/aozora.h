@@ -117,7 +117,8 @@ aozora_range aozora_lookup_segments(const uint8_t *tape, size_t tape_len, const 
 aozora_copy aozora_copy_book(const uint8_t *tape, size_t tape_len, const uint8_t *bytes, size_t bytes_len,
                              uint8_t *out_tape, size_t out_tape_len, uint8_t *out_bytes, size_t out_bytes_len);
 
-/* A number 1 to 11, or the region. The words may be any number, also none; more make it faster. They come back as zeros. */
+/* A number 1 to 11, or the region, which ends behind a blank line that is still there in the new text, or at the text's end. The words may be any
+   number, also none; more make it faster. They come back as zeros. */
 aozora_region aozora_choose_region(const uint8_t *tape, size_t tape_len, const uint8_t *bytes, size_t bytes_len, uint32_t start, uint32_t end,
                                    const uint8_t *replacement, size_t replacement_len, uint32_t *words, size_t words_len);
 

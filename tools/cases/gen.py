@@ -279,6 +279,12 @@ class Gen:
         reading = g.reading(text)
         return old, a, e, repl, reading
 
+def blank_line_lost(rust, old, a, e, repl):
+    """whether the blank line before the end of the Rust's region is gone in the new text: document 02, wish 1, leaves such edits to the list of differences"""
+    r = rust.ask('R', case_input(old.tape(), old.bytes(), a, e, repl, b'', b''))
+    cut = int(r.split()[2]) if r.startswith('region') else len(old.text)
+    return cut != len(old.text) and not (old.text[:a] + repl + old.text[e:cut]).endswith(b'\n\n')
+
 def finish(rust, name, old, a, e, repl, reading, want=None):
     """want: a number that document 01 says; else the Rust's answer"""
     ot, ob, rt, rb = old.tape(), old.bytes(), reading.tape(), reading.bytes()
@@ -292,11 +298,14 @@ if __name__ == '__main__':
     quota = {'none 11': max(2, count // 12), 'none 10': max(2, count // 12), 'none 9': max(1, count // 20), 'none 13': max(1, count // 10), 'none 14': count // 10, 'none 15': count // 10, 'none 16': count // 10, 'region': count, 'region, nothing reread': count // 10, 'region, few calls': count // 6}
     if mode in ('deep', 'collide'): quota = {k: 0 for k in quota} | {'region': count}
     if mode == 'dep': quota |= {'none 11': 0, 'none 9': 0, 'none 16': 0, 'none 14': 0, 'none 13': 0, 'none 10': count // 3, 'none 15': count // 3, 'region, nothing reread': 0}
-    i = 0
+    i = left = 0
     while len(cases) < count:
         i += 1
-        g = Gen(seed * 1000003 + i, rust, mode)
-        c = finish(rust, f's{seed}{mode}n{i}', *g.case())
+        case = Gen(seed * 1000003 + i, rust, mode).case()
+        if blank_line_lost(rust, *case[:4]):
+            left += 1
+            continue
+        c = finish(rust, f's{seed}{mode}n{i}', *case)
         w = c['rust'].split()
         k = ' '.join(w[:2]) if w[0] == 'none' else w[0]
         if k == 'region': k = 'region, nothing reread' if w[6] == '0' or mode == 'deep' and len(w[16]) < 700 or mode == 'collide' and w[14] == w[11] else 'region, few calls' if int(w[8]) < 3 else 'region'
@@ -304,4 +313,4 @@ if __name__ == '__main__':
         tally[k] = tally.get(k, 0) + 1
         cases.append(c)
     json.dump(cases, open(out, 'w'))
-    print(len(cases), 'cases of', i, 'tried;', tally)
+    print(len(cases), 'cases of', i, 'tried,', left, 'left to the list of differences;', tally)

@@ -1,4 +1,4 @@
-"""Sections 6 and 7 of document 01 and its numbers 8 to 18: the merge of a reading into a book, tape to tape."""
+"""Sections 6 and 7 of document 01 and its numbers 8 to 18, with wish 1 of document 02: the merge of a reading into a book, tape to tape."""
 from gen import NONE, Book, Node
 from book import Refused, check_book, check_reading, drift, is_utf8, must, pool, within_limits
 from graft import COUNTS, Over, fields, graft
@@ -23,9 +23,12 @@ def safe_cut(b, at):
     return b.text[:at].endswith(b'\n\n') and all(n.end <= at for n in before) and depths(before, True)[0] == [0, 0] \
         and not any(open < at < end for _, open, _, _, end in b.pairs)
 
-def region(b, start, end):
+def region(b, start, end, new):
+    """document 02, wish 1: an end cut other than the text's end also has two newlines before its moved place in the new text"""
+    by, length = len(new) - len(b.text), len(b.text)
+    def survives(c): return c == length or c + by >= 2 and new[c + by - 2:c + by] == b'\n\n'
     cuts = [i + 1 for i, c in enumerate(b.text) if c == 10 and safe_cut(b, i + 1)]
-    return max([c for c in cuts if c <= start], default=0), min([c for c in cuts if c > end], default=len(b.text))
+    return max([c for c in cuts if c <= start], default=0), min([c for c in cuts if c > end and survives(c)], default=length)
 
 def as_plain(b, start, length):
     """`content_range_as_plain`: the string of a range of exactly one Plain content"""
@@ -53,7 +56,7 @@ def choose(old, start, end, replacement):
     must(3, len(new) <= 16777215)
     must(9, new != old.text)
     must(10, not has_ruby_format_dependency(old, start))
-    chosen = region(old, start, end)
+    chosen = region(old, start, end, new)
     must(11, chosen != (0, len(old.text)))
     return chosen, new
 

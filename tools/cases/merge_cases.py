@@ -118,21 +118,40 @@ case('diagnostics with equal keys, and out of order',
 case('more than 32 diagnostics with equal keys', but(plain(abc), diags=diagnostics(*[(0, i * i % 3 % 2, 0, 1) for i in range(40)])), 4, 5, b'x', plain('xb\n\n'))
 case('characters of three bytes', plain('漢字\n\nあ\n\n字'), 8, 11, '漢'.encode(), book('漢\n\n', ['漢', 'かん'], [P(0), P(1)], [], [inline(0, 3, 1, 0, [0, 1, 1, 1])]))
 
-# ---- both orders of one pair, demand 3: the first passage longer by two, the third shorter by one
+# ---- document 02, wish 1: an end cut without its blank line in the new text is passed over
+refused(11, 'blank line lost, no later cut', plain('aa\n\nbb'), 2, 3, b'x', plain('aax\n'))
+case('blank line lost, a later cut', plain(abc), 2, 3, b'x', plain('aax\nbb\n\n'))
+refused(12, 'blank line lost, the reading of the shorter passage', plain(abc), 2, 3, b'x', plain('aax\n'))
+case('blank line lost, the first newline taken away', plain(abc), 2, 3, b'', plain('aa\nbb\n\n'))
+case('blank line lost, a letter between the newlines', plain(abc), 3, 3, b'x', plain('aa\nx\nbb\n\n'))
+case('the replacement ends in a newline', plain(abc), 2, 3, b'x\n', plain('aax\n\n'))
+case('one byte before the moved cut', plain('\n\nb\n\nc'), 0, 1, b'', plain('\nb\n\n'))
+case("the text's end, its blank line lost", plain('aa\n\nbb\n\n'), 6, 7, b'x', plain('bbx\n'))
+def joined():
+    """records at the edges of the region 4..12 and at the cut 8, which "x" over 6..7 takes away; images of 7, 3 and 7 bytes"""
+    b = book(abc + '\n\ndd', nodes=[leaf(3, 4, 5), inline(8, 10, 6), leaf(12, 13, 7)])
+    return but(b, pairs=[(0, 2, 3, 3, 4), (1, 8, 9, 9, 10), (2, 12, 13, 13, 14)], containers=[(1, 0, 9), (2, 10, 11), (3, 14, 15), (4, 20, 25)],
+               diags=[(0, 0, 3, 4, 1), (1, 0, 7, 8, 2), (4, 0, 8, 9, 3), (1, 0, 12, 13, 4)])
+case('blank line lost between two passages with nodes', joined(), 6, 7, b'x', book('bbx\ncc\n\n', ['bx', 'c'], [P(0), P(1)], [], [inline(1, 3, 1, 0, [0, 1, 1, 1]), leaf(4, 5, 6)]))
+refused(12, 'blank line lost between two passages with nodes, the reading of the first', joined(), 6, 7, b'x', book('bbx\n', nodes=[leaf(0, 1, 5)]))
+
+# ---- both orders of a pair, demand 3
 class Stored:
     """a result, as the next old book"""
-    def __init__(s, tape, data): s.tape, s.bytes = lambda: tape, lambda: data
-def pair():
-    old = book(abc, 'r', [P(0)], [], [inline(5, 6, 9, 0, [0, 1]), leaf(8, 9, 5)])
-    first = (0, 1, b'x\xc3\xa9', book('xéa\n\n', ['é', 'q'], [P(1), P(0)], [], [inline(1, 3, 15, 0, [0, 1, 1, 1])]))
-    last = (8, 10, b'c', book('c', 'qq', [P(1)], [], [inline(0, 1, 14, 0, [0, 1])]))
-    by = len(first[2]) - 1
+    def __init__(s, tape, data): s.tape, s.bytes, s.text = lambda: tape, lambda: data, check_book(tape, data).text
+def pair(label, old, first, last):
+    by = len(first[2]) - (first[1] - first[0])
     ends = []
-    for name, edit, other in [('earlier first', first, (8 + by, 10 + by) + last[2:]), ('later first', last, first)]:
-        case('both orders, %s' % name, old, *edit)
+    for name, edit, other in [('earlier first', first, (last[0] + by, last[1] + by) + last[2:]), ('later first', last, first)]:
+        case('%s, %s' % (label, name), old, *edit)
         tape, data, _ = merge(old.tape(), old.bytes(), *edit[:3], edit[3].tape(), edit[3].bytes())
-        case('both orders, %s, then the other' % name, Stored(tape, data), *other)
+        case('%s, %s, then the other' % (label, name), Stored(tape, data), *other)
         tape, data, _ = merge(tape, data, *other[:3], other[3].tape(), other[3].bytes())
         ends.append(shown(check_book(tape, data)))
     assert ends[0] == ends[1]
-pair()
+def last(at): return at, at + 2, b'c', book('c', 'qq', [P(1)], [], [inline(0, 1, 14, 0, [0, 1])])
+# the first passage longer by two, the third shorter by one
+pair('both orders', book(abc, 'r', [P(0)], [], [inline(5, 6, 9, 0, [0, 1]), leaf(8, 9, 5)]),
+     (0, 1, b'x\xc3\xa9', book('xéa\n\n', ['é', 'q'], [P(1), P(0)], [], [inline(1, 3, 15, 0, [0, 1, 1, 1])])), last(8))
+# wish 1: the second passage joined to the third, the fourth shorter by one; the regions 4..12 and 12..14 touch
+pair('both orders, two passages joined', joined(), (6, 7, b'', book('bb\ncc\n\n', 'q', [P(0)], [], [inline(1, 3, 9, 0, [0, 1])])), last(12))

@@ -1,6 +1,6 @@
 #!/usr/bin/env python3
 """special.py: writes oracle/cases, cases made by hand: NAME.in is the input of the program `merge` (document 01, 'Runs'), NAME.out its line, the
-Rust's (oracle/build first) or, where a number stands beside the case here, document 01's."""
+Rust's (oracle/build first) or, where a number or a line stands beside the case here, that of documents 01 and 02."""
 import os, sys
 from small import *
 
@@ -13,7 +13,7 @@ def line(answer):
     return f'region {w[1]} {w[2]} reused {w[4]} reread {w[6]} calls {w[8]} probes {w[14]}\n' if w[0] == 'region' else f'refused {w[1]}\n'
 
 def put(name, old, a, e, repl, reading, want=None):
-    """want: a number that the Rust has not; else the Rust answers"""
+    """want: a number that the Rust has not, or not here; else the Rust answers"""
     data = case_input(old.tape(), old.bytes(), a, e, repl, reading.tape(), reading.bytes())
     says = rust.ask('M', data)
     if not want: assert says.split()[0] in ('region', 'none'), (name, says)
@@ -72,6 +72,11 @@ put('n10', dep, 3, 3, b'x', plain('xb\n\n'))
 put('a-format-ends-at-edit', dep, 4, 4, b'x', plain('bx\n\n'))
 # ---- 12
 put('n12', plain(abc), 4, 5, b'x', plain('xc\n\n'), 12)
+# ---- document 02, wish 1: the blank line before the end of the Rust's region is gone
+put('n11-blank-line-lost', plain('aa\n\nbb'), 2, 3, b'x', plain('aax\n'), 11)
+put('n12-blank-line-lost', plain(abc), 2, 3, b'x', plain('aax\n'), 12)
+raw('a-blank-line-lost', case_input(plain(abc).tape(), plain(abc).bytes(), 2, 3, b'x', plain('aax\nbb\n\n').tape(), plain('aax\nbb\n\n').bytes()), 'region 0 8 reused 0 reread 0 calls 0 probes 0\n')
+put('a-blank-line-kept', plain(abc), 2, 3, b'x\n', plain('aax\n\n'))
 # ---- 13
 put('n13-block', plain(abc), 4, 5, b'x', book('xb\n\n', nodes=[block(2, 0, 1)]))
 put('n13-warichu-close', plain(abc), 4, 5, b'x', book('xb\n\n', ['x'], nodes=[inline(0, 1, 13, 5, [0]), inline(1, 2, 13, 4, [0])]))

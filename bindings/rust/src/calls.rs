@@ -142,7 +142,8 @@ pub fn copy_book<'a>(book: impl Into<Stored<'a>>) -> Result<StoredBook, Refusal>
 
 /// The region of an edit, in offsets of the old text: the passage that has to be read again with
 /// the edit in it. [`Book::source`](crate::Book::source) or the text's bytes between its ends, with
-/// the edit applied, is what the reading has to be of.
+/// the edit applied, is what the reading has to be of. It ends behind a blank line that is still
+/// there in the new text, or at the text's end.
 ///
 /// # Errors
 ///

@@ -103,8 +103,9 @@ pub fn copy_book(book: Stored<'_>, room: Room<'_>) -> Result<Lengths, Refusal> {
     Refusal::of_answer(answer.number).map(|()| Lengths { tape: answer.tape, bytes: answer.bytes })
 }
 
-/// The region of an edit, in offsets of the old text: what has to be read again. The words may be
-/// any number, also none; more make it faster. They come back as zeros.
+/// The region of an edit, in offsets of the old text: what has to be read again. It ends behind a
+/// blank line that is still there in the new text, or at the text's end. The words may be any
+/// number, also none; more make it faster. They come back as zeros.
 ///
 /// # Errors
 ///

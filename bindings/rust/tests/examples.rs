@@ -162,19 +162,43 @@ fn both_orders_are_four_merges() {
     assert_eq!((orders.earlier_first, orders.later_first), (earlier_first, later_first));
 }
 
-/// docs/PROMISE.md, "a blank line destroyed": accepted in one order, refused with 12 in the other.
+/// docs/PROMISE.md, "a text's end that was only safe as the end": accepted in one order, refused
+/// with 12 in the other.
 #[test]
 fn refused_in_one_order_only() {
-    let old = plain(ABC);
-    let (first, last) = (plain("aax\n"), plain("yb\n\n"));
+    let old = plain("aa\n\nbb\n");
+    let (first, last) = (plain("yb\n"), plain("x"));
     let orders = merge_both_orders(
         &old,
-        Correction::new(Edit::new(2, 3, "x"), &first),
-        Correction::new(Edit::new(4, 5, "y"), &last),
+        Correction::new(Edit::new(4, 5, "y"), &first),
+        Correction::new(Edit::new(7, 7, "x"), &last),
     );
-    assert_eq!(orders.later_second.as_ref().unwrap_err(), &Refusal::OtherText);
-    assert!(orders.later_first.is_ok());
+    assert_eq!(orders.earlier_second.as_ref().unwrap_err(), &Refusal::OtherText);
+    assert!(orders.later_second.is_ok());
     assert!(orders.all().is_err());
+}
+
+/// Document 02, wish 1: a region does not end at a blank line that the edit takes away.
+#[test]
+fn blank_lines_that_survive() {
+    assert_eq!(region("aa\n\nbb", 2, 3, "x"), Err(Refusal::WholeText));
+    assert_eq!(region(ABC, 2, 3, "x"), Ok(Span::new(0, 8)));
+    assert_eq!(region(ABC, 2, 3, "x\n"), Ok(Span::new(0, 4)));
+
+    let old = plain(ABC);
+    let edit = Edit::new(2, 3, "x");
+    assert_eq!(merge(&old, edit, &plain("aax\n")), Err(Refusal::OtherText));
+    let (joined, last) = (plain("aax\nbb\n\n"), plain("yc"));
+    let orders = merge_both_orders(
+        &old,
+        Correction::new(edit, &joined),
+        Correction::new(Edit::new(8, 9, "y"), &last),
+    )
+    .all()
+    .unwrap();
+    assert_eq!(orders.earlier_first.region, Span::new(0, 8));
+    assert_eq!(Book::new(&orders.later_second.book).unwrap().text(), "aax\nbb\n\nyc");
+    assert_eq!(orders.later_second.book, orders.earlier_second.book);
 }
 
 /// What a book shows is its strings and lists, not its ids.

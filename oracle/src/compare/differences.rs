@@ -41,7 +41,7 @@ fn told(said: &Said) -> String {
     match said {
         Said::Merged(m) => {
             let moved = if m.keys_moved { ", equal keys moved" } else { "" };
-            format!("accepted, {} layers, counts {:?}{moved}", m.book.layers(), m.counts)
+            format!("accepted, region {}..{}, {} layers, counts {:?}{moved}", m.region.start, m.region.end, m.book.layers(), m.counts)
         }
         // the reason is that of a book of document 01's shape, and these are not
         Said::None(_) => "None".to_owned(),
@@ -51,7 +51,7 @@ fn told(said: &Said) -> String {
 }
 
 fn show(name: &str, c: &Case) {
-    let ours = Archive::default().merge(c, [1 << 20, 1 << 20, 16384]).map_or_else(|n| n.to_string(), |_| "accepted".to_owned());
+    let ours = Archive::default().merge(c, [1 << 20, 1 << 20, 16384]).map_or_else(|n| n.to_string(), |a| format!("accepted, region {}..{}", a.region[0], a.region[1]));
     let replacement = std::str::from_utf8(&c.replacement).expect("text");
     let said = match (tape::Book::read(&c.tape, &c.bytes), tape::Reading::read(&c.rtape, &c.rbytes)) {
         (Some(b), Some(r)) => told(&judge(&b, c.start as usize..c.end as usize, replacement, &r)),
@@ -89,6 +89,22 @@ fn same_input() {
     show("edit inside a character", &Case::new(&kanji, 2, 2, b"x", &Book::plain(b"xb\n\n")));
     show("edit start > end", &Case::new(&Book::plain(T), 5, 4, b"x", &Book::plain(b"xb\n\n")));
     show("edit end > length", &Case::new(&Book::plain(T), 4, 11, b"x", &Book::plain(b"xb\n\n")));
+    blank_line_lost();
+}
+
+/// Document 02, wish 1. The first two are the smallest: a cut inside a text has two newlines before it and a byte behind it.
+fn blank_line_lost() {
+    let put = |text: &str, start, end, new: &str, reading: &str| {
+        show(&format!("blank line lost: {text:?}, {start}..{end} with {new:?}, {reading:?}"), &Case::new(&Book::plain(text.as_bytes()), start, end, new.as_bytes(), &Book::plain(reading.as_bytes())));
+    };
+    put("\n\nb", 0, 1, "", "\n");
+    put("\n\n\nb", 0, 1, "", "\n");
+    put("\n\n\nb", 0, 1, "", "\n\n");
+    put("aa\n\nbb", 2, 3, "x", "aax\n");
+    for (start, end, new, reading, longer) in [(2, 3, "x", "aax\n", "aax\nbb\n\n"), (2, 3, "", "aa\n", "aa\nbb\n\n"), (3, 3, "x", "aa\nx\n", "aa\nx\nbb\n\n")] {
+        put("aa\n\nbb\n\ncc", start, end, new, reading);
+        put("aa\n\nbb\n\ncc", start, end, new, longer);
+    }
 }
 
 /// The fewest diagnostics, of random ranks 0 and 1 at one place, whose equal keys the Rust moves.

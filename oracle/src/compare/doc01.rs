@@ -1,5 +1,6 @@
-//! The merge once more, written from document 01, sentence by sentence: numbers 1 to 18 in their order, and the merged book. The Rust has no answer
-//! for 1 to 8, so this is the judge there. It is slow and plain on purpose; UTF-8 is the standard library's, which follows RFC 3629.
+//! The merge once more, written from document 01 and wish 1 of document 02, sentence by sentence: numbers 1 to 18 in their order, and the merged book. The
+//! Rust has no answer for 1 to 8 and does not know the wish, so this is the judge there. It is slow and plain on purpose; UTF-8 is the standard library's,
+//! which follows RFC 3629.
 use crate::book::*;
 use std::collections::HashMap;
 
@@ -331,10 +332,15 @@ fn safe_cut(b: &Book, at: usize) -> bool {
         && !b.pairs.iter().any(|p| (p.at[0] as usize) < at && at < p.at[3] as usize)
 }
 
-fn region(b: &Book, start: usize, end: usize) -> [usize; 2] {
+/// "An end cut other than the text's end shall also have two newline bytes before its moved place in the new text."
+fn end_cut(b: &Book, new: &[u8], at: usize) -> bool {
+    safe_cut(b, at) && (at == b.text.len() || new[..at + new.len() - b.text.len()].ends_with(b"\n\n"))
+}
+
+fn region(b: &Book, start: usize, end: usize, new: &[u8]) -> [usize; 2] {
     let behind_newline = |at: &usize| b.text[at - 1] == b'\n';
     let first = (1..=start).rev().filter(behind_newline).find(|at| safe_cut(b, *at)).unwrap_or(0);
-    let last = (end + 1..=b.text.len()).filter(behind_newline).find(|at| safe_cut(b, *at)).unwrap_or(b.text.len());
+    let last = (end + 1..=b.text.len()).filter(behind_newline).find(|at| end_cut(b, new, *at)).unwrap_or(b.text.len());
     [first, last]
 }
 
@@ -378,9 +384,15 @@ fn choose(old: &Book, start: u32, end: u32, replacement: &[u8]) -> Refused<([usi
     must(3, new.len() <= TEXT)?;
     must(9, new != old.text)?;
     must(10, !has_ruby_format_dependency(old, start))?;
-    let region = region(old, start, end);
+    let region = region(old, start, end, &new);
     must(11, region != [0, old.text.len()])?;
     Ok((region, new))
+}
+
+/// What a reading has to be of.
+pub fn region_text(old: &Book, start: u32, end: u32, replacement: &[u8]) -> Refused<Vec<u8>> {
+    let (region, new) = choose(old, start, end, replacement)?;
+    Ok(new[region[0]..region[1] + new.len() - old.text.len()].to_vec())
 }
 
 /// Choosing the region alone runs up to 11.

@@ -1,5 +1,5 @@
 //! Every short text over "a", a newline and "あ", every edit; and every place for one or two records in a few texts. The Rust alone is the judge, but for
-//! an edit inside a character or one that ends before it starts (8).
+//! an edit inside a character or one that ends before it starts (8), and for one that takes away the blank line at the end of the Rust's region (doc01.rs).
 use crate::book::*;
 use crate::books::boundaries;
 use crate::run::Compare;
@@ -18,19 +18,22 @@ fn texts(length: usize) -> Vec<String> {
     all
 }
 
-const NEW: [&str; 5] = ["", "a", "\n", "あ", "\n\n"];
+const NEW: [&str; 6] = ["", "a", "\n", "あ", "\n\n", "a\n"];
+
+/// The second keeps the blank line at the first cut behind the edit, so that the Rust judges it.
+const FEW: [&str; 2] = ["x", "x\n"];
 
 /// What a reading of this text is.
 type Read = fn(&[u8]) -> Book;
 
 /// The merge of a reading, where there is a region.
-fn merge(compare: &mut Compare, class: &'static str, book: &tape::Book, c: &mut Case, region: [u32; 2], read: Read) {
+fn merge(compare: &mut Compare, class: &'static str, book: &tape::Book, c: &mut Case, (region, left): ([u32; 2], bool), read: Read) {
     let (start, end) = (c.start as usize, c.end as usize);
     let text = book.text().as_bytes();
     let new = [&text[..start], &c.replacement, &text[end..]].concat();
     let reading = read(&new[region[0] as usize..region[1] as usize + new.len() - text.len()]);
     (c.rtape, c.rbytes) = (reading.tape(), reading.bytes());
-    compare.merge(class, c, book, [c.tape.len() + c.rtape.len(), 2 * new.len() + c.bytes.len() + c.rbytes.len(), 16384]);
+    compare.merge(class, c, book, [c.tape.len() + c.rtape.len(), 2 * new.len() + c.bytes.len() + c.rbytes.len(), 16384], left);
 }
 
 /// Every edit of a book: regions, and merges if there are readings.
@@ -102,12 +105,12 @@ fn one_record(compare: &mut Compare, length: usize) {
         let marks = boundaries(text);
         for (start, end) in spans(&marks) {
             for n in sorts(start, end) {
-                edits(compare, classes, &with_nodes(text, vec![n]), &marks, &["x"], None);
+                edits(compare, classes, &with_nodes(text, vec![n]), &marks, &FEW, None);
             }
         }
         for ((a, b), (c, d)) in spans(&marks).flat_map(|x| spans(&marks).map(move |y| (x, y))).filter(|(x, y)| x.1 <= y.0) {
             let pairs = vec![Pair { kind: 0, at: [a, b, c, d].map(|n| n as u32) }];
-            edits(compare, ["short texts with one pair", ""], &Book { pairs, ..Book::plain(text) }, &marks, &["x"], None);
+            edits(compare, ["short texts with one pair", ""], &Book { pairs, ..Book::plain(text) }, &marks, &FEW, None);
         }
     }
 }
@@ -120,7 +123,7 @@ fn two_nodes(compare: &mut Compare) {
     for (i, j) in spans(&marks[..FOUR.len()]) {
         for a in sorts(i, i + 1) {
             for b in sorts(j, j + 1) {
-                edits(compare, ["two nodes in four passages", ""], &with_nodes(FOUR, vec![a.clone(), b]), &marks, &["x"], None);
+                edits(compare, ["two nodes in four passages", ""], &with_nodes(FOUR, vec![a.clone(), b]), &marks, &FEW, None);
             }
         }
     }
@@ -130,7 +133,7 @@ fn two_nodes(compare: &mut Compare) {
 fn records_across_regions(compare: &mut Compare) {
     let classes = ["one record in four passages, regions", "one record in four passages, merges"];
     let marks: Vec<usize> = (0..=FOUR.len()).collect();
-    let new = ["x", "", "\n"];
+    let new = ["x", "", "\n", "x\n"];
     for (start, end) in spans(&marks) {
         let at = [start, end].map(|n| n as u32);
         for n in sorts(start, end) {
@@ -171,12 +174,12 @@ fn dependencies(compare: &mut Compare) {
     for (i, j) in spans(&marks) {
         for (k, l) in spans(&marks).filter(|x| x.0 >= j) {
             for (first, second) in [(1, 2), (2, 1)] {
-                edits(compare, ["a Ruby and a Format in four passages", ""], &linked(FOUR, &[(first, i, j), (second, k, l)]), &marks, &["x"], None);
+                edits(compare, ["a Ruby and a Format in four passages", ""], &linked(FOUR, &[(first, i, j), (second, k, l)]), &marks, &FEW, None);
             }
         }
         let classes = ["a Ruby or a Format, regions", "a Ruby or a Format, the other in the reading"];
         for (kind, read) in [(1, format_first as Read), (2, ruby_first), (1, ruby_first), (2, format_first)] {
-            edits(compare, classes, &linked(FOUR, &[(kind, i, j)]), &marks, &["x"], Some(read));
+            edits(compare, classes, &linked(FOUR, &[(kind, i, j)]), &marks, &FEW, Some(read));
         }
     }
 }

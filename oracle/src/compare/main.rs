@@ -13,12 +13,11 @@ mod sample;
 use book::{Book, Case, Layer, NONE};
 use books::{Gen, Profile, Rng, boundaries, profiles};
 use damage::Damaged;
-use oracle::judge;
 use run::{Compare, Outcome};
 use sample::Sample;
 use std::path::Path;
 
-/// A book, an edit, a reading of the region that the Rust chooses; a short one where there is no region.
+/// A book, an edit, a reading of the region that document 01 chooses; a short one where there is no region.
 struct Base {
     old: Book,
     edit: (u32, u32, Vec<u8>),
@@ -31,42 +30,33 @@ impl Base {
     }
 }
 
-fn region(book: &oracle::tape::Book, edit: &(u32, u32, Vec<u8>)) -> Result<Vec<u8>, u32> {
-    let range = edit.0 as usize..edit.1 as usize;
-    let replacement = std::str::from_utf8(&edit.2).expect("generated text");
-    let region = judge::region(book, range.clone(), replacement)?;
-    let new = judge::edited(book.text(), &range, replacement);
-    Ok(new.as_bytes()[region.start..region.end + new.len() - book.text().len()].to_vec())
-}
-
-/// The text that the Rust would have lexed; some text where it would not have.
-fn region_text(book: &oracle::tape::Book, edit: &(u32, u32, Vec<u8>)) -> Vec<u8> {
-    region(book, edit).unwrap_or(b"a\n\n".to_vec())
+/// The text that is to be read anew; some text where there is none.
+fn region_text(old: &Book, edit: &(u32, u32, Vec<u8>)) -> Vec<u8> {
+    doc01::region_text(old, edit.0, edit.1, &edit.2).unwrap_or(b"a\n\n".to_vec())
 }
 
 fn base(g: &mut Gen) -> Base {
     let old = g.old();
-    let book = oracle::tape::Book::read(&old.tape(), &old.bytes()).expect("a generated book");
     let mut edit = g.edit(&old.text);
     for _ in 0..3 {
         // most texts have a region; one that has none is tried again, so that more cases get to it
-        if region(&book, &edit) == Err(11) {
+        if doc01::region_text(&old, edit.0, edit.1, &edit.2) == Err(11) {
             edit = g.edit(&old.text);
         }
     }
-    let reading = g.reading(&region_text(&book, &edit));
+    let reading = g.reading(&region_text(&old, &edit));
     Base { old, edit, reading }
 }
 
-/// Merges into the book that came out of a merge: of the Rust's the one in its own types, of ours the tape.
+/// Merges into the book that came out of a merge: of the Rust's the one in its own types, where it made one, of ours the tape.
 fn chain(compare: &mut Compare, g: &mut Gen, mut last: Outcome) {
     for step in ["second merges", "third merges", "fourth merges"] {
-        let Outcome::Merged { answer, rust } = last else { return };
+        let Outcome::Merged { answer, book } = last else { return };
         let old = doc01::check_book(&answer.tape, &answer.bytes).expect("a merged book is a book");
         let edit = g.edit(&old.text);
-        let reading = g.reading(&region_text(&rust.book, &edit));
+        let reading = g.reading(&region_text(&old, &edit));
         let case = Case::new(&old, edit.0, edit.1, &edit.2, &reading);
-        last = compare.run(step, &case, None, Some(&rust.book), &mut g.r);
+        last = compare.run(step, &case, None, Some(&book), &mut g.r);
     }
 }
 

@@ -17,11 +17,18 @@ pub struct Tally {
     pub refused: [u64; 19],
     /// cases that were put to the Rust
     pub rust: u64,
+    /// cases that wish 1 of document 02 leaves to the list of differences: doc01.rs alone is the judge
+    pub left: u64,
+    /// those of them that are accepted
+    pub left_accepted: u64,
+    /// of the region alone
+    pub regions: bool,
     pub differences: u64,
 }
 
 pub enum Outcome {
-    Merged { answer: Box<Answer>, rust: Box<Merged> },
+    /// `book`: the result in the Rust's types
+    Merged { answer: Box<Answer>, book: Box<Book> },
     Refused(u32),
 }
 
@@ -31,11 +38,10 @@ pub struct Compare {
     classes: Vec<(&'static str, Tally)>,
     aims: HashMap<&'static str, u64>,
     pub differences: u64,
-    /// the two listed differences
+    /// two of the listed differences; the third is `left`
     keys_moved: u64,
     earlier_counts: u64,
     lookups: u64,
-    regions: u64,
     regions_of_books: u64,
     /// what accepted merges met
     met: [u64; MET.len()],
@@ -73,6 +79,31 @@ fn answer_of(m: &Merged) -> Answer {
     Answer { region: [m.region.start, m.region.end], reused: m.reused, reread: m.reread, counts: m.counts(), tape, bytes }
 }
 
+/// Document 02, wish 1: whether the two newlines before the end of the Rust's region are not both there in the new text. The Rust does not ask that. It can
+/// only be the cut one byte behind the edit's end.
+fn blank_line_lost(book: &Book, c: &Case) -> bool {
+    let (edit, replacement) = (c.start as usize..c.end as usize, std::str::from_utf8(&c.replacement).expect("passed number 2"));
+    let Ok(Ok(region)) = catch_unwind(AssertUnwindSafe(|| judge::region(book, edit.clone(), replacement))) else { return false };
+    let (old, new) = (book.text(), judge::edited(book.text(), &edit, replacement));
+    let cut = region.end;
+    cut == edit.end + 1 && cut < old.len() && old[..cut].ends_with("\n\n") && !new[..cut + new.len() - old.len()].ends_with("\n\n")
+}
+
+/// The same new text by a longer edit, which writes the newline behind the edit once more. No blank line is lost, so that the Rust's region is the wish's.
+fn longer(c: &Case, room: Option<Room>) -> Case {
+    Case { end: c.end + 1, replacement: [&c.replacement[..], b"\n"].concat(), room, ..c.clone() }
+}
+
+/// The Rust's answer; anything else than a merge or a number is a difference.
+fn rust_alone(book: &Book, c: &Case) -> Result<Result<Answer, u32>, Said> {
+    let reading = Reading::read(&c.rtape, &c.rbytes).expect("a generated reading");
+    match judge(book, c.start as usize..c.end as usize, std::str::from_utf8(&c.replacement).expect("generated text"), &reading) {
+        Said::Merged(m) => Ok(Ok(answer_of(&m))),
+        Said::None(n) => Ok(Err(n)),
+        other => Err(other),
+    }
+}
+
 /// What is lent to a case that does not say: what the answer needs and a little more, or any little for a refusal.
 fn room(answer: &Result<Answer, u32>, r: &mut Rng) -> Room {
     let more = *r.pick(&[0, 1, 7, 64, 300]);
@@ -92,6 +123,18 @@ impl Compare {
             self.classes.len() - 1
         });
         &mut self.classes[at].1
+    }
+    /// A case of the short texts, with its judge's number.
+    fn count(&mut self, class: &'static str, number: Option<u32>, left: bool) {
+        let t = self.tally(class);
+        t.cases += 1;
+        match number {
+            None => t.accepted += 1,
+            Some(n) => t.refused[n as usize] += 1,
+        }
+        t.left += u64::from(left);
+        t.left_accepted += u64::from(left && number.is_none());
+        t.rust += u64::from(!left && number != Some(8));
     }
     pub fn accepted(&mut self, class: &'static str) -> u64 {
         self.tally(class).accepted
@@ -162,7 +205,7 @@ impl Compare {
             }
         };
         self.lookups(class, c, book, r);
-        self.rust(class, c, book, room, said)
+        if blank_line_lost(book, c) { self.leave(class, c, book, room, said) } else { self.rust(class, c, book, room, said) }
     }
 
     fn lookups(&mut self, class: &'static str, c: &Case, book: &Book, r: &mut Rng) {
@@ -211,7 +254,7 @@ impl Compare {
                 if a != b {
                     self.differ(class, &format!("ours {} the Rust {}", short(&Ok(a.clone())), short(&Ok(b))), Some(c));
                 }
-                return Outcome::Merged { answer: Box::new(a), rust: m };
+                return Outcome::Merged { answer: Box::new(a), book: Box::new(m.book) };
             }
             (Err(n @ (13..=16)), Said::None(m)) if n == m => {
                 if let Some(sample) = &mut self.sample {
@@ -230,6 +273,20 @@ impl Compare {
             }
         }
         Outcome::Refused(number)
+    }
+
+    /// A case that is left to the list of differences: document 01 alone judges it. The longer edit is one more case, with the same answer.
+    fn leave(&mut self, class: &'static str, c: &Case, book: &Book, room: Room, said: Result<Answer, u32>) -> Outcome {
+        let t = self.tally(class);
+        t.left += 1;
+        t.left_accepted += u64::from(said.is_ok());
+        let sample = self.sample.take();
+        let out = self.run("those left, by a longer edit", &longer(c, Some(room)), said.as_ref().err().copied(), Some(book), &mut Rng::new(0, 0));
+        self.sample = sample;
+        if let Ok(said) = &said && !matches!(&out, Outcome::Merged { answer, .. } if **answer == *said) {
+            self.differ(class, &format!("by a longer edit another answer than {}", short(&Ok(said.clone()))), Some(c));
+        }
+        out
     }
 
     fn meet(&mut self, c: &Case, a: &Answer) -> Vec<&'static str> {
@@ -260,48 +317,43 @@ impl Compare {
         }
     }
 
-    /// The region alone, of ours and of the Rust.
-    pub fn region(&mut self, class: &'static str, c: &Case, book: &Book, words: usize) -> Option<[u32; 2]> {
+    /// The region alone, of ours and of the Rust; of ours and document 01, and the Rust by a longer edit, where the case is left to the list of differences.
+    /// The region and whether it was.
+    pub fn region(&mut self, class: &'static str, c: &Case, book: &Book, words: usize) -> Option<([u32; 2], bool)> {
         let ours = self.archive.region(&c.tape, &c.bytes, c.start, c.end, &c.replacement, words);
-        self.regions += 1;
-        let (edit, replacement) = (c.start as usize..c.end as usize, std::str::from_utf8(&c.replacement).expect("generated text"));
+        let edit = c.start as usize..c.end as usize;
         let on_edges = book.text().is_char_boundary(edit.start) && book.text().is_char_boundary(edit.end);
-        let theirs = if edit.start > edit.end || !on_edges { Err(8) } else { judge::region(book, edit, replacement).map(|r| [r.start as u32, r.end as u32]) };
-        let t = self.tally(class);
-        t.cases += 1;
-        match theirs {
-            Ok(_) => t.accepted += 1,
-            Err(n) => t.refused[n as usize] += 1,
+        let theirs = |c: &Case| {
+            let replacement = std::str::from_utf8(&c.replacement).expect("generated text");
+            judge::region(book, c.start as usize..c.end as usize, replacement).map(|r| [r.start as u32, r.end as u32])
+        };
+        let left = edit.start <= edit.end && on_edges && blank_line_lost(book, c);
+        let said = match left {
+            true => doc01::choose_region(&c.tape, &c.bytes, c.start, c.end, &c.replacement).map(|r| r.map(|n| n as u32)),
+            false if edit.start > edit.end || !on_edges => Err(8),
+            false => theirs(c),
+        };
+        self.count(class, said.err(), left);
+        self.tally(class).regions = true;
+        if ours != said || left && said != theirs(&longer(c, None)) {
+            self.differ(class, &format!("region: ours {ours:?} the judge {said:?}"), Some(c));
         }
-        t.rust += u64::from(theirs != Err(8));
-        if ours != theirs {
-            self.differ(class, &format!("region: ours {ours:?} the Rust {theirs:?}"), Some(c));
-        }
-        ours.ok()
+        Some((ours.ok()?, left))
     }
 
-    /// A merge without document 01's check: ours and the Rust.
-    pub fn merge(&mut self, class: &'static str, c: &Case, book: &Book, room: Room) {
-        let reading = Reading::read(&c.rtape, &c.rbytes).expect("a generated reading");
-        let (edit, replacement) = (c.start as usize..c.end as usize, std::str::from_utf8(&c.replacement).expect("generated text"));
-        let theirs = match judge(book, edit, replacement, &reading) {
-            Said::Merged(m) => Ok(answer_of(&m)),
-            Said::None(n) => Err(n),
-            other => {
-                self.differ(class, &format!("the Rust {other:?}"), Some(c));
-                return;
-            }
+    /// A merge without document 01's check: ours and the Rust. `left`: ours and document 01, and the Rust by a longer edit.
+    pub fn merge(&mut self, class: &'static str, c: &Case, book: &Book, room: Room, left: bool) {
+        let said = match if left { rust_alone(book, &longer(c, None)) } else { rust_alone(book, c) } {
+            Ok(said) => said,
+            Err(other) => return self.differ(class, &format!("the Rust {other:?}"), Some(c)),
         };
-        let t = self.tally(class);
-        t.cases += 1;
-        t.rust += 1;
-        match &theirs {
-            Ok(_) => t.accepted += 1,
-            Err(n) => t.refused[*n as usize] += 1,
+        if left && said != doc01::in_room(doc01::merge_in_any_room(c), room) {
+            self.differ(class, &format!("by a longer edit another answer: {}", short(&said)), Some(c));
         }
+        self.count(class, said.as_ref().err().copied(), left);
         match self.ours(c, room) {
             Err(what) => self.differ(class, &what, Some(c)),
-            Ok(ours) if ours != theirs => self.differ(class, &format!("ours {} the Rust {}", short(&ours), short(&theirs)), Some(c)),
+            Ok(ours) if ours != said => self.differ(class, &format!("ours {} the judge {}", short(&ours), short(&said)), Some(c)),
             Ok(_) => {}
         }
     }
@@ -336,21 +388,18 @@ impl Compare {
 
     pub fn table(&self, seed: u64, count: u64) {
         println!("seed {seed}, {count} books\n");
-        println!("| class | cases | accepted | put to the Rust | refused: number (times) | differences |\n|---|---|---|---|---|---|");
-        let mut all = Tally::default();
+        println!("| class | cases | accepted | put to the Rust | left to the list of differences | refused: number (times) | differences |\n|---|---|---|---|---|---|---|");
         for (name, t) in &self.classes {
             row(name, t);
-            all.cases += t.cases;
-            all.accepted += t.accepted;
-            all.rust += t.rust;
-            all.differences += t.differences;
-            for (a, b) in all.refused.iter_mut().zip(t.refused) {
-                *a += b;
-            }
         }
+        let all = sum(self.classes.iter().map(|c| &c.1));
         row("together", &all);
-        println!("\nlisted differences: equal keys in another order {}, counts of an earlier merge {}", self.keys_moved, self.earlier_counts);
-        println!("lookups: {}, regions alone: {}, regions of books by document 01: {}", self.lookups, self.regions, self.regions_of_books);
+        for (what, regions) in [("merges", false), ("regions alone", true)] {
+            let t = sum(self.classes.iter().map(|c| &c.1).filter(|t| t.regions == regions));
+            println!("\n{what}: {}, put to the Rust {}, left {}; accepted {}, of them by the Rust {}", t.cases, t.rust, t.left, t.accepted, t.accepted - t.left_accepted);
+        }
+        println!("\nlisted differences: equal keys in another order {}, counts of an earlier merge {}, blank line lost at the end cut {}", self.keys_moved, self.earlier_counts, all.left);
+        println!("lookups: {}, regions of books by document 01: {}", self.lookups, self.regions_of_books);
         let met: Vec<String> = MET.iter().zip(self.met).map(|(what, n)| format!("{what} {n}")).collect();
         println!("accepted merges with {}", met.join(", "));
         let unmet: Vec<&str> = crate::damage::ALL.iter().map(|d| d.0).filter(|n| self.aims.get(n).is_none_or(|k| *k == 0)).collect();
@@ -358,9 +407,25 @@ impl Compare {
     }
 }
 
+fn sum<'a>(tallies: impl Iterator<Item = &'a Tally>) -> Tally {
+    let mut all = Tally::default();
+    for t in tallies {
+        all.cases += t.cases;
+        all.accepted += t.accepted;
+        all.rust += t.rust;
+        all.left += t.left;
+        all.left_accepted += t.left_accepted;
+        all.differences += t.differences;
+        for (a, b) in all.refused.iter_mut().zip(t.refused) {
+            *a += b;
+        }
+    }
+    all
+}
+
 fn row(name: &str, t: &Tally) {
     let numbers: Vec<String> = (1..19).filter(|n| t.refused[*n] > 0).map(|n| format!("{n} ({})", t.refused[n])).collect();
-    println!("| {name} | {} | {} | {} | {} | {} |", t.cases, t.accepted, t.rust, numbers.join(", "), t.differences);
+    println!("| {name} | {} | {} | {} | {} | {} | {} |", t.cases, t.accepted, t.rust, t.left, numbers.join(", "), t.differences);
 }
 
 /// Whether the Rust's result is one of those that document 01 refuses with 18.
