@@ -1,6 +1,7 @@
 // Books made to be slow: books that are accepted (two are refused at their very end) and on which a step of ours is quadratic or worse if it is
 // written without care. Each is called at doubling sizes, up to about 4 MB of tape and bytes; the exponent says how the time grows.
 use std::cell::RefCell;
+use std::rc::Rc;
 
 const FOUR_MB: usize = 4_000_000;
 const MAX_POOL: usize = 1_048_575;
@@ -13,8 +14,8 @@ enum Timed { Check, Region, Merge }
 
 struct Hostile { book: Tape, edit: (usize, usize), reading: Tape }
 
-// `most` is the n at which a limit of document 01 is met. `make` is given n and the words that are lent.
-struct Shape { name: &'static str, timed: Timed, words: &'static [usize], most: usize, make: Box<dyn Fn(usize, usize) -> Hostile> }
+// `most` is the n at which a limit of document 01 is met. `make` is given n.
+struct Shape { name: &'static str, timed: Timed, words: &'static [usize], most: usize, make: Box<dyn Fn(usize) -> Hostile> }
 
 // ---- strings
 
@@ -22,55 +23,33 @@ const FX_PRIME: u64 = 0x517c_c1b7_2722_0a95;
 
 fn fx_hash(start: u64, bytes: &[u8]) -> u64 { bytes.iter().fold(start, |h, b| (h.rotate_left(5) ^ *b as u64).wrapping_mul(FX_PRIME)) }
 
-// Unlike strings of one length that all fall on word 0 of a Bloom filter of so many words (crates/bloom: the upper half of the hash, modulo the
-// words). The last byte is looked for; where a string has none that does, the next is tried.
-struct Crowd { start: String, filter: usize, products: Vec<(u64, u64)>, found: Vec<String>, tried: u64 }
+// Unlike strings of one length that crowd a Bloom filter of any size: both words of a hash (crates/bloom: its bits 32 to 63 and 16 to 47, by their
+// share of the words) are among the first 256th of them. The last byte is looked for; where a string has none that does, the next is tried.
+struct Crowd { start: &'static str, found: Vec<String>, tried: u64 }
+
+fn crowds_filter(h: u64) -> bool { h >> 56 == 0 && h >> 40 & 255 == 0 }
 
 impl Crowd {
-    fn new(start: &str, filter: usize) -> Self {
-        let mut products = Vec::new();
-        if filter.is_power_of_two() { products.extend((0..128).map(|j| (FX_PRIME.wrapping_mul(j) % ((filter as u64) << 32), j))); }
-        products.sort();
-        Crowd { start: start.to_string(), filter, products, found: Vec::new(), tried: 0 }
-    }
-    // The last step is (rotated + j) * prime for j = 0..127. Modulo a power of two the j that makes it small enough is found in the sorted products.
-    fn last_byte(&self, h: u64) -> Option<u8> {
-        if self.products.is_empty() { return (0..128).find(|b| (fx_hash(h, &[*b]) >> 32) as u32 % self.filter as u32 == 0); }
-        let (modulus, rotated) = ((self.filter as u64) << 32, h.rotate_left(5));
-        let from = (rotated & !127).wrapping_mul(FX_PRIME) % modulus;
-        let wanted = (modulus - from) % modulus;
-        let (product, j) = self.products[self.products.partition_point(|p| p.0 < wanted) % 128];
-        ((from + product) % modulus < 1 << 32).then_some((rotated & 127 ^ j) as u8)
-    }
     fn first(&mut self, n: usize) -> &[String] {
         let start = fx_hash(0, self.start.as_bytes());
         while self.found.len() < n {
             let middle: [u8; 6] = core::array::from_fn(|i| b'0' + (self.tried >> (6 * i) & 63) as u8);
             self.tried += 1;
-            let Some(last) = self.last_byte(fx_hash(start, &middle)) else { continue };
-            let s = format!("{}{}{}", self.start, core::str::from_utf8(&middle).unwrap(), last as char);
-            assert_eq!((fx_hash(0, s.as_bytes()) >> 32) as usize % self.filter, 0);
-            self.found.push(s);
+            let h = fx_hash(start, &middle);
+            let Some(last) = (0..128).find(|b| crowds_filter(fx_hash(h, &[*b]))) else { continue };
+            self.found.push(format!("{}{}{}", self.start, core::str::from_utf8(&middle).unwrap(), last as char));
         }
         &self.found[..n]
     }
 }
 
-// For each count of words a crowd of its own, kept from one size to the next.
-fn crowds(start: &'static str, filter: fn(usize) -> usize) -> impl Fn(usize, usize) -> Vec<String> {
-    let made: RefCell<Vec<Crowd>> = RefCell::new(Vec::new());
-    move |n, words| {
-        let (mut made, size) = (made.borrow_mut(), filter(words));
-        let at = made.iter().position(|c| c.filter == size).unwrap_or_else(|| { made.push(Crowd::new(start, size)); made.len() - 1 });
-        made[at].first(n).to_vec()
-    }
+// kept from one size to the next
+fn crowd(start: &'static str) -> impl Fn(usize) -> Vec<String> {
+    let made = RefCell::new(Crowd { start, found: Vec::new(), tried: 0 });
+    move |n| made.borrow_mut().first(n).to_vec()
 }
 
-fn unlike(n: usize, _: usize) -> Vec<String> { (0..n).map(|i| format!("{i:08}")).collect() }
-
-// Number 10 has half of the lent words for its filter, number 15 a third; of their own, where few are lent, 8192 and 5461.
-fn filter_of_10(words: usize) -> usize { (words / 2).max(8192) }
-fn filter_of_15(words: usize) -> usize { words.max(16384) / 3 }
+fn unlike(n: usize) -> Vec<String> { (0..n).map(|i| format!("{i:08}")).collect() }
 
 // ---- books
 
@@ -237,7 +216,7 @@ fn damaged(n: usize) -> Hostile {
     first_line(&b)
 }
 
-fn shape(name: &'static str, timed: Timed, words: &'static [usize], most: usize, make: impl Fn(usize, usize) -> Hostile + 'static) -> Shape {
+fn shape(name: &'static str, timed: Timed, words: &'static [usize], most: usize, make: impl Fn(usize) -> Hostile + 'static) -> Shape {
     Shape { name, timed, words, most, make: Box::new(make) }
 }
 
@@ -247,32 +226,33 @@ fn all_shapes() -> Vec<Shape> {
     const ONE: &[usize] = &[16384];
     use Timed::{Check, Merge, Region};
     let common: &'static str = Box::leak("青空文庫の本を読む人は".repeat(6).into_boxed_str());
-    let (on_one_word, with_prefix, on_one_of_15) = (crowds("", filter_of_10), crowds(common, filter_of_10), crowds("", filter_of_15));
+    let (crowded, with_prefix) = (Rc::new(crowd("")), crowd(common));
+    let crowded_reading = crowded.clone();
     vec![
-        shape("number 5: n MarginNotes over n contents over n segments, n a multiple of 64", Check, ONE, MAX_POOL / 2, |n, _| margin_notes(n / 64 * 64)),
-        shape("number 5: n MarginNotes over n contents over n segments, n no multiple of 64", Check, ONE, MAX_POOL / 2, |n, _| margin_notes(n / 64 * 64 + 37)),
-        shape("number 5: n Rubies over one run of n contents", Check, ONE, MAX_POOL, |n, _| ruby_runs(n)),
-        shape("number 5: n captions over one run of n segments", Check, ONE, MAX_POOL / 2, |n, _| captions(n)),
-        shape("number 5: n Rubies over runs with random edges, over runs with random edges", Check, ONE, MAX_POOL / 2, |n, _| edges(n)),
-        shape("number 5: runs of 128 contents, each of 128 segments", Check, ONE, MAX_POOL, |n, _| short_runs(n)),
-        shape("number 10: n Rubies, n Formats, unlike strings of one length", Region, ALL, MAX_LIST / 2, |n, _| dependency(&unlike(2 * n, 0))),
-        shape("number 10: n Rubies, n Formats, unlike strings of one length", Merge, &[0, 256, 16384], MAX_LIST / 2, |n, _| dependency(&unlike(2 * n, 0))),
-        shape("number 10: strings that fall on one word of the filter", Region, ALL, MAX_LIST / 2, move |n, words| dependency(&on_one_word(2 * n, words))),
-        shape("number 10: strings that fall on one word of the filter, behind a common prefix of 198 bytes", Region, NONE_OR_SOME, MAX_LIST / 2, move |n, words| dependency(&with_prefix(2 * n, words))),
-        shape("number 15: n Rubies, n Formats in the reading, unlike strings of one length", Merge, ALL, MAX_LIST, |n, _| introduced(&unlike(2 * n, 0))),
-        shape("number 15: strings that fall on one word of the filter", Merge, &[256, 16384], MAX_LIST, move |n, words| introduced(&on_one_of_15(2 * n, words))),
-        shape("region: n brackets in a row over blank lines, the edit behind them", Region, ALL, MAX_LIST, |n, _| bracketed(false, |b| for _ in 0..n { bracket(b, |b| b.put("\n\n")) })),
-        shape("region: n brackets in a row over blank lines, the edit before them", Region, NONE_OR_SOME, MAX_LIST, |n, _| bracketed(true, |b| for _ in 0..n { bracket(b, |b| b.put("\n\n")) })),
-        shape("region: n brackets, an unmatched close in each, the edit behind them", Region, NONE_OR_SOME, MAX_LIST, |n, _| {
+        shape("number 5: n MarginNotes over n contents over n segments, n a multiple of 64", Check, ONE, MAX_POOL / 2, |n| margin_notes(n / 64 * 64)),
+        shape("number 5: n MarginNotes over n contents over n segments, n no multiple of 64", Check, ONE, MAX_POOL / 2, |n| margin_notes(n / 64 * 64 + 37)),
+        shape("number 5: n Rubies over one run of n contents", Check, ONE, MAX_POOL, |n| ruby_runs(n)),
+        shape("number 5: n captions over one run of n segments", Check, ONE, MAX_POOL / 2, |n| captions(n)),
+        shape("number 5: n Rubies over runs with random edges, over runs with random edges", Check, ONE, MAX_POOL / 2, |n| edges(n)),
+        shape("number 5: runs of 128 contents, each of 128 segments", Check, ONE, MAX_POOL, |n| short_runs(n)),
+        shape("number 10: n Rubies, n Formats, unlike strings of one length", Region, ALL, MAX_LIST / 2, |n| dependency(&unlike(2 * n))),
+        shape("number 10: n Rubies, n Formats, unlike strings of one length", Merge, &[0, 256, 16384], MAX_LIST / 2, |n| dependency(&unlike(2 * n))),
+        shape("number 10: strings that crowd the filter", Region, ALL, MAX_LIST / 2, move |n| dependency(&crowded(2 * n))),
+        shape("number 10: strings that crowd the filter, behind a common prefix of 198 bytes", Region, NONE_OR_SOME, MAX_LIST / 2, move |n| dependency(&with_prefix(2 * n))),
+        shape("number 15: n Rubies, n Formats in the reading, unlike strings of one length", Merge, ALL, MAX_LIST, |n| introduced(&unlike(2 * n))),
+        shape("number 15: strings that crowd the filter", Merge, &[256, 16384], MAX_LIST, move |n| introduced(&crowded_reading(2 * n))),
+        shape("region: n brackets in a row over blank lines, the edit behind them", Region, ALL, MAX_LIST, |n| bracketed(false, |b| for _ in 0..n { bracket(b, |b| b.put("\n\n")) })),
+        shape("region: n brackets in a row over blank lines, the edit before them", Region, NONE_OR_SOME, MAX_LIST, |n| bracketed(true, |b| for _ in 0..n { bracket(b, |b| b.put("\n\n")) })),
+        shape("region: n brackets, an unmatched close in each, the edit behind them", Region, NONE_OR_SOME, MAX_LIST, |n| {
             bracketed(false, |b| for _ in 0..n { bracket(b, |b| { b.put("\n\n"); b.block("c", 3); }) })
         }),
-        shape("region: n brackets, one in the other, over gaps, the edit behind them", Region, NONE_OR_SOME, MAX_LIST, |n, _| bracketed(false, |b| nested(b, n))),
-        shape("region: n brackets, one in the other, over gaps, the edit before them", Region, NONE_OR_SOME, MAX_LIST, |n, _| bracketed(true, |b| nested(b, n))),
-        shape("diagnostics in falling order", Merge, ONE, MAX_LIST, |n, _| diagnosed_by(n, |i| n - i)),
-        shape("diagnostics with equal keys", Merge, ONE, MAX_LIST, |n, _| diagnosed_by(n, |_| 1)),
-        shape("UTF-8: characters of four bytes", Check, ONE, MAX_TEXT, |n, _| first_line(&written(n, "𠀋𡈽𠮟😀𩸽"))),
-        shape("UTF-8: E0 and ED in each 64 bytes", Check, ONE, MAX_TEXT, |n, _| first_line(&written(n, "青空文庫の本を読む人はไ声に出して힘"))),
-        shape("UTF-8: damaged at the very end", Check, ONE, MAX_TEXT, |n, _| damaged(n)),
+        shape("region: n brackets, one in the other, over gaps, the edit behind them", Region, NONE_OR_SOME, MAX_LIST, |n| bracketed(false, |b| nested(b, n))),
+        shape("region: n brackets, one in the other, over gaps, the edit before them", Region, NONE_OR_SOME, MAX_LIST, |n| bracketed(true, |b| nested(b, n))),
+        shape("diagnostics in falling order", Merge, ONE, MAX_LIST, |n| diagnosed_by(n, |i| n - i)),
+        shape("diagnostics with equal keys", Merge, ONE, MAX_LIST, |n| diagnosed_by(n, |_| 1)),
+        shape("UTF-8: characters of four bytes", Check, ONE, MAX_TEXT, |n| first_line(&written(n, "𠀋𡈽𠮟😀𩸽"))),
+        shape("UTF-8: E0 and ED in each 64 bytes", Check, ONE, MAX_TEXT, |n| first_line(&written(n, "青空文庫の本を読む人はไ声に出して힘"))),
+        shape("UTF-8: damaged at the very end", Check, ONE, MAX_TEXT, |n| damaged(n)),
     ]
 }
 
@@ -307,7 +287,7 @@ fn call(h: &Hostile, timed: Timed, words: usize) -> (u32, f64) {
 }
 
 fn point(s: &Shape, n: usize, words: usize) -> Point {
-    let h = (s.make)(n, words);
+    let h = (s.make)(n);
     let (number, seconds) = call(&h, s.timed, words);
     Point { n, input: size_of_input(&h), number, seconds }
 }
@@ -315,8 +295,8 @@ fn point(s: &Shape, n: usize, words: usize) -> Point {
 fn size_of_input(h: &Hostile) -> usize { h.book.0.len() + h.book.1.len() + h.reading.0.len() + h.reading.1.len() }
 
 // the n that makes an input of about 4 MB
-fn n_of_4_mb(s: &Shape, words: usize) -> usize {
-    let [a, b] = [1024, 2048].map(|n| size_of_input(&(s.make)(n, words)) as f64);
+fn n_of_4_mb(s: &Shape) -> usize {
+    let [a, b] = [1024, 2048].map(|n| size_of_input(&(s.make)(n)) as f64);
     (1024.0 + 1024.0 * (FOUR_MB as f64 - a) / (b - a)) as usize
 }
 
@@ -333,7 +313,7 @@ fn at_limits(s: &Shape, words: usize, points: &[Point]) -> Result<Point, f64> {
 }
 
 fn hostile_row(s: &Shape, words: usize, limits: bool) -> HostileRow {
-    let most = n_of_4_mb(s, words).min(s.most);
+    let most = n_of_4_mb(s).min(s.most);
     let mut points: Vec<Point> = Vec::new();
     for k in (0..=8).rev() {
         points.push(point(s, most >> k, words));
