@@ -552,6 +552,32 @@ fn region_in(
 // Where fewer words are lent, so many of its own are used: with a small window the pairs are walked more often.
 const WINDOW_WORDS: usize = 16384;
 
+// The same where there are many pairs.
+const WIDE_WINDOW_WORDS: usize = 65536;
+const MANY_PAIRS: usize = 8192;
+
+fn region_of_many(
+    tape: &[u8],
+    text: &[u8],
+    nodes: places::Run,
+    pairs: places::Run,
+    start: usize,
+    end: usize,
+    replacement: &[u8],
+    words: &mut [u32],
+) -> Region
+    requires { ⌜ (nodes .at + 49 * nodes .count ≤ length (now tape)) × (pairs .at + 18 * pairs .count ≤ length (now tape)) ⌝ }
+    requires { ⌜ (start ≤ length (now text)) × (end ≤ length (now text)) ⌝ }
+    requires { ⌜ NodesIn (length (now text)) (nodesOf (now tape) nodes) ⌝ }
+    ensures { λ r. ⌜ regionOf r ≡ balancedIn (now (text .entry)) (nodesOf (now (tape .entry)) nodes) (pairsOf (now (tape .entry)) pairs) start (searchFrom (now (text .entry)) start end (now (replacement .entry))) ⌝ }
+{
+    if words.len() < WIDE_WINDOW_WORDS {
+        let mut own = [0u32; WIDE_WINDOW_WORDS];
+        return region_in(tape, text, nodes, pairs, start, end, replacement, &mut own);
+    }
+    region_in(tape, text, nodes, pairs, start, end, replacement, words)
+}
+
 // Section 6. `balanced_region` of the edit from `start` to `end`.
 pub fn balanced_region(
     tape: &[u8],
@@ -568,6 +594,9 @@ pub fn balanced_region(
     requires { ⌜ NodesIn (length (now text)) (nodesOf (now tape) nodes) ⌝ }
     ensures { λ r. ⌜ regionOf r ≡ balancedIn (now (text .entry)) (nodesOf (now (tape .entry)) nodes) (pairsOf (now (tape .entry)) pairs) start (searchFrom (now (text .entry)) start end (now (replacement .entry))) ⌝ }
 {
+    if MANY_PAIRS < pairs.count {
+        return region_of_many(tape, text, nodes, pairs, start, end, replacement, words);
+    }
     if words.len() < WINDOW_WORDS {
         let mut own = [0u32; WINDOW_WORDS];
         return region_in(tape, text, nodes, pairs, start, end, replacement, &mut own);
