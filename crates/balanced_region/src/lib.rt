@@ -554,6 +554,7 @@ const WINDOW_WORDS: usize = 16384;
 
 // The same where there are many pairs.
 const WIDE_WINDOW_WORDS: usize = 65536;
+
 const MANY_PAIRS: usize = 8192;
 
 fn region_of_many(

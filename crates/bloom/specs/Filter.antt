@@ -2,7 +2,7 @@
 use mathlib.Core.Path.{_≡_, refl, sym, ap, ap₂, _∙_, subst}
 use Prim.Native.Nat.{ℕ, _+_, _-_, _*_, _/_, _%_, _^_, _≤_, _<_, min, max}
 use native.Mathlib.Omega.{arith}
-use native.Mathlib.Nat.{mod-lt, mod-eq-of-lt, div-lt-iff-lt-mul, mul-lt-mul-of-pos-right, mul-le-mul, mul-comm}
+use native.Mathlib.Nat.{mod-eq-of-lt, div-lt-iff-lt-mul, mul-lt-mul-of-pos-right, mul-le-mul, mul-comm}
 use mathlib.Core.Bool.{Bool, true, false, cond, _&&_, false≢true}
 use mathlib.Core.List.{List}
 use lib.ListN.{length, getD, set, take, length-set}

@@ -1,7 +1,7 @@
 // A Bloom filter in lent words, from `base` on: a hash sets the same bits, at most four, of two words. What was inserted is always found, and
 // another hash seldom is. The words before `base` are left as they are; where there are none behind it, each hash counts as inserted.
 ghost use mathlib.Core.Path.{_≡_};
-ghost use Prim.Native.Nat.{_^_, _≤_, _<_, min};
+ghost use Prim.Native.Nat.{_^_, _<_, min};
 ghost use lib.ListN.{length};
 ghost use Rattle.bloom.specs.Filter.{hashPlace, hashBits, hasBits, withBits, mayContain, inserted};
 

@@ -1,18 +1,18 @@
 -- What the code asks of a store and its nodes, and what number 4 then says of them: the base of a Ruby and the target of a Format are
 -- ranges of contents, and a Plain content has the id of a string.
-use mathlib.Core.Path.{_≡_, refl, sym, ap, ap₂, _∙_, subst}
+use mathlib.Core.Path.{_≡_, refl, sym, ap, ap₂, _∙_}
 use Prim.Native.Nat.{ℕ, _+_, _*_, _≤_, _<_}
 use native.Mathlib.Omega.{arith}
-use mathlib.Core.Bool.{Bool, true, false, cond, _&&_, false≢true}
-use mathlib.Core.Option.{Option, none, some}
+use mathlib.Core.Bool.{Bool, true, false, cond, _&&_}
+use mathlib.Core.Option.{none}
 use mathlib.Core.List.{List, [], _∷_, _++_}
 use lib.ListN.{length, getD, drop}
 use lib.Dec.{ltb, eqb}
 use borrow.Author.Tests.{eqb-true, ltb-true}
 use Rattle.model.specs.Lists.{all, any, same}
 use Rattle.model.specs.Types.{Body, Content, Layer, SourceNode}
-use Rattle.model.specs.Store.{storeOf, stringCounts, contentCounts, segmentCounts, rangeOk, idOk, resolveStr, resolveContentRange, contentRangeAsPlain}
-use Rattle.model.specs.Tape.{Field.contentRange, recordAt, recordsAt, nodeCodec, places, layersAt, fieldTable, fieldsOf, nodeFields, payloadFields}
+use Rattle.model.specs.Store.{stringCounts, contentCounts, segmentCounts, rangeOk, idOk, resolveContentRange}
+use Rattle.model.specs.Tape.{Field.contentRange, recordAt, recordsAt, nodeCodec, places, layersAt, fieldTable, fieldsOf, nodeFields}
 use Rattle.model.specs.WellFormed.{wordOf, fieldOk, contentOk, nodeOk}
 use Rattle.model.specs.Region.{isRuby, isReferencedFormat, firstPlain}
 use Rattle.laws.specs.Lists.{both, all-take, all-drop}

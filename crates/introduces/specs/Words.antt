@@ -1,19 +1,17 @@
 -- The lent words in three parts: before `base` an index of the old book's strings, from there to `middle` the filter, from `middle` on an
 -- index of the reading's strings. The code writes into the words before `middle` and into those behind it.
-use mathlib.Core.Path.{_≡_, refl, sym, ap, ap₂, _∙_, subst}
+use mathlib.Core.Path.{_≡_, refl, sym, ap, _∙_, subst}
 use Prim.Native.Nat.{ℕ, _+_, _-_, _≤_}
 use native.Mathlib.Omega.{arith}
-use native.Mathlib.Nat.{sub-zero}
-use mathlib.Core.List.{List, [], _++_, append-nil}
-use lib.ListN.{length, take, drop, length-append, length-drop, drop-of-length-le}
-use lib.Seq.{length-take-le, take-append-seam, drop-append-seam, take-all}
+use mathlib.Core.List.{List, _++_}
+use lib.ListN.{length, take, drop}
+use lib.Seq.{take-take}
 use Rattle.model.specs.Types.{SourceNode}
 use Rattle.model.specs.Store.{NodeStore}
 use Rattle.wire.specs.Overwrite.{overwrite}
 use Rattle.strings.specs.Index.{Indexed, indexIn, index-length, index-written}
 use Rattle.dependency.specs.Noted.{firstWords, Noted}
 use Rattle.dependency.specs.Words.{lastWords, first-length, first-front, first-last, last-front, last-back}
-use Rattle.region.specs.Words.{indexedWords, words-indexed}
 
 -- both indexes
 pub record BothIndexed (old new words : List ℕ) (base middle : ℕ) : Type 0 where
@@ -45,25 +43,23 @@ noted-words e m = rw e m
 -- ---- both
 
 module _ (old new words : List ℕ) (base middle : ℕ) (h : (base ≤ middle) × (middle ≤ length words)) {ys : List ℕ}
-    (e : ys ≡ indexedWords old base (firstWords middle words)) (n : length ys ≡ length (take (middle - 0) words)) where
+    (e : ys ≡ overwrite (take (base - 0) words) 0 (indexIn old (take (base - 0) words))) (n : length ys ≡ length (take (base - 0) words)) where
   abbrev between : List ℕ
-  between = ys ++ drop (middle - 0) words
+  between = ys ++ drop (base - 0) words
 
-  middle-inside : middle ≤ length between
-  middle-inside = let a = first-length words middle (h .1) ys n in omega (arith, a, h)
-
-  base-inside : base ≤ length (firstWords middle words)
-  base-inside = let a = length-take-le (middle - 0) words (omega (arith, h)) in omega (arith, a, h)
+  as-long : length between ≡ length words
+  as-long = first-length words base (omega (arith, h)) ys n
 
   pub both-indexed : (end : ℕ) → end ≡ length words → {zs : List ℕ} → zs ≡ overwrite (take (end - middle) (drop middle between)) 0 (indexIn new (take (end - middle) (drop middle between)))
       → BothIndexed old new (take middle between ++ (zs ++ drop (end - middle) (drop middle between))) base middle
   both-indexed end q {zs} f =
       let part = take (end - middle) (drop middle between) in
       let l = index-length new part f in
-      let a = last-front between middle middle-inside end (q ∙ sym (first-length words middle (h .1) ys n)) zs l in
-      let b = last-back between middle middle-inside end (q ∙ sym (first-length words middle (h .1) ys n)) zs l in
-      let c : take middle between ≡ ys = ap (λ (k : ℕ). take k between) (sym (sub-zero middle)) ∙ first-front words middle (h .1) ys n in
+      let inside : middle ≤ length between = omega (arith, as-long, h) in
+      let a = last-front between middle inside end (q ∙ sym as-long) zs l in
+      let b = last-back between middle inside end (q ∙ sym as-long) zs l in
+      let c = take-take (base - 0) middle between (omega (arith, h)) ∙ first-front words base (omega (arith, h)) ys n in
       record {
-        first = subst (λ (l : List ℕ). Indexed old (firstWords base l)) (sym (a ∙ c)) (words-indexed old (firstWords middle words) base base-inside e);
+        first = subst (λ (l : List ℕ). Indexed old l) (sym (ap (firstWords base) a ∙ c)) (index-written old (take (base - 0) words) e);
         last = subst (λ (l : List ℕ). Indexed new l) (sym b) (index-written new part f);
       }

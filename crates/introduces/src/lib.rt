@@ -12,7 +12,7 @@ ghost use lib.ListN.{length};
 ghost use Rattle.model.specs.Lists.{any, keep};
 ghost use Rattle.model.specs.Tape.{recordAt, recordsAt, nodeCodec, places as placesIn, bookAt};
 ghost use Rattle.model.specs.Store.{storeOf};
-ghost use Rattle.model.specs.Region.{isRuby, isReferencedFormat};
+ghost use Rattle.model.specs.Region.{isReferencedFormat};
 ghost use Rattle.model.specs.Merge.{introducesRubyFormatDependency};
 ghost use Rattle.laws.specs.Nodes.{endsBy, startsAt};
 ghost use Rattle.bounds.specs.Spans.{spanOf};
@@ -419,7 +419,7 @@ fn index_both(
     ensures { λ _. ⌜ BothIndexed (lengthsIn (now (tape .entry))) (lengthsIn (now (reading .entry))) (now (words .exit)) base middle ⌝ }
 {
     let end = words.len();
-    region::index_words(tape, st, room, &mut words[0..middle], base);
+    strings::index_strings(tape, st, room, &mut words[0..base]);
     strings::index_strings(reading, own, space, &mut words[middle..end]);
 }
 

@@ -2,6 +2,5 @@ pub mod Chosen
 pub mod Ready
 pub mod Held
 pub mod Stage
-pub mod Words
 pub mod Entry
 pub mod Passage

@@ -9,7 +9,6 @@ use lib.ListN.{length, take}
 use lib.Dec.{eqb}
 use Rattle.model.specs.Limits.{maxText}
 use Rattle.model.specs.Offset.{Span}
-use Rattle.model.specs.Types.{LexOutput}
 use Rattle.model.specs.Refusal.{Checked, Checked.refused, Checked.accepted}
 use Rattle.model.specs.Tape.{recordsAt, nodeCodec, pairCodec, places, bookAt}
 use Rattle.model.specs.Region.{Edit, balancedRegion, isWhole, hasRubyFormatDependency, chosenRegion, editOf}
@@ -20,10 +19,9 @@ use Rattle.balanced_region.specs.declared.Region.{Region as Cuts}
 use Rattle.balanced_region.specs.Ends.{balancedIn, regionOf, balanced-bounds}
 use Rattle.balanced_region.specs.Survives.{searchFrom, search-bounds, region-of-book}
 use Rattle.cuts.specs.Gaps.{NodesIn}
-use Rattle.region.specs.declared.Chosen.{Chosen}
 use Rattle.region.specs.declared.Chosen.the-variants.{Refused, Region}
 use Rattle.region.specs.Chosen.{chosenOf, wholeText, chosen-edit, chosen-depends, chosen-whole, chosen-region}
-use Rattle.region.specs.Ready.{Ready, ready-text, ready-length, ready-short, ready-nodes, ready-pairs, ready-runs, ready-order}
+use Rattle.region.specs.Ready.{Ready, ready-text, ready-length, ready-short, ready-nodes, ready-pairs, ready-order}
 
 module _ {t d : List ℕ} {p : Places} {st : Store} {words : List ℕ} (r : Ready t d p st words) where
   text-is : take (p .text - 0) d ≡ bookAt t (places t) d .sanitized

@@ -4,17 +4,16 @@
 // none.
 ghost use mathlib.Core.Path.{_≡_};
 ghost use mathlib.Core.List.{List};
-ghost use Prim.Native.Nat.{ℕ, _+_, _≤_};
+ghost use Prim.Native.Nat.{ℕ, _+_};
 ghost use lib.ListN.{length};
 ghost use Rattle.model.specs.Bytes.{zeros};
 ghost use Rattle.model.specs.Types.{LexOutput};
 ghost use Rattle.model.specs.Tape.{places as placesIn, bookAt};
 ghost use Rattle.model.specs.Region.{chosenRegion, chooseRegion, hasRubyFormatDependency, regionText, editOf};
-ghost use Rattle.strings.specs.Starts.{startIn, lengthsIn, Readable};
+ghost use Rattle.strings.specs.Starts.{startIn};
 ghost use Rattle.strings.specs.Shown.{oldStrings};
 ghost use Rattle.region.specs.Chosen.{chosenOf, wholeText};
 ghost use Rattle.region.specs.Held.{Held};
-ghost use Rattle.region.specs.Words.{indexedWords};
 
 // The region in offsets of the old text, or a number up to 11.
 pub enum Chosen {
@@ -104,17 +103,6 @@ pub fn chosen_region(
         return Chosen::Refused(11);
     }
     Chosen::Region(r.start as u32, r.end as u32)
-}
-
-// An index of the book's strings in the words before `base`, zeros in the others.
-pub fn index_words(tape: &[u8], st: store::Store, room: usize, words: &mut [u32], base: usize)
-    requires { ⌜ Readable (now tape) st room ⌝ }
-    requires { ⌜ base ≤ length (now words) ⌝ }
-    ensures { λ _. ⌜ now (words .exit) ≡ indexedWords (lengthsIn (now (tape .entry))) base (now (words .entry)) ⌝ }
-{
-    let end = words.len();
-    strings::index_strings(tape, st, room, &mut words[0..base]);
-    wire::zero_words(&mut words[base..end]);
 }
 
 // Numbers 1 to 11; the words are left as they are used.

@@ -33,7 +33,7 @@ returns-2 : tie.Need-returns-2
 returns-2 c = asked-depends _ _ _ _ (c .before .before .before .before .asked-nodes .ensures) _ (c .refers-by-own .ensures)
 
 refers-by-words-requires : tie.Need-refers-by-words-requires
-refers-by-words-requires c κs = 
+refers-by-words-requires c κs =
     let enough = lent-enough (length (c .before .before .before .before .before .before .before .before .before .args .words .now)) (c .before .before .before .before .asked-nodes .result + 1) (c .before .before .in-many-parts .ensures) (c .before .if2 .left) in
     (sound-before (c .before .before .before .before .before .before .before .before .before .pre) (asked-inside _ _ _ _ (c .before .before .before .before .asked-nodes .ensures)), omega (arith, enough, c .before .before .before .if1 .left))
 

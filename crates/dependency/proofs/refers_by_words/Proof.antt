@@ -28,7 +28,7 @@ index-strings-requires : tie.Need-index-strings-requires
 index-strings-requires c κs = sides-readable (c .before .before .before .before .before .pre .0 .strings)
 
 refers-in-parts-requires : tie.Need-refers-in-parts-requires
-refers-in-parts-requires c κs = 
+refers-in-parts-requires c κs =
     let at-index-strings = c .before .before .before in
     let start = c .before .before .before .before .before .before .before .before .before in
     let base = length (start .args .words .now) / 4 in (

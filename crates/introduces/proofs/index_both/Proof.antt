@@ -1,27 +1,11 @@
-use Rattle.introduces.specs.Words.{both-indexed}
 use mathlib.Core.Path.{refl}
+use Rattle.introduces.specs.Words.{both-indexed}
 use borrow.Author.Needs.{needs}
 use Rattle.introduces.proofs.index_both.Statement.{statement}
 use Rattle.introduces.proofs.index_both.Tie as tie
 use Rattle.introduces.proofs.index_both.Reads as reads
 use Rattle.introduces.proofs.index_both.Lts as lts
-use Rattle.region.proofs.index_words.Reads as index-words-reads
 use Rattle.strings.proofs.index_strings.Reads as index-strings-reads
-
-sub-index-words : tie.Need-sub-index-words
-sub-index-words c = search needs
-
-part-index-words-start : tie.Need-part-index-words-start
-part-index-words-start c = search needs
-
-part-index-words-end : tie.Need-part-index-words-end
-part-index-words-end c = search needs
-
-index-words-requires : tie.Need-index-words-requires
-index-words-requires c κs = search needs
-
-mul-index-strings : tie.Need-mul-index-strings
-mul-index-strings c = search needs
 
 sub-index-strings : tie.Need-sub-index-strings
 sub-index-strings c = search needs
@@ -35,24 +19,43 @@ part-index-strings-end c = search needs
 index-strings-requires : tie.Need-index-strings-requires
 index-strings-requires c κs = search needs
 
+mul-index-strings : tie.Need-mul-index-strings
+mul-index-strings c = search needs
+
+sub-index-strings-2 : tie.Need-sub-index-strings-2
+sub-index-strings-2 c = search needs
+
+part-index-strings-start-2 : tie.Need-part-index-strings-start-2
+part-index-strings-start-2 c = search needs
+
+part-index-strings-end-2 : tie.Need-part-index-strings-end-2
+part-index-strings-end-2 c = search needs
+
+index-strings-requires-2 : tie.Need-index-strings-requires-2
+index-strings-requires-2 c κs = search needs
+
 same-length : tie.Need-same-length
 same-length c = search needs
 
 returns : tie.Need-returns
-returns c = both-indexed _ _ (c .before .before .before .before .before .before .before .before .before .before .before .args .words .now) (c .before .before .before .before .before .before .before .before .before .before .before .args .base) (c .before .before .before .before .before .before .before .before .before .before .before .args .middle) (c .before .before .before .before .before .before .before .before .before .before .before .pre .1 .1) (c .before .before .before .before .before .before .index-words .ensures) (c .before .before .before .before .before .before .index-words .kept .1 .1 .1 .0) _ refl (c .before .before .index-strings .ensures)
+returns c =
+    let start = c .before .before .before .before .before .before .before .before .before .before .before in
+    let at-index-strings = c .before .before .before .before .before .before in
+    both-indexed _ _ (start .args .words .now) (start .args .base) (start .args .middle) (start .pre .1 .1) (at-index-strings .index-strings .ensures)
+    (at-index-strings .index-strings .kept .1 .1 .1 .0) _ refl (c .before .before .index-strings2 .ensures)
 
 pub index-both-spec : {M : Type 1} → statement M
 index-both-spec =
     tie.close
     (tie.spec
-    sub-index-words
-    part-index-words-start
-    part-index-words-end
-    index-words-requires
-    mul-index-strings
     sub-index-strings
     part-index-strings-start
     part-index-strings-end
     index-strings-requires
+    mul-index-strings
+    sub-index-strings-2
+    part-index-strings-start-2
+    part-index-strings-end-2
+    index-strings-requires-2
     same-length
     returns)
