@@ -1,10 +1,10 @@
 use mathlib.Core.Path.{refl}
-use Rattle.exports.specs.Answers.{allowedAnswer}
+use Rattle.answers.specs.Answers.{allowedAnswer}
 use borrow.Author.Needs.{needs}
-use Rattle.exports.proofs.allowed_answer.Statement.{statement}
-use Rattle.exports.proofs.allowed_answer.Tie as tie
-use Rattle.exports.proofs.allowed_answer.Reads as reads
-use Rattle.exports.proofs.allowed_answer.Lts as lts
+use Rattle.answers.proofs.allowed_answer.Statement.{statement}
+use Rattle.answers.proofs.allowed_answer.Tie as tie
+use Rattle.answers.proofs.allowed_answer.Reads as reads
+use Rattle.answers.proofs.allowed_answer.Lts as lts
 
 enum-known-a : tie.Need-enum-known-a
 enum-known-a c = search needs

@@ -33,14 +33,14 @@ use Rattle.output.specs.Answer.{Merged}
 use Rattle.orders.specs.Orders.{MergedBothOrders}
 use Rattle.output.specs.declared.IncrementalOutput.{IncrementalOutput as Output}
 use Rattle.orders.specs.declared.BothOrders.{BothOrders}
-use Rattle.exports.specs.declared.AllowedAnswer.{AllowedAnswer}
-use Rattle.exports.specs.declared.NodeAnswer.{NodeAnswer}
-use Rattle.exports.specs.declared.RangeAnswer.{RangeAnswer}
-use Rattle.exports.specs.declared.StrAnswer.{StrAnswer}
-use Rattle.exports.specs.declared.CopyAnswer.{CopyAnswer}
-use Rattle.exports.specs.declared.RegionAnswer.{RegionAnswer}
-use Rattle.exports.specs.declared.MergeAnswer.{MergeAnswer}
-use Rattle.exports.specs.declared.OrdersAnswer.{OrdersAnswer}
+use Rattle.answers.specs.declared.AllowedAnswer.{AllowedAnswer}
+use Rattle.answers.specs.declared.NodeAnswer.{NodeAnswer}
+use Rattle.answers.specs.declared.RangeAnswer.{RangeAnswer}
+use Rattle.answers.specs.declared.StrAnswer.{StrAnswer}
+use Rattle.answers.specs.declared.CopyAnswer.{CopyAnswer}
+use Rattle.answers.specs.declared.RegionAnswer.{RegionAnswer}
+use Rattle.answers.specs.declared.MergeAnswer.{MergeAnswer}
+use Rattle.answers.specs.declared.OrdersAnswer.{OrdersAnswer}
 
 -- ---- told
 

@@ -1,9 +1,9 @@
 use borrow.Author.Needs.{needs}
-use Rattle.exports.proofs.orders_answer.Statement.{statement}
-use Rattle.exports.proofs.orders_answer.Tie as tie
-use Rattle.exports.proofs.orders_answer.Reads as reads
-use Rattle.exports.proofs.orders_answer.Lts as lts
-use Rattle.exports.proofs.merge_answer.Reads as merge-answer-reads
+use Rattle.answers.proofs.orders_answer.Statement.{statement}
+use Rattle.answers.proofs.orders_answer.Tie as tie
+use Rattle.answers.proofs.orders_answer.Reads as reads
+use Rattle.answers.proofs.orders_answer.Lts as lts
+use Rattle.answers.proofs.merge_answer.Reads as merge-answer-reads
 
 merge-answer-requires : tie.Need-merge-answer-requires
 merge-answer-requires c κs = search needs
