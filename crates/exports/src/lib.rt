@@ -36,14 +36,21 @@ pub extern "C" fn aozora_check_reading(tape: &[u8], bytes: &[u8]) -> u32
 }
 
 #[no_mangle]
-pub extern "C" fn aozora_diagnostics_allow_incremental(tape: &[u8], bytes: &[u8]) -> answers::AllowedAnswer
+pub extern "C" fn aozora_diagnostics_allow_incremental(
+    tape: &[u8],
+    bytes: &[u8],
+) -> answers::AllowedAnswer
     ensures { λ r. ⌜ r ≡ allowedAnswer (allowedOf (askBook (now (tape .entry)) (now (bytes .entry)) (λ b. diagnosticsAllowIncremental (b .diagnostics)))) ⌝ }
 {
     answers::allowed_answer(lookup::diagnostics_allow_incremental(tape, bytes))
 }
 
 #[no_mangle]
-pub extern "C" fn aozora_node_at_source(tape: &[u8], bytes: &[u8], offset: u32) -> answers::NodeAnswer
+pub extern "C" fn aozora_node_at_source(
+    tape: &[u8],
+    bytes: &[u8],
+    offset: u32,
+) -> answers::NodeAnswer
     ensures { λ r. ⌜ r ≡ nodeAnswer (nodeAtOf (askBook (now (tape .entry)) (now (bytes .entry)) (λ b. nodeAtSource (b .sourceNodes) offset))) ⌝ }
 {
     answers::node_answer(lookup::node_at_source(tape, bytes, offset))
