@@ -1,12 +1,12 @@
-use Rattle.reading.specs.Text.{text-length, text-first, text-second, text-third}
+use Rattle.passage.specs.Text.{text-length, text-first, text-second, text-third}
 use borrow.Author.Tests.{not-true, not-false}
 use mathlib.Core.Path.{refl}
 use native.Mathlib.Omega.{arith}
 use borrow.Author.Needs.{needs}
-use Rattle.reading.proofs.is_region_text.Statement.{statement}
-use Rattle.reading.proofs.is_region_text.Tie as tie
-use Rattle.reading.proofs.is_region_text.Reads as reads
-use Rattle.reading.proofs.is_region_text.Lts as lts
+use Rattle.passage.proofs.is_region_text.Statement.{statement}
+use Rattle.passage.proofs.is_region_text.Tie as tie
+use Rattle.passage.proofs.is_region_text.Reads as reads
+use Rattle.passage.proofs.is_region_text.Lts as lts
 use Rattle.compare.proofs.same.Reads as same-reads
 
 sub-behind : tie.Need-sub-behind

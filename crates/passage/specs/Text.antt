@@ -12,7 +12,7 @@ use lib.Dec.{eqb}
 use Rattle.model.specs.Lists.{same}
 use Rattle.model.specs.Bytes.{part}
 use Rattle.model.specs.Offset.{Span}
-use Rattle.model.specs.Types.{LexOutput}
+use Rattle.model.specs.Types.{LexOutput, RegionOutput}
 use Rattle.model.specs.Region.{Edit, edited, behindEdit, regionText, editOf}
 use Rattle.model.specs.Merge.{newRegionText}
 use Rattle.laws.specs.Splice.{splice, drop-take, take-splice-rest}
@@ -124,3 +124,9 @@ module _ (old : LexOutput) (e : Edit) (r : Span) (h : (r .start ≤ e .start) ×
 
   pub new-region-text : newRegionText old e r ≡ edited (regionText old r) (editWithin r e)
   new-region-text = new-parts ∙ sym edited-parts
+
+-- Number 12, of a passage of the old text and a reading's text.
+pub text-book : (old : LexOutput) (reading : RegionOutput) (e : Edit) (r : Span) → (r .start ≤ e .start) × (e .start ≤ e .end) × (e .end ≤ r .end) × (r .end ≤ length (old .sanitized))
+    → {passage own : List ℕ} → passage ≡ regionText old r → own ≡ reading .sanitized
+    → {x : Bool} → x ≡ same own (edited passage (editWithin r e)) → x ≡ same (reading .sanitized) (newRegionText old e r)
+text-book old reading e r h f g q = q ∙ ap₂ same g (ap (λ (l : List ℕ). edited l (editWithin r e)) f ∙ sym (new-region-text old e r h))

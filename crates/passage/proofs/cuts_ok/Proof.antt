@@ -1,10 +1,10 @@
-use Rattle.reading.specs.Window.{ends-start, ends-end}
+use Rattle.passage.specs.Window.{ends-start, ends-end}
 use borrow.Author.Tests.{not-true, not-false}
 use borrow.Author.Needs.{needs}
-use Rattle.reading.proofs.cuts_ok.Statement.{statement}
-use Rattle.reading.proofs.cuts_ok.Tie as tie
-use Rattle.reading.proofs.cuts_ok.Reads as reads
-use Rattle.reading.proofs.cuts_ok.Lts as lts
+use Rattle.passage.proofs.cuts_ok.Statement.{statement}
+use Rattle.passage.proofs.cuts_ok.Tie as tie
+use Rattle.passage.proofs.cuts_ok.Reads as reads
+use Rattle.passage.proofs.cuts_ok.Lts as lts
 use Rattle.utf8.proofs.is_char_boundary.Reads as is-char-boundary-reads
 
 is-char-boundary-requires : tie.Need-is-char-boundary-requires
