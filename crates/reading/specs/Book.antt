@@ -1,5 +1,5 @@
 -- Numbers 13, 14 and 16 of books that a tape and its bytes hold: the code's answers by records and parts of bytes are the model's.
-use mathlib.Core.Path.{_≡_, refl, sym, ap, _∙_}
+use mathlib.Core.Path.{_≡_, refl, ap, _∙_}
 use Prim.Native.Nat.{ℕ}
 use mathlib.Core.Bool.{Bool}
 use mathlib.Core.List.{List}
@@ -7,7 +7,7 @@ use lib.ListN.{take}
 use Rattle.model.specs.Lists.{any}
 use Rattle.model.specs.Bytes.{part}
 use Rattle.model.specs.Offset.{Span}
-use Rattle.model.specs.Types.{SourceNode, Diagnostic, LexOutput, RegionOutput}
+use Rattle.model.specs.Types.{SourceNode, Diagnostic, RegionOutput}
 use Rattle.model.specs.Tape.{recordsAt, nodeCodec, diagnosticCodec, places, bookAt}
 use Rattle.model.specs.Region.{Edit}
 use Rattle.model.specs.Merge.{balancedNodes, isUnclosed, normalizedOffset, windowOf, cutsOk}
