@@ -56,8 +56,8 @@ returns-2 : tie.Need-returns-2
 returns-2 c =
     let start = c .before .before .before .before .before .before .before .before .before .before .before .before .before .before .before .before .before in
     λ e.
-        refused-16 (start .pre .0 .0) (start .pre .0 .1) e _ (c .before .before .before .before .before .before .before .before .before .before .introduces-ruby-format-dependency .ensures) (c .before .before .before .before .before .before .before .if1 .left) (start .pre .1 .0) (start .pre .1 .1) refl refl
-        (c .before .cuts-ok .ensures) (not-true _ (c .if2 .taken))
+    refused-16 (start .pre .0 .0) (start .pre .0 .1) e _ (c .before .before .before .before .before .before .before .before .before .before .introduces-ruby-format-dependency .ensures) (c .before .before .before .before .before .before .before .if1 .left) (start .pre .1 .0) (start .pre .1 .1) refl refl
+    (c .before .cuts-ok .ensures) (not-true _ (c .if2 .taken))
 
 layer-missing-requires : tie.Need-layer-missing-requires
 layer-missing-requires c κs = search needs
@@ -69,8 +69,8 @@ returns-3 : tie.Need-returns-3
 returns-3 c =
     let start = c .before .before .before .before .before .before .before .before .before .before .before .before .before .before .before .before .before .before .before in
     λ e.
-        refused-17 (start .pre .0 .0) (start .pre .0 .1) e _ (c .before .before .before .before .before .before .before .before .before .before .before .before .introduces-ruby-format-dependency .ensures) (c .before .before .before .before .before .before .before .before .before .if1 .left) (start .pre .1 .0) (start .pre .1 .1) refl refl
-        (c .before .before .before .cuts-ok .ensures) (not-false _ (c .before .before .if2 .left)) (c .before .layer-missing .ensures) (c .if3 .taken)
+    refused-17 (start .pre .0 .0) (start .pre .0 .1) e _ (c .before .before .before .before .before .before .before .before .before .before .before .before .introduces-ruby-format-dependency .ensures) (c .before .before .before .before .before .before .before .before .before .if1 .left) (start .pre .1 .0) (start .pre .1 .1) refl refl
+    (c .before .before .before .cuts-ok .ensures) (not-false _ (c .before .before .if2 .left)) (c .before .layer-missing .ensures) (c .if3 .taken)
 
 same-length-4 : tie.Need-same-length-4
 same-length-4 c = search needs
@@ -79,8 +79,8 @@ returns-4 : tie.Need-returns-4
 returns-4 c =
     let start = c .before .before .before .before .before .before .before .before .before .before .before .before .before .before .before .before .before .before .before in
     λ e.
-        refused-none (start .pre .0 .0) (start .pre .0 .1) e _ (c .before .before .before .before .before .before .before .before .before .before .before .before .introduces-ruby-format-dependency .ensures) (c .before .before .before .before .before .before .before .before .before .if1 .left) (start .pre .1 .0) (start .pre .1 .1) refl refl
-        (c .before .before .before .cuts-ok .ensures) (not-false _ (c .before .before .if2 .left)) (c .before .layer-missing .ensures) (c .if3 .left)
+    refused-none (start .pre .0 .0) (start .pre .0 .1) e _ (c .before .before .before .before .before .before .before .before .before .before .before .before .introduces-ruby-format-dependency .ensures) (c .before .before .before .before .before .before .before .before .before .if1 .left) (start .pre .1 .0) (start .pre .1 .1) refl refl
+    (c .before .before .before .cuts-ok .ensures) (not-false _ (c .before .before .if2 .left)) (c .before .layer-missing .ensures) (c .if3 .left)
 
 pub cut-refusal-spec : {M : Type 1} → statement M
 cut-refusal-spec =

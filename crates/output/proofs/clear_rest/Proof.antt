@@ -27,12 +27,11 @@ same-length-3 : tie.Need-same-length-3
 same-length-3 c = search needs
 
 returns : tie.Need-returns
-returns c =
-    (
-      cleared _ _ (c .before .before .before .before .before .before .before .before .before .before .before .before .before .before .before .pre .0) (c .before .before .before .before .before .before .before .before .before .before .zero-from .ensures),
-      cleared _ _ (c .before .before .before .before .before .before .before .before .before .before .before .before .before .before .before .pre .1) (c .before .before .before .before .before .before .zero-from2 .ensures),
-      words-cleared (c .before .before .before .before .before .before .before .before .before .before .before .before .before .before .before .args .work .now) refl (c .before .before .clear-part .ensures),
-    )
+returns c = (
+  cleared _ _ (c .before .before .before .before .before .before .before .before .before .before .before .before .before .before .before .pre .0) (c .before .before .before .before .before .before .before .before .before .before .zero-from .ensures),
+  cleared _ _ (c .before .before .before .before .before .before .before .before .before .before .before .before .before .before .before .pre .1) (c .before .before .before .before .before .before .zero-from2 .ensures),
+  words-cleared (c .before .before .before .before .before .before .before .before .before .before .before .before .before .before .before .args .work .now) refl (c .before .before .clear-part .ensures),
+)
 
 pub clear-rest-spec : {M : Type 1} → statement M
 clear-rest-spec =
