@@ -1,9 +1,9 @@
 use native.Mathlib.Omega.{arith}
-use Rattle.levels.specs.Table.{skips-none, skips-16, skips-256, skips-4096, skips-65536}
-use Rattle.levels.proofs.known_end.Statement.{statement}
-use Rattle.levels.proofs.known_end.Tie as tie
-use Rattle.levels.proofs.known_end.Reads as reads
-use Rattle.levels.proofs.known_end.Lts as lts
+use Rattle.level_blocks.specs.Blocks.{skips-none, skips-16, skips-256, skips-4096, skips-65536}
+use Rattle.level_blocks.proofs.known_end.Statement.{statement}
+use Rattle.level_blocks.proofs.known_end.Tie as tie
+use Rattle.level_blocks.proofs.known_end.Reads as reads
+use Rattle.level_blocks.proofs.known_end.Lts as lts
 
 returns : tie.Need-returns
 returns c = skips-none _ _ _

@@ -1,15 +1,15 @@
 use Rattle.model.specs.Tape.{segmentCodec}
 use Rattle.wire.specs.Loops.{Passed, passed-none}
 use Rattle.records.specs.Runs.{testAt, run-more, run-failed, run-passed}
-use Rattle.levels.specs.Below.{below}
+use Rattle.level_blocks.specs.Level.{below}
 use borrow.Author.Tests.{not-true, not-false}
 use mathlib.Core.Path.{refl}
 use Prim.Native.Nat.{_-_, _≤_}
 use native.Mathlib.Omega.{arith}
-use Rattle.levels.proofs.levels_below.Statement.{statement}
-use Rattle.levels.proofs.levels_below.Tie as tie
-use Rattle.levels.proofs.levels_below.Reads as reads
-use Rattle.levels.proofs.levels_below.Lts as lts
+use Rattle.level_blocks.proofs.levels_below.Statement.{statement}
+use Rattle.level_blocks.proofs.levels_below.Tie as tie
+use Rattle.level_blocks.proofs.levels_below.Reads as reads
+use Rattle.level_blocks.proofs.levels_below.Lts as lts
 
 abbrev Inv-loop : tie.InvT-loop
 Inv-loop tape at count level i₀ i = (i ≤ count) × Passed (testAt segmentCodec (below level) tape at) i

@@ -1,9 +1,9 @@
-use Rattle.levels.specs.Below.{level-read}
+use Rattle.level_blocks.specs.Level.{level-read}
 use borrow.Author.Needs.{needs}
-use Rattle.levels.proofs.level_below.Statement.{statement}
-use Rattle.levels.proofs.level_below.Tie as tie
-use Rattle.levels.proofs.level_below.Reads as reads
-use Rattle.levels.proofs.level_below.Lts as lts
+use Rattle.level_blocks.proofs.level_below.Statement.{statement}
+use Rattle.level_blocks.proofs.level_below.Tie as tie
+use Rattle.level_blocks.proofs.level_below.Reads as reads
+use Rattle.level_blocks.proofs.level_below.Lts as lts
 
 add-result : tie.Need-add-result
 add-result c = search needs

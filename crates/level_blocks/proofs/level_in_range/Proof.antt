@@ -1,9 +1,9 @@
 use mathlib.Core.Path.{refl}
 use borrow.Author.Tests.{lt-leb, le-leb}
-use Rattle.levels.proofs.level_in_range.Statement.{statement}
-use Rattle.levels.proofs.level_in_range.Tie as tie
-use Rattle.levels.proofs.level_in_range.Reads as reads
-use Rattle.levels.proofs.level_in_range.Lts as lts
+use Rattle.level_blocks.proofs.level_in_range.Statement.{statement}
+use Rattle.level_blocks.proofs.level_in_range.Tie as tie
+use Rattle.level_blocks.proofs.level_in_range.Reads as reads
+use Rattle.level_blocks.proofs.level_in_range.Lts as lts
 
 returns : tie.Need-returns
 returns c = rw (lt-leb 1 (c .before .args .level) (c .if1 .taken)) refl

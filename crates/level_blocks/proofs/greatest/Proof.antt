@@ -1,11 +1,11 @@
 use mathlib.Core.Path.{_≡_}
 use Prim.Native.Nat.{_-_, _≤_}
 use native.Mathlib.Omega.{arith}
-use Rattle.levels.specs.Table.{Greatest, greatest-none, greatest-more}
-use Rattle.levels.proofs.greatest.Statement.{statement}
-use Rattle.levels.proofs.greatest.Tie as tie
-use Rattle.levels.proofs.greatest.Reads as reads
-use Rattle.levels.proofs.greatest.Lts as lts
+use Rattle.level_blocks.specs.Blocks.{Greatest, greatest-none, greatest-more}
+use Rattle.level_blocks.proofs.greatest.Statement.{statement}
+use Rattle.level_blocks.proofs.greatest.Tie as tie
+use Rattle.level_blocks.proofs.greatest.Reads as reads
+use Rattle.level_blocks.proofs.greatest.Lts as lts
 
 abbrev Inv-loop : tie.InvT-loop
 Inv-loop table from m₀ i₀ m i = (i ≤ 16) × Greatest table from i m

@@ -1,11 +1,11 @@
 use mathlib.Core.Path.{_≡_, sym, _∙_}
 use Prim.Native.Nat.{_-_, _≤_}
 use native.Mathlib.Omega.{arith}
-use Rattle.levels.specs.Table.{Risen, Kept, risen-none, risen-more, kept-all, kept-set}
-use Rattle.levels.proofs.put_uppers.Statement.{statement}
-use Rattle.levels.proofs.put_uppers.Tie as tie
-use Rattle.levels.proofs.put_uppers.Reads as reads
-use Rattle.levels.proofs.put_uppers.Lts as lts
+use Rattle.level_blocks.specs.Blocks.{Risen, Kept, risen-none, risen-more, kept-all, kept-set}
+use Rattle.level_blocks.proofs.put_uppers.Statement.{statement}
+use Rattle.level_blocks.proofs.put_uppers.Tie as tie
+use Rattle.level_blocks.proofs.put_uppers.Reads as reads
+use Rattle.level_blocks.proofs.put_uppers.Lts as lts
 
 abbrev Inv-loop : tie.InvT-loop
 Inv-loop table₀ k₀ table k = (65536 ≤ k) × (k ≤ 69904) × Risen table k × Kept table₀ table
