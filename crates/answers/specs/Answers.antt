@@ -1,5 +1,5 @@
 -- The answers of the entries as C has them: a number of the table, or 0 and the values. What an answer does not have is 0.
-use mathlib.Core.Path.{_≡_, refl, sym, ap, _∙_, subst}
+use mathlib.Core.Path.{_≡_, refl, sym, ap, _∙_}
 use Prim.Native.Nat.{ℕ}
 use native.Mathlib.Omega.{arith}
 use mathlib.Core.Bool.{Bool, true, false, cond}
@@ -11,8 +11,6 @@ use Rattle.model.specs.Offset.{Span}
 use Rattle.model.specs.Types.{LexOutput}
 use Rattle.model.specs.Refusal.{Checked, Checked.refused, Checked.accepted, _>>=_}
 use Rattle.model.specs.WellFormed.{checkBook}
-use Rattle.model.specs.Merge.{Stored, Room, IncrementalOutput}
-use Rattle.model.specs.Demand3.{Correction}
 use Rattle.model.specs.Lookup.{askBook, lookupStrSpan, lookupStr}
 use Rattle.laws.specs.Numbers.{UpTo, book-up-to}
 use Rattle.lookup.specs.declared.Allowed.{Allowed}
@@ -29,10 +27,8 @@ use Rattle.lookup.specs.Ranges.{rangeIf, rangeAtOf}
 use Rattle.lookup.specs.Strings.{strIf, strAtOf, strShown}
 use Rattle.region.specs.declared.Chosen.{Chosen}
 use Rattle.region.specs.declared.Chosen.the-variants as chosen
-use Rattle.output.specs.Answer.{Merged}
-use Rattle.orders.specs.Orders.{MergedBothOrders}
 use Rattle.output.specs.declared.IncrementalOutput.{IncrementalOutput as Output}
-use Rattle.orders.specs.declared.BothOrders.{BothOrders}
+use Rattle.output.specs.declared.BothOrders.{BothOrders}
 use Rattle.answers.specs.declared.AllowedAnswer.{AllowedAnswer}
 use Rattle.answers.specs.declared.NodeAnswer.{NodeAnswer}
 use Rattle.answers.specs.declared.RangeAnswer.{RangeAnswer}
@@ -150,12 +146,3 @@ ordersRead r = record {
   laterfirst = outputRead (r .laterfirst);
   earliersecond = outputRead (r .earliersecond);
 }
-
-pub merge-told : {asked : Checked IncrementalOutput} {room : Room} {x y : Output} {out text work : List ℕ} → y ≡ x → Merged asked room x out text work → Merged asked room y out text work
-merge-told e m = record { answer = e ∙ m .answer; tape = m .tape; bytes = m .bytes; words = m .words }
-
-pub orders-told : {stored : Stored} {earlier later : Correction} {room₁ room₂ room₃ room₄ : Room} {x y : BothOrders} {out₁ out₂ out₃ out₄ : Stored} {work : List ℕ} → y ≡ x
-    → MergedBothOrders stored earlier later room₁ room₂ room₃ room₄ x out₁ out₂ out₃ out₄ work
-    → MergedBothOrders stored earlier later room₁ room₂ room₃ room₄ y out₁ out₂ out₃ out₄ work
-orders-told {stored} {earlier} {later} {room₁} {room₂} {room₃} {room₄} {x} {y} {out₁} {out₂} {out₃} {out₄} {work} e m =
-    subst (λ (z : BothOrders). MergedBothOrders stored earlier later room₁ room₂ room₃ room₄ z out₁ out₂ out₃ out₄ work) (sym e) m

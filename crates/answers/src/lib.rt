@@ -227,7 +227,7 @@ pub fn merge_answer(a: output::IncrementalOutput) -> MergeAnswer
     }
 }
 
-pub fn orders_answer(a: orders::BothOrders) -> OrdersAnswer
+pub fn orders_answer(a: output::BothOrders) -> OrdersAnswer
     ensures { λ r. ⌜ ordersRead r ≡ a ⌝ }
 {
     let earlierfirst = a.earlierfirst;

@@ -19,6 +19,14 @@ pub struct IncrementalOutput {
     pub bytes: usize,
 }
 
+// What four merges answer, of two corrections in both orders. The earlier correction is the one that lies before the other.
+pub struct BothOrders {
+    pub earlierfirst: IncrementalOutput,
+    pub latersecond: IncrementalOutput,
+    pub laterfirst: IncrementalOutput,
+    pub earliersecond: IncrementalOutput,
+}
+
 // A refusal: its number, and 0 beside it.
 pub fn refused_output(n: u32) -> IncrementalOutput
     ensures { λ r. ⌜ r ≡ refusedOutput n ⌝ }

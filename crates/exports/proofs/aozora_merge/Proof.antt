@@ -1,4 +1,4 @@
-use Rattle.answers.specs.Answers.{merge-told}
+use Rattle.output.specs.Answer.{merge-told}
 use borrow.Author.Needs.{needs}
 use Rattle.exports.proofs.aozora_merge.Statement.{statement}
 use Rattle.exports.proofs.aozora_merge.Tie as tie

@@ -1,4 +1,4 @@
-use Rattle.answers.specs.Answers.{orders-told}
+use Rattle.orders.specs.Orders.{orders-told}
 use borrow.Author.Needs.{needs}
 use Rattle.exports.proofs.aozora_merge_both_orders.Statement.{statement}
 use Rattle.exports.proofs.aozora_merge_both_orders.Tie as tie
