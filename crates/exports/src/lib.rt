@@ -1,5 +1,4 @@
-// The entries for C and Rust: each as it stands in its crate, an enum answer as a struct of numbers. A slice goes as a pointer and a length.
-// In every answer `number` is 0 or the number of the refusal, and what an answer does not have is 0.
+// The entries for C and Rust: each as it stands in its crate, its answer as crate `answers` tells it. A slice goes as a pointer and a length.
 ghost use mathlib.Core.Path.{_≡_};
 ghost use lib.ListN.{length};
 ghost use Rattle.model.specs.Bytes.{zeros};
@@ -20,246 +19,7 @@ ghost use Rattle.copy.specs.Copying.{copiedOf};
 ghost use Rattle.region.specs.Chosen.{chosenOf};
 ghost use Rattle.output.specs.Answer.{Merged};
 ghost use Rattle.orders.specs.Orders.{MergedBothOrders};
-ghost use Rattle.exports.specs.Answers.{allowedAnswer, nodeAnswer, rangeAnswer, rangeRead, strAnswer, strRead, copyAnswer, regionAnswer, outputRead, ordersRead};
-
-#[repr(C)]
-pub struct AllowedAnswer {
-    pub number: u32,
-    pub allowed: bool,
-}
-
-// The node's place in the list, where one is found.
-#[repr(C)]
-pub struct NodeAnswer {
-    pub number: u32,
-    pub found: bool,
-    pub node: usize,
-}
-
-// Where the first record of a range stands in the tape, and how many they are.
-#[repr(C)]
-pub struct RangeAnswer {
-    pub number: u32,
-    pub found: bool,
-    pub place: usize,
-    pub count: u32,
-}
-
-// Where a string starts and ends in the byte buffer.
-#[repr(C)]
-pub struct StrAnswer {
-    pub number: u32,
-    pub found: bool,
-    pub start: usize,
-    pub end: usize,
-}
-
-// How many bytes of the two result buffers the copy takes.
-#[repr(C)]
-pub struct CopyAnswer {
-    pub number: u32,
-    pub tape: usize,
-    pub bytes: usize,
-}
-
-// The region in offsets of the old text.
-#[repr(C)]
-pub struct RegionAnswer {
-    pub number: u32,
-    pub start: u32,
-    pub end: u32,
-}
-
-// What a merge answers: the region in offsets of the old text, old nodes kept, the reading's nodes, the seven counts, and how many bytes of
-// the two result buffers the book takes.
-#[repr(C)]
-pub struct MergeAnswer {
-    pub number: u32,
-    pub start: u32,
-    pub end: u32,
-    pub reused: u32,
-    pub reread: u32,
-    pub calls: u64,
-    pub cachehits: u64,
-    pub tablehits: u64,
-    pub allocs: u64,
-    pub longbypass: u64,
-    pub resizes: u64,
-    pub probesteps: u64,
-    pub tape: usize,
-    pub bytes: usize,
-}
-
-// What the four merges answer.
-#[repr(C)]
-pub struct OrdersAnswer {
-    pub earlierfirst: MergeAnswer,
-    pub latersecond: MergeAnswer,
-    pub laterfirst: MergeAnswer,
-    pub earliersecond: MergeAnswer,
-}
-
-fn allowed_answer(a: lookup::Allowed) -> AllowedAnswer
-    ensures { λ r. ⌜ r ≡ allowedAnswer a ⌝ }
-{
-    match a {
-        lookup::Allowed::Refused(n) => AllowedAnswer {
-            number: n,
-            allowed: false,
-        },
-        lookup::Allowed::Yes => AllowedAnswer {
-            number: 0,
-            allowed: true,
-        },
-        lookup::Allowed::No => AllowedAnswer {
-            number: 0,
-            allowed: false,
-        },
-    }
-}
-
-fn node_answer(a: lookup::NodeAt) -> NodeAnswer
-    ensures { λ r. ⌜ r ≡ nodeAnswer a ⌝ }
-{
-    match a {
-        lookup::NodeAt::Refused(n) => NodeAnswer {
-            number: n,
-            found: false,
-            node: 0,
-        },
-        lookup::NodeAt::Node(i) => NodeAnswer {
-            number: 0,
-            found: true,
-            node: i,
-        },
-        lookup::NodeAt::Nothing => NodeAnswer {
-            number: 0,
-            found: false,
-            node: 0,
-        },
-    }
-}
-
-fn range_answer(a: lookup::RangeAt) -> RangeAnswer
-    ensures { λ r. ⌜ r ≡ rangeAnswer a ⌝ }
-{
-    match a {
-        lookup::RangeAt::Refused(n) => RangeAnswer {
-            number: n,
-            found: false,
-            place: 0,
-            count: 0,
-        },
-        lookup::RangeAt::At(place, n) => RangeAnswer {
-            number: 0,
-            found: true,
-            place: place,
-            count: n,
-        },
-        lookup::RangeAt::Nothing => RangeAnswer {
-            number: 0,
-            found: false,
-            place: 0,
-            count: 0,
-        },
-    }
-}
-
-fn str_answer(a: lookup::StrAt) -> StrAnswer
-    ensures { λ r. ⌜ r ≡ strAnswer a ⌝ }
-{
-    match a {
-        lookup::StrAt::Refused(n) => StrAnswer {
-            number: n,
-            found: false,
-            start: 0,
-            end: 0,
-        },
-        lookup::StrAt::At(start, end) => StrAnswer {
-            number: 0,
-            found: true,
-            start: start,
-            end: end,
-        },
-        lookup::StrAt::Nothing => StrAnswer {
-            number: 0,
-            found: false,
-            start: 0,
-            end: 0,
-        },
-    }
-}
-
-fn copy_answer(a: copy::Copied) -> CopyAnswer
-    ensures { λ r. ⌜ r ≡ copyAnswer a ⌝ }
-{
-    match a {
-        copy::Copied::Refused(n) => CopyAnswer {
-            number: n,
-            tape: 0,
-            bytes: 0,
-        },
-        copy::Copied::Copied(tape, bytes) => CopyAnswer {
-            number: 0,
-            tape: tape,
-            bytes: bytes,
-        },
-    }
-}
-
-fn region_answer(a: region::Chosen) -> RegionAnswer
-    ensures { λ r. ⌜ r ≡ regionAnswer a ⌝ }
-{
-    match a {
-        region::Chosen::Refused(n) => RegionAnswer {
-            number: n,
-            start: 0,
-            end: 0,
-        },
-        region::Chosen::Region(start, end) => RegionAnswer {
-            number: 0,
-            start: start,
-            end: end,
-        },
-    }
-}
-
-fn merge_answer(a: output::IncrementalOutput) -> MergeAnswer
-    ensures { λ r. ⌜ outputRead r ≡ a ⌝ }
-{
-    let c = a.stats;
-    MergeAnswer {
-        number: a.number,
-        start: a.start,
-        end: a.end,
-        reused: a.reused,
-        reread: a.reread,
-        calls: c.calls,
-        cachehits: c.cachehits,
-        tablehits: c.tablehits,
-        allocs: c.allocs,
-        longbypass: c.longbypass,
-        resizes: c.resizes,
-        probesteps: c.probesteps,
-        tape: a.tape,
-        bytes: a.bytes,
-    }
-}
-
-fn orders_answer(a: orders::BothOrders) -> OrdersAnswer
-    ensures { λ r. ⌜ ordersRead r ≡ a ⌝ }
-{
-    let earlierfirst = a.earlierfirst;
-    let latersecond = a.latersecond;
-    let laterfirst = a.laterfirst;
-    let earliersecond = a.earliersecond;
-    OrdersAnswer {
-        earlierfirst: merge_answer(earlierfirst),
-        latersecond: merge_answer(latersecond),
-        laterfirst: merge_answer(laterfirst),
-        earliersecond: merge_answer(earliersecond),
-    }
-}
+ghost use Rattle.answers.specs.Answers.{allowedAnswer, nodeAnswer, rangeAnswer, rangeRead, strAnswer, strRead, copyAnswer, regionAnswer, outputRead, ordersRead};
 
 #[no_mangle]
 pub extern "C" fn aozora_check_book(tape: &[u8], bytes: &[u8]) -> u32
@@ -276,25 +36,32 @@ pub extern "C" fn aozora_check_reading(tape: &[u8], bytes: &[u8]) -> u32
 }
 
 #[no_mangle]
-pub extern "C" fn aozora_diagnostics_allow_incremental(tape: &[u8], bytes: &[u8]) -> AllowedAnswer
+pub extern "C" fn aozora_diagnostics_allow_incremental(
+    tape: &[u8],
+    bytes: &[u8],
+) -> answers::AllowedAnswer
     ensures { λ r. ⌜ r ≡ allowedAnswer (allowedOf (askBook (now (tape .entry)) (now (bytes .entry)) (λ b. diagnosticsAllowIncremental (b .diagnostics)))) ⌝ }
 {
-    allowed_answer(lookup::diagnostics_allow_incremental(tape, bytes))
+    answers::allowed_answer(lookup::diagnostics_allow_incremental(tape, bytes))
 }
 
 #[no_mangle]
-pub extern "C" fn aozora_node_at_source(tape: &[u8], bytes: &[u8], offset: u32) -> NodeAnswer
+pub extern "C" fn aozora_node_at_source(
+    tape: &[u8],
+    bytes: &[u8],
+    offset: u32,
+) -> answers::NodeAnswer
     ensures { λ r. ⌜ r ≡ nodeAnswer (nodeAtOf (askBook (now (tape .entry)) (now (bytes .entry)) (λ b. nodeAtSource (b .sourceNodes) offset))) ⌝ }
 {
-    node_answer(lookup::node_at_source(tape, bytes, offset))
+    answers::node_answer(lookup::node_at_source(tape, bytes, offset))
 }
 
 #[no_mangle]
-pub extern "C" fn aozora_lookup_str(tape: &[u8], bytes: &[u8], id: u32) -> StrAnswer
+pub extern "C" fn aozora_lookup_str(tape: &[u8], bytes: &[u8], id: u32) -> answers::StrAnswer
     ensures { λ r. ⌜ (r ≡ strAnswer (strAtOf (askBook (now (tape .entry)) (now (bytes .entry)) (λ b. lookupStrSpan b id))))
         × (strShown (now (bytes .entry)) (strRead r) ≡ askBook (now (tape .entry)) (now (bytes .entry)) (λ b. lookupStr b id)) ⌝ }
 {
-    str_answer(lookup::lookup_str(tape, bytes, id))
+    answers::str_answer(lookup::lookup_str(tape, bytes, id))
 }
 
 #[no_mangle]
@@ -303,11 +70,11 @@ pub extern "C" fn aozora_lookup_contents(
     bytes: &[u8],
     start: u32,
     len: u32,
-) -> RangeAnswer
+) -> answers::RangeAnswer
     ensures { λ r. ⌜ (r ≡ rangeAnswer (rangeAtOf (askBook (now (tape .entry)) (now (bytes .entry)) (contentsOk start len)) (contentPlace (storeAt (now (tape .entry))) start) len))
         × (rangeShown contentCodec (now (tape .entry)) (rangeRead r) ≡ askBook (now (tape .entry)) (now (bytes .entry)) (λ b. lookupContents b start len)) ⌝ }
 {
-    range_answer(lookup::lookup_contents(tape, bytes, start, len))
+    answers::range_answer(lookup::lookup_contents(tape, bytes, start, len))
 }
 
 #[no_mangle]
@@ -316,11 +83,11 @@ pub extern "C" fn aozora_lookup_segments(
     bytes: &[u8],
     start: u32,
     len: u32,
-) -> RangeAnswer
+) -> answers::RangeAnswer
     ensures { λ r. ⌜ (r ≡ rangeAnswer (rangeAtOf (askBook (now (tape .entry)) (now (bytes .entry)) (segmentsOk start len)) (segmentPlace (storeAt (now (tape .entry))) start) len))
         × (rangeShown segmentCodec (now (tape .entry)) (rangeRead r) ≡ askBook (now (tape .entry)) (now (bytes .entry)) (λ b. lookupSegments b start len)) ⌝ }
 {
-    range_answer(lookup::lookup_segments(tape, bytes, start, len))
+    answers::range_answer(lookup::lookup_segments(tape, bytes, start, len))
 }
 
 #[no_mangle]
@@ -329,13 +96,13 @@ pub extern "C" fn aozora_copy_book(
     bytes: &[u8],
     outtape: &mut [u8],
     outbytes: &mut [u8],
-) -> CopyAnswer
+) -> answers::CopyAnswer
     ensures { λ r. ⌜ (let copy = copyInto (now (tape .entry)) (now (bytes .entry)) (length (now (outtape .entry))) (length (now (outbytes .entry))) in
         (r ≡ copyAnswer (copiedOf copy))
         × (now (outtape .exit) ≡ copiedTape (length (now (outtape .entry))) copy)
         × (now (outbytes .exit) ≡ copiedBytes (length (now (outbytes .entry))) copy)) ⌝ }
 {
-    copy_answer(copy::copy_book(tape, bytes, outtape, outbytes))
+    answers::copy_answer(copy::copy_book(tape, bytes, outtape, outbytes))
 }
 
 #[no_mangle]
@@ -346,11 +113,11 @@ pub extern "C" fn aozora_choose_region(
     end: u32,
     replacement: &[u8],
     words: &mut [u32],
-) -> RegionAnswer
+) -> answers::RegionAnswer
     ensures { λ r. ⌜ (r ≡ regionAnswer (chosenOf (chooseRegion (now (tape .entry)) (now (bytes .entry)) (editOf start end (now (replacement .entry))))))
         × (now (words .exit) ≡ zeros (length (now (words .entry)))) ⌝ }
 {
-    region_answer(region::choose_region(tape, bytes, start, end, replacement, words))
+    answers::region_answer(region::choose_region(tape, bytes, start, end, replacement, words))
 }
 
 #[no_mangle]
@@ -365,13 +132,13 @@ pub extern "C" fn aozora_merge(
     outtape: &mut [u8],
     outbytes: &mut [u8],
     work: &mut [u32],
-) -> MergeAnswer
+) -> answers::MergeAnswer
     ensures { λ r. ⌜ Merged
         (merge (record { tape = now (tape .entry); bytes = now (bytes .entry) }) (editOf start end (now (replacement .entry))) (record { tape = now (readingtape .entry); bytes = now (readingbytes .entry) })
         (roomOf (now (outtape .entry)) (now (outbytes .entry)) (now (work .entry))))
         (roomOf (now (outtape .entry)) (now (outbytes .entry)) (now (work .entry))) (outputRead r) (now (outtape .exit)) (now (outbytes .exit)) (now (work .exit)) ⌝ }
 {
-    merge_answer(incremental::merge(
+    answers::merge_answer(incremental::merge(
         tape,
         bytes,
         start,
@@ -408,7 +175,7 @@ pub extern "C" fn aozora_merge_both_orders(
     tape4: &mut [u8],
     bytes4: &mut [u8],
     work: &mut [u32],
-) -> OrdersAnswer
+) -> answers::OrdersAnswer
     ensures { λ r. ⌜ MergedBothOrders (storedOf (now (tape .entry)) (now (bytes .entry)))
         (correctionOf start1 end1 (now (replacement1 .entry)) (now (readingtape1 .entry)) (now (readingbytes1 .entry)))
         (correctionOf start2 end2 (now (replacement2 .entry)) (now (readingtape2 .entry)) (now (readingbytes2 .entry)))
@@ -419,7 +186,7 @@ pub extern "C" fn aozora_merge_both_orders(
         (ordersRead r) (storedOf (now (tape1 .exit)) (now (bytes1 .exit))) (storedOf (now (tape2 .exit)) (now (bytes2 .exit)))
         (storedOf (now (tape3 .exit)) (now (bytes3 .exit))) (storedOf (now (tape4 .exit)) (now (bytes4 .exit))) (now (work .exit)) ⌝ }
 {
-    orders_answer(orders::merge_both_orders(
+    answers::orders_answer(orders::merge_both_orders(
         tape,
         bytes,
         start1,

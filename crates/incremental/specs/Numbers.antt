@@ -3,7 +3,6 @@ use mathlib.Core.Path.{_≡_, refl, sym, _∙_}
 use Prim.Native.Nat.{ℕ}
 use native.Mathlib.Omega.{arith}
 use mathlib.Core.Bool.{Bool, true, false, cond, not, _&&_}
-use mathlib.Core.List.{List}
 use lib.ListN.{length}
 use lib.Dec.{leb}
 use Rattle.model.specs.Limits.{maxLayers}
@@ -14,11 +13,8 @@ use Rattle.model.specs.Refusal.{Checked, Checked.refused, Checked.accepted, _>>
 use Rattle.model.specs.Region.{Edit}
 use Rattle.model.specs.Merge.{Room, newRegionText, balancedNodes, isUnclosed, introducesRubyFormatDependency, windowOf, cutsOk, mergeBooks}
 use Rattle.wire.specs.Loops.{by-bool}
+use Rattle.passage.specs.Layers.{layerMissing}
 use Rattle.result.specs.Checked.{Passed}
-
--- Number 17. Reading has nodes, old book 32 layers.
-unfoldable pub layerMissing : LexOutput → RegionOutput → Bool
-layerMissing old reading = not (isEmpty (reading .sourceNodes)) && leb maxLayers (length (old .layers))
 
 -- the first of 15 to 17 that holds, or 0
 unfoldable pub cutNumber : LexOutput → Edit → Span → RegionOutput → ℕ

@@ -1,17 +1,14 @@
 -- Numbers 12 to 17 of a reading, by the code's tests on tapes and parts of bytes.
-use mathlib.Core.Path.{_≡_, refl, sym, ap, _∙_}
-use Prim.Native.Nat.{ℕ, _+_, _-_, _*_, _^_, _≤_, _<_}
+use mathlib.Core.Path.{_≡_, sym, ap, _∙_}
+use Prim.Native.Nat.{ℕ, _+_, _-_, _*_, _≤_}
 use native.Mathlib.Omega.{arith}
 use native.Mathlib.Nat.{sub-zero}
-use mathlib.Core.Bool.{Bool, true, false, not, _&&_}
-use mathlib.Core.List.{List, [], _∷_}
+use mathlib.Core.Bool.{Bool, true, false}
+use mathlib.Core.List.{List}
 use lib.ListN.{length, take, drop}
-use lib.Dec.{leb}
-use borrow.Author.Tests.{le-leb, lt-leb}
-use Rattle.model.specs.Lists.{any, isEmpty, same}
-use Rattle.model.specs.Limits.{maxLayers}
+use Rattle.model.specs.Lists.{any, same}
 use Rattle.model.specs.Offset.{Span}
-use Rattle.model.specs.Types.{SourceNode, LexOutput, RegionOutput}
+use Rattle.model.specs.Types.{LexOutput, RegionOutput}
 use Rattle.model.specs.Tape.{recordsAt, nodeCodec, diagnosticCodec, places, bookAt}
 use Rattle.model.specs.Region.{Edit, edited, regionText}
 use Rattle.model.specs.Merge.{newRegionText, balancedNodes, isUnclosed, introducesRubyFormatDependency, normalizedOffset, windowOf, cutsOk}
@@ -21,12 +18,13 @@ use Rattle.store.specs.Lengths.{BookLengths, book-lengths}
 use Rattle.tape.specs.Accepted.{accepted-places, accepted-order}
 use Rattle.tape.specs.Placed.{fit-nodes, fit-diagnostics}
 use Rattle.bounds.specs.Search.{InOrder}
-use Rattle.reading.specs.Text.{editWithin, region-length}
-use Rattle.reading.specs.Book.{text-book, text-found, normalized-found, balanced-book, unclosed-book, cuts-book}
-use Rattle.reading.specs.Window.{endsOnBoundaries}
+use Rattle.passage.specs.Text.{editWithin, region-length, text-book}
+use Rattle.passage.specs.Window.{endsOnBoundaries}
+use Rattle.passage.specs.Layers.{layerMissing, missingOf, missing-book}
+use Rattle.reading.specs.Book.{text-found, normalized-found, balanced-book, unclosed-book, cuts-book}
 use Rattle.region.specs.Ready.{ready-inside}
 use Rattle.region.specs.Held.{Held, held-without}
-use Rattle.incremental.specs.Numbers.{layerMissing, cutNumber, readingNumber, number-12, number-13, number-14, number-rest, number-15, number-16, number-17, number-0}
+use Rattle.incremental.specs.Numbers.{cutNumber, readingNumber, number-12, number-13, number-14, number-rest, number-15, number-16, number-17, number-0}
 use Rattle.incremental.specs.Stages.{Read}
 use Rattle.incremental.specs.Window.{Inside, given-inside}
 
@@ -60,33 +58,9 @@ module _ {t d : List ℕ} {p : Places} {st : Store} (h : Held t d p st) where
 
 -- ---- number 17
 
-empty-none : (ns : List SourceNode) → length ns ≡ 0 → isEmpty ns ≡ true
-empty-none [] e = refl
-empty-none (n ∷ ns) e = absurd (omega (arith, e))
-
-empty-some : (ns : List SourceNode) → (length ns ≡ 0 → ⊥) → isEmpty ns ≡ false
-empty-some [] h = absurd (h refl)
-empty-some (n ∷ ns) h = refl
-
 module _ {t d : List ℕ} {p : Places} {st : Store} (h : Held t d p st) {rt rd : List ℕ} {q : Places} {own : Store} (k : Held rt rd q own) where
-  abbrev missing : Bool
-  missing = layerMissing (bookAt t (places t) d) (bookAt rt (places rt) rd)
-
-  pub missing-none : q .nodes .count ≡ 0 → missing ≡ false
-  unfolding layerMissing
-  missing-none z = rw (empty-none (bookAt rt (places rt) rd .sourceNodes) (held-lengths k .nodes ∙ z)) refl
-
-  module _ (s : q .nodes .count ≡ 0 → ⊥) where
-    some : isEmpty (bookAt rt (places rt) rd .sourceNodes) ≡ false
-    some = empty-some (bookAt rt (places rt) rd .sourceNodes) (λ z. s (sym (held-lengths k .nodes) ∙ z))
-
-    pub missing-free : p .layers < 32 → missing ≡ false
-    unfolding layerMissing
-    missing-free l = let n = held-lengths h .layers in rw (some, lt-leb 32 (length (bookAt t (places t) d .layers)) (omega (arith, l, n))) refl
-
-    pub missing-full : 32 ≤ p .layers → missing ≡ true
-    unfolding layerMissing
-    missing-full l = let n = held-lengths h .layers in rw (some, le-leb 32 (length (bookAt t (places t) d .layers)) (omega (arith, l, n))) refl
+  pub missing-held : {x : Bool} → x ≡ missingOf (q .nodes .count) (p .layers) → x ≡ layerMissing (bookAt t (places t) d) (bookAt rt (places rt) rd)
+  missing-held e = e ∙ missing-book (bookAt t (places t) d) (bookAt rt (places rt) rd) (held-lengths k .nodes) (held-lengths h .layers)
 
 -- ---- 12 to 17
 
@@ -158,8 +132,9 @@ module _ {t d : List ℕ} {p : Places} {st : Store} (h : Held t d p st) {rt rd :
       refused-16 = number-16 book e r readingBook f₄ h₄ sixteen
 
       module _ (h₅ : x₅ ≡ true) where
-        pub refused-17 : layerMissing book readingBook ≡ true → 17 ≡ cutNumber book e r readingBook
-        refused-17 = number-17 book e r readingBook f₄ h₄ sixteen h₅
+        module _ {x₆ : Bool} (f₆ : x₆ ≡ missingOf (q .nodes .count) (p .layers)) where
+          pub refused-17 : x₆ ≡ true → 17 ≡ cutNumber book e r readingBook
+          refused-17 h₆ = number-17 book e r readingBook f₄ h₄ sixteen h₅ (sym (missing-held h k f₆) ∙ h₆)
 
-        pub refused-none : layerMissing book readingBook ≡ false → 0 ≡ cutNumber book e r readingBook
-        refused-none = number-0 book e r readingBook f₄ h₄ sixteen h₅
+          pub refused-none : x₆ ≡ false → 0 ≡ cutNumber book e r readingBook
+          refused-none h₆ = number-0 book e r readingBook f₄ h₄ sixteen h₅ (sym (missing-held h k f₆) ∙ h₆)

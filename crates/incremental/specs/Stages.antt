@@ -1,20 +1,16 @@
 -- What each stage of `merge` is given and answers, and the laws for its returns.
-use mathlib.Core.Path.{_≡_, refl, sym, ap, ap₂, _∙_}
-use Prim.Native.Nat.{ℕ, _-_, _≤_}
-use native.Mathlib.Omega.{arith}
+use mathlib.Core.Path.{_≡_, refl, sym, ap, _∙_}
+use Prim.Native.Nat.{ℕ}
 use mathlib.Core.Bool.{Bool, true, false, true≢false}
-use mathlib.Core.List.{List, _++_, append-nil}
-use lib.ListN.{length, take, drop, length-take, length-replicate, drop-of-length-le}
-use native.Mathlib.Nat.{sub-zero}
-use Rattle.model.specs.Bytes.{zeros}
+use mathlib.Core.List.{List}
+use lib.ListN.{length}
 use Rattle.model.specs.Offset.{Span}
 use Rattle.model.specs.Types.{LexOutput}
 use Rattle.model.specs.Refusal.{Checked, Checked.refused, Checked.accepted, _>>=_, numberOf}
 use Rattle.model.specs.Tape.{places, bookAt}
 use Rattle.model.specs.WellFormed.{checkBook, checkReading}
 use Rattle.model.specs.Region.{Edit, chosenRegion}
-use Rattle.model.specs.Merge.{storedOf, Room, IncrementalOutput, merge, mergeBooks, tapeBuffer, textBuffer, workBuffer, padded, roomOf}
-use Rattle.wire.specs.Overwrite.{overwrite, overwrite-tail}
+use Rattle.model.specs.Merge.{storedOf, Room, IncrementalOutput, merge, mergeBooks, roomOf}
 use Rattle.places.specs.declared.Places.{Places}
 use Rattle.places.specs.Found.{placesOf}
 use Rattle.store.specs.declared.Store.{Store}
@@ -25,7 +21,7 @@ use Rattle.region.specs.declared.Chosen.{Chosen}
 use Rattle.region.specs.declared.Chosen.the-variants.{Refused, Region}
 use Rattle.region.specs.Chosen.{chosenOf}
 use Rattle.output.specs.declared.IncrementalOutput.{IncrementalOutput as Output}
-use Rattle.output.specs.Answer.{refusedOutput, outputOf, Merged, Written}
+use Rattle.output.specs.Answer.{refusedOutput, outputOf, Written}
 
 abbrev pub regionOf : ℕ → ℕ → Span
 regionOf start end = record { start = start; end = end }
@@ -41,7 +37,7 @@ pub record Given (t d : List ℕ) (p : Places) (st : Store) (e : Edit) (r : Span
   pub held : Held t d p st
   pub chosen : chosenRegion (bookAt t (places t) d) e ≡ accepted r
 
--- ---- refusals, and what is cleared
+-- ---- refusals
 
 pub written-refused : {asked : Checked IncrementalOutput} {n : ℕ} → asked ≡ refused n → {r : Output} → r ≡ refusedOutput n → {out text work out′ text′ work′ : List ℕ}
     → length out′ ≡ length out → length text′ ≡ length text → length work′ ≡ length work → Written asked r out text work out′ text′ work′
@@ -61,61 +57,6 @@ written-refused {asked} {n} e {r} f x y z = record {
 
     not-both : {m : ℕ} {a : IncrementalOutput} → refused m ≡ accepted a → ⊥
     not-both q = true≢false (sym (ap passes q))
-
--- `out` cleared behind the first n bytes
-cleared : (out : List ℕ) {out′ : List ℕ} (n : ℕ) → n ≤ length out → out′ ≡ overwrite out n (zeros (length out - n)) → out′ ≡ take n out ++ zeros (length out - n)
-cleared out n h e = let z : length (zeros (length out - n)) ≡ length out - n = length-replicate (length out - n) 0 in e ∙ overwrite-tail out n (zeros (length out - n)) (omega (arith, h, z))
-
--- what begins a list is no longer than it
-head-short : (n : ℕ) (l b : List ℕ) → length b ≡ n → take n l ≡ b → n ≤ length l
-head-short n l b e f = let h = ap length f in let k = length-take n l in omega (arith, e, h, k)
-
-module _ {out text work out₁ text₁ work₁ : List ℕ} {r : Output} where
-  -- the result is within the buffers
-  pub tape-within : (asked : Checked IncrementalOutput) → Written asked r out text work out₁ text₁ work₁ → r .tape ≤ length out₁
-  unfolding outputOf
-  tape-within (refused n) w = let e = ap (λ (x : Output). x .tape) (w .answer) in omega (arith, e)
-  tape-within (accepted a) w =
-      let e : r .tape ≡ length (a .output .tape) = ap (λ (x : Output). x .tape) (w .answer) in
-      let h = head-short (length (a .output .tape)) out₁ (a .output .tape) refl (w .tape a refl) in
-      omega (arith, e, h)
-
-  pub bytes-within : (asked : Checked IncrementalOutput) → Written asked r out text work out₁ text₁ work₁ → r .bytes ≤ length text₁
-  unfolding outputOf
-  bytes-within (refused n) w = let e = ap (λ (x : Output). x .bytes) (w .answer) in omega (arith, e)
-  bytes-within (accepted a) w =
-      let e : r .bytes ≡ length (a .output .bytes) = ap (λ (x : Output). x .bytes) (w .answer) in
-      let h = head-short (length (a .output .bytes)) text₁ (a .output .bytes) refl (w .bytes a refl) in
-      omega (arith, e, h)
-
-  -- cleared behind the result
-  pub merged : (asked : Checked IncrementalOutput) → Written asked r out text work out₁ text₁ work₁ → {out′ text′ work′ : List ℕ}
-      → out′ ≡ overwrite out₁ (r .tape) (zeros (length out₁ - r .tape)) → text′ ≡ overwrite text₁ (r .bytes) (zeros (length text₁ - r .bytes)) → work′ ≡ zeros (length work₁)
-      → Merged asked (roomOf out text work) r out′ text′ work′
-  unfolding tapeBuffer textBuffer workBuffer outputOf padded
-  merged (refused n) w x y z =
-      let e : r .tape ≡ 0 = ap (λ (q : Output). q .tape) (w .answer) in
-      let f : r .bytes ≡ 0 = ap (λ (q : Output). q .bytes) (w .answer) in
-      record {
-        answer = w .answer;
-        tape = cleared out₁ (r .tape) (tape-within (refused n) w) x ∙ rw (e, sub-zero, w .tapeLength) refl;
-        bytes = cleared text₁ (r .bytes) (bytes-within (refused n) w) y ∙ rw (f, sub-zero, w .textLength) refl;
-        words = z ∙ ap zeros (w .wordsLength);
-      }
-  merged (accepted a) w x y z =
-      let e : r .tape ≡ length (a .output .tape) = ap (λ (q : Output). q .tape) (w .answer) in
-      let f : r .bytes ≡ length (a .output .bytes) = ap (λ (q : Output). q .bytes) (w .answer) in
-      record {
-        answer = w .answer;
-        tape = cleared out₁ (r .tape) (tape-within (accepted a) w) x ∙ rw (e, w .tape a refl, w .tapeLength) refl;
-        bytes = cleared text₁ (r .bytes) (bytes-within (accepted a) w) y ∙ rw (f, w .bytes a refl, w .textLength) refl;
-        words = z ∙ ap zeros (w .wordsLength);
-      }
-
--- all words, from the first on
-pub words-cleared : (work : List ℕ) {n : ℕ} {work′ : List ℕ} → n ≡ length work → work′ ≡ take 0 work ++ (zeros (n - 0) ++ drop n work) → work′ ≡ zeros (length work)
-words-cleared work {n} e f =
-    f ∙ ap₂ (λ (x y : List ℕ). x ++ y) (ap zeros (sub-zero n ∙ e)) (drop-of-length-le work {i = n} (omega (arith, e))) ∙ append-nil (zeros (length work))
 
 -- ---- the answer of `chosen_region`
 

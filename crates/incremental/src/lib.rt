@@ -89,16 +89,13 @@ fn cut_refusal(
     }
     let first = p.text as usize;
     let normalized = &bytes[first..first + p.normalized as usize];
-    if !reading::cuts_ok(normalized, w.nstart as usize, w.nend as usize) {
+    if !passage::cuts_ok(normalized, w.nstart as usize, w.nend as usize) {
         return 16;
     }
-    if q.nodes.count == 0 {
-        return 0;
+    if passage::layer_missing(q.nodes.count, p.layers) {
+        return 17;
     }
-    if p.layers < 32 {
-        return 0;
-    }
-    17
+    0
 }
 
 // Numbers 12 to 17, or 0.
@@ -122,11 +119,11 @@ fn reading_refusal(
     ensures { λ r. ⌜ r ≡ readingNumber (bookAt (now (tape .entry)) (placesIn (now (tape .entry))) (now (bytes .entry))) (editOf start end (now (replacement .entry))) (regionOf (w .start) (w .end)) (bookAt (now (readingtape .entry)) (placesIn (now (readingtape .entry))) (now (readingbytes .entry))) ⌝ }
 {
     let text = &bytes[0..p.text as usize];
-    let passage = region::region_text(text, w.start, w.end);
+    let old_text = region::region_text(text, w.start, w.end);
     let own_text = &readingbytes[0..q.text as usize];
     let first = (start - w.start) as usize;
     let last = (end - w.start) as usize;
-    if !reading::is_region_text(passage, first, last, replacement, own_text) {
+    if !passage::is_region_text(old_text, first, last, replacement, own_text) {
         return 12;
     }
     if !reading::balanced_nodes(readingtape, q.nodes.at, q.nodes.count) {
@@ -332,9 +329,6 @@ pub fn merge(
         outbytes,
         work,
     );
-    wire::zero_from(outtape, r.tape);
-    wire::zero_from(outbytes, r.bytes);
-    let words = work.len();
-    table::clear_part(work, 0, words);
+    output::clear_rest(outtape, outbytes, work, r.tape, r.bytes);
     r
 }

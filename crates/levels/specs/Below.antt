@@ -25,6 +25,7 @@ use Rattle.store.specs.Stored.{storeAt}
 use Rattle.store.specs.Standing.{contentPlace, segmentPlace, content-inside, segment-inside}
 use Rattle.store.specs.declared.Store.{Store}
 use Rattle.ids.specs.Tests.{contentsIn, segmentsIn}
+use Rattle.level_blocks.specs.Level.{below}
 
 -- what was found, and the store of it
 pub record LevelsFit (t : List ℕ) (st : Store) : Type 0 where
@@ -36,9 +37,6 @@ pub levels-fit : (t d : List ℕ) (st : Store) → Frame t d → st ≡ storeAt 
 levels-fit t d st f e few = let n = nodes-inside t d f in record { stored = e; few = few; inside = omega (arith, n) }
 
 -- ---- definitions
-
-unfoldable pub below : ℕ → Segment → Bool
-below level s = ltb (s .level) level
 
 -- a range of segments, all of them below a level
 unfoldable pub segmentsBelow : List ℕ → Store → ℕ → ℕ → ℕ → Bool
@@ -119,10 +117,6 @@ body-rest t st level p i e f h z m = body-passed t st level (bodyAt t p) 6 (omeg
         rw n refl
 
 -- ---- the code's answers
-
-pub level-read : (t : List ℕ) (p level : ℕ) → ltb (byteAt t (p + 2)) level ≡ below level (recordAt segmentCodec t p)
-unfolding below recordAt operandsAt segmentCodec
-level-read t p level = refl
 
 pub range-within : (starts : List ℕ) (layers total start len : ℕ) → rangeIn starts layers total start len ≡ true → start + len ≤ total
 unfolding rangeIn

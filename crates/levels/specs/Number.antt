@@ -20,7 +20,8 @@ use Rattle.store.specs.Standing.{contentPlace, segmentPlace, content-range, seg
 use Rattle.store.specs.declared.Store.{Store}
 use Rattle.ids.specs.Tests.{contentsIn, segmentsIn, fieldIn, bodyIn, contentIn, segmentIn}
 use Rattle.ids.specs.Whole.{runsIn, layerIn, layersIn, idsIn}
-use Rattle.levels.specs.Below.{below, segmentsBelow, contentBelow, contentsBelow, fieldBelow, bodyBelow, levelIn}
+use Rattle.level_blocks.specs.Level.{below}
+use Rattle.levels.specs.Below.{segmentsBelow, contentBelow, contentsBelow, fieldBelow, bodyBelow, levelIn}
 use Rattle.levels.specs.Whole.{runLevels, layerLevels, levelsIn}
 
 -- ---- lists

@@ -1,6 +1,4 @@
--- Tables of a pool: for each block of 16 items a level that they are below, 255 where none is known, and above these the greatest
--- of each 16 entries: entry 65536 + i / 16 is above entry i. An item's test is known wherever its entry, or one above it, is at
--- most the level.
+-- The tables of the two pools: an item's test is known wherever its entry, or one above it, is at most the level.
 use mathlib.Core.Path.{_≡_, refl, sym, ap, _∙_}
 use Prim.Native.Nat.{ℕ, zero, suc, _+_, _*_, _-_, _/_, _≤_, _<_}
 use native.Mathlib.Omega.{arith}
@@ -22,7 +20,9 @@ use Rattle.records.specs.Runs.{testAt}
 use Rattle.store.specs.Standing.{contentPlace, segmentPlace, content-at, segment-at, content-range, segment-range, content-inside, segment-inside}
 use Rattle.store.specs.declared.Store.{Store}
 use Rattle.ids.specs.Tests.{contentsIn, segmentsIn}
-use Rattle.levels.specs.Below.{LevelsFit, below, segmentsBelow, contentBelow, contentsBelow, level-read, range-within}
+use Rattle.level_blocks.specs.Level.{below, level-read}
+use Rattle.level_blocks.specs.Blocks.{Says, Skips, Risen, Kept}
+use Rattle.levels.specs.Below.{LevelsFit, segmentsBelow, contentBelow, contentsBelow, range-within}
 
 -- ---- the tests of the two pools: item j at a level
 
@@ -33,22 +33,6 @@ unfoldable pub contentTest : List ℕ → Store → ℕ → ℕ → Bool
 contentTest t st level j = contentBelow t st level (recordAt contentCodec t (contentPlace st j))
 
 -- ---- what a table says
-
--- the entry of item j's block is at most the level
-pub record Says (table : List ℕ) (level j : ℕ) : Type 0 where
-  pub inside : j < 1048576
-  pub low : getD table (j / 16) 0 ≤ level
-  pub known : level < 255
-
--- it says so of all items from i up to r
-pub record Skips (table : List ℕ) (level i r : ℕ) : Type 0 where
-  pub on : i ≤ r
-  pub says : (j : ℕ) → i ≤ j → j < r → Says table level j
-
--- entries below n are at least those that they are above
-pub record Risen (table : List ℕ) (n : ℕ) : Type 0 where
-  pub size : length table ≡ 69904
-  pub up : (i : ℕ) → 65536 + i / 16 < n → getD table i 0 ≤ getD table (65536 + i / 16) 0
 
 -- the first n entries are right
 pub record Filled (P : ℕ → ℕ → Bool) (total : ℕ) (table : List ℕ) (n : ℕ) : Type 0 where
@@ -65,53 +49,6 @@ pub record Step (table : List ℕ) (level : ℕ) (b : Bool) (i end r : ℕ) : Ty
   pub far : r ≤ end
   pub stuck : r ≡ i → b ≡ false
   pub passed : (test : ℕ → Bool) → ((j : ℕ) → i ≤ j → j < end → Says table level j → test j ≡ true) → b ≡ test i → (j : ℕ) → i ≤ j → j < r → test j ≡ true
-
--- ---- the ends of blocks
-
-pub skips-none : (table : List ℕ) (level i : ℕ) → Skips table level i i
-skips-none table level i = record { on = omega arith; says = λ j a b. absurd (omega (arith, a, b)) }
-
-module _ {table : List ℕ} (w : Risen table 69904) (level i : ℕ) (l : level ≤ 254) (h : i ≤ 1048575) where
-  pub skips-16 : getD table (i / 16) 0 ≤ level → Skips table level i (16 * (i / 16) + 16)
-  skips-16 e = record {
-    on = omega arith;
-    says = λ j a b.
-        let q : j / 16 ≡ i / 16 = omega (arith, a, b) in
-        record { inside = omega (arith, a, b, h); low = rw q e; known = omega (arith, l) };
-  }
-
-  pub skips-256 : getD table (65536 + i / 16 / 16) 0 ≤ level → Skips table level i (256 * (i / 16 / 16) + 256)
-  skips-256 e = record {
-    on = omega arith;
-    says = λ j a b.
-        let q : j / 16 / 16 ≡ i / 16 / 16 = omega (arith, a, b) in
-        let s = w .up (j / 16) (omega (arith, a, b, h)) in
-        let x : getD table (65536 + j / 16 / 16) 0 ≤ level = rw q e in
-        record { inside = omega (arith, a, b, h); low = omega (arith, s, x); known = omega (arith, l) };
-  }
-
-  pub skips-4096 : getD table (65536 + (65536 + i / 16 / 16) / 16) 0 ≤ level → Skips table level i (4096 * (i / 4096) + 4096)
-  skips-4096 e = record {
-    on = omega arith;
-    says = λ j a b.
-        let q : (65536 + j / 16 / 16) / 16 ≡ (65536 + i / 16 / 16) / 16 = omega (arith, a, b) in
-        let s = w .up (j / 16) (omega (arith, a, b, h)) in
-        let u = w .up (65536 + j / 16 / 16) (omega (arith, a, b, h)) in
-        let x : getD table (65536 + (65536 + j / 16 / 16) / 16) 0 ≤ level = rw q e in
-        record { inside = omega (arith, a, b, h); low = omega (arith, s, u, x); known = omega (arith, l) };
-  }
-
-  pub skips-65536 : getD table (65536 + (65536 + (65536 + i / 16 / 16) / 16) / 16) 0 ≤ level → Skips table level i (65536 * (i / 65536) + 65536)
-  skips-65536 e = record {
-    on = omega arith;
-    says = λ j a b.
-        let q : (65536 + (65536 + j / 16 / 16) / 16) / 16 ≡ (65536 + (65536 + i / 16 / 16) / 16) / 16 = omega (arith, a, b) in
-        let s = w .up (j / 16) (omega (arith, a, b, h)) in
-        let u = w .up (65536 + j / 16 / 16) (omega (arith, a, b, h)) in
-        let v = w .up (65536 + (65536 + j / 16 / 16) / 16) (omega (arith, a, b, h)) in
-        let x : getD table (65536 + (65536 + (65536 + j / 16 / 16) / 16) / 16) 0 ≤ level = rw q e in
-        record { inside = omega (arith, a, b, h); low = omega (arith, s, u, v, x); known = omega (arith, l) };
-  }
 
 -- ---- steps
 
@@ -301,55 +238,8 @@ filled-more {P} {total} {table} {k} w h r b = record {
 pub filled-all : {P : ℕ → ℕ → Bool} {total : ℕ} {table : List ℕ} {k : ℕ} → Filled P total table k → total ≤ 16 * k → Filled P total table 65536
 filled-all w h = record { size = w .size; right = λ j level x y z v. w .right j level x (omega (arith, x, h)) z v }
 
--- ---- the entries above
-
--- no entry of n from `from` on is above r
-pub record Greatest (table : List ℕ) (from n r : ℕ) : Type 0 where
-  pub most : (i : ℕ) → i < n → getD table (from + i) 0 ≤ r
-
-pub greatest-none : (table : List ℕ) (from r : ℕ) → Greatest table from 0 r
-greatest-none table from r = record { most = λ i h. absurd (omega (arith, h)) }
-
-pub greatest-more : {table : List ℕ} {from n m r : ℕ} → Greatest table from n m → m ≤ r → getD table (from + n) 0 ≤ r → Greatest table from (n + 1) r
-greatest-more {table} {from} {n} w h e = record {
-  most = λ i l.
-      by-bool (ltb i n) (λ x. let y = w .most i (ltb-true i n x) in omega (arith, y, h)) (λ x. let q : i ≡ n = let y = ltb-false i n x in omega (arith, y, l) in rw q e);
-}
-
--- the entries of blocks are as they were
-pub record Kept (d l : List ℕ) : Type 0 where
-  pub kept : (i : ℕ) → i < 65536 → getD l i 0 ≡ getD d i 0
-
-pub kept-all : (d : List ℕ) → Kept d d
-kept-all d = record { kept = λ i h. refl }
-
-pub kept-set : {d l : List ℕ} → Kept d l → (k r : ℕ) → 65536 ≤ k → Kept d (set l k r)
-kept-set {d} {l} w k r h = record { kept = λ i a. getD-set-other l k i r 0 (λ e. let z : ⊥ = omega (arith, a, h, e) in z) ∙ w .kept i a }
-
 pub filled-kept : {P : ℕ → ℕ → Bool} {total : ℕ} {d l : List ℕ} → Filled P total d 65536 → Kept d l → length l ≡ 69904 → Filled P total l 65536
 filled-kept w k e = record { size = e; right = λ j level x y z v. let g = k .kept (j / 16) y in w .right j level x y (omega (arith, g, z)) v }
-
-pub risen-none : (table : List ℕ) → length table ≡ 69904 → Risen table 65536
-risen-none table e = record { size = e; up = λ i h. absurd (omega (arith, h)) }
-
-pub risen-more : {table : List ℕ} {k : ℕ} → Risen table k → 65536 ≤ k → k < 69904 → (r : ℕ) → Greatest table (16 * (k - 65536)) 16 r → Risen (set table k r) (k + 1)
-risen-more {table} {k} w a b r g = record {
-  size = length-set table k r ∙ w .size;
-  up = λ i h.
-      let other : getD (set table k r) i 0 ≡ getD table i 0 = getD-set-other table k i r 0 (λ e. let z : ⊥ = omega (arith, e, h, b) in z) in
-      by-bool (eqb (65536 + i / 16) k)
-      (λ e. let q = eqb-true (65536 + i / 16) k e in
-      let s = w .size in
-      let top : getD (set table k r) (65536 + i / 16) 0 ≡ r = rw q (getD-set-same table k r 0 (omega (arith, s, b))) in
-      let p : 16 * (k - 65536) + (i - 16 * (k - 65536)) ≡ i = omega (arith, q) in
-      let m : getD table i 0 ≤ r = rw p at (g .most (i - 16 * (k - 65536)) (omega (arith, q))) in
-      omega (arith, other, top, m))
-      (λ e. let n = eqb-false (65536 + i / 16) k e in
-      let top = getD-set-other table k (65536 + i / 16) r 0 n in
-      let l : 65536 + i / 16 < k = by-bool (ltb (65536 + i / 16) k) (λ u. ltb-true (65536 + i / 16) k u) (λ u. absurd (n (let f = ltb-false (65536 + i / 16) k u in omega (arith, f, h)))) in
-      let m = w .up i l in
-      omega (arith, other, top, m));
-}
 
 -- ---- both tables made
 

@@ -4,13 +4,10 @@
 // of the tape it is the model's `levelsOk` wherever number 4 holds.
 //
 // A run may be named by every segment, and be as long as its pool. So a book is first tested with every range up to 16 read one by
-// one (`.._quick`, whose 'false' says nothing). Where that does not say yes, two tables are made (specs/Table.antt): for each
-// 16 segments, and each 16 contents, a level that they are below, and above that the greatest of each 16 entries, up to blocks of
-// 65536. A range is then walked from block to block, and an item is read only where its block is not below the level.
+// one (`.._quick`, whose 'false' says nothing). Where that does not say yes, two tables are made (crate `level_blocks`), of the segments
+// and of the contents. A range is then walked from block to block, and an item is read only where its block is not below the level.
 ghost use mathlib.Core.Path.{_≡_};
-ghost use mathlib.Core.Bool.{true, _&&_};
-ghost use lib.Dec.{leb};
-ghost use Rattle.model.specs.Limits.{maxLevel};
+ghost use mathlib.Core.Bool.{true};
 ghost use Prim.Native.Nat.{_+_, _*_, _^_, _≤_, _<_};
 ghost use lib.ListN.{length};
 ghost use Rattle.model.specs.Lists.{all};
@@ -18,40 +15,11 @@ ghost use Rattle.model.specs.Tape.{recordAt, recordsAt, contentCodec, segmentCo
 ghost use Rattle.records.specs.Values.{bodyAt};
 ghost use Rattle.records.specs.Runs.{testAt};
 ghost use Rattle.model.specs.WellFormed.{wordOf};
-ghost use Rattle.levels.specs.Below.{LevelsFit, below, segmentsBelow, contentBelow, contentsBelow, usedBelow, bodyBelow, levelIn};
-ghost use Rattle.levels.specs.Table.{segmentTest, contentTest, Skips, Step, Said, Risen, Filled, Kept, Bound, Block, Greatest, Tops, Tables};
+ghost use Rattle.level_blocks.specs.Level.{below};
+ghost use Rattle.level_blocks.specs.Blocks.{Risen};
+ghost use Rattle.levels.specs.Below.{LevelsFit, segmentsBelow, contentBelow, contentsBelow, usedBelow, bodyBelow, levelIn};
+ghost use Rattle.levels.specs.Table.{segmentTest, contentTest, Step, Said, Filled, Bound, Block, Tops, Tables};
 ghost use Rattle.levels.specs.Whole.{levelsIn, Walked};
-
-fn level_below(tape: &[u8], at: usize, level: u8) -> bool
-    requires { ⌜ at + 37 ≤ length (now tape) ⌝ }
-    ensures { λ r. ⌜ r ≡ below level (recordAt segmentCodec (now (tape .entry)) at) ⌝ }
-{
-    tape[at + 2] < level
-}
-
-fn levels_below(tape: &[u8], at: usize, count: usize, level: u8) -> bool
-    requires { ⌜ at + 37 * count ≤ length (now tape) ⌝ }
-    ensures { λ r. ⌜ r ≡ all (below level) (recordsAt segmentCodec (now (tape .entry)) at count) ⌝ }
-{
-    let mut i = 0;
-    while i < count {
-        if !level_below(tape, at + 37 * i, level) {
-            return false;
-        }
-        i += 1;
-    }
-    true
-}
-
-// Section 4. A Node's own level is 1..32.
-fn level_in_range(level: u8) -> bool
-    ensures { λ r. ⌜ r ≡ (leb 1 level && leb level maxLevel) ⌝ }
-{
-    if level < 1 {
-        return false;
-    }
-    level <= 32
-}
 
 // ---- ranges up to 16; 'false' says nothing
 
@@ -69,7 +37,7 @@ fn segments_quick(tape: &[u8], st: store::Store, start: u32, len: u32, level: u8
         return true;
     }
     let at = store::segment_place(st, start);
-    levels_below(tape, at, len as usize, level)
+    level_blocks::levels_below(tape, at, len as usize, level)
 }
 
 fn content_quick(tape: &[u8], st: store::Store, at: usize, level: u8) -> bool
@@ -169,7 +137,7 @@ fn level_quick(tape: &[u8], st: store::Store, at: usize) -> bool
     if tape[at + 1] < 3 {
         return level == 0;
     }
-    if !level_in_range(level) {
+    if !level_blocks::level_in_range(level) {
         return false;
     }
     body_quick(tape, st, at + 3, level)
@@ -212,50 +180,20 @@ fn levels_quick(tape: &[u8], st: store::Store, from: usize, layers: usize) -> bo
 
 // ---- ranges by the tables
 
-// Where the blocks around item i end that a table says to be below the level; i where it does not say so.
-fn known_end(table: &[u8], i: usize, level: u8) -> usize
-    requires { ⌜ Risen (now table) 69904 ⌝ }
-    ensures { λ r. ⌜ Skips (now (table .entry)) level i r ⌝ }
-{
-    if 254 < level {
-        return i;
-    }
-    if 1048575 < i {
-        return i;
-    }
-    let one = i / 16;
-    if level < table[one] {
-        return i;
-    }
-    let two = 65536 + one / 16;
-    if level < table[two] {
-        return 16 * one + 16;
-    }
-    let three = 65536 + two / 16;
-    if level < table[three] {
-        return 256 * (one / 16) + 256;
-    }
-    let four = 65536 + three / 16;
-    if level < table[four] {
-        return 4096 * (i / 4096) + 4096;
-    }
-    65536 * (i / 65536) + 65536
-}
-
 // How far the items from i on are below the level, at most to `end`: by the table, or by the segment i itself, which stands at `at`.
 fn segment_step(tape: &[u8], tops: &[u8], at: usize, i: usize, end: usize, level: u8) -> usize
     requires { ⌜ Risen (now tops) 69904 ⌝ }
     requires { ⌜ (at + 37 ≤ length (now tape)) × (i < end) ⌝ }
     ensures { λ r. ⌜ Step (now (tops .entry)) level (below level (recordAt segmentCodec (now (tape .entry)) at)) i end r ⌝ }
 {
-    let r = known_end(tops, i, level);
+    let r = level_blocks::known_end(tops, i, level);
     if end < r {
         return end;
     }
     if i < r {
         return r;
     }
-    if level_below(tape, at, level) {
+    if level_blocks::level_below(tape, at, level) {
         return i + 1;
     }
     i
@@ -327,7 +265,7 @@ fn content_step(
     requires { ⌜ (at + 10 ≤ length (now tape)) × (i < end) ⌝ }
     ensures { λ r. ⌜ Step (now (heights .entry)) level (contentBelow (now (tape .entry)) st level (recordAt contentCodec (now (tape .entry)) at)) i end r ⌝ }
 {
-    let r = known_end(heights, i, level);
+    let r = level_blocks::known_end(heights, i, level);
     if end < r {
         return end;
     }
@@ -486,7 +424,7 @@ fn level_ok(tape: &[u8], st: store::Store, tops: &[u8], heights: &[u8], at: usiz
     if tape[at + 1] < 3 {
         return level == 0;
     }
-    if !level_in_range(level) {
+    if !level_blocks::level_in_range(level) {
         return false;
     }
     body_below(tape, st, tops, heights, at + 3, level)
@@ -636,40 +574,6 @@ fn put_heights(tape: &[u8], st: store::Store, tops: &[u8], heights: &mut [u8])
     }
 }
 
-fn greater(a: u8, b: u8) -> u8
-    ensures { λ r. ⌜ (a ≤ r) × (b ≤ r) ⌝ }
-{
-    if a < b {
-        return b;
-    }
-    a
-}
-
-fn greatest(table: &[u8], from: usize) -> u8
-    requires { ⌜ from + 16 ≤ length (now table) ⌝ }
-    ensures { λ r. ⌜ Greatest (now (table .entry)) from 16 r ⌝ }
-{
-    let mut m = 0;
-    let mut i = 0;
-    while i < 16 {
-        m = greater(m, table[from + i]);
-        i += 1;
-    }
-    m
-}
-
-// The entries above those of 16 items: entry 65536 + i / 16 is above entry i.
-fn put_uppers(table: &mut [u8])
-    requires { ⌜ length (now table) ≡ 69904 ⌝ }
-    ensures { λ _. ⌜ Risen (now (table .exit)) 69904 × Kept (now (table .entry)) (now (table .exit)) ⌝ }
-{
-    let mut k = 65536;
-    while k < 69904 {
-        table[k] = greatest(table, 16 * (k - 65536));
-        k += 1;
-    }
-}
-
 fn levels_tabled(tape: &[u8], st: store::Store, layers: usize) -> bool
     requires { ⌜ LevelsFit (now tape) st ⌝ }
     requires { ⌜ layers ≡ length (places (now tape) .layers) ⌝ }
@@ -678,9 +582,9 @@ fn levels_tabled(tape: &[u8], st: store::Store, layers: usize) -> bool
     let mut tops = [0u8; 69904];
     let mut heights = [0u8; 69904];
     put_tops(tape, st, &mut tops);
-    put_uppers(&mut tops);
+    level_blocks::put_uppers(&mut tops);
     put_heights(tape, st, &tops, &mut heights);
-    put_uppers(&mut heights);
+    level_blocks::put_uppers(&mut heights);
     levels_by(tape, st, &tops, &heights, layers)
 }
 

@@ -17,7 +17,7 @@ use Rattle.laws.specs.Numbers.{UpTo, merge-numbers}
 use Rattle.commute.specs.Demand3.{demand3}
 use Rattle.output.specs.Answer.{Merged, outputOf}
 use Rattle.output.specs.declared.IncrementalOutput.{IncrementalOutput as Output}
-use Rattle.orders.specs.declared.BothOrders.{BothOrders as Answers}
+use Rattle.output.specs.declared.BothOrders.{BothOrders as Answers}
 use Rattle.orders.specs.Moved.{moved-exact}
 
 -- ---- what the calls leave
@@ -184,3 +184,10 @@ both-orders {stored} {earlier} {later} {moved} {room₁} {room₂} {room₃} {ro
     let n′ = subst (λ (x : Room). MergedInOrder stored later earlier room₃ x r₃ r₄ out₃ out₄ w₂) (with-words w₁ room₄ (l ∙ sym k₄))
     (subst (λ (x : Room). MergedInOrder stored later earlier x (withWords room₄ w₁) r₃ r₄ out₃ out₄ w₂) (with-words w₁ room₃ (l ∙ sym k₃)) n) in
     merged-both stored earlier later b bE bL {r = record { earlierfirst = r₁; latersecond = r₂; laterfirst = r₃; earliersecond = r₄ }} m′ n′
+
+-- an equal answer leaves the same
+pub orders-told : {stored : Stored} {earlier later : Correction} {room₁ room₂ room₃ room₄ : Room} {x y : Answers} {out₁ out₂ out₃ out₄ : Stored} {work : List ℕ} → y ≡ x
+    → MergedBothOrders stored earlier later room₁ room₂ room₃ room₄ x out₁ out₂ out₃ out₄ work
+    → MergedBothOrders stored earlier later room₁ room₂ room₃ room₄ y out₁ out₂ out₃ out₄ work
+orders-told {stored} {earlier} {later} {room₁} {room₂} {room₃} {room₄} {x} {y} {out₁} {out₂} {out₃} {out₄} {work} e m =
+    subst (λ (z : Answers). MergedBothOrders stored earlier later room₁ room₂ room₃ room₄ z out₁ out₂ out₃ out₄ work) (sym e) m

@@ -1,5 +1,6 @@
 // Document 01 section 7, its second paragraph, on running calls: two corrections of one book, merged in both orders. Where all four merges are
 // accepted and the regions are separate, the two books and the two charges are equal and each reference keeps its meaning.
+use output::BothOrders;
 ghost use mathlib.Core.Path.{_≡_};
 ghost use Prim.Native.Nat.{min};
 ghost use Rattle.model.specs.Offset.{maxU32};
@@ -7,14 +8,6 @@ ghost use Rattle.model.specs.Region.{editOf};
 ghost use Rattle.model.specs.Merge.{roomOf, storedOf};
 ghost use Rattle.model.specs.Demand3.{cutBehind, correctionOf};
 ghost use Rattle.orders.specs.Orders.{MergedInOrder, MergedBothOrders};
-
-// What the four calls answer. The earlier correction is the one that lies before the other.
-pub struct BothOrders {
-    pub earlierfirst: output::IncrementalOutput,
-    pub latersecond: output::IncrementalOutput,
-    pub laterfirst: output::IncrementalOutput,
-    pub earliersecond: output::IncrementalOutput,
-}
 
 const MAX_U32: usize = 4294967295;
 

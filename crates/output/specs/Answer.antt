@@ -1,5 +1,5 @@
 -- The code's answer of a merge, and what the three lent buffers hold behind it.
-use mathlib.Core.Path.{_≡_}
+use mathlib.Core.Path.{_≡_, _∙_}
 use Prim.Native.Nat.{ℕ}
 use mathlib.Core.List.{List, []}
 use lib.ListN.{length, take}
@@ -48,6 +48,10 @@ pub record Merged (asked : Checked IncrementalOutput) (room : Room) (r : Output)
   pub tape : out ≡ tapeBuffer room asked
   pub bytes : text ≡ textBuffer room asked
   pub words : work ≡ workBuffer room
+
+-- an equal answer leaves the same
+pub merge-told : {asked : Checked IncrementalOutput} {room : Room} {x y : Output} {out text work : List ℕ} → y ≡ x → Merged asked room x out text work → Merged asked room y out text work
+merge-told e m = record { answer = e ∙ m .answer; tape = m .tape; bytes = m .bytes; words = m .words }
 
 -- The same before what is not result is cleared: an accepted result stands at the head of both buffers.
 pub record Written (asked : Checked IncrementalOutput) (r : Output) (out text work out′ text′ work′ : List ℕ) : Type 0 where

@@ -1,26 +1,19 @@
--- Numbers 12, 13, 14 and 16 of books that a tape and its bytes hold: the code's answers by records and parts of bytes are the model's.
-use mathlib.Core.Path.{_≡_, refl, sym, ap, ap₂, _∙_}
-use Prim.Native.Nat.{ℕ, _≤_}
+-- Numbers 13, 14 and 16 of books that a tape and its bytes hold: the code's answers by records and parts of bytes are the model's.
+use mathlib.Core.Path.{_≡_, refl, ap, _∙_}
+use Prim.Native.Nat.{ℕ}
 use mathlib.Core.Bool.{Bool}
 use mathlib.Core.List.{List}
-use lib.ListN.{length, take}
-use Rattle.model.specs.Lists.{any, same}
+use lib.ListN.{take}
+use Rattle.model.specs.Lists.{any}
 use Rattle.model.specs.Bytes.{part}
 use Rattle.model.specs.Offset.{Span}
-use Rattle.model.specs.Types.{SourceNode, Diagnostic, LexOutput, RegionOutput}
+use Rattle.model.specs.Types.{SourceNode, Diagnostic, RegionOutput}
 use Rattle.model.specs.Tape.{recordsAt, nodeCodec, diagnosticCodec, places, bookAt}
-use Rattle.model.specs.Region.{Edit, edited, regionText}
-use Rattle.model.specs.Merge.{newRegionText, balancedNodes, isUnclosed, normalizedOffset, windowOf, cutsOk}
+use Rattle.model.specs.Region.{Edit}
+use Rattle.model.specs.Merge.{balancedNodes, isUnclosed, normalizedOffset, windowOf, cutsOk}
 use Rattle.places.specs.declared.Places.{Places}
 use Rattle.places.specs.Found.{found}
-use Rattle.reading.specs.Text.{editWithin, new-region-text}
-use Rattle.reading.specs.Window.{endsOnBoundaries, cuts-window}
-
--- Number 12, of a passage of the old text and a reading's text.
-pub text-book : (old : LexOutput) (reading : RegionOutput) (e : Edit) (r : Span) → (r .start ≤ e .start) × (e .start ≤ e .end) × (e .end ≤ r .end) × (r .end ≤ length (old .sanitized))
-    → {passage own : List ℕ} → passage ≡ regionText old r → own ≡ reading .sanitized
-    → {x : Bool} → x ≡ same own (edited passage (editWithin r e)) → x ≡ same (reading .sanitized) (newRegionText old e r)
-text-book old reading e r h f g q = q ∙ ap₂ same g (ap (λ (l : List ℕ). edited l (editWithin r e)) f ∙ sym (new-region-text old e r h))
+use Rattle.passage.specs.Window.{endsOnBoundaries, cuts-window}
 
 module _ (t d : List ℕ) {p : Places} (e : p ≡ found t) where
   pub text-found : take (p .text) d ≡ bookAt t (places t) d .sanitized

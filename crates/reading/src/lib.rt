@@ -1,45 +1,14 @@
-// What a reading must be, document 01 section 7: its text is the new region's (12), what it opens it closes (13), no diagnostic of it tells
-// of a bracket left open or a close left over (14); and that no cut falls inside a normalized character (16). Number 15 is crate
-// `introduces`. The new text is never built: the region of it is the passage with the edit made in it, compared part by part.
+// What a reading's records must be, document 01 section 7: what it opens it closes (13), no diagnostic of it tells of a bracket left open or a
+// close left over (14); and where a source offset stands in the normalized text. Numbers 12, 16 and 17 are crate `passage`, 15 is `introduces`.
 ghost use mathlib.Core.Path.{_≡_};
 ghost use Prim.Native.Nat.{_+_, _-_, _*_, _≤_, _<_};
 ghost use lib.ListN.{length};
-ghost use Rattle.model.specs.Lists.{any, same as sameBytes};
+ghost use Rattle.model.specs.Lists.{any};
 ghost use Rattle.model.specs.Tape.{recordAt, recordsAt, nodeCodec, diagnosticCodec};
-ghost use Rattle.model.specs.Region.{edited, editOf};
 ghost use Rattle.model.specs.Merge.{balancedNodes, isUnclosed, normalizedOffset};
-ghost use Rattle.reading.specs.Window.{endsOnBoundaries};
 ghost use Rattle.bounds.specs.Search.{InOrder};
 ghost use Rattle.reading.specs.Balance.{closesUnopened};
 ghost use Rattle.reading.specs.Until.{Until};
-
-// Number 12. The reading's text is the passage with the edit made in it; `start` and `end` are offsets of the passage.
-pub fn is_region_text(
-    passage: &[u8],
-    start: usize,
-    end: usize,
-    replacement: &[u8],
-    reading: &[u8],
-) -> bool
-    requires { ⌜ (start ≤ end) × (end ≤ length (now passage)) ⌝ }
-    ensures { λ r. ⌜ r ≡ sameBytes (now (reading .entry)) (edited (now (passage .entry)) (editOf start end (now (replacement .entry)))) ⌝ }
-{
-    let behind = passage.len() - end;
-    if reading.len() < start + behind {
-        return false;
-    }
-    let there = reading.len() - behind;
-    if there - start != replacement.len() {
-        return false;
-    }
-    if !compare::same(&reading[0..start], &passage[0..start]) {
-        return false;
-    }
-    if !compare::same(&reading[start..there], replacement) {
-        return false;
-    }
-    compare::same(&reading[there..reading.len()], &passage[end..passage.len()])
-}
 
 // A node that closes what none has opened.
 fn closes_unopened(tape: &[u8], at: usize, blocks: usize, warichu: usize) -> bool
@@ -142,14 +111,4 @@ pub fn normalized_offset(tape: &[u8], at: usize, count: usize, offset: u32) -> u
         i += 1;
     }
     drifted(offset, images, spans)
-}
-
-// Number 16. No cut falls inside a normalized character.
-pub fn cuts_ok(normalized: &[u8], start: usize, end: usize) -> bool
-    ensures { λ r. ⌜ r ≡ endsOnBoundaries (now (normalized .entry)) start end ⌝ }
-{
-    if !utf8::is_char_boundary(normalized, start) {
-        return false;
-    }
-    utf8::is_char_boundary(normalized, end)
 }

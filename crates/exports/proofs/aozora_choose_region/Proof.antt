@@ -1,11 +1,11 @@
 use mathlib.Core.Path.{ap, _∙_}
-use Rattle.exports.specs.Answers.{regionAnswer}
+use Rattle.answers.specs.Answers.{regionAnswer}
 use borrow.Author.Needs.{needs}
 use Rattle.exports.proofs.aozora_choose_region.Statement.{statement}
 use Rattle.exports.proofs.aozora_choose_region.Tie as tie
 use Rattle.exports.proofs.aozora_choose_region.Reads as reads
 use Rattle.exports.proofs.aozora_choose_region.Lts as lts
-use Rattle.exports.proofs.region_answer.Reads as region-answer-reads
+use Rattle.answers.proofs.region_answer.Reads as region-answer-reads
 use Rattle.region.proofs.choose_region.Reads as choose-region-reads
 
 choose-region-requires : tie.Need-choose-region-requires

@@ -1,11 +1,11 @@
 use mathlib.Core.Path.{ap, _∙_}
-use Rattle.exports.specs.Answers.{copyAnswer}
+use Rattle.answers.specs.Answers.{copyAnswer}
 use borrow.Author.Needs.{needs}
 use Rattle.exports.proofs.aozora_copy_book.Statement.{statement}
 use Rattle.exports.proofs.aozora_copy_book.Tie as tie
 use Rattle.exports.proofs.aozora_copy_book.Reads as reads
 use Rattle.exports.proofs.aozora_copy_book.Lts as lts
-use Rattle.exports.proofs.copy_answer.Reads as copy-answer-reads
+use Rattle.answers.proofs.copy_answer.Reads as copy-answer-reads
 use Rattle.copy.proofs.copy_book.Reads as copy-book-reads
 
 copy-book-requires : tie.Need-copy-book-requires

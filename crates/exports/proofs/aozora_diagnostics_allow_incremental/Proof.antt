@@ -1,11 +1,11 @@
 use mathlib.Core.Path.{ap, _∙_}
-use Rattle.exports.specs.Answers.{allowedAnswer}
+use Rattle.answers.specs.Answers.{allowedAnswer}
 use borrow.Author.Needs.{needs}
 use Rattle.exports.proofs.aozora_diagnostics_allow_incremental.Statement.{statement}
 use Rattle.exports.proofs.aozora_diagnostics_allow_incremental.Tie as tie
 use Rattle.exports.proofs.aozora_diagnostics_allow_incremental.Reads as reads
 use Rattle.exports.proofs.aozora_diagnostics_allow_incremental.Lts as lts
-use Rattle.exports.proofs.allowed_answer.Reads as allowed-answer-reads
+use Rattle.answers.proofs.allowed_answer.Reads as allowed-answer-reads
 use Rattle.lookup.proofs.diagnostics_allow_incremental.Reads as diagnostics-allow-incremental-reads
 
 diagnostics-allow-incremental-requires : tie.Need-diagnostics-allow-incremental-requires

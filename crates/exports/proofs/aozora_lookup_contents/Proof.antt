@@ -1,12 +1,12 @@
 use Rattle.model.specs.Tape.{contentCodec}
 use Rattle.lookup.specs.Ranges.{rangeShown}
-use Rattle.exports.specs.Answers.{range-told}
+use Rattle.answers.specs.Answers.{range-told}
 use borrow.Author.Needs.{needs}
 use Rattle.exports.proofs.aozora_lookup_contents.Statement.{statement}
 use Rattle.exports.proofs.aozora_lookup_contents.Tie as tie
 use Rattle.exports.proofs.aozora_lookup_contents.Reads as reads
 use Rattle.exports.proofs.aozora_lookup_contents.Lts as lts
-use Rattle.exports.proofs.range_answer.Reads as range-answer-reads
+use Rattle.answers.proofs.range_answer.Reads as range-answer-reads
 use Rattle.lookup.proofs.lookup_contents.Reads as lookup-contents-reads
 
 lookup-contents-requires : tie.Need-lookup-contents-requires

@@ -1,12 +1,12 @@
 use Rattle.model.specs.Tape.{segmentCodec}
 use Rattle.lookup.specs.Ranges.{rangeShown}
-use Rattle.exports.specs.Answers.{range-told}
+use Rattle.answers.specs.Answers.{range-told}
 use borrow.Author.Needs.{needs}
 use Rattle.exports.proofs.aozora_lookup_segments.Statement.{statement}
 use Rattle.exports.proofs.aozora_lookup_segments.Tie as tie
 use Rattle.exports.proofs.aozora_lookup_segments.Reads as reads
 use Rattle.exports.proofs.aozora_lookup_segments.Lts as lts
-use Rattle.exports.proofs.range_answer.Reads as range-answer-reads
+use Rattle.answers.proofs.range_answer.Reads as range-answer-reads
 use Rattle.lookup.proofs.lookup_segments.Reads as lookup-segments-reads
 
 lookup-segments-requires : tie.Need-lookup-segments-requires

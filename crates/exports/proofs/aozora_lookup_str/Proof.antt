@@ -1,10 +1,10 @@
-use Rattle.exports.specs.Answers.{str-told}
+use Rattle.answers.specs.Answers.{str-told}
 use borrow.Author.Needs.{needs}
 use Rattle.exports.proofs.aozora_lookup_str.Statement.{statement}
 use Rattle.exports.proofs.aozora_lookup_str.Tie as tie
 use Rattle.exports.proofs.aozora_lookup_str.Reads as reads
 use Rattle.exports.proofs.aozora_lookup_str.Lts as lts
-use Rattle.exports.proofs.str_answer.Reads as str-answer-reads
+use Rattle.answers.proofs.str_answer.Reads as str-answer-reads
 use Rattle.lookup.proofs.lookup_str.Reads as lookup-str-reads
 
 lookup-str-requires : tie.Need-lookup-str-requires

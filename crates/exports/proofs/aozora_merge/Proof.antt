@@ -1,10 +1,10 @@
-use Rattle.exports.specs.Answers.{merge-told}
+use Rattle.output.specs.Answer.{merge-told}
 use borrow.Author.Needs.{needs}
 use Rattle.exports.proofs.aozora_merge.Statement.{statement}
 use Rattle.exports.proofs.aozora_merge.Tie as tie
 use Rattle.exports.proofs.aozora_merge.Reads as reads
 use Rattle.exports.proofs.aozora_merge.Lts as lts
-use Rattle.exports.proofs.merge_answer.Reads as merge-answer-reads
+use Rattle.answers.proofs.merge_answer.Reads as merge-answer-reads
 use Rattle.incremental.proofs.merge.Reads as merge-reads
 
 merge-requires : tie.Need-merge-requires

@@ -1,10 +1,10 @@
-use Rattle.exports.specs.Answers.{orders-told}
+use Rattle.orders.specs.Orders.{orders-told}
 use borrow.Author.Needs.{needs}
 use Rattle.exports.proofs.aozora_merge_both_orders.Statement.{statement}
 use Rattle.exports.proofs.aozora_merge_both_orders.Tie as tie
 use Rattle.exports.proofs.aozora_merge_both_orders.Reads as reads
 use Rattle.exports.proofs.aozora_merge_both_orders.Lts as lts
-use Rattle.exports.proofs.orders_answer.Reads as orders-answer-reads
+use Rattle.answers.proofs.orders_answer.Reads as orders-answer-reads
 use Rattle.orders.proofs.merge_both_orders.Reads as merge-both-orders-reads
 
 merge-both-orders-requires : tie.Need-merge-both-orders-requires

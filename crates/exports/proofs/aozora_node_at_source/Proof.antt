@@ -1,11 +1,11 @@
 use mathlib.Core.Path.{ap, _∙_}
-use Rattle.exports.specs.Answers.{nodeAnswer}
+use Rattle.answers.specs.Answers.{nodeAnswer}
 use borrow.Author.Needs.{needs}
 use Rattle.exports.proofs.aozora_node_at_source.Statement.{statement}
 use Rattle.exports.proofs.aozora_node_at_source.Tie as tie
 use Rattle.exports.proofs.aozora_node_at_source.Reads as reads
 use Rattle.exports.proofs.aozora_node_at_source.Lts as lts
-use Rattle.exports.proofs.node_answer.Reads as node-answer-reads
+use Rattle.answers.proofs.node_answer.Reads as node-answer-reads
 use Rattle.lookup.proofs.node_at_source.Reads as node-at-source-reads
 
 node-at-source-requires : tie.Need-node-at-source-requires

@@ -1,14 +1,15 @@
 use native.Mathlib.Omega.{arith}
 use mathlib.Core.Path.{refl}
 use borrow.Author.Tests.{not-true, not-false}
-use Rattle.incremental.specs.Reading.{held-texts, missing-none, missing-free, missing-full, refused-15, refused-16, refused-17, refused-none}
+use Rattle.incremental.specs.Reading.{held-texts, refused-15, refused-16, refused-17, refused-none}
 use borrow.Author.Needs.{needs}
 use Rattle.incremental.proofs.cut_refusal.Statement.{statement}
 use Rattle.incremental.proofs.cut_refusal.Tie as tie
 use Rattle.incremental.proofs.cut_refusal.Reads as reads
 use Rattle.incremental.proofs.cut_refusal.Lts as lts
 use Rattle.introduces.proofs.introduces_ruby_format_dependency.Reads as introduces-ruby-format-dependency-reads
-use Rattle.reading.proofs.cuts_ok.Reads as cuts-ok-reads
+use Rattle.passage.proofs.cuts_ok.Reads as cuts-ok-reads
+use Rattle.passage.proofs.layer_missing.Reads as layer-missing-reads
 
 introduces-ruby-format-dependency-requires : tie.Need-introduces-ruby-format-dependency-requires
 introduces-ruby-format-dependency-requires c κs = search needs
@@ -17,7 +18,9 @@ same-length : tie.Need-same-length
 same-length c = search needs
 
 returns : tie.Need-returns
-returns c = λ e. refused-15 (c .before .before .before .before .before .before .before .before .before .before .pre .0 .0) (c .before .before .before .before .before .before .before .before .before .before .pre .0 .1) e _ (c .before .before .before .introduces-ruby-format-dependency .ensures) (c .if1 .taken)
+returns c =
+    let start = c .before .before .before .before .before .before .before .before .before .before in
+    λ e. refused-15 (start .pre .0 .0) (start .pre .0 .1) e _ (c .before .before .before .introduces-ruby-format-dependency .ensures) (c .if1 .taken)
 
 cast-first : tie.Need-cast-first
 cast-first c = search needs
@@ -50,25 +53,34 @@ same-length-2 : tie.Need-same-length-2
 same-length-2 c = search needs
 
 returns-2 : tie.Need-returns-2
-returns-2 c = λ e. refused-16 (c .before .before .before .before .before .before .before .before .before .before .before .before .before .before .before .before .before .pre .0 .0) (c .before .before .before .before .before .before .before .before .before .before .before .before .before .before .before .before .before .pre .0 .1) e _ (c .before .before .before .before .before .before .before .before .before .before .introduces-ruby-format-dependency .ensures) (c .before .before .before .before .before .before .before .if1 .left) (c .before .before .before .before .before .before .before .before .before .before .before .before .before .before .before .before .before .pre .1 .0) (c .before .before .before .before .before .before .before .before .before .before .before .before .before .before .before .before .before .pre .1 .1) refl refl (c .before .cuts-ok .ensures) (not-true _ (c .if2 .taken))
+returns-2 c =
+    let start = c .before .before .before .before .before .before .before .before .before .before .before .before .before .before .before .before .before in
+    λ e.
+    refused-16 (start .pre .0 .0) (start .pre .0 .1) e _ (c .before .before .before .before .before .before .before .before .before .before .introduces-ruby-format-dependency .ensures) (c .before .before .before .before .before .before .before .if1 .left) (start .pre .1 .0) (start .pre .1 .1) refl refl
+    (c .before .cuts-ok .ensures) (not-true _ (c .if2 .taken))
+
+layer-missing-requires : tie.Need-layer-missing-requires
+layer-missing-requires c κs = search needs
 
 same-length-3 : tie.Need-same-length-3
 same-length-3 c = search needs
 
 returns-3 : tie.Need-returns-3
-returns-3 c = λ e. refused-none (c .before .before .before .before .before .before .before .before .before .before .before .before .before .before .before .before .before .before .before .pre .0 .0) (c .before .before .before .before .before .before .before .before .before .before .before .before .before .before .before .before .before .before .before .pre .0 .1) e _ (c .before .before .before .before .before .before .before .before .before .before .before .before .introduces-ruby-format-dependency .ensures) (c .before .before .before .before .before .before .before .before .before .if1 .left) (c .before .before .before .before .before .before .before .before .before .before .before .before .before .before .before .before .before .before .before .pre .1 .0) (c .before .before .before .before .before .before .before .before .before .before .before .before .before .before .before .before .before .before .before .pre .1 .1) refl refl (c .before .before .before .cuts-ok .ensures) (not-false _ (c .before .before .if2 .left)) (missing-none (c .before .before .before .before .before .before .before .before .before .before .before .before .before .before .before .before .before .before .before .pre .0 .0) (c .before .before .before .before .before .before .before .before .before .before .before .before .before .before .before .before .before .before .before .pre .0 .1) (c .if3 .taken))
+returns-3 c =
+    let start = c .before .before .before .before .before .before .before .before .before .before .before .before .before .before .before .before .before .before .before in
+    λ e.
+    refused-17 (start .pre .0 .0) (start .pre .0 .1) e _ (c .before .before .before .before .before .before .before .before .before .before .before .before .introduces-ruby-format-dependency .ensures) (c .before .before .before .before .before .before .before .before .before .if1 .left) (start .pre .1 .0) (start .pre .1 .1) refl refl
+    (c .before .before .before .cuts-ok .ensures) (not-false _ (c .before .before .if2 .left)) (c .before .layer-missing .ensures) (c .if3 .taken)
 
 same-length-4 : tie.Need-same-length-4
 same-length-4 c = search needs
 
 returns-4 : tie.Need-returns-4
-returns-4 c = λ e. refused-none (c .before .before .before .before .before .before .before .before .before .before .before .before .before .before .before .before .before .before .before .before .before .pre .0 .0) (c .before .before .before .before .before .before .before .before .before .before .before .before .before .before .before .before .before .before .before .before .before .pre .0 .1) e _ (c .before .before .before .before .before .before .before .before .before .before .before .before .before .before .introduces-ruby-format-dependency .ensures) (c .before .before .before .before .before .before .before .before .before .before .before .if1 .left) (c .before .before .before .before .before .before .before .before .before .before .before .before .before .before .before .before .before .before .before .before .before .pre .1 .0) (c .before .before .before .before .before .before .before .before .before .before .before .before .before .before .before .before .before .before .before .before .before .pre .1 .1) refl refl (c .before .before .before .before .before .cuts-ok .ensures) (not-false _ (c .before .before .before .before .if2 .left)) (missing-free (c .before .before .before .before .before .before .before .before .before .before .before .before .before .before .before .before .before .before .before .before .before .pre .0 .0) (c .before .before .before .before .before .before .before .before .before .before .before .before .before .before .before .before .before .before .before .before .before .pre .0 .1) (c .before .before .if3 .left) (c .if4 .taken))
-
-same-length-5 : tie.Need-same-length-5
-same-length-5 c = search needs
-
-returns-5 : tie.Need-returns-5
-returns-5 c = λ e. refused-17 (c .before .before .before .before .before .before .before .before .before .before .before .before .before .before .before .before .before .before .before .before .before .pre .0 .0) (c .before .before .before .before .before .before .before .before .before .before .before .before .before .before .before .before .before .before .before .before .before .pre .0 .1) e _ (c .before .before .before .before .before .before .before .before .before .before .before .before .before .before .introduces-ruby-format-dependency .ensures) (c .before .before .before .before .before .before .before .before .before .before .before .if1 .left) (c .before .before .before .before .before .before .before .before .before .before .before .before .before .before .before .before .before .before .before .before .before .pre .1 .0) (c .before .before .before .before .before .before .before .before .before .before .before .before .before .before .before .before .before .before .before .before .before .pre .1 .1) refl refl (c .before .before .before .before .before .cuts-ok .ensures) (not-false _ (c .before .before .before .before .if2 .left)) (missing-full (c .before .before .before .before .before .before .before .before .before .before .before .before .before .before .before .before .before .before .before .before .before .pre .0 .0) (c .before .before .before .before .before .before .before .before .before .before .before .before .before .before .before .before .before .before .before .before .before .pre .0 .1) (c .before .before .if3 .left) (c .if4 .left))
+returns-4 c =
+    let start = c .before .before .before .before .before .before .before .before .before .before .before .before .before .before .before .before .before .before .before in
+    λ e.
+    refused-none (start .pre .0 .0) (start .pre .0 .1) e _ (c .before .before .before .before .before .before .before .before .before .before .before .before .introduces-ruby-format-dependency .ensures) (c .before .before .before .before .before .before .before .before .before .if1 .left) (start .pre .1 .0) (start .pre .1 .1) refl refl
+    (c .before .before .before .cuts-ok .ensures) (not-false _ (c .before .before .if2 .left)) (c .before .layer-missing .ensures) (c .if3 .left)
 
 pub cut-refusal-spec : {M : Type 1} → statement M
 cut-refusal-spec =
@@ -88,9 +100,8 @@ cut-refusal-spec =
     cuts-ok-requires
     same-length-2
     returns-2
+    layer-missing-requires
     same-length-3
     returns-3
     same-length-4
-    returns-4
-    same-length-5
-    returns-5)
+    returns-4)

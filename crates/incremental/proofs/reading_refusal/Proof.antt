@@ -10,7 +10,7 @@ use Rattle.incremental.proofs.reading_refusal.Lts as lts
 use Rattle.incremental.proofs.cut_refusal.Reads as cut-refusal-reads
 use Rattle.reading.proofs.balanced_nodes.Reads as balanced-nodes-reads
 use Rattle.reading.proofs.has_unclosed.Reads as has-unclosed-reads
-use Rattle.reading.proofs.is_region_text.Reads as is-region-text-reads
+use Rattle.passage.proofs.is_region_text.Reads as is-region-text-reads
 use Rattle.region.proofs.region_text.Reads as region-text-reads
 
 cast-text : tie.Need-cast-text

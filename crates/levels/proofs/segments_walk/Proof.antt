@@ -2,7 +2,7 @@ use mathlib.Core.Path.{refl}
 use Prim.Native.Nat.{_-_, _≤_}
 use native.Mathlib.Omega.{arith}
 use Rattle.levels.specs.Table.{walk-more}
-use Rattle.levels.specs.Below.{below}
+use Rattle.level_blocks.specs.Level.{below}
 use Rattle.wire.specs.Loops.{Passed, passed-none}
 use Rattle.records.specs.Runs.{testAt, run-failed, run-passed}
 use Rattle.model.specs.Tape.{segmentCodec}
