@@ -222,7 +222,7 @@ fn shape(name: &'static str, timed: Timed, words: &'static [usize], most: usize,
 
 fn all_shapes() -> Vec<Shape> {
     const ALL: &[usize] = &[0, 256, 16384, 262144];
-    const NONE_OR_SOME: &[usize] = &[0, 16384];
+    const SORTED: &[usize] = &[16384, 262144]; // with fewer words a merge says 18 before it sorts
     const ONE: &[usize] = &[16384];
     use Timed::{Check, Merge, Region};
     let common: &'static str = Box::leak("青空文庫の本を読む人は".repeat(6).into_boxed_str());
@@ -236,20 +236,20 @@ fn all_shapes() -> Vec<Shape> {
         shape("number 5: n Rubies over runs with random edges, over runs with random edges", Check, ONE, MAX_POOL / 2, |n| edges(n)),
         shape("number 5: runs of 128 contents, each of 128 segments", Check, ONE, MAX_POOL, |n| short_runs(n)),
         shape("number 10: n Rubies, n Formats, unlike strings of one length", Region, ALL, MAX_LIST / 2, |n| dependency(&unlike(2 * n))),
-        shape("number 10: n Rubies, n Formats, unlike strings of one length", Merge, &[0, 256, 16384], MAX_LIST / 2, |n| dependency(&unlike(2 * n))),
+        shape("number 10: n Rubies, n Formats, unlike strings of one length", Merge, ALL, MAX_LIST / 2, |n| dependency(&unlike(2 * n))),
         shape("number 10: strings that crowd the filter", Region, ALL, MAX_LIST / 2, move |n| dependency(&crowded(2 * n))),
-        shape("number 10: strings that crowd the filter, behind a common prefix of 198 bytes", Region, NONE_OR_SOME, MAX_LIST / 2, move |n| dependency(&with_prefix(2 * n))),
+        shape("number 10: strings that crowd the filter, behind a common prefix of 198 bytes", Region, ALL, MAX_LIST / 2, move |n| dependency(&with_prefix(2 * n))),
         shape("number 15: n Rubies, n Formats in the reading, unlike strings of one length", Merge, ALL, MAX_LIST, |n| introduced(&unlike(2 * n))),
-        shape("number 15: strings that crowd the filter", Merge, &[256, 16384], MAX_LIST, move |n| introduced(&crowded_reading(2 * n))),
+        shape("number 15: strings that crowd the filter", Merge, ALL, MAX_LIST, move |n| introduced(&crowded_reading(2 * n))),
         shape("region: n brackets in a row over blank lines, the edit behind them", Region, ALL, MAX_LIST, |n| bracketed(false, |b| for _ in 0..n { bracket(b, |b| b.put("\n\n")) })),
-        shape("region: n brackets in a row over blank lines, the edit before them", Region, NONE_OR_SOME, MAX_LIST, |n| bracketed(true, |b| for _ in 0..n { bracket(b, |b| b.put("\n\n")) })),
-        shape("region: n brackets, an unmatched close in each, the edit behind them", Region, NONE_OR_SOME, MAX_LIST, |n| {
+        shape("region: n brackets in a row over blank lines, the edit before them", Region, ALL, MAX_LIST, |n| bracketed(true, |b| for _ in 0..n { bracket(b, |b| b.put("\n\n")) })),
+        shape("region: n brackets, an unmatched close in each, the edit behind them", Region, ALL, MAX_LIST, |n| {
             bracketed(false, |b| for _ in 0..n { bracket(b, |b| { b.put("\n\n"); b.block("c", 3); }) })
         }),
-        shape("region: n brackets, one in the other, over gaps, the edit behind them", Region, NONE_OR_SOME, MAX_LIST, |n| bracketed(false, |b| nested(b, n))),
-        shape("region: n brackets, one in the other, over gaps, the edit before them", Region, NONE_OR_SOME, MAX_LIST, |n| bracketed(true, |b| nested(b, n))),
-        shape("diagnostics in falling order", Merge, ONE, MAX_LIST, |n| diagnosed_by(n, |i| n - i)),
-        shape("diagnostics with equal keys", Merge, ONE, MAX_LIST, |n| diagnosed_by(n, |_| 1)),
+        shape("region: n brackets, one in the other, over gaps, the edit behind them", Region, ALL, MAX_LIST, |n| bracketed(false, |b| nested(b, n))),
+        shape("region: n brackets, one in the other, over gaps, the edit before them", Region, ALL, MAX_LIST, |n| bracketed(true, |b| nested(b, n))),
+        shape("diagnostics in falling order", Merge, SORTED, MAX_LIST, |n| diagnosed_by(n, |i| n - i)),
+        shape("diagnostics with equal keys", Merge, SORTED, MAX_LIST, |n| diagnosed_by(n, |_| 1)),
         shape("UTF-8: characters of four bytes", Check, ONE, MAX_TEXT, |n| first_line(&written(n, "𠀋𡈽𠮟😀𩸽"))),
         shape("UTF-8: E0 and ED in each 64 bytes", Check, ONE, MAX_TEXT, |n| first_line(&written(n, "青空文庫の本を読む人はไ声に出して힘"))),
         shape("UTF-8: damaged at the very end", Check, ONE, MAX_TEXT, |n| damaged(n)),

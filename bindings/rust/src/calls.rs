@@ -196,8 +196,8 @@ pub fn merge_within<'a, 'b>(
     }
 }
 
-/// More words than a merge has to be lent make number 10 much faster for a book with many Rubies: two
-/// for each node, whose record has 49 bytes.
+/// More words than a merge has to be lent make numbers 10 and 15 faster for a book of many nodes: two
+/// for each, whose record has 49 bytes.
 fn work_words(book: Stored<'_>) -> usize {
     WORK_WORDS.max(book.tape.len() / 24)
 }
