@@ -3,7 +3,7 @@ use mathlib.Core.Path.{_≡_, refl, sym, ap, ap₂, _∙_, subst}
 use Prim.Native.Nat.{ℕ, _+_, _-_, _*_, _/_, _%_, _^_, _≤_, _<_, min, max}
 use native.Mathlib.Omega.{arith}
 use native.Mathlib.Nat.{mod-eq-of-lt, div-lt-iff-lt-mul, mul-lt-mul-of-pos-right, mul-le-mul, mul-comm}
-use mathlib.Core.Bool.{Bool, true, false, cond, _&&_, false≢true}
+use mathlib.Core.Bool.{Bool, true, false, cond, _&&_}
 use mathlib.Core.List.{List}
 use lib.ListN.{length, getD, set, take, length-set}
 use lib.Seq.{getD-set-same, getD-set-other, take-set-le}
@@ -12,6 +12,7 @@ use lib.Arith.{bin-ind}
 use lib.Bits.{bitAnd, bitOr, and-step, and-zero-r, or-shr, or-step}
 use lib.Pow.{pow-lt}
 use borrow.Author.Tests.{lt-ltb, le-ltb, ltb-true, ltb-false, eq-eqb, eqb-true, eqb-false}
+use Rattle.laws.specs.Lists.{both}
 
 -- where 32 bits of a hash have their word: among those from `base` on, in the share that they have of all 32 bits
 unfoldable pub hashPlace : ℕ → ℕ → ℕ → ℕ
@@ -173,10 +174,6 @@ module _ (words : List ℕ) (base x m : ℕ) where
 pub half-small : (x : ℕ) → x % 4294967296 < 4294967296
 half-small x = omega arith
 
-both-true : (a b : Bool) → (a && b) ≡ true → (a ≡ true) × (b ≡ true)
-both-true true b e = (refl, e)
-both-true false b e = absurd (false≢true e)
-
 module _ (words : List ℕ) (base h : ℕ) where
   pub inserted-none : length words ≤ base → inserted words base h ≡ words
   unfolding inserted
@@ -274,7 +271,7 @@ module _ (words : List ℕ) (base h : ℕ) where
 
     kept-after : (k : ℕ) → mayContain words base k ≡ true → mayContain (inserted words base h) base k ≡ true
     kept-after k e =
-        let b = both-true (hasBits words base (k / 4294967296 % 4294967296) (hashBits k)) (hasBits words base (k / 65536 % 4294967296) (hashBits k)) (sym (found-some words base k some) ∙ e) in
+        let b = both (hasBits words base (k / 4294967296 % 4294967296) (hashBits k)) (hasBits words base (k / 65536 % 4294967296) (hashBits k)) (sym (found-some words base k some) ∙ e) in
         let again = with-kept words base high (hashBits h) some (half-small (h / 4294967296)) in
         found-after k (bits-after (k / 4294967296 % 4294967296) (hashBits k) (again (k / 4294967296 % 4294967296) (hashBits k) (b .0)))
         (bits-after (k / 65536 % 4294967296) (hashBits k) (again (k / 65536 % 4294967296) (hashBits k) (b .1)))

@@ -9,7 +9,7 @@ use Rattle.model.specs.Limits.{maxLayers}
 use Rattle.model.specs.Lists.{any, isEmpty, same}
 use Rattle.model.specs.Offset.{Span}
 use Rattle.model.specs.Types.{LexOutput, RegionOutput}
-use Rattle.model.specs.Refusal.{Checked, Checked.refused, Checked.accepted, _>>=_, refuse_if_}
+use Rattle.model.specs.Refusal.{Checked.refused, Checked.accepted, _>>=_, refuse_if_}
 use Rattle.model.specs.Region.{Edit}
 use Rattle.model.specs.Merge.{Room, newRegionText, balancedNodes, isUnclosed, introducesRubyFormatDependency, windowOf, cutsOk, mergeBooks}
 use Rattle.wire.specs.Loops.{by-bool}

@@ -26,7 +26,7 @@ use Rattle.region.specs.Ready.{ready-inside}
 use Rattle.region.specs.Held.{Held, held-without}
 use Rattle.incremental.specs.Numbers.{cutNumber, readingNumber, number-12, number-13, number-14, number-rest, number-15, number-16, number-17, number-0}
 use Rattle.incremental.specs.Stages.{Read}
-use Rattle.incremental.specs.Window.{Inside, given-inside}
+use Rattle.incremental.specs.Window.{given-inside}
 
 module _ {t d : List ℕ} {p : Places} {st : Store} (h : Held t d p st) where
   abbrev pub bookOf : LexOutput

@@ -12,9 +12,9 @@ use lib.Seq.{take-take}
 use Rattle.model.specs.Limits.{internLengthLimit, maxNewStrings}
 use Rattle.model.specs.Intern.{InternStats, StrInterner, Interned, Probe, freshInterner, fxHash, plusStats, holds, probe, grows, tableFor, cacheHit, bypass, tableHit, tableAlloc, tableCall, intern, internAll}
 use Rattle.interner.specs.declared.StrInterner.{StrInterner as Interner}
+use Rattle.laws.specs.Lists.{both}
 use Rattle.interner.specs.State.{stateOf, Good, hasRoom}
 use Rattle.interner.specs.Added.{flatten-snoc}
-use Rattle.interner.specs.Room.{and-true}
 use Rattle.intern.specs.declared.Answer.{Answer}
 use Rattle.intern.specs.Told.{Answered}
 
@@ -79,7 +79,7 @@ strings-grow t s = each-way (λ (a : Interned). (a .state .strings ≡ t .string
 
 less-room : (size base : ℕ) (ss : List (List ℕ)) (s : List ℕ) → (leb (length (ss ++ (s ∷ []))) maxNewStrings && leb (base + length (flatten (ss ++ (s ∷ [])))) size) ≡ true → (leb (length ss) maxNewStrings && leb (base + length (flatten ss)) size) ≡ true
 less-room size base ss s e =
-    let p = and-true (leb (length (ss ++ (s ∷ []))) maxNewStrings) (leb (base + length (flatten (ss ++ (s ∷ [])))) size) e in
+    let p = both (leb (length (ss ++ (s ∷ []))) maxNewStrings) (leb (base + length (flatten (ss ++ (s ∷ [])))) size) e in
     let few = leb-true (length (ss ++ (s ∷ []))) maxNewStrings (p .0) in
     let fits = leb-true (base + length (flatten (ss ++ (s ∷ [])))) size (p .1) in
     let more = length-append ss (s ∷ []) in

@@ -1,6 +1,6 @@
 -- Whether there is room for the strings. Assumes nothing.
 use mathlib.Core.Path.{_≡_, refl, sym, ap, _∙_}
-use mathlib.Core.Bool.{Bool, true, false, _&&_, false≢true}
+use mathlib.Core.Bool.{Bool, true, _&&_}
 use mathlib.Core.List.{List, [], _∷_, _++_, flatten}
 use Prim.Native.Nat.{ℕ, _+_, _-_, _<_, _≤_}
 use native.Mathlib.Omega.{arith}
@@ -11,15 +11,12 @@ use lib.ListN.{length, take, length-append}
 use lib.Seq.{length-take-le}
 use Rattle.model.specs.Intern.{StrInterner}
 use Rattle.model.specs.Limits.{maxNewStrings}
+use Rattle.laws.specs.Lists.{both}
 use Rattle.table.specs.Layout.{startsOf, stringsUpTo}
 use Rattle.table.specs.Strings.{length-strings}
 use Rattle.interner.specs.declared.StrInterner.{StrInterner as Interner}
 use Rattle.interner.specs.State.{stateOf, Good, hasRoom}
 use Rattle.interner.specs.Added.{flatten-snoc}
-
-pub and-true : (a b : Bool) → (a && b) ≡ true → (a ≡ true) × (b ≡ true)
-and-true true b e = (refl, e)
-and-true false b e = absurd (false≢true e)
 
 pub room-left : (size used n : ℕ) → used ≤ size → leb n (size - used) ≡ leb (used + n) size
 room-left size used n h =
@@ -30,7 +27,7 @@ room-left size used n h =
 
 pub room-there : (count used n size : ℕ) → (leb (count + 1) maxNewStrings && leb (used + n) size) ≡ true → (count < 3583) × (used + n ≤ size)
 room-there count used n size e =
-    let p = and-true (leb (count + 1) maxNewStrings) (leb (used + n) size) e in
+    let p = both (leb (count + 1) maxNewStrings) (leb (used + n) size) e in
     (omega (arith, leb-true (count + 1) maxNewStrings (p .0)), leb-true (used + n) size (p .1))
 
 module _ (work strs : List ℕ) (st : Interner) (g : Good work strs st) where

@@ -1,14 +1,16 @@
 -- Laws of Bool tests and of the list functions of `model`, that several files cite.
 use mathlib.Core.Path.{_≡_, refl, sym, ap, _∙_}
 use mathlib.Core.Logic.{_⊎_, inl, inr}
-use Prim.Native.Nat.{ℕ, zero, suc, _≤_, _<_}
+use Prim.Native.Nat.{ℕ, zero, suc, _+_, _≤_, _<_}
 use native.Mathlib.Omega.{arith}
 use mathlib.Core.Bool.{Bool, true, false, cond, _&&_, _||_, false≢true}
 use mathlib.Core.Option.{none, some}
 use mathlib.Core.List.{List, [], _∷_, _++_, append-assoc, append-nil, map, flatten}
-use lib.ListN.{length, getD, getElem?, take, drop}
+use lib.ListN.{length, getD, getElem?, take, drop, length-drop}
+use lib.Seq.{length-take-le}
 use lib.Dec.{T}
-use Rattle.model.specs.Lists.{all, any, keep}
+use Rattle.model.specs.Lists.{all, keep, tabulate}
+use Rattle.model.specs.Bytes.{part}
 
 -- ---- tests
 
@@ -103,3 +105,13 @@ pub item-out : {A : Type 0} (l : List A) (i : ℕ) → length l ≤ i → getEle
 item-out [] i h = refl
 item-out (x ∷ xs) zero h = absurd (omega arith)
 item-out (x ∷ xs) (suc i) h = item-out xs i (omega arith)
+
+pub getD-tabulate : {A : Type 0} (n i : ℕ) (f : ℕ → A) (default : A) → i < n → getD (tabulate n f) i default ≡ f i
+getD-tabulate zero i f default h = absurd (omega arith)
+getD-tabulate (suc n) zero f default h = refl
+getD-tabulate (suc n) (suc i) f default h = getD-tabulate n i (λ j. f (suc j)) default (omega arith)
+
+-- ---- a part of a list
+
+pub part-length : (l : List ℕ) (at n : ℕ) → at + n ≤ length l → length (part l at n) ≡ n
+part-length l at n h = length-take-le n (drop at l) (omega (arith, length-drop at l))

@@ -1,15 +1,15 @@
 -- Number 5 by the starts that a store remembers: what the code computes. A range is looked at again before it is read, so that
 -- nothing here asks for number 4.
 use mathlib.Core.Path.{_≡_, refl, sym, ap, _∙_}
-use Prim.Native.Nat.{ℕ, zero, suc, _+_, _-_, _*_, _≤_, _<_}
+use Prim.Native.Nat.{ℕ, _+_, _-_, _*_, _≤_, _<_}
 use native.Mathlib.Omega.{arith}
-use mathlib.Core.Bool.{Bool, true, false, cond, _&&_, _||_}
-use mathlib.Core.List.{List, [], _∷_}
-use lib.ListN.{length, getD}
+use mathlib.Core.Bool.{Bool, true, false, cond, _&&_}
+use mathlib.Core.List.{List}
+use lib.ListN.{length}
 use lib.Dec.{leb, ltb, eqb}
-use borrow.Author.Tests.{eq-eqb, ne-eqb, lt-ltb, le-ltb, le-leb, lt-leb, leb-true, ltb-true, ltb-false, eqb-true}
+use borrow.Author.Tests.{ne-eqb, lt-ltb, le-ltb, leb-true, ltb-true, ltb-false}
 use Rattle.model.specs.Lists.{all}
-use Rattle.model.specs.Bytes.{byteAt, wordAt}
+use Rattle.model.specs.Bytes.{byteAt}
 use Rattle.model.specs.Limits.{maxLevel}
 use Rattle.model.specs.Types.{Body, Content, Segment}
 use Rattle.model.specs.WellFormed.{wordOf}

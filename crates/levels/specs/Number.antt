@@ -1,9 +1,9 @@
 -- Where number 4 holds, what the code computes for the store of the tape is the model's number 5.
 use mathlib.Core.Path.{_≡_, refl, sym, ap, ap₂, _∙_}
-use Prim.Native.Nat.{ℕ, zero, suc, _+_, _*_, _≤_, _<_}
-use mathlib.Core.Bool.{Bool, true, false, cond, _&&_, _||_, and-assoc}
+use Prim.Native.Nat.{ℕ, zero, suc, _+_}
+use mathlib.Core.Bool.{Bool, true, cond, _&&_, and-assoc}
 use mathlib.Core.List.{List, [], _∷_, _++_, map, flatten}
-use lib.ListN.{length, getD, take, drop}
+use lib.ListN.{take, drop}
 use lib.Dec.{leb, ltb, eqb}
 use Rattle.model.specs.Lists.{all, sum}
 use Rattle.model.specs.Bytes.{wordAt}
@@ -16,7 +16,7 @@ use Rattle.model.specs.Tape.{LayerPlaces, places, stringLengths, layerAt, layer
 use Rattle.laws.specs.Lists.{both}
 use Rattle.wire.specs.Loops.{by-bool}
 use Rattle.store.specs.Stored.{storeAt}
-use Rattle.store.specs.Standing.{contentPlace, segmentPlace, content-range, segment-range}
+use Rattle.store.specs.Standing.{contentPlace, content-range, segment-range}
 use Rattle.store.specs.declared.Store.{Store}
 use Rattle.ids.specs.Tests.{contentsIn, segmentsIn, fieldIn, bodyIn, contentIn, segmentIn}
 use Rattle.ids.specs.Whole.{runsIn, layerIn, layersIn, idsIn}

@@ -1,20 +1,20 @@
 -- The tables of the two pools: an item's test is known wherever its entry, or one above it, is at most the level.
 use mathlib.Core.Path.{_≡_, refl, sym, ap, _∙_}
-use Prim.Native.Nat.{ℕ, zero, suc, _+_, _*_, _-_, _/_, _≤_, _<_}
+use Prim.Native.Nat.{ℕ, _+_, _*_, _-_, _/_, _≤_, _<_}
 use native.Mathlib.Omega.{arith}
 use native.Mathlib.Nat.{add-sub-cancel-left}
-use mathlib.Core.Bool.{Bool, true, false, cond, _&&_, true≢false}
+use mathlib.Core.Bool.{Bool, true, false}
 use mathlib.Core.List.{List, [], _∷_}
 use lib.ListN.{length, getD, take, drop, set, length-set}
 use lib.Seq.{getD-take, getD-drop, getD-set-same, getD-set-other}
-use lib.Dec.{leb, ltb, eqb}
+use lib.Dec.{ltb, eqb}
 use borrow.Author.Tests.{lt-ltb, ltb-true, ltb-false, eqb-true, eqb-false}
-use Rattle.model.specs.Lists.{all, tabulate}
+use Rattle.model.specs.Lists.{all}
 use Rattle.model.specs.Bytes.{byteAt}
 use Rattle.model.specs.Types.{Content, Segment}
 use Rattle.model.specs.Store.{storeOf, resolveContentRange, resolveSegRange}
 use Rattle.model.specs.Tape.{Codec, recordSize, recordAt, recordsAt, contentCodec, segmentCodec, places, layersAt}
-use Rattle.laws.specs.Lists.{both}
+use Rattle.laws.specs.Lists.{both, getD-tabulate}
 use Rattle.wire.specs.Loops.{Passed, by-bool}
 use Rattle.records.specs.Runs.{testAt}
 use Rattle.store.specs.Standing.{contentPlace, segmentPlace, content-at, segment-at, content-range, segment-range, content-inside, segment-inside}
@@ -22,7 +22,7 @@ use Rattle.store.specs.declared.Store.{Store}
 use Rattle.ids.specs.Tests.{contentsIn, segmentsIn}
 use Rattle.level_blocks.specs.Level.{below, level-read}
 use Rattle.level_blocks.specs.Blocks.{Says, Skips, Risen, Kept}
-use Rattle.levels.specs.Below.{LevelsFit, segmentsBelow, contentBelow, contentsBelow, range-within}
+use Rattle.levels.specs.Below.{LevelsFit, segmentsBelow, contentBelow, range-within}
 
 -- ---- the tests of the two pools: item j at a level
 
@@ -94,11 +94,6 @@ walk-more test {table} {level} {start} {k} {len} {r} s said e p = record {
 }
 
 -- ---- a run of a pool, item by item
-
-getD-tabulate : {A : Type 0} (n i : ℕ) (f : ℕ → A) (default : A) → i < n → getD (tabulate n f) i default ≡ f i
-getD-tabulate zero i f default h = absurd (omega arith)
-getD-tabulate (suc n) zero f default h = refl
-getD-tabulate (suc n) (suc i) f default h = getD-tabulate n i (λ j. f (suc j)) default (omega arith)
 
 item-read : {A : Type 0} (c : Codec A) (t : List ℕ) (pool : List A) (default : A) (start len at n q : ℕ) → take len (drop start pool) ≡ recordsAt c t at len
     → getD pool (start + n) default ≡ recordAt c t q → n < len → recordAt c t (at + recordSize c * n) ≡ recordAt c t q

@@ -10,7 +10,7 @@ use borrow.Author.Tests.{leb-true, leb-false, ltb-true, ltb-false, eq-eqb}
 use Rattle.wire.specs.Loops.{by-bool, allUpTo, all-at}
 use Rattle.model.specs.Lists.{all, ascii, tabulate}
 use Rattle.model.specs.Bytes.{part}
-use Rattle.laws.specs.Lists.{both}
+use Rattle.laws.specs.Lists.{both, getD-tabulate}
 use Rattle.listing.specs.Table.{Shows, Shows.labelOnly, Shows.ordinal, Shows.ownString, Shows.byte, Shows.word, Shows.name, Shows.stringId, Shows.bodyWord, Shows.regionStart, Shows.regionEnd, Shows.textPart, Field, labels, rows, wordLabels, sizes}
 
 -- where the fields of each row begin in the four tables of fields
@@ -75,11 +75,6 @@ unfolding labels
 labels-coded = refl
 
 -- ---- what follows for an entry
-
-getD-tabulate : {A : Type 0} (n i : ℕ) (f : ℕ → A) (default : A) → i < n → getD (tabulate n f) i default ≡ f i
-getD-tabulate zero i f default h = absurd (omega arith)
-getD-tabulate (suc n) zero f default h = refl
-getD-tabulate (suc n) (suc i) f default h = getD-tabulate n i (λ j. f (suc j)) default (omega arith)
 
 same-default : (l : List ℕ) (i a b : ℕ) → i < length l → getD l i a ≡ getD l i b
 same-default [] i a b h = absurd (omega arith)

@@ -1,7 +1,7 @@
 -- The code's answer of a merge, and what the three lent buffers hold behind it.
 use mathlib.Core.Path.{_≡_, _∙_}
 use Prim.Native.Nat.{ℕ}
-use mathlib.Core.List.{List, []}
+use mathlib.Core.List.{List}
 use lib.ListN.{length, take}
 use Rattle.model.specs.Intern.{InternStats}
 use Rattle.model.specs.Refusal.{Checked, Checked.refused, Checked.accepted}

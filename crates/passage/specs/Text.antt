@@ -15,12 +15,10 @@ use Rattle.model.specs.Offset.{Span}
 use Rattle.model.specs.Types.{LexOutput, RegionOutput}
 use Rattle.model.specs.Region.{Edit, edited, behindEdit, regionText, editOf}
 use Rattle.model.specs.Merge.{newRegionText}
+use Rattle.laws.specs.Lists.{part-length}
 use Rattle.laws.specs.Splice.{splice, drop-take, take-splice-rest}
 use Rattle.compare.specs.Compare.{same-length}
 use Rattle.edit.specs.Same.{parts, edited-length}
-
-length-part : (l : List ℕ) (at n : ℕ) → at + n ≤ length l → length (part l at n) ≡ n
-length-part l at n h = let d = length-drop at l in length-take-le n (drop at l) (omega (arith, d, h))
 
 -- ---- a text with an edit in it, compared for each return of the code
 
@@ -61,7 +59,7 @@ module _ (t : List ℕ) (start end : ℕ) (replacement : List ℕ) (h : (start �
     text-same =
         let m = length-take-le start r (omega (arith, e)) in
         let n = length-take-le start t (omega (arith, h)) in
-        let k = length-part r start (there - start) (omega (arith, q, e)) in
+        let k = part-length r start (there - start) (omega (arith, q, e)) in
         rw (sub-zero start, part-end r there, part-end t end)
         (ap (λ (l : List ℕ). same l (take start t ++ (replacement ++ drop end t))) (parts r start there (omega (arith, q, e)))
         ∙ same-parts (take start r) (take start t) (part r start (there - start) ++ drop there r) (replacement ++ drop end t) (omega (arith, m, n))
@@ -82,7 +80,7 @@ module _ (t : List ℕ) (start end : ℕ) (replacement : List ℕ) (h : (start �
 
 pub region-length : (b : LexOutput) (r : Span) → r .start ≤ r .end → r .end ≤ length (b .sanitized) → length (regionText b r) ≡ r .end - r .start
 unfolding regionText
-region-length b r h k = length-part (b .sanitized) (r .start) (r .end - r .start) (omega (arith, h, k))
+region-length b r h k = part-length (b .sanitized) (r .start) (r .end - r .start) (omega (arith, h, k))
 
 -- an edit within a region, in offsets of the region's text
 abbrev pub editWithin : Span → Edit → Edit

@@ -1,5 +1,5 @@
 -- `chosen_region`, for each of its returns: the code has the text as a part of the bytes, and a region by its two numbers.
-use mathlib.Core.Path.{_≡_, refl, sym, ap, ap₂, _∙_, subst}
+use mathlib.Core.Path.{_≡_, sym, ap, _∙_, subst}
 use Prim.Native.Nat.{ℕ, _-_, _^_, _≤_, _<_}
 use native.Mathlib.Omega.{arith}
 use native.Mathlib.Nat.{sub-zero}
@@ -9,9 +9,9 @@ use lib.ListN.{length, take}
 use lib.Dec.{eqb}
 use Rattle.model.specs.Limits.{maxText}
 use Rattle.model.specs.Offset.{Span}
-use Rattle.model.specs.Refusal.{Checked, Checked.refused, Checked.accepted}
+use Rattle.model.specs.Refusal.{Checked.refused, Checked.accepted}
 use Rattle.model.specs.Tape.{recordsAt, nodeCodec, pairCodec, places, bookAt}
-use Rattle.model.specs.Region.{Edit, balancedRegion, isWhole, hasRubyFormatDependency, chosenRegion, editOf}
+use Rattle.model.specs.Region.{balancedRegion, isWhole, hasRubyFormatDependency, chosenRegion, editOf}
 use Rattle.places.specs.declared.Places.{Places}
 use Rattle.store.specs.declared.Store.{Store}
 use Rattle.edit.specs.Numbers.{editNumber, edit-inside}

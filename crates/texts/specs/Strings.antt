@@ -1,16 +1,16 @@
 -- Number 2, the strings of one layer: what a loop over them knows before string i, whose bytes stand at `place`.
 use mathlib.Core.Path.{_≡_, refl, sym, ap, _∙_}
-use Prim.Native.Nat.{ℕ, zero, suc, _+_, _≤_, _<_}
+use Prim.Native.Nat.{ℕ, suc, _+_, _≤_, _<_}
 use native.Mathlib.Omega.{arith}
 use native.Mathlib.Numerals.{add-one}
 use mathlib.Core.Bool.{Bool, true, false, _&&_}
 use mathlib.Core.List.{List, [], _∷_}
 use lib.ListN.{length, getD, take, drop, drop-of-length-le}
 use lib.Seq.{drop-cons, drop-drop}
-use Rattle.model.specs.Lists.{all, sum, tabulate}
+use Rattle.model.specs.Lists.{all, sum}
 use Rattle.model.specs.Utf8.{utf8}
 use Rattle.model.specs.Tape.{recordsAt, recordAt, operandsAt, stringCodec, pieces}
-use Rattle.laws.specs.Lists.{both}
+use Rattle.laws.specs.Lists.{both, getD-tabulate}
 use Rattle.laws.specs.Utf8.{utf8-behind}
 use Rattle.places.specs.Runs.{lengthAt}
 use Rattle.store.specs.Standing.{length-records}
@@ -29,14 +29,9 @@ pieces-behind (n ∷ ns) b e =
 
 -- ---- the lengths
 
-getD-tabulate : (n i : ℕ) (f : ℕ → ℕ) → i < n → getD (tabulate n f) i 0 ≡ f i
-getD-tabulate zero i f h = absurd (omega arith)
-getD-tabulate (suc n) zero f h = refl
-getD-tabulate (suc n) (suc i) f h = getD-tabulate n i (λ (k : ℕ). f (suc k)) (omega arith)
-
 length-here : (t : List ℕ) (at count i : ℕ) → i < count → getD (recordsAt stringCodec t at count) i 0 ≡ lengthAt t at i
 unfolding recordsAt recordAt operandsAt stringCodec
-length-here t at count i h = getD-tabulate count i (lengthAt t at) h
+length-here t at count i h = getD-tabulate count i (lengthAt t at) 0 h
 
 -- the lengths from string i on
 lengths-left : (t : List ℕ) (at count i n : ℕ) → i < count → n ≡ lengthAt t at i

@@ -9,7 +9,8 @@ use borrow.Author.Tests.{ltb-true, leb-true}
 use lib.ListN.{length, getD, drop}
 use lib.Dec.{ltb, leb}
 use Rattle.model.specs.Utf8.{Utf8State, tail2, within, utf8First, utf8Step, utf8}
-use Rattle.wire.specs.Loops.{allUpTo, by-bool}
+use Rattle.laws.specs.Lists.{both}
+use Rattle.wire.specs.Loops.{allUpTo}
 use Rattle.chars.specs.Chars.{charLen, asks, len-1, three-whole, char-next, char-none, char-fits}
 use Rattle.chars.specs.Leads.{lead-1, lead-3}
 
@@ -62,10 +63,6 @@ module _ (s : List ℕ) (at : ℕ) (h : at < length s) where
 -- the byte i behind `at` is ASCII
 unfoldable pub asciiAt : List ℕ → ℕ → ℕ → Bool
 asciiAt s at i = ltb (getD s (at + i) 0) 0x80
-
-both : (a b : Bool) → (a && b) ≡ true → (a ≡ true) × (b ≡ true)
-both true b e = (refl, e)
-both false b e = (e, by-bool b (λ t. t) (λ f. f ∙ e))
 
 pub skip-ascii : (s : List ℕ) (at n : ℕ) → at + n ≤ length s → allUpTo n (asciiAt s at) ≡ true → Skipped s at (at + n)
 unfolding allUpTo asciiAt
