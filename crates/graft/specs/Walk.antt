@@ -19,7 +19,7 @@ use Rattle.store.specs.declared.Store.{Store}
 use Rattle.strings.specs.Starts.{lengthsIn}
 use Rattle.strings.specs.Index.{Indexed}
 use Rattle.ids.specs.Tests.{contentIn, segmentIn}
-use Rattle.levels.specs.Below.{LevelsFit}
+use Rattle.store.specs.Stored.{OfTape}
 use Rattle.interner.specs.State.{hasRoom, Good, stateOf}
 use Rattle.intern.specs.declared.Answer.{Answer}
 use Rattle.sizes.specs.Shown.{showInner}
@@ -41,7 +41,7 @@ sourceStore t d = storeOf (layersAt t (places t .layers) (drop (wordAt t 1 + wor
 
 -- numbers 1 and 4 of the source, and the store of it
 pub record Source (t d : List ℕ) (st : Store) : Type 0 where
-  pub fit : LevelsFit t st
+  pub fit : OfTape t st
   pub framing : Frame t d
   pub contents : all (contentIn st) (sourceStore t d .contents) ≡ true
   pub segments : all (segmentIn st) (sourceStore t d .segments) ≡ true

@@ -7,7 +7,7 @@ ghost use Prim.Native.Nat.{ℕ, _+_, _*_, _≤_, _<_, _^_};
 ghost use lib.ListN.{length, set};
 ghost use Rattle.graft.specs.Walk.{wordsWith};
 ghost use Rattle.model.specs.Lists.{all};
-ghost use Rattle.levels.specs.Below.{LevelsFit};
+ghost use Rattle.store.specs.Stored.{OfTape};
 ghost use mathlib.Core.List.{List};
 ghost use Rattle.model.specs.Store.{resolveStr};
 ghost use Rattle.model.specs.Tape.{recordAt, recordsAt, contentCodec, segmentCodec};
@@ -195,7 +195,7 @@ fn words_of(mark: Mark, six: Six) -> Words
 
 // How many contents the items of a run push.
 fn inner_contents(tape: &[u8], st: store::Store, at: usize, count: usize, level: u8) -> u32
-    requires { ⌜ LevelsFit (now tape) st ⌝ }
+    requires { ⌜ OfTape (now tape) st ⌝ }
     requires { ⌜ at + 10 * count ≤ length (now tape) ⌝ }
     requires { ⌜ (contentsAdd (innerAdds level (now tape) st) (now tape) st at count .contents < 2 ^ 32) × (contentsAdd (innerAdds level (now tape) st) (now tape) st at count .segments < 2 ^ 32) ⌝ }
     ensures { λ r. ⌜ r ≡ contentsAdd (innerAdds level (now (tape .entry)) st) (now (tape .entry)) st at count .contents ⌝ }
@@ -216,7 +216,7 @@ fn inner_contents(tape: &[u8], st: store::Store, at: usize, count: usize, level:
 
 // How many segments the items of a run push.
 fn inner_segments(tape: &[u8], st: store::Store, at: usize, count: usize, level: u8) -> u32
-    requires { ⌜ LevelsFit (now tape) st ⌝ }
+    requires { ⌜ OfTape (now tape) st ⌝ }
     requires { ⌜ at + 37 * count ≤ length (now tape) ⌝ }
     requires { ⌜ (segmentsAdd (innerAdds level (now tape) st) (now tape) at count .contents < 2 ^ 32) × (segmentsAdd (innerAdds level (now tape) st) (now tape) at count .segments < 2 ^ 32) ⌝ }
     ensures { λ r. ⌜ r ≡ segmentsAdd (innerAdds level (now (tape .entry)) st) (now (tape .entry)) at count .segments ⌝ }

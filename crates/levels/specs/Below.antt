@@ -13,28 +13,18 @@ use Rattle.model.specs.Bytes.{byteAt}
 use Rattle.model.specs.Limits.{maxLevel}
 use Rattle.model.specs.Types.{Body, Content, Segment}
 use Rattle.model.specs.WellFormed.{wordOf}
-use Rattle.model.specs.Tape.{Field, Field.str, Field.optStr, Field.contentRange, Field.segRange, fieldsOf, recordAt, recordsAt, operandsAt, contentCodec, segmentCodec, places}
+use Rattle.model.specs.Tape.{Field, Field.str, Field.optStr, Field.contentRange, Field.segRange, fieldsOf, recordAt, recordsAt, operandsAt, contentCodec, segmentCodec}
 use Rattle.laws.specs.Lists.{both}
 use Rattle.wire.specs.Loops.{allUpTo, Passed, all-passed, all-failed, by-bool}
 use Rattle.records.specs.Values.{bodyAt, segment-body}
 use Rattle.records.specs.Uses.{wordUse, usesOf, useAmong, uses-right, unused-from}
 use Rattle.records.specs.Words.{wordTest, all-by-words}
-use Rattle.places.specs.Again.{Frame, nodes-inside}
 use Rattle.store.specs.Pools.{rangeIn}
-use Rattle.store.specs.Stored.{storeAt}
+use Rattle.store.specs.Stored.{OfTape}
 use Rattle.store.specs.Standing.{contentPlace, segmentPlace, content-inside, segment-inside}
 use Rattle.store.specs.declared.Store.{Store}
 use Rattle.ids.specs.Tests.{contentsIn, segmentsIn}
 use Rattle.level_blocks.specs.Level.{below}
-
--- what was found, and the store of it
-pub record LevelsFit (t : List ℕ) (st : Store) : Type 0 where
-  pub stored : st ≡ storeAt t
-  pub few : st .layers ≤ 32
-  pub inside : places t .nodesAt ≤ length t
-
-pub levels-fit : (t d : List ℕ) (st : Store) → Frame t d → st ≡ storeAt t → st .layers ≤ 32 → LevelsFit t st
-levels-fit t d st f e few = let n = nodes-inside t d f in record { stored = e; few = few; inside = omega (arith, n) }
 
 -- ---- definitions
 
@@ -136,7 +126,7 @@ module _ (t : List ℕ) (st : Store) (level start len : ℕ) where
   unfolding segmentsBelow
   segments-read e n at p a = rw (sym e ∙ n) (a ∙ ap (λ (x : ℕ). all (below level) (recordsAt segmentCodec t x len)) p)
 
-  pub segments-fit : LevelsFit t st → {r : Bool} → r ≡ segmentsIn st start len → r ≡ true → (len ≡ 0 → ⊥) → (at : ℕ) → at ≡ segmentPlace st start → at + 37 * len ≤ length t
+  pub segments-fit : OfTape t st → {r : Bool} → r ≡ segmentsIn st start len → r ≡ true → (len ≡ 0 → ⊥) → (at : ℕ) → at ≡ segmentPlace st start → at + 37 * len ≤ length t
   segments-fit f e n z at p =
       let w = range-within (st .segments) (st .layers) (st .totals .segments) start len (sym e ∙ n) in
       let pos : 0 < len = by-bool (ltb 0 len) (λ s. ltb-true 0 len s) (λ s. absurd (z (let l = ltb-false 0 len s in omega (arith, l)))) in
@@ -156,7 +146,7 @@ module _ (t : List ℕ) (st : Store) (level start len : ℕ) where
   unfolding contentsBelow
   contents-read e n at p a = rw (sym e ∙ n) (a ∙ ap (λ (x : ℕ). all (contentBelow t st level) (recordsAt contentCodec t x len)) p)
 
-  pub contents-fit : LevelsFit t st → {r : Bool} → r ≡ contentsIn st start len → r ≡ true → (len ≡ 0 → ⊥) → (at : ℕ) → at ≡ contentPlace st start → at + 10 * len ≤ length t
+  pub contents-fit : OfTape t st → {r : Bool} → r ≡ contentsIn st start len → r ≡ true → (len ≡ 0 → ⊥) → (at : ℕ) → at ≡ contentPlace st start → at + 10 * len ≤ length t
   contents-fit f e n z at p =
       let w = range-within (st .contents) (st .layers) (st .totals .contents) start len (sym e ∙ n) in
       let pos : 0 < len = by-bool (ltb 0 len) (λ s. ltb-true 0 len s) (λ s. absurd (z (let l = ltb-false 0 len s in omega (arith, l)))) in

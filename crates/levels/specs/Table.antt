@@ -22,7 +22,8 @@ use Rattle.store.specs.declared.Store.{Store}
 use Rattle.ids.specs.Tests.{contentsIn, segmentsIn}
 use Rattle.level_blocks.specs.Level.{below, level-read}
 use Rattle.level_blocks.specs.Blocks.{Says, Skips, Risen, Kept}
-use Rattle.levels.specs.Below.{LevelsFit, segmentsBelow, contentBelow, range-within}
+use Rattle.store.specs.Stored.{OfTape}
+use Rattle.levels.specs.Below.{segmentsBelow, contentBelow, range-within}
 
 -- ---- the tests of the two pools: item j at a level
 
@@ -105,7 +106,7 @@ item-read c t pool default start len at n q e f h =
 -- ---- the two pools
 
 pub record Tops (t : List ℕ) (st : Store) (tops : List ℕ) : Type 0 where
-  pub fit : LevelsFit t st
+  pub fit : OfTape t st
   pub risen : Risen tops 69904
   pub filled : Filled (segmentTest t st) (st .totals .segments) tops 65536
 
@@ -185,10 +186,10 @@ bound-content t st i m r at e h q y = record {
       ap (λ (p : ℕ). contentBelow t st level (recordAt contentCodec t p)) (sym e) ∙ content-more t st r level (recordAt contentCodec t at) a (sym q ∙ y);
 }
 
-pub segment-fits : (t : List ℕ) (st : Store) (i at : ℕ) → LevelsFit t st → i < st .totals .segments → at ≡ segmentPlace st i → at + 37 ≤ length t
+pub segment-fits : (t : List ℕ) (st : Store) (i at : ℕ) → OfTape t st → i < st .totals .segments → at ≡ segmentPlace st i → at + 37 ≤ length t
 segment-fits t st i at f h e = let k = segment-inside t st (f .stored) i 1 h (omega (arith, h)) in omega (arith, k, e, f .inside)
 
-pub content-fits : (t : List ℕ) (st : Store) (i at : ℕ) → LevelsFit t st → i < st .totals .contents → at ≡ contentPlace st i → at + 10 ≤ length t
+pub content-fits : (t : List ℕ) (st : Store) (i at : ℕ) → OfTape t st → i < st .totals .contents → at ≡ contentPlace st i → at + 10 ≤ length t
 content-fits t st i at f h e = let k = content-inside t st (f .stored) i 1 h (omega (arith, h)) in omega (arith, k, e, f .inside)
 
 -- items from a up to b are below every level from r on
@@ -238,7 +239,7 @@ filled-kept w k e = record { size = e; right = λ j level x y z v. let g = k .ke
 
 -- ---- both tables made
 
-pub tops-made : {t : List ℕ} {st : Store} {d l : List ℕ} → LevelsFit t st → Filled (segmentTest t st) (st .totals .segments) d 65536 → Risen l 69904 → Kept d l → Tops t st l
+pub tops-made : {t : List ℕ} {st : Store} {d l : List ℕ} → OfTape t st → Filled (segmentTest t st) (st .totals .segments) d 65536 → Risen l 69904 → Kept d l → Tops t st l
 tops-made f w r k = record { fit = f; risen = r; filled = filled-kept w k (r .size) }
 
 pub tables-made : {t : List ℕ} {st : Store} {tops d l : List ℕ} → Tops t st tops → Filled (contentTest t st) (st .totals .contents) d 65536 → Risen l 69904 → Kept d l → Tables t st tops l

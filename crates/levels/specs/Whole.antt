@@ -1,10 +1,10 @@
 -- Number 5 of a whole tape: its layers walked once.
 use mathlib.Core.Path.{_≡_, refl, sym, ap, ap₂, _∙_}
-use Prim.Native.Nat.{ℕ, zero, suc, _+_, _*_, _≤_, _<_}
+use Prim.Native.Nat.{ℕ, _+_, _*_, _≤_, _<_}
 use native.Mathlib.Omega.{arith}
 use native.Mathlib.Numerals.{add-one}
-use mathlib.Core.Bool.{Bool, true, false, cond, _&&_, _||_}
-use mathlib.Core.List.{List, [], _∷_}
+use mathlib.Core.Bool.{Bool, true, false, _&&_}
+use mathlib.Core.List.{List}
 use lib.ListN.{length, getD, drop, drop-of-length-le}
 use lib.Seq.{drop-cons}
 use Rattle.model.specs.Lists.{all}
@@ -13,7 +13,8 @@ use Rattle.places.specs.declared.LayerRuns.{LayerRuns}
 use Rattle.places.specs.Found.{layerRuns}
 use Rattle.places.specs.Again.{AtLayer, at-first, at-inside, at-here, at-next, at-before}
 use Rattle.store.specs.declared.Store.{Store}
-use Rattle.levels.specs.Below.{LevelsFit, levelIn}
+use Rattle.store.specs.Stored.{OfTape}
+use Rattle.levels.specs.Below.{levelIn}
 
 -- the segments of a layer
 unfoldable pub runLevels : List ℕ → Store → LayerRuns → Bool
@@ -48,7 +49,7 @@ module _ {t : List ℕ} {st : Store} {i at layers : ℕ} (w : Walked t st i at) 
   walked-inside = at-inside (w .place) in-list
 
   module _ {l : LayerRuns} (e : l ≡ layerRuns (layerPlaces t at)) where
-    pub walked-fits : LevelsFit t st → l .segments .at + 37 * l .segments .count ≤ length t
+    pub walked-fits : OfTape t st → l .segments .at + 37 * l .segments .count ≤ length t
     walked-fits fits =
         let f = ap (λ (x : LayerRuns). x .segments .at) e in
         let g = ap (λ (x : LayerRuns). x .segments .count) e in

@@ -17,14 +17,15 @@ ghost use Rattle.records.specs.Runs.{testAt};
 ghost use Rattle.model.specs.WellFormed.{wordOf};
 ghost use Rattle.level_blocks.specs.Level.{below};
 ghost use Rattle.level_blocks.specs.Blocks.{Risen};
-ghost use Rattle.levels.specs.Below.{LevelsFit, segmentsBelow, contentBelow, contentsBelow, usedBelow, bodyBelow, levelIn};
+ghost use Rattle.store.specs.Stored.{OfTape};
+ghost use Rattle.levels.specs.Below.{segmentsBelow, contentBelow, contentsBelow, usedBelow, bodyBelow, levelIn};
 ghost use Rattle.levels.specs.Table.{segmentTest, contentTest, Step, Said, Filled, Bound, Block, Tops, Tables};
 ghost use Rattle.levels.specs.Whole.{levelsIn, Walked};
 
 // ---- ranges up to 16; 'false' says nothing
 
 fn segments_quick(tape: &[u8], st: store::Store, start: u32, len: u32, level: u8) -> bool
-    requires { ⌜ LevelsFit (now tape) st ⌝ }
+    requires { ⌜ OfTape (now tape) st ⌝ }
     ensures { λ r. ⌜ (r ≡ true → segmentsBelow (now (tape .entry)) st level start len ≡ true) ⌝ }
 {
     if 16 < len {
@@ -41,7 +42,7 @@ fn segments_quick(tape: &[u8], st: store::Store, start: u32, len: u32, level: u8
 }
 
 fn content_quick(tape: &[u8], st: store::Store, at: usize, level: u8) -> bool
-    requires { ⌜ LevelsFit (now tape) st ⌝ }
+    requires { ⌜ OfTape (now tape) st ⌝ }
     requires { ⌜ at + 10 ≤ length (now tape) ⌝ }
     ensures { λ r. ⌜ (r ≡ true → contentBelow (now (tape .entry)) st level (recordAt contentCodec (now (tape .entry)) at) ≡ true) ⌝ }
 {
@@ -53,7 +54,7 @@ fn content_quick(tape: &[u8], st: store::Store, at: usize, level: u8) -> bool
 }
 
 fn run_quick(tape: &[u8], st: store::Store, at: usize, count: usize, level: u8) -> bool
-    requires { ⌜ LevelsFit (now tape) st ⌝ }
+    requires { ⌜ OfTape (now tape) st ⌝ }
     requires { ⌜ at + 10 * count ≤ length (now tape) ⌝ }
     ensures { λ r. ⌜ (r ≡ true → all (contentBelow (now (tape .entry)) st level) (recordsAt contentCodec (now (tape .entry)) at count) ≡ true) ⌝ }
 {
@@ -68,7 +69,7 @@ fn run_quick(tape: &[u8], st: store::Store, at: usize, count: usize, level: u8) 
 }
 
 fn contents_quick(tape: &[u8], st: store::Store, start: u32, len: u32, level: u8) -> bool
-    requires { ⌜ LevelsFit (now tape) st ⌝ }
+    requires { ⌜ OfTape (now tape) st ⌝ }
     ensures { λ r. ⌜ (r ≡ true → contentsBelow (now (tape .entry)) st level start len ≡ true) ⌝ }
 {
     if 16 < len {
@@ -85,7 +86,7 @@ fn contents_quick(tape: &[u8], st: store::Store, start: u32, len: u32, level: u8
 }
 
 fn used_quick(tape: &[u8], st: store::Store, usage: u8, w: u32, next: u32, level: u8) -> bool
-    requires { ⌜ LevelsFit (now tape) st ⌝ }
+    requires { ⌜ OfTape (now tape) st ⌝ }
     ensures { λ r. ⌜ (r ≡ true → usedBelow (now (tape .entry)) st level usage w next ≡ true) ⌝ }
 {
     if usage == 3 {
@@ -99,7 +100,7 @@ fn used_quick(tape: &[u8], st: store::Store, usage: u8, w: u32, next: u32, level
 
 // Word i of the body at `at`, which has that use.
 fn word_quick(tape: &[u8], st: store::Store, usage: u8, at: usize, i: usize, level: u8) -> bool
-    requires { ⌜ LevelsFit (now tape) st ⌝ }
+    requires { ⌜ OfTape (now tape) st ⌝ }
     requires { ⌜ (at + 34 ≤ length (now tape)) × (i < 6) ⌝ }
     ensures { λ r. ⌜ (r ≡ true → usedBelow (now (tape .entry)) st level usage (wordOf (bodyAt (now (tape .entry)) at) i) (wordOf (bodyAt (now (tape .entry)) at) (i + 1)) ≡ true) ⌝ }
 {
@@ -109,7 +110,7 @@ fn word_quick(tape: &[u8], st: store::Store, usage: u8, at: usize, i: usize, lev
 }
 
 fn body_quick(tape: &[u8], st: store::Store, at: usize, level: u8) -> bool
-    requires { ⌜ LevelsFit (now tape) st ⌝ }
+    requires { ⌜ OfTape (now tape) st ⌝ }
     requires { ⌜ at + 34 ≤ length (now tape) ⌝ }
     ensures { λ r. ⌜ (r ≡ true → bodyBelow (now (tape .entry)) st level (bodyAt (now (tape .entry)) at) ≡ true) ⌝ }
 {
@@ -129,7 +130,7 @@ fn body_quick(tape: &[u8], st: store::Store, at: usize, level: u8) -> bool
 }
 
 fn level_quick(tape: &[u8], st: store::Store, at: usize) -> bool
-    requires { ⌜ LevelsFit (now tape) st ⌝ }
+    requires { ⌜ OfTape (now tape) st ⌝ }
     requires { ⌜ at + 37 ≤ length (now tape) ⌝ }
     ensures { λ r. ⌜ (r ≡ true → levelIn (now (tape .entry)) st (recordAt segmentCodec (now (tape .entry)) at) ≡ true) ⌝ }
 {
@@ -144,7 +145,7 @@ fn level_quick(tape: &[u8], st: store::Store, at: usize) -> bool
 }
 
 fn run_levels_quick(tape: &[u8], st: store::Store, at: usize, count: usize) -> bool
-    requires { ⌜ LevelsFit (now tape) st ⌝ }
+    requires { ⌜ OfTape (now tape) st ⌝ }
     requires { ⌜ at + 37 * count ≤ length (now tape) ⌝ }
     ensures { λ r. ⌜ (r ≡ true → all (levelIn (now (tape .entry)) st) (recordsAt segmentCodec (now (tape .entry)) at count) ≡ true) ⌝ }
 {
@@ -160,7 +161,7 @@ fn run_levels_quick(tape: &[u8], st: store::Store, at: usize, count: usize) -> b
 
 // The layers behind the first, which was walked and ends at `from`.
 fn levels_quick(tape: &[u8], st: store::Store, from: usize, layers: usize) -> bool
-    requires { ⌜ LevelsFit (now tape) st ⌝ }
+    requires { ⌜ OfTape (now tape) st ⌝ }
     requires { ⌜ layers ≡ length (places (now tape) .layers) ⌝ }
     requires { ⌜ (1 ≤ layers) × Walked (now tape) st 1 from ⌝ }
     ensures { λ r. ⌜ (r ≡ true → levelsIn (now (tape .entry)) st ≡ true) ⌝ }
@@ -474,7 +475,7 @@ fn levels_by(tape: &[u8], st: store::Store, tops: &[u8], heights: &[u8], layers:
 
 // The least level, from m on, that segment i is below; 255 above 32.
 fn segment_bound(tape: &[u8], st: store::Store, i: u32, m: u8) -> u8
-    requires { ⌜ LevelsFit (now tape) st ⌝ }
+    requires { ⌜ OfTape (now tape) st ⌝ }
     requires { ⌜ i < st .totals .segments ⌝ }
     ensures { λ r. ⌜ Bound (segmentTest (now (tape .entry)) st) i m r ⌝ }
 {
@@ -490,7 +491,7 @@ fn segment_bound(tape: &[u8], st: store::Store, i: u32, m: u8) -> u8
 }
 
 fn top_of(tape: &[u8], st: store::Store, k: usize) -> u8
-    requires { ⌜ LevelsFit (now tape) st ⌝ }
+    requires { ⌜ OfTape (now tape) st ⌝ }
     requires { ⌜ k < 65536 ⌝ }
     ensures { λ r. ⌜ Block (segmentTest (now (tape .entry)) st) (st .totals .segments) (16 * k) (16 * k + 16) r ⌝ }
 {
@@ -508,7 +509,7 @@ fn top_of(tape: &[u8], st: store::Store, k: usize) -> u8
 }
 
 fn put_tops(tape: &[u8], st: store::Store, tops: &mut [u8])
-    requires { ⌜ LevelsFit (now tape) st ⌝ }
+    requires { ⌜ OfTape (now tape) st ⌝ }
     requires { ⌜ length (now tops) ≡ 69904 ⌝ }
     ensures { λ _. ⌜ Filled (segmentTest (now (tape .entry)) st) (st .totals .segments) (now (tops .exit)) 65536 ⌝ }
 {
@@ -575,7 +576,7 @@ fn put_heights(tape: &[u8], st: store::Store, tops: &[u8], heights: &mut [u8])
 }
 
 fn levels_tabled(tape: &[u8], st: store::Store, layers: usize) -> bool
-    requires { ⌜ LevelsFit (now tape) st ⌝ }
+    requires { ⌜ OfTape (now tape) st ⌝ }
     requires { ⌜ layers ≡ length (places (now tape) .layers) ⌝ }
     ensures { λ r. ⌜ r ≡ levelsIn (now (tape .entry)) st ⌝ }
 {
@@ -591,7 +592,7 @@ fn levels_tabled(tape: &[u8], st: store::Store, layers: usize) -> bool
 // Number 5, whole. The first layer is asked by itself: called from two places, `levels_tabled` is not made part of its caller, and
 // a book that needs no tables needs no room for them.
 pub fn levels_ok(tape: &[u8], st: store::Store, layers: usize) -> bool
-    requires { ⌜ LevelsFit (now tape) st ⌝ }
+    requires { ⌜ OfTape (now tape) st ⌝ }
     requires { ⌜ layers ≡ length (places (now tape) .layers) ⌝ }
     ensures { λ r. ⌜ r ≡ levelsIn (now (tape .entry)) st ⌝ }
 {

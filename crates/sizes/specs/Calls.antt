@@ -16,7 +16,7 @@ use Rattle.places.specs.Found.{found}
 use Rattle.store.specs.Standing.{contentPlace, segmentPlace, length-records}
 use Rattle.store.specs.declared.Store.{Store}
 use Rattle.ids.specs.Whole.{idsIn, IdsFit, ids-layers}
-use Rattle.levels.specs.Below.{LevelsFit}
+use Rattle.store.specs.Stored.{OfTape}
 use Rattle.sizes.specs.Added.{Added, nothing, oneCall, newContents, newSegments, add, addAll}
 use Rattle.sizes.specs.Trees.{nodesSize}
 use Rattle.sizes.specs.Capped.{fits, capped, sizesIn, fits-room, capped-exact, capped-over, addFrom}
@@ -138,7 +138,7 @@ not-cut m k a l f =
 -- ---- a whole tape
 
 module _ {t : List ℕ} {st : Store} {p : Places} (f : IdsFit t st p) where
-  pub reading-levels : LevelsFit t st
+  pub reading-levels : OfTape t st
   reading-levels = record { stored = f .stored; few = f .few; inside = ids-layers f .inside }
 
   pub reading-answer : (m : Room) {r : Sizes} → idsIn t st ≡ true → Limited m (p .nodes .count) → r ≡ capped m (nodesAdd t st (p .nodes .at) (p .nodes .count))

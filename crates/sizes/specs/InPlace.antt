@@ -22,7 +22,8 @@ use Rattle.records.specs.Uses.{wordUse}
 use Rattle.store.specs.Standing.{contentPlace, segmentPlace, content-inside, segment-inside}
 use Rattle.store.specs.declared.Store.{Store}
 use Rattle.ids.specs.Tests.{contentsIn, segmentsIn}
-use Rattle.levels.specs.Below.{LevelsFit, range-within}
+use Rattle.store.specs.Stored.{OfTape}
+use Rattle.levels.specs.Below.{range-within}
 use Rattle.sizes.specs.Added.{Added, nothing, oneCall, add, addAll, add-nothing, all-append}
 use Rattle.sizes.specs.Trees.{runOfContents, runOfSegments}
 use Rattle.sizes.specs.Order.{fieldWord, fieldFrom, placeField, placeFields, fields-in-order}
@@ -162,7 +163,7 @@ module _ (t : List ℕ) (at n : ℕ) where
 
 -- ---- inside the tape
 
-module _ (t : List ℕ) (st : Store) (f : LevelsFit t st) (start len : ℕ) (n at : ℕ) (z : n ≡ 0 → ⊥) where
+module _ (t : List ℕ) (st : Store) (f : OfTape t st) (start len : ℕ) (n at : ℕ) (z : n ≡ 0 → ⊥) where
   pub contents-inside : n ≡ contentCount st start len → at ≡ contentPlace st start → at + 10 * n ≤ length t
   unfolding contentCount
   contents-inside e p =

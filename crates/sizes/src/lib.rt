@@ -13,7 +13,7 @@ ghost use Rattle.model.specs.Tape.{recordAt, contentCodec, segmentCodec, nodeCo
 ghost use Rattle.model.specs.Tree.{shownNodes};
 ghost use Rattle.records.specs.Values.{bodyAt};
 ghost use Rattle.ids.specs.Whole.{IdsFit, idsIn};
-ghost use Rattle.levels.specs.Below.{LevelsFit};
+ghost use Rattle.store.specs.Stored.{OfTape};
 ghost use Rattle.sizes.specs.Trees.{nodesSize};
 ghost use Rattle.sizes.specs.Order.{fieldWord};
 ghost use Rattle.sizes.specs.Capped.{overSizes, noSizes, capped, sizesIn, plus, Kept};
@@ -177,7 +177,7 @@ pub fn body_sizes(
     at: usize,
     level: u8,
 ) -> Sizes
-    requires { ⌜ LevelsFit (now tape) st ⌝ }
+    requires { ⌜ OfTape (now tape) st ⌝ }
     requires { ⌜ Kept room t ⌝ }
     requires { ⌜ at + 34 ≤ length (now tape) ⌝ }
     ensures { λ r. ⌜ r ≡ plus room t (bodyAdds level (now (tape .entry)) st (bodyAt (now (tape .entry)) at)) ⌝ }
@@ -203,7 +203,7 @@ fn field_sizes(
     f: FieldWords,
     level: u8,
 ) -> Sizes
-    requires { ⌜ LevelsFit (now tape) st ⌝ }
+    requires { ⌜ OfTape (now tape) st ⌝ }
     requires { ⌜ Kept room t ⌝ }
     ensures { λ r. ⌜ r ≡ plus room t (usedAdds (innerAdds level (now (tape .entry)) st) (now (tape .entry)) st f) ⌝ }
 {
@@ -226,7 +226,7 @@ pub fn content_run_sizes(
     len: u32,
     level: u8,
 ) -> Sizes
-    requires { ⌜ LevelsFit (now tape) st ⌝ }
+    requires { ⌜ OfTape (now tape) st ⌝ }
     requires { ⌜ Kept room t ⌝ }
     ensures { λ r. ⌜ r ≡ plus room t (contentRunAdds (innerAdds level (now (tape .entry)) st) (now (tape .entry)) st start len) ⌝ }
 {
@@ -252,7 +252,7 @@ pub fn contents_sizes(
     count: usize,
     level: u8,
 ) -> Sizes
-    requires { ⌜ LevelsFit (now tape) st ⌝ }
+    requires { ⌜ OfTape (now tape) st ⌝ }
     requires { ⌜ Kept room t ⌝ }
     requires { ⌜ at + 10 * count ≤ length (now tape) ⌝ }
     ensures { λ r. ⌜ r ≡ plus room t (contentsAdd (innerAdds level (now (tape .entry)) st) (now (tape .entry)) st at count) ⌝ }
@@ -271,7 +271,7 @@ pub fn contents_sizes(
 
 // Section 5. Plain is a string, Segments a run.
 fn content_sizes(tape: &[u8], st: store::Store, room: Room, t: Sizes, at: usize, level: u8) -> Sizes
-    requires { ⌜ LevelsFit (now tape) st ⌝ }
+    requires { ⌜ OfTape (now tape) st ⌝ }
     requires { ⌜ Kept room t ⌝ }
     requires { ⌜ at + 10 ≤ length (now tape) ⌝ }
     ensures { λ r. ⌜ r ≡ plus room t (contentAdds (innerAdds level (now (tape .entry)) st) (now (tape .entry)) st (recordAt contentCodec (now (tape .entry)) at)) ⌝ }
@@ -293,7 +293,7 @@ pub fn segment_run_sizes(
     len: u32,
     level: u8,
 ) -> Sizes
-    requires { ⌜ LevelsFit (now tape) st ⌝ }
+    requires { ⌜ OfTape (now tape) st ⌝ }
     requires { ⌜ Kept room t ⌝ }
     ensures { λ r. ⌜ r ≡ plus room t (segmentRunAdds (innerAdds level (now (tape .entry)) st) (now (tape .entry)) st start len) ⌝ }
 {
@@ -319,7 +319,7 @@ pub fn segments_sizes(
     count: usize,
     level: u8,
 ) -> Sizes
-    requires { ⌜ LevelsFit (now tape) st ⌝ }
+    requires { ⌜ OfTape (now tape) st ⌝ }
     requires { ⌜ Kept room t ⌝ }
     requires { ⌜ at + 37 * count ≤ length (now tape) ⌝ }
     ensures { λ r. ⌜ r ≡ plus room t (segmentsAdd (innerAdds level (now (tape .entry)) st) (now (tape .entry)) at count) ⌝ }
@@ -338,7 +338,7 @@ pub fn segments_sizes(
 
 // The body of a segment is of the level below; below level 0 there is none.
 fn segment_sizes(tape: &[u8], st: store::Store, room: Room, t: Sizes, at: usize, level: u8) -> Sizes
-    requires { ⌜ LevelsFit (now tape) st ⌝ }
+    requires { ⌜ OfTape (now tape) st ⌝ }
     requires { ⌜ Kept room t ⌝ }
     requires { ⌜ at + 37 ≤ length (now tape) ⌝ }
     ensures { λ r. ⌜ r ≡ plus room t (innerAdds level (now (tape .entry)) st (recordAt segmentCodec (now (tape .entry)) at .body)) ⌝ }
@@ -351,7 +351,7 @@ fn segment_sizes(tape: &[u8], st: store::Store, room: Room, t: Sizes, at: usize,
 
 // Section 5. A node of class 2 or 3 has no words; the levels in the runs of another are at most 32.
 pub fn node_sizes(tape: &[u8], st: store::Store, room: Room, t: Sizes, at: usize) -> Sizes
-    requires { ⌜ LevelsFit (now tape) st ⌝ }
+    requires { ⌜ OfTape (now tape) st ⌝ }
     requires { ⌜ Kept room t ⌝ }
     requires { ⌜ at + 49 ≤ length (now tape) ⌝ }
     ensures { λ r. ⌜ r ≡ plus room t (nodeAdds (now (tape .entry)) st (recordAt nodeCodec (now (tape .entry)) at)) ⌝ }
@@ -375,7 +375,7 @@ fn none() -> Sizes
 
 // Section 5. The nodes that stand from `at` on.
 pub fn nodes_sizes(tape: &[u8], st: store::Store, room: Room, at: usize, count: usize) -> Sizes
-    requires { ⌜ LevelsFit (now tape) st ⌝ }
+    requires { ⌜ OfTape (now tape) st ⌝ }
     requires { ⌜ at + 49 * count ≤ length (now tape) ⌝ }
     ensures { λ r. ⌜ r ≡ capped room (nodesAdd (now (tape .entry)) st at count) ⌝ }
 {

@@ -15,7 +15,7 @@ use Rattle.wire.specs.Overwrite.{overwrite, overwrite-push, overwrite-nil, over
 use Rattle.places.specs.declared.LayerRuns.{LayerRuns}
 use Rattle.places.specs.declared.Places.{Places}
 use Rattle.places.specs.Found.{layerRuns, stringsIn, contentsIn, segmentsIn, found}
-use Rattle.places.specs.Again.{AtLayer, at-first, at-inside, at-count, at-next, length-counts}
+use Rattle.places.specs.Again.{AtLayer, Frame, at-first, at-inside, at-count, at-next, length-counts, nodes-inside}
 use Rattle.store.specs.Pools.{startsOf, before, before-mono, before-all, before-next, length-starts, start-at}
 use Rattle.store.specs.declared.Totals.{Totals}
 use Rattle.store.specs.declared.Store.{Store}
@@ -168,3 +168,14 @@ filling-all {t} {i} {at} {strings} {contents} {segments} {totals} f {layers} fit
       segments = g .0 j;
       totals = record { strings = a .1 j; contents = b .1 j; segments = g .1 j };
     }
+
+-- ---- the store of a tape
+
+-- and the tape's pools lie inside it
+pub record OfTape (t : List ℕ) (st : Store) : Type 0 where
+  pub stored : st ≡ storeAt t
+  pub few : st .layers ≤ 32
+  pub inside : places t .nodesAt ≤ length t
+
+pub of-tape : (t d : List ℕ) → Frame t d → (st : Store) → st ≡ storeAt t → st .layers ≤ 32 → OfTape t st
+of-tape t d f st e few = let n = nodes-inside t d f in record { stored = e; few = few; inside = omega (arith, n) }

@@ -14,10 +14,11 @@ use Rattle.laws.specs.RoundTrip.{stringBytes}
 use Rattle.wire.specs.Loops.{sum-append}
 use Rattle.places.specs.Runs.{capped}
 use Rattle.places.specs.Found.{stringsIn}
-use Rattle.places.specs.Again.{Frame, nodes-inside, length-counts}
+use Rattle.places.specs.Again.{Frame, length-counts}
 use Rattle.store.specs.declared.Store.{Store}
 use Rattle.store.specs.Pools.{layerOf, before, before-most, pool-start-or, pool-held}
 use Rattle.store.specs.Stored.{storeAt}
+pub use Rattle.store.specs.Stored.{OfTape, of-tape}
 use Rattle.store.specs.Standing.{stringStart, stringPlace, string-pool, allLengths, length-part, length-pools, length-at, string-inside}
 
 -- the lengths of all strings of a tape
@@ -32,13 +33,7 @@ storeIn t b = storeOf (layersAt t (places t .layers) b)
 abbrev pub startIn : List ℕ → ℕ → ℕ
 startIn t i = sum (take i (lengthsIn t))
 
--- the store of a tape whose pools lie inside it
-pub record OfTape (t : List ℕ) (st : Store) : Type 0 where
-  pub stored : st ≡ storeAt t
-  pub few : st .layers ≤ 32
-  pub inside : places t .nodesAt ≤ length t
-
--- and whose strings have room
+-- the store of a tape whose strings have room
 pub record Readable (t : List ℕ) (st : Store) (room : ℕ) : Type 0 where
   pub store : OfTape t st
   pub bytes : sum (lengthsIn t) ≤ room
@@ -80,14 +75,11 @@ module _ (t d : List ℕ) (f : Frame t d) where
     pub some-layer : 0 < st .layers
     some-layer = let n = string-pool t st e .count ∙ length-counts (λ (l : LayerPlaces). l .stringCount) (places t .layers) in omega (arith, n, f .layered)
 
-    pub of-tape : st .layers ≤ 32 → OfTape t st
-    of-tape few = let n = nodes-inside t d f in record { stored = e; few = few; inside = omega (arith, n) }
-
     pub readable : st .layers ≤ 32 → length d < 2 ^ 63 → Readable t st (length d)
     readable few h =
         let m = string-bytes in
         let n = length-drop (wordAt t 1 + wordAt t 5) d in
-        record { store = of-tape few; bytes = omega (arith, m, n); small = h }
+        record { store = of-tape t d f st e few; bytes = omega (arith, m, n); small = h }
 
 -- ---- one string
 

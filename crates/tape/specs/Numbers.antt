@@ -20,10 +20,9 @@ use Rattle.places.specs.Again.{lists-inside}
 use Rattle.layout.specs.Shaped.{Laid}
 use Rattle.texts.specs.Limits.{fewEnough, few-within}
 use Rattle.store.specs.declared.Store.{Store}
-use Rattle.store.specs.Stored.{StoreFits, storeAt, found-fits}
+use Rattle.store.specs.Stored.{StoreFits, storeAt, found-fits, OfTape}
 use Rattle.store.specs.Lengths.{book-lengths}
 use Rattle.ids.specs.Whole.{IdsFit, ids-are}
-use Rattle.levels.specs.Below.{LevelsFit}
 use Rattle.levels.specs.Whole.{levelsIn}
 use Rattle.levels.specs.Number.{levels-are}
 use Rattle.tape.specs.Placed.{placesNumber, PlacesFit, places-fit}
@@ -151,7 +150,7 @@ module _ {t : List ℕ} {p : Places} {st : Store} (f : PlacesFit t p) (g : Store
   pub pools-ids : IdsFit t st p
   pools-ids = let l = lists-inside t in record { is = f .is; stored = s; few = store-few; inside = omega (arith, f .inside, l .pairs, l .containers, l .diagnostics) }
 
-  pub pools-levels : LevelsFit t st
+  pub pools-levels : OfTape t st
   pools-levels = let l = lists-inside t in record { stored = s; few = store-few; inside = omega (arith, f .inside, l .nodes, l .pairs, l .containers, l .diagnostics) }
 
 -- where number 4 has passed, the levels' answer is number 5
