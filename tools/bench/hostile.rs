@@ -144,6 +144,32 @@ fn dependency(strings: &[String]) -> Hostile {
     first_line(&b)
 }
 
+// n Rubies and n Formats that name a few long strings in turn; the strings have as many bytes as the nodes
+fn long_strings(n: usize, bases: &[&str], targets: &[&str]) -> Hostile {
+    let mut b = Book::default();
+    let length = 53 * n / (bases.len() + targets.len()) * 2;
+    let mut named = |b: &mut Book, last: &str| { let s = "s".repeat(length) + last; b.plain(&s) };
+    let bases: Vec<u32> = bases.iter().map(|s| named(&mut b, s)).collect();
+    let targets: Vec<u32> = targets.iter().map(|s| named(&mut b, s)).collect();
+    b.put("a\n\n");
+    for i in 0..n { b.node("r", 1, 0, [bases[i % bases.len()], 1, 0, 0, 0, 0]); }
+    for i in 0..n { b.node("f", 2, 4, [targets[i % targets.len()], 1, 0, 0, 0, 0]); }
+    b.put("\n\nb");
+    first_line(&b)
+}
+
+// n contents in the reading that name two equal long strings in turn
+fn long_again(n: usize) -> Hostile {
+    let (mut b, mut r) = (Book::default(), Book::default());
+    b.put("ay\n\nb");
+    r.put("x");
+    let ids = [0, 1].map(|_| r.string(&"s".repeat(5 * n)));
+    for i in 0..n { r.content(0, ids[i % 2], 0); }
+    r.node("y", 14, 0, [0, n as u32, 0, 0, 0, 0]);
+    r.put("\n\n");
+    Hostile { book: b.done(), edit: (0, 1), reading: r.done() }
+}
+
 // n Rubies in the book, n Formats in the reading
 fn introduced(strings: &[String]) -> Hostile {
     let (bases, targets) = strings.split_at(strings.len() / 2);
@@ -239,6 +265,9 @@ fn all_shapes() -> Vec<Shape> {
         shape("number 10: n Rubies, n Formats, unlike strings of one length", Merge, ALL, MAX_LIST / 2, |n| dependency(&unlike(2 * n))),
         shape("number 10: strings that crowd the filter", Region, ALL, MAX_LIST / 2, move |n| dependency(&crowded(2 * n))),
         shape("number 10: strings that crowd the filter, behind a common prefix of 198 bytes", Region, ALL, MAX_LIST / 2, move |n| dependency(&with_prefix(2 * n))),
+        shape("number 10: n Formats that name one long string", Region, ONE, MAX_LIST / 2, |n| long_strings(n, &["b"], &["t"])),
+        shape("number 10x: two bases", Region, ONE, MAX_LIST / 2, |n| long_strings(n, &["b", "c"], &["t", "u"])),
+        shape("graft: two equal long strings in turn", Merge, ONE, MAX_LIST / 2, |n| long_again(n)),
         shape("number 15: n Rubies, n Formats in the reading, unlike strings of one length", Merge, ALL, MAX_LIST, |n| introduced(&unlike(2 * n))),
         shape("number 15: strings that crowd the filter", Merge, ALL, MAX_LIST, move |n| introduced(&crowded_reading(2 * n))),
         shape("region: n brackets in a row over blank lines, the edit behind them", Region, ALL, MAX_LIST, |n| bracketed(false, |b| for _ in 0..n { bracket(b, |b| b.put("\n\n")) })),

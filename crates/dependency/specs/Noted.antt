@@ -1,15 +1,19 @@
 -- The bases of the Rubies passed, in a Bloom filter: each base is found in it, so that a string which is not found is no base.
 use mathlib.Core.Path.{_≡_, refl, sym, ap, _∙_}
-use Prim.Native.Nat.{ℕ, _+_, _*_}
+use Prim.Native.Nat.{ℕ, _+_, _-_, _*_, _%_, _^_, _≤_, _<_}
+use native.Mathlib.Omega.{arith}
 use native.Mathlib.Numerals.{add-one}
 use native.Mathlib.Nat.{sub-zero}
 use mathlib.Core.Bool.{Bool, true, false, cond, _||_, false≢true}
 use mathlib.Core.Option.{Option, none, some}
 use mathlib.Core.List.{List, [], _∷_, _++_}
-use lib.ListN.{take}
+use lib.ListN.{length, take}
+use lib.Dec.{leb}
+use borrow.Author.Tests.{le-leb, lt-leb}
 use Rattle.model.specs.Lists.{any}
 use Rattle.model.specs.Types.{SourceNode}
 use Rattle.model.specs.Store.{NodeStore, resolveStr}
+use Rattle.model.specs.Bytes.{part}
 use Rattle.model.specs.Intern.{fxHash}
 use Rattle.model.specs.Tape.{recordAt, recordsAt, nodeCodec}
 use Rattle.model.specs.Region.{isRuby, firstPlain}
@@ -26,10 +30,27 @@ pub use Rattle.sorted_ids.specs.Row.{firstWords}
 use Rattle.dependency.specs.Bases.{isPlain, hasBase, any-snoc}
 use Rattle.dependency.specs.Sound.{SoundNode, firstContents, plain-first}
 
+-- What the filter knows a string by: its hash, or of a long one the hashes of its two ends and its length, since many nodes may name
+-- one long string.
+unfoldable pub filterKey : List ℕ → ℕ
+filterKey s = cond (leb (length s) 64) (fxHash s) (((fxHash (part s 0 32) + fxHash (part s (length s - 32) 32)) % 2 ^ 64 + length s) % 2 ^ 64)
+
+module _ (s : List ℕ) where
+  pub key-short : {h : ℕ} → length s ≤ 64 → h ≡ fxHash s → h ≡ filterKey s
+  unfolding filterKey
+  key-short l e = rw (le-leb (length s) 64 l) e
+
+  pub key-long : {front back : List ℕ} {f b ends h : ℕ} → 64 < length s → front ≡ part s 0 (32 - 0) → f ≡ fxHash front → back ≡ part s (length s - 32) (length s - (length s - 32)) → b ≡ fxHash back
+      → ends ≡ (f + b) % 2 ^ 64 → h ≡ (ends + length s) % 2 ^ 64 → h ≡ filterKey s
+  unfolding filterKey
+  key-long l p₁ q₁ p₂ q₂ e₁ e₂ =
+      let k : length s - (length s - 32) ≡ 32 = omega arith in
+      rw (lt-leb (length s) 64 l, e₂, e₁, q₁, q₂, p₁, p₂, k) refl
+
 -- a string inserted; None is not
 unfoldable pub insertedPlain : List ℕ → ℕ → Option (List ℕ) → List ℕ
 insertedPlain words base none = words
-insertedPlain words base (some s) = inserted words base (fxHash s)
+insertedPlain words base (some s) = inserted words base (filterKey s)
 
 -- a Ruby's plain base inserted; other nodes have none
 unfoldable pub notedBy : NodeStore → List ℕ → ℕ → SourceNode → List ℕ
@@ -37,28 +58,28 @@ notedBy st words base n = cond (isRuby n) (insertedPlain words base (firstPlain 
 
 -- each plain base of a Ruby among these nodes is found
 pub record Noted (st : NodeStore) (ns : List SourceNode) (words : List ℕ) (base : ℕ) : Type 0 where
-  pub found : (s : List ℕ) → any (hasBase st s) ns ≡ true → mayContain words base (fxHash s) ≡ true
+  pub found : (s : List ℕ) → any (hasBase st s) ns ≡ true → mayContain words base (filterKey s) ≡ true
 
 -- ---- one base more
 
-plain-own : (words : List ℕ) (base : ℕ) (s : List ℕ) (p : Option (List ℕ)) → isPlain s p ≡ true → mayContain (insertedPlain words base p) base (fxHash s) ≡ true
+plain-own : (words : List ℕ) (base : ℕ) (s : List ℕ) (p : Option (List ℕ)) → isPlain s p ≡ true → mayContain (insertedPlain words base p) base (filterKey s) ≡ true
 unfolding isPlain insertedPlain
 plain-own words base s none e = absurd (false≢true e)
 plain-own words base s (some x) e =
-    ap (λ (y : List ℕ). mayContain (inserted words base (fxHash x)) base (fxHash y)) (same-eq s x e) ∙ inserted-own words base (fxHash x)
+    ap (λ (y : List ℕ). mayContain (inserted words base (filterKey x)) base (filterKey y)) (same-eq s x e) ∙ inserted-own words base (filterKey x)
 
 plain-kept : (words : List ℕ) (base h : ℕ) (p : Option (List ℕ)) → mayContain words base h ≡ true → mayContain (insertedPlain words base p) base h ≡ true
 unfolding insertedPlain
 plain-kept words base h none e = e
-plain-kept words base h (some x) e = inserted-kept words base (fxHash x) h e
+plain-kept words base h (some x) e = inserted-kept words base (filterKey x) h e
 
 plain-front : (words : List ℕ) (base : ℕ) (p : Option (List ℕ)) → take base (insertedPlain words base p) ≡ take base words
 unfolding insertedPlain
 plain-front words base none = refl
-plain-front words base (some x) = inserted-front words base (fxHash x)
+plain-front words base (some x) = inserted-front words base (filterKey x)
 
 module _ (st : NodeStore) (words : List ℕ) (base : ℕ) (n : SourceNode) where
-  own : (s : List ℕ) → hasBase st s n ≡ true → mayContain (notedBy st words base n) base (fxHash s) ≡ true
+  own : (s : List ℕ) → hasBase st s n ≡ true → mayContain (notedBy st words base n) base (filterKey s) ≡ true
   unfolding hasBase notedBy
   own s e = let b = both (isRuby n) (isPlain s (firstPlain st n)) e in rw (b .0) (plain-own words base s (firstPlain st n) (b .1))
 
@@ -84,7 +105,7 @@ module _ (st : NodeStore) (words : List ℕ) (base : ℕ) (n : SourceNode) where
     found = λ s e.
         by-bool (hasBase st s n)
         (λ r. own s r)
-        (λ r. kept (fxHash s) (m .found s (sym (any-snoc (hasBase st s) ns n ∙ ap (λ (b : Bool). b || any (hasBase st s) ns) r) ∙ e)));
+        (λ r. kept (filterKey s) (m .found s (sym (any-snoc (hasBase st s) ns n ∙ ap (λ (b : Bool). b || any (hasBase st s) ns) r) ∙ e)));
   }
 
 -- ---- over a run of nodes
@@ -103,7 +124,7 @@ module _ (st : NodeStore) (t : List ℕ) (at : ℕ) (words : List ℕ) (base : �
 -- ---- each return of the code
 
 -- a string that is not found
-pub base-absent : {st : NodeStore} {ns : List SourceNode} {words : List ℕ} {base : ℕ} → Noted st ns words base → (s : List ℕ) {h : ℕ} → h ≡ fxHash s → {x : Bool}
+pub base-absent : {st : NodeStore} {ns : List SourceNode} {words : List ℕ} {base : ℕ} → Noted st ns words base → (s : List ℕ) {h : ℕ} → h ≡ filterKey s → {x : Bool}
     → x ≡ mayContain words base h → x ≡ false → false ≡ any (hasBase st s) ns
 base-absent {st} {ns} {words} {base} m s e q f =
     by-bool (any (hasBase st s) ns)
@@ -111,10 +132,10 @@ base-absent {st} {ns} {words} {base} m s e q f =
     (λ r. sym r)
 
 module _ (st : NodeStore) (words : List ℕ) (base : ℕ) where
-  pub insert-some : (id : ℕ) {r : Plain} → r ≡ Id id → {s : List ℕ} → s ≡ resolveStr st id → {h : ℕ} → h ≡ fxHash s → {after : List ℕ} → after ≡ inserted words base h
+  pub insert-some : (id : ℕ) {r : Plain} → r ≡ Id id → {s : List ℕ} → s ≡ resolveStr st id → {h : ℕ} → h ≡ filterKey s → {after : List ℕ} → after ≡ inserted words base h
       → after ≡ insertedPlain words base (plainString st r)
   unfolding insertedPlain plainString
-  insert-some id e f g q = rw e (q ∙ ap (inserted words base) (g ∙ ap fxHash f))
+  insert-some id e f g q = rw e (q ∙ ap (inserted words base) (g ∙ ap filterKey f))
 
   pub insert-none : {r : Plain} → r ≡ Nothing → words ≡ insertedPlain words base (plainString st r)
   unfolding insertedPlain plainString

@@ -1,6 +1,6 @@
 // Number 10, document 01 section 6: a Referenced Format behind the edit's start whose target is the base of an earlier Ruby. A base
 // and a target are compared as plain strings: a string's bytes are found by the index of crate `strings`, and only where its length
-// is the one that is asked for. The walk puts the hash of each base into a Bloom filter, so that a target that is no base seldom has to be
+// is the one that is asked for. The walk puts a hash of each base into a Bloom filter, so that a target that is no base seldom has to be
 // compared; a filter takes the bases of some nodes at a time, and each such part costs one walk over the nodes from it on. Bases can be
 // chosen so that they crowd the filter: then the part's bases go into a row of ids that is sorted by their strings, and a target is found by
 // bisection. specs/Bases.antt says what is asked, specs/Sound.antt what number 4 has shown of it, specs/Noted.antt what the filter says,
@@ -22,7 +22,7 @@ ghost use Rattle.dependency.specs.Bases.{isPlain, hasBase, amongBases, a
 ghost use Rattle.dependency.specs.Parts.{refersAmong};
 ghost use Rattle.dependency.specs.Asked.{asksAt, countToLast};
 ghost use Rattle.dependency.specs.Sound.{Sound, SoundNode, FirstRange, PlainIn, firstContents, noIndex};
-ghost use Rattle.dependency.specs.Noted.{insertedPlain, notedBy, Noted};
+ghost use Rattle.dependency.specs.Noted.{filterKey, insertedPlain, notedBy, Noted};
 ghost use Rattle.dependency.specs.Rows.{Told, isOne, isBaseOf, Rowed, amongRow, refersRow};
 ghost use Rattle.sorted_ids.specs.Row.{firstWords, Row, Inserted};
 ghost use lib.Dec.{eqb, ltb};
@@ -192,6 +192,21 @@ pub fn is_ruby_base<'a>(
     false
 }
 
+const LONG_STRING: usize = 64;
+
+// What the filter knows a string by. Of a long one it looks at the two ends: many nodes may name it, and each would read it whole.
+fn filter_key(s: &[u8]) -> u64
+    ensures { λ r. ⌜ r ≡ filterKey (now (s .entry)) ⌝ }
+{
+    let n = s.len();
+    if n <= LONG_STRING {
+        return hash::fx_hash(s);
+    }
+    let front = hash::fx_hash(wire::between(s, 0, 32));
+    let back = hash::fx_hash(wire::between(s, n - 32, n));
+    std::num::wrapping_add_u64(std::num::wrapping_add_u64(front, back), n as u64)
+}
+
 // The same, with the filter of these bases asked first: 1 if it is, 0 if the filter says that it is not, 2 if that took comparing.
 pub fn is_filtered_base<'a>(
     tape: &[u8],
@@ -209,7 +224,7 @@ pub fn is_filtered_base<'a>(
     requires { ⌜ Noted (storeIn (now tape) (now old ++ now new)) (recordsAt nodeCodec (now tape) at count) (now words) base ⌝ }
     ensures { λ r. ⌜ eqb r 1 ≡ any (hasBase (storeIn (now (tape .entry)) (now (old .entry) ++ now (new .entry))) (now (s .entry))) (recordsAt nodeCodec (now (tape .entry)) at count) ⌝ }
 {
-    let h = hash::fx_hash(s);
+    let h = filter_key(s);
     if !bloom::may_contain(words, base, h) {
         return 0;
     }
@@ -302,7 +317,7 @@ fn insert_plain<'a>(
     match p {
         Plain::Id(id) => {
             let s = strings::resolve_str(tape, st, &words[0..base], old, new, id);
-            let h = hash::fx_hash(s);
+            let h = filter_key(s);
             bloom::insert(words, base, h);
             return;
         }

@@ -6,7 +6,7 @@ use Rattle.dependency.proofs.insert_plain.Statement.{statement}
 use Rattle.dependency.proofs.insert_plain.Tie as tie
 use Rattle.dependency.proofs.insert_plain.Reads as reads
 use Rattle.dependency.proofs.insert_plain.Lts as lts
-use Rattle.hash.proofs.fx_hash.Reads as fx-hash-reads
+use Rattle.dependency.proofs.filter_key.Reads as filter-key-reads
 use Rattle.bloom.proofs.insert.Reads as insert-reads
 use Rattle.strings.proofs.resolve_str.Reads as resolve-str-reads
 
@@ -25,8 +25,8 @@ part-resolve-str-end c = search needs
 resolve-str-requires : tie.Need-resolve-str-requires
 resolve-str-requires c κs = (c .before .before .before .before .before .before .before .before .before .pre .0, (c .before .before .before .before .before .before .before .before .before .pre .1 .1 .inside _ (c .before .before .before .p .given .1)))
 
-fx-hash-requires : tie.Need-fx-hash-requires
-fx-hash-requires c κs = search needs
+filter-key-requires : tie.Need-filter-key-requires
+filter-key-requires c κs = search needs
 
 insert-requires : tie.Need-insert-requires
 insert-requires c κs = search needs
@@ -35,7 +35,7 @@ same-length : tie.Need-same-length
 same-length c = search needs
 
 returns : tie.Need-returns
-returns c = insert-some _ _ _ _ (c .before .before .before .before .before .before .before .before .before .p .given .1) (c .before .before .before .before .before .resolve-str .ensures ∙ shown-str (c .before .before .before .before .before .before .before .before .before .before .before .before .before .before .before .pre .0 .sides) _ (c .before .before .before .before .before .before .before .before .before .before .before .before .before .before .before .pre .1 .1 .inside _ (c .before .before .before .before .before .before .before .before .before .p .given .1))) (c .before .before .before .before .fx-hash .ensures) (c .before .before .insert .ensures)
+returns c = insert-some _ _ _ _ (c .before .before .before .before .before .before .before .before .before .p .given .1) (c .before .before .before .before .before .resolve-str .ensures ∙ shown-str (c .before .before .before .before .before .before .before .before .before .before .before .before .before .before .before .pre .0 .sides) _ (c .before .before .before .before .before .before .before .before .before .before .before .before .before .before .before .pre .1 .1 .inside _ (c .before .before .before .before .before .before .before .before .before .p .given .1))) (c .before .before .before .before .filter-key .ensures) (c .before .before .insert .ensures)
 
 enum-told : tie.Need-enum-told
 enum-told c = search needs
@@ -52,7 +52,7 @@ insert-plain-spec =
     part-resolve-str-start
     part-resolve-str-end
     resolve-str-requires
-    fx-hash-requires
+    filter-key-requires
     insert-requires
     same-length
     returns

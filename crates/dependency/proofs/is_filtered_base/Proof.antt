@@ -8,10 +8,10 @@ use Rattle.dependency.proofs.is_filtered_base.Reads as reads
 use Rattle.dependency.proofs.is_filtered_base.Lts as lts
 use Rattle.bloom.proofs.may_contain.Reads as may-contain-reads
 use Rattle.dependency.proofs.is_ruby_base.Reads as is-ruby-base-reads
-use Rattle.hash.proofs.fx_hash.Reads as fx-hash-reads
+use Rattle.dependency.proofs.filter_key.Reads as filter-key-reads
 
-fx-hash-requires : tie.Need-fx-hash-requires
-fx-hash-requires c κs = search needs
+filter-key-requires : tie.Need-filter-key-requires
+filter-key-requires c κs = search needs
 
 may-contain-requires : tie.Need-may-contain-requires
 may-contain-requires c κs = search needs
@@ -19,7 +19,7 @@ may-contain-requires c κs = search needs
 returns : tie.Need-returns
 returns c =
     let start = c .before .before .before .before .before .before .before .before in
-    base-absent (start .pre .1 .1) _ (c .before .before .fx-hash .ensures) (c .before .may-contain .ensures) (not-true _ (c .if1 .taken))
+    base-absent (start .pre .1 .1) _ (c .before .before .filter-key .ensures) (c .before .may-contain .ensures) (not-true _ (c .if1 .taken))
 
 sub-is-ruby-base : tie.Need-sub-is-ruby-base
 sub-is-ruby-base c = search needs
@@ -43,7 +43,7 @@ pub is-filtered-base-spec : {M : Type 1} → statement M
 is-filtered-base-spec =
     tie.close
     (tie.spec
-    fx-hash-requires
+    filter-key-requires
     may-contain-requires
     returns
     sub-is-ruby-base
