@@ -440,7 +440,8 @@ fn refers_first_to_row<'a, 'b>(
     ensures { λ r. ⌜ r ≡ refersToRow (storeIn (now (tape .entry)) (now (old .entry) ++ now (new .entry))) (now (words .entry)) base m (storeIn (now (reading .entry)) (now (front .entry) ++ now
         (back .entry))) (recordAt nodeCodec (now (reading .entry)) (place + 49 * i)) ⌝ }
 {
-    let v = dependency::noted_place(reading, own, place + 49 * i, first);
+    let here = place + 49 * i;
+    let v = dependency::noted_place(reading, own, here, first);
     if is_target_again(reading, own, place, i, v) {
         return false;
     }
@@ -457,7 +458,7 @@ fn refers_first_to_row<'a, 'b>(
         index,
         front,
         back,
-        place + 49 * i,
+        here,
     )
 }
 
