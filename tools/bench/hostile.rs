@@ -144,6 +144,69 @@ fn dependency(strings: &[String]) -> Hostile {
     first_line(&b)
 }
 
+// k long strings, alike at both ends and of one length, of some bytes together
+fn alike(k: usize, bytes: usize) -> Vec<String> {
+    (0..k).map(|i| { let half = "s".repeat(bytes / k / 2); format!("{half}{i:04}{half}") }).collect()
+}
+
+// n Rubies and n Formats that name k long bases and k long targets in turn; the strings have as many bytes as the nodes
+fn long_strings(n: usize, k: usize) -> Hostile {
+    let mut b = Book::default();
+    let named: Vec<u32> = alike(2 * k, 106 * n).iter().map(|s| b.plain(s)).collect();
+    b.put("a\n\n");
+    for i in 0..n { b.node("r", 1, 0, [named[i % k], 1, 0, 0, 0, 0]); b.node("f", 2, 4, [named[k + i % k], 1, 0, 0, 0, 0]); }
+    b.put("\n\nb");
+    first_line(&b)
+}
+
+// a long base and a long target that is like it but for its end; then n times a base of a line and the target again
+fn long_and_short(n: usize) -> Hostile {
+    let mut b = Book::default();
+    let named: Vec<u32> = alike(2, 400 * n).iter().map(|s| b.plain(s)).collect();
+    b.put("a\n\n");
+    b.node("r", 1, 0, [named[0], 1, 0, 0, 0, 0]);
+    for i in 0..n {
+        let line = b.plain(&(format!("{i:06}") + &"s".repeat(500)));
+        b.node("r", 1, 0, [line, 1, 0, 0, 0, 0]);
+        b.node("f", 2, 4, [named[1], 1, 0, 0, 0, 0]);
+    }
+    b.put("\n\nb");
+    first_line(&b)
+}
+
+// n Rubies in the book, n Formats in the reading, with long strings in turn; the very last Format has a base, so that number 15 refuses
+fn long_introduced(n: usize, k: usize) -> Hostile {
+    let strings = alike(2 * k, 106 * n);
+    let (mut b, mut r) = (Book::default(), Book::default());
+    let bases: Vec<u32> = strings[..k].iter().map(|s| b.plain(s)).collect();
+    for i in 0..n { b.node("r", 1, 0, [bases[i % k], 1, 0, 0, 0, 0]); }
+    let short = b.plain("b");
+    b.node("r", 1, 0, [short, 1, 0, 0, 0, 0]);
+    b.put("\n\n");
+    let at = b.text.len();
+    b.put("a");
+    b.put(&"f".repeat(n + 1));
+    b.put("\n\n");
+    r.put("x");
+    let targets: Vec<u32> = strings[k..].iter().map(|s| r.plain(s)).collect();
+    for i in 0..n { r.node("f", 2, 4, [targets[i % k], 1, 0, 0, 0, 0]); }
+    r.format("f", "b");
+    r.put("\n\n");
+    Hostile { book: b.done(), edit: (at, at + 1), reading: r.done() }
+}
+
+// n contents in the reading that name two equal long strings in turn
+fn long_again(n: usize) -> Hostile {
+    let (mut b, mut r) = (Book::default(), Book::default());
+    b.put("ay\n\nb");
+    r.put("x");
+    let ids = [0, 1].map(|_| r.string(&"s".repeat(5 * n)));
+    for i in 0..n { r.content(0, ids[i % 2], 0); }
+    r.node("y", 14, 0, [0, n as u32, 0, 0, 0, 0]);
+    r.put("\n\n");
+    Hostile { book: b.done(), edit: (0, 1), reading: r.done() }
+}
+
 // n Rubies in the book, n Formats in the reading
 fn introduced(strings: &[String]) -> Hostile {
     let (bases, targets) = strings.split_at(strings.len() / 2);
@@ -239,7 +302,13 @@ fn all_shapes() -> Vec<Shape> {
         shape("number 10: n Rubies, n Formats, unlike strings of one length", Merge, ALL, MAX_LIST / 2, |n| dependency(&unlike(2 * n))),
         shape("number 10: strings that crowd the filter", Region, ALL, MAX_LIST / 2, move |n| dependency(&crowded(2 * n))),
         shape("number 10: strings that crowd the filter, behind a common prefix of 198 bytes", Region, ALL, MAX_LIST / 2, move |n| dependency(&with_prefix(2 * n))),
+        shape("number 10: n Rubies of one long base, n Formats of one target like it at both ends", Region, ALL, MAX_LIST / 2, |n| long_strings(n, 1)),
+        shape("number 10: n Rubies and n Formats, 64 long bases and 64 targets like them in turn", Region, ALL, MAX_LIST / 2, |n| long_strings(n, 64)),
+        shape("number 10: a long target n times, a base of a line before each", Region, ALL, MAX_LIST / 2, |n| long_and_short(n)),
+        shape("graft: two equal long strings in turn", Merge, ONE, MAX_LIST / 2, |n| long_again(n)),
         shape("number 15: n Rubies, n Formats in the reading, unlike strings of one length", Merge, ALL, MAX_LIST, |n| introduced(&unlike(2 * n))),
+        shape("number 15: n Rubies of one long base, n Formats of one target like it at both ends", Merge, ALL, MAX_LIST, |n| long_introduced(n, 1)),
+        shape("number 15: n Rubies and n Formats, 64 long bases and 64 targets like them in turn", Merge, ALL, MAX_LIST, |n| long_introduced(n, 64)),
         shape("number 15: strings that crowd the filter", Merge, ALL, MAX_LIST, move |n| introduced(&crowded_reading(2 * n))),
         shape("region: n brackets in a row over blank lines, the edit behind them", Region, ALL, MAX_LIST, |n| bracketed(false, |b| for _ in 0..n { bracket(b, |b| b.put("\n\n")) })),
         shape("region: n brackets in a row over blank lines, the edit before them", Region, ALL, MAX_LIST, |n| bracketed(true, |b| for _ in 0..n { bracket(b, |b| b.put("\n\n")) })),

@@ -8,3 +8,5 @@ pub mod Words
 pub mod Pieces
 pub mod Parts
 pub mod Rows
+pub mod Named
+pub mod Later

@@ -38,6 +38,12 @@ told-no e = record { told = λ d. sym e }
 pub told-not : {x : Bool} → Told 2 x
 told-not = record { told = λ d. absurd (d refl) }
 
+pub told-is : {r : ℕ} {x : Bool} → eqb r 1 ≡ x → Told r x
+told-is e = record { told = λ d. e }
+
+pub told-as : {r : ℕ} {x y : Bool} → Told r x → x ≡ y → Told r y
+told-as t e = record { told = λ d. t .told d ∙ e }
+
 -- ---- what is put in
 
 -- is it this string? None is not

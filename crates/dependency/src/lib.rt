@@ -24,8 +24,10 @@ ghost use Rattle.dependency.specs.Asked.{asksAt, countToLast};
 ghost use Rattle.dependency.specs.Sound.{Sound, SoundNode, FirstRange, PlainIn, firstContents, noIndex};
 ghost use Rattle.dependency.specs.Noted.{filterKey, insertedPlain, notedBy, Noted};
 ghost use Rattle.dependency.specs.Rows.{Told, isOne, isBaseOf, Rowed, amongRow, refersRow};
+ghost use Rattle.dependency.specs.Named.{Naming, Namings, namedBy, isId, samePlain, baseAgain};
+ghost use Rattle.dependency.specs.Later.{asksAgain, Settled};
 ghost use Rattle.sorted_ids.specs.Row.{firstWords, Row, Inserted};
-ghost use lib.Dec.{eqb, ltb};
+ghost use lib.Dec.{ltb};
 ghost use mathlib.Core.Bool.{_&&_};
 
 // An Inline Ruby.
@@ -207,7 +209,8 @@ fn filter_key(s: &[u8]) -> u64
     std::num::wrapping_add_u64(std::num::wrapping_add_u64(front, back), n as u64)
 }
 
-// The same, with the filter of these bases asked first: 1 if it is, 0 if the filter says that it is not, 2 if that took comparing.
+// The same, with the filter of these bases asked first: 1 if it is, 0 if the filter says that it is not, 3 if that took comparing. A long
+// string is not compared: 2 for not known.
 pub fn is_filtered_base<'a>(
     tape: &[u8],
     st: store::Store,
@@ -222,16 +225,19 @@ pub fn is_filtered_base<'a>(
     requires { ⌜ Sound (now tape) st (firstWords base (now words)) (now old) (now new) at count ⌝ }
     requires { ⌜ base ≤ length (now words) ⌝ }
     requires { ⌜ Noted (storeIn (now tape) (now old ++ now new)) (recordsAt nodeCodec (now tape) at count) (now words) base ⌝ }
-    ensures { λ r. ⌜ eqb r 1 ≡ any (hasBase (storeIn (now (tape .entry)) (now (old .entry) ++ now (new .entry))) (now (s .entry))) (recordsAt nodeCodec (now (tape .entry)) at count) ⌝ }
+    ensures { λ r. ⌜ Told r (any (hasBase (storeIn (now (tape .entry)) (now (old .entry) ++ now (new .entry))) (now (s .entry))) (recordsAt nodeCodec (now (tape .entry)) at count)) ⌝ }
 {
     let h = filter_key(s);
     if !bloom::may_contain(words, base, h) {
         return 0;
     }
+    if LONG_STRING < s.len() {
+        return 2;
+    }
     if is_ruby_base(tape, st, &words[0..base], old, new, at, count, s) {
         return 1;
     }
-    2
+    3
 }
 
 fn is_target_base<'a>(
@@ -249,8 +255,8 @@ fn is_target_base<'a>(
     requires { ⌜ base ≤ length (now words) ⌝ }
     requires { ⌜ Noted (storeIn (now tape) (now old ++ now new)) (recordsAt nodeCodec (now tape) at count) (now words) base ⌝ }
     requires { ⌜ PlainIn st p ⌝ }
-    ensures { λ r. ⌜ eqb r 1 ≡ amongBases (storeIn (now (tape .entry)) (now (old .entry) ++ now (new .entry))) (recordsAt nodeCodec (now (tape .entry)) at count) (plainString (storeIn (now
-        (tape .entry)) (now (old .entry) ++ now (new .entry))) p) ⌝ }
+    ensures { λ r. ⌜ Told r (amongBases (storeIn (now (tape .entry)) (now (old .entry) ++ now (new .entry))) (recordsAt nodeCodec (now (tape .entry)) at count) (plainString (storeIn (now
+        (tape .entry)) (now (old .entry) ++ now (new .entry))) p)) ⌝ }
 {
     match p {
         Plain::Id(id) => {
@@ -288,7 +294,7 @@ fn refers_among<'a>(
     requires { ⌜ Sound (now tape) st (firstWords base (now words)) (now old) (now new) at (i + 1) ⌝ }
     requires { ⌜ base ≤ length (now words) ⌝ }
     requires { ⌜ Noted (storeIn (now tape) (now old ++ now new)) (recordsAt nodeCodec (now tape) at (min n i)) (now words) base ⌝ }
-    ensures { λ r. ⌜ eqb r 1 ≡ refersAmong (storeIn (now (tape .entry)) (now (old .entry) ++ now (new .entry))) from (now (tape .entry)) at n i ⌝ }
+    ensures { λ r. ⌜ Told r (refersAmong (storeIn (now (tape .entry)) (now (old .entry) ++ now (new .entry))) from (now (tape .entry)) at n i) ⌝ }
 {
     let place = at + 49 * i;
     if !asks_target(tape, place, from) {
@@ -376,14 +382,14 @@ pub fn in_vain(vain: u32, answer: u32) -> u32
     requires { ⌜ vain < 1000 ⌝ }
     ensures { λ r. ⌜ r ≤ vain + 1 ⌝ }
 {
-    if answer == 2 {
+    if answer == 3 {
         return vain + 1;
     }
     vain
 }
 
-// One walk over the nodes; each base among the first n is inserted when it is passed. 1 or 0; 2 for not known, where bases crowd the filter
-// so that more than 128 targets were compared in vain.
+// One walk over the nodes; each base among the first n is inserted when it is passed. 1 or 0; 2 for not known, where the filter does not
+// exclude a long target, or bases crowd it so that more than 128 targets were compared in vain.
 fn any_refers_among<'a>(
     tape: &[u8],
     st: store::Store,
@@ -408,6 +414,9 @@ fn any_refers_among<'a>(
         if r == 1 {
             return 1;
         }
+        if r == 2 {
+            return 2;
+        }
         vain = in_vain(vain, r);
         if 128 < vain {
             return 2;
@@ -416,6 +425,231 @@ fn any_refers_among<'a>(
         i += 1;
     }
     0
+}
+
+// The string that a Ruby or a Referenced Format names.
+pub fn named(tape: &[u8], st: store::Store, at: usize) -> Plain
+    requires { ⌜ Naming (now tape) st at ⌝ }
+    ensures { λ r. ⌜ ((b : List ℕ) → r ≡ namedBy (now (tape .entry)) at b) × PlainIn st r ⌝ }
+{
+    if is_ruby(tape, at) {
+        return first_plain(tape, st, at);
+    }
+    if is_referenced_format(tape, at) {
+        return first_plain(tape, st, at);
+    }
+    Plain::Nothing
+}
+
+fn is_id(p: Plain, id: u32) -> bool
+    ensures { λ r. ⌜ r ≡ isId id p ⌝ }
+{
+    match p {
+        Plain::Id(own) => {
+            return own == id;
+        }
+        Plain::Nothing => {
+            return false;
+        }
+    }
+}
+
+fn same_plain(p: Plain, q: Plain) -> bool
+    ensures { λ r. ⌜ r ≡ samePlain p q ⌝ }
+{
+    match q {
+        Plain::Id(id) => {
+            return is_id(p, id);
+        }
+        Plain::Nothing => {
+            return false;
+        }
+    }
+}
+
+// Do two nodes name a string by the same id?
+pub fn same_named(tape: &[u8], st: store::Store, first: usize, second: usize) -> bool
+    requires { ⌜ Naming (now tape) st first ⌝ }
+    requires { ⌜ Naming (now tape) st second ⌝ }
+    ensures { λ r. ⌜ ((b : List ℕ) → r ≡ samePlain (namedBy (now (tape .entry)) first b) (namedBy (now (tape .entry)) second b)) ⌝ }
+{
+    let p = named(tape, st, first);
+    let q = named(tape, st, second);
+    same_plain(p, q)
+}
+
+// Is node v a Ruby before node i, and have they one base by its id? Then the row has the base.
+fn is_base_again(tape: &[u8], st: store::Store, at: usize, i: usize, v: usize) -> bool
+    requires { ⌜ Namings (now tape) st at (i + 1) ⌝ }
+    ensures { λ r. ⌜ ((b : List ℕ) → r ≡ baseAgain (now (tape .entry)) at i v b) ⌝ }
+{
+    if i <= v {
+        return false;
+    }
+    if !is_ruby(tape, at + 49 * v) {
+        return false;
+    }
+    same_named(tape, st, at + 49 * i, at + 49 * v)
+}
+
+// Does node v behind node i ask for the target of node i by its id? If node i refers to a base, then node v does.
+fn asks_again(
+    tape: &[u8],
+    st: store::Store,
+    at: usize,
+    i: usize,
+    v: usize,
+    count: usize,
+    from: u32,
+) -> bool
+    requires { ⌜ Namings (now tape) st at count ⌝ }
+    requires { ⌜ i < count ⌝ }
+    ensures { λ r. ⌜ ((b : List ℕ) → r ≡ asksAgain from (now (tape .entry)) at i v count b) ⌝ }
+{
+    if v <= i {
+        return false;
+    }
+    if count <= v {
+        return false;
+    }
+    if !asks_target(tape, at + 49 * v, from) {
+        return false;
+    }
+    same_named(tape, st, at + 49 * i, at + 49 * v)
+}
+
+// The place that is noted for what a node names. Whoever asks looks whether it is so.
+pub fn noted_place(tape: &[u8], st: store::Store, at: usize, places: &[u64]) -> usize
+    requires { ⌜ Naming (now tape) st at ⌝ }
+{
+    let p = named(tape, st, at);
+    match p {
+        Plain::Id(id) => {
+            return id_places::find(places, id);
+        }
+        Plain::Nothing => {
+            return 4294967295;
+        }
+    }
+}
+
+// From how many bytes on a string is so long that it is not to be compared twice: fewer than 8192 of the book's strings are.
+pub fn long_from(bytes: usize) -> usize {
+    let n = bytes / 8192;
+    if n < LONG_STRING {
+        return LONG_STRING;
+    }
+    n
+}
+
+// Node i noted by what it names, if that is a long string that is not noted yet.
+pub fn note_place(
+    tape: &[u8],
+    st: store::Store,
+    at: usize,
+    i: usize,
+    long: usize,
+    places: &mut [u64],
+    m: usize,
+) -> usize
+    requires { ⌜ Naming (now tape) st (at + 49 * i) ⌝ }
+    requires { ⌜ m ≤ length (now places) ⌝ }
+    ensures { λ r. ⌜ r ≤ length (now (places .entry)) ⌝ }
+{
+    let p = named(tape, st, at + 49 * i);
+    match p {
+        Plain::Id(id) => {
+            if strings::string_length(tape, st, id) <= long {
+                return m;
+            }
+            return id_places::insert(places, m, id, i);
+        }
+        Plain::Nothing => {
+            return m;
+        }
+    }
+}
+
+fn note_base_place(
+    tape: &[u8],
+    st: store::Store,
+    at: usize,
+    i: usize,
+    long: usize,
+    places: &mut [u64],
+    m: usize,
+) -> usize
+    requires { ⌜ Naming (now tape) st (at + 49 * i) ⌝ }
+    requires { ⌜ m ≤ length (now places) ⌝ }
+    ensures { λ r. ⌜ r ≤ length (now (places .entry)) ⌝ }
+{
+    if is_ruby(tape, at + 49 * i) {
+        return note_place(tape, st, at, i, long, places, m);
+    }
+    m
+}
+
+// The first Ruby of each long base.
+pub fn first_bases(
+    tape: &[u8],
+    st: store::Store,
+    at: usize,
+    count: usize,
+    long: usize,
+    places: &mut [u64],
+) -> usize
+    requires { ⌜ Namings (now tape) st at count ⌝ }
+    ensures { λ r. ⌜ r ≤ length (now (places .entry)) ⌝ }
+{
+    let mut m = 0;
+    let mut i = 0;
+    while i < count {
+        m = note_base_place(tape, st, at, i, long, places, m);
+        i += 1;
+    }
+    m
+}
+
+fn note_target_place(
+    tape: &[u8],
+    st: store::Store,
+    at: usize,
+    i: usize,
+    from: u32,
+    long: usize,
+    places: &mut [u64],
+    m: usize,
+) -> usize
+    requires { ⌜ Naming (now tape) st (at + 49 * i) ⌝ }
+    requires { ⌜ m ≤ length (now places) ⌝ }
+    ensures { λ r. ⌜ r ≤ length (now (places .entry)) ⌝ }
+{
+    if asks_target(tape, at + 49 * i, from) {
+        return note_place(tape, st, at, i, long, places, m);
+    }
+    m
+}
+
+// The last Format of each long target that is asked for.
+fn last_targets(
+    tape: &[u8],
+    st: store::Store,
+    at: usize,
+    count: usize,
+    from: u32,
+    long: usize,
+    places: &mut [u64],
+) -> usize
+    requires { ⌜ Namings (now tape) st at count ⌝ }
+    ensures { λ r. ⌜ r ≤ length (now (places .entry)) ⌝ }
+{
+    let mut m = 0;
+    let mut n = count;
+    while 0 < n {
+        m = note_target_place(tape, st, at, n - 1, from, long, places, m);
+        n -= 1;
+    }
+    m
 }
 
 // Is the string of an answer in the row of m ids?
@@ -522,8 +756,37 @@ pub fn insert_base<'a>(
     insert_id(tape, st, words, base, m, old, new, p)
 }
 
-// Node i, if it is one of the first n.
-fn insert_first<'a>(
+// Number 10, node i, unless a later node asks for its target too: then it is left to that node.
+fn refers_or_later<'a>(
+    tape: &[u8],
+    st: store::Store,
+    words: &[u32],
+    base: usize,
+    m: usize,
+    old: &'a [u8],
+    new: &'a [u8],
+    at: usize,
+    i: usize,
+    count: usize,
+    n: usize,
+    from: u32,
+    last: &[u64],
+) -> bool
+    requires { ⌜ Sound (now tape) st (firstWords base (now words)) (now old) (now new) at count ⌝ }
+    requires { ⌜ (i < count) × (base ≤ length (now words)) ⌝ }
+    requires { ⌜ Rowed (storeIn (now tape) (now old ++ now new)) (st .totals .strings) (recordsAt nodeCodec (now tape) at (min n i)) (now words) base m ⌝ }
+    ensures { λ r. ⌜ Settled (refersAmong (storeIn (now (tape .entry)) (now (old .entry) ++ now (new .entry))) from (now (tape .entry)) at n) count i r ⌝ }
+{
+    let place = at + 49 * i;
+    let v = noted_place(tape, st, place, last);
+    if asks_again(tape, st, at, i, v, count, from) {
+        return false;
+    }
+    refers_to_row(tape, st, words, base, m, old, new, place, from)
+}
+
+// Node i, if it is one of the first n and no Ruby before it has its base by the same id.
+pub fn insert_first<'a>(
     tape: &[u8],
     st: store::Store,
     words: &mut [u32],
@@ -534,17 +797,23 @@ fn insert_first<'a>(
     at: usize,
     i: usize,
     n: usize,
+    first: &[u64],
 ) -> usize
-    requires { ⌜ SoundNode (now tape) st (firstWords base (now words)) (now old) (now new) (at + 49 * i) ⌝ }
+    requires { ⌜ Sound (now tape) st (firstWords base (now words)) (now old) (now new) at (i + 1) ⌝ }
     requires { ⌜ Rowed (storeIn (now tape) (now old ++ now new)) (st .totals .strings) (recordsAt nodeCodec (now tape) at (min n i)) (now words) base m ⌝ }
     requires { ⌜ (m ≤ i) × (base + n ≤ length (now words)) ⌝ }
     ensures { λ r. ⌜ (firstWords base (now (words .exit)) ≡ firstWords base (now (words .entry))) × (r ≤ i + 1) × Rowed (storeIn (now (tape .entry)) (now (old .entry) ++ now (new .entry)))
         (st .totals .strings) (recordsAt nodeCodec (now (tape .entry)) at (min n (i + 1))) (now (words .exit)) base r ⌝ }
 {
-    if i < n {
-        return insert_base(tape, st, words, base, m, old, new, at + 49 * i);
+    if n <= i {
+        return m;
     }
-    m
+    let place = at + 49 * i;
+    let v = noted_place(tape, st, place, first);
+    if is_base_again(tape, st, at, i, v) {
+        return m;
+    }
+    insert_base(tape, st, words, base, m, old, new, place)
 }
 
 // The same walk with the bases in a row.
@@ -559,6 +828,8 @@ fn any_refers_sorted<'a>(
     count: usize,
     n: usize,
     from: u32,
+    first: &[u64],
+    last: &[u64],
 ) -> bool
     requires { ⌜ Sound (now tape) st (firstWords base (now words)) (now old) (now new) at count ⌝ }
     requires { ⌜ base + n ≤ length (now words) ⌝ }
@@ -567,13 +838,65 @@ fn any_refers_sorted<'a>(
     let mut m = 0;
     let mut i = 0;
     while i < count {
-        if refers_to_row(tape, st, words, base, m, old, new, at + 49 * i, from) {
+        if refers_or_later(
+            tape,
+            st,
+            words,
+            base,
+            m,
+            old,
+            new,
+            at,
+            i,
+            count,
+            n,
+            from,
+            last,
+        ) {
             return true;
         }
-        m = insert_first(tape, st, words, base, m, old, new, at, i, n);
+        m = insert_first(tape, st, words, base, m, old, new, at, i, n, first);
         i += 1;
     }
     false
+}
+
+// The same, with words of its own for the places of long strings: the first Ruby of each base, the last Format of each target.
+fn refers_sorted<'a>(
+    tape: &[u8],
+    st: store::Store,
+    words: &mut [u32],
+    base: usize,
+    old: &'a [u8],
+    new: &'a [u8],
+    at: usize,
+    count: usize,
+    n: usize,
+    from: u32,
+) -> bool
+    requires { ⌜ Sound (now tape) st (firstWords base (now words)) (now old) (now new) at count ⌝ }
+    requires { ⌜ (n ≤ count) × (base + n ≤ length (now words)) ⌝ }
+    ensures { λ r. ⌜ (r ≡ anyUpTo count (refersAmong (storeIn (now (tape .entry)) (now (old .entry) ++ now (new .entry))) from (now (tape .entry)) at n)) × (firstWords base (now (words .exit)) ≡ firstWords base (now (words .entry))) ⌝ }
+{
+    let mut first = [0u64; 8192];
+    let mut last = [0u64; 8192];
+    let long = long_from(old.len() + new.len());
+    let a = first_bases(tape, st, at, n, long, &mut first);
+    let z = last_targets(tape, st, at, count, from, long, &mut last);
+    any_refers_sorted(
+        tape,
+        st,
+        words,
+        base,
+        old,
+        new,
+        at,
+        count,
+        n,
+        from,
+        &first[0..a],
+        &last[0..z],
+    )
 }
 
 // The same with a filter that begins as zeros, or a row where the filter does not tell.
@@ -590,14 +913,14 @@ fn part_refers<'a>(
     from: u32,
 ) -> bool
     requires { ⌜ Sound (now tape) st (firstWords base (now words)) (now old) (now new) at count ⌝ }
-    requires { ⌜ base + n ≤ length (now words) ⌝ }
+    requires { ⌜ (n ≤ count) × (base + n ≤ length (now words)) ⌝ }
     ensures { λ r. ⌜ (r ≡ anyUpTo count (refersAmong (storeIn (now (tape .entry)) (now (old .entry) ++ now (new .entry))) from (now (tape .entry)) at n)) × (firstWords base (now (words .exit)) ≡ firstWords base (now (words .entry))) ⌝ }
 {
     let end = words.len();
     wire::zero_words(&mut words[base..end]);
     let r = any_refers_among(tape, st, words, base, old, new, at, count, n, from);
     if r == 2 {
-        return any_refers_sorted(tape, st, words, base, old, new, at, count, n, from);
+        return refers_sorted(tape, st, words, base, old, new, at, count, n, from);
     }
     r == 1
 }

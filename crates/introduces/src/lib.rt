@@ -6,8 +6,8 @@
 // the last eighth. Where few are lent, number 15 has words of its own.
 use strings::Plain;
 ghost use mathlib.Core.Path.{_≡_};
-ghost use mathlib.Core.List.{_++_};
-ghost use Prim.Native.Nat.{_+_, _*_, _≤_, min};
+ghost use mathlib.Core.List.{List, _++_};
+ghost use Prim.Native.Nat.{ℕ, _+_, _*_, _≤_, min};
 ghost use lib.ListN.{length};
 ghost use Rattle.model.specs.Lists.{any, keep};
 ghost use Rattle.model.specs.Tape.{recordAt, recordsAt, nodeCodec, places as placesIn, bookAt};
@@ -24,13 +24,15 @@ ghost use Rattle.dependency.specs.Sound.{Sound, SoundNode, PlainIn};
 ghost use Rattle.dependency.specs.Noted.{Noted};
 ghost use Rattle.dependency.specs.Rows.{Told, Rowed, amongRow};
 ghost use Rattle.sorted_ids.specs.Row.{firstWords, Row};
-ghost use lib.Dec.{eqb};
 ghost use Rattle.region.specs.Ready.{Ready};
 ghost use Rattle.region.specs.Held.{Held};
 ghost use Rattle.introduces.specs.Linked.{formatFrom, refersTo, rubyForLater};
 ghost use Rattle.dependency.specs.Words.{lastWords};
 ghost use Rattle.introduces.specs.Words.{KeptIndexes, BothIndexed};
-ghost use Rattle.introduces.specs.Rows.{refersToRow};
+ghost use Rattle.introduces.specs.Rows.{refersToRow, targetAgain};
+ghost use Rattle.dependency.specs.Named.{Naming, Namings};
+ghost use Rattle.records.specs.Runs.{testAt};
+ghost use Rattle.wire.specs.Loops.{Missed};
 
 fn is_format_from(tape: &[u8], at: usize, from: u32) -> bool
     requires { ⌜ at + 49 ≤ length (now tape) ⌝ }
@@ -140,8 +142,8 @@ fn is_base_of<'a, 'b>(
     requires { ⌜ Noted (storeIn (now tape) (now old ++ now new)) (recordsAt nodeCodec (now tape) at count) (now words) base ⌝ }
     requires { ⌜ Resolvable (now reading) own (now index) (now front) (now back) ⌝ }
     requires { ⌜ PlainIn own p ⌝ }
-    ensures { λ r. ⌜ eqb r 1 ≡ amongBases (storeIn (now (tape .entry)) (now (old .entry) ++ now (new .entry))) (recordsAt nodeCodec (now (tape .entry)) at count) (plainString (storeIn (now
-        (reading .entry)) (now (front .entry) ++ now (back .entry))) p) ⌝ }
+    ensures { λ r. ⌜ Told r (amongBases (storeIn (now (tape .entry)) (now (old .entry) ++ now (new .entry))) (recordsAt nodeCodec (now (tape .entry)) at count) (plainString (storeIn (now
+        (reading .entry)) (now (front .entry) ++ now (back .entry))) p)) ⌝ }
 {
     match p {
         Plain::Id(id) => {
@@ -175,8 +177,8 @@ fn refers_to<'a, 'b>(
     requires { ⌜ base ≤ length (now words) ⌝ }
     requires { ⌜ Noted (storeIn (now tape) (now old ++ now new)) (recordsAt nodeCodec (now tape) at count) (now words) base ⌝ }
     requires { ⌜ SoundNode (now reading) own (now index) (now front) (now back) place ⌝ }
-    ensures { λ r. ⌜ eqb r 1 ≡ refersTo (storeIn (now (tape .entry)) (now (old .entry) ++ now (new .entry))) (recordsAt nodeCodec (now (tape .entry)) at count) (storeIn (now (reading .entry)) (now
-        (front .entry) ++ now (back .entry))) (recordAt nodeCodec (now (reading .entry)) place) ⌝ }
+    ensures { λ r. ⌜ Told r (refersTo (storeIn (now (tape .entry)) (now (old .entry) ++ now (new .entry))) (recordsAt nodeCodec (now (tape .entry)) at count) (storeIn (now (reading .entry)) (now
+        (front .entry) ++ now (back .entry))) (recordAt nodeCodec (now (reading .entry)) place)) ⌝ }
 {
     if !dependency::is_referenced_format(reading, place) {
         return 0;
@@ -246,6 +248,9 @@ fn any_refers_to<'a, 'b>(
         if r == 1 {
             return 1;
         }
+        if r == 2 {
+            return 2;
+        }
         vain = dependency::in_vain(vain, r);
         if 128 < vain {
             return 2;
@@ -265,6 +270,7 @@ fn row_of<'a>(
     new: &'a [u8],
     at: usize,
     count: usize,
+    first: &[u64],
 ) -> usize
     requires { ⌜ Sound (now tape) st (firstWords base (now words)) (now old) (now new) at count ⌝ }
     requires { ⌜ base + count ≤ length (now words) ⌝ }
@@ -274,7 +280,7 @@ fn row_of<'a>(
     let mut m = 0;
     let mut i = 0;
     while i < count {
-        m = dependency::insert_base(tape, st, words, base, m, old, new, at + 49 * i);
+        m = dependency::insert_first(tape, st, words, base, m, old, new, at, i, count, first);
         i += 1;
     }
     m
@@ -355,6 +361,107 @@ fn refers_to_row<'a, 'b>(
     )
 }
 
+// Is node v before node i a Format with the target of node i by its id? Then the answer of node v is node i's.
+fn is_target_again(tape: &[u8], st: store::Store, at: usize, i: usize, v: usize) -> bool
+    requires { ⌜ Namings (now tape) st at (i + 1) ⌝ }
+    ensures { λ r. ⌜ ((b : List ℕ) → r ≡ targetAgain (now (tape .entry)) at i v b) ⌝ }
+{
+    if i <= v {
+        return false;
+    }
+    if !dependency::is_referenced_format(tape, at + 49 * v) {
+        return false;
+    }
+    dependency::same_named(tape, st, at + 49 * i, at + 49 * v)
+}
+
+fn note_target(
+    tape: &[u8],
+    st: store::Store,
+    at: usize,
+    i: usize,
+    long: usize,
+    places: &mut [u64],
+    m: usize,
+) -> usize
+    requires { ⌜ Naming (now tape) st (at + 49 * i) ⌝ }
+    requires { ⌜ m ≤ length (now places) ⌝ }
+    ensures { λ r. ⌜ r ≤ length (now (places .entry)) ⌝ }
+{
+    if dependency::is_referenced_format(tape, at + 49 * i) {
+        return dependency::note_place(tape, st, at, i, long, places, m);
+    }
+    m
+}
+
+// The first Format of each long target.
+fn first_targets(
+    tape: &[u8],
+    st: store::Store,
+    at: usize,
+    count: usize,
+    long: usize,
+    places: &mut [u64],
+) -> usize
+    requires { ⌜ Namings (now tape) st at count ⌝ }
+    ensures { λ r. ⌜ r ≤ length (now (places .entry)) ⌝ }
+{
+    let mut m = 0;
+    let mut i = 0;
+    while i < count {
+        m = note_target(tape, st, at, i, long, places, m);
+        i += 1;
+    }
+    m
+}
+
+// The same for node i, where no node before it refers to the row: one that has the target of an earlier node by its id is not asked again.
+fn refers_first_to_row<'a, 'b>(
+    tape: &[u8],
+    st: store::Store,
+    words: &[u32],
+    base: usize,
+    m: usize,
+    old: &'a [u8],
+    new: &'a [u8],
+    reading: &[u8],
+    own: store::Store,
+    index: &[u32],
+    front: &'b [u8],
+    back: &'b [u8],
+    place: usize,
+    i: usize,
+    first: &[u64],
+) -> bool
+    requires { ⌜ Resolvable (now tape) st (firstWords base (now words)) (now old) (now new) ⌝ }
+    requires { ⌜ Row (storeIn (now tape) (now old ++ now new)) (st .totals .strings) (now words) base m ⌝ }
+    requires { ⌜ Sound (now reading) own (now index) (now front) (now back) place (i + 1) ⌝ }
+    requires { ⌜ Missed (testAt nodeCodec (refersToRow (storeIn (now tape) (now old ++ now new)) (now words) base m (storeIn (now reading) (now front ++ now back))) (now reading) place) i ⌝ }
+    ensures { λ r. ⌜ r ≡ refersToRow (storeIn (now (tape .entry)) (now (old .entry) ++ now (new .entry))) (now (words .entry)) base m (storeIn (now (reading .entry)) (now (front .entry) ++ now
+        (back .entry))) (recordAt nodeCodec (now (reading .entry)) (place + 49 * i)) ⌝ }
+{
+    let here = place + 49 * i;
+    let v = dependency::noted_place(reading, own, here, first);
+    if is_target_again(reading, own, place, i, v) {
+        return false;
+    }
+    refers_to_row(
+        tape,
+        st,
+        words,
+        base,
+        m,
+        old,
+        new,
+        reading,
+        own,
+        index,
+        front,
+        back,
+        here,
+    )
+}
+
 fn any_refers_to_row<'a, 'b>(
     tape: &[u8],
     st: store::Store,
@@ -370,6 +477,7 @@ fn any_refers_to_row<'a, 'b>(
     back: &'b [u8],
     place: usize,
     nodes: usize,
+    first: &[u64],
 ) -> bool
     requires { ⌜ Resolvable (now tape) st (firstWords base (now words)) (now old) (now new) ⌝ }
     requires { ⌜ Row (storeIn (now tape) (now old ++ now new)) (st .totals .strings) (now words) base m ⌝ }
@@ -379,7 +487,7 @@ fn any_refers_to_row<'a, 'b>(
 {
     let mut i = 0;
     while i < nodes {
-        if refers_to_row(
+        if refers_first_to_row(
             tape,
             st,
             words,
@@ -392,7 +500,9 @@ fn any_refers_to_row<'a, 'b>(
             index,
             front,
             back,
-            place + 49 * i,
+            place,
+            i,
+            first,
         ) {
             return true;
         }
@@ -468,7 +578,62 @@ fn refers_by_filter<'a, 'b>(
     )
 }
 
-// The same by a row of the bases.
+// The same by a row of the bases, with the first places of long strings.
+fn refers_by_places<'a, 'b>(
+    tape: &[u8],
+    st: store::Store,
+    words: &mut [u32],
+    base: usize,
+    middle: usize,
+    old: &'a [u8],
+    new: &'a [u8],
+    at: usize,
+    count: usize,
+    reading: &[u8],
+    own: store::Store,
+    front: &'b [u8],
+    back: &'b [u8],
+    place: usize,
+    nodes: usize,
+    first: &[u64],
+    asked: &[u64],
+) -> bool
+    requires { ⌜ (base + count ≤ middle) × (middle ≤ length (now words)) ⌝ }
+    requires { ⌜ Sound (now tape) st (firstWords base (firstWords middle (now words))) (now old) (now new) at count ⌝ }
+    requires { ⌜ Sound (now reading) own (lastWords middle (now words)) (now front) (now back) place nodes ⌝ }
+    ensures { λ r. ⌜ (r ≡ any (refersTo (storeIn (now (tape .entry)) (now (old .entry) ++ now (new .entry))) (recordsAt nodeCodec (now (tape .entry)) at count) (storeIn (now (reading .entry)) (now (front .entry) ++ now (back .entry)))) (recordsAt nodeCodec (now (reading .entry)) place nodes)) × KeptIndexes (now (words .entry)) base middle (now (words .exit)) ⌝ }
+{
+    let m = row_of(
+        tape,
+        st,
+        &mut words[0..middle],
+        base,
+        old,
+        new,
+        at,
+        count,
+        first,
+    );
+    any_refers_to_row(
+        tape,
+        st,
+        &words[0..middle],
+        base,
+        m,
+        old,
+        new,
+        reading,
+        own,
+        &words[middle..words.len()],
+        front,
+        back,
+        place,
+        nodes,
+        asked,
+    )
+}
+
+// The same, with words of its own for those places.
 fn refers_by_row<'a, 'b>(
     tape: &[u8],
     st: store::Store,
@@ -491,22 +656,42 @@ fn refers_by_row<'a, 'b>(
     requires { ⌜ Sound (now reading) own (lastWords middle (now words)) (now front) (now back) place nodes ⌝ }
     ensures { λ r. ⌜ (r ≡ any (refersTo (storeIn (now (tape .entry)) (now (old .entry) ++ now (new .entry))) (recordsAt nodeCodec (now (tape .entry)) at count) (storeIn (now (reading .entry)) (now (front .entry) ++ now (back .entry)))) (recordsAt nodeCodec (now (reading .entry)) place nodes)) × KeptIndexes (now (words .entry)) base middle (now (words .exit)) ⌝ }
 {
-    let m = row_of(tape, st, &mut words[0..middle], base, old, new, at, count);
-    any_refers_to_row(
+    let mut first = [0u64; 8192];
+    let mut asked = [0u64; 8192];
+    let a = dependency::first_bases(
         tape,
         st,
-        &words[0..middle],
-        base,
-        m,
-        old,
-        new,
+        at,
+        count,
+        dependency::long_from(old.len() + new.len()),
+        &mut first,
+    );
+    let z = first_targets(
         reading,
         own,
-        &words[middle..words.len()],
+        place,
+        nodes,
+        dependency::long_from(front.len() + back.len()),
+        &mut asked,
+    );
+    refers_by_places(
+        tape,
+        st,
+        words,
+        base,
+        middle,
+        old,
+        new,
+        at,
+        count,
+        reading,
+        own,
         front,
         back,
         place,
         nodes,
+        &first[0..a],
+        &asked[0..z],
     )
 }
 

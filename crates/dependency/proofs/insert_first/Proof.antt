@@ -1,4 +1,6 @@
 use Rattle.dependency.specs.Rows.{rowed-past, rowed-one}
+use Rattle.dependency.specs.Named.{sound-naming, sound-namings, rowed-again}
+use Rattle.dependency.specs.Sound.{sound-last}
 use mathlib.Core.Path.{refl}
 use native.Mathlib.Omega.{arith}
 use borrow.Author.Needs.{needs}
@@ -7,36 +9,46 @@ use Rattle.dependency.proofs.insert_first.Tie as tie
 use Rattle.dependency.proofs.insert_first.Reads as reads
 use Rattle.dependency.proofs.insert_first.Lts as lts
 use Rattle.dependency.proofs.insert_base.Reads as insert-base-reads
+use Rattle.dependency.proofs.is_base_again.Reads as is-base-again-reads
+use Rattle.dependency.proofs.noted_place.Reads as noted-place-reads
 
-mul-insert-base : tie.Need-mul-insert-base
-mul-insert-base c = search needs
+returns : tie.Need-returns
+returns c = (refl, omega (arith, c .before .before .before .before .before .before .pre .1 .1), rowed-past _ _ _ _ _ _ (c .before .before .before .before .before .before .pre .1 .0) (c .if1 .taken))
 
-add-insert-base : tie.Need-add-insert-base
-add-insert-base c = search needs
+mul-place : tie.Need-mul-place
+mul-place c = search needs
+
+add-place : tie.Need-add-place
+add-place c = search needs
+
+noted-place-requires : tie.Need-noted-place-requires
+noted-place-requires c κs = sound-naming (sound-last (c .before .before .before .before .before .before .args .i) (c .before .before .before .before .before .before .pre .0))
+
+is-base-again-requires : tie.Need-is-base-again-requires
+is-base-again-requires c κs = sound-namings (c .before .before .before .before .before .before .before .pre .0)
+
+returns-2 : tie.Need-returns-2
+returns-2 c = (refl, omega (arith, c .before .before .before .before .before .before .before .before .before .pre .1 .1), rowed-again (c .before .before .before .before .before .before .before .before .before .args .tape .now) (c .before .before .before .before .before .before .before .before .before .args .old .now) (c .before .before .before .before .before .before .before .before .before .args .new .now) _ _ _ _ (c .before .before .before .before .before .before .before .before .before .pre .1 .0) (c .before .before .before .if1 .left) (c .before .is-base-again .ensures) (c .if2 .taken))
 
 insert-base-requires : tie.Need-insert-base-requires
-insert-base-requires c κs =
-    let start = c .before .before .before .before .before .before in
-    (start .pre .0, (start .pre .1 .0 .row, omega (arith, start .pre .1 .1)))
+insert-base-requires c κs = (sound-last (c .before .before .before .before .before .before .before .before .before .before .args .i) (c .before .before .before .before .before .before .before .before .before .before .pre .0), (c .before .before .before .before .before .before .before .before .before .before .pre .1 .0 .row, omega (arith, c .before .before .before .before .before .before .before .before .before .before .pre .1 .1, c .before .before .before .before .if1 .left)))
 
 same-length : tie.Need-same-length
 same-length c = search needs
 
-returns : tie.Need-returns
-returns c =
-    let at-if1 = c .before .before .before .before in
-    let start = at-if1 .before .before .before .before .before in (
-      c .before .before .insert-base .ensures .front,
-      omega (arith, c .before .before .insert-base .ensures .few, start .pre .1 .1),
-      rowed-one _ _ _ _ _ _ (start .pre .1 .0) (at-if1 .if1 .taken) (c .before .before .insert-base .ensures),
-    )
-
-returns-2 : tie.Need-returns-2
-returns-2 c =
-    let start = c .before .before .before .before .before in
-    (refl, omega (arith, start .pre .1 .1), rowed-past _ _ _ _ _ _ (start .pre .1 .0) (c .if1 .left))
+returns-3 : tie.Need-returns-3
+returns-3 c = (c .before .before .insert-base .ensures .front, omega (arith, c .before .before .insert-base .ensures .few, c .before .before .before .before .before .before .before .before .before .before .before .before .before .pre .1 .1), rowed-one _ _ _ _ _ _ (c .before .before .before .before .before .before .before .before .before .before .before .before .before .pre .1 .0) (c .before .before .before .before .before .before .before .if1 .left) (c .before .before .insert-base .ensures))
 
 pub insert-first-spec : {M : Type 1} → statement M
 insert-first-spec =
     tie.close
-    (tie.spec mul-insert-base add-insert-base insert-base-requires same-length returns returns-2)
+    (tie.spec
+    returns
+    mul-place
+    add-place
+    noted-place-requires
+    is-base-again-requires
+    returns-2
+    insert-base-requires
+    same-length
+    returns-3)

@@ -9,7 +9,7 @@ use Rattle.dependency.proofs.part_refers.Tie as tie
 use Rattle.dependency.proofs.part_refers.Reads as reads
 use Rattle.dependency.proofs.part_refers.Lts as lts
 use Rattle.dependency.proofs.any_refers_among.Reads as any-refers-among-reads
-use Rattle.dependency.proofs.any_refers_sorted.Reads as any-refers-sorted-reads
+use Rattle.dependency.proofs.refers_sorted.Reads as refers-sorted-reads
 use Rattle.wire.proofs.zero_words.Reads as zero-words-reads
 
 mul-zero-words : tie.Need-mul-zero-words
@@ -36,19 +36,22 @@ any-refers-among-requires c κs =
       last-inside (start .args .words .now) (start .args .base) (omega (arith, start .pre .1)) _ refl (at-zero-words .zero-words .last .0) (at-zero-words .zero-words .kept .0),
     )
 
-any-refers-sorted-requires : tie.Need-any-refers-sorted-requires
-any-refers-sorted-requires c κs =
+refers-sorted-requires : tie.Need-refers-sorted-requires
+refers-sorted-requires c κs =
     let at-any-refers-among = c .before .before .before .before in
     let at-zero-words = at-any-refers-among .before .before .before .before in
     let start = at-zero-words .before .before .before .before .before .before in (
       sound-index ((at-any-refers-among .any-refers-among .ensures .1)
           ∙ last-first (start .args .words .now) (start .args .base) (omega (arith, start .pre .1)) _ refl (at-zero-words .zero-words .last .0) (at-zero-words .zero-words .kept .0)) (start .pre .0),
-      omega (
-        arith,
-        at-any-refers-among .any-refers-among .kept .1 .1 .0,
-        last-length (start .args .words .now) (start .args .base)
-            (omega (arith, start .pre .1)) _ refl (at-zero-words .zero-words .last .0) (at-zero-words .zero-words .kept .0),
-        start .pre .1,
+      (
+        start .pre .1 .0,
+        omega (
+          arith,
+          at-any-refers-among .any-refers-among .kept .1 .1 .0,
+          last-length (start .args .words .now) (start .args .base)
+              (omega (arith, start .pre .1)) _ refl (at-zero-words .zero-words .last .0) (at-zero-words .zero-words .kept .0),
+          start .pre .1,
+        ),
       ),
     )
 
@@ -60,8 +63,8 @@ returns c =
     let at-any-refers-among = c .before .before .before .before .before .before .before in
     let at-zero-words = at-any-refers-among .before .before .before .before in
     let start = at-zero-words .before .before .before .before .before .before in (
-      c .before .before .any-refers-sorted .ensures .0,
-      (c .before .before .any-refers-sorted .ensures .1) ∙ (at-any-refers-among .any-refers-among .ensures .1)
+      c .before .before .refers-sorted .ensures .0,
+      (c .before .before .refers-sorted .ensures .1) ∙ (at-any-refers-among .any-refers-among .ensures .1)
           ∙ last-first (start .args .words .now) (start .args .base) (omega (arith, start .pre .1)) _ refl (at-zero-words .zero-words .last .0) (at-zero-words .zero-words .kept .0),
     )
 
@@ -88,7 +91,7 @@ part-refers-spec =
     part-zero-words-end
     zero-words-requires
     any-refers-among-requires
-    any-refers-sorted-requires
+    refers-sorted-requires
     same-length
     returns
     same-length-2

@@ -1,4 +1,5 @@
-use mathlib.Core.Path.{refl}
+use Rattle.dependency.specs.Rows.{told-as, told-no}
+use mathlib.Core.Path.{refl, sym}
 use native.Mathlib.Omega.{arith}
 use borrow.Author.Tests.{not-true, not-false}
 use Rattle.dependency.specs.Sound.{sound-last, sound-before, format-first, plain-inside}
@@ -23,7 +24,7 @@ asks-target-requires : tie.Need-asks-target-requires
 asks-target-requires c κs = search needs
 
 returns : tie.Need-returns
-returns c = refers-other _ _ _ _ refl (sound-last (c .before .before .before .before .before .before .args .i) (c .before .before .before .before .before .before .pre .0)) (c .before .asks-target .ensures) (not-true _ (c .if1 .taken))
+returns c = told-no (sym (refers-other _ _ _ _ refl (sound-last (c .before .before .before .before .before .before .args .i) (c .before .before .before .before .before .before .pre .0)) (c .before .asks-target .ensures) (not-true _ (c .if1 .taken))))
 
 first-plain-requires : tie.Need-first-plain-requires
 first-plain-requires c κs = (c .before .before .before .before .before .before .pre .0 .strings .sides .store, ((sound-last (c .before .before .before .before .before .before .args .i) (c .before .before .before .before .before .before .pre .0)) .inside, format-first (sound-last (c .before .before .before .before .before .before .args .i) (c .before .before .before .before .before .before .pre .0)) _ (c .before .asks-target .ensures) (not-false _ (c .if1 .left))))
@@ -35,7 +36,7 @@ is-target-base-requires : tie.Need-is-target-base-requires
 is-target-base-requires c κs = (sound-before (c .before .before .before .before .before .before .before .before .pre .0) (omega (arith, c .smaller .ensures)), (c .before .before .before .before .before .before .before .before .pre .1 .0, (noted-few _ _ _ _ _ _ _ (c .before .before .before .before .before .before .before .before .pre .1 .1) _ (c .smaller .ensures), plain-inside (sound-last (c .before .before .before .before .before .before .before .before .args .i) (c .before .before .before .before .before .before .before .before .pre .0)) (c .before .first-plain .ensures))))
 
 returns-2 : tie.Need-returns-2
-returns-2 c = refers-target _ _ _ _ refl (sound-last (c .before .before .before .before .before .before .before .before .before .args .i) (c .before .before .before .before .before .before .before .before .before .pre .0)) (c .before .before .before .before .asks-target .ensures) (not-false _ (c .before .before .before .if1 .left)) (c .before .before .first-plain .ensures) (c .before .smaller .ensures) (c .is-target-base .ensures)
+returns-2 c = told-as (c .is-target-base .ensures) (refers-target _ _ _ _ refl (sound-last (c .before .before .before .before .before .before .before .before .before .args .i) (c .before .before .before .before .before .before .before .before .before .pre .0)) (c .before .before .before .before .asks-target .ensures) (not-false _ (c .before .before .before .if1 .left)) (c .before .before .first-plain .ensures) (c .before .smaller .ensures) refl)
 
 pub refers-among-spec : {M : Type 1} → statement M
 refers-among-spec =

@@ -36,24 +36,20 @@ add-refers-to : tie.Need-add-refers-to Inv-loop μ-loop
 add-refers-to c = omega (arith, c .before .before .before .before .before .before .before .before .before .before .pre .1 .1 .1 .inside)
 
 refers-to-requires : tie.Need-refers-to-requires Inv-loop μ-loop
-refers-to-requires c κs =
-    let start = c .before .before .before .before .before .before .before .before .before .before in
-    (start .pre .0, (start .pre .1 .0, (start .pre .1 .1 .0, sound-node (start .pre .1 .1 .1) (c .loop-test .taken))))
+refers-to-requires c κs = (c .before .before .before .before .before .before .before .before .before .before .pre .0, (c .before .before .before .before .before .before .before .before .before .before .pre .1 .0, (c .before .before .before .before .before .before .before .before .before .before .pre .1 .1 .0, sound-node (c .before .before .before .before .before .before .before .before .before .before .pre .1 .1 .1) (c .loop-test .taken))))
 
 returns : tie.Need-returns Inv-loop μ-loop
 unfolding nodeCodec
-returns c =
-    let turn = c .before .before .before in
-    let start = turn .before .before .before .before .before .before .before .before .before in
-    let a = start .args in
-    told-yes (sym (run-found nodeCodec (refersTo (storeIn (a .tape .now) (a .old .now ++ a .new .now)) (recordsAt nodeCodec (a .tape .now) (a .at) (a .count)) (storeIn (a .reading .now)
-    (a .front .now ++ a .back .now))) (a .reading .now) (a .place) (turn .loop .i) _ refl _ (c .before .refers-to .ensures) _ (c .before .before .loop-test .taken) (eq-eqb _ 1 (c .if1 .taken))))
-
-in-vain-requires : tie.Need-in-vain-requires Inv-loop μ-loop
-in-vain-requires c κs = omega (arith, c .before .before .before .loop .inv .2)
+returns c = told-yes (sym (run-found nodeCodec (refersTo (storeIn (c .before .before .before .before .before .before .before .before .before .before .before .before .args .tape .now) (c .before .before .before .before .before .before .before .before .before .before .before .before .args .old .now ++ c .before .before .before .before .before .before .before .before .before .before .before .before .args .new .now)) (recordsAt nodeCodec (c .before .before .before .before .before .before .before .before .before .before .before .before .args .tape .now) (c .before .before .before .before .before .before .before .before .before .before .before .before .args .at) (c .before .before .before .before .before .before .before .before .before .before .before .before .args .count)) (storeIn (c .before .before .before .before .before .before .before .before .before .before .before .before .args .reading .now) (c .before .before .before .before .before .before .before .before .before .before .before .before .args .front .now ++ c .before .before .before .before .before .before .before .before .before .before .before .before .args .back .now))) (c .before .before .before .before .before .before .before .before .before .before .before .before .args .reading .now) (c .before .before .before .before .before .before .before .before .before .before .before .before .args .place) (c .before .before .before .loop .i) _ refl _ (c .before .refers-to .ensures .told (λ e. omega (arith, e, c .if1 .taken))) _ (c .before .before .loop-test .taken) (eq-eqb _ 1 (c .if1 .taken))))
 
 returns-2 : tie.Need-returns-2 Inv-loop μ-loop
 returns-2 c = told-not
+
+in-vain-requires : tie.Need-in-vain-requires Inv-loop μ-loop
+in-vain-requires c κs = omega (arith, c .before .before .before .before .loop .inv .2)
+
+returns-3 : tie.Need-returns-3 Inv-loop μ-loop
+returns-3 c = told-not
 
 add-i : tie.Need-add-i Inv-loop μ-loop
 add-i c = omega arith
@@ -63,23 +59,14 @@ loop-less c = omega arith
 
 loop-again : tie.Need-loop-again Inv-loop μ-loop
 unfolding nodeCodec
-loop-again c =
-    let at-refers-to = c .before .before .before in
-    let turn = at-refers-to .before .before in
-    let start = turn .before .before .before .before .before .before .before .before .before in
-    let a = start .args in (
-      omega arith,
-      run-missed nodeCodec (refersTo (storeIn (a .tape .now) (a .old .now ++ a .new .now)) (recordsAt nodeCodec (a .tape .now) (a .at) (a .count)) (storeIn (a .reading .now)
-          (a .front .now ++ a .back .now))) (a .reading .now) (a .place) (turn .loop .i) _ refl _ (at-refers-to .refers-to .ensures) (ne-eqb _ 1 (c .before .before .if1 .left)) (turn .loop .inv .1),
-      c .if2 .left,
-    )
+loop-again c = (
+  omega arith,
+  run-missed nodeCodec (refersTo (storeIn (c .before .before .before .before .before .before .before .before .before .before .before .before .before .before .before .args .tape .now) (c .before .before .before .before .before .before .before .before .before .before .before .before .before .before .before .args .old .now ++ c .before .before .before .before .before .before .before .before .before .before .before .before .before .before .before .args .new .now)) (recordsAt nodeCodec (c .before .before .before .before .before .before .before .before .before .before .before .before .before .before .before .args .tape .now) (c .before .before .before .before .before .before .before .before .before .before .before .before .before .before .before .args .at) (c .before .before .before .before .before .before .before .before .before .before .before .before .before .before .before .args .count)) (storeIn (c .before .before .before .before .before .before .before .before .before .before .before .before .before .before .before .args .reading .now) (c .before .before .before .before .before .before .before .before .before .before .before .before .before .before .before .args .front .now ++ c .before .before .before .before .before .before .before .before .before .before .before .before .before .before .before .args .back .now))) (c .before .before .before .before .before .before .before .before .before .before .before .before .before .before .before .args .reading .now) (c .before .before .before .before .before .before .before .before .before .before .before .before .before .before .before .args .place) (c .before .before .before .before .before .before .loop .i) _ refl _ (c .before .before .before .before .refers-to .ensures .told (c .before .before .if2 .left)) (ne-eqb _ 1 (c .before .before .before .if1 .left)) (c .before .before .before .before .before .before .loop .inv .1),
+  c .if3 .left,
+)
 
-returns-3 : tie.Need-returns-3 Inv-loop μ-loop
-returns-3 c =
-    let start = c .before .before .before .before .before .before .before .before .before .before in
-    let a = start .args in
-    told-no (sym (run-nowhere nodeCodec (refersTo (storeIn (a .tape .now) (a .old .now ++ a .new .now)) (recordsAt nodeCodec (a .tape .now) (a .at) (a .count))
-    (storeIn (a .reading .now) (a .front .now ++ a .back .now))) (a .reading .now) (a .place) _ (c .before .loop .i) (omega arith) (c .before .loop .inv .1)))
+returns-4 : tie.Need-returns-4 Inv-loop μ-loop
+returns-4 c = told-no (sym (run-nowhere nodeCodec (refersTo (storeIn (c .before .before .before .before .before .before .before .before .before .before .args .tape .now) (c .before .before .before .before .before .before .before .before .before .before .args .old .now ++ c .before .before .before .before .before .before .before .before .before .before .args .new .now)) (recordsAt nodeCodec (c .before .before .before .before .before .before .before .before .before .before .args .tape .now) (c .before .before .before .before .before .before .before .before .before .before .args .at) (c .before .before .before .before .before .before .before .before .before .before .args .count)) (storeIn (c .before .before .before .before .before .before .before .before .before .before .args .reading .now) (c .before .before .before .before .before .before .before .before .before .before .args .front .now ++ c .before .before .before .before .before .before .before .before .before .before .args .back .now))) (c .before .before .before .before .before .before .before .before .before .before .args .reading .now) (c .before .before .before .before .before .before .before .before .before .before .args .place) _ (c .before .loop .i) (omega arith) (c .before .loop .inv .1)))
 
 pub any-refers-to-spec : {M : Type 1} → statement M
 any-refers-to-spec =
@@ -92,9 +79,10 @@ any-refers-to-spec =
     add-refers-to
     refers-to-requires
     returns
-    in-vain-requires
     returns-2
+    in-vain-requires
+    returns-3
     add-i
     loop-less
     loop-again
-    returns-3)
+    returns-4)

@@ -1,93 +1,83 @@
-use Rattle.dependency.specs.Sound.{sound-index}
-use Rattle.model.specs.Tape.{recordsAt, nodeCodec}
-use Rattle.strings.specs.Starts.{storeIn}
-use Rattle.introduces.specs.Words.{first-kept}
-use Rattle.dependency.specs.Words.{first-front, first-last}
-use Rattle.introduces.specs.Rows.{rowed-any, rowed-words}
-use mathlib.Core.List.{_++_}
+use Rattle.dependency.specs.Named.{sound-namings}
 use borrow.Author.Needs.{needs}
 use Rattle.introduces.proofs.refers_by_row.Statement.{statement}
 use Rattle.introduces.proofs.refers_by_row.Tie as tie
 use Rattle.introduces.proofs.refers_by_row.Reads as reads
 use Rattle.introduces.proofs.refers_by_row.Lts as lts
-use Rattle.introduces.proofs.any_refers_to_row.Reads as any-refers-to-row-reads
-use Rattle.introduces.proofs.row_of.Reads as row-of-reads
+use Rattle.dependency.proofs.first_bases.Reads as first-bases-reads
+use Rattle.dependency.proofs.long_from.Reads as long-from-reads
+use Rattle.introduces.proofs.first_targets.Reads as first-targets-reads
+use Rattle.introduces.proofs.refers_by_places.Reads as refers-by-places-reads
 
-sub-row-of : tie.Need-sub-row-of
-sub-row-of c = search needs
+add-long-from : tie.Need-add-long-from
+add-long-from c = search needs
 
-part-row-of-start : tie.Need-part-row-of-start
-part-row-of-start c = search needs
+long-from-requires : tie.Need-long-from-requires
+long-from-requires c κs = search needs
 
-part-row-of-end : tie.Need-part-row-of-end
-part-row-of-end c = search needs
+slice-aggregate-first-bases : tie.Need-slice-aggregate-first-bases
+slice-aggregate-first-bases c = search needs
 
-row-of-requires : tie.Need-row-of-requires
-row-of-requires c κs = search needs
+first-bases-requires : tie.Need-first-bases-requires
+first-bases-requires c κs = sound-namings (c .before .before .before .before .before .before .before .before .before .pre .1 .0)
 
-sub-any-refers-to-row : tie.Need-sub-any-refers-to-row
-sub-any-refers-to-row c = search needs
+add-long-from-2 : tie.Need-add-long-from-2
+add-long-from-2 c = search needs
 
-part-any-refers-to-row-start : tie.Need-part-any-refers-to-row-start
-part-any-refers-to-row-start c = search needs
+long-from-requires-2 : tie.Need-long-from-requires-2
+long-from-requires-2 c κs = search needs
 
-part-any-refers-to-row-end : tie.Need-part-any-refers-to-row-end
-part-any-refers-to-row-end c = search needs
+slice-aggregate-first-targets : tie.Need-slice-aggregate-first-targets
+slice-aggregate-first-targets c = search needs
 
-mul-any-refers-to-row : tie.Need-mul-any-refers-to-row
-mul-any-refers-to-row c = search needs
+first-targets-requires : tie.Need-first-targets-requires
+first-targets-requires c κs = sound-namings (c .before .before .before .before .before .before .before .before .before .before .before .before .before .pre .1 .1)
 
-sub-any-refers-to-row-2 : tie.Need-sub-any-refers-to-row-2
-sub-any-refers-to-row-2 c = search needs
+sub-refers-by-places : tie.Need-sub-refers-by-places
+sub-refers-by-places c = search needs
 
-part-any-refers-to-row-start-2 : tie.Need-part-any-refers-to-row-start-2
-part-any-refers-to-row-start-2 c = search needs
+part-refers-by-places-start : tie.Need-part-refers-by-places-start
+part-refers-by-places-start c = search needs
 
-part-any-refers-to-row-end-2 : tie.Need-part-any-refers-to-row-end-2
-part-any-refers-to-row-end-2 c = search needs
+part-refers-by-places-end : tie.Need-part-refers-by-places-end
+part-refers-by-places-end c = search needs
 
-any-refers-to-row-requires : tie.Need-any-refers-to-row-requires
-any-refers-to-row-requires c κs =
-    let at-row-of = c .before .before .before .before .before in
-    let start = at-row-of .before .before .before .before .before .before .before .before .before in (
-      (sound-index (first-kept (start .args .words .now) (start .args .middle) (start .pre .0 .1) (at-row-of .row-of .last .1 .1 .0)
-          (at-row-of .row-of .kept .1 .1 .0) (start .args .base) (at-row-of .row-of .ensures .0) .first) (start .pre .1 .0)) .strings,
-      (
-        (rowed-words (first-front (start .args .words .now) (start .args .middle) (start .pre .0 .1)
-            (at-row-of .row-of .last .1 .1 .0) (at-row-of .row-of .kept .1 .1 .0)) (at-row-of .row-of .ensures .1)) .row,
-        sound-index
-            (first-last (start .args .words .now) (start .args .middle) (start .pre .0 .1) (at-row-of .row-of .last .1 .1 .0) (at-row-of .row-of .kept .1 .1 .0)) (start .pre .1 .1),
-      ),
-    )
+sub-refers-by-places-2 : tie.Need-sub-refers-by-places-2
+sub-refers-by-places-2 c = search needs
+
+part-refers-by-places-start-2 : tie.Need-part-refers-by-places-start-2
+part-refers-by-places-start-2 c = search needs
+
+part-refers-by-places-end-2 : tie.Need-part-refers-by-places-end-2
+part-refers-by-places-end-2 c = search needs
+
+refers-by-places-requires : tie.Need-refers-by-places-requires
+refers-by-places-requires c κs = search needs
 
 same-length : tie.Need-same-length
 same-length c = search needs
 
 returns : tie.Need-returns
-returns c =
-    let at-row-of = c .before .before .before .before .before .before in
-    let start = at-row-of .before .before .before .before .before .before .before .before .before in
-    let a = start .args in (
-      rowed-any (rowed-words (first-front (start .args .words .now) (start .args .middle) (start .pre .0 .1) (at-row-of .row-of .last .1 .1 .0) (at-row-of .row-of .kept .1 .1 .0))
-          (at-row-of .row-of .ensures .1)) (storeIn (a .reading .now) (a .front .now ++ a .back .now)) (recordsAt nodeCodec (a .reading .now) (a .place) (a .nodes)) (c .any-refers-to-row .ensures),
-      first-kept (start .args .words .now) (start .args .middle) (start .pre .0 .1) (at-row-of .row-of .last .1 .1 .0) (at-row-of .row-of .kept .1 .1 .0) _ (at-row-of .row-of .ensures .0),
-    )
+returns c = search needs
 
 pub refers-by-row-spec : {M : Type 1} → statement M
 refers-by-row-spec =
     tie.close
     (tie.spec
-    sub-row-of
-    part-row-of-start
-    part-row-of-end
-    row-of-requires
-    sub-any-refers-to-row
-    part-any-refers-to-row-start
-    part-any-refers-to-row-end
-    mul-any-refers-to-row
-    sub-any-refers-to-row-2
-    part-any-refers-to-row-start-2
-    part-any-refers-to-row-end-2
-    any-refers-to-row-requires
+    add-long-from
+    long-from-requires
+    slice-aggregate-first-bases
+    first-bases-requires
+    add-long-from-2
+    long-from-requires-2
+    slice-aggregate-first-targets
+    first-targets-requires
+    sub-refers-by-places
+    part-refers-by-places-start
+    part-refers-by-places-end
+    sub-refers-by-places-2
+    part-refers-by-places-start-2
+    part-refers-by-places-end-2
+    refers-by-places-requires
     same-length
     returns)

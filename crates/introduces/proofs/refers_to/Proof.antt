@@ -1,3 +1,5 @@
+use Rattle.dependency.specs.Rows.{told-as, told-no}
+use mathlib.Core.Path.{refl, sym}
 use Rattle.introduces.specs.Linked.{refers-other, refers-target}
 use Rattle.dependency.specs.Sound.{target-first, plain-inside}
 use borrow.Author.Tests.{not-true, not-false}
@@ -13,7 +15,7 @@ is-referenced-format-requires : tie.Need-is-referenced-format-requires
 is-referenced-format-requires c κs = (c .before .before .before .before .before .before .before .before .pre .1 .1 .1) .inside
 
 returns : tie.Need-returns
-returns c = refers-other _ _ (c .before .before .before .before .before .before .before .before .before .before .pre .1 .1 .1) (c .before .is-referenced-format .ensures) (not-true _ (c .if1 .taken))
+returns c = told-no (sym (refers-other _ _ (c .before .before .before .before .before .before .before .before .before .before .pre .1 .1 .1) (c .before .is-referenced-format .ensures) (not-true _ (c .if1 .taken))))
 
 first-plain-requires : tie.Need-first-plain-requires
 first-plain-requires c κs = ((c .before .before .before .before .before .before .before .before .before .before .pre .1 .1 .1) .strings .sides .store, ((c .before .before .before .before .before .before .before .before .before .before .pre .1 .1 .1) .inside, target-first (c .before .before .before .before .before .before .before .before .before .before .pre .1 .1 .1) (c .before .is-referenced-format .ensures) (not-false _ (c .if1 .left))))
@@ -22,7 +24,7 @@ is-base-of-requires : tie.Need-is-base-of-requires
 is-base-of-requires c κs = (c .before .before .before .before .before .before .before .before .before .before .before .pre .0, (c .before .before .before .before .before .before .before .before .before .before .before .pre .1 .0, (c .before .before .before .before .before .before .before .before .before .before .before .pre .1 .1 .0, ((c .before .before .before .before .before .before .before .before .before .before .before .pre .1 .1 .1) .strings, plain-inside (c .before .before .before .before .before .before .before .before .before .before .before .pre .1 .1 .1) (c .first-plain .ensures)))))
 
 returns-2 : tie.Need-returns-2
-returns-2 c = refers-target _ _ (c .before .before .before .before .before .before .before .before .before .before .before .before .pre .1 .1 .1) (c .before .before .before .is-referenced-format .ensures) (not-false _ (c .before .before .if1 .left)) (c .before .first-plain .ensures) (c .is-base-of .ensures)
+returns-2 c = told-as (c .is-base-of .ensures) (refers-target _ _ (c .before .before .before .before .before .before .before .before .before .before .before .before .pre .1 .1 .1) (c .before .before .before .is-referenced-format .ensures) (not-false _ (c .before .before .if1 .left)) (c .before .first-plain .ensures) refl)
 
 pub refers-to-spec : {M : Type 1} → statement M
 refers-to-spec =

@@ -1,0 +1,43 @@
+use Rattle.dependency.specs.Named.{named-ruby, named-format, named-none, nothing-in}
+use mathlib.Core.Path.{sym, _∙_}
+use borrow.Author.Needs.{needs}
+use Rattle.dependency.proofs.named.Statement.{statement}
+use Rattle.dependency.proofs.named.Tie as tie
+use Rattle.dependency.proofs.named.Reads as reads
+use Rattle.dependency.proofs.named.Lts as lts
+use Rattle.dependency.proofs.first_plain.Reads as first-plain-reads
+use Rattle.dependency.proofs.is_referenced_format.Reads as is-referenced-format-reads
+use Rattle.dependency.proofs.is_ruby.Reads as is-ruby-reads
+
+is-ruby-requires : tie.Need-is-ruby-requires
+is-ruby-requires c κs = search needs
+
+first-plain-requires : tie.Need-first-plain-requires
+first-plain-requires c κs = (c .before .before .before .pre .store, (c .before .before .before .pre .inside, c .before .before .before .pre .ruby (sym (c .before .is-ruby .ensures) ∙ (c .if1 .taken))))
+
+returns : tie.Need-returns
+returns c = (named-ruby _ _ (c .before .before .is-ruby .ensures) (c .before .if1 .taken) (c .first-plain .ensures), c .before .before .before .before .pre .plain (c .first-plain .ensures))
+
+is-referenced-format-requires : tie.Need-is-referenced-format-requires
+is-referenced-format-requires c κs = search needs
+
+first-plain-requires-2 : tie.Need-first-plain-requires-2
+first-plain-requires-2 c κs = (c .before .before .before .before .before .pre .store, (c .before .before .before .before .before .pre .inside, c .before .before .before .before .before .pre .format (sym (c .before .is-referenced-format .ensures) ∙ (c .if2 .taken))))
+
+returns-2 : tie.Need-returns-2
+returns-2 c = (named-format _ _ (c .before .before .before .before .is-ruby .ensures) (c .before .before .before .if1 .left) (c .before .before .is-referenced-format .ensures) (c .before .if2 .taken) (c .first-plain2 .ensures), c .before .before .before .before .before .before .pre .plain (c .first-plain2 .ensures))
+
+returns-3 : tie.Need-returns-3
+returns-3 c = (named-none _ _ (c .before .before .before .is-ruby .ensures) (c .before .before .if1 .left) (c .before .is-referenced-format .ensures) (c .if2 .left), nothing-in)
+
+pub named-spec : {M : Type 1} → statement M
+named-spec =
+    tie.close
+    (tie.spec
+    is-ruby-requires
+    first-plain-requires
+    returns
+    is-referenced-format-requires
+    first-plain-requires-2
+    returns-2
+    returns-3)

@@ -1,0 +1,44 @@
+use Rattle.introduces.specs.Rows.{target-again}
+use Rattle.dependency.specs.Named.{sound-naming, sound-namings}
+use Rattle.dependency.specs.Sound.{sound-last}
+use borrow.Author.Needs.{needs}
+use Rattle.introduces.proofs.refers_first_to_row.Statement.{statement}
+use Rattle.introduces.proofs.refers_first_to_row.Tie as tie
+use Rattle.introduces.proofs.refers_first_to_row.Reads as reads
+use Rattle.introduces.proofs.refers_first_to_row.Lts as lts
+use Rattle.dependency.proofs.noted_place.Reads as noted-place-reads
+use Rattle.introduces.proofs.is_target_again.Reads as is-target-again-reads
+use Rattle.introduces.proofs.refers_to_row.Reads as refers-to-row-reads
+
+mul-here : tie.Need-mul-here
+mul-here c = search needs
+
+add-here : tie.Need-add-here
+add-here c = search needs
+
+noted-place-requires : tie.Need-noted-place-requires
+noted-place-requires c κs = sound-naming (sound-last (c .before .before .before .before .before .before .before .before .before .args .i) (c .before .before .before .before .before .before .before .before .before .pre .1 .1 .0))
+
+is-target-again-requires : tie.Need-is-target-again-requires
+is-target-again-requires c κs = sound-namings (c .before .before .before .before .before .before .before .before .before .before .pre .1 .1 .0)
+
+returns : tie.Need-returns
+returns c = target-again _ _ _ _ (c .before .before .before .before .before .before .before .before .before .before .before .before .args .reading .now) (c .before .before .before .before .before .before .before .before .before .before .before .before .args .front .now) (c .before .before .before .before .before .before .before .before .before .before .before .before .args .back .now) _ _ _ (c .before .is-target-again .ensures) (c .if1 .taken) (c .before .before .before .before .before .before .before .before .before .before .before .before .pre .1 .1 .1)
+
+refers-to-row-requires : tie.Need-refers-to-row-requires
+refers-to-row-requires c κs = (c .before .before .before .before .before .before .before .before .before .before .before .before .pre .0, (c .before .before .before .before .before .before .before .before .before .before .before .before .pre .1 .0, sound-last (c .before .before .before .before .before .before .before .before .before .before .before .before .args .i) (c .before .before .before .before .before .before .before .before .before .before .before .before .pre .1 .1 .0)))
+
+returns-2 : tie.Need-returns-2
+returns-2 c = search needs
+
+pub refers-first-to-row-spec : {M : Type 1} → statement M
+refers-first-to-row-spec =
+    tie.close
+    (tie.spec
+    mul-here
+    add-here
+    noted-place-requires
+    is-target-again-requires
+    returns
+    refers-to-row-requires
+    returns-2)
