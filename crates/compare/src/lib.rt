@@ -16,7 +16,7 @@ fn same_4(a: &[u8], b: &[u8], at: usize) -> bool
         & (a[at + 3] == b[at + 3])
 }
 
-fn same_16(a: &[u8], b: &[u8], at: usize) -> bool
+pub fn same_16(a: &[u8], b: &[u8], at: usize) -> bool
     requires { ⌜ (at + 16 ≤ length (now a)) × (at + 16 ≤ length (now b)) ⌝ }
     ensures { λ r. ⌜ r ≡ same16 (now (a .entry)) (now (b .entry)) at ⌝ }
 {

@@ -2,14 +2,16 @@
 use mathlib.Core.Path.{_≡_, refl, sym, _∙_}
 use Prim.Native.Nat.{ℕ, suc, _+_, _≤_, _<_}
 use native.Mathlib.Omega.{arith}
-use mathlib.Core.Bool.{Bool, true, false, cond, false≢true, true≢false}
+use mathlib.Core.Bool.{Bool, true, false, cond, _&&_, false≢true, true≢false}
 use mathlib.Core.List.{List, [], _∷_}
 use lib.ListN.{length, getD, drop, drop-of-length-le}
 use lib.Seq.{drop-cons}
 use lib.Dec.{ltb, eqb}
 use borrow.Author.Tests.{lt-ltb, ltb-true, ltb-false, eq-eqb, ne-eqb, eqb-true, eqb-false}
 use Rattle.model.specs.Lists.{same}
+use Rattle.laws.specs.Lists.{both}
 use Rattle.wire.specs.Loops.{by-bool}
+use Rattle.compare.specs.Compare.{same4, same16}
 
 unfoldable pub precedes : List ℕ → List ℕ → Bool
 precedes [] [] = false
@@ -105,3 +107,30 @@ module _ (a b : List ℕ) (i : ℕ) where
     order-next e =
         let q : i + 1 ≡ suc i = omega arith in
         rw (q, drop-cons a i 0 h, drop-cons b i 0 g) (first-same (getD a i 0) (getD b i 0) (precedes (drop (suc i) a) (drop (suc i) b)) e)
+
+-- ---- sixteen at a time
+
+module _ (a b : List ℕ) where
+  order-one : (i j : ℕ) → j ≡ i + 1 → i < length a → i < length b → eqb (getD a i 0) (getD b i 0) ≡ true → precedes (drop i a) (drop i b) ≡ precedes (drop j a) (drop j b)
+  order-one i j e h g t = rw e (order-next a b i h g (eqb-true (getD a i 0) (getD b i 0) t))
+
+  order-four : (i j : ℕ) → j ≡ i + 4 → j ≤ length a → j ≤ length b → same4 a b i ≡ true → precedes (drop i a) (drop i b) ≡ precedes (drop j a) (drop j b)
+  order-four i j e h g t =
+      let x = both (eqb (getD a i 0) (getD b i 0) && eqb (getD a (i + 1) 0) (getD b (i + 1) 0) && eqb (getD a (i + 2) 0) (getD b (i + 2) 0)) (eqb (getD a (i + 3) 0) (getD b (i + 3) 0)) t in
+      let y = both (eqb (getD a i 0) (getD b i 0) && eqb (getD a (i + 1) 0) (getD b (i + 1) 0)) (eqb (getD a (i + 2) 0) (getD b (i + 2) 0)) (x .0) in
+      let z = both (eqb (getD a i 0) (getD b i 0)) (eqb (getD a (i + 1) 0) (getD b (i + 1) 0)) (y .0) in
+      order-one i (i + 1) refl (omega arith) (omega arith) (z .0)
+      ∙ order-one (i + 1) (i + 2) (omega arith) (omega arith) (omega arith) (z .1)
+      ∙ order-one (i + 2) (i + 3) (omega arith) (omega arith) (omega arith) (y .1)
+      ∙ order-one (i + 3) j (omega arith) (omega arith) (omega arith) (x .1)
+
+  pub order-sixteen : (i : ℕ) → i + 16 ≤ length a → i + 16 ≤ length b → {r : Bool} → r ≡ same16 a b i → r ≡ true → precedes (drop i a) (drop i b) ≡ precedes (drop (i + 16) a) (drop (i + 16) b)
+  unfolding same16
+  order-sixteen i h g e t =
+      let x = both (same4 a b i && same4 a b (i + 4) && same4 a b (i + 8)) (same4 a b (i + 12)) (sym e ∙ t) in
+      let y = both (same4 a b i && same4 a b (i + 4)) (same4 a b (i + 8)) (x .0) in
+      let z = both (same4 a b i) (same4 a b (i + 4)) (y .0) in
+      order-four i (i + 4) refl (omega arith) (omega arith) (z .0)
+      ∙ order-four (i + 4) (i + 8) (omega arith) (omega arith) (omega arith) (z .1)
+      ∙ order-four (i + 8) (i + 12) (omega arith) (omega arith) (omega arith) (y .1)
+      ∙ order-four (i + 12) (i + 16) (omega arith) (omega arith) (omega arith) (x .1)
