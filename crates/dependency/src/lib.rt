@@ -1,10 +1,12 @@
 // Number 10, document 01 section 6: a Referenced Format behind the edit's start whose target is the base of an earlier Ruby. A base
 // and a target are compared as plain strings: a string's bytes are found by the index of crate `strings`, and only where its length
-// is the one that is asked for. The walk puts a hash of each base into a Bloom filter, so that a target that is no base seldom has to be
+// is the one that is asked for. The walk puts a key of each base into a Bloom filter, so that a target that is no base seldom has to be
 // compared; a filter takes the bases of some nodes at a time, and each such part costs one walk over the nodes from it on. Bases can be
-// chosen so that they crowd the filter: then the part's bases go into a row of ids that is sorted by their strings, and a target is found by
-// bisection. specs/Bases.antt says what is asked, specs/Sound.antt what number 4 has shown of it, specs/Noted.antt what the filter says,
-// specs/Rows.antt what the row says.
+// chosen so that they crowd the filter, and the filter knows a long string by its ends only: where it does not tell, the part's bases go
+// into a row of ids that is sorted by their strings, and a target is found by bisection. Many nodes may name one long string: by its id, a
+// base goes in where a Ruby names it first, and a target is asked for where a Format names it last. specs/Bases.antt says what is asked,
+// specs/Sound.antt what number 4 has shown of it, specs/Noted.antt what the filter says, specs/Rows.antt what the row says,
+// specs/Named.antt and specs/Later.antt what nodes that name one id share.
 use strings::Plain;
 ghost use mathlib.Core.Path.{_≡_};
 ghost use mathlib.Core.List.{List, [], _++_};
@@ -533,9 +535,9 @@ pub fn noted_place(tape: &[u8], st: store::Store, at: usize, places: &[u64]) -> 
     }
 }
 
-// From how many bytes on a string is so long that it is not to be compared twice: fewer than 8192 of the book's strings are.
+// From how many bytes on a string is so long that it is not to be compared twice: fewer than 4096 of the book's strings are.
 pub fn long_from(bytes: usize) -> usize {
-    let n = bytes / 8192;
+    let n = bytes / 4096;
     if n < LONG_STRING {
         return LONG_STRING;
     }
@@ -878,8 +880,8 @@ fn refers_sorted<'a>(
     requires { ⌜ (n ≤ count) × (base + n ≤ length (now words)) ⌝ }
     ensures { λ r. ⌜ (r ≡ anyUpTo count (refersAmong (storeIn (now (tape .entry)) (now (old .entry) ++ now (new .entry))) from (now (tape .entry)) at n)) × (firstWords base (now (words .exit)) ≡ firstWords base (now (words .entry))) ⌝ }
 {
-    let mut first = [0u64; 8192];
-    let mut last = [0u64; 8192];
+    let mut first = [0u64; 4096];
+    let mut last = [0u64; 4096];
     let long = long_from(old.len() + new.len());
     let a = first_bases(tape, st, at, n, long, &mut first);
     let z = last_targets(tape, st, at, count, from, long, &mut last);

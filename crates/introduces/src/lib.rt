@@ -1,9 +1,10 @@
 // Number 15, document 01 section 7: `introduces_ruby_format_dependency`. A Ruby of the reading and a Referenced Format behind the region, or
 // a Referenced Format of the reading whose target is the base of a Ruby before the region. The bases go into a Bloom filter, so that a
 // target that is no base seldom has to be compared; a filter takes half as many old nodes as it has words, and each such part of the old nodes
-// costs one walk over the reading's. Where bases crowd the filter, those of a part go into a row that is bisected, as number 10 has it. The
-// words have three parts: an index of the old book's strings in an eighth of them, the filter or the row, an index of the reading's strings in
-// the last eighth. Where few are lent, number 15 has words of its own.
+// costs one walk over the reading's. Where the filter does not tell, the bases of a part go into a row that is bisected, as number 10 has it:
+// a long string goes in, and is asked for, once for each id that names it. The words have three parts: an index of the old book's strings in
+// an eighth of them, the filter or the row, an index of the reading's strings in the last eighth. Where few are lent, number 15 has words
+// of its own.
 use strings::Plain;
 ghost use mathlib.Core.Path.{_≡_};
 ghost use mathlib.Core.List.{List, _++_};
@@ -656,8 +657,8 @@ fn refers_by_row<'a, 'b>(
     requires { ⌜ Sound (now reading) own (lastWords middle (now words)) (now front) (now back) place nodes ⌝ }
     ensures { λ r. ⌜ (r ≡ any (refersTo (storeIn (now (tape .entry)) (now (old .entry) ++ now (new .entry))) (recordsAt nodeCodec (now (tape .entry)) at count) (storeIn (now (reading .entry)) (now (front .entry) ++ now (back .entry)))) (recordsAt nodeCodec (now (reading .entry)) place nodes)) × KeptIndexes (now (words .entry)) base middle (now (words .exit)) ⌝ }
 {
-    let mut first = [0u64; 8192];
-    let mut asked = [0u64; 8192];
+    let mut first = [0u64; 4096];
+    let mut asked = [0u64; 4096];
     let a = dependency::first_bases(
         tape,
         st,

@@ -37,13 +37,26 @@ loop-holds : tie.Need-loop-holds Inv-loop μ-loop
 loop-holds c = (omega arith, refl, refl, noted-start _ _ _ _ _ _, missed-none _, omega arith)
 
 refers-among-requires : tie.Need-refers-among-requires Inv-loop μ-loop
-refers-among-requires c κs = (sound-before (sound-index (c .before .before .loop .inv .2) (c .before .before .before .before .before .before .before .pre .0)) (omega (arith, c .before .loop-test .taken)), (omega (arith, c .before .before .before .before .before .before .before .pre .1, c .before .before .loop .inv .1), c .before .before .loop .inv .3))
+refers-among-requires c κs =
+    let turn = c .before .before in
+    let start = turn .before .before .before .before .before in (
+      sound-before (sound-index (turn .loop .inv .2) (start .pre .0)) (omega (arith, c .before .loop-test .taken)),
+      (omega (arith, start .pre .1, turn .loop .inv .1), turn .loop .inv .3),
+    )
 
 same-length : tie.Need-same-length Inv-loop μ-loop
 same-length c = c .before .before .before .before .loop .inv .1
 
 returns : tie.Need-returns Inv-loop μ-loop
-returns c = (told-yes (any-found (refersAmong (storeIn (c .before .before .before .before .before .before .before .before .before .args .tape .now) (c .before .before .before .before .before .before .before .before .before .args .old .now ++ c .before .before .before .before .before .before .before .before .before .args .new .now)) (c .before .before .before .before .before .before .before .before .before .args .from) (c .before .before .before .before .before .before .before .before .before .args .tape .now) (c .before .before .before .before .before .before .before .before .before .args .at) (c .before .before .before .before .before .before .before .before .before .args .n)) _ (c .before .before .before .before .loop .i) (c .before .before .before .loop-test .taken) (sym (c .before .refers-among .ensures .told (λ e. omega (arith, e, c .if1 .taken))) ∙ eq-eqb _ 1 (c .if1 .taken))), c .before .before .before .before .loop .inv .2)
+returns c =
+    let at-loop-test = c .before .before .before in
+    let turn = at-loop-test .before in
+    let start = turn .before .before .before .before .before in
+    let a = start .args in (
+      told-yes (any-found (refersAmong (storeIn (a .tape .now) (a .old .now ++ a .new .now)) (a .from) (a .tape .now) (a .at) (a .n)) _ (turn .loop .i)
+          (at-loop-test .loop-test .taken) (sym (c .before .refers-among .ensures .told (λ e. omega (arith, e, c .if1 .taken))) ∙ eq-eqb _ 1 (c .if1 .taken))),
+      turn .loop .inv .2,
+    )
 
 same-length-2 : tie.Need-same-length-2 Inv-loop μ-loop
 same-length-2 c = c .before .before .before .before .before .loop .inv .1
@@ -61,7 +74,13 @@ returns-3 : tie.Need-returns-3 Inv-loop μ-loop
 returns-3 c = (told-not, c .before .before .before .before .before .before .before .loop .inv .2)
 
 note-first-requires : tie.Need-note-first-requires Inv-loop μ-loop
-note-first-requires c κs = (sound-node (sound-index (c .before .before .before .before .before .before .before .before .loop .inv .2) (c .before .before .before .before .before .before .before .before .before .before .before .before .before .pre .0)) (c .before .before .before .before .before .before .before .loop-test .taken), (omega (arith, c .before .before .before .before .before .before .before .before .before .before .before .before .before .pre .1, c .before .before .before .before .before .before .before .before .loop .inv .1), c .before .before .before .before .before .before .before .before .loop .inv .3))
+note-first-requires c κs =
+    let at-loop-test = c .before .before .before .before .before .before .before in
+    let turn = at-loop-test .before in
+    let start = turn .before .before .before .before .before in (
+      sound-node (sound-index (turn .loop .inv .2) (start .pre .0)) (at-loop-test .loop-test .taken),
+      (omega (arith, start .pre .1, turn .loop .inv .1), turn .loop .inv .3),
+    )
 
 add-i : tie.Need-add-i Inv-loop μ-loop
 add-i c = omega arith
@@ -70,22 +89,36 @@ loop-less : tie.Need-loop-less Inv-loop μ-loop
 loop-less c = omega arith
 
 loop-again : tie.Need-loop-again Inv-loop μ-loop
-loop-again c = (
-  omega arith,
-  (c .before .before .note-first .kept .1 .1 .0) ∙ (c .before .before .before .before .before .before .before .before .before .before .before .loop .inv .1),
-  (c .before .before .note-first .ensures .0) ∙ (c .before .before .before .before .before .before .before .before .before .before .before .loop .inv .2),
-  c .before .before .note-first .ensures .1,
-  missed-more (refersAmong (storeIn (c .before .before .before .before .before .before .before .before .before .before .before .before .before .before .before .before .args .tape .now) (c .before .before .before .before .before .before .before .before .before .before .before .before .before .before .before .before .args .old .now ++ c .before .before .before .before .before .before .before .before .before .before .before .before .before .before .before .before .args .new .now)) (c .before .before .before .before .before .before .before .before .before .before .before .before .before .before .before .before .args .from) (c .before .before .before .before .before .before .before .before .before .before .before .before .before .before .before .before .args .tape .now) (c .before .before .before .before .before .before .before .before .before .before .before .before .before .before .before .before .args .at) (c .before .before .before .before .before .before .before .before .before .before .before .before .before .before .before .before .args .n)) (c .before .before .before .before .before .before .before .before .before .before .before .loop .i) (c .before .before .before .before .before .before .before .before .before .before .before .loop .inv .4) (sym (c .before .before .before .before .before .before .before .before .refers-among .ensures .told (c .before .before .before .before .before .before .if2 .left)) ∙ ne-eqb _ 1 (c .before .before .before .before .before .before .before .if1 .left)),
-  c .before .before .before .before .if3 .left,
-)
+loop-again c =
+    let at-note-first = c .before .before in
+    let at-if3 = at-note-first .before .before in
+    let at-if2 = at-if3 .before .before in
+    let at-if1 = at-if2 .before in
+    let at-refers-among = at-if1 .before in
+    let turn = at-refers-among .before .before .before in
+    let start = turn .before .before .before .before .before in
+    let a = start .args in (
+      omega arith,
+      (at-note-first .note-first .kept .1 .1 .0) ∙ (turn .loop .inv .1),
+      (at-note-first .note-first .ensures .0) ∙ (turn .loop .inv .2),
+      at-note-first .note-first .ensures .1,
+      missed-more (refersAmong (storeIn (a .tape .now) (a .old .now ++ a .new .now)) (a .from) (a .tape .now) (a .at) (a .n)) (turn .loop .i) (turn .loop .inv .4) (sym
+          (at-refers-among .refers-among .ensures .told (at-if2 .if2 .left)) ∙ ne-eqb _ 1 (at-if1 .if1 .left)),
+      at-if3 .if3 .left,
+    )
 
 same-length-4 : tie.Need-same-length-4 Inv-loop μ-loop
 same-length-4 c = c .before .loop .inv .1
 
 returns-4 : tie.Need-returns-4 Inv-loop μ-loop
 returns-4 c =
-    let e : c .before .before .before .before .before .before .args .count ≡ c .before .loop .i = omega arith in
-    (told-no (ap (λ (k : ℕ). anyUpTo k (refersAmong (storeIn (c .before .before .before .before .before .before .args .tape .now) (c .before .before .before .before .before .before .args .old .now ++ c .before .before .before .before .before .before .args .new .now)) (c .before .before .before .before .before .before .args .from) (c .before .before .before .before .before .before .args .tape .now) (c .before .before .before .before .before .before .args .at) (c .before .before .before .before .before .before .args .n))) e ∙ any-missed (refersAmong (storeIn (c .before .before .before .before .before .before .args .tape .now) (c .before .before .before .before .before .before .args .old .now ++ c .before .before .before .before .before .before .args .new .now)) (c .before .before .before .before .before .before .args .from) (c .before .before .before .before .before .before .args .tape .now) (c .before .before .before .before .before .before .args .at) (c .before .before .before .before .before .before .args .n)) (c .before .loop .i) (c .before .loop .inv .4)), c .before .loop .inv .2)
+    let start = c .before .before .before .before .before .before in
+    let a = start .args in
+    let e : a .count ≡ c .before .loop .i = omega arith in (
+      told-no (ap (λ (k : ℕ). anyUpTo k (refersAmong (storeIn (a .tape .now) (a .old .now ++ a .new .now)) (a .from) (a .tape .now) (a .at) (a .n))) e ∙ any-missed (refersAmong
+          (storeIn (a .tape .now) (a .old .now ++ a .new .now)) (a .from) (a .tape .now) (a .at) (a .n)) (c .before .loop .i) (c .before .loop .inv .4)),
+      c .before .loop .inv .2,
+    )
 
 pub any-refers-among-spec : {M : Type 1} → statement M
 any-refers-among-spec =

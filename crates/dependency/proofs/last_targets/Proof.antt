@@ -21,7 +21,10 @@ sub-note-target-place : tie.Need-sub-note-target-place Inv-loop μ-loop
 sub-note-target-place c = omega arith
 
 note-target-place-requires : tie.Need-note-target-place-requires Inv-loop μ-loop
-note-target-place-requires c κs = (c .before .before .before .before .before .pre .node (c .before .before .loop .n - 1) (omega (arith, c .before .before .loop .inv, c .before .loop-test .taken)), omega (arith, c .before .before .loop .inv))
+note-target-place-requires c κs =
+    let turn = c .before .before in
+    let start = turn .before .before .before in
+    (start .pre .node (turn .loop .n - 1) (omega (arith, turn .loop .inv, c .before .loop-test .taken)), omega (arith, turn .loop .inv))
 
 sub-n : tie.Need-sub-n Inv-loop μ-loop
 sub-n c = omega arith
@@ -30,7 +33,10 @@ loop-less : tie.Need-loop-less Inv-loop μ-loop
 loop-less c = omega arith
 
 loop-again : tie.Need-loop-again Inv-loop μ-loop
-loop-again c = (omega arith, omega arith, omega (arith, c .before .before .note-target-place .ensures, c .before .before .before .before .before .loop .inv))
+loop-again c =
+    let at-note-target-place = c .before .before in
+    let turn = at-note-target-place .before .before .before in
+    (omega arith, omega arith, omega (arith, at-note-target-place .note-target-place .ensures, turn .loop .inv))
 
 same-length : tie.Need-same-length Inv-loop μ-loop
 same-length c = c .before .loop .inv .1

@@ -13,22 +13,39 @@ is-ruby-requires : tie.Need-is-ruby-requires
 is-ruby-requires c κs = search needs
 
 first-plain-requires : tie.Need-first-plain-requires
-first-plain-requires c κs = (c .before .before .before .pre .store, (c .before .before .before .pre .inside, c .before .before .before .pre .ruby (sym (c .before .is-ruby .ensures) ∙ (c .if1 .taken))))
+first-plain-requires c κs =
+    let start = c .before .before .before in
+    (start .pre .store, (start .pre .inside, start .pre .ruby (sym (c .before .is-ruby .ensures) ∙ (c .if1 .taken))))
 
 returns : tie.Need-returns
-returns c = (named-ruby _ _ (c .before .before .is-ruby .ensures) (c .before .if1 .taken) (c .first-plain .ensures), c .before .before .before .before .pre .plain (c .first-plain .ensures))
+returns c =
+    let at-is-ruby = c .before .before in
+    let start = at-is-ruby .before .before in
+    (named-ruby _ _ (at-is-ruby .is-ruby .ensures) (c .before .if1 .taken) (c .first-plain .ensures), start .pre .plain (c .first-plain .ensures))
 
 is-referenced-format-requires : tie.Need-is-referenced-format-requires
 is-referenced-format-requires c κs = search needs
 
 first-plain-requires-2 : tie.Need-first-plain-requires-2
-first-plain-requires-2 c κs = (c .before .before .before .before .before .pre .store, (c .before .before .before .before .before .pre .inside, c .before .before .before .before .before .pre .format (sym (c .before .is-referenced-format .ensures) ∙ (c .if2 .taken))))
+first-plain-requires-2 c κs =
+    let start = c .before .before .before .before .before in
+    (start .pre .store, (start .pre .inside, start .pre .format (sym (c .before .is-referenced-format .ensures) ∙ (c .if2 .taken))))
 
 returns-2 : tie.Need-returns-2
-returns-2 c = (named-format _ _ (c .before .before .before .before .is-ruby .ensures) (c .before .before .before .if1 .left) (c .before .before .is-referenced-format .ensures) (c .before .if2 .taken) (c .first-plain2 .ensures), c .before .before .before .before .before .before .pre .plain (c .first-plain2 .ensures))
+returns-2 c =
+    let at-is-referenced-format = c .before .before in
+    let at-if1 = at-is-referenced-format .before in
+    let at-is-ruby = at-if1 .before in
+    let start = at-is-ruby .before .before in (
+      named-format _ _ (at-is-ruby .is-ruby .ensures) (at-if1 .if1 .left) (at-is-referenced-format .is-referenced-format .ensures) (c .before .if2 .taken) (c .first-plain2 .ensures),
+      start .pre .plain (c .first-plain2 .ensures),
+    )
 
 returns-3 : tie.Need-returns-3
-returns-3 c = (named-none _ _ (c .before .before .before .is-ruby .ensures) (c .before .before .if1 .left) (c .before .is-referenced-format .ensures) (c .if2 .left), nothing-in)
+returns-3 c =
+    let at-if1 = c .before .before in
+    let at-is-ruby = at-if1 .before in
+    (named-none _ _ (at-is-ruby .is-ruby .ensures) (at-if1 .if1 .left) (c .before .is-referenced-format .ensures) (c .if2 .left), nothing-in)
 
 pub named-spec : {M : Type 1} → statement M
 named-spec =

@@ -24,19 +24,35 @@ asks-target-requires : tie.Need-asks-target-requires
 asks-target-requires c κs = search needs
 
 returns : tie.Need-returns
-returns c = told-no (sym (refers-other _ _ _ _ refl (sound-last (c .before .before .before .before .before .before .args .i) (c .before .before .before .before .before .before .pre .0)) (c .before .asks-target .ensures) (not-true _ (c .if1 .taken))))
+returns c =
+    let start = c .before .before .before .before .before .before in
+    told-no (sym (refers-other _ _ _ _ refl (sound-last (start .args .i) (start .pre .0)) (c .before .asks-target .ensures) (not-true _ (c .if1 .taken))))
 
 first-plain-requires : tie.Need-first-plain-requires
-first-plain-requires c κs = (c .before .before .before .before .before .before .pre .0 .strings .sides .store, ((sound-last (c .before .before .before .before .before .before .args .i) (c .before .before .before .before .before .before .pre .0)) .inside, format-first (sound-last (c .before .before .before .before .before .before .args .i) (c .before .before .before .before .before .before .pre .0)) _ (c .before .asks-target .ensures) (not-false _ (c .if1 .left))))
+first-plain-requires c κs =
+    let start = c .before .before .before .before .before .before in (
+      start .pre .0 .strings .sides .store,
+      ((sound-last (start .args .i) (start .pre .0)) .inside, format-first (sound-last (start .args .i) (start .pre .0)) _ (c .before .asks-target .ensures) (not-false _ (c .if1 .left))),
+    )
 
 smaller-requires : tie.Need-smaller-requires
 smaller-requires c κs = search needs
 
 is-target-base-requires : tie.Need-is-target-base-requires
-is-target-base-requires c κs = (sound-before (c .before .before .before .before .before .before .before .before .pre .0) (omega (arith, c .smaller .ensures)), (c .before .before .before .before .before .before .before .before .pre .1 .0, (noted-few _ _ _ _ _ _ _ (c .before .before .before .before .before .before .before .before .pre .1 .1) _ (c .smaller .ensures), plain-inside (sound-last (c .before .before .before .before .before .before .before .before .args .i) (c .before .before .before .before .before .before .before .before .pre .0)) (c .before .first-plain .ensures))))
+is-target-base-requires c κs =
+    let start = c .before .before .before .before .before .before .before .before in (
+      sound-before (start .pre .0) (omega (arith, c .smaller .ensures)),
+      (start .pre .1 .0, (noted-few _ _ _ _ _ _ _ (start .pre .1 .1) _ (c .smaller .ensures), plain-inside (sound-last (start .args .i) (start .pre .0)) (c .before .first-plain .ensures))),
+    )
 
 returns-2 : tie.Need-returns-2
-returns-2 c = told-as (c .is-target-base .ensures) (refers-target _ _ _ _ refl (sound-last (c .before .before .before .before .before .before .before .before .before .args .i) (c .before .before .before .before .before .before .before .before .before .pre .0)) (c .before .before .before .before .asks-target .ensures) (not-false _ (c .before .before .before .if1 .left)) (c .before .before .first-plain .ensures) (c .before .smaller .ensures) refl)
+returns-2 c =
+    let at-first-plain = c .before .before in
+    let at-if1 = at-first-plain .before in
+    let at-asks-target = at-if1 .before in
+    let start = at-asks-target .before .before .before .before .before in
+    told-as (c .is-target-base .ensures) (refers-target _ _ _ _ refl (sound-last (start .args .i) (start .pre .0)) (at-asks-target .asks-target .ensures) (not-false _
+    (at-if1 .if1 .left)) (at-first-plain .first-plain .ensures) (c .before .smaller .ensures) refl)
 
 pub refers-among-spec : {M : Type 1} → statement M
 refers-among-spec =

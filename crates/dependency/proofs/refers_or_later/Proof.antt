@@ -21,19 +21,31 @@ add-place : tie.Need-add-place
 add-place c = search needs
 
 noted-place-requires : tie.Need-noted-place-requires
-noted-place-requires c κs = sound-naming (sound-node (c .before .before .before .before .before .pre .0) (c .before .before .before .before .before .pre .1 .0 .0))
+noted-place-requires c κs =
+    let start = c .before .before .before .before .before in
+    sound-naming (sound-node (start .pre .0) (start .pre .1 .0 .0))
 
 asks-again-requires : tie.Need-asks-again-requires
-asks-again-requires c κs = (sound-namings (c .before .before .before .before .before .before .pre .0), c .before .before .before .before .before .before .pre .1 .0 .0)
+asks-again-requires c κs =
+    let start = c .before .before .before .before .before .before in
+    (sound-namings (start .pre .0), start .pre .1 .0 .0)
 
 returns : tie.Need-returns
-returns c = settled-later (c .before .before .before .before .before .before .before .before .args .tape .now) (c .before .before .before .before .before .before .before .before .args .old .now) (c .before .before .before .before .before .before .before .before .args .new .now) _ _ _ _ _ _ (c .before .asks-again .ensures) (c .if1 .taken)
+returns c =
+    let start = c .before .before .before .before .before .before .before .before in
+    settled-later (start .args .tape .now) (start .args .old .now) (start .args .new .now) _ _ _ _ _ _ (c .before .asks-again .ensures) (c .if1 .taken)
 
 refers-to-row-requires : tie.Need-refers-to-row-requires
-refers-to-row-requires c κs = (sound-node (c .before .before .before .before .before .before .before .before .pre .0) (c .before .before .before .before .before .before .before .before .pre .1 .0 .0), (c .before .before .before .before .before .before .before .before .pre .1 .0 .1, c .before .before .before .before .before .before .before .before .pre .1 .1 .row))
+refers-to-row-requires c κs =
+    let start = c .before .before .before .before .before .before .before .before in
+    (sound-node (start .pre .0) (start .pre .1 .0 .0), (start .pre .1 .0 .1, start .pre .1 .1 .row))
 
 returns-2 : tie.Need-returns-2
-returns-2 c = settled-here (refersAmong (storeIn (c .before .before .before .before .before .before .before .before .before .args .tape .now) (c .before .before .before .before .before .before .before .before .before .args .old .now ++ c .before .before .before .before .before .before .before .before .before .args .new .now)) (c .before .before .before .before .before .before .before .before .before .args .from) (c .before .before .before .before .before .before .before .before .before .args .tape .now) (c .before .before .before .before .before .before .before .before .before .args .at) (c .before .before .before .before .before .before .before .before .before .args .n)) _ _ (rowed-refers _ _ _ _ _ (c .before .before .before .before .before .before .before .before .before .pre .1 .1) (c .refers-to-row .ensures))
+returns-2 c =
+    let start = c .before .before .before .before .before .before .before .before .before in
+    let a = start .args in
+    settled-here (refersAmong (storeIn (a .tape .now) (a .old .now ++ a .new .now)) (a .from) (a .tape .now) (a .at) (a .n)) _ _ (rowed-refers _ _ _ _ _ (start .pre .1 .1)
+    (c .refers-to-row .ensures))
 
 pub refers-or-later-spec : {M : Type 1} → statement M
 refers-or-later-spec =

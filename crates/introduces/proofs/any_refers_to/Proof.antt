@@ -36,11 +36,20 @@ add-refers-to : tie.Need-add-refers-to Inv-loop μ-loop
 add-refers-to c = omega (arith, c .before .before .before .before .before .before .before .before .before .before .pre .1 .1 .1 .inside)
 
 refers-to-requires : tie.Need-refers-to-requires Inv-loop μ-loop
-refers-to-requires c κs = (c .before .before .before .before .before .before .before .before .before .before .pre .0, (c .before .before .before .before .before .before .before .before .before .before .pre .1 .0, (c .before .before .before .before .before .before .before .before .before .before .pre .1 .1 .0, sound-node (c .before .before .before .before .before .before .before .before .before .before .pre .1 .1 .1) (c .loop-test .taken))))
+refers-to-requires c κs =
+    let start = c .before .before .before .before .before .before .before .before .before .before in
+    (start .pre .0, (start .pre .1 .0, (start .pre .1 .1 .0, sound-node (start .pre .1 .1 .1) (c .loop-test .taken))))
 
 returns : tie.Need-returns Inv-loop μ-loop
 unfolding nodeCodec
-returns c = told-yes (sym (run-found nodeCodec (refersTo (storeIn (c .before .before .before .before .before .before .before .before .before .before .before .before .args .tape .now) (c .before .before .before .before .before .before .before .before .before .before .before .before .args .old .now ++ c .before .before .before .before .before .before .before .before .before .before .before .before .args .new .now)) (recordsAt nodeCodec (c .before .before .before .before .before .before .before .before .before .before .before .before .args .tape .now) (c .before .before .before .before .before .before .before .before .before .before .before .before .args .at) (c .before .before .before .before .before .before .before .before .before .before .before .before .args .count)) (storeIn (c .before .before .before .before .before .before .before .before .before .before .before .before .args .reading .now) (c .before .before .before .before .before .before .before .before .before .before .before .before .args .front .now ++ c .before .before .before .before .before .before .before .before .before .before .before .before .args .back .now))) (c .before .before .before .before .before .before .before .before .before .before .before .before .args .reading .now) (c .before .before .before .before .before .before .before .before .before .before .before .before .args .place) (c .before .before .before .loop .i) _ refl _ (c .before .refers-to .ensures .told (λ e. omega (arith, e, c .if1 .taken))) _ (c .before .before .loop-test .taken) (eq-eqb _ 1 (c .if1 .taken))))
+returns c =
+    let at-loop-test = c .before .before in
+    let turn = at-loop-test .before in
+    let start = turn .before .before .before .before .before .before .before .before .before in
+    let a = start .args in
+    told-yes (sym (run-found nodeCodec (refersTo (storeIn (a .tape .now) (a .old .now ++ a .new .now)) (recordsAt nodeCodec (a .tape .now) (a .at) (a .count)) (storeIn
+    (a .reading .now) (a .front .now ++ a .back .now))) (a .reading .now) (a .place) (turn .loop .i) _ refl _ (c .before .refers-to .ensures .told (λ e. omega
+    (arith, e, c .if1 .taken))) _ (at-loop-test .loop-test .taken) (eq-eqb _ 1 (c .if1 .taken))))
 
 returns-2 : tie.Need-returns-2 Inv-loop μ-loop
 returns-2 c = told-not
@@ -59,14 +68,26 @@ loop-less c = omega arith
 
 loop-again : tie.Need-loop-again Inv-loop μ-loop
 unfolding nodeCodec
-loop-again c = (
-  omega arith,
-  run-missed nodeCodec (refersTo (storeIn (c .before .before .before .before .before .before .before .before .before .before .before .before .before .before .before .args .tape .now) (c .before .before .before .before .before .before .before .before .before .before .before .before .before .before .before .args .old .now ++ c .before .before .before .before .before .before .before .before .before .before .before .before .before .before .before .args .new .now)) (recordsAt nodeCodec (c .before .before .before .before .before .before .before .before .before .before .before .before .before .before .before .args .tape .now) (c .before .before .before .before .before .before .before .before .before .before .before .before .before .before .before .args .at) (c .before .before .before .before .before .before .before .before .before .before .before .before .before .before .before .args .count)) (storeIn (c .before .before .before .before .before .before .before .before .before .before .before .before .before .before .before .args .reading .now) (c .before .before .before .before .before .before .before .before .before .before .before .before .before .before .before .args .front .now ++ c .before .before .before .before .before .before .before .before .before .before .before .before .before .before .before .args .back .now))) (c .before .before .before .before .before .before .before .before .before .before .before .before .before .before .before .args .reading .now) (c .before .before .before .before .before .before .before .before .before .before .before .before .before .before .before .args .place) (c .before .before .before .before .before .before .loop .i) _ refl _ (c .before .before .before .before .refers-to .ensures .told (c .before .before .if2 .left)) (ne-eqb _ 1 (c .before .before .before .if1 .left)) (c .before .before .before .before .before .before .loop .inv .1),
-  c .if3 .left,
-)
+loop-again c =
+    let at-if2 = c .before .before in
+    let at-if1 = at-if2 .before in
+    let at-refers-to = at-if1 .before in
+    let turn = at-refers-to .before .before in
+    let start = turn .before .before .before .before .before .before .before .before .before in
+    let a = start .args in (
+      omega arith,
+      run-missed nodeCodec (refersTo (storeIn (a .tape .now) (a .old .now ++ a .new .now)) (recordsAt nodeCodec (a .tape .now) (a .at) (a .count)) (storeIn (a .reading .now)
+          (a .front .now ++ a .back .now))) (a .reading .now) (a .place) (turn .loop .i) _ refl _ (at-refers-to .refers-to .ensures .told (at-if2 .if2 .left)) (ne-eqb _ 1
+          (at-if1 .if1 .left)) (turn .loop .inv .1),
+      c .if3 .left,
+    )
 
 returns-4 : tie.Need-returns-4 Inv-loop μ-loop
-returns-4 c = told-no (sym (run-nowhere nodeCodec (refersTo (storeIn (c .before .before .before .before .before .before .before .before .before .before .args .tape .now) (c .before .before .before .before .before .before .before .before .before .before .args .old .now ++ c .before .before .before .before .before .before .before .before .before .before .args .new .now)) (recordsAt nodeCodec (c .before .before .before .before .before .before .before .before .before .before .args .tape .now) (c .before .before .before .before .before .before .before .before .before .before .args .at) (c .before .before .before .before .before .before .before .before .before .before .args .count)) (storeIn (c .before .before .before .before .before .before .before .before .before .before .args .reading .now) (c .before .before .before .before .before .before .before .before .before .before .args .front .now ++ c .before .before .before .before .before .before .before .before .before .before .args .back .now))) (c .before .before .before .before .before .before .before .before .before .before .args .reading .now) (c .before .before .before .before .before .before .before .before .before .before .args .place) _ (c .before .loop .i) (omega arith) (c .before .loop .inv .1)))
+returns-4 c =
+    let start = c .before .before .before .before .before .before .before .before .before .before in
+    let a = start .args in
+    told-no (sym (run-nowhere nodeCodec (refersTo (storeIn (a .tape .now) (a .old .now ++ a .new .now)) (recordsAt nodeCodec (a .tape .now) (a .at) (a .count)) (storeIn
+    (a .reading .now) (a .front .now ++ a .back .now))) (a .reading .now) (a .place) _ (c .before .loop .i) (omega arith) (c .before .loop .inv .1)))
 
 pub any-refers-to-spec : {M : Type 1} → statement M
 any-refers-to-spec =

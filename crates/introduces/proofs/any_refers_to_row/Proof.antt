@@ -26,11 +26,19 @@ loop-holds : tie.Need-loop-holds Inv-loop μ-loop
 loop-holds c = (omega arith, missed-none _)
 
 refers-first-to-row-requires : tie.Need-refers-first-to-row-requires Inv-loop μ-loop
-refers-first-to-row-requires c κs = (c .before .before .before .before .before .before .before .before .before .before .before .pre .0, (c .before .before .before .before .before .before .before .before .before .before .before .pre .1 .0, (sound-before (c .before .before .before .before .before .before .before .before .before .before .before .pre .1 .1) (omega (arith, c .loop-test .taken)), c .before .loop .inv .1)))
+refers-first-to-row-requires c κs =
+    let start = c .before .before .before .before .before .before .before .before .before .before .before in
+    (start .pre .0, (start .pre .1 .0, (sound-before (start .pre .1 .1) (omega (arith, c .loop-test .taken)), c .before .loop .inv .1)))
 
 returns : tie.Need-returns Inv-loop μ-loop
 unfolding nodeCodec
-returns c = run-found nodeCodec (refersToRow (storeIn (c .before .before .before .before .before .before .before .before .before .before .before .before .before .args .tape .now) (c .before .before .before .before .before .before .before .before .before .before .before .before .before .args .old .now ++ c .before .before .before .before .before .before .before .before .before .before .before .before .before .args .new .now)) (c .before .before .before .before .before .before .before .before .before .before .before .before .before .args .words .now) (c .before .before .before .before .before .before .before .before .before .before .before .before .before .args .base) (c .before .before .before .before .before .before .before .before .before .before .before .before .before .args .m) (storeIn (c .before .before .before .before .before .before .before .before .before .before .before .before .before .args .reading .now) (c .before .before .before .before .before .before .before .before .before .before .before .before .before .args .front .now ++ c .before .before .before .before .before .before .before .before .before .before .before .before .before .args .back .now))) (c .before .before .before .before .before .before .before .before .before .before .before .before .before .args .reading .now) (c .before .before .before .before .before .before .before .before .before .before .before .before .before .args .place) (c .before .before .before .loop .i) _ refl _ (c .before .refers-first-to-row .ensures) _ (c .before .before .loop-test .taken) (c .if1 .taken)
+returns c =
+    let at-loop-test = c .before .before in
+    let turn = at-loop-test .before in
+    let start = turn .before .before .before .before .before .before .before .before .before .before in
+    let a = start .args in
+    run-found nodeCodec (refersToRow (storeIn (a .tape .now) (a .old .now ++ a .new .now)) (a .words .now) (a .base) (a .m) (storeIn (a .reading .now)
+    (a .front .now ++ a .back .now))) (a .reading .now) (a .place) (turn .loop .i) _ refl _ (c .before .refers-first-to-row .ensures) _ (at-loop-test .loop-test .taken) (c .if1 .taken)
 
 add-i : tie.Need-add-i Inv-loop μ-loop
 add-i c = omega arith
@@ -40,10 +48,21 @@ loop-less c = omega arith
 
 loop-again : tie.Need-loop-again Inv-loop μ-loop
 unfolding nodeCodec
-loop-again c = (omega arith, run-missed nodeCodec (refersToRow (storeIn (c .before .before .before .before .before .before .before .before .before .before .before .before .before .args .tape .now) (c .before .before .before .before .before .before .before .before .before .before .before .before .before .args .old .now ++ c .before .before .before .before .before .before .before .before .before .before .before .before .before .args .new .now)) (c .before .before .before .before .before .before .before .before .before .before .before .before .before .args .words .now) (c .before .before .before .before .before .before .before .before .before .before .before .before .before .args .base) (c .before .before .before .before .before .before .before .before .before .before .before .before .before .args .m) (storeIn (c .before .before .before .before .before .before .before .before .before .before .before .before .before .args .reading .now) (c .before .before .before .before .before .before .before .before .before .before .before .before .before .args .front .now ++ c .before .before .before .before .before .before .before .before .before .before .before .before .before .args .back .now))) (c .before .before .before .before .before .before .before .before .before .before .before .before .before .args .reading .now) (c .before .before .before .before .before .before .before .before .before .before .before .before .before .args .place) (c .before .before .before .loop .i) _ refl _ (c .before .refers-first-to-row .ensures) (c .if1 .left) (c .before .before .before .loop .inv .1))
+loop-again c =
+    let turn = c .before .before .before in
+    let start = turn .before .before .before .before .before .before .before .before .before .before in
+    let a = start .args in (
+      omega arith,
+      run-missed nodeCodec (refersToRow (storeIn (a .tape .now) (a .old .now ++ a .new .now)) (a .words .now) (a .base) (a .m) (storeIn (a .reading .now)
+          (a .front .now ++ a .back .now))) (a .reading .now) (a .place) (turn .loop .i) _ refl _ (c .before .refers-first-to-row .ensures) (c .if1 .left) (turn .loop .inv .1),
+    )
 
 returns-2 : tie.Need-returns-2 Inv-loop μ-loop
-returns-2 c = run-nowhere nodeCodec (refersToRow (storeIn (c .before .before .before .before .before .before .before .before .before .before .before .args .tape .now) (c .before .before .before .before .before .before .before .before .before .before .before .args .old .now ++ c .before .before .before .before .before .before .before .before .before .before .before .args .new .now)) (c .before .before .before .before .before .before .before .before .before .before .before .args .words .now) (c .before .before .before .before .before .before .before .before .before .before .before .args .base) (c .before .before .before .before .before .before .before .before .before .before .before .args .m) (storeIn (c .before .before .before .before .before .before .before .before .before .before .before .args .reading .now) (c .before .before .before .before .before .before .before .before .before .before .before .args .front .now ++ c .before .before .before .before .before .before .before .before .before .before .before .args .back .now))) (c .before .before .before .before .before .before .before .before .before .before .before .args .reading .now) (c .before .before .before .before .before .before .before .before .before .before .before .args .place) _ (c .before .loop .i) (omega arith) (c .before .loop .inv .1)
+returns-2 c =
+    let start = c .before .before .before .before .before .before .before .before .before .before .before in
+    let a = start .args in
+    run-nowhere nodeCodec (refersToRow (storeIn (a .tape .now) (a .old .now ++ a .new .now)) (a .words .now) (a .base) (a .m) (storeIn (a .reading .now)
+    (a .front .now ++ a .back .now))) (a .reading .now) (a .place) _ (c .before .loop .i) (omega arith) (c .before .loop .inv .1)
 
 pub any-refers-to-row-spec : {M : Type 1} → statement M
 any-refers-to-row-spec =

@@ -14,13 +14,19 @@ enum-known-p : tie.Need-enum-known-p
 enum-known-p c = search needs
 
 resolve-str-requires : tie.Need-resolve-str-requires
-resolve-str-requires c κs = (c .before .before .before .before .before .before .before .before .before .before .before .pre .1 .1 .1 .0, c .before .before .before .before .before .before .before .before .before .before .before .pre .1 .1 .1 .1 .inside _ (c .before .p .given .1))
+resolve-str-requires c κs =
+    let start = c .before .before .before .before .before .before .before .before .before .before .before in
+    (start .pre .1 .1 .1 .0, start .pre .1 .1 .1 .1 .inside _ (c .before .p .given .1))
 
 is-filtered-base-requires : tie.Need-is-filtered-base-requires
 is-filtered-base-requires c κs = search needs
 
 returns : tie.Need-returns
-returns c = told-as (c .is-filtered-base .ensures) (target-some _ _ _ _ (c .before .before .before .p .given .1) (c .before .resolve-str .ensures ∙ shown-str (c .before .before .before .before .before .before .before .before .before .before .before .before .before .pre .1 .1 .1 .0 .sides) _ (c .before .before .before .before .before .before .before .before .before .before .before .before .before .pre .1 .1 .1 .1 .inside _ (c .before .before .before .p .given .1))) refl)
+returns c =
+    let at-p = c .before .before .before in
+    let start = at-p .before .before .before .before .before .before .before .before .before .before in
+    told-as (c .is-filtered-base .ensures) (target-some _ _ _ _ (at-p .p .given .1) (c .before .resolve-str .ensures ∙ shown-str (start .pre .1 .1 .1 .0 .sides) _
+    (start .pre .1 .1 .1 .1 .inside _ (at-p .p .given .1))) refl)
 
 enum-told : tie.Need-enum-told
 enum-told c = search needs

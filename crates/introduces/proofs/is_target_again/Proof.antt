@@ -30,16 +30,28 @@ add-same-named : tie.Need-add-same-named
 add-same-named c = omega (arith, (c .before .before .before .before .pre .node (c .before .before .before .before .args .i) (omega arith)) .inside)
 
 mul-same-named-2 : tie.Need-mul-same-named-2
-mul-same-named-2 c = omega (arith, (c .before .before .before .before .pre .node (c .before .before .before .before .args .v) (omega (arith, c .before .before .if1 .left))) .inside)
+mul-same-named-2 c =
+    let at-if1 = c .before .before in
+    let start = at-if1 .before .before in
+    omega (arith, (start .pre .node (start .args .v) (omega (arith, at-if1 .if1 .left))) .inside)
 
 add-same-named-2 : tie.Need-add-same-named-2
-add-same-named-2 c = omega (arith, (c .before .before .before .before .pre .node (c .before .before .before .before .args .v) (omega (arith, c .before .before .if1 .left))) .inside)
+add-same-named-2 c =
+    let at-if1 = c .before .before in
+    let start = at-if1 .before .before in
+    omega (arith, (start .pre .node (start .args .v) (omega (arith, at-if1 .if1 .left))) .inside)
 
 same-named-requires : tie.Need-same-named-requires
-same-named-requires c κs = ((c .before .before .before .before .pre .node (c .before .before .before .before .args .i) (omega arith)), (c .before .before .before .before .pre .node (c .before .before .before .before .args .v) (omega (arith, c .before .before .if1 .left))))
+same-named-requires c κs =
+    let at-if1 = c .before .before in
+    let start = at-if1 .before .before in
+    ((start .pre .node (start .args .i) (omega arith)), (start .pre .node (start .args .v) (omega (arith, at-if1 .if1 .left))))
 
 returns-3 : tie.Need-returns-3
-returns-3 c = target-same _ _ _ _ (c .before .before .before .if1 .left) (c .before .before .is-referenced-format .ensures) (not-false _ (c .before .if2 .left)) (c .same-named .ensures)
+returns-3 c =
+    let at-is-referenced-format = c .before .before in
+    let at-if1 = at-is-referenced-format .before in
+    target-same _ _ _ _ (at-if1 .if1 .left) (at-is-referenced-format .is-referenced-format .ensures) (not-false _ (c .before .if2 .left)) (c .same-named .ensures)
 
 pub is-target-again-spec : {M : Type 1} → statement M
 is-target-again-spec =

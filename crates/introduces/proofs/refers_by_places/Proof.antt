@@ -47,20 +47,33 @@ part-any-refers-to-row-end-2 : tie.Need-part-any-refers-to-row-end-2
 part-any-refers-to-row-end-2 c = search needs
 
 any-refers-to-row-requires : tie.Need-any-refers-to-row-requires
-any-refers-to-row-requires c κs = (
-  (sound-index (first-kept (c .before .before .before .before .before .before .before .before .before .before .before .before .before .before .before .before .args .words .now) (c .before .before .before .before .before .before .before .before .before .before .before .before .before .before .before .before .args .middle) (c .before .before .before .before .before .before .before .before .before .before .before .before .before .before .before .before .pre .0 .1) (c .before .before .before .before .before .row-of .last .1 .1 .0) (c .before .before .before .before .before .row-of .kept .1 .1 .0) (c .before .before .before .before .before .before .before .before .before .before .before .before .before .before .before .before .args .base) (c .before .before .before .before .before .row-of .ensures .0) .first) (c .before .before .before .before .before .before .before .before .before .before .before .before .before .before .before .before .pre .1 .0)) .strings,
-  ((rowed-words (first-front (c .before .before .before .before .before .before .before .before .before .before .before .before .before .before .before .before .args .words .now) (c .before .before .before .before .before .before .before .before .before .before .before .before .before .before .before .before .args .middle) (c .before .before .before .before .before .before .before .before .before .before .before .before .before .before .before .before .pre .0 .1) (c .before .before .before .before .before .row-of .last .1 .1 .0) (c .before .before .before .before .before .row-of .kept .1 .1 .0)) (c .before .before .before .before .before .row-of .ensures .1)) .row, sound-index (first-last (c .before .before .before .before .before .before .before .before .before .before .before .before .before .before .before .before .args .words .now) (c .before .before .before .before .before .before .before .before .before .before .before .before .before .before .before .before .args .middle) (c .before .before .before .before .before .before .before .before .before .before .before .before .before .before .before .before .pre .0 .1) (c .before .before .before .before .before .row-of .last .1 .1 .0) (c .before .before .before .before .before .row-of .kept .1 .1 .0)) (c .before .before .before .before .before .before .before .before .before .before .before .before .before .before .before .before .pre .1 .1)),
-)
+any-refers-to-row-requires c κs =
+    let at-row-of = c .before .before .before .before .before in
+    let start = at-row-of .before .before .before .before .before .before .before .before .before .before .before in
+    let a = start .args in (
+      (sound-index (first-kept (a .words .now) (a .middle) (start .pre .0 .1) (at-row-of .row-of .last .1 .1 .0) (at-row-of .row-of .kept .1 .1 .0) (a .base)
+          (at-row-of .row-of .ensures .0) .first) (start .pre .1 .0)) .strings,
+      (
+        (rowed-words (first-front (a .words .now) (a .middle) (start .pre .0 .1) (at-row-of .row-of .last .1 .1 .0) (at-row-of .row-of .kept .1 .1 .0))
+            (at-row-of .row-of .ensures .1)) .row,
+        sound-index (first-last (a .words .now) (a .middle) (start .pre .0 .1) (at-row-of .row-of .last .1 .1 .0)
+            (at-row-of .row-of .kept .1 .1 .0)) (start .pre .1 .1),
+      ),
+    )
 
 same-length : tie.Need-same-length
 same-length c = search needs
 
 returns : tie.Need-returns
-returns c = (
-  rowed-any (rowed-words (first-front (c .before .before .before .before .before .before .before .before .before .before .before .before .before .before .before .before .before .args .words .now) (c .before .before .before .before .before .before .before .before .before .before .before .before .before .before .before .before .before .args .middle) (c .before .before .before .before .before .before .before .before .before .before .before .before .before .before .before .before .before .pre .0 .1) (c .before .before .before .before .before .before .row-of .last .1 .1 .0) (c .before .before .before .before .before .before .row-of .kept .1 .1 .0)) (c .before .before .before .before .before .before .row-of .ensures .1)) (storeIn (c .before .before .before .before .before .before .before .before .before .before .before .before .before .before .before .before .before .args .reading .now) (c .before .before .before .before .before .before .before .before .before .before .before .before .before .before .before .before .before .args .front .now ++ c .before .before .before .before .before .before .before .before .before .before .before .before .before .before .before .before .before .args .back .now))
-      (recordsAt nodeCodec (c .before .before .before .before .before .before .before .before .before .before .before .before .before .before .before .before .before .args .reading .now) (c .before .before .before .before .before .before .before .before .before .before .before .before .before .before .before .before .before .args .place) (c .before .before .before .before .before .before .before .before .before .before .before .before .before .before .before .before .before .args .nodes)) (c .any-refers-to-row .ensures),
-  first-kept (c .before .before .before .before .before .before .before .before .before .before .before .before .before .before .before .before .before .args .words .now) (c .before .before .before .before .before .before .before .before .before .before .before .before .before .before .before .before .before .args .middle) (c .before .before .before .before .before .before .before .before .before .before .before .before .before .before .before .before .before .pre .0 .1) (c .before .before .before .before .before .before .row-of .last .1 .1 .0) (c .before .before .before .before .before .before .row-of .kept .1 .1 .0) _ (c .before .before .before .before .before .before .row-of .ensures .0),
-)
+returns c =
+    let at-row-of = c .before .before .before .before .before .before in
+    let start = at-row-of .before .before .before .before .before .before .before .before .before .before .before in
+    let a = start .args in (
+      rowed-any (rowed-words (first-front (a .words .now) (a .middle) (start .pre .0 .1) (at-row-of .row-of .last .1 .1 .0) (at-row-of .row-of .kept .1 .1 .0))
+          (at-row-of .row-of .ensures .1)) (storeIn (a .reading .now) (a .front .now ++ a .back .now)) (recordsAt nodeCodec (a .reading .now) (a .place) (a .nodes))
+          (c .any-refers-to-row .ensures),
+      first-kept (a .words .now) (a .middle) (start .pre .0 .1) (at-row-of .row-of .last .1 .1 .0) (at-row-of .row-of .kept .1 .1 .0) _ (at-row-of .row-of .ensures .0),
+    )
 
 pub refers-by-places-spec : {M : Type 1} → statement M
 refers-by-places-spec =

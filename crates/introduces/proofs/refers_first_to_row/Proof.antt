@@ -17,16 +17,22 @@ add-here : tie.Need-add-here
 add-here c = search needs
 
 noted-place-requires : tie.Need-noted-place-requires
-noted-place-requires c κs = sound-naming (sound-last (c .before .before .before .before .before .before .before .before .before .args .i) (c .before .before .before .before .before .before .before .before .before .pre .1 .1 .0))
+noted-place-requires c κs =
+    let start = c .before .before .before .before .before .before .before .before .before in
+    sound-naming (sound-last (start .args .i) (start .pre .1 .1 .0))
 
 is-target-again-requires : tie.Need-is-target-again-requires
 is-target-again-requires c κs = sound-namings (c .before .before .before .before .before .before .before .before .before .before .pre .1 .1 .0)
 
 returns : tie.Need-returns
-returns c = target-again _ _ _ _ (c .before .before .before .before .before .before .before .before .before .before .before .before .args .reading .now) (c .before .before .before .before .before .before .before .before .before .before .before .before .args .front .now) (c .before .before .before .before .before .before .before .before .before .before .before .before .args .back .now) _ _ _ (c .before .is-target-again .ensures) (c .if1 .taken) (c .before .before .before .before .before .before .before .before .before .before .before .before .pre .1 .1 .1)
+returns c =
+    let start = c .before .before .before .before .before .before .before .before .before .before .before .before in
+    target-again _ _ _ _ (start .args .reading .now) (start .args .front .now) (start .args .back .now) _ _ _ (c .before .is-target-again .ensures) (c .if1 .taken) (start .pre .1 .1 .1)
 
 refers-to-row-requires : tie.Need-refers-to-row-requires
-refers-to-row-requires c κs = (c .before .before .before .before .before .before .before .before .before .before .before .before .pre .0, (c .before .before .before .before .before .before .before .before .before .before .before .before .pre .1 .0, sound-last (c .before .before .before .before .before .before .before .before .before .before .before .before .args .i) (c .before .before .before .before .before .before .before .before .before .before .before .before .pre .1 .1 .0)))
+refers-to-row-requires c κs =
+    let start = c .before .before .before .before .before .before .before .before .before .before .before .before in
+    (start .pre .0, (start .pre .1 .0, sound-last (start .args .i) (start .pre .1 .1 .0)))
 
 returns-2 : tie.Need-returns-2
 returns-2 c = search needs

@@ -29,7 +29,12 @@ loop-holds : tie.Need-loop-holds Inv-loop μ-loop
 loop-holds c = (omega arith, refl, refl, omega arith, rowed-start _ _ _ _ _ _ _ (omega (arith, c .before .before .before .before .before .pre .1)))
 
 insert-first-requires : tie.Need-insert-first-requires Inv-loop μ-loop
-insert-first-requires c κs = (sound-before (sound-index (c .before .before .loop .inv .2) (c .before .before .before .before .before .before .before .before .pre .0)) (omega (arith, c .before .loop-test .taken)), (c .before .before .loop .inv .4, (c .before .before .loop .inv .3, omega (arith, c .before .before .before .before .before .before .before .before .pre .1, c .before .before .loop .inv .1))))
+insert-first-requires c κs =
+    let turn = c .before .before in
+    let start = turn .before .before .before .before .before .before in (
+      sound-before (sound-index (turn .loop .inv .2) (start .pre .0)) (omega (arith, c .before .loop-test .taken)),
+      (turn .loop .inv .4, (turn .loop .inv .3, omega (arith, start .pre .1, turn .loop .inv .1))),
+    )
 
 add-i : tie.Need-add-i Inv-loop μ-loop
 add-i c = omega arith
@@ -51,7 +56,8 @@ same-length c = c .before .loop .inv .1
 
 returns : tie.Need-returns Inv-loop μ-loop
 returns c =
-    let e : min (c .before .before .before .before .before .before .before .args .count) (c .before .loop .i) ≡ c .before .before .before .before .before .before .before .args .count = omega arith in
+    let start = c .before .before .before .before .before .before .before in
+    let e : min (start .args .count) (c .before .loop .i) ≡ start .args .count = omega arith in
     (c .before .loop .inv .2, rw e at (c .before .loop .inv .4))
 
 pub row-of-spec : {M : Type 1} → statement M
