@@ -23,20 +23,32 @@ const FX_PRIME: u64 = 0x517c_c1b7_2722_0a95;
 
 fn fx_hash(start: u64, bytes: &[u8]) -> u64 { bytes.iter().fold(start, |h, b| (h.rotate_left(5) ^ *b as u64).wrapping_mul(FX_PRIME)) }
 
-// Unlike strings of one length that crowd a Bloom filter of any size: both words of a hash (crates/bloom: its bits 32 to 63 and 16 to 47, by their
-// share of the words) are among the first 256th of them. The last byte is looked for; where a string has none that does, the next is tried.
-struct Crowd { start: &'static str, found: Vec<String>, tried: u64 }
+// Unlike strings of one length whose keys have something in common. The last byte is looked for; where a string has none that does, the next is tried.
+struct Crowd { start: &'static str, wanted: fn(u64) -> bool, found: Vec<String>, tried: u64 }
 
-fn crowds_filter(h: u64) -> bool { h >> 56 == 0 && h >> 40 & 255 == 0 }
+// Crowds a Bloom filter of any size: both words of a key (crates/bloom: its bits 32 to 63 and 16 to 47, by their share of the words) are among the
+// first 256th of them.
+fn crowds_filter(key: u64) -> bool { key >> 56 == 0 && key >> 40 & 255 == 0 }
+
+// the same slot of the interner's table, whatever its size
+fn one_slot(hash: u64) -> bool { hash & 4095 == 0 }
 
 impl Crowd {
+    // What numbers 10 and 15 know a string by (crates/dependency): its hash, or of more than 64 bytes the hashes of its ends and its length. Answers
+    // what is added to the hash that the middle and the last byte go into, and that hash.
+    fn begin(&self) -> (u64, u64) {
+        let (start, length) = (self.start.as_bytes(), self.start.len() + 7);
+        if length <= 64 { return (0, fx_hash(0, start)); }
+        (fx_hash(0, &start[..32]).wrapping_add(length as u64), fx_hash(0, &start[length - 32..]))
+    }
+
     fn first(&mut self, n: usize) -> &[String] {
-        let start = fx_hash(0, self.start.as_bytes());
+        let (added, start) = self.begin();
         while self.found.len() < n {
             let middle: [u8; 6] = core::array::from_fn(|i| b'0' + (self.tried >> (6 * i) & 63) as u8);
             self.tried += 1;
             let h = fx_hash(start, &middle);
-            let Some(last) = (0..128).find(|b| crowds_filter(fx_hash(h, &[*b]))) else { continue };
+            let Some(last) = (0..128).find(|b| (self.wanted)(added.wrapping_add(fx_hash(h, &[*b])))) else { continue };
             self.found.push(format!("{}{}{}", self.start, core::str::from_utf8(&middle).unwrap(), last as char));
         }
         &self.found[..n]
@@ -44,8 +56,8 @@ impl Crowd {
 }
 
 // kept from one size to the next
-fn crowd(start: &'static str) -> impl Fn(usize) -> Vec<String> {
-    let made = RefCell::new(Crowd { start, found: Vec::new(), tried: 0 });
+fn crowd(start: &'static str, wanted: fn(u64) -> bool) -> impl Fn(usize) -> Vec<String> {
+    let made = RefCell::new(Crowd { start, wanted, found: Vec::new(), tried: 0 });
     move |n| made.borrow_mut().first(n).to_vec()
 }
 
@@ -195,16 +207,31 @@ fn long_introduced(n: usize, k: usize) -> Hostile {
     Hostile { book: b.done(), edit: (at, at + 1), reading: r.done() }
 }
 
-// n contents in the reading that name two equal long strings in turn
-fn long_again(n: usize) -> Hostile {
-    let (mut b, mut r) = (Book::default(), Book::default());
+// a line of text, and a reading of it with one AngleQuote over all its contents
+fn grafted(mut r: Book) -> Hostile {
+    let mut b = Book::default();
     b.put("ay\n\nb");
     r.put("x");
-    let ids = [0, 1].map(|_| r.string(&"s".repeat(5 * n)));
-    for i in 0..n { r.content(0, ids[i % 2], 0); }
-    r.node("y", 14, 0, [0, n as u32, 0, 0, 0, 0]);
+    let contents = r.contents.len() as u32 / 10;
+    r.node("y", 14, 0, [0, contents, 0, 0, 0, 0]);
     r.put("\n\n");
     Hostile { book: b.done(), edit: (0, 1), reading: r.done() }
+}
+
+// n contents that name two equal long strings in turn
+fn long_again(n: usize) -> Hostile {
+    let mut r = Book::default();
+    let ids = [0, 1].map(|_| r.string(&"s".repeat(5 * n)));
+    for i in 0..n { r.content(0, ids[i % 2], 0); }
+    grafted(r)
+}
+
+// strings of one slot, as many as a layer may have; then n contents that name the last and the first of them in turn
+fn probed(strings: &[String], n: usize) -> Hostile {
+    let mut r = Book::default();
+    for s in strings { r.plain(s); }
+    for i in 0..n { r.content(0, if i % 2 == 0 { 0 } else { strings.len() as u32 - 1 }, 0); }
+    grafted(r)
 }
 
 // n Rubies in the book, n Formats in the reading
@@ -289,7 +316,7 @@ fn all_shapes() -> Vec<Shape> {
     const ONE: &[usize] = &[16384];
     use Timed::{Check, Merge, Region};
     let common: &'static str = Box::leak("青空文庫の本を読む人は".repeat(6).into_boxed_str());
-    let (crowded, with_prefix) = (Rc::new(crowd("")), crowd(common));
+    let (crowded, with_prefix, on_one_slot) = (Rc::new(crowd("", crowds_filter)), crowd(common, crowds_filter), crowd("", one_slot));
     let crowded_reading = crowded.clone();
     vec![
         shape("number 5: n MarginNotes over n contents over n segments, n a multiple of 64", Check, ONE, MAX_POOL / 2, |n| margin_notes(n / 64 * 64)),
@@ -305,10 +332,9 @@ fn all_shapes() -> Vec<Shape> {
         shape("number 10: n Rubies of one long base, n Formats of one target like it at both ends", Region, ALL, MAX_LIST / 2, |n| long_strings(n, 1)),
         shape("number 10: n Rubies and n Formats, 64 long bases and 64 targets like them in turn", Region, ALL, MAX_LIST / 2, |n| long_strings(n, 64)),
         shape("number 10: a long target n times, a base of a line before each", Region, ALL, MAX_LIST / 2, |n| long_and_short(n)),
-        shape("graft: two equal long strings in turn", Merge, ONE, MAX_LIST / 2, |n| long_again(n)),
         shape("number 15: n Rubies, n Formats in the reading, unlike strings of one length", Merge, ALL, MAX_LIST, |n| introduced(&unlike(2 * n))),
-        shape("number 15: n Rubies of one long base, n Formats of one target like it at both ends", Merge, ALL, MAX_LIST, |n| long_introduced(n, 1)),
-        shape("number 15: n Rubies and n Formats, 64 long bases and 64 targets like them in turn", Merge, ALL, MAX_LIST, |n| long_introduced(n, 64)),
+        shape("number 15: n Rubies of one long base, n Formats of one target like it at both ends", Merge, ALL, MAX_LIST - 1, |n| long_introduced(n, 1)),
+        shape("number 15: n Rubies and n Formats, 64 long bases and 64 targets like them in turn", Merge, ALL, MAX_LIST - 1, |n| long_introduced(n, 64)),
         shape("number 15: strings that crowd the filter", Merge, ALL, MAX_LIST, move |n| introduced(&crowded_reading(2 * n))),
         shape("region: n brackets in a row over blank lines, the edit behind them", Region, ALL, MAX_LIST, |n| bracketed(false, |b| for _ in 0..n { bracket(b, |b| b.put("\n\n")) })),
         shape("region: n brackets in a row over blank lines, the edit before them", Region, ALL, MAX_LIST, |n| bracketed(true, |b| for _ in 0..n { bracket(b, |b| b.put("\n\n")) })),
@@ -322,6 +348,8 @@ fn all_shapes() -> Vec<Shape> {
         shape("UTF-8: characters of four bytes", Check, ONE, MAX_TEXT, |n| first_line(&written(n, "𠀋𡈽𠮟😀𩸽"))),
         shape("UTF-8: E0 and ED in each 64 bytes", Check, ONE, MAX_TEXT, |n| first_line(&written(n, "青空文庫の本を読む人はไ声に出して힘"))),
         shape("UTF-8: damaged at the very end", Check, ONE, MAX_TEXT, |n| damaged(n)),
+        shape("grafting: n contents that name two equal long strings in turn", Merge, ONE, MAX_POOL, |n| long_again(n)),
+        shape("grafting: 3,583 strings of one slot, then n contents that name the last and the first in turn", Merge, ONE, MAX_POOL - 3583, move |n| probed(&on_one_slot(3583), n)),
     ]
 }
 
@@ -433,7 +461,7 @@ fn hostile_line(r: &HostileRow) -> String {
     format!("{}, {}{words}: n {} in {}, exponent {}{} {}", r.name, entry_name(r.timed), p.n, duration(p.seconds), shown_exponent(r), if r.stopped { ", stopped" } else { "" }, shown_limit(r))
 }
 
-fn hostile_table(rows: &[HostileRow]) -> String {
+fn hostile_table(rows: &[&HostileRow]) -> String {
     if rows.is_empty() { return "(Left out in this run: `HOSTILE=off`.)\n".into(); }
     let limits = rows.iter().any(|r| r.limit.is_some());
     let mut s = "| book | timed | work words | answer | n | tapes and bytes | at a quarter of n | at half of n | at n | exponent |".to_string() + if limits { " at the limits of document 01 |" } else { "" };
@@ -455,12 +483,15 @@ fn is_slow(r: &HostileRow) -> bool {
     r.stopped || matches!(r.limit, Some(Err(_))) || (greatest > 1.6 && r.points.last().unwrap().seconds > 1e-3)
 }
 
-fn hostile_summary(rows: &[HostileRow]) -> String {
+// Rows about grafting stand in a table of their own.
+fn of_grafting(rows: &[HostileRow], wanted: bool) -> Vec<&HostileRow> { rows.iter().filter(|r| r.name.starts_with("grafting") == wanted).collect() }
+
+fn hostile_summary(rows: &[&HostileRow]) -> String {
     let item = |r: &HostileRow| {
         let (p, words) = (r.points.last().unwrap(), if r.timed == Timed::Check { String::new() } else { format!(", {} words", thousands(r.words)) });
         format!("\n- {}, {}{words}: exponent {}, {} at {} bytes", r.name, entry_name(r.timed), shown_exponent(r), duration(p.seconds), thousands(p.input))
     };
-    let all: Vec<String> = rows.iter().filter(|r| is_slow(r)).map(item).collect();
+    let all: Vec<String> = rows.iter().filter(|r| is_slow(r)).map(|r| item(r)).collect();
     if all.is_empty() { return "None of these rows was stopped, and none has an exponent above 1.6.".into(); }
     format!("{} of {} rows were stopped or have an exponent above 1.6; **there ours is slow still**:\n{}", all.len(), rows.len(), all.concat())
 }
