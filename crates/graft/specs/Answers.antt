@@ -23,17 +23,18 @@ use Rattle.sizes.specs.Shown.{showInner, segments-shown, contents-shown}
 use Rattle.graft.specs.Rebased.{steps-each, steps-every}
 use Rattle.graft.specs.Blocks.{blocks-none}
 use Rattle.graft.specs.Grafted.{layerFrom, contentAt, segmentAt, Told, Roomy, empty-sized}
+use Rattle.graft.specs.Named.{Named, sourceStore}
 use Rattle.graft.specs.Widths.{contents-width, segments-width, contents-sized, segments-sized}
 use Rattle.graft.specs.Runs.{ItemsTold, withContents, withSegments, contents-pushed, segments-pushed}
-use Rattle.graft.specs.Walk.{Source, sourceStore, shownContents, shownSegments, Ready, StartTold, ContentsTold, SegmentsTold, contentRunFrom, segmentRunFrom}
+use Rattle.graft.specs.Walk.{Source, shownContents, shownSegments, Ready, StartTold, ContentsTold, SegmentsTold, contentRunFrom, segmentRunFrom}
 use Rattle.graft.specs.declared.Plan.{Plan}
 use Rattle.graft.specs.declared.Mark.{Mark}
 use Rattle.graft.specs.declared.Start.{Start}
 
 -- ---- nothing is grafted
 
-module _ {p : Plan} {m : Mark} {work strs : List ℕ} (good : Good work strs (m .state)) (going : m .ok ≡ true) (has : hasRoom (length strs) (m .state .base) (stateOf work strs (m .state)) ≡ true) where
-  pub told-nothing : (out : List ℕ) → Told p m out work strs out work strs m (layerFrom p work strs m)
+module _ {t d : List ℕ} {p : Plan} {m : Mark} {work strs : List ℕ} (good : Good work strs (m .state)) (named : Named t d work strs m) (going : m .ok ≡ true) (has : hasRoom (length strs) (m .state .base) (stateOf work strs (m .state)) ≡ true) where
+  pub told-nothing : (out : List ℕ) → Told t d p m out work strs out work strs m (layerFrom p work strs m)
   unfolding recordsBytes flatten
   told-nothing out = record {
     ok = going ∙ sym has;
@@ -47,11 +48,12 @@ module _ {p : Plan} {m : Mark} {work strs : List ℕ} (good : Good work strs (m 
       kept = refl;
       free = refl;
       long = refl;
+      named = named;
     };
   }
 
-pub told-none : {t d : List ℕ} {st : Store} {p : Plan} {m : Mark} {out work strs : List ℕ} {a : Added} → Ready t d st p m out work strs a → Told p m out work strs out work strs m (layerFrom p work strs m)
-told-none {t} {d} {st} {p} {m} {out} {work} {strs} r = told-nothing (r .good) (r .going) (r .has) out
+pub told-none : {t d : List ℕ} {st : Store} {p : Plan} {m : Mark} {out work strs : List ℕ} {a : Added} → Ready t d st p m out work strs a → Told t d p m out work strs out work strs m (layerFrom p work strs m)
+told-none {t} {d} {st} {p} {m} {out} {work} {strs} r = told-nothing (r .good) (r .named) (r .going) (r .has) out
 
 -- ---- one content
 
@@ -74,13 +76,13 @@ module _ (l : ℕ) (t d : List ℕ) (x : Content) (f : NewLayer) where
 
 -- ---- one item, whatever its kind
 
-module _ {A : Type 0} (k : Codec A) (p : Plan) (m : Mark) (place : ℕ) (out work strs : List ℕ) {out₁ work₁ strs₁ : List ℕ} {r : Mark} {g : NewLayer} (a : Told p m out work strs out₁ work₁ strs₁ r g)
+module _ {A : Type 0} {t d : List ℕ} (k : Codec A) (p : Plan) (m : Mark) (place : ℕ) (out work strs : List ℕ) {out₁ work₁ strs₁ : List ℕ} {r : Mark} {g : NewLayer} (a : Told t d p m out work strs out₁ work₁ strs₁ r g)
     {whole : With (List A)} {one : A} (q : whole ≡ (one ∷ [], g)) where
-  pub item-refused : r .ok ≡ false → ItemsTold k p m place out work strs out₁ work₁ strs₁ r whole
+  pub item-refused : r .ok ≡ false → ItemsTold t d k p m place out work strs out₁ work₁ strs₁ r whole
   item-refused e = rw q (record { ok = a .ok; made = λ o. absurd (true≢false (sym o ∙ e)) })
 
   -- its walk was made, and its record written
-  pub item-made : (x : A) → x ≡ one → {out₂ : List ℕ} → out₂ ≡ overwrite out₁ place (recordBytes k x) → ItemsTold k p m place out work strs out₂ work₁ strs₁ r whole
+  pub item-made : (x : A) → x ≡ one → {out₂ : List ℕ} → out₂ ≡ overwrite out₁ place (recordBytes k x) → ItemsTold t d k p m place out work strs out₂ work₁ strs₁ r whole
   unfolding recordsBytes flatten
   item-made x z e =
       rw q (record {
@@ -91,14 +93,14 @@ module _ {A : Type 0} (k : Codec A) (p : Plan) (m : Mark) (place : ℕ) (out wor
 -- ---- runs
 
 module _ (l : ℕ) (t d : List ℕ) (st : Store) (source : Source t d st) (p : Plan) (m : Mark) (out work strs : List ℕ) (start len : ℕ) where
-  pub content-run-empty : len ≡ 0 → {a : Added} → Ready t d st p m out work strs a → StartTold p m out work strs out work strs (record { mark = m; at = p .contents + m .contents }) (contentRunFrom l t d start len (layerFrom p work strs m))
+  pub content-run-empty : len ≡ 0 → {a : Added} → Ready t d st p m out work strs a → StartTold t d p m out work strs out work strs (record { mark = m; at = p .contents + m .contents }) (contentRunFrom l t d start len (layerFrom p work strs m))
   unfolding contentRunFrom resolveContentRange graftContents showContents pushContents
   content-run-empty z r = rw z (record { told = told-none r; start = λ o. omega arith })
 
   pub content-run-told : contentsIn st start len ≡ true → (at to : ℕ) → at ≡ contentPlace st start → {out′ work′ strs′ : List ℕ} {r : Mark}
       → (let w = shownContents l t d (recordsAt contentCodec t at len) (layerFrom p work strs m) in
-      to ≡ m .contents + length (w .1 .contents) → Roomy p m out (pushContents (w .0) (w .1) .1) → ContentsTold p m to out work strs out′ work′ strs′ r w
-      → (s : Start) → s ≡ record { mark = withContents r (to + len); at = p .contents + to } → StartTold p m out work strs out′ work′ strs′ s (contentRunFrom l t d start len (layerFrom p work strs m)))
+      to ≡ m .contents + length (w .1 .contents) → Roomy p m out (pushContents (w .0) (w .1) .1) → ContentsTold t d p m to out work strs out′ work′ strs′ r w
+      → (s : Start) → s ≡ record { mark = withContents r (to + len); at = p .contents + to } → StartTold t d p m out work strs out′ work′ strs′ s (contentRunFrom l t d start len (layerFrom p work strs m)))
   unfolding contentRunFrom pushContents
   content-run-told h at to e {out′} {work′} {strs′} {r} z room b s q =
       let f = layerFrom p work strs m in
@@ -115,14 +117,14 @@ module _ (l : ℕ) (t d : List ℕ) (st : Store) (source : Source t d st) (p : P
         start = λ o. omega (arith, z, steps-each (showContents show (sourceStore t d) (recordsAt contentCodec t at len)) .offsets f .contents);
       })
 
-  pub segment-run-empty : len ≡ 0 → {a : Added} → Ready t d st p m out work strs a → StartTold p m out work strs out work strs (record { mark = m; at = p .segments + m .segments }) (segmentRunFrom l t d start len (layerFrom p work strs m))
+  pub segment-run-empty : len ≡ 0 → {a : Added} → Ready t d st p m out work strs a → StartTold t d p m out work strs out work strs (record { mark = m; at = p .segments + m .segments }) (segmentRunFrom l t d start len (layerFrom p work strs m))
   unfolding segmentRunFrom resolveSegRange graftSegments showSegments pushSegments
   segment-run-empty z r = rw z (record { told = told-none r; start = λ o. omega arith })
 
   pub segment-run-told : segmentsIn st start len ≡ true → (at to : ℕ) → at ≡ segmentPlace st start → {out′ work′ strs′ : List ℕ} {r : Mark}
       → (let w = shownSegments l t d (recordsAt segmentCodec t at len) (layerFrom p work strs m) in
-      to ≡ m .segments + length (w .1 .segments) → Roomy p m out (pushSegments (w .0) (w .1) .1) → SegmentsTold p m to out work strs out′ work′ strs′ r w
-      → (s : Start) → s ≡ record { mark = withSegments r (to + len); at = p .segments + to } → StartTold p m out work strs out′ work′ strs′ s (segmentRunFrom l t d start len (layerFrom p work strs m)))
+      to ≡ m .segments + length (w .1 .segments) → Roomy p m out (pushSegments (w .0) (w .1) .1) → SegmentsTold t d p m to out work strs out′ work′ strs′ r w
+      → (s : Start) → s ≡ record { mark = withSegments r (to + len); at = p .segments + to } → StartTold t d p m out work strs out′ work′ strs′ s (segmentRunFrom l t d start len (layerFrom p work strs m)))
   unfolding segmentRunFrom pushSegments
   segment-run-told h at to e {out′} {work′} {strs′} {r} z room b s q =
       let f = layerFrom p work strs m in

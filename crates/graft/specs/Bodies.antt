@@ -28,7 +28,8 @@ use Rattle.sizes.specs.Trees.{length-segments, length-contents}
 use Rattle.sizes.specs.Shown.{showInner, segments-shown, contents-shown}
 use Rattle.sizes.specs.declared.FieldWords.{FieldWords}
 use Rattle.graft.specs.Grafted.{layerFrom}
-use Rattle.graft.specs.Walk.{Source, sourceStore, shownContents, shownSegments, bodyFrom, placeFrom, contentRunFrom, segmentRunFrom, fieldFrom, idFrom, wordsWith}
+use Rattle.graft.specs.Named.{sourceStore}
+use Rattle.graft.specs.Walk.{Source, shownContents, shownSegments, bodyFrom, placeFrom, contentRunFrom, segmentRunFrom, fieldFrom, idFrom, wordsWith}
 use Rattle.graft.specs.declared.Plan.{Plan}
 use Rattle.graft.specs.declared.Mark.{Mark}
 

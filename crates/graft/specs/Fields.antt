@@ -28,7 +28,8 @@ use Rattle.graft.specs.Rebased.{rebased, behind, steps-fields}
 use Rattle.graft.specs.Grafted.{layerFrom, Told, Sized, Roomy, empty-sized, next-layer, told-then, refused-then}
 use Rattle.graft.specs.Widths.{fields-sized}
 use Rattle.graft.specs.Parts.{fields-then}
-use Rattle.graft.specs.Walk.{Source, sourceStore, Ready, StartTold, WordsTold, bodyFrom, placeFrom, contentRunFrom, segmentRunFrom, fieldFrom, idFrom, wordsWith}
+use Rattle.graft.specs.Named.{sourceStore}
+use Rattle.graft.specs.Walk.{Source, Ready, StartTold, WordsTold, bodyFrom, placeFrom, contentRunFrom, segmentRunFrom, fieldFrom, idFrom, wordsWith}
 use Rattle.graft.specs.Rooms.{ready-item, space-left, roomy, fields-add}
 use Rattle.graft.specs.Answers.{told-none}
 use Rattle.graft.specs.Bodies.{places-last, place-from}
@@ -69,22 +70,22 @@ module _ (st : Store) (u w next : ℕ) (h : usedWell st u w next ≡ true) where
   string-well a b = rw (ne-eqb u 3 a, ne-eqb u 5 b) (rw (ne-eqb u 3 a, ne-eqb u 5 b) at h)
 
 module _ (t d : List ℕ) (p : Plan) (m : Mark) (out work strs : List ℕ) (u w : ℕ) where
-  pub id-string : u ≡ 1 → {out′ work′ strs′ : List ℕ} {r : Start} → StartTold p m out work strs out′ work′ strs′ r (graftStr (resolveStr (sourceStore t d) w) (layerFrom p work strs m))
-      → StartTold p m out work strs out′ work′ strs′ r (idFrom t d u w (layerFrom p work strs m))
+  pub id-string : u ≡ 1 → {out′ work′ strs′ : List ℕ} {r : Start} → StartTold t d p m out work strs out′ work′ strs′ r (graftStr (resolveStr (sourceStore t d) w) (layerFrom p work strs m))
+      → StartTold t d p m out work strs out′ work′ strs′ r (idFrom t d u w (layerFrom p work strs m))
   unfolding idFrom
   id-string e x = rw e x
 
-  pub id-optional : u ≡ 2 → (w ≡ noString → ⊥) → {out′ work′ strs′ : List ℕ} {r : Start} → StartTold p m out work strs out′ work′ strs′ r (graftStr (resolveStr (sourceStore t d) w) (layerFrom p work strs m))
-      → StartTold p m out work strs out′ work′ strs′ r (idFrom t d u w (layerFrom p work strs m))
+  pub id-optional : u ≡ 2 → (w ≡ noString → ⊥) → {out′ work′ strs′ : List ℕ} {r : Start} → StartTold t d p m out work strs out′ work′ strs′ r (graftStr (resolveStr (sourceStore t d) w) (layerFrom p work strs m))
+      → StartTold t d p m out work strs out′ work′ strs′ r (idFrom t d u w (layerFrom p work strs m))
   unfolding idFrom
   id-optional e n x = rw (e, ne-eqb w noString n) x
 
-  module _ (k : Told p m out work strs out work strs m (layerFrom p work strs m)) where
-    pub id-missing : u ≡ 2 → w ≡ noString → StartTold p m out work strs out work strs (record { mark = m; at = 4294967295 }) (idFrom t d u w (layerFrom p work strs m))
+  module _ (k : Told t d p m out work strs out work strs m (layerFrom p work strs m)) where
+    pub id-missing : u ≡ 2 → w ≡ noString → StartTold t d p m out work strs out work strs (record { mark = m; at = 4294967295 }) (idFrom t d u w (layerFrom p work strs m))
     unfolding idFrom
     id-missing e n = rw (e, eq-eqb w noString n) (record { told = k; start = λ o. refl })
 
-    pub id-none : (u ≡ 1 → ⊥) → (u ≡ 2 → ⊥) → StartTold p m out work strs out work strs (record { mark = m; at = 0 }) (idFrom t d u w (layerFrom p work strs m))
+    pub id-none : (u ≡ 1 → ⊥) → (u ≡ 2 → ⊥) → StartTold t d p m out work strs out work strs (record { mark = m; at = 0 }) (idFrom t d u w (layerFrom p work strs m))
     unfolding idFrom
     id-none a b = rw (ne-eqb u 1 a, ne-eqb u 2 b) (record { told = k; start = λ o. refl })
 
@@ -92,18 +93,18 @@ module _ (t d : List ℕ) (p : Plan) (m : Mark) (out work strs : List ℕ) (u w 
 
 module _ (l : ℕ) (t d : List ℕ) (p : Plan) (m : Mark) (out work strs : List ℕ) (f : FieldWords) where
   module _ {out′ work′ strs′ : List ℕ} {r : Start} where
-    pub field-contents : f .usage ≡ 3 → StartTold p m out work strs out′ work′ strs′ r (contentRunFrom l t d (f .first) (f .second) (layerFrom p work strs m))
-        → StartTold p m out work strs out′ work′ strs′ r (fieldFrom l t d f (layerFrom p work strs m))
+    pub field-contents : f .usage ≡ 3 → StartTold t d p m out work strs out′ work′ strs′ r (contentRunFrom l t d (f .first) (f .second) (layerFrom p work strs m))
+        → StartTold t d p m out work strs out′ work′ strs′ r (fieldFrom l t d f (layerFrom p work strs m))
     unfolding fieldFrom
     field-contents e x = rw (eq-eqb (f .usage) 3 e) x
 
-    pub field-segments : (f .usage ≡ 3 → ⊥) → f .usage ≡ 5 → StartTold p m out work strs out′ work′ strs′ r (segmentRunFrom l t d (f .first) (f .second) (layerFrom p work strs m))
-        → StartTold p m out work strs out′ work′ strs′ r (fieldFrom l t d f (layerFrom p work strs m))
+    pub field-segments : (f .usage ≡ 3 → ⊥) → f .usage ≡ 5 → StartTold t d p m out work strs out′ work′ strs′ r (segmentRunFrom l t d (f .first) (f .second) (layerFrom p work strs m))
+        → StartTold t d p m out work strs out′ work′ strs′ r (fieldFrom l t d f (layerFrom p work strs m))
     unfolding fieldFrom
     field-segments n e x = rw (ne-eqb (f .usage) 3 n, eq-eqb (f .usage) 5 e) x
 
-    pub field-string : (f .usage ≡ 3 → ⊥) → (f .usage ≡ 5 → ⊥) → StartTold p m out work strs out′ work′ strs′ r (idFrom t d (f .usage) (f .first) (layerFrom p work strs m))
-        → StartTold p m out work strs out′ work′ strs′ r (fieldFrom l t d f (layerFrom p work strs m))
+    pub field-string : (f .usage ≡ 3 → ⊥) → (f .usage ≡ 5 → ⊥) → StartTold t d p m out work strs out′ work′ strs′ r (idFrom t d (f .usage) (f .first) (layerFrom p work strs m))
+        → StartTold t d p m out work strs out′ work′ strs′ r (fieldFrom l t d f (layerFrom p work strs m))
     unfolding fieldFrom
     field-string a b x = rw (ne-eqb (f .usage) 3 a, ne-eqb (f .usage) 5 b) x
 
@@ -140,11 +141,11 @@ module _ (st : Store) (b : Body) (j : ℕ) where
 
   pub place-told : (l : ℕ) (t d : List ℕ) → Source t d st → (p : Plan) (m : Mark) (ws out work strs : List ℕ) {out′ work′ strs′ : List ℕ} (i : ℕ) → i ≡ fieldWord (b .kind) j
       → (f : FieldWords) → f ≡ fieldWords b j → usedWell st (f .usage) (f .first) (f .second) ≡ true
-      → (s : Start) → StartTold p m out work strs out′ work′ strs′ s (fieldFrom l t d f (layerFrom p work strs m))
-      → (r : Words) → r .mark ≡ s .mark → r .words ≡ wordsWith ws i f (s .at) → WordsTold p m out work strs out′ work′ strs′ r (placeFrom l t d b j ws (layerFrom p work strs m))
+      → (s : Start) → StartTold t d p m out work strs out′ work′ strs′ s (fieldFrom l t d f (layerFrom p work strs m))
+      → (r : Words) → r .mark ≡ s .mark → r .words ≡ wordsWith ws i f (s .at) → WordsTold t d p m out work strs out′ work′ strs′ r (placeFrom l t d b j ws (layerFrom p work strs m))
   place-told l t d source p m ws out work strs {out′} {work′} {strs′} i e f q h s x r a z =
       let w : usedWell st (fieldWords b j .usage) (fieldWords b j .first) (fieldWords b j .second) ≡ true = rw q at h in
-      let y : StartTold p m out work strs out′ work′ strs′ s (fieldFrom l t d (fieldWords b j) (layerFrom p work strs m)) = rw q at x in
+      let y : StartTold t d p m out work strs out′ work′ strs′ s (fieldFrom l t d (fieldWords b j) (layerFrom p work strs m)) = rw q at x in
       let v : r .words ≡ wordsWith ws (fieldWord (b .kind) j) (fieldWords b j) (s .at) = z ∙ ap₂ (λ (n : ℕ) (g : FieldWords). wordsWith ws n g (s .at)) e q in
       rw (place-from l t d st source b j ws (layerFrom p work strs m) w) (record {
         told = rw a (y .told);
@@ -157,7 +158,7 @@ module _ (st : Store) (b : Body) (j : ℕ) where
 pub record BodySoFar (l : ℕ) (t d : List ℕ) (p : Plan) (m : Mark) (b : Body) (out work strs out′ work′ strs′ : List ℕ) (u : Words) (j : ℕ) : Type 0 where
   pub long : length out′ ≡ length out
   pub going : u .mark .ok ≡ true
-  pub told : WordsTold p m out work strs out′ work′ strs′ u (bodyFrom l t d p work strs m b j)
+  pub told : WordsTold t d p m out work strs out′ work′ strs′ u (bodyFrom l t d p work strs m b j)
 
 abbrev fieldsUpTo : Body → ℕ → List Field
 fieldsUpTo b n = placeFields (b .kind) (b .tag) n 0
@@ -196,8 +197,8 @@ module _ (l : ℕ) (t d : List ℕ) (st : Store) (p : Plan) (m : Mark) (b : Body
   body-first = record { long = refl; going = y .going; told = record { told = told-none y; words = λ o. refl } }
 
   -- what was grafted so far is refused: so is the whole
-  pub body-refused : {out′ work′ strs′ : List ℕ} {u : Words} (i : ℕ) → i ≤ 6 → WordsTold p m out work strs out′ work′ strs′ u (bodyFrom l t d p work strs m b i) → u .mark .ok ≡ false
-      → WordsTold p m out work strs out′ work′ strs′ u (bodyFrom l t d p work strs m b 6)
+  pub body-refused : {out′ work′ strs′ : List ℕ} {u : Words} (i : ℕ) → i ≤ 6 → WordsTold t d p m out work strs out′ work′ strs′ u (bodyFrom l t d p work strs m b i) → u .mark .ok ≡ false
+      → WordsTold t d p m out work strs out′ work′ strs′ u (bodyFrom l t d p work strs m b 6)
   unfolding bodyFrom
   body-refused i k a e =
       let show = showInner l (sourceStore t d) in
@@ -214,7 +215,7 @@ module _ (l : ℕ) (t d : List ℕ) (st : Store) (p : Plan) (m : Mark) (b : Body
       }
 
   module _ {out′ work′ strs′ : List ℕ} {u : Words} {j : ℕ} (a : BodySoFar l t d p m b out work strs out′ work′ strs′ u j) where
-    pub body-last : 6 ≤ j → j ≤ 6 → WordsTold p m out work strs out′ work′ strs′ u (bodyFrom l t d p work strs m b 6)
+    pub body-last : 6 ≤ j → j ≤ 6 → WordsTold t d p m out work strs out′ work′ strs′ u (bodyFrom l t d p work strs m b 6)
     body-last x z = let e : j ≡ 6 = omega arith in rw e at (a .told)
 
     pub body-ready : j < 6 → Ready t d st p (u .mark) out′ work′ strs′ (placeAdds inner t st b j)
@@ -243,7 +244,7 @@ module _ (l : ℕ) (t d : List ℕ) (st : Store) (p : Plan) (m : Mark) (b : Body
         ap (λ (k : List Field). graftFields (showFields show s b k) (replicate 6 0) f) (places-more (b .kind) (b .tag) j)
         ∙ fields-then show s b (fieldsUpTo b j) (placeField (b .kind) (b .tag) j) (replicate 6 0) f ∙ (λ i. (x i, z i))
 
-    module _ {out″ work″ strs″ : List ℕ} {r : Words} (k : j < 6) (x : WordsTold p (u .mark) out′ work′ strs′ out″ work″ strs″ r (placeFrom l t d b j (u .words) (layerFrom p work′ strs′ (u .mark)))) where
+    module _ {out″ work″ strs″ : List ℕ} {r : Words} (k : j < 6) (x : WordsTold t d p (u .mark) out′ work′ strs′ out″ work″ strs″ r (placeFrom l t d b j (u .words) (layerFrom p work′ strs′ (u .mark)))) where
       sized-first : Sized (bodyFrom l t d p work strs m b j .1)
       unfolding bodyFrom
       sized-first = fields-sized (showFields (showInner l (sourceStore t d)) (sourceStore t d) b (fieldsUpTo b j)) (replicate 6 0) (layerFrom p work strs m) (empty-sized p work strs m)
@@ -252,7 +253,7 @@ module _ (l : ℕ) (t d : List ℕ) (st : Store) (p : Plan) (m : Mark) (b : Body
       unfolding placeFrom
       sized-next = fields-sized (showFields (showInner l (sourceStore t d)) (sourceStore t d) b (placeField (b .kind) (b .tag) j)) (u .words) (layerFrom p work′ strs′ (u .mark)) (empty-sized p work′ strs′ (u .mark))
 
-      pub body-turn : WordsTold p m out work strs out″ work″ strs″ r (bodyFrom l t d p work strs m b (j + 1))
+      pub body-turn : WordsTold t d p m out work strs out″ work″ strs″ r (bodyFrom l t d p work strs m b (j + 1))
       body-turn =
           let n = placeFrom l t d b j (u .words) (layerFrom p work′ strs′ (u .mark)) in
           let g = bodyFrom l t d p work strs m b j in

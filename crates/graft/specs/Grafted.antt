@@ -12,6 +12,7 @@ use Rattle.wire.specs.Loops.{by-bool}
 use Rattle.interner.specs.State.{stateOf, Good, hasRoom}
 use Rattle.graft.specs.Rebased.{rebased, behind, SameOffsets}
 use Rattle.graft.specs.Blocks.{blocks, blocks-then}
+use Rattle.graft.specs.Named.{Named}
 use Rattle.graft.specs.declared.Plan.{Plan}
 use Rattle.graft.specs.declared.Mark.{Mark}
 use Rattle.put_records.specs.Runs.{bytes-append}
@@ -52,7 +53,7 @@ unfolding recordsBytes flatten
 empty-sized p work strs m = record { contents = refl; segments = refl }
 
 -- a step that was made: from the layer by m to the layer g, pools and all
-pub record Made (p : Plan) (m : Mark) (out work strs out′ work′ strs′ : List ℕ) (r : Mark) (g : NewLayer) : Type 0 where
+pub record Made (t d : List ℕ) (p : Plan) (m : Mark) (out work strs out′ work′ strs′ : List ℕ) (r : Mark) (g : NewLayer) : Type 0 where
   pub good : Good work′ strs′ (r .state)
   pub state : stateOf work′ strs′ (r .state) ≡ g .interner
   pub contents : r .contents ≡ m .contents + length (g .contents)
@@ -62,18 +63,19 @@ pub record Made (p : Plan) (m : Mark) (out work strs out′ work′ strs′ : Li
   pub kept : take (m .state .base) strs′ ≡ take (m .state .base) strs
   pub free : drop 15360 work′ ≡ drop 15360 work
   pub long : length strs′ ≡ length strs
+  pub named : Named t d work′ strs′ r
 
 -- every answer: not ok exactly where the defined strings have no room
-pub record Told (p : Plan) (m : Mark) (out work strs out′ work′ strs′ : List ℕ) (r : Mark) (g : NewLayer) : Type 0 where
+pub record Told (t d : List ℕ) (p : Plan) (m : Mark) (out work strs out′ work′ strs′ : List ℕ) (r : Mark) (g : NewLayer) : Type 0 where
   pub ok : r .ok ≡ hasRoom (length strs) (m .state .base) (g .interner)
-  pub made : r .ok ≡ true → Made p m out work strs out′ work′ strs′ r g
+  pub made : r .ok ≡ true → Made t d p m out work strs out′ work′ strs′ r g
 
 -- ---- bytes of two runs
 
 -- ---- a step, and the next
 
-module _ (p : Plan) (m : Mark) (out work strs : List ℕ) {out₁ work₁ strs₁ : List ℕ} {r₁ : Mark} {g : NewLayer} where
-  module _ (a : Made p m out work strs out₁ work₁ strs₁ r₁ g) where
+module _ {t d : List ℕ} (p : Plan) (m : Mark) (out work strs : List ℕ) {out₁ work₁ strs₁ : List ℕ} {r₁ : Mark} {g : NewLayer} where
+  module _ (a : Made t d p m out work strs out₁ work₁ strs₁ r₁ g) where
     -- the next step begins where this one ended
     pub next-layer : SameOffsets (layerFrom p work strs m) g → layerFrom p work₁ strs₁ r₁ ≡ rebased g
     next-layer o =
@@ -82,7 +84,7 @@ module _ (p : Plan) (m : Mark) (out work strs : List ℕ) {out₁ work₁ strs�
         λ i. record { stringOffset = sym (o .strings) i; contentOffset = x i; segmentOffset = y i; interner = a .state i; contents = []; segments = [] }
 
     module _ {out₂ work₂ strs₂ : List ℕ} {r : Mark} {h : NewLayer} (sg : Sized g) (sh : Sized h) (room : Roomy p m out (behind g h)) where
-      pub made-then : Made p r₁ out₁ work₁ strs₁ out₂ work₂ strs₂ r h → Made p m out work strs out₂ work₂ strs₂ r (behind g h)
+      pub made-then : Made t d p r₁ out₁ work₁ strs₁ out₂ work₂ strs₂ r h → Made t d p m out work strs out₂ work₂ strs₂ r (behind g h)
       made-then b =
           let n = length-append (g .contents) (h .contents) in
           let k = length-append (g .segments) (h .segments) in
@@ -102,17 +104,18 @@ module _ (p : Plan) (m : Mark) (out work strs : List ℕ) {out₁ work₁ strs�
             kept = ap (λ (n : ℕ). take n strs₂) (sym (a .base)) ∙ b .kept ∙ ap (λ (n : ℕ). take n strs₁) (a .base) ∙ a .kept;
             free = b .free ∙ a .free;
             long = b .long ∙ a .long;
+            named = b .named;
           }
 
-      pub told-then : Told p r₁ out₁ work₁ strs₁ out₂ work₂ strs₂ r h → Told p m out work strs out₂ work₂ strs₂ r (behind g h)
+      pub told-then : Told t d p r₁ out₁ work₁ strs₁ out₂ work₂ strs₂ r h → Told t d p m out work strs out₂ work₂ strs₂ r (behind g h)
       told-then b = record {
         ok = b .ok ∙ ap₂ (λ (n k : ℕ). hasRoom n k (h .interner)) (a .long) (a .base);
         made = λ e. made-then (b .made e);
       }
 
   -- a step that is refused is a refusal of all that follows
-  pub refused-then : Told p m out work strs out₁ work₁ strs₁ r₁ g → r₁ .ok ≡ false → (final : NewLayer)
-      → ((size base : ℕ) → hasRoom size base (final .interner) ≡ true → hasRoom size base (g .interner) ≡ true) → Told p m out work strs out₁ work₁ strs₁ r₁ final
+  pub refused-then : Told t d p m out work strs out₁ work₁ strs₁ r₁ g → r₁ .ok ≡ false → (final : NewLayer)
+      → ((size base : ℕ) → hasRoom size base (final .interner) ≡ true → hasRoom size base (g .interner) ≡ true) → Told t d p m out work strs out₁ work₁ strs₁ r₁ final
   refused-then a e final before = record {
     ok = by-bool (hasRoom (length strs) (m .state .base) (final .interner))
         (λ x. absurd (true≢false (sym (before (length strs) (m .state .base) x) ∙ sym (a .ok) ∙ e)))

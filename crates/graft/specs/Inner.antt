@@ -23,7 +23,8 @@ use Rattle.sizes.specs.declared.Room.{Room}
 use Rattle.sizes.specs.declared.Sizes.{Sizes}
 use Rattle.graft.specs.Grafted.{layerFrom, Roomy}
 use Rattle.graft.specs.Runs.{withContents, withSegments}
-use Rattle.graft.specs.Walk.{sourceStore, shownContents, shownSegments, Ready, StartTold, ContentsTold, SegmentsTold, contentRunFrom, segmentRunFrom}
+use Rattle.graft.specs.Named.{sourceStore}
+use Rattle.graft.specs.Walk.{shownContents, shownSegments, Ready, StartTold, ContentsTold, SegmentsTold, contentRunFrom, segmentRunFrom}
 use Rattle.graft.specs.Rooms.{ready-left, roomy, content-run-adds, segment-run-adds, shown-contents-grow, shown-segments-grow}
 use Rattle.graft.specs.Answers.{content-run-told, segment-run-told}
 use Rattle.graft.specs.declared.Plan.{Plan}
@@ -86,8 +87,8 @@ module _ {t d : List ℕ} {st : Store} {p : Plan} {m : Mark} {out work strs : Li
       rw (e, ← is) (all-take (contentIn st) len (drop start (sourceStore t d .contents)) (all-drop (contentIn st) start (sourceStore t d .contents) (y .source .contents)))
 
   pub content-run-answer : (to : ℕ) → to ≡ m .contents + own .contents → {out′ work′ strs′ : List ℕ} {r : Mark}
-      → ContentsTold p m to out work strs out′ work′ strs′ r (shownContents l t d (recordsAt contentCodec t at len) (layerFrom p work strs m))
-      → (s : Start) → s ≡ record { mark = withContents r (to + len); at = p .contents + to } → StartTold p m out work strs out′ work′ strs′ s (contentRunFrom l t d start len (layerFrom p work strs m))
+      → ContentsTold t d p m to out work strs out′ work′ strs′ r (shownContents l t d (recordsAt contentCodec t at len) (layerFrom p work strs m))
+      → (s : Start) → s ≡ record { mark = withContents r (to + len); at = p .contents + to } → StartTold t d p m out work strs out′ work′ strs′ s (contentRunFrom l t d start len (layerFrom p work strs m))
   unfolding contentRunFrom contentsAdd
   content-run-answer to z b s q =
       let f = layerFrom p work strs m in
@@ -135,8 +136,8 @@ module _ {t d : List ℕ} {st : Store} {p : Plan} {m : Mark} {out work strs : Li
       rw (e, ← is) (all-take (segmentIn st) len (drop start (sourceStore t d .segments)) (all-drop (segmentIn st) start (sourceStore t d .segments) (y .source .segments)))
 
   pub segment-run-answer : (to : ℕ) → to ≡ m .segments + theirs .segments → {out′ work′ strs′ : List ℕ} {r : Mark}
-      → SegmentsTold p m to out work strs out′ work′ strs′ r (shownSegments l t d (recordsAt segmentCodec t at len) (layerFrom p work strs m))
-      → (s : Start) → s ≡ record { mark = withSegments r (to + len); at = p .segments + to } → StartTold p m out work strs out′ work′ strs′ s (segmentRunFrom l t d start len (layerFrom p work strs m))
+      → SegmentsTold t d p m to out work strs out′ work′ strs′ r (shownSegments l t d (recordsAt segmentCodec t at len) (layerFrom p work strs m))
+      → (s : Start) → s ≡ record { mark = withSegments r (to + len); at = p .segments + to } → StartTold t d p m out work strs out′ work′ strs′ s (segmentRunFrom l t d start len (layerFrom p work strs m))
   unfolding segmentRunFrom segmentsAdd
   segment-run-answer to z b s q =
       let f = layerFrom p work strs m in

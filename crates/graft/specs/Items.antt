@@ -22,7 +22,8 @@ use Rattle.sizes.specs.InPlace.{innerAdds, bodyAdds, contentAdds, segmentRunAdd
 use Rattle.graft.specs.Grafted.{layerFrom, Told}
 use Rattle.graft.specs.Widths.{node-six}
 use Rattle.put_records.specs.Written.{sixOf, six-of, segmentWith}
-use Rattle.graft.specs.Walk.{Source, sourceStore, shownContents, shownSegments, Ready, StartTold, WordsTold, ContentsTold, SegmentsTold, segmentRunFrom, bodyFrom}
+use Rattle.graft.specs.Named.{sourceStore}
+use Rattle.graft.specs.Walk.{Source, shownContents, shownSegments, Ready, StartTold, WordsTold, ContentsTold, SegmentsTold, segmentRunFrom, bodyFrom}
 use Rattle.graft.specs.Answers.{one-plain, one-segments, item-refused, item-made}
 use Rattle.graft.specs.Bodies.{one-zero, one-body, body-from}
 use Rattle.graft.specs.declared.Plan.{Plan}
@@ -53,21 +54,21 @@ module _ (t : List ℕ) (st : Store) (at : ℕ) (c : ContentRead) (e : contentOf
       rw (ne-eqb (c .tag) 0 z) at g
 
   module _ (l : ℕ) (d : List ℕ) (p : Plan) (m : Mark) (to : ℕ) (out work strs : List ℕ) {out₁ work₁ strs₁ : List ℕ} (s : Start) where
-    module _ (z : c .tag ≡ 0) (x : StartTold p m out work strs out₁ work₁ strs₁ s (graftStr (resolveStr (sourceStore t d) (c .first)) (layerFrom p work strs m))) where
-      pub plain-refused : s .mark .ok ≡ false → ContentsTold p m to out work strs out₁ work₁ strs₁ (s .mark) (shownContents l t d (recordAt contentCodec t at ∷ []) (layerFrom p work strs m))
+    module _ (z : c .tag ≡ 0) (x : StartTold t d p m out work strs out₁ work₁ strs₁ s (graftStr (resolveStr (sourceStore t d) (c .first)) (layerFrom p work strs m))) where
+      pub plain-refused : s .mark .ok ≡ false → ContentsTold t d p m to out work strs out₁ work₁ strs₁ (s .mark) (shownContents l t d (recordAt contentCodec t at ∷ []) (layerFrom p work strs m))
       plain-refused o = rw (← e) (item-refused contentCodec p m (p .contentsat + 10 * to) out work strs (x .told) (one-plain l t d (contentOf c) (layerFrom p work strs m) z) o)
 
       pub plain-made : s .mark .ok ≡ true → {out₂ : List ℕ} → out₂ ≡ overwrite out₁ (p .contentsat + 10 * to) (recordBytes contentCodec (record { tag = 0; first = s .at; second = 0 }))
-          → ContentsTold p m to out work strs out₂ work₁ strs₁ (s .mark) (shownContents l t d (recordAt contentCodec t at ∷ []) (layerFrom p work strs m))
+          → ContentsTold t d p m to out work strs out₂ work₁ strs₁ (s .mark) (shownContents l t d (recordAt contentCodec t at ∷ []) (layerFrom p work strs m))
       plain-made o w = rw (← e) (item-made contentCodec p m (p .contentsat + 10 * to) out work strs (x .told) (one-plain l t d (contentOf c) (layerFrom p work strs m) z) (contentWith 0 0 (s .at)) (ap (contentWith 0 0) (x .start o)) w)
 
     module _ (source : Source t d st) (h : segmentsIn st (c .first) (c .second) ≡ true) (z : c .tag ≡ 0 → ⊥)
-        (x : StartTold p m out work strs out₁ work₁ strs₁ s (segmentRunFrom l t d (c .first) (c .second) (layerFrom p work strs m))) where
-      pub run-refused : s .mark .ok ≡ false → ContentsTold p m to out work strs out₁ work₁ strs₁ (s .mark) (shownContents l t d (recordAt contentCodec t at ∷ []) (layerFrom p work strs m))
+        (x : StartTold t d p m out work strs out₁ work₁ strs₁ s (segmentRunFrom l t d (c .first) (c .second) (layerFrom p work strs m))) where
+      pub run-refused : s .mark .ok ≡ false → ContentsTold t d p m to out work strs out₁ work₁ strs₁ (s .mark) (shownContents l t d (recordAt contentCodec t at ∷ []) (layerFrom p work strs m))
       run-refused o = rw (← e) (item-refused contentCodec p m (p .contentsat + 10 * to) out work strs (x .told) (one-segments l t d (contentOf c) (layerFrom p work strs m) st source h z) o)
 
       pub run-made : s .mark .ok ≡ true → {out₂ : List ℕ} → out₂ ≡ overwrite out₁ (p .contentsat + 10 * to) (recordBytes contentCodec (record { tag = 1; first = s .at; second = c .second }))
-          → ContentsTold p m to out work strs out₂ work₁ strs₁ (s .mark) (shownContents l t d (recordAt contentCodec t at ∷ []) (layerFrom p work strs m))
+          → ContentsTold t d p m to out work strs out₂ work₁ strs₁ (s .mark) (shownContents l t d (recordAt contentCodec t at ∷ []) (layerFrom p work strs m))
       run-made o w = rw (← e) (item-made contentCodec p m (p .contentsat + 10 * to) out work strs (x .told) (one-segments l t d (contentOf c) (layerFrom p work strs m) st source h z) (contentWith 1 (c .second) (s .at)) (ap (contentWith 1 (c .second)) (x .start o)) w)
 
 -- ---- a segment
@@ -94,15 +95,15 @@ module _ (t d : List ℕ) (at : ℕ) where
   found-is = let e = segment-body t at in λ i. record { tag = byteAt t (at + 1); level = byteAt t (at + 2); body = sym e i }
 
   module _ (p : Plan) (m : Mark) (to : ℕ) (out work strs : List ℕ) where
-    pub segment-zero : (l : ℕ) → l ≡ 0 → Told p m out work strs out work strs m (layerFrom p work strs m) → {out₂ : List ℕ}
+    pub segment-zero : (l : ℕ) → l ≡ 0 → Told t d p m out work strs out work strs m (layerFrom p work strs m) → {out₂ : List ℕ}
         → out₂ ≡ overwrite out (p .segmentsat + 37 * to) (recordBytes segmentCodec (segmentWith (byteAt t (at + 1)) (byteAt t (at + 2)) 0 0 0 0 (replicate 6 0)))
-        → SegmentsTold p m to out work strs out₂ work strs m (shownSegments l t d (found ∷ []) (layerFrom p work strs m))
+        → SegmentsTold t d p m to out work strs out₂ work strs m (shownSegments l t d (found ∷ []) (layerFrom p work strs m))
     unfolding sixOf
     segment-zero l z k w =
         rw found-is (item-made segmentCodec p m (p .segmentsat + 37 * to) out work strs k (one-zero t d (record { tag = byteAt t (at + 1); level = byteAt t (at + 2); body = bodyAt t (at + 3) }) (layerFrom p work strs m) l z)
         (segmentWith (byteAt t (at + 1)) (byteAt t (at + 2)) 0 0 0 0 (replicate 6 0)) refl w)
 
-    module _ (l : ℕ) (z : l ≡ 0 → ⊥) {out₁ work₁ strs₁ : List ℕ} (r : Words) (x : WordsTold p m out work strs out₁ work₁ strs₁ r (bodyFrom (l - 1) t d p work strs m (bodyAt t (at + 3)) 6)) where
+    module _ (l : ℕ) (z : l ≡ 0 → ⊥) {out₁ work₁ strs₁ : List ℕ} (r : Words) (x : WordsTold t d p m out work strs out₁ work₁ strs₁ r (bodyFrom (l - 1) t d p work strs m (bodyAt t (at + 3)) 6)) where
       abbrev body : Body
       body = bodyAt t (at + 3)
 
@@ -119,7 +120,7 @@ module _ (t d : List ℕ) (at : ℕ) where
           ∙ one-body t d (record { tag = byteAt t (at + 1); level = byteAt t (at + 2); body = bodyAt t (at + 3) }) (layerFrom p work strs m) l z
           ∙ ap (λ (b : With Body). (record { tag = byteAt t (at + 1); level = byteAt t (at + 2); body = b .0 } ∷ [], b .1)) (body-from (l - 1) t d p work strs m (bodyAt t (at + 3)))
 
-      pub below-refused : r .mark .ok ≡ false → SegmentsTold p m to out work strs out₁ work₁ strs₁ (r .mark) (shownSegments l t d (found ∷ []) (layerFrom p work strs m))
+      pub below-refused : r .mark .ok ≡ false → SegmentsTold t d p m to out work strs out₁ work₁ strs₁ (r .mark) (shownSegments l t d (found ∷ []) (layerFrom p work strs m))
       below-refused o = item-refused segmentCodec p m (p .segmentsat + 37 * to) out work strs (x .told) below o
 
       six : r .mark .ok ≡ true → sixOf (r .words) ≡ ws
@@ -144,7 +145,7 @@ module _ (t d : List ℕ) (at : ℕ) where
 
       pub below-made : (first second : ℕ) → first ≡ wordAt t (at + 5) → second ≡ wordAt t (at + 9) → r .mark .ok ≡ true → {out₂ : List ℕ}
           → out₂ ≡ overwrite out₁ (p .segmentsat + 37 * to) (recordBytes segmentCodec (segmentWith (byteAt t (at + 1)) (byteAt t (at + 2)) (byteAt t (at + 3)) (byteAt t (at + 4)) first second (r .words)))
-          → SegmentsTold p m to out work strs out₂ work₁ strs₁ (r .mark) (shownSegments l t d (found ∷ []) (layerFrom p work strs m))
+          → SegmentsTold t d p m to out work strs out₂ work₁ strs₁ (r .mark) (shownSegments l t d (found ∷ []) (layerFrom p work strs m))
       below-made first second a b o {out₂} w =
           let v : out₂ ≡ overwrite out₁ (p .segmentsat + 37 * to) (recordBytes segmentCodec (segmentWith (byteAt t (at + 1)) (byteAt t (at + 2)) (byteAt t (at + 3)) (byteAt t (at + 4)) (wordAt t (at + 5)) (wordAt t (at + 9)) (r .words))) = rw (← a, ← b) w in
           item-made segmentCodec p m (p .segmentsat + 37 * to) out work strs (x .told) below (segmentWith (byteAt t (at + 1)) (byteAt t (at + 2)) (byteAt t (at + 3)) (byteAt t (at + 4)) (wordAt t (at + 5)) (wordAt t (at + 9)) (r .words)) (same o) v

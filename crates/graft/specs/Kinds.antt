@@ -13,7 +13,8 @@ use Rattle.sizes.specs.Trees.{length-contents, length-segments}
 use Rattle.sizes.specs.Shown.{showInner, contents-shown, segments-shown}
 use Rattle.graft.specs.Rebased.{steps-each, steps-every}
 use Rattle.graft.specs.Widths.{contents-width, segments-width, contents-sized, segments-sized}
-use Rattle.graft.specs.Walk.{Source, sourceStore, shownContents, shownSegments}
+use Rattle.graft.specs.Named.{sourceStore}
+use Rattle.graft.specs.Walk.{Source, shownContents, shownSegments}
 use Rattle.graft.specs.Parts.{contents-parts, segments-parts}
 use Rattle.graft.specs.Rooms.{shown-contents-grow, shown-segments-grow}
 use Rattle.graft.specs.NodeItems.{steps-refs, refs-parts, refs-sized, refs-width, length-refs, shownOf, shown-append, shown-long, shown-nodes-grow}

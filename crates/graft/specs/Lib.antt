@@ -1,4 +1,5 @@
 pub mod Rebased
+pub mod Named
 pub mod Blocks
 pub mod Grafted
 pub mod Runs

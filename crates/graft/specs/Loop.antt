@@ -40,16 +40,16 @@ pub record Grafts {A : Type 0} (t : List ℕ) (k : Codec A) (size : ℕ) (run : 
   pub grows : (xs : List A) (f : NewLayer) → all known xs ≡ true → Grew f (run xs f .1) (addAll adds xs)
 
 -- the first i records are grafted, those of the graft written from the byte `place` on
-pub record ItemsUpTo {A : Type 0} (t : List ℕ) (k : Codec A) (run : List A → NewLayer → With (List A)) (p : Plan) (m : Mark) (at place : ℕ) (out work strs out′ work′ strs′ : List ℕ) (u : Mark) (i : ℕ) : Type 0 where
+pub record ItemsUpTo {A : Type 0} (t d : List ℕ) (k : Codec A) (run : List A → NewLayer → With (List A)) (p : Plan) (m : Mark) (at place : ℕ) (out work strs out′ work′ strs′ : List ℕ) (u : Mark) (i : ℕ) : Type 0 where
   pub long : length out′ ≡ length out
   pub going : u .ok ≡ true
-  pub told : ItemsTold k p m place out work strs out′ work′ strs′ u (run (recordsAt k t at i) (layerFrom p work strs m))
+  pub told : ItemsTold t d k p m place out work strs out′ work′ strs′ u (run (recordsAt k t at i) (layerFrom p work strs m))
 
 module _ {A : Type 0} {t : List ℕ} {k : Codec A} {size : ℕ} {run : List A → NewLayer → With (List A)} {known : A → Bool} {adds : A → Added} {sum : ℕ → ℕ → Added} (w : Grafts t k size run known adds sum) where
   -- ---- one part more
 
-  module _ (p : Plan) (m : Mark) (place : ℕ) (out work strs : List ℕ) {out₁ work₁ strs₁ : List ℕ} {r₁ : Mark} (xs ys : List A)
-      (a : ItemsSoFar k p m place out work strs out₁ work₁ strs₁ r₁ (run xs (layerFrom p work strs m) .0) (run xs (layerFrom p work strs m) .1)) where
+  module _ {d : List ℕ} (p : Plan) (m : Mark) (place : ℕ) (out work strs : List ℕ) {out₁ work₁ strs₁ : List ℕ} {r₁ : Mark} (xs ys : List A)
+      (a : ItemsSoFar t d k p m place out work strs out₁ work₁ strs₁ r₁ (run xs (layerFrom p work strs m) .0) (run xs (layerFrom p work strs m) .1)) where
     abbrev first : With (List A)
     first = run xs (layerFrom p work strs m)
 
@@ -66,7 +66,7 @@ module _ {A : Type 0} {t : List ℕ} {k : Codec A} {size : ℕ} {run : List A �
     part-turn : {out₂ work₂ strs₂ : List ℕ} {r : Mark} (n : ℕ) → n ≡ place + length (recordsBytes k (first .0))
         → (let both = run (xs ++ ys) (layerFrom p work strs m) in
         Roomy p m out (both .1) → Clear p m (length out) (length (both .1 .contents)) (length (both .1 .segments)) place (length (recordsBytes k (both .0)))
-        → ItemsTold k p r₁ n out₁ work₁ strs₁ out₂ work₂ strs₂ r second → ItemsTold k p m place out work strs out₂ work₂ strs₂ r both)
+        → ItemsTold t d k p r₁ n out₁ work₁ strs₁ out₂ work₂ strs₂ r second → ItemsTold t d k p m place out work strs out₂ work₂ strs₂ r both)
     part-turn n e room clear b =
         let g = first .1 in
         let h = second .1 in
@@ -123,7 +123,7 @@ module _ {A : Type 0} {t : List ℕ} {k : Codec A} {size : ℕ} {run : List A �
         let n : size * i ≤ size * count = mul-le-mul-left size j in
         apart-less (omega (arith, g .contents, e)) (omega arith) (omega (arith, g .segments, f)) (omega arith) (omega (arith, items-bytes i, n)) clear
 
-    pub items-first : ItemsUpTo t k run p m at place out work strs out work strs m 0
+    pub items-first : ItemsUpTo t d k run p m at place out work strs out work strs m 0
     unfolding recordsAt recordsBytes flatten
     items-first =
         let e = told-none y in
@@ -132,8 +132,8 @@ module _ {A : Type 0} {t : List ℕ} {k : Codec A} {size : ℕ} {run : List A �
     pub item-known : (i : ℕ) → i < count → known (item i) ≡ true
     item-known i j = ap known (sym (item-is i)) ∙ records-in k t at known i count j h
 
-    pub items-refused : {out′ work′ strs′ : List ℕ} {u : Mark} (i : ℕ) → i ≤ count → ItemsTold k p m place out work strs out′ work′ strs′ u (items i) → u .ok ≡ false
-        → ItemsTold k p m place out work strs out′ work′ strs′ u (items count)
+    pub items-refused : {out′ work′ strs′ : List ℕ} {u : Mark} (i : ℕ) → i ≤ count → ItemsTold t d k p m place out work strs out′ work′ strs′ u (items i) → u .ok ≡ false
+        → ItemsTold t d k p m place out work strs out′ work′ strs′ u (items count)
     items-refused i j a e =
         let f = layerFrom p work strs m in
         let r = records-parts k t at i count j in
@@ -146,8 +146,8 @@ module _ {A : Type 0} {t : List ℕ} {k : Codec A} {size : ℕ} {run : List A �
           made = λ o. absurd (true≢false (sym o ∙ e));
         }
 
-    module _ {out′ work′ strs′ : List ℕ} {u : Mark} {i : ℕ} (a : ItemsUpTo t k run p m at place out work strs out′ work′ strs′ u i) where
-      pub items-last : count ≤ i → i ≤ count → ItemsTold k p m place out work strs out′ work′ strs′ u (items count)
+    module _ {out′ work′ strs′ : List ℕ} {u : Mark} {i : ℕ} (a : ItemsUpTo t d k run p m at place out work strs out′ work′ strs′ u i) where
+      pub items-last : count ≤ i → i ≤ count → ItemsTold t d k p m place out work strs out′ work′ strs′ u (items count)
       items-last x z = let e : i ≡ count = omega arith in rw e at (a .told)
 
       pub item-ready : i < count → Ready t d st p u out′ work′ strs′ (adds (item i))
@@ -168,8 +168,8 @@ module _ {A : Type 0} {t : List ℕ} {k : Codec A} {size : ℕ} {run : List A �
           (omega (arith, x .contents, g .contents, e), omega (arith, x .segments, g .segments, f))
 
       module _ {out″ work″ strs″ : List ℕ} {r : Mark} (j : i < count) (clear : Clear p m (length out) (sum at count .contents) (sum at count .segments) place (size * count))
-          (n : ℕ) (e : n ≡ place + size * i) (x : ItemsTold k p u n out′ work′ strs′ out″ work″ strs″ r (run (item i ∷ []) (layerFrom p work′ strs′ u))) where
-        pub item-turn : ItemsTold k p m place out work strs out″ work″ strs″ r (items (i + 1))
+          (n : ℕ) (e : n ≡ place + size * i) (x : ItemsTold t d k p u n out′ work′ strs′ out″ work″ strs″ r (run (item i ∷ []) (layerFrom p work′ strs′ u))) where
+        pub item-turn : ItemsTold t d k p m place out work strs out″ work″ strs″ r (items (i + 1))
         item-turn =
             let xs = recordsAt k t at i in
             let one = item i ∷ [] in
@@ -178,5 +178,5 @@ module _ {A : Type 0} {t : List ℕ} {k : Codec A} {size : ℕ} {run : List A �
             let z : i + 1 ≤ count = omega arith in
             rw q (part-turn p m place out work strs xs one (a .told .made (a .going)) n (omega (arith, e, items-bytes i)) (rw q at (first-roomy (i + 1) z)) (rw q at (first-clear (i + 1) z clear)) x)
 
-        pub items-more : length out″ ≡ length out′ → r .ok ≡ true → ItemsUpTo t k run p m at place out work strs out″ work″ strs″ r (i + 1)
+        pub items-more : length out″ ≡ length out′ → r .ok ≡ true → ItemsUpTo t d k run p m at place out work strs out″ work″ strs″ r (i + 1)
         items-more z o = record { long = z ∙ a .long; going = o; told = item-turn }

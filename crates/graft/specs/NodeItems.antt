@@ -21,7 +21,8 @@ use Rattle.graft.specs.Rebased.{Steps, steps-return, steps-then, steps-n
 use Rattle.graft.specs.Grafted.{layerFrom, Sized}
 use Rattle.graft.specs.Widths.{SixWords, six-words, node-six, node-sized}
 use Rattle.graft.specs.Runs.{ItemsTold}
-use Rattle.graft.specs.Walk.{Source, sourceStore}
+use Rattle.graft.specs.Named.{sourceStore}
+use Rattle.graft.specs.Walk.{Source}
 use Rattle.graft.specs.declared.Plan.{Plan}
 use Rattle.graft.specs.declared.Mark.{Mark}
 
@@ -112,5 +113,5 @@ abbrev pub refsFrom : Plan → List ℕ → List ℕ → Mark → List ShownNode
 refsFrom p work strs m ns = graftNodeRefs ns (layerFrom p work strs m)
 
 -- the grafted nodes, their records from a byte behind the new segments on
-abbrev pub NodesTold : Plan → Mark → ℕ → List ℕ → List ℕ → List ℕ → List ℕ → List ℕ → List ℕ → Mark → With (List SourceNode) → Type 0
-NodesTold = ItemsTold nodeCodec
+abbrev pub NodesTold : List ℕ → List ℕ → Plan → Mark → ℕ → List ℕ → List ℕ → List ℕ → List ℕ → List ℕ → List ℕ → Mark → With (List SourceNode) → Type 0
+NodesTold t d = ItemsTold t d nodeCodec

@@ -21,7 +21,8 @@ use Rattle.sizes.specs.Trees.{Grew, contents-grow, segments-grow, fields-grow, 
 use Rattle.sizes.specs.InPlace.{innerAdds, contentAdds, contentRunAdds, segmentRunAdds, fieldsAdd}
 use Rattle.sizes.specs.Shown.{showInner, segments-agree, contents-agree, fields-agree, segment-run-agrees, content-run-agrees, inner-agrees}
 use Rattle.graft.specs.Grafted.{layerFrom, Roomy, Made}
-use Rattle.graft.specs.Walk.{Source, sourceStore, shownContents, shownSegments, Space, Ready, contentRunFrom, segmentRunFrom}
+use Rattle.graft.specs.Named.{sourceStore}
+use Rattle.graft.specs.Walk.{Source, shownContents, shownSegments, Space, Ready, contentRunFrom, segmentRunFrom}
 use Rattle.graft.specs.declared.Plan.{Plan}
 use Rattle.graft.specs.declared.Mark.{Mark}
 
@@ -39,9 +40,9 @@ space-left a b s = record {
 }
 
 pub ready-left : {t d : List ℕ} {st : Store} {p : Plan} {m : Mark} {out work strs : List ℕ} (a b : Added) → Ready t d st p m out work strs (add a b) → Ready t d st p m out work strs a
-ready-left a b r = record { source = r .source; index = r .index; good = r .good; going = r .going; has = r .has; space = space-left a b (r .space) }
+ready-left a b r = record { source = r .source; index = r .index; pairs = r .pairs; good = r .good; named = r .named; going = r .going; has = r .has; space = space-left a b (r .space) }
 
-module _ (p : Plan) (m : Mark) (out work strs : List ℕ) {out′ work′ strs′ : List ℕ} {r : Mark} {g : NewLayer} (x : Made p m out work strs out′ work′ strs′ r g) (a : Added) (k : Grew (layerFrom p work strs m) g a) where
+module _ {t d : List ℕ} (p : Plan) (m : Mark) (out work strs : List ℕ) {out′ work′ strs′ : List ℕ} {r : Mark} {g : NewLayer} (x : Made t d p m out work strs out′ work′ strs′ r g) (a : Added) (k : Grew (layerFrom p work strs m) g a) where
   calls-on : r .state .stats .calls ≡ m .state .stats .calls + a .calls
   calls-on = ap (λ (t : StrInterner). t .stats .calls) (x .state) ∙ k .calls
 
@@ -57,19 +58,21 @@ module _ (p : Plan) (m : Mark) (out work strs : List ℕ) {out′ work′ strs�
     calls = omega (arith, s .calls, calls-on);
   }
 
-  pub ready-next : {t d tape : List ℕ} {st : Store} (b : Added) → r .ok ≡ hasRoom (length strs) (m .state .base) (g .interner) → r .ok ≡ true → length tape ≡ length out
+  pub ready-next : {tape : List ℕ} {st : Store} (b : Added) → r .ok ≡ hasRoom (length strs) (m .state .base) (g .interner) → r .ok ≡ true → length tape ≡ length out
       → Ready t d st p m out work strs (add a b) → Ready t d st p r tape work′ strs′ b
-  ready-next {t} {d} {tape} {st} b o e l y = record {
+  ready-next {tape} {st} b o e l y = record {
     source = y .source;
     index = rw (x .free) (y .index);
+    pairs = rw (x .free) (y .pairs);
     good = x .good;
+    named = x .named;
     going = e;
     has = (λ i. hasRoom (x .long i) (x .base i) (x .state i)) ∙ sym o ∙ e;
     space = rw l (space-next b (y .space));
   }
 
   -- room for the item behind the first part, whatever follows it
-  pub ready-item : {t d tape : List ℕ} {st : Store} (b rest : Added) → r .ok ≡ hasRoom (length strs) (m .state .base) (g .interner) → r .ok ≡ true → length tape ≡ length out
+  pub ready-item : {tape : List ℕ} {st : Store} (b rest : Added) → r .ok ≡ hasRoom (length strs) (m .state .base) (g .interner) → r .ok ≡ true → length tape ≡ length out
       → Ready t d st p m out work strs (add (add a b) rest) → Ready t d st p r tape work′ strs′ b
   ready-item b rest o e l y = ready-left b rest (ready-next (add b rest) o e l (rw (add-assoc a b rest) at y))
 

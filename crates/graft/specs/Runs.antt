@@ -19,31 +19,31 @@ use Rattle.graft.specs.declared.Mark.{Mark}
 use Rattle.put_records.specs.Runs.{bytes-append}
 
 -- the items so far, their records from the byte `place` on; `made` is the walk without the items, on the tape `under` them
-pub record ItemsSoFar {A : Type 0} (k : Codec A) (p : Plan) (m : Mark) (place : ℕ) (out work strs out′ work′ strs′ : List ℕ) (r : Mark) (items : List A) (g : NewLayer) : Type 0 where
+pub record ItemsSoFar {A : Type 0} (t d : List ℕ) (k : Codec A) (p : Plan) (m : Mark) (place : ℕ) (out work strs out′ work′ strs′ : List ℕ) (r : Mark) (items : List A) (g : NewLayer) : Type 0 where
   pub under : List ℕ
-  pub made : Made p m out work strs under work′ strs′ r g
+  pub made : Made t d p m out work strs under work′ strs′ r g
   pub wrote : out′ ≡ overwrite under place (recordsBytes k items)
 
 -- not ok exactly where the defined strings have no room
-pub record ItemsTold {A : Type 0} (k : Codec A) (p : Plan) (m : Mark) (place : ℕ) (out work strs out′ work′ strs′ : List ℕ) (r : Mark) (a : With (List A)) : Type 0 where
+pub record ItemsTold {A : Type 0} (t d : List ℕ) (k : Codec A) (p : Plan) (m : Mark) (place : ℕ) (out work strs out′ work′ strs′ : List ℕ) (r : Mark) (a : With (List A)) : Type 0 where
   pub ok : r .ok ≡ hasRoom (length strs) (m .state .base) (a .1 .interner)
-  pub made : r .ok ≡ true → ItemsSoFar k p m place out work strs out′ work′ strs′ r (a .0) (a .1)
+  pub made : r .ok ≡ true → ItemsSoFar t d k p m place out work strs out′ work′ strs′ r (a .0) (a .1)
 
 -- n bytes from `place` on meet neither the new contents nor the new segments, so many of each
 abbrev pub Clear : Plan → Mark → ℕ → ℕ → ℕ → ℕ → ℕ → Type 0
 Clear p m size contents segments place n = Apart (p .contentsat + 10 * (m .contents + contents)) (p .segmentsat) (p .segmentsat + 37 * (m .segments + segments)) size place n
 
 -- a step below pending items
-under-step : {p : Plan} {m : Mark} {out work strs out′ work′ strs′ : List ℕ} {r : Mark} {g : NewLayer} (under : List ℕ) → Made p m out work strs out′ work′ strs′ r g → Made p m under work strs (laid p m under g) work′ strs′ r g
-under-step under a = record { good = a .good; state = a .state; contents = a .contents; segments = a .segments; wrote = refl; base = a .base; kept = a .kept; free = a .free; long = a .long }
+under-step : {t d : List ℕ} {p : Plan} {m : Mark} {out work strs out′ work′ strs′ : List ℕ} {r : Mark} {g : NewLayer} (under : List ℕ) → Made t d p m out work strs out′ work′ strs′ r g → Made t d p m under work strs (laid p m under g) work′ strs′ r g
+under-step under a = record { good = a .good; state = a .state; contents = a .contents; segments = a .segments; wrote = refl; base = a .base; kept = a .kept; free = a .free; long = a .long; named = a .named }
 
-module _ {A : Type 0} (k : Codec A) (p : Plan) (m : Mark) (place : ℕ) (out work strs : List ℕ) {out₁ work₁ strs₁ out₂ work₂ strs₂ : List ℕ} {r₁ r : Mark} {items more : List A} {g h : NewLayer}
+module _ {A : Type 0} {t d : List ℕ} (k : Codec A) (p : Plan) (m : Mark) (place : ℕ) (out work strs : List ℕ) {out₁ work₁ strs₁ out₂ work₂ strs₂ : List ℕ} {r₁ r : Mark} {items more : List A} {g h : NewLayer}
     (sg : Sized g) (sh : Sized h) (room : Roomy p m out (behind g h)) where
   -- items behind items: the second step begins at the byte `n` behind the first items
   pub items-then : (n : ℕ) → n ≡ place + length (recordsBytes k items)
       → Clear p m (length out) (length (behind g h .contents)) (length (behind g h .segments)) place (length (recordsBytes k (items ++ more)))
-      → ItemsSoFar k p m place out work strs out₁ work₁ strs₁ r₁ items g → ItemsSoFar k p r₁ n out₁ work₁ strs₁ out₂ work₂ strs₂ r more h
-      → ItemsSoFar k p m place out work strs out₂ work₂ strs₂ r (items ++ more) (behind g h)
+      → ItemsSoFar t d k p m place out work strs out₁ work₁ strs₁ r₁ items g → ItemsSoFar t d k p r₁ n out₁ work₁ strs₁ out₂ work₂ strs₂ r more h
+      → ItemsSoFar t d k p m place out work strs out₂ work₂ strs₂ r (items ++ more) (behind g h)
   items-then n e clear a b =
       let x = length-append (g .contents) (h .contents) in
       let y = length-append (g .segments) (h .segments) in
@@ -74,15 +74,15 @@ module _ {A : Type 0} (k : Codec A) (p : Plan) (m : Mark) (place : ℕ) (out wor
 -- ---- the end: the run is pushed
 
 abbrev pub withContents : Mark → ℕ → Mark
-withContents r n = record { ok = r .ok; contents = n; segments = r .segments; state = r .state }
+withContents r n = record { ok = r .ok; contents = n; segments = r .segments; state = r .state; answered = r .answered }
 
 abbrev pub withSegments : Mark → ℕ → Mark
-withSegments r n = record { ok = r .ok; contents = r .contents; segments = n; state = r .state }
+withSegments r n = record { ok = r .ok; contents = r .contents; segments = n; state = r .state; answered = r .answered }
 
-module _ (p : Plan) (m : Mark) (to : ℕ) (out work strs : List ℕ) {out′ work′ strs′ : List ℕ} {r : Mark} {g : NewLayer} (sg : Sized g) where
+module _ {t d : List ℕ} (p : Plan) (m : Mark) (to : ℕ) (out work strs : List ℕ) {out′ work′ strs′ : List ℕ} {r : Mark} {g : NewLayer} (sg : Sized g) where
   pub contents-pushed : {items : List Content} → to ≡ m .contents + length (g .contents) → length (recordsBytes contentCodec items) ≡ 10 * length items
-      → Roomy p m out (pushContents items g .1) → ItemsSoFar contentCodec p m (p .contentsat + 10 * to) out work strs out′ work′ strs′ r items g
-      → (n : ℕ) → n ≡ to + length items → Made p m out work strs out′ work′ strs′ (withContents r n) (pushContents items g .1)
+      → Roomy p m out (pushContents items g .1) → ItemsSoFar t d contentCodec p m (p .contentsat + 10 * to) out work strs out′ work′ strs′ r items g
+      → (n : ℕ) → n ≡ to + length items → Made t d p m out work strs out′ work′ strs′ (withContents r n) (pushContents items g .1)
   unfolding pushContents
   contents-pushed {items} e si room a n f =
       let x = length-append (g .contents) items in
@@ -101,11 +101,12 @@ module _ (p : Plan) (m : Mark) (to : ℕ) (out work strs : List ℕ) {out′ wor
         kept = a .made .kept;
         free = a .made .free;
         long = a .made .long;
+        named = a .made .named;
       }
 
   pub segments-pushed : {items : List Segment} → to ≡ m .segments + length (g .segments) → length (recordsBytes segmentCodec items) ≡ 37 * length items
-      → Roomy p m out (pushSegments items g .1) → ItemsSoFar segmentCodec p m (p .segmentsat + 37 * to) out work strs out′ work′ strs′ r items g
-      → (n : ℕ) → n ≡ to + length items → Made p m out work strs out′ work′ strs′ (withSegments r n) (pushSegments items g .1)
+      → Roomy p m out (pushSegments items g .1) → ItemsSoFar t d segmentCodec p m (p .segmentsat + 37 * to) out work strs out′ work′ strs′ r items g
+      → (n : ℕ) → n ≡ to + length items → Made t d p m out work strs out′ work′ strs′ (withSegments r n) (pushSegments items g .1)
   unfolding pushSegments
   segments-pushed {items} e si room a n f =
       let x = length-append (g .segments) items in
@@ -124,4 +125,5 @@ module _ (p : Plan) (m : Mark) (to : ℕ) (out work strs : List ℕ) {out′ wor
         kept = a .made .kept;
         free = a .made .free;
         long = a .made .long;
+        named = a .made .named;
       }

@@ -10,16 +10,17 @@ use Rattle.model.specs.Bytes.{wordAt}
 use Rattle.model.specs.Tape.{places, bytesNeeded, recordsBytes}
 use Rattle.model.specs.Store.{resolveStr}
 use Rattle.model.specs.Graft.{graftStr}
-use Rattle.model.specs.Intern.{StrInterner, Interned, intern, cacheHit, bypass, tableAlloc, tableHit}
+use Rattle.model.specs.Intern.{StrInterner, Interned, holds, intern, cacheHit, bypass, tableAlloc, tableHit}
 use Rattle.wire.specs.Loops.{by-bool}
 use Rattle.places.specs.Again.{nodes-place}
 use Rattle.interner.specs.State.{stateOf, Good}
 use Rattle.intern.specs.Told.{Told as InternTold}
-use Rattle.intern.specs.Calls.{each-way, answered-base}
+use Rattle.intern.specs.Calls.{each-way, answered-base, last-holds}
 use Rattle.intern.specs.declared.Answer.{Answer}
 use Rattle.graft.specs.Blocks.{blocks-none}
 use Rattle.graft.specs.Grafted.{layerFrom, contentAt, segmentAt}
-use Rattle.graft.specs.Walk.{Source, sourceStore, stringFrom, StartTold, strStart}
+use Rattle.graft.specs.Named.{sourceStore, ShowsAs}
+use Rattle.graft.specs.Walk.{Source, stringFrom, StartTold, strStart}
 use Rattle.graft.specs.declared.Plan.{Plan}
 use Rattle.graft.specs.declared.Mark.{Mark}
 use Rattle.graft.specs.declared.Start.{Start}
@@ -85,10 +86,10 @@ module _ (p : Plan) (m : Mark) (work strs work′ strs′ s : List ℕ) (a : Ans
       omega (arith, r .id, k, l, r .good .known, r .good .words .few))
       (λ e. let z = told .refused e .id in omega (arith, z))
 
-  pub str-answer : Good work strs (m .state) → length strs′ ≡ length strs → (out : List ℕ) (r : Start) → r ≡ strStart m a (p .strings) → (x : List ℕ) → s ≡ x
-      → StartTold p m out work strs out work′ strs′ r (graftStr x (layerFrom p work strs m))
+  pub str-answer : Good work strs (m .state) → length strs′ ≡ length strs → (t d out : List ℕ) (known id : ℕ) → ShowsAs t d known id → (r : Start) → r ≡ strStart m a known (p .strings)
+      → s ≡ resolveStr (sourceStore t d) id → StartTold t d p m out work strs out work′ strs′ r (graftStr (resolveStr (sourceStore t d) id) (layerFrom p work strs m))
   unfolding graftStr recordsBytes flatten
-  str-answer good long out r e x q =
+  str-answer good long t d out known id shows r e q =
       rw (e, ← q) (record {
         told = record {
           ok = told .ok;
@@ -104,6 +105,10 @@ module _ (p : Plan) (m : Mark) (work strs work′ strs′ s : List ℕ) (a : Ans
                 kept = ap (λ (n : ℕ). take n strs′) (sym (y .base)) ∙ answered-base work strs (m .state) work′ strs′ a (intern (stateOf work strs (m .state)) s) good y;
                 free = y .free;
                 long = long;
+                named = λ n.
+                    ap (holds (stateOf work′ strs′ (a .state) .strings) (a .state .last)) (shows n ∙ sym q)
+                    ∙ ap (λ (i : StrInterner). holds (i .strings) (i .last) s) (y .state)
+                    ∙ last-holds (stateOf work strs (m .state)) s;
               };
         };
         start = λ o. ap (λ (n : ℕ). p .strings + n) (told .answered o .id);

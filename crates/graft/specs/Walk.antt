@@ -9,8 +9,8 @@ use Rattle.model.specs.Lists.{all, sum}
 use Rattle.model.specs.Limits.{noString}
 use Rattle.model.specs.Bytes.{wordAt}
 use Rattle.model.specs.Types.{Body, Content, Segment}
-use Rattle.model.specs.Store.{NodeStore, storeOf, resolveStr, resolveContentRange, resolveSegRange}
-use Rattle.model.specs.Tape.{places, layersAt, contentCodec, segmentCodec}
+use Rattle.model.specs.Store.{resolveStr, resolveContentRange, resolveSegRange}
+use Rattle.model.specs.Tape.{places, contentCodec, segmentCodec}
 use Rattle.model.specs.Tree.{showSegments, showContents, showFields}
 use Rattle.model.specs.Graft.{NewLayer, With, graftStr, pushContents, pushSegments, graftFields, graftContents, graftSegments}
 use Rattle.places.specs.Again.{Frame}
@@ -27,17 +27,15 @@ use Rattle.sizes.specs.Order.{placeField, placeFields}
 use Rattle.sizes.specs.declared.FieldWords.{FieldWords}
 use Rattle.sizes.specs.Added.{Added}
 use Rattle.graft.specs.Grafted.{layerFrom, Told}
+use Rattle.graft.specs.Named.{sourceStore, pairWords, Named}
 use Rattle.graft.specs.Runs.{ItemsTold}
+use Rattle.representatives.specs.Pairs.{Pairs}
 use Rattle.graft.specs.declared.Plan.{Plan}
 use Rattle.graft.specs.declared.Mark.{Mark}
 use Rattle.graft.specs.declared.Start.{Start}
 use Rattle.graft.specs.declared.Words.{Words}
 
 -- ---- the source
-
--- the store of the source, its strings in the bytes d
-abbrev pub sourceStore : List ℕ → List ℕ → NodeStore
-sourceStore t d = storeOf (layersAt t (places t .layers) (drop (wordAt t 1 + wordAt t 5) d))
 
 -- numbers 1 and 4 of the source, and the store of it
 pub record Source (t d : List ℕ) (st : Store) : Type 0 where
@@ -75,24 +73,24 @@ pub record Space (p : Plan) (m : Mark) (size : ℕ) (a : Added) : Type 0 where
 -- ---- answers
 
 -- a string's id, or a run's start, beside the walk's own answer
-pub record StartTold (p : Plan) (m : Mark) (out work strs out′ work′ strs′ : List ℕ) (r : Start) (a : With ℕ) : Type 0 where
-  pub told : Told p m out work strs out′ work′ strs′ (r .mark) (a .1)
+pub record StartTold (t d : List ℕ) (p : Plan) (m : Mark) (out work strs out′ work′ strs′ : List ℕ) (r : Start) (a : With ℕ) : Type 0 where
+  pub told : Told t d p m out work strs out′ work′ strs′ (r .mark) (a .1)
   pub start : r .mark .ok ≡ true → r .at ≡ a .0
 
 -- a string that was asked for, beside what was pushed
-abbrev pub strStart : Mark → Answer → ℕ → Start
-strStart m a offset = record { mark = record { ok = a .ok; contents = m .contents; segments = m .segments; state = a .state }; at = offset + a .id }
+abbrev pub strStart : Mark → Answer → ℕ → ℕ → Start
+strStart m a answered offset = record { mark = record { ok = a .ok; contents = m .contents; segments = m .segments; state = a .state; answered = answered }; at = offset + a .id }
 
-pub record WordsTold (p : Plan) (m : Mark) (out work strs out′ work′ strs′ : List ℕ) (r : Words) (a : With (List ℕ)) : Type 0 where
-  pub told : Told p m out work strs out′ work′ strs′ (r .mark) (a .1)
+pub record WordsTold (t d : List ℕ) (p : Plan) (m : Mark) (out work strs out′ work′ strs′ : List ℕ) (r : Words) (a : With (List ℕ)) : Type 0 where
+  pub told : Told t d p m out work strs out′ work′ strs′ (r .mark) (a .1)
   pub words : r .mark .ok ≡ true → r .words ≡ a .0
 
 -- a run's items at their final places, the first at number `to`
-abbrev pub ContentsTold : Plan → Mark → ℕ → List ℕ → List ℕ → List ℕ → List ℕ → List ℕ → List ℕ → Mark → With (List Content) → Type 0
-ContentsTold p m to = ItemsTold contentCodec p m (p .contentsat + 10 * to)
+abbrev pub ContentsTold : List ℕ → List ℕ → Plan → Mark → ℕ → List ℕ → List ℕ → List ℕ → List ℕ → List ℕ → List ℕ → Mark → With (List Content) → Type 0
+ContentsTold t d p m to = ItemsTold t d contentCodec p m (p .contentsat + 10 * to)
 
-abbrev pub SegmentsTold : Plan → Mark → ℕ → List ℕ → List ℕ → List ℕ → List ℕ → List ℕ → List ℕ → Mark → With (List Segment) → Type 0
-SegmentsTold p m to = ItemsTold segmentCodec p m (p .segmentsat + 37 * to)
+abbrev pub SegmentsTold : List ℕ → List ℕ → Plan → Mark → ℕ → List ℕ → List ℕ → List ℕ → List ℕ → List ℕ → List ℕ → Mark → With (List Segment) → Type 0
+SegmentsTold t d p m to = ItemsTold t d segmentCodec p m (p .segmentsat + 37 * to)
 
 -- ---- what the functions of the walk graft
 
@@ -100,7 +98,9 @@ SegmentsTold p m to = ItemsTold segmentCodec p m (p .segmentsat + 37 * to)
 pub record Ready (t d : List ℕ) (st : Store) (p : Plan) (m : Mark) (out work strs : List ℕ) (a : Added) : Type 0 where
   pub source : Source t d st
   pub index : Indexed (lengthsIn t) (indexWords work)
+  pub pairs : Pairs (resolveStr (sourceStore t d)) (pairWords work)
   pub good : Good work strs (m .state)
+  pub named : Named t d work strs m
   pub going : m .ok ≡ true
   pub has : hasRoom (length strs) (m .state .base) (stateOf work strs (m .state)) ≡ true
   pub space : Space p m (length out) a

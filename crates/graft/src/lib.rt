@@ -1,7 +1,8 @@
 // Document 01 section 5: the trees of the reading copied into one new layer of the result. Each string is interned; a run stands
 // behind all that its items push, and each item is written once, at its place. Crate `graft_nodes` does so for each node.
 ghost use mathlib.Core.Path.{_≡_};
-ghost use mathlib.Core.Bool.{true};
+ghost use mathlib.Core.Bool.{true, not, _&&_};
+ghost use lib.Dec.{eqb};
 ghost use mathlib.Core.List.{[], _∷_};
 ghost use Prim.Native.Nat.{ℕ, _+_, _*_, _≤_, _<_, _^_};
 ghost use lib.ListN.{length, set};
@@ -21,7 +22,9 @@ ghost use Rattle.sizes.specs.InPlace.{innerAdds, bodyAdds, placeAdds, usedAdds,
 ghost use Rattle.graft.specs.Grafted.{layerFrom};
 ghost use Rattle.graft.specs.Runs.{withContents, withSegments};
 ghost use Rattle.graft.specs.Walk.{Ready, bodyFrom, placeFrom, contentRunFrom, segmentRunFrom, fieldFrom};
-ghost use Rattle.graft.specs.Walk.{sourceStore, Source, indexWords, stringFrom, shownContents, shownSegments, StartTold, idFrom, strStart, WordsTold, ContentsTold, SegmentsTold};
+ghost use Rattle.graft.specs.Named.{sourceStore, pairWords, Named, ShowsAs};
+ghost use Rattle.representatives.specs.Pairs.{Pairs};
+ghost use Rattle.graft.specs.Walk.{Source, indexWords, stringFrom, shownContents, shownSegments, StartTold, idFrom, strStart, WordsTold, ContentsTold, SegmentsTold};
 
 // Where the new layer's numbers begin, and where its contents and segments are written.
 pub struct Plan {
@@ -32,12 +35,14 @@ pub struct Plan {
     pub segmentsat: usize,
 }
 
-// How far the walk is: contents and segments pushed, and the interner; not ok where a string had no room.
+// How far the walk is: contents and segments pushed, and the interner; not ok where a string had no room. `answered`: the representative of
+// the last answer's string plus 1, or 0 where none is known.
 pub struct Mark {
     pub ok: bool,
     pub contents: u32,
     pub segments: u32,
     pub state: interner::StrInterner,
+    pub answered: u32,
 }
 
 // A string's id, or where a run starts.
@@ -71,9 +76,9 @@ fn string_from(tape: &[u8], bytes: &[u8], st: store::Store, words: &[u32], id: u
 }
 
 // A string that was asked for, beside what was pushed.
-fn start_of(m: Mark, a: intern::Answer, offset: u32) -> Start
+fn start_of(m: Mark, a: intern::Answer, answered: u32, offset: u32) -> Start
     requires { ⌜ offset + a .id < 2 ^ 32 ⌝ }
-    ensures { λ r. ⌜ r ≡ strStart m a offset ⌝ }
+    ensures { λ r. ⌜ r ≡ strStart m a answered offset ⌝ }
 {
     let state = a.state;
     Start {
@@ -82,12 +87,50 @@ fn start_of(m: Mark, a: intern::Answer, offset: u32) -> Start
             contents: m.contents,
             segments: m.segments,
             state: state,
+            answered: answered,
         },
         at: offset + a.id,
     }
 }
 
-// Section 5. `graft_str`.
+// A string of the source interned; `known` is its representative plus 1, or 0.
+fn intern_str(
+    tape: &[u8],
+    bytes: &[u8],
+    st: store::Store,
+    work: &mut [u32],
+    strs: &mut [u8],
+    p: Plan,
+    m: Mark,
+    known: u32,
+    id: u32,
+) -> Start
+    requires { ⌜ Source (now tape) (now bytes) st ⌝ }
+    requires { ⌜ Indexed (lengthsIn (now tape)) (indexWords (now work)) ⌝ }
+    requires { ⌜ Good (now work) (now strs) (m .state) ⌝ }
+    requires { ⌜ (id < st .totals .strings) × (m .state .stats .calls < 2 ^ 32) × (p .strings + 2 ^ 12 < 2 ^ 32) ⌝ }
+    requires { ⌜ ShowsAs (now tape) (now bytes) known id ⌝ }
+    ensures { λ r. ⌜ ((out : List ℕ) → StartTold (now (tape .entry)) (now (bytes .entry)) p m out (now (work .entry)) (now (strs .entry)) out (now (work .exit)) (now (strs .exit)) r
+        (graftStr (resolveStr (sourceStore (now (tape .entry)) (now (bytes .entry))) id) (layerFrom p (now (work .entry)) (now (strs .entry)) m))) ⌝ }
+{
+    let from = string_from(tape, bytes, st, &work[15360..16384], id);
+    let len = strings::string_length(tape, st, id);
+    let state = m.state;
+    let a = intern::intern(work, strs, state, &bytes[from..from + len]);
+    start_of(m, a, known, p.strings)
+}
+
+// Is this the representative of the last answer's string?
+fn is_answered(known: u32, answered: u32) -> bool
+    ensures { λ r. ⌜ r ≡ (not (eqb known 0) && eqb known answered) ⌝ }
+{
+    if known == 0 {
+        return false;
+    }
+    known == answered
+}
+
+// Section 5. `graft_str`. Where the representative is that of the last answer's string, nothing is compared.
 fn graft_str(
     tape: &[u8],
     bytes: &[u8],
@@ -99,16 +142,18 @@ fn graft_str(
     id: u32,
 ) -> Start
     requires { ⌜ Source (now tape) (now bytes) st ⌝ }
-    requires { ⌜ Indexed (lengthsIn (now tape)) (indexWords (now work)) ⌝ }
-    requires { ⌜ Good (now work) (now strs) (m .state) ⌝ }
+    requires { ⌜ Indexed (lengthsIn (now tape)) (indexWords (now work)) × Pairs (resolveStr (sourceStore (now tape) (now bytes))) (pairWords (now work)) ⌝ }
+    requires { ⌜ Good (now work) (now strs) (m .state) × Named (now tape) (now bytes) (now work) (now strs) m ⌝ }
     requires { ⌜ (id < st .totals .strings) × (m .state .stats .calls < 2 ^ 32) × (p .strings + 2 ^ 12 < 2 ^ 32) ⌝ }
-    ensures { λ r. ⌜ ((out : List ℕ) → StartTold p m out (now (work .entry)) (now (strs .entry)) out (now (work .exit)) (now (strs .exit)) r (graftStr (resolveStr (sourceStore (now (tape .entry)) (now (bytes .entry))) id) (layerFrom p (now (work .entry)) (now (strs .entry)) m))) ⌝ }
+    ensures { λ r. ⌜ ((out : List ℕ) → StartTold (now (tape .entry)) (now (bytes .entry)) p m out (now (work .entry)) (now (strs .entry)) out (now (work .exit)) (now (strs .exit)) r
+        (graftStr (resolveStr (sourceStore (now (tape .entry)) (now (bytes .entry))) id) (layerFrom p (now (work .entry)) (now (strs .entry)) m))) ⌝ }
 {
-    let from = string_from(tape, bytes, st, &work[15360..16384], id);
-    let len = strings::string_length(tape, st, id);
-    let state = m.state;
-    let a = intern::intern(work, strs, state, &bytes[from..from + len]);
-    start_of(m, a, p.strings)
+    let known = representatives::representative(&work[16384..work.len()], id);
+    if is_answered(known, m.answered) {
+        let state = m.state;
+        return start_of(m, intern::intern_last(state), known, p.strings);
+    }
+    intern_str(tape, bytes, st, work, strs, p, m, known, id)
 }
 
 // A string that may be missing; where there is no string, 0.
@@ -124,11 +169,11 @@ fn graft_string(
     id: u32,
 ) -> Start
     requires { ⌜ Source (now tape) (now bytes) st ⌝ }
-    requires { ⌜ Indexed (lengthsIn (now tape)) (indexWords (now work)) ⌝ }
-    requires { ⌜ Good (now work) (now strs) (m .state) ⌝ }
+    requires { ⌜ Indexed (lengthsIn (now tape)) (indexWords (now work)) × Pairs (resolveStr (sourceStore (now tape) (now bytes))) (pairWords (now work)) ⌝ }
+    requires { ⌜ Good (now work) (now strs) (m .state) × Named (now tape) (now bytes) (now work) (now strs) m ⌝ }
     requires { ⌜ (m .ok ≡ true) × (hasRoom (length (now strs)) (m .state .base) (stateOf (now work) (now strs) (m .state)) ≡ true) ⌝ }
     requires { ⌜ (usedWell st usage id 0 ≡ true) × (m .state .stats .calls < 2 ^ 32) × (p .strings + 2 ^ 12 < 2 ^ 32) ⌝ }
-    ensures { λ r. ⌜ ((out : List ℕ) → StartTold p m out (now (work .entry)) (now (strs .entry)) out (now (work .exit)) (now (strs .exit)) r (idFrom (now (tape .entry)) (now (bytes .entry)) usage id (layerFrom p (now (work .entry)) (now (strs .entry)) m))) ⌝ }
+    ensures { λ r. ⌜ ((out : List ℕ) → StartTold (now (tape .entry)) (now (bytes .entry)) p m out (now (work .entry)) (now (strs .entry)) out (now (work .exit)) (now (strs .exit)) r (idFrom (now (tape .entry)) (now (bytes .entry)) usage id (layerFrom p (now (work .entry)) (now (strs .entry)) m))) ⌝ }
 {
     if usage == 1 {
         return graft_str(tape, bytes, st, work, strs, p, m, id);
@@ -247,6 +292,7 @@ fn pushed_contents(p: Plan, r: Mark, to: u32, len: u32) -> Start
             contents: to + len,
             segments: r.segments,
             state: state,
+            answered: r.answered,
         },
         at: p.contents + to,
     }
@@ -264,6 +310,7 @@ fn pushed_segments(p: Plan, r: Mark, to: u32, len: u32) -> Start
             contents: r.contents,
             segments: to + len,
             state: state,
+            answered: r.answered,
         },
         at: p.segments + to,
     }
@@ -286,7 +333,7 @@ pub fn graft_body(
 ) -> Words
     requires { ⌜ Ready (now tape) (now bytes) st p m (now out) (now work) (now strs) (bodyAdds level (now tape) st (bodyAt (now tape) at)) ⌝ }
     requires { ⌜ (at + 34 ≤ length (now tape)) × (bodyIn st (bodyAt (now tape) at) ≡ true) ⌝ }
-    ensures { λ r. ⌜ WordsTold p m (now (out .entry)) (now (work .entry)) (now (strs .entry)) (now (out .exit)) (now (work .exit)) (now (strs .exit)) r (bodyFrom level (now (tape .entry)) (now (bytes .entry)) p (now (work .entry)) (now (strs .entry)) m (bodyAt (now (tape .entry)) at) 6) ⌝ }
+    ensures { λ r. ⌜ WordsTold (now (tape .entry)) (now (bytes .entry)) p m (now (out .entry)) (now (work .entry)) (now (strs .entry)) (now (out .exit)) (now (work .exit)) (now (strs .exit)) r (bodyFrom level (now (tape .entry)) (now (bytes .entry)) p (now (work .entry)) (now (strs .entry)) m (bodyAt (now (tape .entry)) at) 6) ⌝ }
 {
     let mut u = Words {
         mark: m,
@@ -320,7 +367,7 @@ fn graft_place(
 ) -> Words
     requires { ⌜ Ready (now tape) (now bytes) st p (u .mark) (now out) (now work) (now strs) (placeAdds (innerAdds level (now tape) st) (now tape) st (bodyAt (now tape) at) j) ⌝ }
     requires { ⌜ (at + 34 ≤ length (now tape)) × (bodyIn st (bodyAt (now tape) at) ≡ true) × (j < 6) ⌝ }
-    ensures { λ r. ⌜ WordsTold p (u .mark) (now (out .entry)) (now (work .entry)) (now (strs .entry)) (now (out .exit)) (now (work .exit)) (now (strs .exit)) r (placeFrom level (now (tape .entry)) (now (bytes .entry)) (bodyAt (now (tape .entry)) at) j (u .words) (layerFrom p (now (work .entry)) (now (strs .entry)) (u .mark))) ⌝ }
+    ensures { λ r. ⌜ WordsTold (now (tape .entry)) (now (bytes .entry)) p (u .mark) (now (out .entry)) (now (work .entry)) (now (strs .entry)) (now (out .exit)) (now (work .exit)) (now (strs .exit)) r (placeFrom level (now (tape .entry)) (now (bytes .entry)) (bodyAt (now (tape .entry)) at) j (u .words) (layerFrom p (now (work .entry)) (now (strs .entry)) (u .mark))) ⌝ }
 {
     let i = sizes::field_word(tape[at], j);
     let f = sizes::field_at(tape, at, j);
@@ -346,7 +393,7 @@ fn graft_field(
 ) -> Start
     requires { ⌜ Ready (now tape) (now bytes) st p m (now out) (now work) (now strs) (usedAdds (innerAdds level (now tape) st) (now tape) st f) ⌝ }
     requires { ⌜ usedWell st (f .usage) (f .first) (f .second) ≡ true ⌝ }
-    ensures { λ r. ⌜ StartTold p m (now (out .entry)) (now (work .entry)) (now (strs .entry)) (now (out .exit)) (now (work .exit)) (now (strs .exit)) r (fieldFrom level (now (tape .entry)) (now (bytes .entry)) f (layerFrom p (now (work .entry)) (now (strs .entry)) m)) ⌝ }
+    ensures { λ r. ⌜ StartTold (now (tape .entry)) (now (bytes .entry)) p m (now (out .entry)) (now (work .entry)) (now (strs .entry)) (now (out .exit)) (now (work .exit)) (now (strs .exit)) r (fieldFrom level (now (tape .entry)) (now (bytes .entry)) f (layerFrom p (now (work .entry)) (now (strs .entry)) m)) ⌝ }
 {
     if f.usage == 3 {
         return graft_content_run(
@@ -397,7 +444,7 @@ fn graft_content_run(
 ) -> Start
     requires { ⌜ Ready (now tape) (now bytes) st p m (now out) (now work) (now strs) (contentRunAdds (innerAdds level (now tape) st) (now tape) st start len) ⌝ }
     requires { ⌜ contentsIn st start len ≡ true ⌝ }
-    ensures { λ r. ⌜ StartTold p m (now (out .entry)) (now (work .entry)) (now (strs .entry)) (now (out .exit)) (now (work .exit)) (now (strs .exit)) r (contentRunFrom level (now (tape .entry)) (now (bytes .entry)) start len (layerFrom p (now (work .entry)) (now (strs .entry)) m)) ⌝ }
+    ensures { λ r. ⌜ StartTold (now (tape .entry)) (now (bytes .entry)) p m (now (out .entry)) (now (work .entry)) (now (strs .entry)) (now (out .exit)) (now (work .exit)) (now (strs .exit)) r (contentRunFrom level (now (tape .entry)) (now (bytes .entry)) start len (layerFrom p (now (work .entry)) (now (strs .entry)) m)) ⌝ }
 {
     if len == 0 {
         return Start {
@@ -443,7 +490,7 @@ fn graft_contents(
     requires { ⌜ Ready (now tape) (now bytes) st p m (now out) (now work) (now strs) (contentsAdd (innerAdds level (now tape) st) (now tape) st at count) ⌝ }
     requires { ⌜ (at + 10 * count ≤ length (now tape)) × (all (contentIn st) (recordsAt contentCodec (now tape) at count) ≡ true) ⌝ }
     requires { ⌜ (m .contents + contentsAdd (innerAdds level (now tape) st) (now tape) st at count .contents ≤ to) × (p .contentsat + 10 * (to + count) ≤ p .segmentsat) × (to + count < 2 ^ 32) ⌝ }
-    ensures { λ r. ⌜ ContentsTold p m to (now (out .entry)) (now (work .entry)) (now (strs .entry)) (now (out .exit)) (now (work .exit)) (now (strs .exit)) r (shownContents level (now (tape .entry)) (now (bytes .entry)) (recordsAt contentCodec (now (tape .entry)) at count) (layerFrom p (now (work .entry)) (now (strs .entry)) m)) ⌝ }
+    ensures { λ r. ⌜ ContentsTold (now (tape .entry)) (now (bytes .entry)) p m to (now (out .entry)) (now (work .entry)) (now (strs .entry)) (now (out .exit)) (now (work .exit)) (now (strs .exit)) r (shownContents level (now (tape .entry)) (now (bytes .entry)) (recordsAt contentCodec (now (tape .entry)) at count) (layerFrom p (now (work .entry)) (now (strs .entry)) m)) ⌝ }
 {
     let mut u = m;
     let mut i = 0;
@@ -486,7 +533,7 @@ fn graft_content(
     requires { ⌜ Ready (now tape) (now bytes) st p m (now out) (now work) (now strs) (contentAdds (innerAdds level (now tape) st) (now tape) st (recordAt contentCodec (now tape) at)) ⌝ }
     requires { ⌜ (at + 10 ≤ length (now tape)) × (contentIn st (recordAt contentCodec (now tape) at) ≡ true) ⌝ }
     requires { ⌜ (m .contents + contentAdds (innerAdds level (now tape) st) (now tape) st (recordAt contentCodec (now tape) at) .contents ≤ to) × (p .contentsat + 10 * (to + 1) ≤ p .segmentsat) ⌝ }
-    ensures { λ r. ⌜ ContentsTold p m to (now (out .entry)) (now (work .entry)) (now (strs .entry)) (now (out .exit)) (now (work .exit)) (now (strs .exit)) r (shownContents level (now (tape .entry)) (now (bytes .entry)) (recordAt contentCodec (now (tape .entry)) at ∷ []) (layerFrom p (now (work .entry)) (now (strs .entry)) m)) ⌝ }
+    ensures { λ r. ⌜ ContentsTold (now (tape .entry)) (now (bytes .entry)) p m to (now (out .entry)) (now (work .entry)) (now (strs .entry)) (now (out .exit)) (now (work .exit)) (now (strs .exit)) r (shownContents level (now (tape .entry)) (now (bytes .entry)) (recordAt contentCodec (now (tape .entry)) at ∷ []) (layerFrom p (now (work .entry)) (now (strs .entry)) m)) ⌝ }
 {
     let c = records::content_at(tape, at);
     let place = p.contentsat + 10 * (to as usize);
@@ -536,7 +583,7 @@ fn graft_segment_run(
 ) -> Start
     requires { ⌜ Ready (now tape) (now bytes) st p m (now out) (now work) (now strs) (segmentRunAdds (innerAdds level (now tape) st) (now tape) st start len) ⌝ }
     requires { ⌜ segmentsIn st start len ≡ true ⌝ }
-    ensures { λ r. ⌜ StartTold p m (now (out .entry)) (now (work .entry)) (now (strs .entry)) (now (out .exit)) (now (work .exit)) (now (strs .exit)) r (segmentRunFrom level (now (tape .entry)) (now (bytes .entry)) start len (layerFrom p (now (work .entry)) (now (strs .entry)) m)) ⌝ }
+    ensures { λ r. ⌜ StartTold (now (tape .entry)) (now (bytes .entry)) p m (now (out .entry)) (now (work .entry)) (now (strs .entry)) (now (out .exit)) (now (work .exit)) (now (strs .exit)) r (segmentRunFrom level (now (tape .entry)) (now (bytes .entry)) start len (layerFrom p (now (work .entry)) (now (strs .entry)) m)) ⌝ }
 {
     if len == 0 {
         return Start {
@@ -582,7 +629,7 @@ fn graft_segments(
     requires { ⌜ Ready (now tape) (now bytes) st p m (now out) (now work) (now strs) (segmentsAdd (innerAdds level (now tape) st) (now tape) at count) ⌝ }
     requires { ⌜ (at + 37 * count ≤ length (now tape)) × (all (segmentIn st) (recordsAt segmentCodec (now tape) at count) ≡ true) ⌝ }
     requires { ⌜ (m .segments + segmentsAdd (innerAdds level (now tape) st) (now tape) at count .segments ≤ to) × (p .segmentsat + 37 * (to + count) ≤ length (now out)) × (to + count < 2 ^ 32) ⌝ }
-    ensures { λ r. ⌜ SegmentsTold p m to (now (out .entry)) (now (work .entry)) (now (strs .entry)) (now (out .exit)) (now (work .exit)) (now (strs .exit)) r (shownSegments level (now (tape .entry)) (now (bytes .entry)) (recordsAt segmentCodec (now (tape .entry)) at count) (layerFrom p (now (work .entry)) (now (strs .entry)) m)) ⌝ }
+    ensures { λ r. ⌜ SegmentsTold (now (tape .entry)) (now (bytes .entry)) p m to (now (out .entry)) (now (work .entry)) (now (strs .entry)) (now (out .exit)) (now (work .exit)) (now (strs .exit)) r (shownSegments level (now (tape .entry)) (now (bytes .entry)) (recordsAt segmentCodec (now (tape .entry)) at count) (layerFrom p (now (work .entry)) (now (strs .entry)) m)) ⌝ }
 {
     let mut u = m;
     let mut i = 0;
@@ -625,7 +672,7 @@ fn graft_segment(
     requires { ⌜ Ready (now tape) (now bytes) st p m (now out) (now work) (now strs) (innerAdds level (now tape) st (recordAt segmentCodec (now tape) at .body)) ⌝ }
     requires { ⌜ (at + 37 ≤ length (now tape)) × (segmentIn st (recordAt segmentCodec (now tape) at) ≡ true) ⌝ }
     requires { ⌜ (m .segments + innerAdds level (now tape) st (recordAt segmentCodec (now tape) at .body) .segments ≤ to) × (p .segmentsat + 37 * (to + 1) ≤ length (now out)) ⌝ }
-    ensures { λ r. ⌜ SegmentsTold p m to (now (out .entry)) (now (work .entry)) (now (strs .entry)) (now (out .exit)) (now (work .exit)) (now (strs .exit)) r (shownSegments level (now (tape .entry)) (now (bytes .entry)) (recordAt segmentCodec (now (tape .entry)) at ∷ []) (layerFrom p (now (work .entry)) (now (strs .entry)) m)) ⌝ }
+    ensures { λ r. ⌜ SegmentsTold (now (tape .entry)) (now (bytes .entry)) p m to (now (out .entry)) (now (work .entry)) (now (strs .entry)) (now (out .exit)) (now (work .exit)) (now (strs .exit)) r (shownSegments level (now (tape .entry)) (now (bytes .entry)) (recordAt segmentCodec (now (tape .entry)) at ∷ []) (layerFrom p (now (work .entry)) (now (strs .entry)) m)) ⌝ }
 {
     let place = p.segmentsat + 37 * (to as usize);
     let tag = tape[at + 1];

@@ -20,7 +20,8 @@ use Rattle.sizes.specs.Shown.{showInner}
 use Rattle.graft.specs.Grafted.{layerFrom}
 use Rattle.graft.specs.Widths.{node-six}
 use Rattle.put_records.specs.Written.{sixOf, six-of, nodeWith}
-use Rattle.graft.specs.Walk.{sourceStore, Ready, WordsTold, bodyFrom}
+use Rattle.graft.specs.Named.{sourceStore}
+use Rattle.graft.specs.Walk.{Ready, WordsTold, bodyFrom}
 use Rattle.graft.specs.Answers.{told-none, item-refused, item-made}
 use Rattle.graft.specs.NodeItems.{shownOf, refsFrom, NodesTold}
 use Rattle.graft.specs.declared.Plan.{Plan}
@@ -40,7 +41,7 @@ module _ (t d : List ℕ) (st : Store) (at : ℕ) where
   class-is = refl
 
   module _ {p : Plan} {m : Mark} {out work strs : List ℕ} (y : Ready t d st p m out work strs (nodeAdds t st found)) where
-    pub node-bare : 2 ≤ byteAt t (at + 1) → WordsTold p m out work strs out work strs (record { mark = m; words = replicate 6 0 }) (nodeWords t d found (layerFrom p work strs m))
+    pub node-bare : 2 ≤ byteAt t (at + 1) → WordsTold t d p m out work strs out work strs (record { mark = m; words = replicate 6 0 }) (nodeWords t d found (layerFrom p work strs m))
     unfolding nodeWords nodeFields showNode showWith showFields graftNode graftFields
     node-bare h = rw (class-is, le-ltb (byteAt t (at + 1)) 2 h) (record { told = told-none y; words = λ o. refl })
 
@@ -61,13 +62,13 @@ module _ (t d : List ℕ) (st : Store) (at : ℕ) where
           (ap (λ (fs : List Field). graftFields (showFields (showInner 33 (sourceStore t d)) (sourceStore t d) (bodyAt t (at + 15)) fs) (replicate 6 0) (layerFrom p work strs m))
           (sym (fields-in-order (bodyAt t (at + 15) .kind) (bodyAt t (at + 15) .tag))))
 
-      pub node-told : {out′ work′ strs′ : List ℕ} {r : Words} → WordsTold p m out work strs out′ work′ strs′ r (bodyFrom 33 t d p work strs m (bodyAt t (at + 15)) 6)
-          → WordsTold p m out work strs out′ work′ strs′ r (nodeWords t d found (layerFrom p work strs m))
+      pub node-told : {out′ work′ strs′ : List ℕ} {r : Words} → WordsTold t d p m out work strs out′ work′ strs′ r (bodyFrom 33 t d p work strs m (bodyAt t (at + 15)) 6)
+          → WordsTold t d p m out work strs out′ work′ strs′ r (nodeWords t d found (layerFrom p work strs m))
       node-told x = rw whole x
 
   -- ---- its record
 
-  module _ (p : Plan) (m : Mark) (to : ℕ) (out work strs : List ℕ) {out₁ work₁ strs₁ : List ℕ} (r : Words) (x : WordsTold p m out work strs out₁ work₁ strs₁ r (nodeWords t d found (layerFrom p work strs m))) where
+  module _ (p : Plan) (m : Mark) (to : ℕ) (out work strs : List ℕ) {out₁ work₁ strs₁ : List ℕ} (r : Words) (x : WordsTold t d p m out work strs out₁ work₁ strs₁ r (nodeWords t d found (layerFrom p work strs m))) where
     -- the node with its grafted words
     abbrev ref : SourceNode
     ref = graftNodeRef (shownNode (sourceStore t d) found) (layerFrom p work strs m) .0
@@ -76,7 +77,7 @@ module _ (t d : List ℕ) (st : Store) (at : ℕ) where
     unfolding shownOf graftNodeRefs graftNodeRef shownNode nodeWords
     one-ref = refl
 
-    pub ref-refused : r .mark .ok ≡ false → NodesTold p m to out work strs out₁ work₁ strs₁ (r .mark) (refsFrom p work strs m (shownOf t d (found ∷ [])))
+    pub ref-refused : r .mark .ok ≡ false → NodesTold t d p m to out work strs out₁ work₁ strs₁ (r .mark) (refsFrom p work strs m (shownOf t d (found ∷ [])))
     ref-refused = item-refused nodeCodec p m to out work strs (x .told) one-ref
 
     six : r .mark .ok ≡ true → sixOf (r .words) ≡ nodeWords t d found (layerFrom p work strs m) .0
@@ -99,7 +100,7 @@ module _ (t d : List ℕ) (st : Store) (at : ℕ) where
     pub ref-made : (start stop offset first second : ℕ) → start ≡ wordAt t (at + 3) → stop ≡ wordAt t (at + 7) → offset ≡ wordAt t (at + 11) → first ≡ wordAt t (at + 17) → second ≡ wordAt t (at + 21)
         → r .mark .ok ≡ true → {out₂ : List ℕ}
         → out₂ ≡ overwrite out₁ to (recordBytes nodeCodec (nodeWith (byteAt t (at + 1)) (byteAt t (at + 2)) start stop offset (byteAt t (at + 15)) (byteAt t (at + 16)) first second (r .words)))
-        → NodesTold p m to out work strs out₂ work₁ strs₁ (r .mark) (refsFrom p work strs m (shownOf t d (found ∷ [])))
+        → NodesTold t d p m to out work strs out₂ work₁ strs₁ (r .mark) (refsFrom p work strs m (shownOf t d (found ∷ [])))
     ref-made start stop offset first second a b e f g o =
         item-made nodeCodec p m to out work strs (x .told) one-ref
         (nodeWith (byteAt t (at + 1)) (byteAt t (at + 2)) start stop offset (byteAt t (at + 15)) (byteAt t (at + 16)) first second (r .words)) (rw (a, b, e, f, g) (same o))

@@ -3,16 +3,18 @@ use mathlib.Core.Path.{_≡_, refl, sym, ap, _∙_, subst}
 use mathlib.Core.Bool.{Bool, true, false, cond, _&&_}
 use mathlib.Core.Logic.{_⊎_, inl, inr, ⊎-elim}
 use mathlib.Core.List.{List, [], _∷_, _++_, flatten}
-use Prim.Native.Nat.{ℕ, _+_, _%_}
+use Prim.Native.Nat.{ℕ, zero, suc, _+_, _%_}
 use native.Mathlib.Omega.{arith}
-use borrow.Author.Tests.{le-leb, leb-true}
+use borrow.Author.Tests.{le-leb, leb-true, eqb-true, eqb-false}
 use lib.Dec.{eqb, leb, ltb}
-use lib.ListN.{length, take, length-append}
-use lib.Seq.{take-take}
+use lib.ListN.{length, getD, take, length-append}
+use lib.Seq.{take-take, getD-append-seam}
 use Rattle.model.specs.Limits.{internLengthLimit, maxNewStrings}
 use Rattle.model.specs.Intern.{InternStats, StrInterner, Interned, Probe, freshInterner, fxHash, plusStats, holds, probe, grows, tableFor, cacheHit, bypass, tableHit, tableAlloc, tableCall, intern, internAll}
 use Rattle.interner.specs.declared.StrInterner.{StrInterner as Interner}
 use Rattle.laws.specs.Lists.{both}
+use Rattle.model.specs.Lists.{same}
+use Rattle.compare.specs.Compare.{same-refl}
 use Rattle.interner.specs.State.{stateOf, Good, hasRoom}
 use Rattle.interner.specs.Added.{flatten-snoc}
 use Rattle.intern.specs.declared.Answer.{Answer}
@@ -76,6 +78,51 @@ answered-base work strs st work′ strs′ r a g h =
 pub strings-grow : (t : StrInterner) (s : List ℕ) → (intern t s .state .strings ≡ t .strings) ⊎ (intern t s .state .strings ≡ t .strings ++ (s ∷ []))
 unfolding cacheHit bypass tableAlloc tableHit
 strings-grow t s = each-way (λ (a : Interned). (a .state .strings ≡ t .strings) ⊎ (a .state .strings ≡ t .strings ++ (s ∷ []))) t s (inl refl) (inr refl) (λ table resized p. inr refl) (λ table resized p. inl refl)
+
+-- ---- behind a call the last answer's string is the one that was asked for
+
+probe-holds : (n : ℕ) (strings : List (List ℕ)) (table s : List ℕ) (at k : ℕ) → (probe n strings table s at k .slot ≡ 0 → ⊥) → holds strings (probe n strings table s at k .slot) s ≡ true
+unfolding probe
+probe-holds zero strings table s at k d = absurd (d refl)
+probe-holds (suc n) strings table s at k d = pick (probe-holds n strings table s ((at + 1) % length table) (k + 1)) (eqb (getD table at 0) 0) refl (holds strings (getD table at 0) s) refl d
+  where
+    stop : Probe
+    stop = record { at = at; slot = getD table at 0; steps = k + 1 }
+
+    more : Probe
+    more = probe n strings table s ((at + 1) % length table) (k + 1)
+
+    pick : ((more .slot ≡ 0 → ⊥) → holds strings (more .slot) s ≡ true) → (x : Bool) → eqb (getD table at 0) 0 ≡ x → (y : Bool) → holds strings (getD table at 0) s ≡ y
+        → (cond x stop (cond y stop more) .slot ≡ 0 → ⊥) → holds strings (cond x stop (cond y stop more) .slot) s ≡ true
+    pick rest true e y f d = absurd (d (eqb-true (getD table at 0) 0 e))
+    pick rest false e true f d = f
+    pick rest false e false f d = rest d
+
+new-holds : (ss : List (List ℕ)) (s : List ℕ) → holds (ss ++ (s ∷ [])) (suc (length ss)) s ≡ true
+unfolding holds
+new-holds ss s = ap (λ (x : List ℕ). same x s) (getD-append-seam ss s [] []) ∙ same-refl s
+
+pub last-holds : (t : StrInterner) (s : List ℕ) → holds (intern t s .state .strings) (intern t s .state .last) s ≡ true
+unfolding intern tableCall cacheHit bypass tableAlloc tableHit
+last-holds t s = pick (holds (t .strings) (t .last) s) refl (ltb internLengthLimit (length s)) (eqb (p .slot) 0) refl
+  where
+    table : List ℕ
+    table = tableFor t
+
+    p : Probe
+    p = probe (length table) (t .strings) table s (fxHash s % length table) 0
+
+    resized : ℕ
+    resized = cond (grows t) 1 0
+
+    called : Bool → Bool → Bool → Interned
+    called x y z = cond x (cacheHit t) (cond y (bypass t s) (cond z (tableAlloc t table resized p s) (tableHit t table resized p)))
+
+    pick : (x : Bool) → holds (t .strings) (t .last) s ≡ x → (y z : Bool) → eqb (p .slot) 0 ≡ z → holds (called x y z .state .strings) (called x y z .state .last) s ≡ true
+    pick true e y z f = e
+    pick false e true z f = new-holds (t .strings) s
+    pick false e false true f = new-holds (t .strings) s
+    pick false e false false f = probe-holds (length table) (t .strings) table s (fxHash s % length table) 0 (eqb-false (p .slot) 0 f)
 
 less-room : (size base : ℕ) (ss : List (List ℕ)) (s : List ℕ) → (leb (length (ss ++ (s ∷ []))) maxNewStrings && leb (base + length (flatten (ss ++ (s ∷ [])))) size) ≡ true → (leb (length ss) maxNewStrings && leb (base + length (flatten ss)) size) ≡ true
 less-room size base ss s e =

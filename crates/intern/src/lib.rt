@@ -4,9 +4,13 @@ use interner::StrInterner;
 use stats::InternStats;
 use table::Probed;
 ghost use mathlib.Core.Path.{_≡_};
-ghost use Prim.Native.Nat.{_+_, _*_, _^_, _<_, _≤_};
+ghost use mathlib.Core.Bool.{true};
+ghost use mathlib.Core.List.{List};
+ghost use Prim.Native.Nat.{ℕ, _+_, _*_, _^_, _<_, _≤_};
 ghost use lib.ListN.{length, getD};
-ghost use Rattle.model.specs.Intern.{tableAlloc, bypass as bypassOfModel, intern as internOfModel};
+ghost use Rattle.model.specs.Limits.{maxNewStrings};
+ghost use Rattle.model.specs.Intern.{holds, tableAlloc, bypass as bypassOfModel, intern as internOfModel};
+ghost use Rattle.stats.specs.Counts.{Counted};
 ghost use Rattle.table.specs.Layout.{probeOf, tableOf};
 ghost use Rattle.interner.specs.State.{stateOf, Good};
 ghost use Rattle.intern.specs.Told.{Told, knownAnswer, probedCall};
@@ -112,6 +116,16 @@ fn table_call(work: &mut [u32], strs: &mut [u8], st: StrInterner, s: &[u8], resi
     known(st, slot, stats::table_hit(c, resized, p.steps))
 }
 
+// `intern` of the last answer's string: a cache hit. Who knows that it is that string need not compare it.
+pub fn intern_last(st: StrInterner) -> Answer
+    requires { ⌜ (0 < st .last) × (st .last ≤ maxNewStrings) ⌝ }
+    requires { ⌜ Counted (st .stats) × (st .stats .calls < 2 ^ 32) ⌝ }
+    ensures { λ r. ⌜ ((work strs s : List ℕ) → Good work strs st → holds (stateOf work strs st .strings) (st .last) s ≡ true → Told work strs st work strs r (internOfModel (stateOf work strs st) s)) ⌝ }
+{
+    let c = st.stats;
+    known(st, st.last as u32, stats::cache_hit(c))
+}
+
 // `intern`. The calls are to be below 2 to the 32, so that no count of 64 bits wraps: what a caller keeps by `answered-calls`.
 // Where the defined state has over 3583 strings, or bytes past the buffer's end, the answer is not ok, and only then.
 pub fn intern(work: &mut [u32], strs: &mut [u8], st: StrInterner, s: &[u8]) -> Answer
@@ -119,10 +133,8 @@ pub fn intern(work: &mut [u32], strs: &mut [u8], st: StrInterner, s: &[u8]) -> A
     requires { ⌜ st .stats .calls < 2 ^ 32 ⌝ }
     ensures { λ r. ⌜ Told (now (work .entry)) (now (strs .entry)) st (now (work .exit)) (now (strs .exit)) r (internOfModel (stateOf (now (work .entry)) (now (strs .entry)) st) (now (s .entry))) ⌝ }
 {
-    let last = st.last;
-    let c = st.stats;
     if interner::is_last(work, strs, st, s) {
-        return known(st, last as u32, stats::cache_hit(c));
+        return intern_last(st);
     }
     if INTERN_LENGTH_LIMIT < s.len() {
         return bypass(work, strs, st, s);

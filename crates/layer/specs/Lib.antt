@@ -4,3 +4,4 @@ pub mod Source
 pub mod Layered
 pub mod Walked
 pub mod Answers
+pub mod Paired

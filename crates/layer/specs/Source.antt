@@ -27,13 +27,12 @@ use Rattle.tape.specs.Numbers.{store-few, pools-ids, pools-levels}
 use Rattle.sizes.specs.InPlace.{nodesAdd}
 use Rattle.sizes.specs.Trees.{nodesSize}
 use Rattle.sizes.specs.Shown.{shown-nodes-add}
+use Rattle.region.specs.Held.{Held}
 use Rattle.graft.specs.Walk.{Source}
 use Rattle.graft.specs.NodeItems.{shownOf, shown-map}
 
-pub record SourceFits (t d : List ℕ) (p : Places) (st : Store) : Type 0 where
-  pub accepted : Accepted t d
-  pub is : p ≡ found t
-  pub stored : st ≡ storeAt t
+abbrev pub SourceFits : List ℕ → List ℕ → Places → Store → Type 0
+SourceFits = Held
 
 module _ {t d : List ℕ} {p : Places} {st : Store} (f : SourceFits t d p st) where
   -- ---- its lists

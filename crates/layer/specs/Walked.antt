@@ -8,6 +8,7 @@ use lib.ListN.{length, take, drop, length-drop}
 use lib.Seq.{length-take-le, take-at, drop-at}
 use Rattle.model.specs.Limits.{minWorkWords}
 use Rattle.model.specs.Types.{SourceNode}
+use Rattle.model.specs.Store.{resolveStr}
 use Rattle.model.specs.Intern.{StrInterner}
 use Rattle.model.specs.Tape.{recordsAt, recordsBytes, contentCodec, segmentCodec, nodeCodec}
 use Rattle.model.specs.Graft.{With, graftNodeRefs}
@@ -28,7 +29,9 @@ use Rattle.graft.specs.declared.Plan.{Plan}
 use Rattle.graft.specs.declared.Mark.{Mark}
 use Rattle.graft.specs.Blocks.{blocks}
 use Rattle.graft.specs.Grafted.{layerFrom}
+use Rattle.graft.specs.Named.{sourceStore, pairWords}
 use Rattle.graft.specs.Walk.{indexWords, Ready}
+use Rattle.representatives.specs.Pairs.{Pairs}
 use Rattle.graft.specs.NodeItems.{shownOf, NodesTold, refsFrom}
 use Rattle.layer.specs.declared.Offsets.{Offsets}
 use Rattle.layer.specs.Source.{SourceFits, source-of, source-adds, source-shown}
@@ -39,7 +42,7 @@ offsetsOf p = record { strings = p .strings; contents = p .contents; segments = 
 
 -- nothing pushed yet
 abbrev pub freshMark : Interner → Mark
-freshMark r = record { ok = true; contents = 0; segments = 0; state = r }
+freshMark r = record { ok = true; contents = 0; segments = 0; state = r; answered = 0 }
 
 -- ---- the index
 
@@ -51,6 +54,14 @@ index-there lengths work h {ys} e =
     let rest = drop (16384 - 15360) (drop 15360 work) in
     index-written lengths (indexWords work)
     (ap (λ (l : List ℕ). take (16384 - 15360) l) (drop-at (take 15360 work) (ys ++ rest) 15360 (length-take-le 15360 work (omega (arith, h)))) ∙ take-at ys rest (16384 - 15360) n ∙ e)
+
+-- the words behind it stay
+pub pairs-there : (lengths work : List ℕ) → minWorkWords ≤ length work → (ys : List ℕ) → ys ≡ overwrite (indexWords work) 0 (indexIn lengths (indexWords work))
+    → pairWords (take 15360 work ++ (ys ++ drop (16384 - 15360) (drop 15360 work))) ≡ pairWords work
+pairs-there lengths work h ys e =
+    let n : length ys ≡ 16384 - 15360 = index-length lengths (indexWords work) e ∙ length-take-le (16384 - 15360) (drop 15360 work) (rw length-drop (omega (arith, h))) in
+    let rest = drop (16384 - 15360) (drop 15360 work) in
+    ap (λ (l : List ℕ). drop (16384 - 15360) l) (drop-at (take 15360 work) (ys ++ rest) 15360 (length-take-le 15360 work (omega (arith, h)))) ∙ drop-at ys rest (16384 - 15360) n
 
 -- a fresh interner writes before it
 index-kept : (t work₀ : List ℕ) (base : ℕ) {work : List ℕ} → work ≡ withStart work₀ 0 base → Indexed (lengthsIn t) (indexWords work₀) → Indexed (lengthsIn t) (indexWords work)
@@ -82,7 +93,7 @@ pub record Walked (p : Plan) (base nodesat : ℕ) (out strs out′ work′ strs�
   pub ok : r .ok ≡ hasRoom (length strs) base (g .1 .interner)
   pub made : r .ok ≡ true → WalkMade p base nodesat out strs out′ work′ strs′ r g
 
-module _ {t d : List ℕ} {q : Places} {st : Store} (f : SourceFits t d q st) {work₀ strs work : List ℕ} {base : ℕ} {s : Interner} (b : Fresh work₀ strs base work s) (index : Indexed (lengthsIn t) (indexWords work₀)) (p : Plan) (nodesat : ℕ) (out : List ℕ) where
+module _ {t d : List ℕ} {q : Places} {st : Store} (f : SourceFits t d q st) {work₀ strs work : List ℕ} {base : ℕ} {s : Interner} (b : Fresh work₀ strs base work s) (index : Indexed (lengthsIn t) (indexWords work₀)) {ps : List ℕ} (stay : pairWords work₀ ≡ ps) (pairs : Pairs (resolveStr (sourceStore t d)) ps) (p : Plan) (nodesat : ℕ) (out : List ℕ) where
   no-calls : s .stats .calls ≡ 0
   no-calls = ap (λ (x : StrInterner). x .stats .calls) (b .state)
 
@@ -90,7 +101,9 @@ module _ {t d : List ℕ} {q : Places} {st : Store} (f : SourceFits t d q st) {w
   walk-ready w = rw (source-adds f) (record {
     source = source-of f;
     index = index-kept t work₀ base (b .words) index;
+    pairs = rw (b .words, start-high work₀ 0 base 15360 (omega arith), stay) pairs;
     good = b .good;
+    named = λ n. absurd (n refl);
     going = refl;
     has = sym (room-same work strs s (b .good));
     space = record {
@@ -118,7 +131,7 @@ module _ {t d : List ℕ} {q : Places} {st : Store} (f : SourceFits t d q st) {w
   same-graft = λ i. graftNodeRefs (sym (source-shown f) i) (same-layer i)
 
   module _ {out′ work′ strs′ : List ℕ} {r : Mark} where
-    from-here : {g : With (List SourceNode)} → NodesTold p (freshMark s) nodesat out work strs out′ work′ strs′ r g → Walked p base nodesat out strs out′ work′ strs′ r g
+    from-here : {g : With (List SourceNode)} → NodesTold t d p (freshMark s) nodesat out work strs out′ work′ strs′ r g → Walked p base nodesat out strs out′ work′ strs′ r g
     from-here {g} k =
         let x : p .contentsat + 10 * 0 ≡ p .contentsat = omega arith in
         let y : p .segmentsat + 37 * 0 ≡ p .segmentsat = omega arith in
@@ -137,7 +150,7 @@ module _ {t d : List ℕ} {q : Places} {st : Store} (f : SourceFits t d q st) {w
           });
         }
 
-    pub walk-told : NodesTold p (freshMark s) nodesat out work strs out′ work′ strs′ r (refsFrom p work strs (freshMark s) (shownOf t d (recordsAt nodeCodec t (q .nodes .at) (q .nodes .count))))
+    pub walk-told : NodesTold t d p (freshMark s) nodesat out work strs out′ work′ strs′ r (refsFrom p work strs (freshMark s) (shownOf t d (recordsAt nodeCodec t (q .nodes .at) (q .nodes .count))))
         → Walked p base nodesat out strs out′ work′ strs′ r (graftedInto t d (offsetsOf p))
     walk-told k = from-here (rw same-graft at k)
 

@@ -14,6 +14,9 @@ ghost use Rattle.wire.specs.Overwrite.{overwrite};
 ghost use Rattle.table.specs.Layout.{startIn};
 ghost use Rattle.strings.specs.Starts.{lengthsIn, Readable};
 ghost use Rattle.strings.specs.Index.{Indexed};
+ghost use Rattle.model.specs.Store.{resolveStr};
+ghost use Rattle.representatives.specs.Pairs.{Pairs};
+ghost use Rattle.graft.specs.Named.{sourceStore, pairWords};
 ghost use Rattle.graft.specs.Walk.{indexWords};
 ghost use Rattle.layer.specs.Lengths.{newLength, newLengths, Rising};
 ghost use Rattle.layer.specs.Source.{SourceFits};
@@ -186,7 +189,7 @@ fn plan_of(o: Offsets, at: usize, contents: u32) -> graft::Plan
 fn index_words(tape: &[u8], st: store::Store, room: usize, work: &mut [u32])
     requires { ⌜ Readable (now tape) st room ⌝ }
     requires { ⌜ minWorkWords ≤ length (now work) ⌝ }
-    ensures { λ _. ⌜ Indexed (lengthsIn (now (tape .entry))) (indexWords (now (work .exit))) ⌝ }
+    ensures { λ _. ⌜ Indexed (lengthsIn (now (tape .entry))) (indexWords (now (work .exit))) × (pairWords (now (work .exit)) ≡ pairWords (now (work .entry))) ⌝ }
 {
     strings::index_strings(tape, st, room, &mut work[15360..16384]);
 }
@@ -206,7 +209,7 @@ fn walk(
 ) -> graft::Mark
     requires { ⌜ SourceFits (now tape) (now bytes) p st ⌝ }
     requires { ⌜ WalkRoom plan nodesat (p .nodes .count) (length (now out)) (sourceAdds (now tape) (now bytes)) ⌝ }
-    requires { ⌜ (minWorkWords ≤ length (now work)) × (base ≤ length (now strs)) ⌝ }
+    requires { ⌜ (minWorkWords ≤ length (now work)) × (base ≤ length (now strs)) × Pairs (resolveStr (sourceStore (now tape) (now bytes))) (pairWords (now work)) ⌝ }
     ensures { λ r. ⌜ Walked plan base nodesat (now (out .entry)) (now (strs .entry)) (now (out .exit)) (now (work .exit)) (now (strs .exit)) r (graftedInto (now (tape .entry)) (now (bytes .entry)) (offsetsOf plan)) ⌝ }
 {
     index_words(tape, st, bytes.len(), work);
@@ -216,6 +219,7 @@ fn walk(
         contents: 0,
         segments: 0,
         state: state,
+        answered: 0,
     };
     graft_nodes::graft_nodes(
         tape,
@@ -257,6 +261,100 @@ fn finish(
     layer_of(m, len + 5 * count)
 }
 
+// `graft_layer` where the sizes are known, by these words: behind 16384 of them stand pairs of crate `representatives`.
+fn graft_by(
+    tape: &[u8],
+    bytes: &[u8],
+    p: places::Places,
+    st: store::Store,
+    out: &mut [u8],
+    work: &mut [u32],
+    strs: &mut [u8],
+    o: Offsets,
+    at: usize,
+    base: usize,
+    s: sizes::Sizes,
+) -> Layer
+    requires { ⌜ SourceFits (now tape) (now bytes) p st × OffsetsFit o × Exact (roomLeft o) (sourceAdds (now tape) (now bytes)) s ⌝ }
+    requires { ⌜ (minWorkWords ≤ length (now work)) × (base ≤ length (now strs)) × (at ≤ length (now out)) × Pairs (resolveStr (sourceStore (now tape) (now bytes))) (pairWords (now work)) ⌝ }
+    ensures { λ r. ⌜ LayerTold (now (out .entry)) (now (strs .entry)) (now (out .exit)) (now (strs .exit)) at base o r (graftedInto (now (tape .entry)) (now (bytes .entry)) o) ⌝ }
+{
+    let len = layer_length(s.contents, s.segments);
+    let rest = nodes_length(p);
+    if out.len() - at < len + rest {
+        return refused();
+    }
+    let plan = plan_of(o, at, s.contents);
+    let m = walk(tape, bytes, p, st, out, work, strs, plan, base, at + len);
+    if !m.ok {
+        return refused();
+    }
+    finish(out, work, o.strings, at, len, rest, m)
+}
+
+// The pairs of a source's long strings, behind the words that a walk uses.
+fn pair_words(tape: &[u8], bytes: &[u8], p: places::Places, st: store::Store, words: &mut [u32])
+    requires { ⌜ SourceFits (now tape) (now bytes) p st ⌝ }
+    requires { ⌜ minWorkWords < length (now words) ⌝ }
+    ensures { λ _. ⌜ Pairs (resolveStr (sourceStore (now (tape .entry)) (now (bytes .entry)))) (pairWords (now (words .exit))) ⌝ }
+{
+    let first = p.text as usize + p.normalized as usize;
+    let cut = region::last_strings_at(tape, bytes, p, st);
+    let least = representatives::long_from(bytes.len());
+    let n = words.len();
+    representatives::pair_strings(
+        tape,
+        st,
+        &bytes[first..cut],
+        &bytes[cut..bytes.len()],
+        &mut words[16384..n],
+        least,
+    );
+}
+
+// The same with a representative for each long string, so that no two of them are compared again and again.
+fn graft_paired(
+    tape: &[u8],
+    bytes: &[u8],
+    p: places::Places,
+    st: store::Store,
+    out: &mut [u8],
+    words: &mut [u32],
+    strs: &mut [u8],
+    o: Offsets,
+    at: usize,
+    base: usize,
+    s: sizes::Sizes,
+) -> Layer
+    requires { ⌜ SourceFits (now tape) (now bytes) p st × OffsetsFit o × Exact (roomLeft o) (sourceAdds (now tape) (now bytes)) s ⌝ }
+    requires { ⌜ (minWorkWords < length (now words)) × (base ≤ length (now strs)) × (at ≤ length (now out)) ⌝ }
+    ensures { λ r. ⌜ LayerTold (now (out .entry)) (now (strs .entry)) (now (out .exit)) (now (strs .exit)) at base o r (graftedInto (now (tape .entry)) (now (bytes .entry)) o) ⌝ }
+{
+    pair_words(tape, bytes, p, st, words);
+    graft_by(tape, bytes, p, st, out, words, strs, o, at, base, s)
+}
+
+// The same by words of its own: those that are lent have no room for pairs.
+fn graft_long(
+    tape: &[u8],
+    bytes: &[u8],
+    p: places::Places,
+    st: store::Store,
+    out: &mut [u8],
+    strs: &mut [u8],
+    o: Offsets,
+    at: usize,
+    base: usize,
+    s: sizes::Sizes,
+) -> Layer
+    requires { ⌜ SourceFits (now tape) (now bytes) p st × OffsetsFit o × Exact (roomLeft o) (sourceAdds (now tape) (now bytes)) s ⌝ }
+    requires { ⌜ (base ≤ length (now strs)) × (at ≤ length (now out)) ⌝ }
+    ensures { λ r. ⌜ LayerTold (now (out .entry)) (now (strs .entry)) (now (out .exit)) (now (strs .exit)) at base o r (graftedInto (now (tape .entry)) (now (bytes .entry)) o) ⌝ }
+{
+    let mut words = [0u32; 24577];
+    graft_paired(tape, bytes, p, st, out, &mut words[0..24577], strs, o, at, base, s)
+}
+
 // `graft_layer` where the sizes are known.
 fn graft_sized(
     tape: &[u8],
@@ -275,17 +373,10 @@ fn graft_sized(
     requires { ⌜ (minWorkWords ≤ length (now work)) × (base ≤ length (now strs)) × (at ≤ length (now out)) ⌝ }
     ensures { λ r. ⌜ LayerTold (now (out .entry)) (now (strs .entry)) (now (out .exit)) (now (strs .exit)) at base o r (graftedInto (now (tape .entry)) (now (bytes .entry)) o) ⌝ }
 {
-    let len = layer_length(s.contents, s.segments);
-    let rest = nodes_length(p);
-    if out.len() - at < len + rest {
-        return refused();
+    if representatives::any_long(tape, st, representatives::long_from(bytes.len())) {
+        return graft_long(tape, bytes, p, st, out, strs, o, at, base, s);
     }
-    let plan = plan_of(o, at, s.contents);
-    let m = walk(tape, bytes, p, st, out, work, strs, plan, base, at + len);
-    if !m.ok {
-        return refused();
-    }
-    finish(out, work, o.strings, at, len, rest, m)
+    graft_by(tape, bytes, p, st, out, &mut work[0..16384], strs, o, at, base, s)
 }
 
 // Sections 3 and 5. The nodes of a source that passed 1 to 7, grafted into one new layer above layers of these counts: the layer's

@@ -347,7 +347,7 @@ graft-content-graft-str-requires : (t : ℕ) → graft-content-lts.Need-graft-st
   graft-segment-run-below t,
   graft-segment-run.Post,
 ) (graft-content-at t) graft-content.Post
-graft-content-graft-str-requires t c κs = ((c .before .before .before .before .before .before .before .before .before .before .before .pre .1 .0) .source, ((c .before .before .before .before .before .before .before .before .before .before .before .pre .1 .0) .index, ((c .before .before .before .before .before .before .before .before .before .before .before .pre .1 .0) .good, (plain-known (c .before .before .before .before .before .before .before .before .before .before .before .args .tape .now) (c .before .before .before .before .before .before .before .before .before .before .before .args .st) (c .before .before .before .before .before .before .before .before .before .before .before .args .at) (c .before .before .before .before .before .content-at .result) (c .before .before .before .before .before .content-at .ensures) (c .before .before .before .before .before .before .before .before .before .before .before .pre .1 .1 .0 .1) (c .before .before .if1 .taken), omega (arith, (c .before .before .before .before .before .before .before .before .before .before .before .pre .1 .0) .space .calls), omega (arith, (c .before .before .before .before .before .before .before .before .before .before .before .pre .1 .0) .space .stringNumbers)))))
+graft-content-graft-str-requires t c κs = ((c .before .before .before .before .before .before .before .before .before .before .before .pre .1 .0) .source, (((c .before .before .before .before .before .before .before .before .before .before .before .pre .1 .0) .index, (c .before .before .before .before .before .before .before .before .before .before .before .pre .1 .0) .pairs), (((c .before .before .before .before .before .before .before .before .before .before .before .pre .1 .0) .good, (c .before .before .before .before .before .before .before .before .before .before .before .pre .1 .0) .named), (plain-known (c .before .before .before .before .before .before .before .before .before .before .before .args .tape .now) (c .before .before .before .before .before .before .before .before .before .before .before .args .st) (c .before .before .before .before .before .before .before .before .before .before .before .args .at) (c .before .before .before .before .before .content-at .result) (c .before .before .before .before .before .content-at .ensures) (c .before .before .before .before .before .before .before .before .before .before .before .pre .1 .1 .0 .1) (c .before .before .if1 .taken), omega (arith, (c .before .before .before .before .before .before .before .before .before .before .before .pre .1 .0) .space .calls), omega (arith, (c .before .before .before .before .before .before .before .before .before .before .before .pre .1 .0) .space .stringNumbers)))))
 
 graft-content-same-length : (t : ℕ) → graft-content-lts.Need-same-length (
   content-at-reads.Asked,
@@ -703,7 +703,7 @@ graft-content-run-returns-2 : (t : ℕ) → graft-content-run-lts.Need-returns-2
 graft-content-run-returns-2 t c = content-run-answer (c .before .before .before .before .before .before .before .before .before .before .before .before .before .before .before .before .before .before .before .before .args .level) (c .before .before .before .before .before .before .before .before .before .before .before .before .before .before .before .before .before .before .before .before .args .start) (c .before .before .before .before .before .before .before .before .before .before .before .before .before .before .before .before .before .before .before .before .args .len) (c .before .before .before .before .before .before .before .before .before .before .before .before .before .before .before .before .before .before .before .before .pre .1 .1) (c .before .before .before .before .before .before .before .before .before .before .before .before .before .before .before .before .before .before .before .before .pre .1 .0) (c .before .before .before .before .before .before .before .before .before .before .before .before .before .content-place .result) (c .before .before .before .before .before .before .before .before .before .before .before .before .before .content-place .ensures) ((c .before .before .before .before .before .before .before .before .before .before .before .before .before .before .before .before .before .before .before .before .args .m) .contents + c .before .before .before .before .before .before .before .before .before .before .before .before .inner-contents .result) (ap (λ (n : ℕ). (c .before .before .before .before .before .before .before .before .before .before .before .before .before .before .before .before .before .before .before .before .args .m) .contents + n) (c .before .before .before .before .before .before .before .before .before .before .before .before .inner-contents .ensures)) (c .before .before .before .before .before .before .before .graft-contents .ensures) (c .pushed-contents .result) (c .pushed-contents .ensures)
 
 abbrev graft-contents-Inv-loop : graft-contents-lts.InvT-loop
-graft-contents-Inv-loop tape bytes st out₀ work₀ strs₀ p at count to level u₀ i₀ out work strs u i = (i ≤ count) × ItemsUpTo tape contentCodec (shownContents level tape bytes) p u₀ at (p .contentsat + 10 * to) out₀ work₀ strs₀ out work strs u i × (length work ≡ length work₀) × (length strs ≡ length strs₀)
+graft-contents-Inv-loop tape bytes st out₀ work₀ strs₀ p at count to level u₀ i₀ out work strs u i = (i ≤ count) × ItemsUpTo tape bytes contentCodec (shownContents level tape bytes) p u₀ at (p .contentsat + 10 * to) out₀ work₀ strs₀ out work strs u i × (length work ≡ length work₀) × (length strs ≡ length strs₀)
 
 abbrev graft-contents-μ-loop : graft-contents-lts.MeasureT-loop
 graft-contents-μ-loop tape bytes st out₀ work₀ strs₀ p at count to level u₀ i₀ out work strs u i = count - i
@@ -918,7 +918,7 @@ graft-field-graft-string-requires : (t : ℕ) → graft-field-lts.Need-graft-str
   graft-string-reads.Asked,
   graft-string-reads.Learnt,
 ) (graft-field-at t) graft-field.Post
-graft-field-graft-string-requires t c κs = ((c .before .before .before .before .before .before .before .before .before .before .before .pre .1 .0) .source, ((c .before .before .before .before .before .before .before .before .before .before .before .pre .1 .0) .index, ((c .before .before .before .before .before .before .before .before .before .before .before .pre .1 .0) .good, (((c .before .before .before .before .before .before .before .before .before .before .before .pre .1 .0) .going, (c .before .before .before .before .before .before .before .before .before .before .before .pre .1 .0) .has), (string-well (c .before .before .before .before .before .before .before .before .before .before .before .args .st) ((c .before .before .before .before .before .before .before .before .before .before .before .args .f) .usage) ((c .before .before .before .before .before .before .before .before .before .before .before .args .f) .first) ((c .before .before .before .before .before .before .before .before .before .before .before .args .f) .second) (c .before .before .before .before .before .before .before .before .before .before .before .pre .1 .1) (c .before .before .before .before .if1 .left) (c .before .before .if2 .left), omega (arith, (c .before .before .before .before .before .before .before .before .before .before .before .pre .1 .0) .space .calls), omega (arith, (c .before .before .before .before .before .before .before .before .before .before .before .pre .1 .0) .space .stringNumbers))))))
+graft-field-graft-string-requires t c κs = ((c .before .before .before .before .before .before .before .before .before .before .before .pre .1 .0) .source, (((c .before .before .before .before .before .before .before .before .before .before .before .pre .1 .0) .index, (c .before .before .before .before .before .before .before .before .before .before .before .pre .1 .0) .pairs), (((c .before .before .before .before .before .before .before .before .before .before .before .pre .1 .0) .good, (c .before .before .before .before .before .before .before .before .before .before .before .pre .1 .0) .named), (((c .before .before .before .before .before .before .before .before .before .before .before .pre .1 .0) .going, (c .before .before .before .before .before .before .before .before .before .before .before .pre .1 .0) .has), (string-well (c .before .before .before .before .before .before .before .before .before .before .before .args .st) ((c .before .before .before .before .before .before .before .before .before .before .before .args .f) .usage) ((c .before .before .before .before .before .before .before .before .before .before .before .args .f) .first) ((c .before .before .before .before .before .before .before .before .before .before .before .args .f) .second) (c .before .before .before .before .before .before .before .before .before .before .before .pre .1 .1) (c .before .before .before .before .if1 .left) (c .before .before .if2 .left), omega (arith, (c .before .before .before .before .before .before .before .before .before .before .before .pre .1 .0) .space .calls), omega (arith, (c .before .before .before .before .before .before .before .before .before .before .before .pre .1 .0) .space .stringNumbers))))))
 
 graft-field-same-length-7 : (t : ℕ) → graft-field-lts.Need-same-length-7 (
   graft-content-run-below t,
@@ -1522,7 +1522,7 @@ graft-segment-run-returns-2 : (t : ℕ) → graft-segment-run-lts.Need-returns-2
 graft-segment-run-returns-2 t c = segment-run-answer (c .before .before .before .before .before .before .before .before .before .before .before .before .before .before .before .before .before .before .before .before .args .level) (c .before .before .before .before .before .before .before .before .before .before .before .before .before .before .before .before .before .before .before .before .args .start) (c .before .before .before .before .before .before .before .before .before .before .before .before .before .before .before .before .before .before .before .before .args .len) (c .before .before .before .before .before .before .before .before .before .before .before .before .before .before .before .before .before .before .before .before .pre .1 .1) (c .before .before .before .before .before .before .before .before .before .before .before .before .before .before .before .before .before .before .before .before .pre .1 .0) (c .before .before .before .before .before .before .before .before .before .before .before .before .before .segment-place .result) (c .before .before .before .before .before .before .before .before .before .before .before .before .before .segment-place .ensures) ((c .before .before .before .before .before .before .before .before .before .before .before .before .before .before .before .before .before .before .before .before .args .m) .segments + c .before .before .before .before .before .before .before .before .before .before .before .before .inner-segments .result) (ap (λ (n : ℕ). (c .before .before .before .before .before .before .before .before .before .before .before .before .before .before .before .before .before .before .before .before .args .m) .segments + n) (c .before .before .before .before .before .before .before .before .before .before .before .before .inner-segments .ensures)) (c .before .before .before .before .before .before .before .graft-segments .ensures) (c .pushed-segments .result) (c .pushed-segments .ensures)
 
 abbrev graft-segments-Inv-loop : graft-segments-lts.InvT-loop
-graft-segments-Inv-loop tape bytes st out₀ work₀ strs₀ p at count to level u₀ i₀ out work strs u i = (i ≤ count) × ItemsUpTo tape segmentCodec (shownSegments level tape bytes) p u₀ at (p .segmentsat + 37 * to) out₀ work₀ strs₀ out work strs u i × (length work ≡ length work₀) × (length strs ≡ length strs₀)
+graft-segments-Inv-loop tape bytes st out₀ work₀ strs₀ p at count to level u₀ i₀ out work strs u i = (i ≤ count) × ItemsUpTo tape bytes segmentCodec (shownSegments level tape bytes) p u₀ at (p .segmentsat + 37 * to) out₀ work₀ strs₀ out work strs u i × (length work ≡ length work₀) × (length strs ≡ length strs₀)
 
 abbrev graft-segments-μ-loop : graft-segments-lts.MeasureT-loop
 graft-segments-μ-loop tape bytes st out₀ work₀ strs₀ p at count to level u₀ i₀ out work strs u i = count - i

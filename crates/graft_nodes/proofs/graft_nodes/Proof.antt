@@ -15,7 +15,7 @@ use Rattle.graft_nodes.proofs.graft_nodes.Statement.{statement}
 use Rattle.graft_nodes.proofs.graft_nodes.Tie as tie
 
 abbrev Inv-loop : tie.InvT-loop
-Inv-loop tape bytes st out₀ work₀ strs₀ p at count nodesat u₀ i₀ out work strs u i = (i ≤ count) × ItemsUpTo tape nodeCodec (λ (ns : List SourceNode). graftNodeRefs (shownOf tape bytes ns)) p u₀ at nodesat out₀ work₀ strs₀ out work strs u i × (length work ≡ length work₀) × (length strs ≡ length strs₀)
+Inv-loop tape bytes st out₀ work₀ strs₀ p at count nodesat u₀ i₀ out work strs u i = (i ≤ count) × ItemsUpTo tape bytes nodeCodec (λ (ns : List SourceNode). graftNodeRefs (shownOf tape bytes ns)) p u₀ at nodesat out₀ work₀ strs₀ out work strs u i × (length work ≡ length work₀) × (length strs ≡ length strs₀)
 
 abbrev μ-loop : tie.MeasureT-loop
 μ-loop tape bytes st out₀ work₀ strs₀ p at count nodesat u₀ i₀ out work strs u i = count - i

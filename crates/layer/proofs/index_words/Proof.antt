@@ -1,4 +1,4 @@
-use Rattle.layer.specs.Walked.{index-there}
+use Rattle.layer.specs.Walked.{index-there, pairs-there}
 use mathlib.Core.Path.{_≡_, refl, sym, ap, _∙_}
 use mathlib.Core.List.{List, [], _∷_, _++_}
 use Prim.Native.Nat.{ℕ, zero, suc, _+_, _-_, _*_, _%_, _/_, _^_, _≤_, _<_}
@@ -27,7 +27,10 @@ same-length : tie.Need-same-length
 same-length c = search needs
 
 returns : tie.Need-returns
-returns c = index-there _ (c .before .before .before .before .before .before .args .work .now) (c .before .before .before .before .before .before .pre .1) (c .before .before .index-strings .ensures)
+returns c =
+    let work = c .before .before .before .before .before .before .args .work .now in
+    let h = c .before .before .before .before .before .before .pre .1 in
+    (index-there _ work h (c .before .before .index-strings .ensures), pairs-there _ work h _ (c .before .before .index-strings .ensures))
 
 pub index-words-spec : {M : Type 1} → statement M
 index-words-spec =
