@@ -23,7 +23,7 @@ pub pairs-none : (K : ℕ → List ℕ) → Pairs K []
 pairs-none K = record { equal = λ j h d. absurd (omega (arith, h)) }
 
 pub pairs-zeros : (K : ℕ → List ℕ) (n : ℕ) → Pairs K (replicate n 0)
-pairs-zeros K n = record { equal = λ j h d. ? }
+pairs-zeros K n = record { equal = λ j h d. absurd (d (getD-replicate n (2 * j + 2))) }
 
 -- one pair more, the n-th
 abbrev pub pairPut : List ℕ → ℕ → ℕ → ℕ → List ℕ
