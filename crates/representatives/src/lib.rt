@@ -76,6 +76,12 @@ fn rank_of(words: &[u32], m: usize, id: u32) -> usize
     lo
 }
 
+fn wide(x: u32) -> usize
+    ensures { λ r. ⌜ r ≡ x ⌝ }
+{
+    x as usize
+}
+
 // How many pairs the words have, and have room for.
 fn pairs_in(words: &[u32]) -> usize
     ensures { λ r. ⌜ r ≡ pairsIn (now (words .entry)) ⌝ }
@@ -84,7 +90,7 @@ fn pairs_in(words: &[u32]) -> usize
         return 0;
     }
     let room = (words.len() - 1) / 2;
-    let count = words[0] as usize;
+    let count = wide(words[0]);
     if count < room {
         return count;
     }
