@@ -140,7 +140,8 @@ fn pair_string<'a>(
     requires { ⌜ (1024 + m < length (now row)) × (id < st .totals .strings) ⌝ }
     requires { ⌜ (n < 4096) × (2 * n + 2 < length (now words)) ⌝ }
     requires { ⌜ Pairs (resolveStr (storeIn (now tape) (now old ++ now new))) (now words) ⌝ }
-    ensures { λ r. ⌜ Paired (storeIn (now (tape .entry)) (now (old .entry) ++ now (new .entry))) (st .totals .strings) 1024 (now (row .entry)) m (now (row .exit)) r (now (words .exit)) ⌝ }
+    ensures { λ r. ⌜ Paired (storeIn (now (tape .entry)) (now (old .entry) ++ now (new .entry))) (st .totals .strings) 1024 (now (row .entry)) (now (row .exit)) r (m + 1) (now
+        (words .exit)) ⌝ }
 {
     let s = strings::resolve_str(tape, st, &row[0..INDEX], old, new, id);
     let k = sorted_ids::find(tape, st, row, INDEX, m, old, new, s);

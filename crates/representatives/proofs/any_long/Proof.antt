@@ -1,3 +1,4 @@
+use Rattle.representatives.specs.Long.{any-long}
 use borrow.Author.Needs.{needs}
 use Rattle.representatives.proofs.any_long.Statement.{statement}
 use Rattle.representatives.proofs.any_long.Tie as tie
@@ -5,13 +6,11 @@ use Rattle.representatives.proofs.any_long.Reads as reads
 use Rattle.representatives.proofs.any_long.Lts as lts
 use Rattle.representatives.proofs.next_long.Reads as next-long-reads
 
--- src/lib.rt:58:5
 next-long-requires : tie.Need-next-long-requires
 next-long-requires c κs = search needs
 
--- src/lib.rt:54:1
 returns : tie.Need-returns
-returns c = ?
+returns c = any-long _ _ (c .before .next-long .ensures)
 
 pub any-long-spec : {M : Type 1} → statement M
 any-long-spec = tie.close (tie.spec next-long-requires returns)

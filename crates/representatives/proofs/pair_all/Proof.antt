@@ -1,3 +1,10 @@
+use mathlib.Core.Path.{_≡_, refl, _∙_}
+use mathlib.Core.List.{_++_}
+use Prim.Native.Nat.{_-_, _≤_}
+use lib.ListN.{length}
+use native.Mathlib.Omega.{arith}
+use Rattle.strings.specs.Starts.{storeIn}
+use Rattle.representatives.specs.Pairs.{Paired, paired-none, paired-next, paired-index}
 use Rattle.representatives.proofs.pair_all.Statement.{statement}
 use Rattle.representatives.proofs.pair_all.Tie as tie
 use Rattle.representatives.proofs.pair_all.Reads as reads
@@ -6,66 +13,52 @@ use Rattle.representatives.proofs.next_long.Reads as next-long-reads
 use Rattle.representatives.proofs.pair_string.Reads as pair-string-reads
 
 abbrev Inv-loop : tie.InvT-loop
-Inv-loop tape st row₀ old new words₀ room least i₀ n₀ m₀ row words i n m = ?
+Inv-loop tape st row₀ old new words₀ room least i₀ n₀ m₀ row words i n m = (length row ≡ length row₀) × (length words ≡ length words₀) × (i ≤ st .totals .strings) × (n ≤ room) × Paired (storeIn tape (old ++ new)) (st .totals .strings) 1024 row₀ row m n words
 
 abbrev μ-loop : tie.MeasureT-loop
-μ-loop tape st row₀ old new words₀ room least i₀ n₀ m₀ row words i n m = ?
+μ-loop tape st row₀ old new words₀ room least i₀ n₀ m₀ row words i n m = st .totals .strings - i
 
--- src/lib.rt:171:9
 next-long-requires : tie.Need-next-long-requires Inv-loop μ-loop
-next-long-requires c κs = ?
+next-long-requires c κs = (c .before .before .before .before .before .pre .0 .sides .store, omega arith)
 
--- src/lib.rt:174:5
 loop-holds : tie.Need-loop-holds Inv-loop μ-loop
-loop-holds c = ?
+loop-holds c = (refl, refl, c .next-long .ensures .place .1, omega arith, paired-none (c .before .before .before .before .before .before .pre .1 .1) (omega (arith, c .before .before .before .before .before .before .pre .1 .0 .0)))
 
--- src/lib.rt:176:13
 same-length : tie.Need-same-length Inv-loop μ-loop
-same-length c = ?
+same-length c = c .before .before .before .loop .inv .0
 
--- src/lib.rt:176:13
 same-length-2 : tie.Need-same-length-2 Inv-loop μ-loop
-same-length-2 c = ?
+same-length-2 c = c .before .before .before .loop .inv .1 .0
 
--- src/lib.rt:176:13
 returns : tie.Need-returns Inv-loop μ-loop
-returns c = ?
+returns c = c .before .before .before .loop .inv .1 .1 .1 .1 .pairs
 
--- src/lib.rt:178:9
 pair-string-requires : tie.Need-pair-string-requires Inv-loop μ-loop
-pair-string-requires c κs = ?
+pair-string-requires c κs = let start = c .before .before .before .before .before .before .before .before .before .before .before .before in let inv = c .before .before .before .before .before .loop .inv in let paired = inv .1 .1 .1 .1 in (paired-index paired (start .pre .0), (paired .rising, ((omega (arith, inv .0, start .pre .1 .0, paired .few), omega arith), ((omega (arith, start .pre .1 .0), omega (arith, start .pre .1 .0, inv .1 .0)), paired .pairs))))
 
--- src/lib.rt:179:9
 add-n : tie.Need-add-n Inv-loop μ-loop
-add-n c = ?
+add-n c = omega arith
 
--- src/lib.rt:180:40
 add-next-long : tie.Need-add-next-long Inv-loop μ-loop
-add-next-long c = ?
+add-next-long c = omega arith
 
--- src/lib.rt:180:9
 next-long-requires-2 : tie.Need-next-long-requires-2 Inv-loop μ-loop
-next-long-requires-2 c κs = ?
+next-long-requires-2 c κs = (c .before .before .before .before .before .before .before .before .before .before .before .before .before .before .before .before .before .pre .0 .sides .store, omega arith)
 
--- src/lib.rt:174:5
 loop-less : tie.Need-loop-less Inv-loop μ-loop
-loop-less c = ?
+loop-less c = omega (arith, c .next-long2 .ensures .place)
 
--- src/lib.rt:174:5
 loop-again : tie.Need-loop-again Inv-loop μ-loop
-loop-again c = ?
+loop-again c = let inv = c .before .before .before .before .before .before .before .before .before .before .before .loop .inv in (c .before .before .before .before .before .pair-string .kept .1 .1 .0 ∙ inv .0, c .before .before .before .before .before .pair-string .kept .1 .1 .1 .1 .1 .1 .0 ∙ inv .1 .0, c .next-long2 .ensures .place .1, omega arith, paired-next (inv .1 .1 .1 .1) (c .before .before .before .before .before .pair-string .ensures))
 
--- src/lib.rt:156:1
 same-length-3 : tie.Need-same-length-3 Inv-loop μ-loop
-same-length-3 c = ?
+same-length-3 c = c .before .before .loop .inv .0
 
--- src/lib.rt:156:1
 same-length-4 : tie.Need-same-length-4 Inv-loop μ-loop
-same-length-4 c = ?
+same-length-4 c = c .before .before .loop .inv .1 .0
 
--- src/lib.rt:156:1
 returns-2 : tie.Need-returns-2 Inv-loop μ-loop
-returns-2 c = ?
+returns-2 c = c .before .before .loop .inv .1 .1 .1 .1 .pairs
 
 pub pair-all-spec : {M : Type 1} → statement M
 pair-all-spec =

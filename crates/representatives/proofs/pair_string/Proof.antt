@@ -1,3 +1,7 @@
+use mathlib.Core.Path.{refl, sym, _∙_}
+use native.Mathlib.Omega.{arith}
+use Rattle.strings.specs.Shown.{shown-str}
+use Rattle.representatives.specs.Pairs.{pairs-put, paired-known, paired-new}
 use borrow.Author.Needs.{needs}
 use Rattle.representatives.proofs.pair_string.Statement.{statement}
 use Rattle.representatives.proofs.pair_string.Tie as tie
@@ -8,65 +12,50 @@ use Rattle.sorted_ids.proofs.find.Reads as find-reads
 use Rattle.sorted_ids.proofs.insert.Reads as insert-reads
 use Rattle.strings.proofs.resolve_str.Reads as resolve-str-reads
 
--- src/lib.rt:145:44
 sub-resolve-str : tie.Need-sub-resolve-str
 sub-resolve-str c = search needs
 
--- src/lib.rt:145:44
 part-resolve-str-start : tie.Need-part-resolve-str-start
 part-resolve-str-start c = search needs
 
--- src/lib.rt:145:44
 part-resolve-str-end : tie.Need-part-resolve-str-end
 part-resolve-str-end c = search needs
 
--- src/lib.rt:145:9
 resolve-str-requires : tie.Need-resolve-str-requires
 resolve-str-requires c κs = search needs
 
--- src/lib.rt:146:9
 find-requires : tie.Need-find-requires
 find-requires c κs = search needs
 
--- src/lib.rt:148:32
 sub-put-pair : tie.Need-sub-put-pair
 sub-put-pair c = search needs
 
--- src/lib.rt:148:9
 put-pair-requires : tie.Need-put-pair-requires
 put-pair-requires c κs = search needs
 
--- src/lib.rt:149:9
 same-length : tie.Need-same-length
 same-length c = search needs
 
--- src/lib.rt:149:9
 same-length-2 : tie.Need-same-length-2
 same-length-2 c = search needs
 
--- src/lib.rt:149:9
 returns : tie.Need-returns
-returns c = ?
+returns c = let start = c .before .before .before .before .before .before .before .before .before .before .before .before .before .before .before in let own = c .before .before .before .before .before .before .before .resolve-str .ensures ∙ shown-str (start .pre .0 .sides) _ (start .pre .1 .1 .0 .1) in paired-known (pairs-put _ _ _ _ (start .pre .1 .1 .1 .0 .1) (start .pre .1 .1 .1 .1) (sym own ∙ sym (c .before .before .before .before .before .find .ensures .1 (c .before .before .before .before .if1 .taken))) (c .before .before .put-pair .ensures)) (start .pre .1 .0)
 
--- src/lib.rt:151:5
 put-pair-requires-2 : tie.Need-put-pair-requires-2
-put-pair-requires-2 c κs = ?
+put-pair-requires-2 c κs = let start = c .before .before .before .before .before .before .before .before .before .before .before .before in (start .pre .1 .1 .1 .0, omega (arith, start .pre .1 .1 .0 .1, start .good, start .fits))
 
--- src/lib.rt:152:5
 insert-requires : tie.Need-insert-requires
 insert-requires c κs = search needs
 
--- src/lib.rt:127:1
 same-length-3 : tie.Need-same-length-3
 same-length-3 c = search needs
 
--- src/lib.rt:127:1
 same-length-4 : tie.Need-same-length-4
 same-length-4 c = search needs
 
--- src/lib.rt:127:1
 returns-2 : tie.Need-returns-2
-returns-2 c = ?
+returns-2 c = let start = c .before .before .before .before .before .before .before .before .before .before .before .before .before .before .before .before .before .before .before in paired-new (pairs-put _ _ _ _ (start .pre .1 .1 .1 .0 .1) (start .pre .1 .1 .1 .1) refl (c .before .before .before .before .before .before .put-pair2 .ensures)) (c .before .before .insert .ensures)
 
 pub pair-string-spec : {M : Type 1} → statement M
 pair-string-spec =

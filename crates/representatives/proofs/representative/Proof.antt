@@ -1,3 +1,6 @@
+use mathlib.Core.Path.{refl}
+use native.Mathlib.Omega.{arith}
+use Rattle.representatives.specs.Pairs.{pair-found}
 use borrow.Author.Needs.{needs}
 use Rattle.representatives.proofs.representative.Statement.{statement}
 use Rattle.representatives.proofs.representative.Tie as tie
@@ -6,57 +9,44 @@ use Rattle.representatives.proofs.representative.Lts as lts
 use Rattle.representatives.proofs.pairs_in.Reads as pairs-in-reads
 use Rattle.representatives.proofs.rank_of.Reads as rank-of-reads
 
--- src/lib.rt:104:9
 pairs-in-requires : tie.Need-pairs-in-requires
 pairs-in-requires c κs = search needs
 
--- src/lib.rt:105:9
 rank-of-requires : tie.Need-rank-of-requires
 rank-of-requires c κs = search needs
 
--- src/lib.rt:107:9
 returns : tie.Need-returns
-returns c = ?
+returns c = λ K p d. absurd (d refl)
 
--- src/lib.rt:109:14
 mul-if2 : tie.Need-mul-if2
 mul-if2 c = search needs
 
--- src/lib.rt:109:14
 add-if2 : tie.Need-add-if2
 add-if2 c = search needs
 
--- src/lib.rt:109:8
 mul-if2-2 : tie.Need-mul-if2-2
 mul-if2-2 c = search needs
 
--- src/lib.rt:109:8
 shared-slice-read-if2 : tie.Need-shared-slice-read-if2
 shared-slice-read-if2 c = search needs
 
--- src/lib.rt:110:9
 returns-2 : tie.Need-returns-2
-returns-2 c = ?
+returns-2 c = λ K p d. absurd (d refl)
 
--- src/lib.rt:112:11
 mul-result : tie.Need-mul-result
 mul-result c = search needs
 
--- src/lib.rt:112:11
 add-result : tie.Need-add-result
 add-result c = search needs
 
--- src/lib.rt:112:5
 mul-result-2 : tie.Need-mul-result-2
 mul-result-2 c = search needs
 
--- src/lib.rt:112:5
 shared-slice-read-result : tie.Need-shared-slice-read-result
 shared-slice-read-result c = search needs
 
--- src/lib.rt:101:1
 returns-3 : tie.Need-returns-3
-returns-3 c = ?
+returns-3 c = λ K p d. pair-found p (c .before .before .before .before .rank-of .result) _ (omega arith) (c .before .if2 .left) d
 
 pub representative-spec : {M : Type 1} → statement M
 representative-spec =
