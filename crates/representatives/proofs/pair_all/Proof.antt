@@ -28,13 +28,13 @@ same-length : tie.Need-same-length Inv-loop μ-loop
 same-length c = c .before .before .before .loop .inv .0
 
 same-length-2 : tie.Need-same-length-2 Inv-loop μ-loop
-same-length-2 c = c .before .before .before .loop .inv .1 .0
+same-length-2 c = c .before .before .before .loop .inv .1
 
 returns : tie.Need-returns Inv-loop μ-loop
-returns c = c .before .before .before .loop .inv .1 .1 .1 .1 .pairs
+returns c = c .before .before .before .loop .inv .4 .pairs
 
 pair-string-requires : tie.Need-pair-string-requires Inv-loop μ-loop
-pair-string-requires c κs = let start = c .before .before .before .before .before .before .before .before .before .before .before .before in let inv = c .before .before .before .before .before .loop .inv in let paired = inv .1 .1 .1 .1 in (paired-index paired (start .pre .0), (paired .rising, ((omega (arith, inv .0, start .pre .1 .0, paired .few), omega arith), ((omega (arith, start .pre .1 .0), omega (arith, start .pre .1 .0, inv .1 .0)), paired .pairs))))
+pair-string-requires c κs = let start = c .before .before .before .before .before .before .before .before .before .before .before .before in let inv = c .before .before .before .before .before .loop .inv in let paired = inv .4 in (paired-index paired (start .pre .0), (paired .rising, ((omega (arith, inv .0, start .pre .1 .0, paired .few), omega arith), ((omega (arith, start .pre .1 .0), omega (arith, start .pre .1 .0, inv .1)), paired .pairs))))
 
 add-n : tie.Need-add-n Inv-loop μ-loop
 add-n c = omega arith
@@ -49,16 +49,16 @@ loop-less : tie.Need-loop-less Inv-loop μ-loop
 loop-less c = omega (arith, c .next-long2 .ensures .place)
 
 loop-again : tie.Need-loop-again Inv-loop μ-loop
-loop-again c = let inv = c .before .before .before .before .before .before .before .before .before .before .before .loop .inv in (c .before .before .before .before .before .pair-string .kept .1 .1 .0 ∙ inv .0, c .before .before .before .before .before .pair-string .kept .1 .1 .1 .1 .1 .1 .0 ∙ inv .1 .0, c .next-long2 .ensures .place .1, omega arith, paired-next (inv .1 .1 .1 .1) (c .before .before .before .before .before .pair-string .ensures))
+loop-again c = let inv = c .before .before .before .before .before .before .before .before .before .before .before .loop .inv in (c .before .before .before .before .before .pair-string .kept .1 .1 .0 ∙ inv .0, c .before .before .before .before .before .pair-string .kept .1 .1 .1 .1 .1 .1 .0 ∙ inv .1, c .next-long2 .ensures .place .1, omega arith, paired-next (inv .4) (c .before .before .before .before .before .pair-string .ensures))
 
 same-length-3 : tie.Need-same-length-3 Inv-loop μ-loop
 same-length-3 c = c .before .before .loop .inv .0
 
 same-length-4 : tie.Need-same-length-4 Inv-loop μ-loop
-same-length-4 c = c .before .before .loop .inv .1 .0
+same-length-4 c = c .before .before .loop .inv .1
 
 returns-2 : tie.Need-returns-2 Inv-loop μ-loop
-returns-2 c = c .before .before .loop .inv .1 .1 .1 .1 .pairs
+returns-2 c = c .before .before .loop .inv .4 .pairs
 
 pub pair-all-spec : {M : Type 1} → statement M
 pair-all-spec =

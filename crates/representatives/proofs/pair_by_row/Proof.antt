@@ -1,3 +1,8 @@
+use mathlib.Core.Path.{_∙_}
+use lib.ListN.{length}
+use native.Mathlib.Omega.{arith}
+use Rattle.sorted_ids.specs.Words.{first-length, resolvable-own}
+use Rattle.representatives.specs.Pairs.{pairs-zeros}
 use borrow.Author.Needs.{needs}
 use Rattle.representatives.proofs.pair_by_row.Statement.{statement}
 use Rattle.representatives.proofs.pair_by_row.Tie as tie
@@ -8,51 +13,39 @@ use Rattle.representatives.proofs.pair_all.Reads as pair-all-reads
 use Rattle.strings.proofs.index_strings.Reads as index-strings-reads
 use Rattle.wire.proofs.zero_words.Reads as zero-words-reads
 
--- src/lib.rt:208:38
 add-index-strings : tie.Need-add-index-strings
 add-index-strings c = search needs
 
--- src/lib.rt:208:61
 sub-index-strings : tie.Need-sub-index-strings
 sub-index-strings c = search needs
 
--- src/lib.rt:208:61
 part-index-strings-start : tie.Need-part-index-strings-start
 part-index-strings-start c = search needs
 
--- src/lib.rt:208:61
 part-index-strings-end : tie.Need-part-index-strings-end
 part-index-strings-end c = search needs
 
--- src/lib.rt:208:5
 index-strings-requires : tie.Need-index-strings-requires
 index-strings-requires c κs = search needs
 
--- src/lib.rt:209:5
 zero-words-requires : tie.Need-zero-words-requires
 zero-words-requires c κs = search needs
 
--- src/lib.rt:210:30
 sub-lesser : tie.Need-sub-lesser
 sub-lesser c = search needs
 
--- src/lib.rt:210:9
 lesser-requires : tie.Need-lesser-requires
 lesser-requires c κs = search needs
 
--- src/lib.rt:211:5
 pair-all-requires : tie.Need-pair-all-requires
-pair-all-requires c κs = ?
+pair-all-requires c κs = let start = c .before .before .before .before .before .before .before .before .before .before .before .before .before .before .before .before in let index = c .before .before .before .before .before .before .before .before .before .index-strings in let row = start .args .row .now in (resolvable-own row 1024 (omega (arith, start .pre .1)) (index .last .1 .1 .1 .0) (index .kept .1 .1 .1 .0) (start .pre .0) (index .ensures), ((first-length row 1024 (omega (arith, start .pre .1)) (index .last .1 .1 .1 .0) (index .kept .1 .1 .1 .0) ∙ start .pre .1 .0, omega (arith, c .before .before .lesser .ensures), omega (arith, c .before .before .lesser .ensures, c .before .before .before .before .before .zero-words .kept .0)), rw (c .before .before .before .before .before .zero-words .ensures) (pairs-zeros _ (length (start .args .words .now)))))
 
--- src/lib.rt:195:1
 same-length : tie.Need-same-length
 same-length c = search needs
 
--- src/lib.rt:195:1
 same-length-2 : tie.Need-same-length-2
 same-length-2 c = search needs
 
--- src/lib.rt:195:1
 returns : tie.Need-returns
 returns c = search needs
 
