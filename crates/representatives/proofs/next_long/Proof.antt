@@ -21,7 +21,9 @@ string-length-requires : tie.Need-string-length-requires Inv-loop μ-loop
 string-length-requires c κs = (c .before .before .before .before .pre .0, omega arith)
 
 returns : tie.Need-returns Inv-loop μ-loop
-returns c = long-here _ _ (c .before .before .before .before .loop .inv .2) (c .before .string-length .ensures) (c .before .before .before .before .loop .inv .0) (omega arith) (omega arith)
+returns c =
+    let turn = c .before .before .before .before in
+    long-here _ _ (turn .loop .inv .2) (c .before .string-length .ensures) (turn .loop .inv .0) (omega arith) (omega arith)
 
 add-i : tie.Need-add-i Inv-loop μ-loop
 add-i c = omega arith
@@ -30,7 +32,9 @@ loop-less : tie.Need-loop-less Inv-loop μ-loop
 loop-less c = omega arith
 
 loop-again : tie.Need-loop-again Inv-loop μ-loop
-loop-again c = (omega arith, omega arith, short-more _ _ (c .before .before .before .before .loop .inv .2) (c .before .string-length .ensures) (omega arith))
+loop-again c =
+    let turn = c .before .before .before .before in
+    (omega arith, omega arith, short-more _ _ (turn .loop .inv .2) (c .before .string-length .ensures) (omega arith))
 
 returns-2 : tie.Need-returns-2 Inv-loop μ-loop
 returns-2 c = long-none _ _ (c .before .before .loop .inv .2) (c .before .before .loop .inv .0) (omega arith)

@@ -38,7 +38,23 @@ lesser-requires : tie.Need-lesser-requires
 lesser-requires c κs = search needs
 
 pair-all-requires : tie.Need-pair-all-requires
-pair-all-requires c κs = let start = c .before .before .before .before .before .before .before .before .before .before .before .before .before .before .before .before in let index = c .before .before .before .before .before .before .before .before .before .index-strings in let row = start .args .row .now in (resolvable-own row 1024 (omega (arith, start .pre .1)) (index .last .1 .1 .1 .0) (index .kept .1 .1 .1 .0) (start .pre .0) (index .ensures), ((first-length row 1024 (omega (arith, start .pre .1)) (index .last .1 .1 .1 .0) (index .kept .1 .1 .1 .0) ∙ start .pre .1 .0, omega (arith, c .before .before .lesser .ensures), omega (arith, c .before .before .lesser .ensures, c .before .before .before .before .before .zero-words .kept .0)), rw (c .before .before .before .before .before .zero-words .ensures) (pairs-zeros _ (length (start .args .words .now)))))
+pair-all-requires c κs =
+    let at-zero-words = c .before .before .before .before .before in
+    let at-index-strings = at-zero-words .before .before .before .before in
+    let start = at-index-strings .before .before .before .before .before .before .before in
+    let index = at-index-strings .index-strings in
+    let row = start .args .row .now in
+    let room = c .before .before .lesser .ensures in (
+      resolvable-own row 1024 (omega (arith, start .pre .1)) (index .last .1 .1 .1 .0) (index .kept .1 .1 .1 .0) (start .pre .0) (index .ensures),
+      (
+        (
+          first-length row 1024 (omega (arith, start .pre .1)) (index .last .1 .1 .1 .0) (index .kept .1 .1 .1 .0) ∙ start .pre .1 .0,
+          omega (arith, room),
+          omega (arith, room, at-zero-words .zero-words .kept .0),
+        ),
+        rw (at-zero-words .zero-words .ensures) (pairs-zeros _ (length (start .args .words .now))),
+      ),
+    )
 
 same-length : tie.Need-same-length
 same-length c = search needs

@@ -40,10 +40,19 @@ same-length-2 : tie.Need-same-length-2
 same-length-2 c = search needs
 
 returns : tie.Need-returns
-returns c = let start = c .before .before .before .before .before .before .before .before .before .before .before .before .before .before .before in let own = c .before .before .before .before .before .before .before .resolve-str .ensures ∙ shown-str (start .pre .0 .sides) _ (start .pre .1 .1 .0 .1) in paired-known (pairs-put _ _ _ _ (start .pre .1 .1 .1 .0 .1) (start .pre .1 .1 .1 .1) (sym own ∙ sym (c .before .before .before .before .before .find .ensures .1 (c .before .before .before .before .if1 .taken))) (c .before .before .put-pair .ensures)) (start .pre .1 .0)
+returns c =
+    let at-if1 = c .before .before .before .before in
+    let at-find = at-if1 .before in
+    let at-resolve-str = at-find .before .before in
+    let start = at-resolve-str .before .before .before .before .before .before .before .before in
+    let own = at-resolve-str .resolve-str .ensures ∙ shown-str (start .pre .0 .sides) _ (start .pre .1 .1 .0 .1) in
+    let found = at-find .find .ensures .1 (at-if1 .if1 .taken) in
+    paired-known (pairs-put _ _ _ _ (start .pre .1 .1 .1 .0 .1) (start .pre .1 .1 .1 .1) (sym own ∙ sym found) (c .before .before .put-pair .ensures)) (start .pre .1 .0)
 
 put-pair-requires-2 : tie.Need-put-pair-requires-2
-put-pair-requires-2 c κs = let start = c .before .before .before .before .before .before .before .before .before .before .before .before in (start .pre .1 .1 .1 .0, omega (arith, start .pre .1 .1 .0 .1, start .good, start .fits))
+put-pair-requires-2 c κs =
+    let start = c .before .before .before .before .before .before .before .before .before .before .before .before in
+    (start .pre .1 .1 .1 .0, omega (arith, start .pre .1 .1 .0 .1, start .good, start .fits))
 
 insert-requires : tie.Need-insert-requires
 insert-requires c κs = search needs
@@ -55,7 +64,10 @@ same-length-4 : tie.Need-same-length-4
 same-length-4 c = search needs
 
 returns-2 : tie.Need-returns-2
-returns-2 c = let start = c .before .before .before .before .before .before .before .before .before .before .before .before .before .before .before .before .before .before .before in paired-new (pairs-put _ _ _ _ (start .pre .1 .1 .1 .0 .1) (start .pre .1 .1 .1 .1) refl (c .before .before .before .before .before .before .put-pair2 .ensures)) (c .before .before .insert .ensures)
+returns-2 c =
+    let at-put-pair2 = c .before .before .before .before .before .before in
+    let start = at-put-pair2 .before .before .before .before .before .before .before .before .before .before .before .before .before in
+    paired-new (pairs-put _ _ _ _ (start .pre .1 .1 .1 .0 .1) (start .pre .1 .1 .1 .1) refl (at-put-pair2 .put-pair2 .ensures)) (c .before .before .insert .ensures)
 
 pub pair-string-spec : {M : Type 1} → statement M
 pair-string-spec =
