@@ -16,6 +16,7 @@ ghost use Rattle.strings.specs.Shown.{Resolvable};
 ghost use Rattle.sorted_ids.specs.Row.{firstWords, Row};
 ghost use Rattle.representatives.specs.Long.{longFrom, NextLong};
 ghost use Rattle.representatives.specs.Pairs.{Pairs, pairsIn, pairPut, Paired};
+ghost use Rattle.representatives.specs.Bisection.{Split, Known};
 
 const LONG: usize = 1024;
 
@@ -58,10 +59,10 @@ pub fn any_long(tape: &[u8], st: store::Store, least: usize) -> bool
     next_long(tape, st, least, 0) < st.totals.strings
 }
 
-// How many pairs have lower ids.
+// How many pairs have lower ids, where the ids rise: they are the first.
 fn rank_of(words: &[u32], m: usize, id: u32) -> usize
     requires { ⌜ 2 * m ≤ length (now words) - 1 ⌝ }
-    ensures { λ r. ⌜ r ≤ m ⌝ }
+    ensures { λ r. ⌜ Split (now (words .entry)) m id r r ⌝ }
 {
     let mut lo = 0;
     let mut hi = m;
@@ -97,9 +98,10 @@ fn pairs_in(words: &[u32]) -> usize
     room
 }
 
-// The representative of a string plus 1, or 0 where none is known.
+// The representative of a string plus 1, or 0 where none is known. What it says is right in any case, and an id that has a pair is found where the ids rise.
 pub fn representative(words: &[u32], id: u32) -> u32
     ensures { λ r. ⌜ ((K : ℕ → List ℕ) → Pairs K (now (words .entry)) → (r ≡ 0 → ⊥) → K (r - 1) ≡ K id) ⌝ }
+    ensures { λ r. ⌜ Known (now (words .entry)) id r ⌝ }
 {
     let m = pairs_in(words);
     let p = rank_of(words, m, id);

@@ -1,6 +1,7 @@
 use mathlib.Core.Path.{refl}
 use native.Mathlib.Omega.{arith}
 use Rattle.representatives.specs.Pairs.{pair-found}
+use Rattle.representatives.specs.Bisection.{known-end, known-other, known-here}
 use borrow.Author.Needs.{needs}
 use Rattle.representatives.proofs.representative.Statement.{statement}
 use Rattle.representatives.proofs.representative.Tie as tie
@@ -16,7 +17,7 @@ rank-of-requires : tie.Need-rank-of-requires
 rank-of-requires c κs = search needs
 
 returns : tie.Need-returns
-returns c = λ K p d. absurd (d refl)
+returns c = (λ K p d. absurd (d refl), known-end (c .before .before .pairs-in .ensures) (c .before .rank-of .ensures) (c .if1 .taken))
 
 mul-if2 : tie.Need-mul-if2
 mul-if2 c = search needs
@@ -31,7 +32,7 @@ shared-slice-read-if2 : tie.Need-shared-slice-read-if2
 shared-slice-read-if2 c = search needs
 
 returns-2 : tie.Need-returns-2
-returns-2 c = λ K p d. absurd (d refl)
+returns-2 c = (λ K p d. absurd (d refl), known-other (c .before .before .before .before .pairs-in .ensures) (c .before .before .before .rank-of .ensures) (c .if2 .taken))
 
 mul-result : tie.Need-mul-result
 mul-result c = search needs
@@ -46,7 +47,7 @@ shared-slice-read-result : tie.Need-shared-slice-read-result
 shared-slice-read-result c = search needs
 
 returns-3 : tie.Need-returns-3
-returns-3 c = λ K p d. pair-found p (c .before .before .before .before .rank-of .result) _ (omega arith) (c .before .if2 .left) d
+returns-3 c = (λ K p d. pair-found p (c .before .before .before .before .rank-of .result) _ (omega (arith, c .before .before .before .before .rank-of .ensures .few)) (c .before .if2 .left) d, known-here (c .before .before .before .before .before .pairs-in .ensures) (c .before .before .before .before .rank-of .ensures))
 
 pub representative-spec : {M : Type 1} → statement M
 representative-spec =
