@@ -47,7 +47,10 @@ shared-slice-read-result : tie.Need-shared-slice-read-result
 shared-slice-read-result c = search needs
 
 returns-3 : tie.Need-returns-3
-returns-3 c = (λ K p d. pair-found p (c .before .before .before .before .rank-of .result) _ (omega (arith, c .before .before .before .before .rank-of .ensures .few)) (c .before .if2 .left) d, known-here (c .before .before .before .before .before .pairs-in .ensures) (c .before .before .before .before .rank-of .ensures))
+returns-3 c =
+    let rank = c .before .before .before .before .rank-of in
+    let count = c .before .before .before .before .before .pairs-in .ensures in
+    (λ K p d. pair-found p (rank .result) _ (omega (arith, rank .ensures .few)) (c .before .if2 .left) d, known-here count (rank .ensures))
 
 pub representative-spec : {M : Type 1} → statement M
 representative-spec =
