@@ -2,7 +2,6 @@
 // Words: how many pairs there are, then the pairs in the rising order of their first, an id and its representative plus 1. A pair is found
 // by bisection and looked at before it is used: so it need not be there, and what it says is right wherever it stands (specs/Pairs.antt).
 ghost use mathlib.Core.Path.{_≡_};
-ghost use mathlib.Core.Bool.{Bool};
 ghost use mathlib.Core.List.{List, [], _++_};
 ghost use Prim.Native.Nat.{ℕ, _+_, _-_, _*_, _≤_, _<_, min};
 ghost use lib.ListN.{length, getD};
