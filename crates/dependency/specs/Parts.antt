@@ -1,6 +1,6 @@
 -- Number 10 in parts of the nodes, so that the filter is never crowded: a target is compared with the bases of one part, in one walk
 -- for each part. What refers to none of the first nodes and to none of the next refers to none of both.
-use mathlib.Core.Path.{_≡_, refl, sym, ap, ap₂, _∙_, subst}
+use mathlib.Core.Path.{_≡_, refl, sym, ap, ap₂, _∙_}
 use Prim.Native.Nat.{ℕ, _+_, _-_, _*_, _≤_, _<_, min}
 use native.Mathlib.Omega.{arith}
 use mathlib.Core.Bool.{Bool, true, false, _&&_, _||_, true≢false, and-false}
@@ -19,13 +19,13 @@ use Rattle.records.specs.Runs.{run-none}
 use Rattle.store.specs.declared.Store.{Store}
 use Rattle.wire.specs.Overwrite.{overwrite}
 use Rattle.strings.specs.Starts.{storeIn, lengthsIn}
-use Rattle.strings.specs.Index.{Indexed, indexIn, index-written}
+use Rattle.strings.specs.Index.{indexIn}
 use Rattle.strings.specs.PlainContent.{plainOf, plainString}
 use Rattle.strings.specs.declared.Plain.{Plain}
 use Rattle.sorted_ids.specs.Row.{any-false}
+use Rattle.sorted_ids.specs.Words.{resolvable-own}
 use Rattle.dependency.specs.Bases.{isPlain, hasBase, asksTarget, amongBases, refersBack, refersAt, depends-records}
 use Rattle.dependency.specs.Noted.{firstWords, Noted, notedBy, noted-none, noted-next}
-use Rattle.dependency.specs.Words.{first-front}
 use Rattle.dependency.specs.Sound.{Sound, SoundNode, firstContents, plain-first}
 use Rattle.dependency.specs.Pieces.{run-join, among-join, among-none}
 
@@ -195,11 +195,7 @@ pub sound-own : {t : List ℕ} {st : Store} {index old new : List ℕ} {at count
     → (ys : List ℕ) → length ys ≡ length (take (middle - 0) words) → ys ≡ overwrite (take (middle - 0) words) 0 (indexIn (lengthsIn t) (take (middle - 0) words))
     → Sound t st (firstWords middle (ys ++ drop (middle - 0) words)) old new at count
 sound-own {t} {st} {index} {old} {new} {at} {count} s words middle h ys n e = record {
-  strings = record {
-    sides = s .strings .sides;
-    indexed = subst (λ (l : List ℕ). Indexed (lengthsIn t) l) (sym (first-front words middle h ys n)) (index-written (lengthsIn t) (take (middle - 0) words) e);
-    small = s .strings .small;
-  };
+  strings = resolvable-own words middle h ys n (s .strings) e;
   contents = s .contents;
   nodes = s .nodes;
   inside = s .inside;

@@ -10,6 +10,8 @@ use mathlib.Core.Bool.{Bool, false, _&&_}
 use lib.Dec.{ltb}
 use borrow.Author.Tests.{ltb-false}
 use Rattle.wire.specs.Loops.{by-bool}
+use Rattle.sorted_ids.specs.Words.{length-first, first-back}
+pub use Rattle.sorted_ids.specs.Words.{first-length, first-front}
 use Rattle.dependency.specs.Noted.{firstWords}
 
 -- where the lent words are used, they are not few
@@ -26,29 +28,11 @@ lastWords middle words = take (length words - middle) (drop middle words)
 -- ---- the words before `middle` written
 
 module _ (words : List ℕ) (middle : ℕ) (h : middle ≤ length words) (ys : List ℕ) (n : length ys ≡ length (take (middle - 0) words)) where
-  length-first : length ys ≡ middle
-  length-first = n ∙ length-take-le (middle - 0) words (omega (arith, h)) ∙ sub-zero middle
-
-  pub first-length : length (ys ++ drop (middle - 0) words) ≡ length words
-  first-length =
-      let a = length-append ys (drop (middle - 0) words) in
-      let b = length-drop (middle - 0) words in
-      omega (arith, a, b, length-first, h)
-
-  pub first-front : firstWords middle (ys ++ drop (middle - 0) words) ≡ ys
-  first-front =
-      ap (λ (k : ℕ). take k (ys ++ drop (middle - 0) words)) (sub-zero middle ∙ sym length-first) ∙ take-append-seam ys (drop (middle - 0) words)
-
-  pub first-back : drop middle (ys ++ drop (middle - 0) words) ≡ drop middle words
-  first-back =
-      ap (λ (k : ℕ). drop k (ys ++ drop (middle - 0) words)) (sym length-first) ∙ drop-append-seam ys (drop (middle - 0) words)
-      ∙ ap (λ (k : ℕ). drop k words) (sub-zero middle)
-
   pub first-last : lastWords middle (ys ++ drop (middle - 0) words) ≡ lastWords middle words
-  first-last = ap₂ (λ (k : ℕ) (l : List ℕ). take (k - middle) l) first-length first-back
+  first-last = ap₂ (λ (k : ℕ) (l : List ℕ). take (k - middle) l) (first-length words middle h ys n) (first-back words middle h ys n)
 
   pub first-inside : {base : ℕ} → base ≤ middle → base ≤ length (firstWords middle (ys ++ drop (middle - 0) words))
-  first-inside b = let a = ap length first-front in omega (arith, a, length-first, b)
+  first-inside b = let a = ap length (first-front words middle h ys n) in omega (arith, a, length-first words middle h ys n, b)
 
 -- ---- those behind it
 
