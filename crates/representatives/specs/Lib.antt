@@ -1,3 +1,4 @@
 pub mod Pairs
 pub mod Long
 pub mod Bisection
+pub mod Ordered

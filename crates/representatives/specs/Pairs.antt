@@ -44,13 +44,19 @@ module _ (words : List ℕ) (n id representative : ℕ) (h : 2 * n + 2 < length 
   put-length : length (pairPut words n id representative) ≡ length words
   put-length = simp length-set
 
-  put-other : (k : ℕ) → (k ≡ 0 → ⊥) → (k ≡ 2 * n + 1 → ⊥) → (k ≡ 2 * n + 2 → ⊥) → getD (pairPut words n id representative) k 0 ≡ getD words k 0
+  pub put-other : (k : ℕ) → (k ≡ 0 → ⊥) → (k ≡ 2 * n + 1 → ⊥) → (k ≡ 2 * n + 2 → ⊥) → getD (pairPut words n id representative) k 0 ≡ getD words k 0
   put-other k a b c =
       getD-set-other (set (set words 0 (n + 1)) (2 * n + 1) id) (2 * n + 2) k (representative + 1) 0 c
       ∙ getD-set-other (set words 0 (n + 1)) (2 * n + 1) k id 0 b
       ∙ getD-set-other words 0 k (n + 1) 0 a
 
-  put-first : getD (pairPut words n id representative) (2 * n + 1) 0 ≡ id
+  pub put-count : getD (pairPut words n id representative) 0 0 ≡ n + 1
+  put-count =
+      getD-set-other (set (set words 0 (n + 1)) (2 * n + 1) id) (2 * n + 2) 0 (representative + 1) 0 (λ e. omega (arith, e))
+      ∙ getD-set-other (set words 0 (n + 1)) (2 * n + 1) 0 id 0 (λ e. omega (arith, e))
+      ∙ getD-set-same words 0 (n + 1) 0 (omega (arith, h))
+
+  pub put-first : getD (pairPut words n id representative) (2 * n + 1) 0 ≡ id
   put-first =
       let l = length-set words 0 (n + 1) in
       getD-set-other (set (set words 0 (n + 1)) (2 * n + 1) id) (2 * n + 2) (2 * n + 1) (representative + 1) 0 (λ e. omega (arith, e))

@@ -15,7 +15,8 @@ ghost use Rattle.strings.specs.Shown.{Resolvable};
 ghost use Rattle.sorted_ids.specs.Row.{firstWords, Row};
 ghost use Rattle.representatives.specs.Long.{longFrom, NextLong};
 ghost use Rattle.representatives.specs.Pairs.{Pairs, pairsIn, pairPut, Paired};
-ghost use Rattle.representatives.specs.Bisection.{Split, Known};
+ghost use Rattle.representatives.specs.Bisection.{Rising, Split, Known};
+ghost use Rattle.representatives.specs.Ordered.{Ordered};
 
 const LONG: usize = 1024;
 
@@ -141,8 +142,10 @@ fn pair_string<'a>(
     requires { ⌜ (1024 + m < length (now row)) × (id < st .totals .strings) ⌝ }
     requires { ⌜ (n < 4096) × (2 * n + 2 < length (now words)) ⌝ }
     requires { ⌜ Pairs (resolveStr (storeIn (now tape) (now old ++ now new))) (now words) ⌝ }
+    requires { ⌜ Ordered (now words) n id ⌝ }
     ensures { λ r. ⌜ Paired (storeIn (now (tape .entry)) (now (old .entry) ++ now (new .entry))) (st .totals .strings) 1024 (now (row .entry)) (now (row .exit)) r (m + 1) (now
         (words .exit)) ⌝ }
+    ensures { λ _. ⌜ Ordered (now (words .exit)) (n + 1) (id + 1) ⌝ }
 {
     let s = strings::resolve_str(tape, st, &row[0..INDEX], old, new, id);
     let k = sorted_ids::find(tape, st, row, INDEX, m, old, new, s);
@@ -168,7 +171,9 @@ fn pair_all<'a>(
     requires { ⌜ Resolvable (now tape) st (firstWords 1024 (now row)) (now old) (now new) ⌝ }
     requires { ⌜ (length (now row) ≡ 5120) × (room ≤ 4096) × (2 * room ≤ length (now words) - 1) ⌝ }
     requires { ⌜ Pairs (resolveStr (storeIn (now tape) (now old ++ now new))) (now words) ⌝ }
+    requires { ⌜ Ordered (now words) 0 0 ⌝ }
     ensures { λ _. ⌜ Pairs (resolveStr (storeIn (now (tape .entry)) (now (old .entry) ++ now (new .entry)))) (now (words .exit)) ⌝ }
+    ensures { λ _. ⌜ Rising (now (words .exit)) (pairsIn (now (words .exit))) ⌝ }
 {
     let mut i = next_long(tape, st, least, 0);
     let mut n = 0;
@@ -205,6 +210,7 @@ fn pair_by_row<'a>(
     requires { ⌜ Resolvable (now tape) st (overwrite [] 0 (indexIn (lengthsIn (now tape)) [])) (now old) (now new) ⌝ }
     requires { ⌜ (length (now row) ≡ 5120) × (1 ≤ length (now words)) ⌝ }
     ensures { λ _. ⌜ Pairs (resolveStr (storeIn (now (tape .entry)) (now (old .entry) ++ now (new .entry)))) (now (words .exit)) ⌝ }
+    ensures { λ _. ⌜ Rising (now (words .exit)) (pairsIn (now (words .exit))) ⌝ }
 {
     strings::index_strings(tape, st, old.len() + new.len(), &mut row[0..INDEX]);
     wire::zero_words(words);
@@ -224,6 +230,7 @@ pub fn pair_strings<'a>(
     requires { ⌜ Resolvable (now tape) st (overwrite [] 0 (indexIn (lengthsIn (now tape)) [])) (now old) (now new) ⌝ }
     requires { ⌜ 1 ≤ length (now words) ⌝ }
     ensures { λ _. ⌜ Pairs (resolveStr (storeIn (now (tape .entry)) (now (old .entry) ++ now (new .entry)))) (now (words .exit)) ⌝ }
+    ensures { λ _. ⌜ Rising (now (words .exit)) (pairsIn (now (words .exit))) ⌝ }
 {
     let mut row = [0u32; 5120];
     pair_by_row(tape, st, &mut row[0..5120], old, new, words, least);

@@ -3,6 +3,7 @@ use lib.ListN.{length}
 use native.Mathlib.Omega.{arith}
 use Rattle.sorted_ids.specs.Words.{first-length, resolvable-own}
 use Rattle.representatives.specs.Pairs.{pairs-zeros}
+use Rattle.representatives.specs.Ordered.{ordered-none}
 use borrow.Author.Needs.{needs}
 use Rattle.representatives.proofs.pair_by_row.Statement.{statement}
 use Rattle.representatives.proofs.pair_by_row.Tie as tie
@@ -52,7 +53,10 @@ pair-all-requires c κs =
           omega (arith, room),
           omega (arith, room, at-zero-words .zero-words .kept .0),
         ),
-        rw (at-zero-words .zero-words .ensures) (pairs-zeros _ (length (start .args .words .now))),
+        (
+          rw (at-zero-words .zero-words .ensures) (pairs-zeros _ (length (start .args .words .now))),
+          ordered-none (length (start .args .words .now)) (at-zero-words .zero-words .ensures) (omega (arith, start .pre .1)) 0,
+        ),
       ),
     )
 

@@ -2,6 +2,7 @@ use mathlib.Core.Path.{refl, sym, _∙_}
 use native.Mathlib.Omega.{arith}
 use Rattle.strings.specs.Shown.{shown-str}
 use Rattle.representatives.specs.Pairs.{pairs-put, paired-known, paired-new}
+use Rattle.representatives.specs.Ordered.{ordered-put}
 use borrow.Author.Needs.{needs}
 use Rattle.representatives.proofs.pair_string.Statement.{statement}
 use Rattle.representatives.proofs.pair_string.Tie as tie
@@ -47,7 +48,11 @@ returns c =
     let start = at-resolve-str .before .before .before .before .before .before .before .before in
     let own = at-resolve-str .resolve-str .ensures ∙ shown-str (start .pre .0 .sides) _ (start .pre .1 .1 .0 .1) in
     let found = at-find .find .ensures .1 (at-if1 .if1 .taken) in
-    paired-known (pairs-put _ _ _ _ (start .pre .1 .1 .1 .0 .1) (start .pre .1 .1 .1 .1) (sym own ∙ sym found) (c .before .before .put-pair .ensures)) (start .pre .1 .0)
+    let put = c .before .before .put-pair .ensures in
+    let room = start .pre .1 .1 .1 .0 .1 in (
+      paired-known (pairs-put _ _ _ _ room (start .pre .1 .1 .1 .1 .0) (sym own ∙ sym found) put) (start .pre .1 .0),
+      ordered-put _ _ _ _ room (start .pre .1 .1 .1 .1 .1) put,
+    )
 
 put-pair-requires-2 : tie.Need-put-pair-requires-2
 put-pair-requires-2 c κs =
@@ -67,7 +72,11 @@ returns-2 : tie.Need-returns-2
 returns-2 c =
     let at-put-pair2 = c .before .before .before .before .before .before in
     let start = at-put-pair2 .before .before .before .before .before .before .before .before .before .before .before .before .before in
-    paired-new (pairs-put _ _ _ _ (start .pre .1 .1 .1 .0 .1) (start .pre .1 .1 .1 .1) refl (at-put-pair2 .put-pair2 .ensures)) (c .before .before .insert .ensures)
+    let put = at-put-pair2 .put-pair2 .ensures in
+    let room = start .pre .1 .1 .1 .0 .1 in (
+      paired-new (pairs-put _ _ _ _ room (start .pre .1 .1 .1 .1 .0) refl put) (c .before .before .insert .ensures),
+      ordered-put _ _ _ _ room (start .pre .1 .1 .1 .1 .1) put,
+    )
 
 pub pair-string-spec : {M : Type 1} → statement M
 pair-string-spec =
