@@ -30,7 +30,7 @@ intern-last-requires c κs =
     let d = s .args .bytes .now in
     let work = s .args .work .now in
     let g = s .pre .1 .1 .0 .0 in
-    let shows = shows-by t d work (g .words .room) (s .pre .1 .0 .1) (c .before .before .before .representative .ensures) in
+    let shows = shows-by t d work (g .words .room) (s .pre .1 .0 .1) (c .before .before .before .representative .ensures .0) in
     let e = is-answered t d work (s .args .strs .now) (s .args .m) (s .pre .1 .1 .0 .1) (c .before .before .before .representative .result) (s .args .id) shows (sym (c .before .before .is-answered .ensures) ∙ c .before .if1 .taken) in
     ((last-there work (s .args .strs .now) (s .args .m .state) g (resolveStr (sourceStore t d) (s .args .id)) e, omega (arith, g .known, g .words .few)), (g .counts, s .pre .1 .1 .1 .1))
 
@@ -41,7 +41,7 @@ start-of-requires c κs =
     let d = s .args .bytes .now in
     let work = s .args .work .now in
     let g = s .pre .1 .1 .0 .0 in
-    let shows = shows-by t d work (g .words .room) (s .pre .1 .0 .1) (c .before .before .before .before .representative .ensures) in
+    let shows = shows-by t d work (g .words .room) (s .pre .1 .0 .1) (c .before .before .before .before .representative .ensures .0) in
     let e = is-answered t d work (s .args .strs .now) (s .args .m) (s .pre .1 .1 .0 .1) (c .before .before .before .before .representative .result) (s .args .id) shows (sym (c .before .before .before .is-answered .ensures) ∙ c .before .before .if1 .taken) in
     let told = c .intern-last .ensures work (s .args .strs .now) (resolveStr (sourceStore t d) (s .args .id)) g e in
     omega (arith, id-small (s .args .p) (s .args .m) work (s .args .strs .now) work (s .args .strs .now) (resolveStr (sourceStore t d) (s .args .id)) (c .intern-last .result) told, s .pre .1 .1 .1 .2)
@@ -56,7 +56,7 @@ returns c = λ out.
     let d = s .args .bytes .now in
     let work = s .args .work .now in
     let g = s .pre .1 .1 .0 .0 in
-    let shows = shows-by t d work (g .words .room) (s .pre .1 .0 .1) (c .before .before .before .before .before .representative .ensures) in
+    let shows = shows-by t d work (g .words .room) (s .pre .1 .0 .1) (c .before .before .before .before .before .representative .ensures .0) in
     let e = is-answered t d work (s .args .strs .now) (s .args .m) (s .pre .1 .1 .0 .1) (c .before .before .before .before .before .representative .result) (s .args .id) shows (sym (c .before .before .before .before .is-answered .ensures) ∙ c .before .before .before .if1 .taken) in
     let told = c .before .intern-last .ensures work (s .args .strs .now) (resolveStr (sourceStore t d) (s .args .id)) g e in
     str-answer (s .args .p) (s .args .m) work (s .args .strs .now) work (s .args .strs .now) (resolveStr (sourceStore t d) (s .args .id)) (c .before .intern-last .result) told g refl t d out
@@ -66,7 +66,7 @@ intern-str-requires : tie.Need-intern-str-requires
 intern-str-requires c κs =
     let s = c .before .before .before .before .before .before .before .before .before .before .before in
     let g = s .pre .1 .1 .0 .0 in
-    (s .pre .0, (s .pre .1 .0 .0, (g, (s .pre .1 .1 .1, shows-by (s .args .tape .now) (s .args .bytes .now) (s .args .work .now) (g .words .room) (s .pre .1 .0 .1) (c .before .before .before .before .representative .ensures)))))
+    (s .pre .0, (s .pre .1 .0 .0, (g, (s .pre .1 .1 .1, shows-by (s .args .tape .now) (s .args .bytes .now) (s .args .work .now) (g .words .room) (s .pre .1 .0 .1) (c .before .before .before .before .representative .ensures .0)))))
 
 same-length-2 : tie.Need-same-length-2
 same-length-2 c = search needs

@@ -54,7 +54,7 @@ same-length : tie.Need-same-length
 same-length c = search needs
 
 returns : tie.Need-returns
-returns c = words-paired (c .before .before .before .before .before .before .before .before .before .before .before .before .before .pre .0) refl (c .before .before .before .before .before .before .before .last-strings-at .ensures) (c .before .before .before .before .before .before .before .before .before .before .before .before .before .args .words .now) (omega (arith, c .before .before .before .before .before .before .before .before .before .before .before .before .before .pre .1)) (c .before .before .pair-strings .kept .1 .1 .1 .1 .0 ∙ behind-length (c .before .before .before .before .before .before .before .before .before .before .before .before .before .args .words .now) (omega (arith, c .before .before .before .before .before .before .before .before .before .before .before .before .before .pre .1))) (c .before .before .pair-strings .ensures)
+returns c = words-paired (c .before .before .before .before .before .before .before .before .before .before .before .before .before .pre .0) refl (c .before .before .before .before .before .before .before .last-strings-at .ensures) (c .before .before .before .before .before .before .before .before .before .before .before .before .before .args .words .now) (omega (arith, c .before .before .before .before .before .before .before .before .before .before .before .before .before .pre .1)) (c .before .before .pair-strings .kept .1 .1 .1 .1 .0 ∙ behind-length (c .before .before .before .before .before .before .before .before .before .before .before .before .before .args .words .now) (omega (arith, c .before .before .before .before .before .before .before .before .before .before .before .before .before .pre .1))) (c .before .before .pair-strings .ensures .0)
 
 pub pair-words-spec : {M : Type 1} → statement M
 pair-words-spec =
