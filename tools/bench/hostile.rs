@@ -1,4 +1,4 @@
-// Books made to be slow: books that are accepted (two are refused at their very end) and on which a step of ours is quadratic or worse if it is
+// Books made to be slow: books that are accepted and on which a step of ours is quadratic or worse if it is
 // written without care. Each is called at doubling sizes, up to about 4 MB of tape and bytes; the exponent says how the time grows.
 use std::cell::RefCell;
 use std::rc::Rc;
@@ -186,23 +186,20 @@ fn long_and_short(n: usize) -> Hostile {
     first_line(&b)
 }
 
-// n Rubies in the book, n Formats in the reading, with long strings in turn; the very last Format has a base, so that number 15 refuses
+// n Rubies in the book, n Formats in the reading, with long strings in turn
 fn long_introduced(n: usize, k: usize) -> Hostile {
     let strings = alike(2 * k, 106 * n);
     let (mut b, mut r) = (Book::default(), Book::default());
     let bases: Vec<u32> = strings[..k].iter().map(|s| b.plain(s)).collect();
     for i in 0..n { b.node("r", 1, 0, [bases[i % k], 1, 0, 0, 0, 0]); }
-    let short = b.plain("b");
-    b.node("r", 1, 0, [short, 1, 0, 0, 0, 0]);
     b.put("\n\n");
     let at = b.text.len();
     b.put("a");
-    b.put(&"f".repeat(n + 1));
+    b.put(&"f".repeat(n));
     b.put("\n\n");
     r.put("x");
     let targets: Vec<u32> = strings[k..].iter().map(|s| r.plain(s)).collect();
     for i in 0..n { r.node("f", 2, 4, [targets[i % k], 1, 0, 0, 0, 0]); }
-    r.format("f", "b");
     r.put("\n\n");
     Hostile { book: b.done(), edit: (at, at + 1), reading: r.done() }
 }
@@ -232,6 +229,35 @@ fn probed(strings: &[String], n: usize) -> Hostile {
     for s in strings { r.plain(s); }
     for i in 0..n { r.content(0, if i % 2 == 0 { 0 } else { strings.len() as u32 - 1 }, 0); }
     grafted(r)
+}
+
+// A line of text, and a reading of it in which Rubies share the run of all contents, so that about a million of them are grafted.
+fn shared(mut r: Book) -> Hostile {
+    let mut b = Book::default();
+    b.put("ay\n\nb");
+    r.put("x");
+    let run = r.contents.len() as u32 / 10;
+    let rubies = MAX_POOL as u32 / (2 * run) - 1;
+    for _ in 0..rubies { r.segment(3, 1, 1, [0, run, 0, run, 0, 0]); }
+    r.content(1, 0, rubies);
+    r.node("y", 14, 0, [run, 1, 0, 0, 0, 0]);
+    r.put("\n\n");
+    Hostile { book: b.done(), edit: (0, 1), reading: r.done() }
+}
+
+// n equal strings of a kilobyte, named in turn, a million times
+fn long_shared(n: usize) -> Hostile {
+    let mut r = Book::default();
+    for _ in 0..n { let id = r.string(&"s".repeat(1100)); r.content(0, id, 0); }
+    shared(r)
+}
+
+// a million names of strings of one slot, by a run of n contents: those that stand farthest from it, in turn
+fn probed_shared(strings: &[String], n: usize) -> Hostile {
+    let mut r = Book::default();
+    for s in strings { r.plain(s); }
+    for i in 0..n { r.content(0, (strings.len() - 1 - i * 7 % 1000) as u32, 0); }
+    shared(r)
 }
 
 // n Rubies in the book, n Formats in the reading
@@ -349,7 +375,9 @@ fn all_shapes() -> Vec<Shape> {
         shape("UTF-8: E0 and ED in each 64 bytes", Check, ONE, MAX_TEXT, |n| first_line(&written(n, "青空文庫の本を読む人はไ声に出して힘"))),
         shape("UTF-8: damaged at the very end", Check, ONE, MAX_TEXT, |n| damaged(n)),
         shape("grafting: n contents that name two equal long strings in turn", Merge, ONE, MAX_POOL, |n| long_again(n)),
-        shape("grafting: 3,583 strings of one slot, then n contents that name the last and the first in turn", Merge, ONE, MAX_POOL - 3583, move |n| probed(&on_one_slot(3583), n)),
+        shape("grafting: a million contents by shared runs, n equal strings of a kilobyte in turn", Merge, ONE, 65_536, |n| long_shared(n)),
+        shape("grafting: 3,583 strings of one slot, then n contents that name the last and the first in turn", Merge, ONE, MAX_POOL - 3583, move |n| probed(&slot(3583), n)),
+        shape("grafting: 3,583 strings of one slot, a million contents by shared runs of n, far strings in turn", Merge, ONE, MAX_POOL / 2 - 3584, move |n| probed_shared(&slot_too(3583), n)),
     ]
 }
 
@@ -483,10 +511,7 @@ fn is_slow(r: &HostileRow) -> bool {
     r.stopped || matches!(r.limit, Some(Err(_))) || (greatest > 1.6 && r.points.last().unwrap().seconds > 1e-3)
 }
 
-// Rows about grafting stand in a table of their own.
-fn of_grafting(rows: &[HostileRow], wanted: bool) -> Vec<&HostileRow> { rows.iter().filter(|r| r.name.starts_with("grafting") == wanted).collect() }
-
-fn hostile_summary(rows: &[&HostileRow]) -> String {
+fn hostile_summary(rows: &[HostileRow]) -> String {
     let item = |r: &HostileRow| {
         let (p, words) = (r.points.last().unwrap(), if r.timed == Timed::Check { String::new() } else { format!(", {} words", thousands(r.words)) });
         format!("\n- {}, {}{words}: exponent {}, {} at {} bytes", r.name, entry_name(r.timed), shown_exponent(r), duration(p.seconds), thousands(p.input))
