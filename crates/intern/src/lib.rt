@@ -13,6 +13,9 @@ ghost use Rattle.intern.specs.Told.{Told, knownAnswer, probedCall};
 
 const INTERN_LENGTH_LIMIT: usize = 64;
 
+// so many slots are looked at before the far strings are
+const NEAR: usize = 16;
+
 // What a call answers: the string's id and the new state; or, not ok, that a new string has no room.
 pub struct Answer {
     pub ok: bool,
@@ -35,6 +38,7 @@ fn known(st: StrInterner, slot: u32, stats: InternStats) -> Answer
             base: st.base,
             used: st.used,
             last: table::wide(slot),
+            far: st.far,
             stats: stats,
         },
     }
@@ -96,6 +100,27 @@ fn table_alloc(
     }
 }
 
+// A string that is not near its slot: looked for among the far strings that were found before, then in the table, and remembered.
+fn far_call(work: &mut [u32], strs: &mut [u8], st: StrInterner, s: &[u8], resized: u64) -> Answer
+    requires { ⌜ Good (now work) (now strs) st ⌝ }
+    requires { ⌜ (0 < st .slots) × (st .occupied * 8 < st .slots * 7) ⌝ }
+    requires { ⌜ (st .stats .calls < 2 ^ 32) × (resized ≤ 1) ⌝ }
+    ensures { λ r. ⌜ Told (now (work .entry)) (now (strs .entry)) st (now (work .exit)) (now (strs .exit)) r (probedCall (stateOf (now (work .entry)) (now (strs .entry)) st) resized (now (s .entry))) ⌝ }
+{
+    let c = st.stats;
+    let j = interner::far_place(work, strs, st, s);
+    let q = interner::recall(work, strs, st, s, j);
+    if q.slot != 0 {
+        return known(st, q.slot, stats::table_hit(c, resized, q.steps));
+    }
+    let p = interner::lookup(work, strs, st, s, st.slots);
+    if p.slot == 0 {
+        return table_alloc(work, strs, st, s, p, resized);
+    }
+    let t = interner::remember(work, strs, st, p, j);
+    known(t, p.slot, stats::table_hit(c, resized, p.steps))
+}
+
 // A call for the table, which is in its place.
 fn table_call(work: &mut [u32], strs: &mut [u8], st: StrInterner, s: &[u8], resized: u64) -> Answer
     requires { ⌜ Good (now work) (now strs) st ⌝ }
@@ -103,13 +128,16 @@ fn table_call(work: &mut [u32], strs: &mut [u8], st: StrInterner, s: &[u8], resi
     requires { ⌜ (st .stats .calls < 2 ^ 32) × (resized ≤ 1) ⌝ }
     ensures { λ r. ⌜ Told (now (work .entry)) (now (strs .entry)) st (now (work .exit)) (now (strs .exit)) r (probedCall (stateOf (now (work .entry)) (now (strs .entry)) st) resized (now (s .entry))) ⌝ }
 {
-    let p = interner::lookup(work, strs, st, s);
+    let p = interner::lookup(work, strs, st, s, NEAR);
     let slot = p.slot;
     let c = st.stats;
-    if slot == 0 {
+    if slot != 0 {
+        return known(st, slot, stats::table_hit(c, resized, p.steps));
+    }
+    if p.steps < NEAR as u64 {
         return table_alloc(work, strs, st, s, p, resized);
     }
-    known(st, slot, stats::table_hit(c, resized, p.steps))
+    far_call(work, strs, st, s, resized)
 }
 
 // `intern`. The calls are to be below 2 to the 32, so that no count of 64 bits wraps: what a caller keeps by `answered-calls`.

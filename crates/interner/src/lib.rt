@@ -20,8 +20,14 @@ ghost use Rattle.interner.specs.State.{stateOf, Good, Fresh, Ready, with
 
 const MAX_NEW_STRINGS: usize = 3583;
 
+// how many words the row of far strings has
+const ROW: usize = 3840;
+
+// what the steps in a word of the row count
+const PLACES: usize = 4096;
+
 // `StrInterner`, beside the words and bytes: slots of the table (0 before its first use) and how many are taken; how many strings
-// there are, where in the buffer they begin and end; one more than the last answer's id (0: none).
+// there are, where in the buffer they begin and end; one more than the last answer's id (0: none); how many far strings are remembered.
 pub struct StrInterner {
     pub slots: usize,
     pub occupied: usize,
@@ -29,13 +35,14 @@ pub struct StrInterner {
     pub base: usize,
     pub used: usize,
     pub last: usize,
+    pub far: usize,
     pub stats: InternStats,
 }
 
 // ---- the table
 
-fn with_slots(st: StrInterner, n: usize) -> StrInterner
-    ensures { λ r. ⌜ r ≡ withSlots st n ⌝ }
+fn with_slots(st: StrInterner, n: usize, far: usize) -> StrInterner
+    ensures { λ r. ⌜ r ≡ withSlots st n far ⌝ }
 {
     let stats = st.stats;
     StrInterner {
@@ -45,11 +52,13 @@ fn with_slots(st: StrInterner, n: usize) -> StrInterner
         base: st.base,
         used: st.used,
         last: st.last,
+        far: far,
         stats: stats,
     }
 }
 
-// The table that a call probes: the first, or one of twice as many slots where it is due, or the one there is.
+// The table that a call probes: the first, or one of twice as many slots where it is due, or the one there is. What was remembered of another table
+// is forgotten.
 pub fn table_for(work: &mut [u32], strs: &[u8], st: StrInterner) -> StrInterner
     requires { ⌜ Good (now work) (now strs) st ⌝ }
     ensures { λ r. ⌜ Ready (now (work .entry)) (now (strs .entry)) st (now (work .exit)) r ⌝ }
@@ -57,27 +66,27 @@ pub fn table_for(work: &mut [u32], strs: &[u8], st: StrInterner) -> StrInterner
     let slots = st.slots;
     if slots == 0 {
         table::clear_part(work, 0, INITIAL_CAPACITY);
-        return with_slots(st, INITIAL_CAPACITY);
+        return with_slots(st, INITIAL_CAPACITY, 0);
     }
     if table::due(slots, st.occupied) {
         table::grow(work, strs, st.count, slots);
-        return with_slots(st, slots * 2);
+        return with_slots(st, slots * 2, 0);
     }
-    with_slots(st, slots)
+    with_slots(st, slots, st.far)
 }
 
-// Where s is in the table, or where it goes.
-pub fn lookup(work: &[u32], strs: &[u8], st: StrInterner, s: &[u8]) -> Probed
+// Where s is in the table, or where it goes, by `most` slots.
+pub fn lookup(work: &[u32], strs: &[u8], st: StrInterner, s: &[u8], most: usize) -> Probed
     requires { ⌜ Good (now work) (now strs) st ⌝ }
     requires { ⌜ 0 < st .slots ⌝ }
-    ensures { λ r. ⌜ probeOf r ≡ firstProbe (stateOf (now (work .entry)) (now (strs .entry)) st) (now (s .entry)) ⌝ }
+    ensures { λ r. ⌜ probeOf r ≡ probeOfState most (stateOf (now (work .entry)) (now (strs .entry)) st) (now (s .entry)) ⌝ }
 {
     let slots = st.slots;
     let off = slots - INITIAL_CAPACITY;
     let end = off + slots;
     let last = STARTS + 2 * st.count + 2;
     let from = table::slot_of(hash::fx_hash(s), slots);
-    table::probe(&work[off..end], &work[STARTS..last], strs, s, from)
+    table::probe(&work[off..end], &work[STARTS..last], strs, s, from, most)
 }
 
 // The last string's entry at an empty slot of the table.
@@ -97,6 +106,7 @@ pub fn enter(work: &mut [u32], st: StrInterner, at: usize) -> StrInterner
         base: st.base,
         used: st.used,
         last: st.last,
+        far: st.far,
         stats: stats,
     }
 }
@@ -161,8 +171,104 @@ pub fn alloc(
         base: st.base,
         used: end,
         last: count + 1,
+        far: st.far,
         stats: stats,
     }
+}
+
+// ---- far strings
+
+// Where the row of the far strings stands: in the words behind the tables of up to 2048 slots, or before that of 4096.
+fn row_of(slots: usize) -> usize
+    ensures { λ r. ⌜ r ≡ rowOf slots ⌝ }
+{
+    if slots <= 2048 { ROW } else { 0 }
+}
+
+// Word j of the row as a probe: the place of a slot, and 4096 times the steps to it.
+fn far_probe(work: &[u32], strs: &[u8], st: StrInterner, j: usize) -> Probed
+    requires { ⌜ Good (now work) (now strs) st ⌝ }
+    requires { ⌜ j < st .far ⌝ }
+    ensures { λ r. ⌜ probeOf r ≡ probeAt (tableOf (st .slots) (now (work .entry))) (getD (now (work .entry)) (rowOf (st .slots) + j) 0) ⌝ }
+{
+    let off = st.slots - INITIAL_CAPACITY;
+    let w = table::wide(work[row_of(st.slots) + j]);
+    let at = w % PLACES;
+    Probed {
+        at: at,
+        slot: work[off + at],
+        steps: (w / PLACES) as u64,
+    }
+}
+
+// The string that it found.
+fn far_string<'a>(work: &[u32], strs: &'a [u8], st: StrInterner, j: usize) -> &'a [u8]
+    requires { ⌜ Good (now work) (now strs) st ⌝ }
+    requires { ⌜ j < st .far ⌝ }
+    ensures { λ r. ⌜ now r ≡ farString (stateOf (now (work .entry)) (now (strs .entry)) st) (getD (now (work .entry)) (rowOf (st .slots) + j) 0) ⌝ }
+{
+    let p = far_probe(work, strs, st, j);
+    resolve(work, strs, st, p.slot - 1)
+}
+
+// How many far strings precede s. No more is proved than that there are so many: `recall` tests what stands there.
+pub fn far_place(work: &[u32], strs: &[u8], st: StrInterner, s: &[u8]) -> usize
+    requires { ⌜ Good (now work) (now strs) st ⌝ }
+    ensures { λ r. ⌜ r ≤ st .far ⌝ }
+{
+    let mut lo = 0;
+    let mut hi = st.far;
+    while lo < hi {
+        let mid = lo + (hi - lo) / 2;
+        if compare::precedes(far_string(work, strs, st, mid), s) {
+            lo = mid + 1;
+        } else {
+            hi = mid;
+        }
+    }
+    lo
+}
+
+// The probe of s, if s stands at j in the row; else one whose slot is 0.
+pub fn recall(work: &[u32], strs: &[u8], st: StrInterner, s: &[u8], j: usize) -> Probed
+    requires { ⌜ Good (now work) (now strs) st ⌝ }
+    ensures { λ r. ⌜ (r .slot ≡ 0 → ⊥) → probeOf r ≡ firstProbe (stateOf (now (work .entry)) (now (strs .entry)) st) (now (s .entry)) ⌝ }
+{
+    let none = Probed {
+        at: 0,
+        slot: 0,
+        steps: 0,
+    };
+    if st.far <= j {
+        return none;
+    }
+    if compare::same(far_string(work, strs, st, j), s) {
+        return far_probe(work, strs, st, j);
+    }
+    none
+}
+
+fn with_far(st: StrInterner, far: usize) -> StrInterner
+    ensures { λ r. ⌜ r ≡ withSlots st (st .slots) far ⌝ }
+{
+    with_slots(st, st.slots, far)
+}
+
+// Remembers the probe p, which found a string, as the j-th.
+pub fn remember(work: &mut [u32], strs: &[u8], st: StrInterner, p: Probed, j: usize) -> StrInterner
+    requires { ⌜ Good (now work) (now strs) st ⌝ }
+    requires { ⌜ (0 < st .slots) × (0 < p .slot) × (j ≤ st .far) ⌝ }
+    requires { ⌜ probeOf p ≡ firstProbe (stateOf (now work) (now strs) st) (getD (stateOf (now work) (now strs) st .strings) (p .slot - 1) []) ⌝ }
+    ensures { λ r. ⌜ Remembered (now (work .entry)) (now (strs .entry)) st (now (work .exit)) r ⌝ }
+{
+    let far = st.far;
+    if ROW <= far + 1 {
+        return with_far(st, far);
+    }
+    let row = row_of(st.slots);
+    let w = p.at + PLACES * (p.steps as usize);
+    moves::put_before(work, row + j, row + far, w as u32);
+    with_far(st, far + 1)
 }
 
 // ---- a new layer
@@ -182,6 +288,7 @@ pub fn fresh(work: &mut [u32], strs: &[u8], base: usize) -> StrInterner
         base: base,
         used: base,
         last: 0,
+        far: 0,
         stats: stats::none(),
     }
 }

@@ -146,6 +146,7 @@ fn refused() -> Layer
             base: 0,
             used: 0,
             last: 0,
+            far: 0,
             stats: stats::none(),
         },
     }
