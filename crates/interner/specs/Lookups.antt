@@ -16,6 +16,7 @@ use Rattle.table.specs.Roomy.{Inside, inside, never-round}
 use Rattle.table.specs.Sizes.{size-hi, size-length, strings-all}
 use Rattle.interner.specs.declared.StrInterner.{StrInterner as Interner}
 use Rattle.interner.specs.State.{stateOf, Good, firstProbe}
+use Rattle.interner.specs.Row.{probeFor}
 
 module _ (work strs : List ℕ) (st : Interner) (g : Good work strs st) where
   abbrev strings : List (List ℕ)
@@ -48,19 +49,19 @@ module _ (work strs : List ℕ) (st : Interner) (g : Good work strs st) where
     len : length table ≡ st .slots
     len = size-length work (g .size) (g .words .room)
 
-    pub lookup-is : (p : Probed) (h from : ℕ) → h ≡ fxHash s → from ≡ h % st .slots → probeOf p ≡ probe (length table) (stringsOf (startsOf (st .count) work) strs) table s from 0 → probeOf p ≡ firstProbe (stateOf work strs st) s
-    unfolding firstProbe
-    lookup-is p h from hh hf hp =
+    pub lookup-is : (p : Probed) (h from most : ℕ) → h ≡ fxHash s → from ≡ h % st .slots → probeOf p ≡ probe most (stringsOf (startsOf (st .count) work) strs) table s from 0 → probeOf p ≡ probeFor most strings table s
+    unfolding probeFor
+    lookup-is p h from most hh hf hp =
         hp
-        ∙ ap (λ (ss : List (List ℕ)). probe (length table) ss table s from 0) (strings-all work strs (length strs) (st .count) (g .words))
-        ∙ ap (λ (k : ℕ). probe (length table) strings table s k 0) (hf ∙ ap (λ (k : ℕ). k % st .slots) hh ∙ ap (λ (n : ℕ). fxHash s % n) (sym len))
+        ∙ ap (λ (ss : List (List ℕ)). probe most ss table s from 0) (strings-all work strs (length strs) (st .count) (g .words))
+        ∙ ap (λ (k : ℕ). probe most strings table s k 0) (hf ∙ ap (λ (k : ℕ). k % st .slots) hh ∙ ap (λ (n : ℕ). fxHash s % n) (sym len))
 
     start-lt : fxHash s % length table < length table
     start-lt = mod-lt (fxHash s) (omega (arith, len))
 
     -- a slot of the table, below the number of starts, after 4096 steps at most
     pub probe-in : (st .occupied * 8 < st .slots * 7) → (p : Probe) → p ≡ firstProbe (stateOf work strs st) s → (p .at < st .slots) × (p .slot ≤ st .count) × (p .steps ≤ 4096) × (getD table (p .at) 0 ≡ p .slot)
-    unfolding firstProbe
+    unfolding firstProbe probeFor
     probe-in roomy p is =
         let i = subst (Inside table (st .count + 1) (length table + 0)) (sym is) (inside strings s table (st .count + 1) (length table) (fxHash s % length table) 0 (omega arith) (g .entries) start-lt) in (
           omega (arith, i .at, len),

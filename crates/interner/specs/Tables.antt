@@ -12,6 +12,7 @@ use Rattle.model.specs.Intern.{grows, tableFor, moveSlots}
 use Rattle.interner.specs.declared.StrInterner.{StrInterner as Interner}
 use Rattle.table.specs.Layout.{taken, wideWords, tableOf, startsOf, stringsUpTo, stringsOf, Starts, Entries}
 use Rattle.interner.specs.State.{stateOf, Good, Ready, withSlots, withTable}
+use Rattle.interner.specs.Row.{Row, rowOf, row-none}
 use Rattle.table.specs.Sizes.{Size, size256, isDue, size-lo, size-grows, size-double, size-length, strings-all, is-empty, due-full, due-not}
 use Rattle.table.specs.Cleared.{cleared-length, cleared-part, cleared-high}
 use Rattle.table.specs.Roomy.{taken-le, taken-zeros, taken-all, entries-all, entries-zeros}
@@ -25,12 +26,12 @@ grows-is work strs st g =
     ∙ ap (λ (n : ℕ). not (eqb n 0) && leb (n * 7) (st .occupied * 8)) len
 
 -- ---- another table
-module _ (work strs : List ℕ) (st : Interner) (v : List ℕ) (g : Good work strs st) (len : length v ≡ length work) (high : drop 8192 v ≡ drop 8192 work) (n : ℕ) where
-  starts-same : startsOf (st .count) v ≡ startsOf (st .count) work
+module _ (work strs : List ℕ) (st : Interner) (v : List ℕ) (g : Good work strs st) (len : length v ≡ length work) (high : drop 8192 v ≡ drop 8192 work) (n far : ℕ) where
+  pub starts-same : startsOf (st .count) v ≡ startsOf (st .count) work
   starts-same = ap (λ (l : List ℕ). wideWords (take (8192 + 2 * st .count + 2 - 8192) l)) high
 
-  retable : Size n → Entries (tableOf n v) (st .count + 1) → taken (tableOf n v) ≡ st .occupied → Good v strs (withSlots st n)
-  retable sz e number =
+  pub retable : Size n → Entries (tableOf n v) (st .count + 1) → taken (tableOf n v) ≡ st .occupied → Row (stringsUpTo (st .count) (startsOf (st .count) v) strs) (tableOf n v) v (rowOf n) far → Good v strs (withSlots st n far)
+  retable sz e number row =
       record {
         words = record { room = rw len (g .words .room); few = g .words .few; starts = subst (λ (l : List ℕ). Starts l (length strs)) (sym starts-same) (g .words .starts) };
         size = sz;
@@ -43,9 +44,10 @@ module _ (work strs : List ℕ) (st : Interner) (v : List ℕ) (g : Good work st
         begins = g .begins;
         laid = g .laid ∙ ap (λ (l : List ℕ). take (st .base) strs ++ flatten (stringsUpTo (st .count) l strs)) (sym starts-same);
         counts = g .counts;
+        row = row;
       }
 
-  retabled : (t : List ℕ) → tableOf n v ≡ t → stateOf v strs (withSlots st n) ≡ withTable (stateOf work strs st) t
+  pub retabled : (t : List ℕ) → tableOf n v ≡ t → stateOf v strs (withSlots st n far) ≡ withTable (stateOf work strs st) t
   retabled t e = λ i. record { strings = stringsUpTo (st .count) (starts-same i) strs; table = e i; occupied = st .occupied; last = st .last; stats = stateOf work strs st .stats }
 
 module _ (work strs : List ℕ) (st : Interner) (g : Good work strs st) where
@@ -53,7 +55,7 @@ module _ (work strs : List ℕ) (st : Interner) (g : Good work strs st) where
   table-len = size-length work (g .size) (g .words .room)
 
   -- ---- the first table
-  module _ (v : List ℕ) (r : Interner) (is : v ≡ take 0 work ++ (replicate (256 - 0) 0 ++ drop 256 work)) (none-yet : st .slots ≡ 0) (hr : r ≡ withSlots st 256) where
+  module _ (v : List ℕ) (r : Interner) (is : v ≡ take 0 work ++ (replicate (256 - 0) 0 ++ drop 256 work)) (none-yet : st .slots ≡ 0) (hr : r ≡ withSlots st 256 0) where
     first-room : 256 ≤ length work
     first-room = omega (arith, g .words .room)
 
@@ -81,9 +83,9 @@ module _ (work strs : List ℕ) (st : Interner) (g : Good work strs st) where
     first-ready =
         subst (Ready work strs st v) (sym hr)
         (record {
-          good = retable work strs st v g first-len first-high 256 size256 (subst (λ (l : List ℕ). Entries l (st .count + 1)) (sym first-table) (entries-zeros (st .count + 1) 256 (omega arith))) (ap taken first-table ∙ taken-zeros 256 ∙ sym no-entries);
+          good = retable work strs st v g first-len first-high 256 0 size256 (subst (λ (l : List ℕ). Entries l (st .count + 1)) (sym first-table) (entries-zeros (st .count + 1) 256 (omega arith))) (ap taken first-table ∙ taken-zeros 256 ∙ sym no-entries) row-none;
           is = refl;
-          state = retabled work strs st v g first-len first-high 256 (tableFor (stateOf work strs st)) (first-table ∙ sym table-is);
+          state = retabled work strs st v g first-len first-high 256 0 (tableFor (stateOf work strs st)) (first-table ∙ sym table-is);
           some = lit< tt;
           roomy = omega (arith, no-entries);
           high = first-high;
@@ -94,15 +96,15 @@ module _ (work strs : List ℕ) (st : Interner) (g : Good work strs st) where
     not-empty = is-empty (tableOf (st .slots) work) ∙ ne-eqb _ _ (λ e. ne (sym table-len ∙ e))
 
     -- ---- the table there is
-    pub stay-ready : (r : Interner) → isDue (st .slots) (st .occupied) ≡ false → r ≡ withSlots st (st .slots) → Ready work strs st work r
+    pub stay-ready : (r : Interner) → isDue (st .slots) (st .occupied) ≡ false → r ≡ withSlots st (st .slots) (st .far) → Ready work strs st work r
     unfolding tableFor
     stay-ready r not-due hr =
         let is : tableFor (stateOf work strs st) ≡ tableOf (st .slots) work = rw (not-empty, grows-is work strs st g ∙ not-due) refl in
         subst (Ready work strs st work) (sym hr)
         (record {
-          good = retable work strs st work g refl refl (st .slots) (g .size) (g .entries) (g .number);
+          good = retable work strs st work g refl refl (st .slots) (st .far) (g .size) (g .entries) (g .number) (g .row);
           is = refl;
-          state = retabled work strs st work g refl refl (st .slots) (tableFor (stateOf work strs st)) (sym is);
+          state = retabled work strs st work g refl refl (st .slots) (st .far) (tableFor (stateOf work strs st)) (sym is);
           some = omega (arith, size-lo (g .size) ne);
           roomy = due-not _ _ not-due ne;
           high = refl;
@@ -119,7 +121,7 @@ module _ (work strs : List ℕ) (st : Interner) (g : Good work strs st) where
           let b = g .words .few in
           size-grows (g .size) (st .occupied) (omega arith) (due-full _ _ is-due)
 
-      module _ (v : List ℕ) (r : Interner) (len : length v ≡ length work) (high : drop 8192 v ≡ drop 8192 work) (is : tableOf (st .slots * 2) v ≡ moveSlots (stringsOf (startsOf (st .count) work) strs) (tableOf (st .slots) work) (replicate (st .slots * 2) 0)) (hr : r ≡ withSlots st (st .slots * 2)) where
+      module _ (v : List ℕ) (r : Interner) (len : length v ≡ length work) (high : drop 8192 v ≡ drop 8192 work) (is : tableOf (st .slots * 2) v ≡ moveSlots (stringsOf (startsOf (st .count) work) strs) (tableOf (st .slots) work) (replicate (st .slots * 2) 0)) (hr : r ≡ withSlots st (st .slots * 2) 0) where
         abbrev zeros : List ℕ
         zeros = replicate (st .slots * 2) 0
 
@@ -146,12 +148,12 @@ module _ (work strs : List ℕ) (st : Interner) (g : Good work strs st) where
             subst (Ready work strs st v) (sym hr)
             (record {
               good =
-                  retable work strs st v g len high (st .slots * 2) (size-double (g .size) ne grows-hi)
+                  retable work strs st v g len high (st .slots * 2) 0 (size-double (g .size) ne grows-hi)
                   (subst (λ (l : List ℕ). Entries l (st .count + 1)) (sym new-is)
                   (entries-all strings (st .count + 1) (tableOf (st .slots) work) zeros (entries-zeros (st .count + 1) (st .slots * 2) (omega arith)) (g .entries)))
-                  new-number;
+                  new-number row-none;
               is = refl;
-              state = retabled work strs st v g len high (st .slots * 2) (tableFor (stateOf work strs st)) (new-is ∙ sym grown-is);
+              state = retabled work strs st v g len high (st .slots * 2) 0 (tableFor (stateOf work strs st)) (new-is ∙ sym grown-is);
               some = omega (arith, grows-lo);
               roomy = omega (arith, taken-le (tableOf (st .slots) work), g .number, table-len, grows-lo);
               high = high;

@@ -15,8 +15,9 @@ ghost use lib.ListN.{length, getD, set};
 ghost use Rattle.model.specs.Limits.{maxNewStrings, minWorkWords};
 ghost use Rattle.model.specs.Intern.{holds};
 ghost use Rattle.stats.specs.Counts.{Counted};
-ghost use Rattle.table.specs.Layout.{probeOf};
-ghost use Rattle.interner.specs.State.{stateOf, Good, Fresh, Ready, withSlots, withEntry, Alloced, firstProbe};
+ghost use Rattle.table.specs.Layout.{probeOf, tableOf};
+ghost use Rattle.interner.specs.State.{stateOf, Good, Fresh, Ready, withSlots, withEntry, Alloced, Remembered, firstProbe};
+ghost use Rattle.interner.specs.Row.{rowOf, probeFor, probeAt, farString};
 
 const MAX_NEW_STRINGS: usize = 3583;
 
@@ -79,7 +80,7 @@ pub fn table_for(work: &mut [u32], strs: &[u8], st: StrInterner) -> StrInterner
 pub fn lookup(work: &[u32], strs: &[u8], st: StrInterner, s: &[u8], most: usize) -> Probed
     requires { ⌜ Good (now work) (now strs) st ⌝ }
     requires { ⌜ 0 < st .slots ⌝ }
-    ensures { λ r. ⌜ probeOf r ≡ probeOfState most (stateOf (now (work .entry)) (now (strs .entry)) st) (now (s .entry)) ⌝ }
+    ensures { λ r. ⌜ probeOf r ≡ probeFor most (stateOf (now (work .entry)) (now (strs .entry)) st .strings) (tableOf (st .slots) (now (work .entry))) (now (s .entry)) ⌝ }
 {
     let slots = st.slots;
     let off = slots - INITIAL_CAPACITY;
@@ -205,7 +206,7 @@ fn far_probe(work: &[u32], strs: &[u8], st: StrInterner, j: usize) -> Probed
 fn far_string<'a>(work: &[u32], strs: &'a [u8], st: StrInterner, j: usize) -> &'a [u8]
     requires { ⌜ Good (now work) (now strs) st ⌝ }
     requires { ⌜ j < st .far ⌝ }
-    ensures { λ r. ⌜ now r ≡ farString (stateOf (now (work .entry)) (now (strs .entry)) st) (getD (now (work .entry)) (rowOf (st .slots) + j) 0) ⌝ }
+    ensures { λ r. ⌜ now r ≡ farString (stateOf (now (work .entry)) (now (strs .entry)) st .strings) (tableOf (st .slots) (now (work .entry))) (getD (now (work .entry)) (rowOf (st .slots) + j) 0) ⌝ }
 {
     let p = far_probe(work, strs, st, j);
     resolve(work, strs, st, p.slot - 1)
@@ -232,7 +233,7 @@ pub fn far_place(work: &[u32], strs: &[u8], st: StrInterner, s: &[u8]) -> usize
 // The probe of s, if s stands at j in the row; else one whose slot is 0.
 pub fn recall(work: &[u32], strs: &[u8], st: StrInterner, s: &[u8], j: usize) -> Probed
     requires { ⌜ Good (now work) (now strs) st ⌝ }
-    ensures { λ r. ⌜ (r .slot ≡ 0 → ⊥) → probeOf r ≡ firstProbe (stateOf (now (work .entry)) (now (strs .entry)) st) (now (s .entry)) ⌝ }
+    ensures { λ r. ⌜ ((r .slot ≡ 0 → ⊥) → probeOf r ≡ firstProbe (stateOf (now (work .entry)) (now (strs .entry)) st) (now (s .entry))) ⌝ }
 {
     let none = Probed {
         at: 0,
