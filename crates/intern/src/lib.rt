@@ -100,7 +100,31 @@ fn table_alloc(
     }
 }
 
-// A string that is not near its slot: looked for among the far strings that were found before, then in the table, and remembered.
+// A string that is not among the far ones: looked for in the whole table, and if it is there remembered as the j-th.
+fn learn(
+    work: &mut [u32],
+    strs: &mut [u8],
+    st: StrInterner,
+    s: &[u8],
+    resized: u64,
+    j: usize,
+) -> Answer
+    requires { ⌜ Good (now work) (now strs) st ⌝ }
+    requires { ⌜ (0 < st .slots) × (st .occupied * 8 < st .slots * 7) ⌝ }
+    requires { ⌜ (st .stats .calls < 2 ^ 32) × (resized ≤ 1) × (j ≤ st .far) ⌝ }
+    ensures { λ r. ⌜ Told (now (work .entry)) (now (strs .entry)) st (now (work .exit)) (now (strs .exit)) r (probedCall (stateOf (now (work .entry)) (now (strs .entry)) st) resized (now (s .entry))) ⌝ }
+{
+    let c = st.stats;
+    let p = interner::lookup(work, strs, st, s, st.slots);
+    let slot = p.slot;
+    if slot == 0 {
+        return table_alloc(work, strs, st, s, p, resized);
+    }
+    let t = interner::remember(work, strs, st, p, j);
+    known(t, slot, stats::table_hit(c, resized, p.steps))
+}
+
+// A string that is not near its slot: looked for among the far ones that were found before.
 fn far_call(work: &mut [u32], strs: &mut [u8], st: StrInterner, s: &[u8], resized: u64) -> Answer
     requires { ⌜ Good (now work) (now strs) st ⌝ }
     requires { ⌜ (0 < st .slots) × (st .occupied * 8 < st .slots * 7) ⌝ }
@@ -109,16 +133,12 @@ fn far_call(work: &mut [u32], strs: &mut [u8], st: StrInterner, s: &[u8], resize
 {
     let c = st.stats;
     let j = interner::far_place(work, strs, st, s);
-    let q = interner::recall(work, strs, st, s, j);
-    if q.slot != 0 {
-        return known(st, q.slot, stats::table_hit(c, resized, q.steps));
+    let p = interner::recall(work, strs, st, s, j);
+    let slot = p.slot;
+    if slot == 0 {
+        return learn(work, strs, st, s, resized, j);
     }
-    let p = interner::lookup(work, strs, st, s, st.slots);
-    if p.slot == 0 {
-        return table_alloc(work, strs, st, s, p, resized);
-    }
-    let t = interner::remember(work, strs, st, p, j);
-    known(t, p.slot, stats::table_hit(c, resized, p.steps))
+    known(st, slot, stats::table_hit(c, resized, p.steps))
 }
 
 // A call for the table, which is in its place.

@@ -97,6 +97,6 @@ withEntry st = record { slots = st .slots; occupied = st .occupied + 1; count = 
 -- a far string more is remembered, or none; nothing else is changed
 pub record Remembered (work strs : List ℕ) (st : Interner) (work′ : List ℕ) (r : Interner) : Type 0 where
   pub good : Good work′ strs r
-  pub is : r ≡ withSlots st (st .slots) (r .far)
+  pub is : r ≡ withSlots st (r .slots) (r .far)
   pub state : stateOf work′ strs r ≡ stateOf work strs st
   pub high : drop 8192 work′ ≡ drop 8192 work
