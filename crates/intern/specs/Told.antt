@@ -20,10 +20,10 @@ pub record Answered (work strs : List ℕ) (st : Interner) (work′ strs′ : Li
   pub kept : take (st .used) strs′ ≡ take (st .used) strs
   pub free : drop 15360 work′ ≡ drop 15360 work
 
--- A refusal leaves the interner as it was, but for a table that may have grown, and what was remembered of it.
+-- A refusal leaves the interner as it was, but for a table that may have grown.
 pub record Refused (st : Interner) (r : Answer) : Type 0 where
   pub id : r .id ≡ 0
-  pub state : r .state ≡ withSlots st (r .state .slots) (r .state .far)
+  pub state : r .state ≡ withSlots st (r .state .slots)
 
 -- Every answer: it is a refusal exactly where the defined state has no room.
 pub record Told (work strs : List ℕ) (st : Interner) (work′ strs′ : List ℕ) (r : Answer) (a : Interned) : Type 0 where
@@ -40,4 +40,4 @@ probedCall t resized s =
 
 -- the answer for a string that is there, one less than `slot`; c are the counts behind it
 abbrev pub knownAnswer : Interner → ℕ → Counters → Answer
-knownAnswer st slot c = record { ok = true; id = slot - 1; state = record { slots = st .slots; occupied = st .occupied; count = st .count; base = st .base; used = st .used; last = slot; far = st .far; stats = c } }
+knownAnswer st slot c = record { ok = true; id = slot - 1; state = record { slots = st .slots; occupied = st .occupied; count = st .count; base = st .base; used = st .used; last = slot; stats = c } }

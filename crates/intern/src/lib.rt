@@ -38,7 +38,6 @@ fn known(st: StrInterner, slot: u32, stats: InternStats) -> Answer
             base: st.base,
             used: st.used,
             last: table::wide(slot),
-            far: st.far,
             stats: stats,
         },
     }
@@ -111,7 +110,7 @@ fn learn(
 ) -> Answer
     requires { ⌜ Good (now work) (now strs) st ⌝ }
     requires { ⌜ (0 < st .slots) × (st .occupied * 8 < st .slots * 7) ⌝ }
-    requires { ⌜ (st .stats .calls < 2 ^ 32) × (resized ≤ 1) × (j ≤ st .far) ⌝ }
+    requires { ⌜ (st .stats .calls < 2 ^ 32) × (resized ≤ 1) × (j ≤ farIn (now work)) ⌝ }
     ensures { λ r. ⌜ Told (now (work .entry)) (now (strs .entry)) st (now (work .exit)) (now (strs .exit)) r (probedCall (stateOf (now (work .entry)) (now (strs .entry)) st) resized (now (s .entry))) ⌝ }
 {
     let c = st.stats;
@@ -120,8 +119,8 @@ fn learn(
     if slot == 0 {
         return table_alloc(work, strs, st, s, p, resized);
     }
-    let t = interner::remember(work, strs, st, p, j);
-    known(t, slot, stats::table_hit(c, resized, p.steps))
+    interner::remember(work, strs, st, p, j);
+    known(st, slot, stats::table_hit(c, resized, p.steps))
 }
 
 // A string that is not near its slot: looked for among the far ones that were found before.

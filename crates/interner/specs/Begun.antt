@@ -9,7 +9,6 @@ use Rattle.table.specs.Layout.{taken, startsOf, withStart, stringsUpTo}
 use Rattle.stats.specs.Counts.{noStats}
 use Rattle.interner.specs.declared.StrInterner.{StrInterner as Interner}
 use Rattle.interner.specs.State.{Fresh}
-use Rattle.interner.specs.Row.{row-none}
 use Rattle.table.specs.Sizes.{none}
 use Rattle.table.specs.Wide.{starts-number, start-is, length-start, start-put}
 
@@ -27,7 +26,7 @@ module _ (work strs : List ℕ) (base : ℕ) (room : 16384 ≤ length work) (fit
   first-start = start-is new 0 (omega (arith, room-new)) 0 (lit≤ tt) ∙ start-put work 0 base (omega (arith, room))
 
   abbrev none-yet : Interner
-  none-yet = record { slots = 0; occupied = 0; count = 0; base = base; used = base; last = 0; far = 0; stats = noStats }
+  none-yet = record { slots = 0; occupied = 0; count = 0; base = base; used = base; last = 0; stats = noStats }
 
   pub begun : {work′ : List ℕ} → work′ ≡ new → Fresh work strs base work′ none-yet
   unfolding taken stringsUpTo flatten
@@ -45,7 +44,7 @@ module _ (work strs : List ℕ) (base : ℕ) (room : 16384 ≤ length work) (fit
           begins = omega arith;
           laid = sym (append-nil (take base strs));
           counts = record { cachehits = lit≤ tt; tablehits = lit≤ tt; allocs = lit≤ tt; longbypass = lit≤ tt; resizes = lit≤ tt; probesteps = lit≤ tt };
-          row = row-none;
+          row = λ some. absurd (omega (arith, some));
         };
         state = refl;
         begins = refl;

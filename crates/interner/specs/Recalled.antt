@@ -6,8 +6,9 @@ use mathlib.Core.List.{List, []}
 use Prim.Native.Nat.{ℕ, _+_, _-_, _*_, _/_, _%_, _<_, _≤_}
 use native.Mathlib.Omega.{arith}
 use native.Mathlib.Nat.{mod-lt}
+use lib.Dec.{lit<}
 use lib.ListN.{length, getD, set, drop, length-set}
-use lib.Seq.{getD-set-other, drop-set-lt}
+use lib.Seq.{getD-set-same, getD-set-other, drop-set-lt}
 use Rattle.model.specs.Lists.{same}
 use Rattle.model.specs.Intern.{Probe, fxHash}
 use Rattle.moves.specs.Words.{movedUp, moved-length, moved-before, moved-behind, moved-drop}
@@ -18,8 +19,8 @@ use Rattle.table.specs.Cleared.{part-ext}
 use Rattle.table.specs.Roomy.{Inside, inside}
 use Rattle.table.specs.Sizes.{size-lo, size-hi, size-length}
 use Rattle.interner.specs.declared.StrInterner.{StrInterner as Interner}
-use Rattle.interner.specs.Row.{probeFor, probeAt, farString, Far, far-found, found-string, far-made, Row, rowOf, row-apart, row-put}
-use Rattle.interner.specs.State.{stateOf, Good, Remembered, withSlots, firstProbe}
+use Rattle.interner.specs.Row.{probeFor, probeAt, farString, Far, far-found, found-string, far-made, Row, rowOf, farIn, row-apart, row-words, row-put}
+use Rattle.interner.specs.State.{stateOf, Good, Remembered, firstProbe}
 use Rattle.interner.specs.Tables.{retable, retabled, starts-same}
 
 module _ (work strs : List ℕ) (st : Interner) (g : Good work strs st) where
@@ -36,18 +37,18 @@ module _ (work strs : List ℕ) (st : Interner) (g : Good work strs st) where
   apart = row-apart (g .size)
 
   -- ---- a word
-  module _ (j : ℕ) (lt : j < st .far) where
+  module _ (j : ℕ) (ask : (0 < st .slots) × (j < farIn work)) where
     abbrev word : ℕ
     word = getD work (rowOf (st .slots) + j) 0
 
     far : Far strings table word
-    far = g .row .all j lt
+    far = g .row (ask .0) .all j (ask .1)
 
     -- the row has it, and the table its slot
     pub far-bounds : (rowOf (st .slots) + j < 7680) × (256 ≤ st .slots) × (st .slots ≤ 4096) × (word % 4096 < st .slots)
     far-bounds =
         let i = far .inside in
-        (omega (arith, apart .0, g .row .room), size-lo (g .size) (λ e. omega (arith, e, i, len)), size-hi (g .size), omega (arith, i, len))
+        (omega (arith, apart .0, g .row (ask .0) .room, ask .1), size-lo (g .size) (λ e. omega (arith, e, ask .0)), size-hi (g .size), omega (arith, i, len))
 
     pub far-probed : (w row : ℕ) → row ≡ rowOf (st .slots) → w ≡ getD work (row + j) 0
         → record { at = w % 4096; slot = getD work (st .slots - 256 + w % 4096) 0; steps = w / 4096 } ≡ probeAt table word
@@ -74,15 +75,8 @@ module _ (work strs : List ℕ) (st : Interner) (g : Good work strs st) where
     far-recalled s bytes b p hs hb t hp = hp ∙ far-found far s (sym (hb ∙ ap (λ (l : List ℕ). same l s) hs) ∙ t)
 
   -- ---- one more
-  pub remembered-none : (r : Interner) → r ≡ withSlots st (st .slots) (st .far) → Remembered work strs st work r
-  remembered-none r e =
-      subst (Remembered work strs st work) (sym e)
-      (record {
-        good = retable work strs st work g refl refl (st .slots) (st .far) (g .size) (g .entries) (g .number) (g .row);
-        is = refl;
-        state = retabled work strs st work g refl refl (st .slots) (st .far) table refl;
-        high = refl;
-      })
+  pub remembered-none : Remembered work strs st work
+  remembered-none = record { good = g; state = refl; high = refl }
 
   module _ (p : Probe) (some : 0 < p .slot) (slots : 0 < st .slots) (is : p ≡ firstProbe (stateOf work strs st) (getD strings (p .slot - 1) [])) where
     -- its place and steps are small
@@ -94,17 +88,27 @@ module _ (work strs : List ℕ) (st : Interner) (g : Good work strs st) where
         let h = size-hi (g .size) in
         (omega (arith, i .at, len), omega (arith, i .at, len, h), omega (arith, i .steps, len, h))
 
-    module _ (j row w : ℕ) (le : j ≤ st .far) (fits : st .far + 1 < 3840) (hr : row ≡ rowOf (st .slots)) (hw : w ≡ p .at + 4096 * p .steps) where
+    module _ (j row w : ℕ) (le : j ≤ farIn work) (fits : farIn work < 3840) (hr : row ≡ rowOf (st .slots)) (hw : w ≡ p .at + 4096 * p .steps) where
+      abbrev moved : List ℕ
+      moved = movedUp work (row + j) (row + farIn work - (row + j))
+
+      abbrev put : List ℕ
+      put = set moved (row + j) w
+
       abbrev v : List ℕ
-      v = set (movedUp work (row + j) (row + st .far - (row + j))) (row + j) w
+      v = set put 8191 (farIn work + 1)
+
+      put-length : length put ≡ length work
+      put-length = length-set moved (row + j) w ∙ moved-length work (row + j) (row + farIn work - (row + j))
 
       v-length : length v ≡ length work
-      v-length = length-set (movedUp work (row + j) (row + st .far - (row + j))) (row + j) w ∙ moved-length work (row + j) (row + st .far - (row + j))
+      v-length = length-set put 8191 (farIn work + 1) ∙ put-length
 
       v-high : drop 8192 v ≡ drop 8192 work
       v-high =
-          drop-set-lt 8192 (movedUp work (row + j) (row + st .far - (row + j))) (row + j) w (omega (arith, hr, apart .0))
-          ∙ moved-drop work (row + j) (row + st .far - (row + j)) 8192 (omega (arith, hr, apart .0))
+          drop-set-lt 8192 put 8191 (farIn work + 1) (lit< tt)
+          ∙ drop-set-lt 8192 moved (row + j) w (omega (arith, hr, apart .0))
+          ∙ moved-drop work (row + j) (row + farIn work - (row + j)) 8192 (omega (arith, hr, apart .0))
 
       v-table : tableOf (st .slots) v ≡ table
       v-table =
@@ -112,35 +116,33 @@ module _ (work strs : List ℕ) (st : Interner) (g : Good work strs st) where
           let l = g .words .room in
           part-ext (st .slots - 256) (st .slots - 256 + st .slots) work v (omega arith) (omega (arith, h, l)) v-length
           (λ i lo hi.
-          ⊎-elim
-          (λ b.
-          getD-set-other (movedUp work (row + j) (row + st .far - (row + j))) (row + j) i w 0 (λ e. omega (arith, e, hr, b, lo))
-          ∙ moved-behind work (row + j) (row + st .far - (row + j)) i (omega (arith, hr, b, lo)))
-          (λ b.
-          getD-set-other (movedUp work (row + j) (row + st .far - (row + j))) (row + j) i w 0 (λ e. omega (arith, e, hr, b, hi))
-          ∙ moved-before work (row + j) (row + st .far - (row + j)) i (omega (arith, hr, b, hi)))
+          getD-set-other put 8191 i (farIn work + 1) 0 (λ e. omega (arith, e, hi, h))
+          ∙ ⊎-elim
+          (λ b. getD-set-other moved (row + j) i w 0 (λ e. omega (arith, e, hr, b, lo)) ∙ moved-behind work (row + j) (row + farIn work - (row + j)) i (omega (arith, hr, b, lo)))
+          (λ b. getD-set-other moved (row + j) i w 0 (λ e. omega (arith, e, hr, b, hi)) ∙ moved-before work (row + j) (row + farIn work - (row + j)) i (omega (arith, hr, b, hi)))
           (apart .1))
 
-      v-row : Row strings table v (rowOf (st .slots)) (st .far + 1)
+      v-row : Row strings table v (rowOf (st .slots)) (farIn v)
       unfolding firstProbe
       v-row =
           let small = probe-small in
-          let f : Far strings table w = subst (Far strings table) (sym hw) (far-made strings table p (λ e. omega (arith, e)) (getD strings (p .slot - 1) []) is (omega (arith, small, len)) (omega (arith, len, size-hi (g .size)))) in
           let l = g .words .room in
-          subst (λ (k : ℕ). Row strings table (set (movedUp work (k + j) (k + st .far - (k + j))) (k + j) w) (rowOf (st .slots)) (st .far + 1)) (sym hr)
-          (row-put (g .row) w j f le (omega arith) (omega (arith, l, apart .0)))
+          let f : Far strings table w = subst (Far strings table) (sym hw) (far-made strings table p (λ e. omega (arith, e)) (getD strings (p .slot - 1) []) is (omega (arith, small, len)) (omega (arith, len, size-hi (g .size)))) in
+          let r : Row strings table put (rowOf (st .slots)) (farIn work + 1) =
+          subst (λ (k : ℕ). Row strings table (set (movedUp work (k + j) (k + farIn work - (k + j))) (k + j) w) (rowOf (st .slots)) (farIn work + 1)) (sym hr)
+          (row-put (g .row slots) w j f le fits (omega (arith, l, apart .0))) in
+          row-words r v (getD-set-same put 8191 (farIn work + 1) 0 (omega (arith, put-length, l))) (λ i lo hi. getD-set-other put 8191 i (farIn work + 1) 0 (λ e. omega (arith, e, hi, apart .0)))
 
-      pub remembered-one : (r : Interner) {after : List ℕ} → after ≡ v → r ≡ withSlots st (st .slots) (st .far + 1) → Remembered work strs st after r
-      remembered-one r ha e =
-          rw ha (subst (Remembered work strs st v) (sym e)
-          (record {
+      pub remembered-one : (far : ℕ) → far ≡ farIn work → {after : List ℕ} → after ≡ set (set (movedUp work (row + j) (row + far - (row + j))) (row + j) w) 8191 (far + 1) → Remembered work strs st after
+      remembered-one far hf e =
+          rw (e ∙ ap (λ (k : ℕ). set (set (movedUp work (row + j) (row + k - (row + j))) (row + j) w) 8191 (k + 1)) hf) (record {
             good =
-                retable work strs st v g v-length v-high (st .slots) (st .far + 1) (g .size)
+                retable work strs st v g v-length v-high (st .slots) (g .size)
                 (subst (λ (t : List ℕ). Entries t (st .count + 1)) (sym v-table) (g .entries))
                 (ap taken v-table ∙ g .number)
-                (subst (λ (t : List ℕ). Row (stringsUpTo (st .count) (startsOf (st .count) v) strs) t v (rowOf (st .slots)) (st .far + 1)) (sym v-table)
-                (subst (λ (l : List ℕ). Row (stringsUpTo (st .count) l strs) table v (rowOf (st .slots)) (st .far + 1)) (sym (starts-same work strs st v g v-length v-high (st .slots) (st .far + 1))) v-row));
-            is = refl;
-            state = retabled work strs st v g v-length v-high (st .slots) (st .far + 1) table v-table;
+                (λ _.
+                subst (λ (t : List ℕ). Row (stringsUpTo (st .count) (startsOf (st .count) v) strs) t v (rowOf (st .slots)) (farIn v)) (sym v-table)
+                (subst (λ (l : List ℕ). Row (stringsUpTo (st .count) l strs) table v (rowOf (st .slots)) (farIn v)) (sym (starts-same work strs st v g v-length v-high (st .slots))) v-row));
+            state = retabled work strs st v g v-length v-high (st .slots) table v-table;
             high = v-high;
-          }))
+          })

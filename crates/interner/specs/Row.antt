@@ -145,6 +145,10 @@ pub row-high : {n : ℕ} → 2048 < n → 0 ≡ rowOf n
 unfolding rowOf
 row-high {n} h = sym (rw (lt-leb n 2048 h) refl)
 
+-- word 8191 says how many far strings there are
+abbrev pub farIn : List ℕ → ℕ
+farIn work = getD work 8191 0
+
 -- its words do not meet the table
 pub row-apart : {n : ℕ} → Size n → (rowOf n + 3840 ≤ 7680) × ((rowOf n + 3840 ≤ n - 256) ⊎ (n - 256 + n ≤ rowOf n))
 unfolding rowOf
@@ -170,8 +174,12 @@ module _ {strings : List (List ℕ)} {table words : List ℕ} {at far : ℕ} (ro
   pub row-set : (p v : ℕ) → getD table p 0 ≡ 0 → Row strings (set table p v) words at far
   row-set p v empty = record { room = row .room; all = λ j lt. far-set (row .all j lt) p v empty }
 
-  pub row-words : (after : List ℕ) → ((i : ℕ) → at ≤ i → i < at + 3840 → getD after i 0 ≡ getD words i 0) → Row strings table after at far
-  row-words after e = record { room = row .room; all = λ j lt. subst (Far strings table) (sym (e (at + j) (omega arith) (omega (arith, row .room)))) (row .all j lt) }
+  pub row-words : (after : List ℕ) {n : ℕ} → n ≡ far → ((i : ℕ) → at ≤ i → i < at + 3840 → getD after i 0 ≡ getD words i 0) → Row strings table after at n
+  row-words after {n} h e =
+      record {
+        room = omega (arith, h, row .room);
+        all = λ j lt. subst (Far strings table) (sym (e (at + j) (omega arith) (omega (arith, lt, h, row .room)))) (row .all j (omega (arith, lt, h)));
+      }
 
   -- one more, before the j-th
   module _ (w j : ℕ) (f : Far strings table w) (le : j ≤ far) (fits : far < 3840) (long : at + far < length words) where

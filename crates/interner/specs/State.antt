@@ -12,7 +12,7 @@ use Rattle.stats.specs.Counts.{statsOf, Counted}
 use Rattle.interner.specs.declared.StrInterner.{StrInterner as Interner}
 use Rattle.table.specs.Layout.{tableOf, startsOf, withStart, stringsUpTo, Work, Entries, taken}
 use Rattle.table.specs.Sizes.{Size}
-use Rattle.interner.specs.Row.{Row, rowOf, probeFor}
+use Rattle.interner.specs.Row.{Row, rowOf, farIn, probeFor}
 
 -- ---- the state
 
@@ -38,7 +38,7 @@ pub record Good (work strs : List ℕ) (st : Interner) : Type 0 where
   pub begins : st .base ≤ st .used
   pub laid : take (st .used) strs ≡ take (st .base) strs ++ flatten (stringsUpTo (st .count) (startsOf (st .count) work) strs)
   pub counts : Counted (st .stats)
-  pub row : Row (stringsUpTo (st .count) (startsOf (st .count) work) strs) (tableOf (st .slots) work) work (rowOf (st .slots)) (st .far)
+  pub row : 0 < st .slots → Row (stringsUpTo (st .count) (startsOf (st .count) work) strs) (tableOf (st .slots) work) work (rowOf (st .slots)) (farIn work)
 
 -- ---- room, and a new layer
 
@@ -46,9 +46,9 @@ pub record Good (work strs : List ℕ) (st : Interner) : Type 0 where
 unfoldable pub hasRoom : ℕ → ℕ → StrInterner → Bool
 hasRoom size base t = leb (length (t .strings)) maxNewStrings && leb (base + length (flatten (t .strings))) size
 
--- the same interner over a table of n slots, with so many far strings
-abbrev pub withSlots : Interner → ℕ → ℕ → Interner
-withSlots st n far = record { slots = n; occupied = st .occupied; count = st .count; base = st .base; used = st .used; last = st .last; far = far; stats = st .stats }
+-- the same interner over a table of n slots
+abbrev pub withSlots : Interner → ℕ → Interner
+withSlots st n = record { slots = n; occupied = st .occupied; count = st .count; base = st .base; used = st .used; last = st .last; stats = st .stats }
 
 -- A new layer: no strings, from `base` on; its first start is written.
 pub record Fresh (work strs : List ℕ) (base : ℕ) (work′ : List ℕ) (r : Interner) : Type 0 where
@@ -65,7 +65,7 @@ withTable t table = record { strings = t .strings; table = table; occupied = t .
 -- the table that a call probes is in its place, with room
 pub record Ready (work strs : List ℕ) (st : Interner) (work′ : List ℕ) (r : Interner) : Type 0 where
   pub good : Good work′ strs r
-  pub is : r ≡ withSlots st (r .slots) (r .far)
+  pub is : r ≡ withSlots st (r .slots)
   pub state : stateOf work′ strs r ≡ withTable (stateOf work strs st) (tableFor (stateOf work strs st))
   pub some : 0 < r .slots
   pub roomy : r .occupied * 8 < r .slots * 7
@@ -92,11 +92,10 @@ pub record Alloced (work strs : List ℕ) (st : Interner) (s : List ℕ) (c : Co
   pub free : drop 15360 work′ ≡ drop 15360 work
 
 abbrev pub withEntry : Interner → Interner
-withEntry st = record { slots = st .slots; occupied = st .occupied + 1; count = st .count; base = st .base; used = st .used; last = st .last; far = st .far; stats = st .stats }
+withEntry st = record { slots = st .slots; occupied = st .occupied + 1; count = st .count; base = st .base; used = st .used; last = st .last; stats = st .stats }
 
 -- a far string more is remembered, or none; nothing else is changed
-pub record Remembered (work strs : List ℕ) (st : Interner) (work′ : List ℕ) (r : Interner) : Type 0 where
-  pub good : Good work′ strs r
-  pub is : r ≡ withSlots st (r .slots) (r .far)
-  pub state : stateOf work′ strs r ≡ stateOf work strs st
+pub record Remembered (work strs : List ℕ) (st : Interner) (work′ : List ℕ) : Type 0 where
+  pub good : Good work′ strs st
+  pub state : stateOf work′ strs st ≡ stateOf work strs st
   pub high : drop 8192 work′ ≡ drop 8192 work

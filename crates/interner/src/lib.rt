@@ -17,18 +17,20 @@ ghost use Rattle.model.specs.Intern.{holds};
 ghost use Rattle.stats.specs.Counts.{Counted};
 ghost use Rattle.table.specs.Layout.{probeOf, tableOf};
 ghost use Rattle.interner.specs.State.{stateOf, Good, Fresh, Ready, withSlots, withEntry, Alloced, Remembered, firstProbe};
-ghost use Rattle.interner.specs.Row.{rowOf, probeFor, probeAt, farString};
+ghost use Rattle.interner.specs.Row.{rowOf, farIn, probeFor, probeAt, farString};
 
 const MAX_NEW_STRINGS: usize = 3583;
 
-// how many words the row of far strings has
+// how many words the row of far strings has, and which word says how many far strings there are
 const ROW: usize = 3840;
+
+const FAR: usize = 8191;
 
 // what the steps in a word of the row count
 const PLACES: usize = 4096;
 
 // `StrInterner`, beside the words and bytes: slots of the table (0 before its first use) and how many are taken; how many strings
-// there are, where in the buffer they begin and end; one more than the last answer's id (0: none); how many far strings are remembered.
+// there are, where in the buffer they begin and end; one more than the last answer's id (0: none).
 pub struct StrInterner {
     pub slots: usize,
     pub occupied: usize,
@@ -36,14 +38,13 @@ pub struct StrInterner {
     pub base: usize,
     pub used: usize,
     pub last: usize,
-    pub far: usize,
     pub stats: InternStats,
 }
 
 // ---- the table
 
-fn with_slots(st: StrInterner, n: usize, far: usize) -> StrInterner
-    ensures { λ r. ⌜ r ≡ withSlots st n far ⌝ }
+fn with_slots(st: StrInterner, n: usize) -> StrInterner
+    ensures { λ r. ⌜ r ≡ withSlots st n ⌝ }
 {
     let stats = st.stats;
     StrInterner {
@@ -53,9 +54,16 @@ fn with_slots(st: StrInterner, n: usize, far: usize) -> StrInterner
         base: st.base,
         used: st.used,
         last: st.last,
-        far: far,
         stats: stats,
     }
+}
+
+// No far strings.
+fn forget(work: &mut [u32])
+    requires { ⌜ minWorkWords ≤ length (now work) ⌝ }
+    ensures { λ _. ⌜ now (work .exit) ≡ set (now (work .entry)) 8191 0 ⌝ }
+{
+    work[FAR] = 0;
 }
 
 // The table that a call probes: the first, or one of twice as many slots where it is due, or the one there is. What was remembered of another table
@@ -67,13 +75,15 @@ pub fn table_for(work: &mut [u32], strs: &[u8], st: StrInterner) -> StrInterner
     let slots = st.slots;
     if slots == 0 {
         table::clear_part(work, 0, INITIAL_CAPACITY);
-        return with_slots(st, INITIAL_CAPACITY, 0);
+        forget(work);
+        return with_slots(st, INITIAL_CAPACITY);
     }
     if table::due(slots, st.occupied) {
         table::grow(work, strs, st.count, slots);
-        return with_slots(st, slots * 2, 0);
+        forget(work);
+        return with_slots(st, slots * 2);
     }
-    with_slots(st, slots, st.far)
+    with_slots(st, slots)
 }
 
 // Where s is in the table, or where it goes, by `most` slots.
@@ -107,7 +117,6 @@ pub fn enter(work: &mut [u32], st: StrInterner, at: usize) -> StrInterner
         base: st.base,
         used: st.used,
         last: st.last,
-        far: st.far,
         stats: stats,
     }
 }
@@ -172,7 +181,6 @@ pub fn alloc(
         base: st.base,
         used: end,
         last: count + 1,
-        far: st.far,
         stats: stats,
     }
 }
@@ -189,7 +197,7 @@ fn row_of(slots: usize) -> usize
 // Word j of the row as a probe: the place of a slot, and 4096 times the steps to it.
 fn far_probe(work: &[u32], strs: &[u8], st: StrInterner, j: usize) -> Probed
     requires { ⌜ Good (now work) (now strs) st ⌝ }
-    requires { ⌜ j < st .far ⌝ }
+    requires { ⌜ (0 < st .slots) × (j < farIn (now work)) ⌝ }
     ensures { λ r. ⌜ probeOf r ≡ probeAt (tableOf (st .slots) (now (work .entry))) (getD (now (work .entry)) (rowOf (st .slots) + j) 0) ⌝ }
 {
     let off = st.slots - INITIAL_CAPACITY;
@@ -205,7 +213,7 @@ fn far_probe(work: &[u32], strs: &[u8], st: StrInterner, j: usize) -> Probed
 // The string that it found.
 fn far_string<'a>(work: &[u32], strs: &'a [u8], st: StrInterner, j: usize) -> &'a [u8]
     requires { ⌜ Good (now work) (now strs) st ⌝ }
-    requires { ⌜ j < st .far ⌝ }
+    requires { ⌜ (0 < st .slots) × (j < farIn (now work)) ⌝ }
     ensures { λ r. ⌜ now r ≡ farString (stateOf (now (work .entry)) (now (strs .entry)) st .strings) (tableOf (st .slots) (now (work .entry))) (getD (now (work .entry)) (rowOf (st .slots) + j) 0) ⌝ }
 {
     let p = far_probe(work, strs, st, j);
@@ -215,10 +223,11 @@ fn far_string<'a>(work: &[u32], strs: &'a [u8], st: StrInterner, j: usize) -> &'
 // How many far strings precede s. No more is proved than that there are so many: `recall` tests what stands there.
 pub fn far_place(work: &[u32], strs: &[u8], st: StrInterner, s: &[u8]) -> usize
     requires { ⌜ Good (now work) (now strs) st ⌝ }
-    ensures { λ r. ⌜ r ≤ st .far ⌝ }
+    requires { ⌜ 0 < st .slots ⌝ }
+    ensures { λ r. ⌜ r ≤ farIn (now (work .entry)) ⌝ }
 {
     let mut lo = 0;
-    let mut hi = st.far;
+    let mut hi = table::wide(work[FAR]);
     while lo < hi {
         let mid = lo + (hi - lo) / 2;
         if compare::precedes(far_string(work, strs, st, mid), s) {
@@ -233,6 +242,7 @@ pub fn far_place(work: &[u32], strs: &[u8], st: StrInterner, s: &[u8]) -> usize
 // The probe of s, if s stands at j in the row; else one whose slot is 0.
 pub fn recall(work: &[u32], strs: &[u8], st: StrInterner, s: &[u8], j: usize) -> Probed
     requires { ⌜ Good (now work) (now strs) st ⌝ }
+    requires { ⌜ 0 < st .slots ⌝ }
     ensures { λ r. ⌜ ((r .slot ≡ 0 → ⊥) → probeOf r ≡ firstProbe (stateOf (now (work .entry)) (now (strs .entry)) st) (now (s .entry))) ⌝ }
 {
     let none = Probed {
@@ -240,7 +250,7 @@ pub fn recall(work: &[u32], strs: &[u8], st: StrInterner, s: &[u8], j: usize) ->
         slot: 0,
         steps: 0,
     };
-    if st.far <= j {
+    if table::wide(work[FAR]) <= j {
         return none;
     }
     if compare::same(far_string(work, strs, st, j), s) {
@@ -249,27 +259,21 @@ pub fn recall(work: &[u32], strs: &[u8], st: StrInterner, s: &[u8], j: usize) ->
     none
 }
 
-fn with_far(st: StrInterner, far: usize) -> StrInterner
-    ensures { λ r. ⌜ r ≡ withSlots st (st .slots) far ⌝ }
-{
-    with_slots(st, st.slots, far)
-}
-
 // Remembers the probe p, which found a string, as the j-th.
-pub fn remember(work: &mut [u32], strs: &[u8], st: StrInterner, p: Probed, j: usize) -> StrInterner
+pub fn remember(work: &mut [u32], strs: &[u8], st: StrInterner, p: Probed, j: usize)
     requires { ⌜ Good (now work) (now strs) st ⌝ }
-    requires { ⌜ (0 < st .slots) × (0 < p .slot) × (j ≤ st .far) ⌝ }
+    requires { ⌜ (0 < st .slots) × (0 < p .slot) × (j ≤ farIn (now work)) ⌝ }
     requires { ⌜ probeOf p ≡ firstProbe (stateOf (now work) (now strs) st) (getD (stateOf (now work) (now strs) st .strings) (p .slot - 1) []) ⌝ }
-    ensures { λ r. ⌜ Remembered (now (work .entry)) (now (strs .entry)) st (now (work .exit)) r ⌝ }
+    ensures { λ _. ⌜ Remembered (now (work .entry)) (now (strs .entry)) st (now (work .exit)) ⌝ }
 {
-    let far = st.far;
-    if ROW <= far + 1 {
-        return with_far(st, far);
+    let far = table::wide(work[FAR]);
+    if ROW <= far {
+        return;
     }
     let row = row_of(st.slots);
     let w = p.at + PLACES * (p.steps as usize);
     moves::put_before(work, row + j, row + far, w as u32);
-    with_far(st, far + 1)
+    work[FAR] = (far + 1) as u32;
 }
 
 // ---- a new layer
@@ -289,7 +293,6 @@ pub fn fresh(work: &mut [u32], strs: &[u8], base: usize) -> StrInterner
         base: base,
         used: base,
         last: 0,
-        far: 0,
         stats: stats::none(),
     }
 }

@@ -146,7 +146,6 @@ fn refused() -> Layer
             base: 0,
             used: 0,
             last: 0,
-            far: 0,
             stats: stats::none(),
         },
     }

@@ -1,21 +1,29 @@
 use Prim.Native.Nat.{_-_, _≤_}
 use native.Mathlib.Omega.{arith}
 use borrow.Author.Needs.{needs}
+use Rattle.interner.specs.Row.{farIn}
 use Rattle.interner.proofs.far_place.Statement.{statement}
 use Rattle.interner.proofs.far_place.Tie as tie
 use Rattle.interner.proofs.far_place.Reads as reads
 use Rattle.interner.proofs.far_place.Lts as lts
 use Rattle.compare.proofs.precedes.Reads as precedes-reads
 use Rattle.interner.proofs.far_string.Reads as far-string-reads
+use Rattle.table.proofs.wide.Reads as wide-reads
 
 abbrev Inv-loop : tie.InvT-loop
-Inv-loop work strs st s lo₀ hi₀ lo hi = (lo ≤ hi) × (hi ≤ st .far)
+Inv-loop work strs st s lo₀ hi₀ lo hi = (lo ≤ hi) × (hi ≤ farIn work)
 
 abbrev μ-loop : tie.MeasureT-loop
 μ-loop work strs st s lo₀ hi₀ lo hi = hi - lo
 
+shared-slice-read-wide : tie.Need-shared-slice-read-wide Inv-loop μ-loop
+shared-slice-read-wide c = omega (arith, c .before .before .before .before .pre .0 .words .room)
+
+wide-requires : tie.Need-wide-requires Inv-loop μ-loop
+wide-requires c κs = search needs
+
 loop-holds : tie.Need-loop-holds Inv-loop μ-loop
-loop-holds c = (omega arith, omega arith)
+loop-holds c = (omega arith, omega (arith, c .wide .ensures))
 
 sub-mid : tie.Need-sub-mid Inv-loop μ-loop
 sub-mid c = omega arith
@@ -24,7 +32,9 @@ add-mid : tie.Need-add-mid Inv-loop μ-loop
 add-mid c = omega arith
 
 far-string-requires : tie.Need-far-string-requires Inv-loop μ-loop
-far-string-requires c κs = search needs
+far-string-requires c κs =
+    let start = c .before .before .before .before .before .before .before in
+    (start .pre .0, (start .pre .1, omega arith))
 
 precedes-requires : tie.Need-precedes-requires Inv-loop μ-loop
 precedes-requires c κs = search needs
@@ -53,6 +63,8 @@ far-place-spec =
     (tie.spec
     Inv-loop
     μ-loop
+    shared-slice-read-wide
+    wide-requires
     loop-holds
     sub-mid
     add-mid
