@@ -21,7 +21,7 @@ use Rattle.stats.specs.Counts.{statsOf}
 use Rattle.stats.specs.Ways.{Adds}
 use Rattle.interner.specs.declared.StrInterner.{StrInterner as Interner}
 use Rattle.interner.specs.State.{stateOf, Good, hasRoom, Ready, Alloced, allocated, withTable, withSlots, withEntry, Remembered, firstProbe}
-use Rattle.interner.specs.Row.{Row, rowOf, probeFor, row-apart, row-set, row-words}
+use Rattle.interner.specs.Row.{Row, rowOf, farIn, probeFor, row-apart, row-set, row-words}
 use Rattle.interner.specs.Room.{room-same, room-more, count-is}
 use Rattle.intern.specs.declared.Answer.{Answer}
 use Rattle.intern.specs.Told.{Told, knownAnswer, probedCall}
@@ -55,7 +55,7 @@ module _ (work strs : List ℕ) (st : Interner) (g : Good work strs st) where
       record {
         ok = ok;
         answered = λ e. absurd (false≢true (sym no-room ∙ e));
-        refused = λ _. record { id = id; state = state ∙ (λ i. withSlots st (sym state i .slots) (sym state i .far)) };
+        refused = λ _. record { id = id; state = state ∙ ap (withSlots st) (sym (ap (λ (x : Interner). x .slots) state)) };
       }
 
   module _ (s : List ℕ) (b : Bool) (room : b ≡ (leb (st .count + 1) maxNewStrings && leb (st .used + length s) (length strs))) where
@@ -116,11 +116,12 @@ module _ (work strs : List ℕ) (st : Interner) (g : Good work strs st) where
             getD-set-other work′ (t .slots - 256 + at) i (t .count) 0
             (λ e. ⊎-elim (λ b. omega (arith, e, b, hi)) (λ b. omega (arith, e, b, lo, lt-t)) (row-apart (a .good .size) .1))
 
-        entered-row : Row (stringsUpTo (t .count) (startsOf (t .count) new) strs′) (tableOf (t .slots) new) new (rowOf (t .slots)) (t .far)
-        entered-row =
-            let r = row-words (row-set (a .good .row) at (t .count) empty-t) new row-kept in
-            subst (λ (l : List ℕ). Row (stringsUpTo (t .count) (startsOf (t .count) new) strs′) l new (rowOf (t .slots)) (t .far)) (sym table-new)
-            (subst (λ (l : List ℕ). Row (stringsUpTo (t .count) l strs′) (set (tableOf (t .slots) work′) at (t .count)) new (rowOf (t .slots)) (t .far)) (sym starts) r)
+        entered-row : 0 < t .slots → Row (stringsUpTo (t .count) (startsOf (t .count) new) strs′) (tableOf (t .slots) new) new (rowOf (t .slots)) (farIn new)
+        entered-row some =
+            let number : farIn new ≡ farIn work′ = getD-set-other work′ (t .slots - 256 + at) 8191 (t .count) 0 (λ e. omega (arith, e, lt-t, size-hi (a .good .size))) in
+            let r = row-words (row-set (a .good .row some) at (t .count) empty-t) new number row-kept in
+            subst (λ (l : List ℕ). Row (stringsUpTo (t .count) (startsOf (t .count) new) strs′) l new (rowOf (t .slots)) (farIn new)) (sym table-new)
+            (subst (λ (l : List ℕ). Row (stringsUpTo (t .count) l strs′) (set (tableOf (t .slots) work′) at (t .count)) new (rowOf (t .slots)) (farIn new)) (sym starts) r)
 
         entered-good : Good new strs′ (withEntry t)
         entered-good =
@@ -174,13 +175,13 @@ module _ (work strs : List ℕ) (st : Interner) (g : Good work strs st) where
             })
 
   -- ---- words and numbers of the table changed before
-  pub told-over : (w work′ strs′ : List ℕ) (u : Interner) (r : Answer) (a : Interned) → u ≡ withSlots st (u .slots) (u .far) → drop 8192 w ≡ drop 8192 work → Told w strs u work′ strs′ r a → Told work strs st work′ strs′ r a
+  pub told-over : (w work′ strs′ : List ℕ) (u : Interner) (r : Answer) (a : Interned) → u ≡ withSlots st (u .slots) → drop 8192 w ≡ drop 8192 work → Told w strs u work′ strs′ r a → Told work strs st work′ strs′ r a
   told-over w work′ strs′ u r a is high h =
       let base : u .base ≡ st .base = ap (λ (x : Interner). x .base) is in
       let used : u .used ≡ st .used = ap (λ (x : Interner). x .used) is in
       let free : drop 15360 w ≡ drop 15360 work = sym (drop-drop 7168 8192 w) ∙ ap (λ (l : List ℕ). drop 7168 l) high ∙ drop-drop 7168 8192 work in
       record {
-        refused = λ e. let q = h .refused e in record { id = q .id; state = q .state ∙ ap (λ (x : Interner). withSlots x (r .state .slots) (r .state .far)) is };
+        refused = λ e. let q = h .refused e in record { id = q .id; state = q .state ∙ ap (λ (x : Interner). withSlots x (r .state .slots)) is };
         ok = h .ok ∙ ap (λ (n : ℕ). hasRoom (length strs) n (a .state)) base;
         answered = λ e.
             let q = h .answered e in
@@ -244,14 +245,11 @@ module _ (work strs : List ℕ) (st : Interner) (g : Good work strs st) where
         subst (λ (a : Interned). Told work strs st work′ strs′ r a) (ready-call w u resized y hr ∙ intern-table hb le) (told-over w work′ strs′ u r _ (y .is) (y .high) h)
 
 -- ---- a far string
-module _ (work strs : List ℕ) (st : Interner) (g : Good work strs st) (w : List ℕ) (u : Interner) (m : Remembered work strs st w u) where
+module _ (work strs : List ℕ) (st : Interner) (g : Good work strs st) (w : List ℕ) (m : Remembered work strs st w) where
   pub learnt-told : (s : List ℕ) (resized : ℕ) (p : Probe) → p ≡ firstProbe (stateOf work strs st) s
       → (c : Counters) → Adds (st .stats) c (record { calls = 1; cacheHits = 0; tableHits = 1; allocs = 0; longBypass = 0; resizes = resized; probeSteps = p .steps })
-      → (r : Answer) → (p .slot ≡ 0 → ⊥) → p .slot ≤ st .count → r ≡ knownAnswer u (p .slot) c → Told work strs st w strs r (probedCall (stateOf work strs st) resized s)
+      → (r : Answer) → (p .slot ≡ 0 → ⊥) → p .slot ≤ st .count → r ≡ knownAnswer st (p .slot) c → Told work strs st w strs r (probedCall (stateOf work strs st) resized s)
   learnt-told s resized p is c adds r ne le k =
-      let one : InternStats = record { calls = 1; cacheHits = 0; tableHits = 1; allocs = 0; longBypass = 0; resizes = resized; probeSteps = p .steps } in
-      let count : u .count ≡ st .count = ap (λ (x : Interner). x .count) (m .is) in
-      let adds-u = subst (λ (x : Counters). Adds x c one) (sym (ap (λ (x : Interner). x .stats) (m .is))) adds in
-      let h = hit-told w strs u (m .good) s resized p (is ∙ ap (λ (x : StrInterner). firstProbe x s) (sym (m .state))) c adds-u r ne (omega (arith, le, count)) k in
-      told-over work strs st g w w strs u r (probedCall (stateOf work strs st) resized s) (m .is) (m .high)
-      (subst (λ (x : StrInterner). Told w strs u w strs r (probedCall x resized s)) (m .state) h)
+      let h = hit-told w strs st (m .good) s resized p (is ∙ ap (λ (x : StrInterner). firstProbe x s) (sym (m .state))) c adds r ne le k in
+      told-over work strs st g w w strs st r (probedCall (stateOf work strs st) resized s) refl (m .high)
+      (subst (λ (x : StrInterner). Told w strs st w strs r (probedCall x resized s)) (m .state) h)

@@ -9,6 +9,7 @@ ghost use lib.ListN.{length, getD};
 ghost use Rattle.model.specs.Intern.{tableAlloc, bypass as bypassOfModel, intern as internOfModel};
 ghost use Rattle.table.specs.Layout.{probeOf, tableOf};
 ghost use Rattle.interner.specs.State.{stateOf, Good};
+ghost use Rattle.interner.specs.Row.{farIn};
 ghost use Rattle.intern.specs.Told.{Told, knownAnswer, probedCall};
 
 const INTERN_LENGTH_LIMIT: usize = 64;

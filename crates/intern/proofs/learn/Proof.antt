@@ -81,7 +81,7 @@ returns-2 c =
     let p = probeOf (lookup .result) in
     let first = all-first (start .args .work .now) (start .args .strs .now) (start .args .st) (start .pre .0) (start .args .s .now) (start .pre .1 .0 .0) p (lookup .ensures) in
     let in-table = probe-in (start .args .work .now) (start .args .strs .now) (start .args .st) (start .pre .0) (start .args .s .now) (start .pre .1 .0 .0) (start .pre .1 .0 .1) p first in
-    learnt-told (start .args .work .now) (start .args .strs .now) (start .args .st) (start .pre .0) _ _ (remember .ensures) (start .args .s .now) (start .args .resized) p first _ (adds-table-hit _ _ (start .pre .0 .counts) _ _ (start .pre .1 .1 .1) (in-table .2) (c .before .table-hit .ensures)) _ (c .before .before .before .before .before .before .before .if1 .left) (in-table .1) (c .known .ensures)
+    learnt-told (start .args .work .now) (start .args .strs .now) (start .args .st) (start .pre .0) _ (remember .ensures) (start .args .s .now) (start .args .resized) p first _ (adds-table-hit _ _ (start .pre .0 .counts) _ _ (start .pre .1 .1 .1) (in-table .2) (c .before .table-hit .ensures)) _ (c .before .before .before .before .before .before .before .if1 .left) (in-table .1) (c .known .ensures)
 
 pub learn-spec : {M : Type 1} → statement M
 learn-spec =
