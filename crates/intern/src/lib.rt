@@ -14,7 +14,7 @@ ghost use Rattle.intern.specs.Told.{Told, knownAnswer, probedCall};
 
 const INTERN_LENGTH_LIMIT: usize = 64;
 
-// so many slots are looked at before the far strings are
+// how many slots are looked at before the far strings are: nearly every string is found in them
 const NEAR: usize = 16;
 
 // What a call answers: the string's id and the new state; or, not ok, that a new string has no room.

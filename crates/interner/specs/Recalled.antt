@@ -12,14 +12,13 @@ use lib.Seq.{getD-set-same, getD-set-other, drop-set-lt}
 use Rattle.model.specs.Lists.{same}
 use Rattle.model.specs.Intern.{Probe, fxHash}
 use Rattle.moves.specs.Words.{movedUp, moved-length, moved-before, moved-behind, moved-drop}
-use Rattle.table.specs.declared.Probed.{Probed}
-use Rattle.table.specs.Layout.{tableOf, startsOf, stringsUpTo, probeOf, Entries, taken}
+use Rattle.table.specs.Layout.{tableOf, startsOf, stringsUpTo, Entries, taken}
 use Rattle.table.specs.Views.{getD-part}
 use Rattle.table.specs.Cleared.{part-ext}
 use Rattle.table.specs.Roomy.{Inside, inside}
 use Rattle.table.specs.Sizes.{size-lo, size-hi, size-length}
 use Rattle.interner.specs.declared.StrInterner.{StrInterner as Interner}
-use Rattle.interner.specs.Row.{probeFor, probeAt, farString, Far, far-found, found-string, far-made, Row, rowOf, farIn, row-apart, row-words, row-put}
+use Rattle.interner.specs.Row.{probeFor, probeAt, farString, Far, far-found, far-made, Row, rowOf, farIn, row-apart, row-words, row-put}
 use Rattle.interner.specs.State.{stateOf, Good, Remembered, firstProbe}
 use Rattle.interner.specs.Tables.{retable, retabled, starts-same}
 

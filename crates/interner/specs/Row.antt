@@ -4,7 +4,7 @@ use mathlib.Core.Path.{_≡_, refl, sym, ap, _∙_, subst}
 use mathlib.Core.Logic.{_⊎_, inl, inr}
 use mathlib.Core.Bool.{true, cond}
 use mathlib.Core.List.{List, [], _++_}
-use Prim.Native.Nat.{ℕ, zero, suc, _+_, _-_, _*_, _/_, _%_, _<_, _≤_}
+use Prim.Native.Nat.{ℕ, _+_, _-_, _*_, _/_, _%_, _<_, _≤_}
 use native.Mathlib.Omega.{arith}
 use native.Mathlib.Decide.{decLt}
 use borrow.Author.Tests.{le-leb, lt-leb}
@@ -17,7 +17,7 @@ use Rattle.laws.specs.Checks.{same-eq}
 use Rattle.moves.specs.Words.{movedUp, moved-length, moved-before, moved-at, by-place}
 use Rattle.table.specs.Layout.{Entries}
 use Rattle.table.specs.Slots.{holds-some}
-use Rattle.table.specs.Found.{There, found-there, probe-keeps, set-keeps}
+use Rattle.table.specs.Found.{found-there, probe-keeps, set-keeps}
 use Rattle.table.specs.Sizes.{Size, none, size256, size512, size1024, size2048, size4096}
 
 -- ---- what a word remembers

@@ -2,6 +2,10 @@
 // byte buffer, one behind the other from the place `base` on; the table and the places where strings start stand in lent work
 // words, as crate `table` lays them out; everything else is a `StrInterner` by value. Ids are of the layer alone: the first
 // string is 0.
+//
+// A far string is one that was found many slots behind its own. It is remembered with its place and steps, so that strings of one
+// slot cost a long probe once each and not at every call. The words of the far strings stand in a row in the order of their strings,
+// among the words that the table leaves free; no proof hangs on that order, since what is found there is compared.
 use stats::InternStats;
 use table::INITIAL_CAPACITY;
 use table::Probed;
@@ -21,12 +25,13 @@ ghost use Rattle.interner.specs.Row.{rowOf, farIn, probeFor, probeAt, fa
 
 const MAX_NEW_STRINGS: usize = 3583;
 
-// how many words the row of far strings has, and which word says how many far strings there are
+// how many words the row of the far strings has
 const ROW: usize = 3840;
 
+// the word that says how many far strings there are
 const FAR: usize = 8191;
 
-// what the steps in a word of the row count
+// no table has more slots
 const PLACES: usize = 4096;
 
 // `StrInterner`, beside the words and bytes: slots of the table (0 before its first use) and how many are taken; how many strings
@@ -66,8 +71,8 @@ fn forget(work: &mut [u32])
     work[FAR] = 0;
 }
 
-// The table that a call probes: the first, or one of twice as many slots where it is due, or the one there is. What was remembered of another table
-// is forgotten.
+// The table that a call probes: the first, or one of twice as many slots where it is due, or the one there is. Far strings are
+// far in one table alone.
 pub fn table_for(work: &mut [u32], strs: &[u8], st: StrInterner) -> StrInterner
     requires { ⌜ Good (now work) (now strs) st ⌝ }
     ensures { λ r. ⌜ Ready (now (work .entry)) (now (strs .entry)) st (now (work .exit)) r ⌝ }
@@ -187,7 +192,7 @@ pub fn alloc(
 
 // ---- far strings
 
-// Where the row of the far strings stands: in the words behind the tables of up to 2048 slots, or before that of 4096.
+// Where the row stands: behind the tables of up to 2048 slots, before that of 4096.
 fn row_of(slots: usize) -> usize
     ensures { λ r. ⌜ r ≡ rowOf slots ⌝ }
 {
@@ -220,7 +225,7 @@ fn far_string<'a>(work: &[u32], strs: &'a [u8], st: StrInterner, j: usize) -> &'
     resolve(work, strs, st, p.slot - 1)
 }
 
-// How many far strings precede s. No more is proved than that there are so many: `recall` tests what stands there.
+// How many far strings precede s. Proved is only that there are so many: `recall` tests what stands there.
 pub fn far_place(work: &[u32], strs: &[u8], st: StrInterner, s: &[u8]) -> usize
     requires { ⌜ Good (now work) (now strs) st ⌝ }
     requires { ⌜ 0 < st .slots ⌝ }

@@ -2,7 +2,7 @@
 use mathlib.Core.Path.{_≡_, refl, sym, ap, _∙_}
 use mathlib.Core.Bool.{Bool, true, false, cond}
 use mathlib.Core.List.{List}
-use Prim.Native.Nat.{ℕ, zero, suc, _+_, _-_, _%_, _<_, _≤_}
+use Prim.Native.Nat.{ℕ, zero, suc, _+_, _-_, _%_, _<_}
 use native.Mathlib.Omega.{arith}
 use native.Mathlib.Decide.{ℕ-discrete}
 use borrow.Author.Tests.{eq-eqb, eqb-true}
@@ -65,7 +65,7 @@ probe-keeps (suc n) strings strings′ t u s len keeps names at k f =
     elim (ℕ-discrete (getD t at 0) 0) [
       | yes e ↦ absurd (f (rw (eq-eqb (getD t at 0) 0 e) e))
       | no ne ↦ rw (keeps at ne, len, names at ne) (alike (λ (p : Probe). p .slot ≡ 0 → ⊥) (eqb (getD t at 0) 0) (holds strings (getD t at 0) s) _ _ _ f
-        (λ g. probe-keeps n strings strings′ t u s len keeps names ((at + 1) % length t) (k + 1) g))
+          (λ g. probe-keeps n strings strings′ t u s len keeps names ((at + 1) % length t) (k + 1) g))
     ]
 
 pub set-keeps : (t : List ℕ) (p v : ℕ) → getD t p 0 ≡ 0 → (i : ℕ) → (getD t i 0 ≡ 0 → ⊥) → getD (set t p v) i 0 ≡ getD t i 0

@@ -3,7 +3,7 @@
 //
 // Work words: a table of n slots stands at n - 256, so that the tables of 256 to 4096 slots lie side by side up to 7936; the
 // starts stand from 8192 on, one more than there are strings, two words each: a byte buffer may be longer than 32 bits count.
-// The words from 15360 on are free for others.
+// The words from 15360 on are free for others, and crate `interner` has those below 8192 that the table leaves free.
 ghost use mathlib.Core.Path.{_≡_};
 ghost use mathlib.Core.Bool.{cond};
 ghost use mathlib.Core.List.{_++_, []};
