@@ -40,7 +40,20 @@ module _ (work strs : List ℕ) (st : Interner) (g : Good work strs st) where
         ok = room-same work strs st g;
         refused = λ e. absurd (false≢true (sym e));
         answered = λ _. record {
-          good = record { words = g .words; size = g .size; entries = g .entries; number = g .number; most = g .most; known = le; end = g .end; fits = g .fits; begins = g .begins; laid = g .laid; counts = adds .counted; row = g .row };
+          good = record {
+            words = g .words;
+            size = g .size;
+            entries = g .entries;
+            number = g .number;
+            most = g .most;
+            known = le;
+            end = g .end;
+            fits = g .fits;
+            begins = g .begins;
+            laid = g .laid;
+            counts = adds .counted;
+            row = g .row;
+          };
           state = ap (λ (x : InternStats). record { strings = strings; table = tableOf (st .slots) work; occupied = st .occupied; last = slot; stats = x }) (adds .is);
           id = refl;
           base = refl;

@@ -83,7 +83,8 @@ module _ (work strs : List ℕ) (st : Interner) (g : Good work strs st) where
     unfolding firstProbe probeFor
     probe-small =
         let s = getD strings (p .slot - 1) [] in
-        let i = subst (Inside table (st .count + 1) (length table + 0)) (sym is) (inside strings s table (st .count + 1) (length table) (fxHash s % length table) 0 (omega arith) (g .entries) (mod-lt (fxHash s) (omega (arith, len)))) in
+        let from : fxHash s % length table < length table = mod-lt (fxHash s) (omega (arith, len)) in
+        let i = subst (Inside table (st .count + 1) (length table + 0)) (sym is) (inside strings s table (st .count + 1) (length table) (fxHash s % length table) 0 (omega arith) (g .entries) from) in
         let h = size-hi (g .size) in
         (omega (arith, i .at, len), omega (arith, i .at, len, h), omega (arith, i .steps, len, h))
 
@@ -126,7 +127,8 @@ module _ (work strs : List ℕ) (st : Interner) (g : Good work strs st) where
       v-row =
           let small = probe-small in
           let l = g .words .room in
-          let f : Far strings table w = subst (Far strings table) (sym hw) (far-made strings table p (λ e. omega (arith, e)) (getD strings (p .slot - 1) []) is (omega (arith, small, len)) (omega (arith, len, size-hi (g .size)))) in
+          let at-p = far-made strings table p (λ e. omega (arith, e)) (getD strings (p .slot - 1) []) is (omega (arith, small, len)) (omega (arith, len, size-hi (g .size))) in
+          let f : Far strings table w = subst (Far strings table) (sym hw) at-p in
           let r : Row strings table put (rowOf (st .slots)) (farIn work + 1) =
           subst (λ (k : ℕ). Row strings table (set (movedUp work (k + j) (k + farIn work - (k + j))) (k + j) w) (rowOf (st .slots)) (farIn work + 1)) (sym hr)
           (row-put (g .row slots) w j f le fits (omega (arith, l, apart .0))) in

@@ -100,7 +100,10 @@ module _ {strings : List (List ℕ)} {table : List ℕ} {w : ℕ} (f : Far strin
       let s = farString strings table w in
       let z : farString (strings ++ more) table w ≡ s = old slot (f .some) (entries (w % 4096) (f .inside)) in
       let names : (i : ℕ) → (getD table i 0 ≡ 0 → ⊥) → holds (strings ++ more) (getD table i 0) s ≡ holds strings (getD table i 0) s =
-      λ i ne. holds-some (strings ++ more) (getD table i 0) s ne ∙ ap (λ (l : List ℕ). same l s) (old (getD table i 0) ne (below table (length strings + 1) entries i ne)) ∙ sym (holds-some strings (getD table i 0) s ne) in
+      λ i ne.
+      holds-some (strings ++ more) (getD table i 0) s ne
+      ∙ ap (λ (l : List ℕ). same l s) (old (getD table i 0) ne (below table (length strings + 1) entries i ne))
+      ∙ sym (holds-some strings (getD table i 0) s ne) in
       record {
         inside = f .inside;
         some = f .some;

@@ -48,7 +48,8 @@ module _ (work strs : List ℕ) (st : Interner) (v : List ℕ) (g : Good work st
   pub starts-same : startsOf (st .count) v ≡ startsOf (st .count) work
   starts-same = ap (λ (l : List ℕ). wideWords (take (8192 + 2 * st .count + 2 - 8192) l)) high
 
-  pub retable : Size n → Entries (tableOf n v) (st .count + 1) → taken (tableOf n v) ≡ st .occupied → (0 < n → Row (stringsUpTo (st .count) (startsOf (st .count) v) strs) (tableOf n v) v (rowOf n) (farIn v)) → Good v strs (withSlots st n)
+  pub retable : Size n → Entries (tableOf n v) (st .count + 1) → taken (tableOf n v) ≡ st .occupied
+      → (0 < n → Row (stringsUpTo (st .count) (startsOf (st .count) v) strs) (tableOf n v) v (rowOf n) (farIn v)) → Good v strs (withSlots st n)
   retable sz e number row =
       record {
         words = record { room = rw len (g .words .room); few = g .words .few; starts = subst (λ (l : List ℕ). Starts l (length strs)) (sym starts-same) (g .words .starts) };
@@ -103,7 +104,10 @@ module _ (work strs : List ℕ) (st : Interner) (g : Good work strs st) where
         let table : tableOf 256 (set v 8191 0) ≡ replicate 256 0 = f .table 256 (lit≤ tt) ∙ first-table in
         rw hu (subst (Ready work strs st (set v 8191 0)) (sym hr)
         (record {
-          good = retable work strs st (set v 8191 0) g (f .len) (f .high) 256 size256 (subst (λ (l : List ℕ). Entries l (st .count + 1)) (sym table) (entries-zeros (st .count + 1) 256 (omega arith))) (ap taken table ∙ taken-zeros 256 ∙ sym no-entries) (λ _. f .row);
+          good =
+              retable work strs st (set v 8191 0) g (f .len) (f .high) 256 size256
+              (subst (λ (l : List ℕ). Entries l (st .count + 1)) (sym table) (entries-zeros (st .count + 1) 256 (omega arith)))
+              (ap taken table ∙ taken-zeros 256 ∙ sym no-entries) (λ _. f .row);
           is = refl;
           state = retabled work strs st (set v 8191 0) g (f .len) (f .high) 256 (tableFor (stateOf work strs st)) (table ∙ sym table-is);
           some = lit< tt;

@@ -53,10 +53,12 @@ returns-2 : tie.Need-returns-2
 returns-2 c =
     let start = c .before .before .before .before .before .before .before .before .before .before .before .before .before in
     let recall = c .before .before .before .recall in
+    let ne = c .before .before .if1 .left in
     let p = probeOf (recall .result) in
-    let first = recall .ensures (c .before .before .if1 .left) in
+    let first = recall .ensures ne in
     let in-table = probe-in (start .args .work .now) (start .args .strs .now) (start .args .st) (start .pre .0) (start .args .s .now) (start .pre .1 .0 .0) (start .pre .1 .0 .1) p first in
-    hit-told (start .args .work .now) (start .args .strs .now) (start .args .st) (start .pre .0) (start .args .s .now) (start .args .resized) p first _ (adds-table-hit _ _ (start .pre .0 .counts) _ _ (start .pre .1 .1 .1) (in-table .2) (c .before .table-hit .ensures)) _ (c .before .before .if1 .left) (in-table .1) (c .known .ensures)
+    let adds = adds-table-hit _ _ (start .pre .0 .counts) _ _ (start .pre .1 .1 .1) (in-table .2) (c .before .table-hit .ensures) in
+    hit-told (start .args .work .now) (start .args .strs .now) (start .args .st) (start .pre .0) (start .args .s .now) (start .args .resized) p first _ adds _ ne (in-table .1) (c .known .ensures)
 
 pub far-call-spec : {M : Type 1} → statement M
 far-call-spec =

@@ -42,8 +42,9 @@ returns c =
     let table-alloc = c .before .before .before .before .table-alloc in
     let p = probeOf (lookup .result) in
     let first = all-first (start .args .work .now) (start .args .strs .now) (start .args .st) (start .pre .0) (start .args .s .now) (start .pre .1 .0 .0) p (lookup .ensures) in
+    let told = call-alloc (start .args .work .now) (start .args .strs .now) (start .args .st) (start .pre .0) (start .args .s .now) (start .args .resized) p first (c .before .before .before .before .before .before .before .if1 .taken) in
     subst (λ (a : Interned). Told (start .args .work .now) (start .args .strs .now) (start .args .st) (table-alloc .last .0) (table-alloc .last .1 .0) (table-alloc .result) a)
-    (call-alloc (start .args .work .now) (start .args .strs .now) (start .args .st) (start .pre .0) (start .args .s .now) (start .args .resized) p first (c .before .before .before .before .before .before .before .if1 .taken)) (table-alloc .ensures)
+    told (table-alloc .ensures)
 
 remember-requires : tie.Need-remember-requires
 remember-requires c κs =
@@ -52,7 +53,8 @@ remember-requires c κs =
     let p = probeOf (lookup .result) in
     let first = all-first (start .args .work .now) (start .args .strs .now) (start .args .st) (start .pre .0) (start .args .s .now) (start .pre .1 .0 .0) p (lookup .ensures) in
     let ne = c .before .before .if1 .left in
-    (start .pre .0, ((start .pre .1 .0 .0, omega (arith, ne), start .pre .1 .1 .2), first-own (start .args .work .now) (start .args .strs .now) (start .args .st) (start .pre .0) (start .args .s .now) (start .pre .1 .0 .0) p ne first))
+    let own = first-own (start .args .work .now) (start .args .strs .now) (start .args .st) (start .pre .0) (start .args .s .now) (start .pre .1 .0 .0) p ne first in
+    (start .pre .0, ((start .pre .1 .0 .0, omega (arith, ne), start .pre .1 .1 .2), own))
 
 table-hit-requires : tie.Need-table-hit-requires
 table-hit-requires c κs =
@@ -77,10 +79,13 @@ returns-2 c =
     let start = c .before .before .before .before .before .before .before .before .before .before .before .before .before .before .before in
     let lookup = c .before .before .before .before .before .before .before .before .lookup in
     let remember = c .before .before .before .before .remember in
+    let ne = c .before .before .before .before .before .before .before .if1 .left in
     let p = probeOf (lookup .result) in
     let first = all-first (start .args .work .now) (start .args .strs .now) (start .args .st) (start .pre .0) (start .args .s .now) (start .pre .1 .0 .0) p (lookup .ensures) in
     let in-table = probe-in (start .args .work .now) (start .args .strs .now) (start .args .st) (start .pre .0) (start .args .s .now) (start .pre .1 .0 .0) (start .pre .1 .0 .1) p first in
-    learnt-told (start .args .work .now) (start .args .strs .now) (start .args .st) (start .pre .0) _ (remember .ensures) (start .args .s .now) (start .args .resized) p first _ (adds-table-hit _ _ (start .pre .0 .counts) _ _ (start .pre .1 .1 .1) (in-table .2) (c .before .table-hit .ensures)) _ (c .before .before .before .before .before .before .before .if1 .left) (in-table .1) (c .known .ensures)
+    let adds = adds-table-hit _ _ (start .pre .0 .counts) _ _ (start .pre .1 .1 .1) (in-table .2) (c .before .table-hit .ensures) in
+    learnt-told (start .args .work .now) (start .args .strs .now) (start .args .st) (start .pre .0) _ (remember .ensures) (start .args .s .now) (start .args .resized) p first _ adds _ ne (in-table .1)
+    (c .known .ensures)
 
 pub learn-spec : {M : Type 1} → statement M
 learn-spec =

@@ -1,4 +1,5 @@
-use mathlib.Core.Path.{subst, _∙_}
+use mathlib.Core.Path.{_≡_, subst, _∙_}
+use Prim.Native.Nat.{_<_}
 use lib.Dec.{lit≤}
 use Rattle.model.specs.Intern.{Interned}
 use Rattle.table.specs.Layout.{probeOf}
@@ -24,8 +25,9 @@ table-hit-requires : tie.Need-table-hit-requires
 table-hit-requires c κs =
     let start = c .before .before .before .before .before .before .before .before in
     let lookup = c .before .before .lookup in
+    let stops : probeOf (lookup .result) .slot ≡ 0 → lookup .result .steps < 16 = λ e. absurd (c .if1 .taken e) in
     let p = probeOf (lookup .result) in
-    let first = near-first (start .args .work .now) (start .args .strs .now) (start .args .st) (start .pre .0) (start .args .s .now) (start .pre .1 .0 .0) 16 (lit≤ tt) p (lookup .ensures) (λ e. absurd (c .if1 .taken e)) in
+    let first = near-first (start .args .work .now) (start .args .strs .now) (start .args .st) (start .pre .0) (start .args .s .now) (start .pre .1 .0 .0) 16 (lit≤ tt) p (lookup .ensures) stops in
     let in-table = probe-in (start .args .work .now) (start .args .strs .now) (start .args .st) (start .pre .0) (start .args .s .now) (start .pre .1 .0 .0) (start .pre .1 .0 .1) p first in
     (start .pre .0 .counts, start .pre .1 .1 .0, start .pre .1 .1 .1, in-table .2)
 
@@ -42,17 +44,21 @@ returns : tie.Need-returns
 returns c =
     let start = c .before .before .before .before .before .before .before .before .before .before in
     let lookup = c .before .before .before .before .lookup in
+    let ne = c .before .before .if1 .taken in
+    let stops : probeOf (lookup .result) .slot ≡ 0 → lookup .result .steps < 16 = λ e. absurd (ne e) in
     let p = probeOf (lookup .result) in
-    let first = near-first (start .args .work .now) (start .args .strs .now) (start .args .st) (start .pre .0) (start .args .s .now) (start .pre .1 .0 .0) 16 (lit≤ tt) p (lookup .ensures) (λ e. absurd (c .before .before .if1 .taken e)) in
+    let first = near-first (start .args .work .now) (start .args .strs .now) (start .args .st) (start .pre .0) (start .args .s .now) (start .pre .1 .0 .0) 16 (lit≤ tt) p (lookup .ensures) stops in
     let in-table = probe-in (start .args .work .now) (start .args .strs .now) (start .args .st) (start .pre .0) (start .args .s .now) (start .pre .1 .0 .0) (start .pre .1 .0 .1) p first in
-    hit-told (start .args .work .now) (start .args .strs .now) (start .args .st) (start .pre .0) (start .args .s .now) (start .args .resized) p first _ (adds-table-hit _ _ (start .pre .0 .counts) _ _ (start .pre .1 .1 .1) (in-table .2) (c .before .table-hit .ensures)) _ (c .before .before .if1 .taken) (in-table .1) (c .known .ensures)
+    let adds = adds-table-hit _ _ (start .pre .0 .counts) _ _ (start .pre .1 .1 .1) (in-table .2) (c .before .table-hit .ensures) in
+    hit-told (start .args .work .now) (start .args .strs .now) (start .args .st) (start .pre .0) (start .args .s .now) (start .args .resized) p first _ adds _ ne (in-table .1) (c .known .ensures)
 
 table-alloc-requires : tie.Need-table-alloc-requires
 table-alloc-requires c κs =
     let start = c .before .before .before .before .before .before .before .before .before .before .before .before in
     let lookup = c .before .before .before .before .before .before .lookup in
+    let stops : probeOf (lookup .result) .slot ≡ 0 → lookup .result .steps < 16 = λ e. c .before .before .if2 .taken in
     let p = probeOf (lookup .result) in
-    let first = near-first (start .args .work .now) (start .args .strs .now) (start .args .st) (start .pre .0) (start .args .s .now) (start .pre .1 .0 .0) 16 (lit≤ tt) p (lookup .ensures) (λ e. c .before .before .if2 .taken) in
+    let first = near-first (start .args .work .now) (start .args .strs .now) (start .args .st) (start .pre .0) (start .args .s .now) (start .pre .1 .0 .0) 16 (lit≤ tt) p (lookup .ensures) stops in
     let in-table = probe-in (start .args .work .now) (start .args .strs .now) (start .args .st) (start .pre .0) (start .args .s .now) (start .pre .1 .0 .0) (start .pre .1 .0 .1) p first in
     (start .pre .0, ((start .pre .1 .0 .0, start .pre .1 .1 .0, start .pre .1 .1 .1), (in-table .0, in-table .2, in-table .3 ∙ c .before .before .before .before .if1 .left)))
 
@@ -67,10 +73,12 @@ returns-2 c =
     let start = c .before .before .before .before .before .before .before .before .before .before .before .before .before .before .before .before .before in
     let lookup = c .before .before .before .before .before .before .before .before .before .before .before .lookup in
     let table-alloc = c .before .before .before .before .table-alloc in
+    let stops : probeOf (lookup .result) .slot ≡ 0 → lookup .result .steps < 16 = λ e. c .before .before .before .before .before .before .before .if2 .taken in
     let p = probeOf (lookup .result) in
-    let first = near-first (start .args .work .now) (start .args .strs .now) (start .args .st) (start .pre .0) (start .args .s .now) (start .pre .1 .0 .0) 16 (lit≤ tt) p (lookup .ensures) (λ e. c .before .before .before .before .before .before .before .if2 .taken) in
+    let first = near-first (start .args .work .now) (start .args .strs .now) (start .args .st) (start .pre .0) (start .args .s .now) (start .pre .1 .0 .0) 16 (lit≤ tt) p (lookup .ensures) stops in
+    let told = call-alloc (start .args .work .now) (start .args .strs .now) (start .args .st) (start .pre .0) (start .args .s .now) (start .args .resized) p first (c .before .before .before .before .before .before .before .before .before .if1 .left) in
     subst (λ (a : Interned). Told (start .args .work .now) (start .args .strs .now) (start .args .st) (table-alloc .last .0) (table-alloc .last .1 .0) (table-alloc .result) a)
-    (call-alloc (start .args .work .now) (start .args .strs .now) (start .args .st) (start .pre .0) (start .args .s .now) (start .args .resized) p first (c .before .before .before .before .before .before .before .before .before .if1 .left)) (table-alloc .ensures)
+    told (table-alloc .ensures)
 
 far-call-requires : tie.Need-far-call-requires
 far-call-requires c κs = search needs

@@ -9,34 +9,57 @@ use Rattle.interner.proofs.row_of.Reads as row-of-reads
 use Rattle.table.proofs.wide.Reads as wide-reads
 
 sub-off : tie.Need-sub-off
-sub-off c = let b = far-bounds (c .before .before .before .args .work .now) (c .before .before .before .args .strs .now) (c .before .before .before .args .st) (c .before .before .before .pre .0) (c .before .before .before .args .j) (c .before .before .before .pre .1) in omega (arith, b)
+sub-off c =
+    let start = c .before .before .before in
+    let b = far-bounds (start .args .work .now) (start .args .strs .now) (start .args .st) (start .pre .0) (start .args .j) (start .pre .1) in
+    omega (arith, b)
 
 row-of-requires : tie.Need-row-of-requires
 row-of-requires c κs = search needs
 
 add-wide : tie.Need-add-wide
-add-wide c = let b = far-bounds (c .before .before .before .before .args .work .now) (c .before .before .before .before .args .strs .now) (c .before .before .before .before .args .st) (c .before .before .before .before .pre .0) (c .before .before .before .before .args .j) (c .before .before .before .before .pre .1) in omega (arith, b, c .row-of .ensures)
+add-wide c =
+    let start = c .before .before .before .before in
+    let b = far-bounds (start .args .work .now) (start .args .strs .now) (start .args .st) (start .pre .0) (start .args .j) (start .pre .1) in
+    omega (arith, b, c .row-of .ensures)
 
 mul-wide : tie.Need-mul-wide
-mul-wide c = let b = far-bounds (c .before .before .before .before .args .work .now) (c .before .before .before .before .args .strs .now) (c .before .before .before .before .args .st) (c .before .before .before .before .pre .0) (c .before .before .before .before .args .j) (c .before .before .before .before .pre .1) in omega (arith, b, c .row-of .ensures, c .before .before .before .before .pre .0 .words .room)
+mul-wide c =
+    let start = c .before .before .before .before in
+    let b = far-bounds (start .args .work .now) (start .args .strs .now) (start .args .st) (start .pre .0) (start .args .j) (start .pre .1) in
+    omega (arith, b, c .row-of .ensures, start .pre .0 .words .room)
 
 shared-slice-read-wide : tie.Need-shared-slice-read-wide
-shared-slice-read-wide c = let b = far-bounds (c .before .before .before .before .before .args .work .now) (c .before .before .before .before .before .args .strs .now) (c .before .before .before .before .before .args .st) (c .before .before .before .before .before .pre .0) (c .before .before .before .before .before .args .j) (c .before .before .before .before .before .pre .1) in omega (arith, b, c .before .row-of .ensures, c .before .before .before .before .before .pre .0 .words .room)
+shared-slice-read-wide c =
+    let start = c .before .before .before .before .before in
+    let b = far-bounds (start .args .work .now) (start .args .strs .now) (start .args .st) (start .pre .0) (start .args .j) (start .pre .1) in
+    omega (arith, b, c .before .row-of .ensures, start .pre .0 .words .room)
 
 wide-requires : tie.Need-wide-requires
 wide-requires c κs = search needs
 
 add-t8 : tie.Need-add-t8
-add-t8 c = let b = far-bounds (c .before .before .before .before .before .before .args .work .now) (c .before .before .before .before .before .before .args .strs .now) (c .before .before .before .before .before .before .args .st) (c .before .before .before .before .before .before .pre .0) (c .before .before .before .before .before .before .args .j) (c .before .before .before .before .before .before .pre .1) in omega (arith, b)
+add-t8 c =
+    let start = c .before .before .before .before .before .before in
+    let b = far-bounds (start .args .work .now) (start .args .strs .now) (start .args .st) (start .pre .0) (start .args .j) (start .pre .1) in
+    omega (arith, b)
 
 mul-t9 : tie.Need-mul-t9
-mul-t9 c = let b = far-bounds (c .before .before .before .before .before .before .args .work .now) (c .before .before .before .before .before .before .args .strs .now) (c .before .before .before .before .before .before .args .st) (c .before .before .before .before .before .before .pre .0) (c .before .before .before .before .before .before .args .j) (c .before .before .before .before .before .before .pre .1) in omega (arith, b, c .before .before .before .before .before .before .pre .0 .words .room)
+mul-t9 c =
+    let start = c .before .before .before .before .before .before in
+    let b = far-bounds (start .args .work .now) (start .args .strs .now) (start .args .st) (start .pre .0) (start .args .j) (start .pre .1) in
+    omega (arith, b, start .pre .0 .words .room)
 
 shared-slice-read-t12 : tie.Need-shared-slice-read-t12
-shared-slice-read-t12 c = let b = far-bounds (c .before .before .before .before .before .before .before .args .work .now) (c .before .before .before .before .before .before .before .args .strs .now) (c .before .before .before .before .before .before .before .args .st) (c .before .before .before .before .before .before .before .pre .0) (c .before .before .before .before .before .before .before .args .j) (c .before .before .before .before .before .before .before .pre .1) in omega (arith, b, c .before .before .before .before .before .before .before .pre .0 .words .room)
+shared-slice-read-t12 c =
+    let start = c .before .before .before .before .before .before .before in
+    let b = far-bounds (start .args .work .now) (start .args .strs .now) (start .args .st) (start .pre .0) (start .args .j) (start .pre .1) in
+    omega (arith, b, start .pre .0 .words .room)
 
 returns : tie.Need-returns
-returns c = far-probed (c .before .before .before .before .before .before .before .args .work .now) (c .before .before .before .before .before .before .before .args .strs .now) (c .before .before .before .before .before .before .before .args .st) (c .before .before .before .before .before .before .before .pre .0) (c .before .before .before .before .before .before .before .args .j) (c .before .before .before .before .before .before .before .pre .1) _ _ (c .before .before .before .row-of .ensures) (c .before .wide .ensures)
+returns c =
+    let start = c .before .before .before .before .before .before .before in
+    far-probed (start .args .work .now) (start .args .strs .now) (start .args .st) (start .pre .0) (start .args .j) (start .pre .1) _ _ (c .before .before .before .row-of .ensures) (c .before .wide .ensures)
 
 pub far-probe-spec : {M : Type 1} → statement M
 far-probe-spec =

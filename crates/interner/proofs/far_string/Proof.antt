@@ -13,13 +13,24 @@ far-probe-requires : tie.Need-far-probe-requires
 far-probe-requires c κs = search needs
 
 sub-resolve : tie.Need-sub-resolve
-sub-resolve c = omega (arith, far-named (c .before .before .before .before .args .work .now) (c .before .before .before .before .args .strs .now) (c .before .before .before .before .args .st) (c .before .before .before .before .pre .0) (c .before .before .before .before .args .j) (c .before .before .before .before .pre .1) (probeOf (c .before .far-probe .result)) (c .before .far-probe .ensures))
+sub-resolve c =
+    let start = c .before .before .before .before in
+    let far-probe = c .before .far-probe in
+    let named = far-named (start .args .work .now) (start .args .strs .now) (start .args .st) (start .pre .0) (start .args .j) (start .pre .1) (probeOf (far-probe .result)) (far-probe .ensures) in
+    omega (arith, named)
 
 resolve-requires : tie.Need-resolve-requires
-resolve-requires c κs = (c .before .before .before .before .pre .0, far-named (c .before .before .before .before .args .work .now) (c .before .before .before .before .args .strs .now) (c .before .before .before .before .args .st) (c .before .before .before .before .pre .0) (c .before .before .before .before .args .j) (c .before .before .before .before .pre .1) (probeOf (c .before .far-probe .result)) (c .before .far-probe .ensures) .1)
+resolve-requires c κs =
+    let start = c .before .before .before .before in
+    let far-probe = c .before .far-probe in
+    let named = far-named (start .args .work .now) (start .args .strs .now) (start .args .st) (start .pre .0) (start .args .j) (start .pre .1) (probeOf (far-probe .result)) (far-probe .ensures) in
+    (start .pre .0, named .1)
 
 returns : tie.Need-returns
-returns c = far-bytes (c .before .before .before .before .before .args .work .now) (c .before .before .before .before .before .args .strs .now) (c .before .before .before .before .before .args .st) (c .before .before .before .before .before .pre .0) (c .before .before .before .before .before .args .j) (c .before .before .before .before .before .pre .1) (probeOf (c .before .before .far-probe .result)) (c .before .before .far-probe .ensures) _ (c .resolve .ensures)
+returns c =
+    let start = c .before .before .before .before .before in
+    let far-probe = c .before .before .far-probe in
+    far-bytes (start .args .work .now) (start .args .strs .now) (start .args .st) (start .pre .0) (start .args .j) (start .pre .1) (probeOf (far-probe .result)) (far-probe .ensures) _ (c .resolve .ensures)
 
 pub far-string-spec : {M : Type 1} → statement M
 far-string-spec = tie.close (tie.spec far-probe-requires sub-resolve resolve-requires returns)

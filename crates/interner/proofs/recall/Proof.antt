@@ -33,7 +33,14 @@ far-probe-requires c κs = search needs
 returns-2 : tie.Need-returns-2
 returns-2 c =
     let start = c .before .before .before .before .before .before .before .before .before .before in
-    λ ne. far-recalled (start .args .work .now) (start .args .strs .now) (start .args .st) (start .pre .0) (start .args .j) (start .pre .1, omega (arith, c .before .before .before .before .before .wide .ensures, c .before .before .before .before .if1 .left)) (start .args .s .now) _ _ (probeOf (c .far-probe .result)) (c .before .before .before .far-string .ensures) (c .before .before .same .ensures) (c .before .if2 .taken) (c .far-probe .ensures)
+    let far-string = c .before .before .before .far-string in
+    let same = c .before .before .same in
+    let wide = c .before .before .before .before .before .wide in
+    let left = c .before .before .before .before .if1 .left in
+    λ ne.
+    far-recalled (start .args .work .now) (start .args .strs .now) (start .args .st) (start .pre .0) (start .args .j)
+    (start .pre .1, omega (arith, wide .ensures, left)) (start .args .s .now) _ _ (probeOf (c .far-probe .result)) (far-string .ensures) (same .ensures) (c .before .if2 .taken)
+    (c .far-probe .ensures)
 
 returns-3 : tie.Need-returns-3
 returns-3 c = λ ne. absurd (ne refl)

@@ -81,7 +81,12 @@ returns-2 : tie.Need-returns-2
 returns-2 c =
     let start = c .before .before .before .before .before .before .before .before .before .before .before in
     let wide = c .before .before .before .before .before .before .before .wide in
-    remembered-one (start .args .work .now) (start .args .strs .now) (start .args .st) (start .pre .0) (probeOf (start .args .p)) (start .pre .1 .0 .1) (start .pre .1 .0 .0) (start .pre .1 .1) (start .args .j) _ _ (start .pre .1 .0 .2) (omega (arith, wide .ensures, c .before .before .before .before .before .before .if1 .left)) (c .before .before .before .before .before .row-of .ensures) refl _ (wide .ensures) (ap (λ (l : List ℕ). set l 8191 (wide .result + 1)) (c .before .before .put-before .ensures))
+    let row-of = c .before .before .before .before .before .row-of in
+    let put-before = c .before .before .put-before in
+    let left = c .before .before .before .before .before .before .if1 .left in
+    remembered-one (start .args .work .now) (start .args .strs .now) (start .args .st) (start .pre .0)
+    (probeOf (start .args .p)) (start .pre .1 .0 .1) (start .pre .1 .0 .0) (start .pre .1 .1) (start .args .j) _ _ (start .pre .1 .0 .2) (omega (arith, wide .ensures, left)) (row-of .ensures) refl _
+    (wide .ensures) (ap (λ (l : List ℕ). set l 8191 (wide .result + 1)) (put-before .ensures))
 
 pub remember-spec : {M : Type 1} → statement M
 remember-spec =

@@ -28,7 +28,9 @@ same-length c = search needs
 returns : tie.Need-returns
 returns c =
     let start = c .before .before .before .before .before .before .before .before .before .before .before .before in
-    first-ready (start .args .work .now) (start .args .strs .now) (start .args .st) (start .pre) _ _ (c .before .before .before .before .before .before .before .clear-part .ensures) (c .before .before .before .before .before .before .before .before .before .if1 .taken) (c .with-slots .ensures) _ (c .before .before .before .forget .ensures)
+    let clear-part = c .before .before .before .before .before .before .before .clear-part in
+    first-ready (start .args .work .now) (start .args .strs .now) (start .args .st) (start .pre) _ _ (clear-part .ensures)
+    (c .before .before .before .before .before .before .before .before .before .if1 .taken) (c .with-slots .ensures) _ (c .before .before .before .forget .ensures)
 
 due-requires : tie.Need-due-requires
 due-requires c κs = (size-hi (c .before .before .before .pre .size), omega (arith, c .before .before .before .pre .most, c .before .before .before .pre .words .few))
@@ -38,7 +40,9 @@ grow-requires c κs =
     let start = c .before .before .before .before .before .before in
     let ne = c .before .before .before .if1 .left in
     let due = sym (c .before .before .due .ensures) ∙ c .before .if2 .taken in
-    (start .pre .words, ((grows-lo (start .args .work .now) (start .args .strs .now) (start .args .st) (start .pre) ne due, grows-hi (start .args .work .now) (start .args .strs .now) (start .args .st) (start .pre) ne due), start .pre .entries))
+    let lo = grows-lo (start .args .work .now) (start .args .strs .now) (start .args .st) (start .pre) ne due in
+    let hi = grows-hi (start .args .work .now) (start .args .strs .now) (start .args .st) (start .pre) ne due in
+    (start .pre .words, ((lo, hi), start .pre .entries))
 
 forget-requires-2 : tie.Need-forget-requires-2
 forget-requires-2 c κs = search needs
@@ -46,7 +50,9 @@ forget-requires-2 c κs = search needs
 mul-with-slots : tie.Need-mul-with-slots
 mul-with-slots c =
     let start = c .before .before .before .before .before .before .before .before .before .before .before .before .before in
-    let hi = grows-hi (start .args .work .now) (start .args .strs .now) (start .args .st) (start .pre) (c .before .before .before .before .before .before .before .before .before .before .if1 .left) (sym (c .before .before .before .before .before .before .before .before .before .due .ensures) ∙ c .before .before .before .before .before .before .before .before .if2 .taken) in
+    let ne = c .before .before .before .before .before .before .before .before .before .before .if1 .left in
+    let due = sym (c .before .before .before .before .before .before .before .before .before .due .ensures) ∙ c .before .before .before .before .before .before .before .before .if2 .taken in
+    let hi = grows-hi (start .args .work .now) (start .args .strs .now) (start .args .st) (start .pre) ne due in
     record { fits = omega (arith, hi) }
 
 with-slots-requires-2 : tie.Need-with-slots-requires-2
@@ -59,7 +65,10 @@ returns-2 : tie.Need-returns-2
 returns-2 c =
     let start = c .before .before .before .before .before .before .before .before .before .before .before .before .before .before in
     let grow = c .before .before .before .before .before .before .before .grow in
-    grown-ready (start .args .work .now) (start .args .strs .now) (start .args .st) (start .pre) (c .before .before .before .before .before .before .before .before .before .before .before .if1 .left) (sym (c .before .before .before .before .before .before .before .before .before .before .due .ensures) ∙ c .before .before .before .before .before .before .before .before .before .if2 .taken) _ _ (grow .kept .0) (grow .ensures .1) (grow .ensures .0) (c .with-slots2 .ensures) _ (c .before .before .before .forget2 .ensures)
+    let ne = c .before .before .before .before .before .before .before .before .before .before .before .if1 .left in
+    let due = sym (c .before .before .before .before .before .before .before .before .before .before .due .ensures) ∙ c .before .before .before .before .before .before .before .before .before .if2 .taken in
+    grown-ready (start .args .work .now) (start .args .strs .now) (start .args .st) (start .pre) ne due _ _ (grow .kept .0) (grow .ensures .1) (grow .ensures .0)
+    (c .with-slots2 .ensures) _ (c .before .before .before .forget2 .ensures)
 
 with-slots-requires-3 : tie.Need-with-slots-requires-3
 with-slots-requires-3 c κs = search needs
@@ -67,7 +76,8 @@ with-slots-requires-3 c κs = search needs
 returns-3 : tie.Need-returns-3
 returns-3 c =
     let start = c .before .before .before .before .before .before in
-    stay-ready (start .args .work .now) (start .args .strs .now) (start .args .st) (start .pre) (c .before .before .before .if1 .left) _ (sym (c .before .before .due .ensures) ∙ c .before .if2 .left) (c .with-slots3 .ensures)
+    let ne = c .before .before .before .if1 .left in
+    stay-ready (start .args .work .now) (start .args .strs .now) (start .args .st) (start .pre) ne _ (sym (c .before .before .due .ensures) ∙ c .before .if2 .left) (c .with-slots3 .ensures)
 
 pub table-for-spec : {M : Type 1} → statement M
 table-for-spec =

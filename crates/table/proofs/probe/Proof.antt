@@ -17,7 +17,8 @@ use Rattle.table.proofs.string_at.Reads as string-at-reads
 use Rattle.compare.proofs.same.Reads as same-reads
 
 abbrev Inv-loop : tie.InvT-loop
-Inv-loop table starts strs s from most n at₀ steps₀ at steps = (steps ≤ most) × (n ≡ length table) × (at < n) × (probe (most - steps) (stringsOf (wideWords starts) strs) table s at steps ≡ probe most (stringsOf (wideWords starts) strs) table s from 0)
+Inv-loop table starts strs s from most n at₀ steps₀ at steps =
+    (steps ≤ most) × (n ≡ length table) × (at < n) × (probe (most - steps) (stringsOf (wideWords starts) strs) table s at steps ≡ probe most (stringsOf (wideWords starts) strs) table s from 0)
 
 abbrev μ-loop : tie.MeasureT-loop
 μ-loop table starts strs s from most n at₀ steps₀ at steps = most - steps
