@@ -342,8 +342,8 @@ fn all_shapes() -> Vec<Shape> {
     const ONE: &[usize] = &[16384];
     use Timed::{Check, Merge, Region};
     let common: &'static str = Box::leak("青空文庫の本を読む人は".repeat(6).into_boxed_str());
-    let (crowded, with_prefix, on_one_slot) = (Rc::new(crowd("", crowds_filter)), crowd(common, crowds_filter), crowd("", one_slot));
-    let crowded_reading = crowded.clone();
+    let (crowded, with_prefix, slot) = (Rc::new(crowd("", crowds_filter)), crowd(common, crowds_filter), Rc::new(crowd("", one_slot)));
+    let (crowded_reading, slot_too) = (crowded.clone(), slot.clone());
     vec![
         shape("number 5: n MarginNotes over n contents over n segments, n a multiple of 64", Check, ONE, MAX_POOL / 2, |n| margin_notes(n / 64 * 64)),
         shape("number 5: n MarginNotes over n contents over n segments, n no multiple of 64", Check, ONE, MAX_POOL / 2, |n| margin_notes(n / 64 * 64 + 37)),
@@ -489,7 +489,7 @@ fn hostile_line(r: &HostileRow) -> String {
     format!("{}, {}{words}: n {} in {}, exponent {}{} {}", r.name, entry_name(r.timed), p.n, duration(p.seconds), shown_exponent(r), if r.stopped { ", stopped" } else { "" }, shown_limit(r))
 }
 
-fn hostile_table(rows: &[&HostileRow]) -> String {
+fn hostile_table(rows: &[HostileRow]) -> String {
     if rows.is_empty() { return "(Left out in this run: `HOSTILE=off`.)\n".into(); }
     let limits = rows.iter().any(|r| r.limit.is_some());
     let mut s = "| book | timed | work words | answer | n | tapes and bytes | at a quarter of n | at half of n | at n | exponent |".to_string() + if limits { " at the limits of document 01 |" } else { "" };

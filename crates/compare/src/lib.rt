@@ -1,9 +1,10 @@
-// Two slices of bytes compared, sixteen at a time.
+// Two slices of bytes compared, sixteen at a time: whether they are the same, and which comes first.
 ghost use mathlib.Core.Path.{_≡_};
 ghost use Prim.Native.Nat.{_+_, _-_, _≤_, _<_};
 ghost use lib.ListN.{length, drop};
 ghost use Rattle.model.specs.Lists.{same as sameBytes};
 ghost use Rattle.compare.specs.Compare.{same4, same16};
+ghost use Rattle.compare.specs.Order.{precedes as precedesIn};
 
 // A single `&` and no branches, so that LLVM compares the bytes together.
 fn same_4(a: &[u8], b: &[u8], at: usize) -> bool
@@ -51,4 +52,39 @@ pub fn same(a: &[u8], b: &[u8]) -> bool
         at += 16;
     }
     same_from(a, b, at)
+}
+
+// Lexicographic order of the bytes from a place on, byte by byte.
+fn precedes_from(a: &[u8], b: &[u8], from: usize) -> bool
+    requires { ⌜ (from ≤ length (now a)) × (from ≤ length (now b)) ⌝ }
+    ensures { λ r. ⌜ r ≡ precedesIn (drop from (now (a .entry))) (drop from (now (b .entry))) ⌝ }
+{
+    let mut i = from;
+    while i < a.len() {
+        if b.len() <= i {
+            return false;
+        }
+        if a[i] != b[i] {
+            return a[i] < b[i];
+        }
+        i += 1;
+    }
+    i < b.len()
+}
+
+// Lexicographic order of bytes. What is the same in both is passed sixteen at a time: it may be long.
+pub fn precedes(a: &[u8], b: &[u8]) -> bool
+    ensures { λ r. ⌜ r ≡ precedesIn (now (a .entry)) (now (b .entry)) ⌝ }
+{
+    let mut at = 0;
+    while 16 <= a.len() - at {
+        if b.len() - at < 16 {
+            return precedes_from(a, b, at);
+        }
+        if !same_16(a, b, at) {
+            return precedes_from(a, b, at);
+        }
+        at += 16;
+    }
+    precedes_from(a, b, at)
 }

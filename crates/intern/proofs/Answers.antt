@@ -1,13 +1,14 @@
 -- The ways of a call. Assumes nothing.
 use mathlib.Core.Path.{_≡_, refl, sym, ap, _∙_, subst}
 use mathlib.Core.Bool.{Bool, true, false, cond, _&&_, false≢true}
+use mathlib.Core.Logic.{⊎-elim}
 use mathlib.Core.List.{List, [], _∷_, _++_, flatten}
 use Prim.Native.Nat.{ℕ, suc, _+_, _-_, _*_, _<_, _≤_}
 use native.Mathlib.Omega.{arith}
 use borrow.Author.Tests.{eq-eqb, ne-eqb, lt-ltb, le-ltb}
 use lib.Dec.{leb}
 use lib.ListN.{length, getD, take, drop, set, length-set, length-append}
-use lib.Seq.{drop-set-lt, drop-drop}
+use lib.Seq.{drop-set-lt, drop-drop, getD-set-other}
 use Rattle.model.specs.Intern.{StrInterner, InternStats, Interned, Probe, holds, grows, tableFor, plusStats, cacheHit, bypass, tableHit, tableAlloc, tableCall, intern}
 use Rattle.model.specs.Limits.{maxNewStrings}
 use Rattle.table.specs.Layout.{taken, wideWords, tableOf, startsOf, stringsUpTo, Starts, Entries}
@@ -19,7 +20,8 @@ use Rattle.stats.specs.declared.InternStats.{InternStats as Counters}
 use Rattle.stats.specs.Counts.{statsOf}
 use Rattle.stats.specs.Ways.{Adds}
 use Rattle.interner.specs.declared.StrInterner.{StrInterner as Interner}
-use Rattle.interner.specs.State.{stateOf, Good, hasRoom, Ready, Alloced, allocated, withTable, withSlots, withEntry, firstProbe}
+use Rattle.interner.specs.State.{stateOf, Good, hasRoom, Ready, Alloced, allocated, withTable, withSlots, withEntry, Remembered, firstProbe}
+use Rattle.interner.specs.Row.{Row, rowOf, farIn, probeFor, row-apart, row-set, row-words}
 use Rattle.interner.specs.Room.{room-same, room-more, count-is}
 use Rattle.intern.specs.declared.Answer.{Answer}
 use Rattle.intern.specs.Told.{Told, knownAnswer, probedCall}
@@ -38,7 +40,20 @@ module _ (work strs : List ℕ) (st : Interner) (g : Good work strs st) where
         ok = room-same work strs st g;
         refused = λ e. absurd (false≢true (sym e));
         answered = λ _. record {
-          good = record { words = g .words; size = g .size; entries = g .entries; number = g .number; most = g .most; known = le; end = g .end; fits = g .fits; begins = g .begins; laid = g .laid; counts = adds .counted };
+          good = record {
+            words = g .words;
+            size = g .size;
+            entries = g .entries;
+            number = g .number;
+            most = g .most;
+            known = le;
+            end = g .end;
+            fits = g .fits;
+            begins = g .begins;
+            laid = g .laid;
+            counts = adds .counted;
+            row = g .row;
+          };
           state = ap (λ (x : InternStats). record { strings = strings; table = tableOf (st .slots) work; occupied = st .occupied; last = slot; stats = x }) (adds .is);
           id = refl;
           base = refl;
@@ -108,6 +123,19 @@ module _ (work strs : List ℕ) (st : Interner) (g : Good work strs st) where
         empty-t : getD (tableOf (t .slots) work′) at 0 ≡ 0
         empty-t = ap (λ (n : ℕ). getD (tableOf n work′) at 0) (a .slots) ∙ ap (λ (l : List ℕ). getD l at 0) (a .table) ∙ empty
 
+        -- the row does not meet the table
+        row-kept : (i : ℕ) → rowOf (t .slots) ≤ i → i < rowOf (t .slots) + 3840 → getD new i 0 ≡ getD work′ i 0
+        row-kept i lo hi =
+            getD-set-other work′ (t .slots - 256 + at) i (t .count) 0
+            (λ e. ⊎-elim (λ b. omega (arith, e, b, hi)) (λ b. omega (arith, e, b, lo, lt-t)) (row-apart (a .good .size) .1))
+
+        entered-row : 0 < t .slots → Row (stringsUpTo (t .count) (startsOf (t .count) new) strs′) (tableOf (t .slots) new) new (rowOf (t .slots)) (farIn new)
+        entered-row some =
+            let number : farIn new ≡ farIn work′ = getD-set-other work′ (t .slots - 256 + at) 8191 (t .count) 0 (λ e. omega (arith, e, lt-t, size-hi (a .good .size))) in
+            let r = row-words (row-set (a .good .row some) at (t .count) empty-t) new number row-kept in
+            subst (λ (l : List ℕ). Row (stringsUpTo (t .count) (startsOf (t .count) new) strs′) l new (rowOf (t .slots)) (farIn new)) (sym table-new)
+            (subst (λ (l : List ℕ). Row (stringsUpTo (t .count) l strs′) (set (tableOf (t .slots) work′) at (t .count)) new (rowOf (t .slots)) (farIn new)) (sym starts) r)
+
         entered-good : Good new strs′ (withEntry t)
         entered-good =
             record {
@@ -122,6 +150,7 @@ module _ (work strs : List ℕ) (st : Interner) (g : Good work strs st) where
               begins = a .good .begins;
               laid = a .good .laid ∙ ap (λ (l : List ℕ). take (t .base) strs′ ++ flatten (stringsUpTo (t .count) l strs′)) (sym starts);
               counts = a .good .counts;
+              row = entered-row;
             }
 
         abbrev entered : StrInterner → StrInterner
@@ -157,6 +186,27 @@ module _ (work strs : List ℕ) (st : Interner) (g : Good work strs st) where
                 free = drop-set-lt 15360 work′ (t .slots - 256 + at) (t .count) (omega (arith, size-hi (a .good .size), lt-t)) ∙ a .free;
               };
             })
+
+  -- ---- words and numbers of the table changed before
+  pub told-over : (w work′ strs′ : List ℕ) (u : Interner) (r : Answer) (a : Interned) → u ≡ withSlots st (u .slots) → drop 8192 w ≡ drop 8192 work → Told w strs u work′ strs′ r a → Told work strs st work′ strs′ r a
+  told-over w work′ strs′ u r a is high h =
+      let base : u .base ≡ st .base = ap (λ (x : Interner). x .base) is in
+      let used : u .used ≡ st .used = ap (λ (x : Interner). x .used) is in
+      let free : drop 15360 w ≡ drop 15360 work = sym (drop-drop 7168 8192 w) ∙ ap (λ (l : List ℕ). drop 7168 l) high ∙ drop-drop 7168 8192 work in
+      record {
+        refused = λ e. let q = h .refused e in record { id = q .id; state = q .state ∙ ap (λ (x : Interner). withSlots x (r .state .slots)) is };
+        ok = h .ok ∙ ap (λ (n : ℕ). hasRoom (length strs) n (a .state)) base;
+        answered = λ e.
+            let q = h .answered e in
+            record {
+              good = q .good;
+              state = q .state;
+              id = q .id;
+              base = q .base ∙ base;
+              kept = subst (λ (n : ℕ). take n strs′ ≡ take n strs) used (q .kept);
+              free = q .free ∙ free;
+            };
+      }
 
   -- ---- the table
   module _ (s : List ℕ) (resized : ℕ) (p : Probe) (is : p ≡ firstProbe (stateOf work strs st) s) where
@@ -197,7 +247,7 @@ module _ (work strs : List ℕ) (st : Interner) (g : Good work strs st) where
     intern-table hb le = sym (rw (sym is-last ∙ hb, le-ltb 64 (length s) le) refl)
 
     ready-call : (w : List ℕ) (u : Interner) (resized : ℕ) → Ready work strs st w u → resized ≡ cond (grows (stateOf work strs st)) 1 0 → probedCall (stateOf w strs u) resized s ≡ tableCall (stateOf work strs st) (tableFor (stateOf work strs st)) s
-    unfolding probedCall firstProbe tableCall tableAlloc tableHit
+    unfolding probedCall firstProbe probeFor tableCall tableAlloc tableHit
     ready-call w u resized y hr =
         ap (λ (x : StrInterner). probedCall x resized s) (y .state)
         ∙ ap (λ (n : ℕ). probedCall (withTable (stateOf work strs st) (tableFor (stateOf work strs st))) n s) hr
@@ -205,21 +255,14 @@ module _ (work strs : List ℕ) (st : Interner) (g : Good work strs st) where
     pub intern-told : (w work′ strs′ : List ℕ) (u : Interner) (r : Answer) (resized : ℕ) → b ≡ false → length s ≤ 64 → Ready work strs st w u → resized ≡ cond (grows (stateOf work strs st)) 1 0
         → Told w strs u work′ strs′ r (probedCall (stateOf w strs u) resized s) → Told work strs st work′ strs′ r (intern (stateOf work strs st) s)
     intern-told w work′ strs′ u r resized hb le y hr h =
-        let base : u .base ≡ st .base = ap (λ (x : Interner). x .base) (y .is) in
-        let used : u .used ≡ st .used = ap (λ (x : Interner). x .used) (y .is) in
-        let free : drop 15360 w ≡ drop 15360 work = sym (drop-drop 7168 8192 w) ∙ ap (λ (l : List ℕ). drop 7168 l) (y .high) ∙ drop-drop 7168 8192 work in
-        subst (λ (a : Interned). Told work strs st work′ strs′ r a) (ready-call w u resized y hr ∙ intern-table hb le)
-        (record {
-          refused = λ e. let q = h .refused e in record { id = q .id; state = q .state ∙ ap (λ (x : Interner). withSlots x (r .state .slots)) (y .is) };
-          ok = h .ok ∙ ap (λ (n : ℕ). hasRoom (length strs) n (probedCall (stateOf w strs u) resized s .state)) base;
-          answered = λ e.
-              let q = h .answered e in
-              record {
-                good = q .good;
-                state = q .state;
-                id = q .id;
-                base = q .base ∙ base;
-                kept = subst (λ (n : ℕ). take n strs′ ≡ take n strs) used (q .kept);
-                free = q .free ∙ free;
-              };
-        })
+        subst (λ (a : Interned). Told work strs st work′ strs′ r a) (ready-call w u resized y hr ∙ intern-table hb le) (told-over w work′ strs′ u r _ (y .is) (y .high) h)
+
+-- ---- a far string
+module _ (work strs : List ℕ) (st : Interner) (g : Good work strs st) (w : List ℕ) (m : Remembered work strs st w) where
+  pub learnt-told : (s : List ℕ) (resized : ℕ) (p : Probe) → p ≡ firstProbe (stateOf work strs st) s
+      → (c : Counters) → Adds (st .stats) c (record { calls = 1; cacheHits = 0; tableHits = 1; allocs = 0; longBypass = 0; resizes = resized; probeSteps = p .steps })
+      → (r : Answer) → (p .slot ≡ 0 → ⊥) → p .slot ≤ st .count → r ≡ knownAnswer st (p .slot) c → Told work strs st w strs r (probedCall (stateOf work strs st) resized s)
+  learnt-told s resized p is c adds r ne le k =
+      let h = hit-told w strs st (m .good) s resized p (is ∙ ap (λ (x : StrInterner). firstProbe x s) (sym (m .state))) c adds r ne le k in
+      told-over work strs st g w w strs st r (probedCall (stateOf work strs st) resized s) refl (m .high)
+      (subst (λ (x : StrInterner). Told w strs st w strs r (probedCall x resized s)) (m .state) h)

@@ -13,9 +13,13 @@ ghost use Rattle.model.specs.Intern.{holds, tableAlloc, bypass as bypassOfModel
 ghost use Rattle.stats.specs.Counts.{Counted};
 ghost use Rattle.table.specs.Layout.{probeOf, tableOf};
 ghost use Rattle.interner.specs.State.{stateOf, Good};
+ghost use Rattle.interner.specs.Row.{farIn};
 ghost use Rattle.intern.specs.Told.{Told, knownAnswer, probedCall};
 
 const INTERN_LENGTH_LIMIT: usize = 64;
+
+// how many slots are looked at before the far strings are: nearly every string is found in them
+const NEAR: usize = 16;
 
 // What a call answers: the string's id and the new state; or, not ok, that a new string has no room.
 pub struct Answer {
@@ -100,6 +104,47 @@ fn table_alloc(
     }
 }
 
+// A string that is not among the far ones: looked for in the whole table, and if it is there remembered as the j-th.
+fn learn(
+    work: &mut [u32],
+    strs: &mut [u8],
+    st: StrInterner,
+    s: &[u8],
+    resized: u64,
+    j: usize,
+) -> Answer
+    requires { ⌜ Good (now work) (now strs) st ⌝ }
+    requires { ⌜ (0 < st .slots) × (st .occupied * 8 < st .slots * 7) ⌝ }
+    requires { ⌜ (st .stats .calls < 2 ^ 32) × (resized ≤ 1) × (j ≤ farIn (now work)) ⌝ }
+    ensures { λ r. ⌜ Told (now (work .entry)) (now (strs .entry)) st (now (work .exit)) (now (strs .exit)) r (probedCall (stateOf (now (work .entry)) (now (strs .entry)) st) resized (now (s .entry))) ⌝ }
+{
+    let c = st.stats;
+    let p = interner::lookup(work, strs, st, s, st.slots);
+    let slot = p.slot;
+    if slot == 0 {
+        return table_alloc(work, strs, st, s, p, resized);
+    }
+    interner::remember(work, strs, st, p, j);
+    known(st, slot, stats::table_hit(c, resized, p.steps))
+}
+
+// A string that is not near its slot: looked for among the far ones that were found before.
+fn far_call(work: &mut [u32], strs: &mut [u8], st: StrInterner, s: &[u8], resized: u64) -> Answer
+    requires { ⌜ Good (now work) (now strs) st ⌝ }
+    requires { ⌜ (0 < st .slots) × (st .occupied * 8 < st .slots * 7) ⌝ }
+    requires { ⌜ (st .stats .calls < 2 ^ 32) × (resized ≤ 1) ⌝ }
+    ensures { λ r. ⌜ Told (now (work .entry)) (now (strs .entry)) st (now (work .exit)) (now (strs .exit)) r (probedCall (stateOf (now (work .entry)) (now (strs .entry)) st) resized (now (s .entry))) ⌝ }
+{
+    let c = st.stats;
+    let j = interner::far_place(work, strs, st, s);
+    let p = interner::recall(work, strs, st, s, j);
+    let slot = p.slot;
+    if slot == 0 {
+        return learn(work, strs, st, s, resized, j);
+    }
+    known(st, slot, stats::table_hit(c, resized, p.steps))
+}
+
 // A call for the table, which is in its place.
 fn table_call(work: &mut [u32], strs: &mut [u8], st: StrInterner, s: &[u8], resized: u64) -> Answer
     requires { ⌜ Good (now work) (now strs) st ⌝ }
@@ -107,13 +152,16 @@ fn table_call(work: &mut [u32], strs: &mut [u8], st: StrInterner, s: &[u8], resi
     requires { ⌜ (st .stats .calls < 2 ^ 32) × (resized ≤ 1) ⌝ }
     ensures { λ r. ⌜ Told (now (work .entry)) (now (strs .entry)) st (now (work .exit)) (now (strs .exit)) r (probedCall (stateOf (now (work .entry)) (now (strs .entry)) st) resized (now (s .entry))) ⌝ }
 {
-    let p = interner::lookup(work, strs, st, s);
+    let p = interner::lookup(work, strs, st, s, NEAR);
     let slot = p.slot;
     let c = st.stats;
-    if slot == 0 {
+    if slot != 0 {
+        return known(st, slot, stats::table_hit(c, resized, p.steps));
+    }
+    if p.steps < NEAR as u64 {
         return table_alloc(work, strs, st, s, p, resized);
     }
-    known(st, slot, stats::table_hit(c, resized, p.steps))
+    far_call(work, strs, st, s, resized)
 }
 
 // `intern` of the last answer's string: a cache hit. Who knows that it is that string need not compare it.

@@ -5,16 +5,18 @@ use Prim.Native.Nat.{ℕ, zero, suc, _+_, _-_, _<_, _≤_}
 use native.Mathlib.Omega.{arith}
 use native.Mathlib.Decide.{ℕ-discrete}
 use native.Mathlib.Numerals.{add-one}
+use lib.Dec.{lit<}
 use lib.ListN.{length, getD, take, drop}
 use lib.Seq.{length-take-le, ext-getD, take-take, take-append-le}
 use Rattle.wire.specs.Overwrite.{overwrite, length-overwrite, take-overwrite, getD-overwrite, getD-before}
 use Rattle.stats.specs.declared.InternStats.{InternStats as Counters}
 use Rattle.stats.specs.Counts.{Counted, statsOf}
 use Rattle.interner.specs.declared.StrInterner.{StrInterner as Interner}
-use Rattle.table.specs.Layout.{taken, part, tableOf, startsOf, startIn, withStart, stringAt, stringsUpTo, Starts}
+use Rattle.table.specs.Layout.{taken, part, tableOf, startsOf, startIn, withStart, stringAt, stringsUpTo, Starts, Entries}
 use Rattle.interner.specs.State.{stateOf, Good, allocated, Alloced}
+use Rattle.interner.specs.Row.{Row, rowOf, farIn, row-apart, row-more, row-words}
 use Rattle.table.specs.Views.{length-part, getD-part}
-use Rattle.table.specs.Wide.{starts-number, start-is, length-start, start-put, start-other, start-low, start-high}
+use Rattle.table.specs.Wide.{starts-number, start-is, length-start, start-put, start-other, start-low, start-below, start-high}
 use Rattle.table.specs.Cleared.{part-ext}
 use Rattle.table.specs.Strings.{length-strings, strings-ext}
 use Rattle.table.specs.Sizes.{size-hi, starts-length}
@@ -148,6 +150,17 @@ module _ (work strs s : List ℕ) (st : Interner) (g : Good work strs st) (few :
       ∙ ap (λ (l : List ℕ). take (st .base) strs ++ l) (sym (flatten-snoc (stringsUpTo n old-starts strs) s) ∙ ap flatten (sym strings-more))
       ∙ ap (λ (l : List ℕ). l ++ flatten (stringsUpTo (n + 1) new-starts v)) (sym (ap (λ (l : List ℕ). take (st .base) l) is ∙ written-kept strs s (st .used) fits (st .base) (g .begins)))
 
+  low-kept : (i : ℕ) → i < 8192 → getD new i 0 ≡ getD work i 0
+  low-kept i lt = start-below work (n + 1) (st .used + length s) i lt
+
+  row-added : 0 < st .slots → Row (stringsUpTo (n + 1) new-starts v) (tableOf (st .slots) new) new (rowOf (st .slots)) (farIn new)
+  row-added some =
+      let len = length-strings old-starts strs n in
+      let entries : Entries (tableOf (st .slots) work) (length (stringsUpTo n old-starts strs) + 1) = λ k lt. omega (arith, g .entries k lt, len) in
+      let r = row-words (row-more (g .row some) (s ∷ []) entries) new (low-kept 8191 (lit< tt)) (λ i lo hi. low-kept i (omega (arith, row-apart (g .size) .0))) in
+      subst (λ (t : List ℕ). Row (stringsUpTo (n + 1) new-starts v) t new (rowOf (st .slots)) (farIn new)) (sym table-same)
+      (subst (λ (ss : List (List ℕ)). Row ss (tableOf (st .slots) work) new (rowOf (st .slots)) (farIn new)) (sym strings-more) r)
+
   added-good : Good new v st′
   added-good =
       record {
@@ -162,6 +175,7 @@ module _ (work strs s : List ℕ) (st : Interner) (g : Good work strs st) (few :
         begins = omega (arith, g .begins);
         laid = laid-more;
         counts = counted;
+        row = row-added;
       }
 
   added-state : stateOf new v st′ ≡ allocated (stateOf work strs st) s (statsOf c)

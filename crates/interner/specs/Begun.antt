@@ -44,6 +44,7 @@ module _ (work strs : List ℕ) (base : ℕ) (room : 16384 ≤ length work) (fit
           begins = omega arith;
           laid = sym (append-nil (take base strs));
           counts = record { cachehits = lit≤ tt; tablehits = lit≤ tt; allocs = lit≤ tt; longbypass = lit≤ tt; resizes = lit≤ tt; probesteps = lit≤ tt };
+          row = λ some. absurd (omega (arith, some));
         };
         state = refl;
         begins = refl;

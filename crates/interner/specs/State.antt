@@ -2,16 +2,17 @@
 use mathlib.Core.Path.{_≡_}
 use mathlib.Core.Bool.{Bool, _&&_}
 use mathlib.Core.List.{List, [], _∷_, _++_, flatten}
-use Prim.Native.Nat.{ℕ, suc, _+_, _*_, _%_, _<_, _≤_}
+use Prim.Native.Nat.{ℕ, suc, _+_, _*_, _<_, _≤_}
 use lib.Dec.{leb}
 use lib.ListN.{length, getD, take, drop}
-use Rattle.model.specs.Intern.{InternStats, StrInterner, Probe, fxHash, probe, tableFor, freshInterner}
+use Rattle.model.specs.Intern.{InternStats, StrInterner, Probe, tableFor, freshInterner}
 use Rattle.model.specs.Limits.{maxNewStrings}
 use Rattle.stats.specs.declared.InternStats.{InternStats as Counters}
 use Rattle.stats.specs.Counts.{statsOf, Counted}
 use Rattle.interner.specs.declared.StrInterner.{StrInterner as Interner}
 use Rattle.table.specs.Layout.{tableOf, startsOf, withStart, stringsUpTo, Work, Entries, taken}
 use Rattle.table.specs.Sizes.{Size}
+use Rattle.interner.specs.Row.{Row, rowOf, farIn, probeFor}
 
 -- ---- the state
 
@@ -37,6 +38,7 @@ pub record Good (work strs : List ℕ) (st : Interner) : Type 0 where
   pub begins : st .base ≤ st .used
   pub laid : take (st .used) strs ≡ take (st .base) strs ++ flatten (stringsUpTo (st .count) (startsOf (st .count) work) strs)
   pub counts : Counted (st .stats)
+  pub row : 0 < st .slots → Row (stringsUpTo (st .count) (startsOf (st .count) work) strs) (tableOf (st .slots) work) work (rowOf (st .slots)) (farIn work)
 
 -- ---- room, and a new layer
 
@@ -71,7 +73,7 @@ pub record Ready (work strs : List ℕ) (st : Interner) (work′ : List ℕ) (r 
 
 -- the probe of a state's own table
 unfoldable pub firstProbe : StrInterner → List ℕ → Probe
-firstProbe t s = probe (length (t .table)) (t .strings) (t .table) s (fxHash s % length (t .table)) 0
+firstProbe t s = probeFor (length (t .table)) (t .strings) (t .table) s
 
 -- a new string, and the counts behind it
 abbrev pub allocated : StrInterner → List ℕ → InternStats → StrInterner
@@ -91,3 +93,9 @@ pub record Alloced (work strs : List ℕ) (st : Interner) (s : List ℕ) (c : Co
 
 abbrev pub withEntry : Interner → Interner
 withEntry st = record { slots = st .slots; occupied = st .occupied + 1; count = st .count; base = st .base; used = st .used; last = st .last; stats = st .stats }
+
+-- a far string more is remembered, or none; nothing else is changed
+pub record Remembered (work strs : List ℕ) (st : Interner) (work′ : List ℕ) : Type 0 where
+  pub good : Good work′ strs st
+  pub state : stateOf work′ strs st ≡ stateOf work strs st
+  pub high : drop 8192 work′ ≡ drop 8192 work

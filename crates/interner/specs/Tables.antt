@@ -2,17 +2,20 @@
 use mathlib.Core.Path.{_≡_, refl, sym, ap, _∙_, subst}
 use mathlib.Core.Bool.{Bool, true, false, not, _&&_}
 use mathlib.Core.List.{List, _++_, flatten}
-use Prim.Native.Nat.{ℕ, _+_, _-_, _*_, _≤_}
+use Prim.Native.Nat.{ℕ, _+_, _-_, _*_, _<_, _≤_}
 use native.Mathlib.Omega.{arith}
 use borrow.Author.Tests.{eq-eqb, ne-eqb}
 use lib.Dec.{eqb, leb, lit≤, lit<}
-use lib.ListN.{length, getD, take, drop, replicate, length-replicate}
+use lib.ListN.{length, getD, take, drop, set, replicate, length-set, length-replicate}
+use lib.Seq.{drop-set-lt, getD-set-same}
 use Rattle.model.specs.Lists.{isEmpty}
 use Rattle.model.specs.Intern.{grows, tableFor, moveSlots}
 use Rattle.interner.specs.declared.StrInterner.{StrInterner as Interner}
 use Rattle.table.specs.Layout.{taken, wideWords, tableOf, startsOf, stringsUpTo, stringsOf, Starts, Entries}
 use Rattle.interner.specs.State.{stateOf, Good, Ready, withSlots, withTable}
+use Rattle.interner.specs.Row.{Row, rowOf, farIn, row-none}
 use Rattle.table.specs.Sizes.{Size, size256, isDue, size-lo, size-grows, size-double, size-length, strings-all, is-empty, due-full, due-not}
+use Rattle.table.specs.Views.{part-high}
 use Rattle.table.specs.Cleared.{cleared-length, cleared-part, cleared-high}
 use Rattle.table.specs.Roomy.{taken-le, taken-zeros, taken-all, entries-all, entries-zeros}
 
@@ -24,13 +27,30 @@ grows-is work strs st g =
     ap (λ (b : Bool). not b && leb (length (tableOf (st .slots) work) * 7) (st .occupied * 8)) (is-empty (tableOf (st .slots) work))
     ∙ ap (λ (n : ℕ). not (eqb n 0) && leb (n * 7) (st .occupied * 8)) len
 
+-- ---- the far strings forgotten
+record Forgot (work v : List ℕ) : Type 0 where
+  pub len : length (set v 8191 0) ≡ length work
+  pub high : drop 8192 (set v 8191 0) ≡ drop 8192 work
+  pub table : (n : ℕ) → n ≤ 4096 → tableOf n (set v 8191 0) ≡ tableOf n v
+  pub row : {strings : List (List ℕ)} {t : List ℕ} {at : ℕ} → Row strings t (set v 8191 0) at (farIn (set v 8191 0))
+
+forgot : (work v : List ℕ) → length v ≡ length work → drop 8192 v ≡ drop 8192 work → 16384 ≤ length work → Forgot work v
+forgot work v len high room =
+    record {
+      len = length-set v 8191 0 ∙ len;
+      high = drop-set-lt 8192 v 8191 0 (lit< tt) ∙ high;
+      table = λ n le. part-high (n - 256) (n - 256 + n) v 8191 0 (omega arith) (omega arith);
+      row = λ {strings} {t} {at}. subst (Row strings t (set v 8191 0) at) (sym (getD-set-same v 8191 0 0 (omega (arith, len, room)))) row-none;
+    }
+
 -- ---- another table
 module _ (work strs : List ℕ) (st : Interner) (v : List ℕ) (g : Good work strs st) (len : length v ≡ length work) (high : drop 8192 v ≡ drop 8192 work) (n : ℕ) where
-  starts-same : startsOf (st .count) v ≡ startsOf (st .count) work
+  pub starts-same : startsOf (st .count) v ≡ startsOf (st .count) work
   starts-same = ap (λ (l : List ℕ). wideWords (take (8192 + 2 * st .count + 2 - 8192) l)) high
 
-  retable : Size n → Entries (tableOf n v) (st .count + 1) → taken (tableOf n v) ≡ st .occupied → Good v strs (withSlots st n)
-  retable sz e number =
+  pub retable : Size n → Entries (tableOf n v) (st .count + 1) → taken (tableOf n v) ≡ st .occupied
+      → (0 < n → Row (stringsUpTo (st .count) (startsOf (st .count) v) strs) (tableOf n v) v (rowOf n) (farIn v)) → Good v strs (withSlots st n)
+  retable sz e number row =
       record {
         words = record { room = rw len (g .words .room); few = g .words .few; starts = subst (λ (l : List ℕ). Starts l (length strs)) (sym starts-same) (g .words .starts) };
         size = sz;
@@ -43,9 +63,10 @@ module _ (work strs : List ℕ) (st : Interner) (v : List ℕ) (g : Good work st
         begins = g .begins;
         laid = g .laid ∙ ap (λ (l : List ℕ). take (st .base) strs ++ flatten (stringsUpTo (st .count) l strs)) (sym starts-same);
         counts = g .counts;
+        row = row;
       }
 
-  retabled : (t : List ℕ) → tableOf n v ≡ t → stateOf v strs (withSlots st n) ≡ withTable (stateOf work strs st) t
+  pub retabled : (t : List ℕ) → tableOf n v ≡ t → stateOf v strs (withSlots st n) ≡ withTable (stateOf work strs st) t
   retabled t e = λ i. record { strings = stringsUpTo (st .count) (starts-same i) strs; table = e i; occupied = st .occupied; last = st .last; stats = stateOf work strs st .stats }
 
 module _ (work strs : List ℕ) (st : Interner) (g : Good work strs st) where
@@ -77,17 +98,22 @@ module _ (work strs : List ℕ) (st : Interner) (g : Good work strs st) where
     unfolding tableFor
     table-is = rw (is-empty (tableOf (st .slots) work) ∙ eq-eqb _ _ (table-len ∙ none-yet)) refl
 
-    pub first-ready : Ready work strs st v r
-    first-ready =
-        subst (Ready work strs st v) (sym hr)
+    pub first-ready : (u : List ℕ) → u ≡ set v 8191 0 → Ready work strs st u r
+    first-ready u hu =
+        let f = forgot work v first-len first-high (g .words .room) in
+        let table : tableOf 256 (set v 8191 0) ≡ replicate 256 0 = f .table 256 (lit≤ tt) ∙ first-table in
+        rw hu (subst (Ready work strs st (set v 8191 0)) (sym hr)
         (record {
-          good = retable work strs st v g first-len first-high 256 size256 (subst (λ (l : List ℕ). Entries l (st .count + 1)) (sym first-table) (entries-zeros (st .count + 1) 256 (omega arith))) (ap taken first-table ∙ taken-zeros 256 ∙ sym no-entries);
+          good =
+              retable work strs st (set v 8191 0) g (f .len) (f .high) 256 size256
+              (subst (λ (l : List ℕ). Entries l (st .count + 1)) (sym table) (entries-zeros (st .count + 1) 256 (omega arith)))
+              (ap taken table ∙ taken-zeros 256 ∙ sym no-entries) (λ _. f .row);
           is = refl;
-          state = retabled work strs st v g first-len first-high 256 (tableFor (stateOf work strs st)) (first-table ∙ sym table-is);
+          state = retabled work strs st (set v 8191 0) g (f .len) (f .high) 256 (tableFor (stateOf work strs st)) (table ∙ sym table-is);
           some = lit< tt;
           roomy = omega (arith, no-entries);
-          high = first-high;
-        })
+          high = f .high;
+        }))
 
   module _ (ne : st .slots ≡ 0 → ⊥) where
     not-empty : isEmpty (tableOf (st .slots) work) ≡ false
@@ -100,7 +126,7 @@ module _ (work strs : List ℕ) (st : Interner) (g : Good work strs st) where
         let is : tableFor (stateOf work strs st) ≡ tableOf (st .slots) work = rw (not-empty, grows-is work strs st g ∙ not-due) refl in
         subst (Ready work strs st work) (sym hr)
         (record {
-          good = retable work strs st work g refl refl (st .slots) (g .size) (g .entries) (g .number);
+          good = retable work strs st work g refl refl (st .slots) (g .size) (g .entries) (g .number) (g .row);
           is = refl;
           state = retabled work strs st work g refl refl (st .slots) (tableFor (stateOf work strs st)) (sym is);
           some = omega (arith, size-lo (g .size) ne);
@@ -141,18 +167,20 @@ module _ (work strs : List ℕ) (st : Interner) (g : Good work strs st) where
             let l : length zeros ≡ st .slots * 2 = length-replicate {A = ℕ} (st .slots * 2) 0 in
             ap taken new-is ∙ taken-all strings (tableOf (st .slots) work) zeros (omega (arith, z, l, taken-le (tableOf (st .slots) work), table-len)) ∙ omega (arith, z, g .number)
 
-        pub grown-ready : Ready work strs st v r
-        grown-ready =
-            subst (Ready work strs st v) (sym hr)
+        pub grown-ready : (u : List ℕ) → u ≡ set v 8191 0 → Ready work strs st u r
+        grown-ready u hu =
+            let f = forgot work v len high (g .words .room) in
+            let table = f .table (st .slots * 2) (omega (arith, grows-hi)) in
+            rw hu (subst (Ready work strs st (set v 8191 0)) (sym hr)
             (record {
               good =
-                  retable work strs st v g len high (st .slots * 2) (size-double (g .size) ne grows-hi)
-                  (subst (λ (l : List ℕ). Entries l (st .count + 1)) (sym new-is)
+                  retable work strs st (set v 8191 0) g (f .len) (f .high) (st .slots * 2) (size-double (g .size) ne grows-hi)
+                  (subst (λ (l : List ℕ). Entries l (st .count + 1)) (sym (table ∙ new-is))
                   (entries-all strings (st .count + 1) (tableOf (st .slots) work) zeros (entries-zeros (st .count + 1) (st .slots * 2) (omega arith)) (g .entries)))
-                  new-number;
+                  (ap taken table ∙ new-number) (λ _. f .row);
               is = refl;
-              state = retabled work strs st v g len high (st .slots * 2) (tableFor (stateOf work strs st)) (new-is ∙ sym grown-is);
+              state = retabled work strs st (set v 8191 0) g (f .len) (f .high) (st .slots * 2) (tableFor (stateOf work strs st)) (table ∙ new-is ∙ sym grown-is);
               some = omega (arith, grows-lo);
               roomy = omega (arith, taken-le (tableOf (st .slots) work), g .number, table-len, grows-lo);
-              high = high;
-            })
+              high = f .high;
+            }))

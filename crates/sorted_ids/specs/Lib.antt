@@ -1,3 +1,2 @@
-pub mod Order
 pub mod Row
 pub mod Words

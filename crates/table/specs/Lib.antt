@@ -6,4 +6,5 @@ pub mod Slots
 pub mod Cleared
 pub mod Moved
 pub mod Roomy
+pub mod Found
 pub mod Sizes

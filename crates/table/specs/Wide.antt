@@ -80,6 +80,10 @@ module _ (work : List ℕ) (k v : ℕ) where
   unfolding withStart
   start-low a e h l = part-high a e low (8192 + 2 * k + 1) (v / 4294967296) h (omega (arith, l)) ∙ part-high a e work (8192 + 2 * k) (v % 4294967296) h (omega (arith, l))
 
+  pub start-below : (i : ℕ) → i < 8192 → getD (withStart work k v) i 0 ≡ getD work i 0
+  unfolding withStart
+  start-below i h = getD-set-other low (8192 + 2 * k + 1) i (v / 4294967296) 0 (λ e. omega (arith, e, h)) ∙ getD-set-other work (8192 + 2 * k) i (v % 4294967296) 0 (λ e. omega (arith, e, h))
+
   pub start-high : (n : ℕ) → 8192 + 2 * k + 1 < n → drop n (withStart work k v) ≡ drop n work
   unfolding withStart
   start-high n h = drop-set-lt n low (8192 + 2 * k + 1) (v / 4294967296) h ∙ drop-set-lt n work (8192 + 2 * k) (v % 4294967296) (omega (arith, h))

@@ -3,7 +3,7 @@
 //
 // Work words: a table of n slots stands at n - 256, so that the tables of 256 to 4096 slots lie side by side up to 7936; the
 // starts stand from 8192 on, one more than there are strings, two words each: a byte buffer may be longer than 32 bits count.
-// The words from 15360 on are free for others.
+// The words from 15360 on are free for others, and crate `interner` has those below 8192 that the table leaves free.
 ghost use mathlib.Core.Path.{_≡_};
 ghost use mathlib.Core.Bool.{cond};
 ghost use mathlib.Core.List.{_++_, []};
@@ -92,17 +92,24 @@ pub fn slot_of(h: u64, n: usize) -> usize
     (h as usize) % n
 }
 
-// From the slot `from` on: the first that is empty or holds s. A slot holds 0, or a string's id plus 1.
-pub fn probe(table: &[u32], starts: &[u32], strs: &[u8], s: &[u8], from: usize) -> Probed
+// From the slot `from` on, `most` slots: the first that is empty or holds s. A slot holds 0, or a string's id plus 1.
+pub fn probe(
+    table: &[u32],
+    starts: &[u32],
+    strs: &[u8],
+    s: &[u8],
+    from: usize,
+    most: usize,
+) -> Probed
     requires { ⌜ from < length (now table) ⌝ }
     requires { ⌜ Starts (wideWords (now starts)) (length (now strs)) ⌝ }
     requires { ⌜ Entries (now table) (length (wideWords (now starts))) ⌝ }
-    ensures { λ r. ⌜ probeOf r ≡ probeOfModel (length (now (table .entry))) (stringsOf (wideWords (now (starts .entry))) (now (strs .entry))) (now (table .entry)) (now (s .entry)) from 0 ⌝ }
+    ensures { λ r. ⌜ probeOf r ≡ probeOfModel most (stringsOf (wideWords (now (starts .entry))) (now (strs .entry))) (now (table .entry)) (now (s .entry)) from 0 ⌝ }
 {
     let n = table.len();
     let mut at = from;
     let mut steps: usize = 0;
-    while steps < n {
+    while steps < most {
         let e = table[at];
         steps += 1;
         if e == 0 {

@@ -65,7 +65,7 @@ probe-requires c κs =
     (subst (λ (m : ℕ). c .before .before .slot-of .result < m) (sym len) (c .before .before .slot-of .ensures .1), (c .before .before .before .before .before .before .before .before .pre .0 .words .starts, subst (λ (m : ℕ). Entries (tableOf (c .before .before .before .before .before .before .before .before .args .st .slots) (c .before .before .before .before .before .before .before .before .args .work .now)) m) (sym starts) (c .before .before .before .before .before .before .before .before .pre .0 .entries)))
 
 returns : tie.Need-returns
-returns c = lookup-is (c .before .before .before .before .before .before .before .before .before .args .work .now) (c .before .before .before .before .before .before .before .before .before .args .strs .now) (c .before .before .before .before .before .before .before .before .before .args .st) (c .before .before .before .before .before .before .before .before .before .pre .0) (c .before .before .before .before .before .before .before .before .before .args .s .now) (c .before .before .before .before .before .before .before .before .before .pre .1) _ _ _ (c .before .before .before .before .fx-hash .ensures) (c .before .before .before .slot-of .ensures .0) (c .probe .ensures)
+returns c = lookup-is (c .before .before .before .before .before .before .before .before .before .args .work .now) (c .before .before .before .before .before .before .before .before .before .args .strs .now) (c .before .before .before .before .before .before .before .before .before .args .st) (c .before .before .before .before .before .before .before .before .before .pre .0) (c .before .before .before .before .before .before .before .before .before .args .s .now) (c .before .before .before .before .before .before .before .before .before .pre .1) _ _ _ _ (c .before .before .before .before .fx-hash .ensures) (c .before .before .before .slot-of .ensures .0) (c .probe .ensures)
 
 pub lookup-spec : {M : Type 1} → statement M
 lookup-spec =

@@ -17,10 +17,11 @@ use Rattle.table.proofs.string_at.Reads as string-at-reads
 use Rattle.compare.proofs.same.Reads as same-reads
 
 abbrev Inv-loop : tie.InvT-loop
-Inv-loop table starts strs s from n at₀ steps₀ at steps = (steps ≤ n) × (n ≡ length table) × (at < n) × (probe (n - steps) (stringsOf (wideWords starts) strs) table s at steps ≡ probe (length table) (stringsOf (wideWords starts) strs) table s from 0)
+Inv-loop table starts strs s from most n at₀ steps₀ at steps =
+    (steps ≤ most) × (n ≡ length table) × (at < n) × (probe (most - steps) (stringsOf (wideWords starts) strs) table s at steps ≡ probe most (stringsOf (wideWords starts) strs) table s from 0)
 
 abbrev μ-loop : tie.MeasureT-loop
-μ-loop table starts strs s from n at₀ steps₀ at steps = n - steps
+μ-loop table starts strs s from most n at₀ steps₀ at steps = most - steps
 
 loop-holds : tie.Need-loop-holds Inv-loop μ-loop
 loop-holds c = (omega arith, refl, c .before .before .before .before .pre .0, turn-first (stringsOf (wideWords (c .before .before .before .before .args .starts .now)) (c .before .before .before .before .args .strs .now)) (c .before .before .before .before .args .s .now) (c .before .before .before .before .args .table .now) _ _)
