@@ -1,0 +1,5 @@
+pub mod Numbers
+pub mod Stages
+pub mod Window
+pub mod Reading
+pub mod Merging
