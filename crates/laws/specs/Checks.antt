@@ -25,7 +25,7 @@ use Rattle.laws.specs.Lists.{both}
 
 -- ---- steps of a chain
 
-refused-not : {A : Type 0} (n : ℕ) (a : A) → refused n ≡ accepted a → ⊥
+pub refused-not : {A : Type 0} (n : ℕ) (a : A) → refused n ≡ accepted a → ⊥
 refused-not n a e = let z : _≡_ {A = ℕ} 0 1 = cc in omega arith
 
 pub bind-accepted : {A B : Type 0} (x : Checked A) (f : A → Checked B) (y : B) → (x >>= f) ≡ accepted y → (a : A) × (x ≡ accepted a) × (f a ≡ accepted y)

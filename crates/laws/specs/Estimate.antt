@@ -16,9 +16,9 @@ use Rattle.model.specs.Graft.{NewLayer, layered, layerOf, graftNodeRefs}
 use Rattle.model.specs.Tree.{shownNode, shownNodes}
 use Rattle.model.specs.Region.{Edit, edited, chosenRegion}
 use Rattle.model.specs.Merge.{Stored, Room, IncrementalOutput, MergeWindow, mergedNormalized, grafted, mergedLayers, mergedBook, storedBook, answer, resultOk, fitting, resultChecked, mergeBooks, merge, Fitted, fitted}
-use Rattle.model.specs.Estimate.{Estimate, over, isOver, lengthBefore, priceOf, estimate}
+use Rattle.model.specs.Estimate.{Estimate, isOver, lengthBefore, priceOf, estimate}
 use Rattle.laws.specs.Lists.{flatten-snoc, map-append}
-use Rattle.laws.specs.Checks.{bind-accepted, refuse-accepted, same-accepted}
+use Rattle.laws.specs.Checks.{refused-not, bind-accepted, refuse-accepted, same-accepted}
 
 -- ---- the merge is 1 to 17, then 18
 
@@ -44,16 +44,13 @@ merge-fitted s e rs room =
 same-number : {A B : Type 0} (k n : ℕ) → _≡_ {A = Checked A} (refused k) (refused n) → _≡_ {A = Checked B} (refused k) (refused n)
 same-number {A} {B} k n e = let s : k ≡ n = cc in ap refused s
 
-not-refused : {A : Type 0} (a : A) (n : ℕ) → accepted a ≡ refused n → ⊥
-not-refused a n e = let z : _≡_ {A = ℕ} 0 1 = cc in omega arith
-
 -- 18 is the one number of what is left
 result-number : (old : LexOutput) (e : Edit) (reading : RegionOutput) (w : MergeWindow) (room : Room) (n : ℕ) → resultChecked old e reading w room ≡ refused n → n ≡ 18
 unfolding resultChecked _>>=_ refuse_if_
 result-number old e reading w room n = let g = grafted old reading in let a = answer old reading w g (mergedBook old e reading w g) in go (resultOk room g (mergedBook old e reading w g) (a .output)) a
   where
     go : (b : Bool) (a : IncrementalOutput) → (refuse 18 if not b >>= λ _. accepted a) ≡ refused n → n ≡ 18
-    go true a q = absurd (not-refused a n q)
+    go true a q = absurd (refused-not n a (sym q))
     go false a q = let s : 18 ≡ n = cc in sym s
 
 module _ (s : Stored) (e : Edit) (rs : Stored) where
@@ -64,7 +61,7 @@ module _ (s : Stored) (e : Edit) (rs : Stored) where
     where
       go : (x : Checked Fitted) → (x >>= λ f. accepted (priceOf (f .old) e (f .reading) (f .window) (grafted (f .old) (f .reading)))) ≡ refused n → (x >>= finished e room) ≡ refused n
       go (refused k) z = same-number k n z
-      go (accepted f) z = absurd (not-refused _ n z)
+      go (accepted f) z = absurd (refused-not n _ (sym z))
 
   pub refused-estimate : (n : ℕ) → n ≤ 17 → (room : Room) → merge s e rs room ≡ refused n → estimate s e rs ≡ refused n
   unfolding estimate _>>=_

@@ -53,7 +53,7 @@ module _ (last : ℕ) where
   reading-up-to h t d =
       bind-up-to (laidOut (parse t d)) _ (laid-out-up-to (omega arith) (parse t d)) (λ b. line 1 _ _ (omega arith) (omega arith) (well-formed-up-to h b))
 
-  chosen-up-to : 11 ≤ last → (b : LexOutput) (e : Edit) → UpTo last (chosenRegion b e)
+  pub chosen-up-to : 11 ≤ last → (b : LexOutput) (e : Edit) → UpTo last (chosenRegion b e)
   unfolding chosenRegion
   chosen-up-to h b e =
       line 8 _ _ (omega arith) (omega arith) (line 2 _ _ (omega arith) (omega arith) (line 3 _ _ (omega arith) (omega arith)

@@ -13,7 +13,7 @@ use Rattle.model.specs.Refusal.{Checked.accepted}
 use Rattle.model.specs.Tape.{places, bookAt, bytesOf}
 use Rattle.model.specs.Region.{Edit, edited, chosenRegion}
 use Rattle.model.specs.Merge.{MergeWindow, windowOf, mergedNormalized, grafted, mergedBook}
-use Rattle.laws.specs.Checks.{WellFormed, Chosen, chosen-facts, same-eq, LimitFacts, limit-facts}
+use Rattle.laws.specs.Checks.{WellFormed, Chosen, chosen-facts, same-eq, LimitFacts, limit-facts, Passed}
 use Rattle.laws.specs.Fits.{fits}
 use Rattle.laws.specs.ReadFits.{read-fits}
 use Rattle.laws.specs.Nodes.{normal-inside}
@@ -26,7 +26,6 @@ use Rattle.store.specs.declared.Store.{Store}
 use Rattle.store.specs.Stored.{storeAt}
 use Rattle.store.specs.Lengths.{BookLengths, book-lengths}
 use Rattle.tape.specs.Accepted.{Accepted, AcceptedReading}
-use Rattle.result.specs.Checked.{Passed}
 use Rattle.result.specs.Parts.{oldStringBytes, newStringBytes, merged-strings}
 use Rattle.merged_texts.specs.Writing.{spliced-length}
 
