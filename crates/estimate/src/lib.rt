@@ -129,7 +129,16 @@ fn estimate_checked(
     if f.number != 0 {
         return refused(f.number);
     }
-    price(tape, bytes, start, end, replacement, readingtape, readingbytes, f)
+    price(
+        tape,
+        bytes,
+        start,
+        end,
+        replacement,
+        readingtape,
+        readingbytes,
+        f,
+    )
 }
 
 // `estimate`: the merge's 1 to 17 as the merge gives them, or the price; all work words are 0 at the end.

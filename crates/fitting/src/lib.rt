@@ -289,7 +289,17 @@ fn fitting_reading(
         own: own,
         w: region_window(tape, bytes, b, start, end, replacement, q.normalized),
     };
-    let k = reading_refusal(tape, bytes, start, end, replacement, readingtape, readingbytes, f, work);
+    let k = reading_refusal(
+        tape,
+        bytes,
+        start,
+        end,
+        replacement,
+        readingtape,
+        readingbytes,
+        f,
+        work,
+    );
     if k != 0 {
         return not_fitting(k);
     }
@@ -313,5 +323,15 @@ pub fn fitting(
     if b.number != 0 {
         return not_fitting(b.number);
     }
-    fitting_reading(tape, bytes, start, end, replacement, readingtape, readingbytes, b, work)
+    fitting_reading(
+        tape,
+        bytes,
+        start,
+        end,
+        replacement,
+        readingtape,
+        readingbytes,
+        b,
+        work,
+    )
 }
