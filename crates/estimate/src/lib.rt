@@ -3,12 +3,13 @@
 ghost use mathlib.Core.Path.{_≡_};
 ghost use lib.ListN.{length};
 ghost use Rattle.model.specs.Bytes.{zeros};
+ghost use Rattle.model.specs.Refusal.{Checked.accepted};
 ghost use Rattle.model.specs.Region.{editOf};
 ghost use Rattle.model.specs.Merge.{storedOf};
-ghost use Rattle.model.specs.Estimate.{estimate as estimateIn};
+ghost use Rattle.model.specs.Estimate.{estimate};
 ghost use Rattle.splice.specs.Window.{windowValue};
-ghost use Rattle.result.specs.Books.{Books, bookIn};
-ghost use Rattle.estimate.specs.Price.{refusedEstimate, overEstimate, estimateBy, estimateOf, pricedBooks};
+ghost use Rattle.fitting.specs.Books.{Books, bookIn};
+ghost use Rattle.estimate.specs.Pricing.{refusedPrice, overPrice, priceBy, estimateOf, priceIn};
 
 const MAX_POOL: u32 = 1048575;
 
@@ -16,7 +17,7 @@ const OVER: u32 = 1048576;
 
 // A number, or 0 and what the merge would make: the reading's nodes, calls of `intern`, contents and segments added, and the length of the
 // byte buffer without the new layer's strings. The three are 1048576 where one of them is above 1048575. All is 0 beside a number.
-pub struct Estimate {
+pub struct Price {
     pub number: u32,
     pub reread: u32,
     pub calls: u32,
@@ -25,10 +26,10 @@ pub struct Estimate {
     pub bytes: usize,
 }
 
-fn refused(n: u32) -> Estimate
-    ensures { λ r. ⌜ r ≡ refusedEstimate n ⌝ }
+fn refused(n: u32) -> Price
+    ensures { λ r. ⌜ r ≡ refusedPrice n ⌝ }
 {
-    Estimate {
+    Price {
         number: n,
         reread: 0,
         calls: 0,
@@ -38,10 +39,10 @@ fn refused(n: u32) -> Estimate
     }
 }
 
-fn over(reread: u32, bytes: usize) -> Estimate
-    ensures { λ r. ⌜ r ≡ overEstimate reread bytes ⌝ }
+fn over(reread: u32, bytes: usize) -> Price
+    ensures { λ r. ⌜ r ≡ overPrice reread bytes ⌝ }
 {
-    Estimate {
+    Price {
         number: 0,
         reread: reread,
         calls: OVER,
@@ -52,8 +53,8 @@ fn over(reread: u32, bytes: usize) -> Estimate
 }
 
 // Wish 2. If one of the three is above 1048575, all three are given as 1048576. The sizes are over where contents or segments are.
-fn estimate_by(reread: u32, s: sizes::Sizes, bytes: usize) -> Estimate
-    ensures { λ r. ⌜ r ≡ estimateBy reread s bytes ⌝ }
+fn price_by(reread: u32, s: sizes::Sizes, bytes: usize) -> Price
+    ensures { λ r. ⌜ r ≡ priceBy reread s bytes ⌝ }
 {
     if s.over {
         return over(reread, bytes);
@@ -61,7 +62,7 @@ fn estimate_by(reread: u32, s: sizes::Sizes, bytes: usize) -> Estimate
     if MAX_POOL < s.calls {
         return over(reread, bytes);
     }
-    Estimate {
+    Price {
         number: 0,
         reread: reread,
         calls: s.calls,
@@ -72,7 +73,7 @@ fn estimate_by(reread: u32, s: sizes::Sizes, bytes: usize) -> Estimate
 }
 
 // The price of a book and a reading that passed 1 to 17.
-fn price(
+fn price_fitted(
     tape: &[u8],
     bytes: &[u8],
     start: u32,
@@ -81,9 +82,9 @@ fn price(
     readingtape: &[u8],
     readingbytes: &[u8],
     f: fitting::Fitting,
-) -> Estimate
+) -> Price
     requires { ⌜ Books (now tape) (now bytes) (f .p) (f .st) (editOf start end (now replacement)) (windowValue (f .w)) (now readingtape) (now readingbytes) (f .q) (f .own) ⌝ }
-    ensures { λ r. ⌜ r ≡ estimateOf (pricedBooks (bookIn (now (tape .entry)) (now (bytes .entry))) (editOf start end (now (replacement .entry))) (bookIn (now (readingtape .entry)) (now (readingbytes .entry))) (windowValue (f .w))) ⌝ }
+    ensures { λ r. ⌜ r ≡ estimateOf (accepted (priceIn (bookIn (now (tape .entry)) (now (bytes .entry))) (editOf start end (now (replacement .entry))) (bookIn (now (readingtape .entry)) (now (readingbytes .entry))) (windowValue (f .w)))) ⌝ }
 {
     let l = merged_lists::new_lengths(
         f.p,
@@ -100,7 +101,7 @@ fn price(
         segments: MAX_POOL,
     };
     let s = sizes::reading_sizes(readingtape, f.own, f.q, room);
-    estimate_by(f.q.nodes.count as u32, s, l.base)
+    price_by(f.q.nodes.count as u32, s, l.base)
 }
 
 // Numbers 1 to 17, then the price; the work words are not cleared.
@@ -113,10 +114,10 @@ fn estimate_checked(
     readingtape: &[u8],
     readingbytes: &[u8],
     work: &mut [u32],
-) -> Estimate
-    ensures { λ r. ⌜ r ≡ estimateOf (estimateIn (storedOf (now (tape .entry)) (now (bytes .entry))) (editOf start end (now (replacement .entry))) (storedOf (now (readingtape .entry)) (now (readingbytes .entry)))) ⌝ }
+) -> Price
+    ensures { λ r. ⌜ r ≡ estimateOf (estimate (storedOf (now (tape .entry)) (now (bytes .entry))) (editOf start end (now (replacement .entry))) (storedOf (now (readingtape .entry)) (now (readingbytes .entry)))) ⌝ }
 {
-    let f = fitting::fitting(
+    let f = fitting::fitted(
         tape,
         bytes,
         start,
@@ -129,7 +130,7 @@ fn estimate_checked(
     if f.number != 0 {
         return refused(f.number);
     }
-    price(
+    price_fitted(
         tape,
         bytes,
         start,
@@ -151,8 +152,8 @@ pub fn estimate(
     readingtape: &[u8],
     readingbytes: &[u8],
     work: &mut [u32],
-) -> Estimate
-    ensures { λ r. ⌜ (r ≡ estimateOf (estimateIn (storedOf (now (tape .entry)) (now (bytes .entry))) (editOf start end (now (replacement .entry))) (storedOf (now (readingtape .entry)) (now (readingbytes .entry))))) × (now (work .exit) ≡ zeros (length (now (work .entry)))) ⌝ }
+) -> Price
+    ensures { λ r. ⌜ (r ≡ estimateOf (estimate (storedOf (now (tape .entry)) (now (bytes .entry))) (editOf start end (now (replacement .entry))) (storedOf (now (readingtape .entry)) (now (readingbytes .entry))))) × (now (work .exit) ≡ zeros (length (now (work .entry)))) ⌝ }
 {
     let r = estimate_checked(
         tape,
@@ -164,7 +165,6 @@ pub fn estimate(
         readingbytes,
         work,
     );
-    let words = work.len();
-    table::clear_part(work, 0, words);
+    wire::zero_words(work);
     r
 }

@@ -1,3 +1,4 @@
+pub mod Books
 pub mod Numbers
 pub mod Stages
 pub mod Window

@@ -1,16 +1,17 @@
--- What each stage of `merge` is given and answers, and the laws for its returns.
-use mathlib.Core.Path.{_≡_, refl, sym, ap, _∙_}
+-- What each stage of 1 to 17 is given and answers, and the laws for its returns.
+use mathlib.Core.Path.{_≡_, refl, sym, ap, _∙_, subst}
 use Prim.Native.Nat.{ℕ}
-use mathlib.Core.Bool.{Bool, true, false, true≢false}
+use native.Mathlib.Omega.{arith}
 use mathlib.Core.List.{List}
-use lib.ListN.{length}
 use Rattle.model.specs.Offset.{Span}
 use Rattle.model.specs.Types.{LexOutput}
 use Rattle.model.specs.Refusal.{Checked, Checked.refused, Checked.accepted, _>>=_, numberOf}
 use Rattle.model.specs.Tape.{places, bookAt}
 use Rattle.model.specs.WellFormed.{checkBook, checkReading}
 use Rattle.model.specs.Region.{Edit, chosenRegion}
-use Rattle.model.specs.Merge.{storedOf, Room, IncrementalOutput, merge, mergeBooks, roomOf}
+use Rattle.model.specs.Merge.{storedOf, MergeWindow, fitting, fitted}
+use Rattle.laws.specs.Checks.{passed-fitting}
+use Rattle.laws.specs.Numbers.{UpTo, chosen-up-to}
 use Rattle.places.specs.declared.Places.{Places}
 use Rattle.places.specs.Found.{placesOf}
 use Rattle.store.specs.declared.Store.{Store}
@@ -20,45 +21,54 @@ use Rattle.region.specs.Held.{Held}
 use Rattle.region.specs.declared.Chosen.{Chosen}
 use Rattle.region.specs.declared.Chosen.the-variants.{Refused, Region}
 use Rattle.region.specs.Chosen.{chosenOf}
-use Rattle.output.specs.declared.IncrementalOutput.{IncrementalOutput as Output}
-use Rattle.output.specs.Answer.{refusedOutput, outputOf, Written}
+use Rattle.splice.specs.Window.{windowValue}
+use Rattle.fitting.specs.Books.{Books, bookIn}
+use Rattle.fitting.specs.declared.Target.{Target}
+use Rattle.fitting.specs.declared.Fitting.{Fitting}
 
 abbrev pub regionOf : ℕ → ℕ → Span
 regionOf start end = record { start = start; end = end }
 
--- the merge of a book and a chosen region: the reading as the old book, then 12 to 18
-unfoldable pub askedReading : LexOutput → Edit → Span → List ℕ → List ℕ → Room → Checked IncrementalOutput
-askedReading old e r rt rd room = do
-  reading ← checkReading rt rd
-  mergeBooks old e r reading room
+-- ---- what a stage is given
 
 -- the old book passed 1 to 7, and the edit 8 to 11
 pub record Given (t d : List ℕ) (p : Places) (st : Store) (e : Edit) (r : Span) : Type 0 where
   pub held : Held t d p st
   pub chosen : chosenRegion (bookAt t (places t) d) e ≡ accepted r
 
--- ---- refusals
+-- and the reading 1 to 7
+pub record Read (t d : List ℕ) (p : Places) (st : Store) (e : Edit) (r : Span) (rt rd : List ℕ) (q : Places) (own : Store) : Type 0 where
+  pub given : Given t d p st e r
+  pub reading : AcceptedReading rt rd
+  pub held : Held rt rd q own
 
-pub written-refused : {asked : Checked IncrementalOutput} {n : ℕ} → asked ≡ refused n → {r : Output} → r ≡ refusedOutput n → {out text work out′ text′ work′ : List ℕ}
-    → length out′ ≡ length out → length text′ ≡ length text → length work′ ≡ length work → Written asked r out text work out′ text′ work′
-unfolding outputOf
-written-refused {asked} {n} e {r} f x y z = record {
-  answer = f ∙ rw e refl;
-  tape = λ a g. absurd (not-both (sym e ∙ g));
-  bytes = λ a g. absurd (not-both (sym e ∙ g));
-  tapeLength = x;
-  textLength = y;
-  wordsLength = z;
-}
-  where
-    passes : Checked IncrementalOutput → Bool
-    passes (refused m) = false
-    passes (accepted a) = true
+-- ---- what it answers
 
-    not-both : {m : ℕ} {a : IncrementalOutput} → refused m ≡ accepted a → ⊥
-    not-both q = true≢false (sym (ap passes q))
+-- 1 to 11: a number, or what the stages behind are given
+pub record TargetFound (t d : List ℕ) (e : Edit) (b : Target) : Type 0 where
+  pub number : b .number ≡ numberOf (checkBook t d >>= λ old. chosenRegion old e)
+  pub given : b .number ≡ 0 → Given t d (b .p) (b .st) e (regionOf (b .from) (b .to))
 
--- ---- the answer of `chosen_region`
+-- 1 to 17: a number, or what number 18 and the result are made of
+pub record Fits (t d : List ℕ) (e : Edit) (rt rd : List ℕ) (f : Fitting) : Type 0 where
+  pub number : f .number ≡ numberOf (fitted (storedOf t d) e (storedOf rt rd))
+  pub books : f .number ≡ 0 → Books t d (f .p) (f .st) e (windowValue (f .w)) rt rd (f .q) (f .own)
+
+pub books-fitted : {t d : List ℕ} {p : Places} {st : Store} {e : Edit} {w : MergeWindow} {rt rd : List ℕ} {q : Places} {own : Store} → Books t d p st e w rt rd q own
+    → fitted (storedOf t d) e (storedOf rt rd) ≡ accepted (record { old = bookIn t d; reading = bookIn rt rd; window = w })
+unfolding fitted _>>=_
+books-fitted {t} {d} {e = e} {w = w} {rt = rt} {rd = rd} b =
+    let f = passed-fitting (bookIn t d) e (w .source) (bookIn rt rd) (b .passed) ∙ ap accepted (sym (b .window)) in
+    rw (b .book .book, b .region, b .reading .reading, f) refl
+
+module _ {t d : List ℕ} {e : Edit} {rt rd : List ℕ} {f : Fitting} (h : Fits t d e rt rd f) where
+  pub fits-refused : (f .number ≡ 0 → ⊥) → fitted (storedOf t d) e (storedOf rt rd) ≡ refused (f .number)
+  fits-refused n = refusal-of (fitted (storedOf t d) e (storedOf rt rd)) (h .number) n
+
+  pub fits-accepted : f .number ≡ 0 → fitted (storedOf t d) e (storedOf rt rd) ≡ accepted (record { old = bookIn t d; reading = bookIn rt rd; window = windowValue (f .w) })
+  fits-accepted z = books-fitted (h .books z)
+
+-- ---- 1 to 11
 
 unfoldable checkedOf : Chosen → Checked Span
 checkedOf (Refused n) = refused n
@@ -69,13 +79,14 @@ unfolding checkedOf chosenOf
 checked-chosen (refused n) = refl
 checked-chosen (accepted r) = refl
 
--- ---- the old book and the edit
+refused-target : (t d : List ℕ) (e : Edit) {n : ℕ} → (checkBook t d >>= λ old. chosenRegion old e) ≡ refused n → (n ≡ 0 → ⊥) → {b : Target} → b .number ≡ n → TargetFound t d e b
+unfolding numberOf
+refused-target t d e c h f = record { number = f ∙ sym (ap numberOf c); given = λ z. absurd (h (sym f ∙ z)) }
 
 module _ (t d : List ℕ) {n : ℕ} (q : n ≡ numberOf (checkBook t d)) where
-  -- 1 to 7
-  pub book-refused : (n ≡ 0 → ⊥) → (e : Edit) (rt rd : List ℕ) (room : Room) → merge (storedOf t d) e (storedOf rt rd) room ≡ refused n
-  unfolding merge _>>=_
-  book-refused h e rt rd room = rw (refusal-of (checkBook t d) q h) refl
+  pub book-refused : (n ≡ 0 → ⊥) → (e : Edit) → {b : Target} → b .number ≡ n → TargetFound t d e b
+  unfolding _>>=_
+  book-refused h e f = refused-target t d e (rw (refusal-of (checkBook t d) q h) refl) h f
 
   module _ (z : n ≡ 0) where
     passed : Accepted t d
@@ -88,55 +99,56 @@ module _ (t d : List ℕ) {n : ℕ} (q : n ≡ numberOf (checkBook t d)) where
       chosen-is : {x : Chosen} → c ≡ x → chosenRegion old e ≡ checkedOf x
       chosen-is h = sym (checked-chosen (chosenRegion old e)) ∙ ap checkedOf (sym k ∙ h)
 
-      -- 8 to 11
-      pub edit-refused : {m : ℕ} → c ≡ Refused m → (rt rd : List ℕ) (room : Room) → merge (storedOf t d) e (storedOf rt rd) room ≡ refused m
-      unfolding merge _>>=_ checkedOf
-      edit-refused h rt rd room = rw (passed .book, chosen-is h) refl
+      pub edit-refused : {m : ℕ} → c ≡ Refused m → {b : Target} → b .number ≡ m → TargetFound t d e b
+      unfolding _>>=_ checkedOf
+      edit-refused {m} h f =
+          let u : UpTo 11 (refused {A = Span} m) = subst (λ (x : Checked Span). UpTo 11 x) (chosen-is h) (chosen-up-to 11 (omega arith) old e) in
+          refused-target t d e (rw (passed .book, chosen-is h) refl) (λ i. omega (arith, u, i)) f
 
-      module _ {from to : ℕ} (h : c ≡ Region from to) where
-        region-is : chosenRegion old e ≡ accepted (regionOf from to)
-        unfolding checkedOf
-        region-is = chosen-is h
+      pub edit-found : {from to : ℕ} → c ≡ Region from to → {p : Places} → p ≡ placesOf t d → {st : Store} → st ≡ storeAt t
+          → TargetFound t d e (record { number = 0; p = p; st = st; from = from; to = to })
+      unfolding _>>=_ checkedOf numberOf
+      edit-found h {p} f g = record {
+        number = sym (rw (passed .book, chosen-is h) refl);
+        given = λ i. record { held = record { accepted = passed; is = accepted-found passed p f; stored = g }; chosen = chosen-is h };
+      }
 
-        pub edit-chosen : {p : Places} → p ≡ placesOf t d → {st : Store} → st ≡ storeAt t → Given t d p st e (regionOf from to)
-        edit-chosen {p} f g = record { held = record { accepted = passed; is = accepted-found passed p f; stored = g }; chosen = region-is }
+-- ---- 12 to 17
 
-        pub asked-chosen : (rt rd : List ℕ) (room : Room) → merge (storedOf t d) e (storedOf rt rd) room ≡ askedReading old e (regionOf from to) rt rd room
-        unfolding merge _>>=_ askedReading
-        asked-chosen rt rd room = rw (passed .book, region-is) refl
+refused-fits : {t d : List ℕ} {e : Edit} {rt rd : List ℕ} {n : ℕ} → fitted (storedOf t d) e (storedOf rt rd) ≡ refused n → (n ≡ 0 → ⊥) → {f : Fitting} → f .number ≡ n → Fits t d e rt rd f
+unfolding numberOf
+refused-fits c h f = record { number = f ∙ sym (ap numberOf c); books = λ z. absurd (h (sym f ∙ z)) }
 
--- the answer of a later stage, whose work words are as many
-pub written-later : {asked : Checked IncrementalOutput} {out text : List ℕ} (work later : List ℕ) (ask : Room → Checked IncrementalOutput) → asked ≡ ask (roomOf out text work) → length later ≡ length work
-    → {r : Output} {out′ text′ work′ : List ℕ} → Written (ask (roomOf out text later)) r out text later out′ text′ work′ → Written asked r out text work out′ text′ work′
-written-later {asked} {out} {text} work later ask e f {r} w =
-    let same : asked ≡ ask (roomOf out text later) = e ∙ ap (λ (n : ℕ). ask (record { tapeBytes = length out; textBytes = length text; workWords = n })) (sym f) in
-    rw same (record { answer = w .answer; tape = w .tape; bytes = w .bytes; tapeLength = w .tapeLength; textLength = w .textLength; wordsLength = w .wordsLength ∙ f })
+-- a chain that goes on behind a refusal
+go-on : {A B C : Type 0} (n : ℕ) (x : Checked A) (f : A → Checked B) (k : A → B → Checked C) → (x >>= f) ≡ refused n → (x >>= λ a. f a >>= k a) ≡ refused n
+unfolding _>>=_
+go-on n (refused m) f k z = let s : m ≡ n = cc in ap refused s
+go-on n (accepted a) f k z = ap (λ y. y >>= k a) z
 
--- ---- the reading, as the old book
+pub target-refused : {t d : List ℕ} {e : Edit} {b : Target} → TargetFound t d e b → (b .number ≡ 0 → ⊥) → (rt rd : List ℕ) → {f : Fitting} → f .number ≡ b .number → Fits t d e rt rd f
+unfolding fitted
+target-refused {t} {d} {e} {b} g h rt rd q =
+    refused-fits (go-on (b .number) (checkBook t d) (λ old. chosenRegion old e) _ (refusal-of (checkBook t d >>= λ old. chosenRegion old e) (g .number) h)) h q
 
-pub record Read (t d : List ℕ) (p : Places) (st : Store) (e : Edit) (r : Span) (rt rd : List ℕ) (q : Places) (own : Store) : Type 0 where
-  pub given : Given t d p st e r
-  pub reading : AcceptedReading rt rd
-  pub held : Held rt rd q own
+module _ {t d : List ℕ} {p : Places} {st : Store} {e : Edit} {r : Span} (g : Given t d p st e r) (rt rd : List ℕ) where
+  module _ {n : ℕ} (q : n ≡ numberOf (checkReading rt rd)) where
+    pub reading-refused : (n ≡ 0 → ⊥) → {f : Fitting} → f .number ≡ n → Fits t d e rt rd f
+    unfolding fitted _>>=_
+    reading-refused h f = refused-fits (rw (g .held .accepted .book, g .chosen, refusal-of (checkReading rt rd) q h) refl) h f
 
-module _ (old : LexOutput) (e : Edit) (r : Span) (rt rd : List ℕ) (room : Room) {n : ℕ} (q : n ≡ numberOf (checkReading rt rd)) where
-  pub reading-refused : (n ≡ 0 → ⊥) → askedReading old e r rt rd room ≡ refused n
-  unfolding askedReading _>>=_
-  reading-refused h = rw (refusal-of (checkReading rt rd) q h) refl
+    module _ (z : n ≡ 0) where
+      reading-passed : AcceptedReading rt rd
+      reading-passed = accepted-reading rt rd (sym q ∙ z)
 
-  pub reading-asked : n ≡ 0 → askedReading old e r rt rd room ≡ mergeBooks old e r (bookAt rt (places rt) rd) room
-  unfolding askedReading _>>=_
-  reading-asked z = rw (accepted-reading rt rd (sym q ∙ z) .reading) refl
+      pub reading-store : {q′ : Places} → q′ ≡ placesOf rt rd → StoreFits rt (q′ .layers)
+      reading-store {q′} f = let a = reading-passed .whole in accepted-store a (accepted-found a q′ f)
 
-module _ (rt rd : List ℕ) {n : ℕ} (q : n ≡ numberOf (checkReading rt rd)) (z : n ≡ 0) where
-  reading-passed : AcceptedReading rt rd
-  reading-passed = accepted-reading rt rd (sym q ∙ z)
+      pub reading-read : {q′ : Places} → q′ ≡ placesOf rt rd → {own : Store} → own ≡ storeAt rt → Read t d p st e r rt rd q′ own
+      reading-read {q′} f k =
+          let a = reading-passed in
+          record { given = g; reading = a; held = record { accepted = a .whole; is = accepted-found (a .whole) q′ f; stored = k } }
 
-  pub reading-store : {p : Places} → p ≡ placesOf rt rd → StoreFits rt (p .layers)
-  reading-store {p} f = let a = reading-passed .whole in accepted-store a (accepted-found a p f)
-
-  pub reading-read : {t d : List ℕ} {p : Places} {st : Store} {e : Edit} {r : Span} → Given t d p st e r → {own-places : Places} → own-places ≡ placesOf rt rd → {own : Store} → own ≡ storeAt rt
-      → Read t d p st e r rt rd own-places own
-  reading-read g {own-places} f {own} k =
-      let a = reading-passed in
-      record { given = g; reading = a; held = record { accepted = a .whole; is = accepted-found (a .whole) own-places f; stored = k } }
+    -- 12 to 17
+    pub read-refused : n ≡ 0 → {m : ℕ} → fitting (bookAt t (places t) d) e r (bookAt rt (places rt) rd) ≡ refused m → (m ≡ 0 → ⊥) → {f : Fitting} → f .number ≡ m → Fits t d e rt rd f
+    unfolding fitted _>>=_
+    read-refused z k h f = refused-fits (rw (g .held .accepted .book, g .chosen, reading-passed z .reading, k) refl) h f

@@ -15,10 +15,10 @@ ghost use Rattle.region.specs.Held.{Held};
 ghost use Rattle.splice.specs.Window.{windowValue};
 ghost use Rattle.fitting.specs.Numbers.{cutNumber, readingNumber};
 ghost use Rattle.fitting.specs.Window.{windowFrom};
-ghost use Rattle.fitting.specs.Stages.{Given, Read, Begins, Fits, FitsReading, regionOf};
+ghost use Rattle.fitting.specs.Stages.{Given, Read, TargetFound, Fits, regionOf};
 
-// The old book and the edit: a number 1 to 11, or 0, where the book's records stand, its store, and the region.
-struct Begun {
+// What an edit aims at: a number 1 to 11, or 0, where the old book's records stand, its store, and the region.
+struct Target {
     number: u32,
     p: places::Places,
     st: store::Store,
@@ -68,10 +68,10 @@ fn no_store() -> store::Store {
     }
 }
 
-fn not_begun(n: u32) -> Begun
+fn no_target(n: u32) -> Target
     ensures { λ r. ⌜ r .number ≡ n ⌝ }
 {
-    Begun {
+    Target {
         number: n,
         p: nowhere(),
         st: no_store(),
@@ -101,29 +101,29 @@ fn not_fitting(n: u32) -> Fitting
 }
 
 // Numbers 1 to 11: the old book, then the edit.
-fn begun(
+fn target_of(
     tape: &[u8],
     bytes: &[u8],
     start: u32,
     end: u32,
     replacement: &[u8],
     work: &mut [u32],
-) -> Begun
-    ensures { λ r. ⌜ Begins (now (tape .entry)) (now (bytes .entry)) (editOf start end (now (replacement .entry))) r ⌝ }
+) -> Target
+    ensures { λ r. ⌜ TargetFound (now (tape .entry)) (now (bytes .entry)) (editOf start end (now (replacement .entry))) r ⌝ }
 {
     let n = tape::check_book(tape, bytes);
     if n != 0 {
-        return not_begun(n);
+        return no_target(n);
     }
     let p = places::places_of(tape, bytes);
     let st = store::store_of(tape, p.layers);
     let found = region::chosen_region(tape, bytes, p, st, work, start, end, replacement);
     match found {
         Chosen::Refused(k) => {
-            return not_begun(k);
+            return no_target(k);
         }
         Chosen::Region(from, to) => {
-            return Begun {
+            return Target {
                 number: 0,
                 p: p,
                 st: st,
@@ -173,7 +173,7 @@ fn window(
 fn region_window(
     tape: &[u8],
     bytes: &[u8],
-    b: Begun,
+    b: Target,
     start: u32,
     end: u32,
     replacement: &[u8],
@@ -269,7 +269,7 @@ fn fitting_reading(
     replacement: &[u8],
     readingtape: &[u8],
     readingbytes: &[u8],
-    b: Begun,
+    b: Target,
     work: &mut [u32],
 ) -> Fitting
     requires { ⌜ Given (now tape) (now bytes) (b .p) (b .st) (editOf start end (now replacement)) (regionOf (b .from) (b .to)) ⌝ }
@@ -307,7 +307,7 @@ fn fitting_reading(
 }
 
 // Numbers 1 to 17 in their order.
-pub fn fitting(
+pub fn fitted(
     tape: &[u8],
     bytes: &[u8],
     start: u32,
@@ -319,7 +319,7 @@ pub fn fitting(
 ) -> Fitting
     ensures { λ r. ⌜ Fits (now (tape .entry)) (now (bytes .entry)) (editOf start end (now (replacement .entry))) (now (readingtape .entry)) (now (readingbytes .entry)) r ⌝ }
 {
-    let b = begun(tape, bytes, start, end, replacement, work);
+    let b = target_of(tape, bytes, start, end, replacement, work);
     if b.number != 0 {
         return not_fitting(b.number);
     }

@@ -21,7 +21,7 @@ fn merge_checked(
 ) -> IncrementalOutput
     ensures { λ r. ⌜ Written (mergeOf (storedOf (now (tape .entry)) (now (bytes .entry))) (correctionOf start end (now (replacement .entry)) (now (readingtape .entry)) (now (readingbytes .entry))) (roomOf (now (outtape .entry)) (now (outbytes .entry)) (now (work .entry)))) r (now (outtape .entry)) (now (outbytes .entry)) (now (work .entry)) (now (outtape .exit)) (now (outbytes .exit)) (now (work .exit)) ⌝ }
 {
-    let f = fitting::fitting(
+    let f = fitting::fitted(
         tape,
         bytes,
         start,

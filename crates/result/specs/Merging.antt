@@ -25,7 +25,8 @@ use Rattle.output.specs.declared.IncrementalOutput.{IncrementalOutput as Output
 use Rattle.output.specs.Answer.{refusedOutput, outputBy, Written}
 use Rattle.result.specs.Checked.{ResultFacts}
 use Rattle.result.specs.Parts.{old-layers-length}
-use Rattle.result.specs.Books.{Books, bookIn, mergeOf, lengths-read, limits-old}
+use Rattle.fitting.specs.Books.{Books, bookIn}
+use Rattle.result.specs.Books.{mergeOf, lengths-read, limits-old}
 use Rattle.merged_lists.specs.Sizes.{keptOf, roomFor, lengthsOf, listsEnd, room-facts, room-ok}
 use Rattle.merged_lists.specs.Lists.{Lists, listsOf}
 use Rattle.result.specs.Grafting.{offsetsOf}

@@ -32,7 +32,8 @@ use Rattle.output.specs.declared.IncrementalOutput.{IncrementalOutput as Output
 use Rattle.output.specs.Answer.{countersOf, refusedOutput, outputBy, outputOf, Written}
 use Rattle.merged_texts.specs.Writing.{headBytes, head-length}
 use Rattle.result.specs.Parts.{oldLayerBytes, oldStringBytes, newLayerBytes, newStringBytes, old-layers, old-strings, old-layers-length}
-use Rattle.result.specs.Books.{Books, bookIn, mergeOf, lengths-read, new-text, new-normalized, new-bytes}
+use Rattle.fitting.specs.Books.{Books, bookIn}
+use Rattle.result.specs.Books.{mergeOf, lengths-read, new-text, new-normalized, new-bytes}
 use Rattle.merged_lists.specs.Sizes.{lengthsOf}
 use Rattle.result.specs.Grafting.{offsetsOf, graftOk, GraftTold}
 use Rattle.result.specs.Whole.{above, text-is, normalized-is, base-is, node-bytes}

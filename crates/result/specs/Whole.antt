@@ -44,7 +44,8 @@ use Rattle.result.specs.Checked.{result-cond, merge-passed, ResultFacts,
 use Rattle.merged_texts.specs.Writing.{headBytes, head-length}
 use Rattle.result.specs.Parts.{oldLayerBytes, oldStringBytes, newLayerBytes, newStringBytes, ifLayer, listBytes, tape-parts, list-length, merged-layers, merged-count, merged-number, old-layers-length, old-strings}
 use Rattle.merged_lists.specs.Widths.{sixWords, nodes-width, nodes-six, grafted-six, length-grafted, spliced-six}
-use Rattle.result.specs.Books.{Books, bookIn, mergeOf, chosen, begun, old-fits, reading-fits, lengths-old, lengths-read, limits-old, limits-read, text-length, normalized-length, new-bytes}
+use Rattle.fitting.specs.Books.{Books, bookIn}
+use Rattle.result.specs.Books.{mergeOf, chosen, begun, old-fits, reading-fits, lengths-old, lengths-read, limits-old, limits-read, text-length, normalized-length, new-bytes}
 use Rattle.merged_lists.specs.Sizes.{sidesOf, keptOf, totalOf, lengthsOf, Small, listsEnd, RoomFor, few-kept}
 use Rattle.merged_lists.specs.Lists.{listsOf, oldDiagnostics}
 use Rattle.result.specs.Grafting.{graftOk, offsetsOf}

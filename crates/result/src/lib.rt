@@ -14,7 +14,7 @@ ghost use Rattle.splice.specs.Window.{windowValue};
 ghost use Rattle.layer.specs.Source.{SourceFits};
 ghost use Rattle.layer.specs.Layered.{graftedInto};
 ghost use Rattle.output.specs.Answer.{Written};
-ghost use Rattle.result.specs.Books.{Books, bookIn};
+ghost use Rattle.fitting.specs.Books.{Books, bookIn};
 ghost use Rattle.merged_lists.specs.Sizes.{lengthsOf};
 ghost use Rattle.result.specs.Grafting.{offsetsOf, GraftTold};
 ghost use Rattle.result.specs.Stages.{textsOf, StoreTold};

@@ -1,12 +1,12 @@
 use native.Mathlib.Omega.{arith}
 use mathlib.Core.Path.{refl}
 use borrow.Author.Tests.{not-true, not-false}
-use Rattle.incremental.specs.Reading.{held-texts, refused-15, refused-16, refused-17, refused-none}
+use Rattle.fitting.specs.Reading.{held-texts, refused-15, refused-16, refused-17, refused-none}
 use borrow.Author.Needs.{needs}
-use Rattle.incremental.proofs.cut_refusal.Statement.{statement}
-use Rattle.incremental.proofs.cut_refusal.Tie as tie
-use Rattle.incremental.proofs.cut_refusal.Reads as reads
-use Rattle.incremental.proofs.cut_refusal.Lts as lts
+use Rattle.fitting.proofs.cut_refusal.Statement.{statement}
+use Rattle.fitting.proofs.cut_refusal.Tie as tie
+use Rattle.fitting.proofs.cut_refusal.Reads as reads
+use Rattle.fitting.proofs.cut_refusal.Lts as lts
 use Rattle.introduces.proofs.introduces_ruby_format_dependency.Reads as introduces-ruby-format-dependency-reads
 use Rattle.passage.proofs.cuts_ok.Reads as cuts-ok-reads
 use Rattle.passage.proofs.layer_missing.Reads as layer-missing-reads

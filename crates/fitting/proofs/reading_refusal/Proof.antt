@@ -1,13 +1,13 @@
 use native.Mathlib.Omega.{arith}
 use borrow.Author.Tests.{not-true, not-false}
 use Rattle.model.specs.Region.{editOf}
-use Rattle.incremental.specs.Reading.{held-texts, held-nodes, held-diagnostics, region-asked, passage-asked, refused-12, refused-13, refused-14, refused-cut}
+use Rattle.fitting.specs.Reading.{held-texts, held-nodes, held-diagnostics, region-asked, passage-asked, refused-12, refused-13, refused-14, refused-cut}
 use borrow.Author.Needs.{needs}
-use Rattle.incremental.proofs.reading_refusal.Statement.{statement}
-use Rattle.incremental.proofs.reading_refusal.Tie as tie
-use Rattle.incremental.proofs.reading_refusal.Reads as reads
-use Rattle.incremental.proofs.reading_refusal.Lts as lts
-use Rattle.incremental.proofs.cut_refusal.Reads as cut-refusal-reads
+use Rattle.fitting.proofs.reading_refusal.Statement.{statement}
+use Rattle.fitting.proofs.reading_refusal.Tie as tie
+use Rattle.fitting.proofs.reading_refusal.Reads as reads
+use Rattle.fitting.proofs.reading_refusal.Lts as lts
+use Rattle.fitting.proofs.cut_refusal.Reads as cut-refusal-reads
 use Rattle.reading.proofs.balanced_nodes.Reads as balanced-nodes-reads
 use Rattle.reading.proofs.has_unclosed.Reads as has-unclosed-reads
 use Rattle.passage.proofs.is_region_text.Reads as is-region-text-reads
