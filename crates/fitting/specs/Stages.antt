@@ -1,6 +1,6 @@
 -- What each stage of 1 to 17 is given and answers, and the laws for its returns.
 use mathlib.Core.Path.{_≡_, refl, sym, ap, _∙_, subst}
-use Prim.Native.Nat.{ℕ}
+use Prim.Native.Nat.{ℕ, _≤_}
 use native.Mathlib.Omega.{arith}
 use mathlib.Core.List.{List}
 use Rattle.model.specs.Offset.{Span}
@@ -102,7 +102,7 @@ module _ (t d : List ℕ) {n : ℕ} (q : n ≡ numberOf (checkBook t d)) where
       pub edit-refused : {m : ℕ} → c ≡ Refused m → {b : Target} → b .number ≡ m → TargetFound t d e b
       unfolding _>>=_ checkedOf
       edit-refused {m} h f =
-          let u : UpTo 11 (refused {A = Span} m) = subst (λ (x : Checked Span). UpTo 11 x) (chosen-is h) (chosen-up-to 11 (omega arith) old e) in
+          let u : (1 ≤ m) × (m ≤ 11) = subst (λ (x : Checked Span). UpTo 11 x) (chosen-is h) (chosen-up-to 11 (omega arith) old e) in
           refused-target t d e (rw (passed .book, chosen-is h) refl) (λ i. omega (arith, u, i)) f
 
       pub edit-found : {from to : ℕ} → c ≡ Region from to → {p : Places} → p ≡ placesOf t d → {st : Store} → st ≡ storeAt t

@@ -182,8 +182,9 @@ fn region_window(
     requires { ⌜ Given (now tape) (now bytes) (b .p) (b .st) (editOf start end (now replacement)) (regionOf (b .from) (b .to)) ⌝ }
     ensures { λ r. ⌜ windowValue r ≡ windowFrom (b .from) (b .to) (normalizedOffset (recordsAt nodeCodec (now (tape .entry)) (b .p .nodes .at) (b .p .nodes .count)) (b .from)) (normalizedOffset (recordsAt nodeCodec (now (tape .entry)) (b .p .nodes .at) (b .p .nodes .count)) (b .to)) (length (now (replacement .entry))) start end normalized ⌝ }
 {
-    let nstart = normalized_cut(tape, b.p.nodes, SourceOffset(b.from));
-    let nend = normalized_cut(tape, b.p.nodes, SourceOffset(b.to));
+    let p = b.p;
+    let nstart = normalized_cut(tape, p.nodes, SourceOffset(b.from));
+    let nend = normalized_cut(tape, p.nodes, SourceOffset(b.to));
     let len = replacement.len();
     window(b.from, b.to, nstart.0, nend.0, len, start, end, normalized)
 }
@@ -201,27 +202,30 @@ fn cut_refusal(
     requires { ⌜ (f .w .nstart ≡ normalizedOffset (recordsAt nodeCodec (now tape) (f .p .nodes .at) (f .p .nodes .count)) (f .w .start)) × (f .w .nend ≡ normalizedOffset (recordsAt nodeCodec (now tape) (f .p .nodes .at) (f .p .nodes .count)) (f .w .end)) ⌝ }
     ensures { λ r. ⌜ ((e : Edit) → r ≡ cutNumber (bookAt (now (tape .entry)) (placesIn (now (tape .entry))) (now (bytes .entry))) e (regionOf (f .w .start) (f .w .end)) (bookAt (now (readingtape .entry)) (placesIn (now (readingtape .entry))) (now (readingbytes .entry)))) ⌝ }
 {
+    let p = f.p;
+    let q = f.q;
+    let w = f.w;
     if introduces::introduces_ruby_format_dependency(
         tape,
         bytes,
-        f.p,
+        p,
         f.st,
         readingtape,
         readingbytes,
-        f.q,
+        q,
         f.own,
         work,
-        f.w.start,
-        f.w.end,
+        w.start,
+        w.end,
     ) {
         return 15;
     }
-    let first = f.p.text as usize;
-    let normalized = &bytes[first..first + f.p.normalized as usize];
-    if !passage::cuts_ok(normalized, f.w.nstart as usize, f.w.nend as usize) {
+    let first = p.text as usize;
+    let normalized = &bytes[first..first + p.normalized as usize];
+    if !passage::cuts_ok(normalized, w.nstart as usize, w.nend as usize) {
         return 16;
     }
-    if passage::layer_missing(f.q.nodes.count, f.p.layers) {
+    if passage::layer_missing(q.nodes.count, p.layers) {
         return 17;
     }
     0
@@ -243,18 +247,21 @@ fn reading_refusal(
     requires { ⌜ (f .w .nstart ≡ normalizedOffset (recordsAt nodeCodec (now tape) (f .p .nodes .at) (f .p .nodes .count)) (f .w .start)) × (f .w .nend ≡ normalizedOffset (recordsAt nodeCodec (now tape) (f .p .nodes .at) (f .p .nodes .count)) (f .w .end)) ⌝ }
     ensures { λ r. ⌜ r ≡ readingNumber (bookAt (now (tape .entry)) (placesIn (now (tape .entry))) (now (bytes .entry))) (editOf start end (now (replacement .entry))) (regionOf (f .w .start) (f .w .end)) (bookAt (now (readingtape .entry)) (placesIn (now (readingtape .entry))) (now (readingbytes .entry))) ⌝ }
 {
-    let text = &bytes[0..f.p.text as usize];
-    let old_text = region::region_text(text, f.w.start, f.w.end);
-    let own_text = &readingbytes[0..f.q.text as usize];
-    let first = (start - f.w.start) as usize;
-    let last = (end - f.w.start) as usize;
+    let p = f.p;
+    let q = f.q;
+    let w = f.w;
+    let text = &bytes[0..p.text as usize];
+    let old_text = region::region_text(text, w.start, w.end);
+    let own_text = &readingbytes[0..q.text as usize];
+    let first = (start - w.start) as usize;
+    let last = (end - w.start) as usize;
     if !passage::is_region_text(old_text, first, last, replacement, own_text) {
         return 12;
     }
-    if !reading::balanced_nodes(readingtape, f.q.nodes.at, f.q.nodes.count) {
+    if !reading::balanced_nodes(readingtape, q.nodes.at, q.nodes.count) {
         return 13;
     }
-    if reading::has_unclosed(readingtape, f.q.diagnostics.at, f.q.diagnostics.count) {
+    if reading::has_unclosed(readingtape, q.diagnostics.at, q.diagnostics.count) {
         return 14;
     }
     cut_refusal(tape, bytes, readingtape, readingbytes, f, work)
@@ -281,13 +288,16 @@ fn fitting_reading(
     }
     let q = places::places_of(readingtape, readingbytes);
     let own = store::store_of(readingtape, q.layers);
+    let w = region_window(tape, bytes, b, start, end, replacement, q.normalized);
+    let p = b.p;
+    let st = b.st;
     let f = Fitting {
         number: 0,
-        p: b.p,
-        st: b.st,
+        p: p,
+        st: st,
         q: q,
         own: own,
-        w: region_window(tape, bytes, b, start, end, replacement, q.normalized),
+        w: w,
     };
     let k = reading_refusal(
         tape,
