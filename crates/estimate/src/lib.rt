@@ -86,22 +86,24 @@ fn price_fitted(
     requires { ⌜ Books (now tape) (now bytes) (f .p) (f .st) (editOf start end (now replacement)) (windowValue (f .w)) (now readingtape) (now readingbytes) (f .q) (f .own) ⌝ }
     ensures { λ r. ⌜ r ≡ estimateOf (accepted (priceIn (bookIn (now (tape .entry)) (now (bytes .entry))) (editOf start end (now (replacement .entry))) (bookIn (now (readingtape .entry)) (now (readingbytes .entry))) (windowValue (f .w)))) ⌝ }
 {
+    let q = f.q;
+    let w = f.w;
     let l = merged_lists::new_lengths(
         f.p,
-        f.q,
+        q,
         start,
         end,
         replacement.len(),
-        f.w.nstart,
-        f.w.nend,
+        w.nstart,
+        w.nend,
         bytes.len(),
     );
     let room = sizes::Room {
         contents: MAX_POOL,
         segments: MAX_POOL,
     };
-    let s = sizes::reading_sizes(readingtape, f.own, f.q, room);
-    price_by(f.q.nodes.count as u32, s, l.base)
+    let s = sizes::reading_sizes(readingtape, f.own, q, room);
+    price_by(q.nodes.count as u32, s, l.base)
 }
 
 // Numbers 1 to 17, then the price; the work words are not cleared.

@@ -18,7 +18,10 @@ same-length : tie.Need-same-length
 same-length c = search needs
 
 returns : tie.Need-returns
-returns c = λ e. refused-15 (c .before .before .before .before .before .before .before .before .before .before .before .before .before .pre .0 .0) (c .before .before .before .before .before .before .before .before .before .before .before .before .before .pre .0 .1) e _ (c .before .before .before .introduces-ruby-format-dependency .ensures) (c .if1 .taken)
+returns c =
+    let at-introduces-ruby-format-dependency = c .before .before .before in
+    let start = at-introduces-ruby-format-dependency .before .before .before .before .before .before .before .before .before .before in
+    λ e. refused-15 (start .pre .0 .0) (start .pre .0 .1) e _ (at-introduces-ruby-format-dependency .introduces-ruby-format-dependency .ensures) (c .if1 .taken)
 
 cast-first : tie.Need-cast-first
 cast-first c = search needs
@@ -36,7 +39,9 @@ part-normalized-start : tie.Need-part-normalized-start
 part-normalized-start c = search needs
 
 part-normalized-end : tie.Need-part-normalized-end
-part-normalized-end c = omega (arith, held-texts (c .before .before .before .before .before .before .before .before .before .before .before .before .before .before .before .pre .0 .0))
+part-normalized-end c =
+    let start = c .before .before .before .before .before .before .before .before .before .before .before .before .before .before .before in
+    omega (arith, held-texts (start .pre .0 .0))
 
 cast-cuts-ok : tie.Need-cast-cuts-ok
 cast-cuts-ok c = search needs
@@ -51,7 +56,12 @@ same-length-2 : tie.Need-same-length-2
 same-length-2 c = search needs
 
 returns-2 : tie.Need-returns-2
-returns-2 c = λ e. refused-16 (c .before .before .before .before .before .before .before .before .before .before .before .before .before .before .before .before .before .before .before .before .pre .0 .0) (c .before .before .before .before .before .before .before .before .before .before .before .before .before .before .before .before .before .before .before .before .pre .0 .1) e _ (c .before .before .before .before .before .before .before .before .before .before .introduces-ruby-format-dependency .ensures) (c .before .before .before .before .before .before .before .if1 .left) (c .before .before .before .before .before .before .before .before .before .before .before .before .before .before .before .before .before .before .before .before .pre .1 .0) (c .before .before .before .before .before .before .before .before .before .before .before .before .before .before .before .before .before .before .before .before .pre .1 .1) refl refl (c .before .cuts-ok .ensures) (not-true _ (c .if2 .taken))
+returns-2 c =
+    let at-if1 = c .before .before .before .before .before .before .before in
+    let at-introduces-ruby-format-dependency = at-if1 .before .before .before in
+    let start = at-introduces-ruby-format-dependency .before .before .before .before .before .before .before .before .before .before in
+    λ e. refused-16 (start .pre .0 .0) (start .pre .0 .1) e _ (at-introduces-ruby-format-dependency .introduces-ruby-format-dependency .ensures) (at-if1 .if1 .left) (start .pre .1 .0) (start .pre .1 .1) refl refl
+    (c .before .cuts-ok .ensures) (not-true _ (c .if2 .taken))
 
 layer-missing-requires : tie.Need-layer-missing-requires
 layer-missing-requires c κs = search needs
@@ -60,13 +70,25 @@ same-length-3 : tie.Need-same-length-3
 same-length-3 c = search needs
 
 returns-3 : tie.Need-returns-3
-returns-3 c = λ e. refused-17 (c .before .before .before .before .before .before .before .before .before .before .before .before .before .before .before .before .before .before .before .before .before .before .pre .0 .0) (c .before .before .before .before .before .before .before .before .before .before .before .before .before .before .before .before .before .before .before .before .before .before .pre .0 .1) e _ (c .before .before .before .before .before .before .before .before .before .before .before .before .introduces-ruby-format-dependency .ensures) (c .before .before .before .before .before .before .before .before .before .if1 .left) (c .before .before .before .before .before .before .before .before .before .before .before .before .before .before .before .before .before .before .before .before .before .before .pre .1 .0) (c .before .before .before .before .before .before .before .before .before .before .before .before .before .before .before .before .before .before .before .before .before .before .pre .1 .1) refl refl (c .before .before .before .cuts-ok .ensures) (not-false _ (c .before .before .if2 .left)) (c .before .layer-missing .ensures) (c .if3 .taken)
+returns-3 c =
+    let at-cuts-ok = c .before .before .before in
+    let at-if1 = at-cuts-ok .before .before .before .before .before .before in
+    let at-introduces-ruby-format-dependency = at-if1 .before .before .before in
+    let start = at-introduces-ruby-format-dependency .before .before .before .before .before .before .before .before .before .before in
+    λ e. refused-17 (start .pre .0 .0) (start .pre .0 .1) e _ (at-introduces-ruby-format-dependency .introduces-ruby-format-dependency .ensures) (at-if1 .if1 .left) (start .pre .1 .0) (start .pre .1 .1) refl refl
+    (at-cuts-ok .cuts-ok .ensures) (not-false _ (c .before .before .if2 .left)) (c .before .layer-missing .ensures) (c .if3 .taken)
 
 same-length-4 : tie.Need-same-length-4
 same-length-4 c = search needs
 
 returns-4 : tie.Need-returns-4
-returns-4 c = λ e. refused-none (c .before .before .before .before .before .before .before .before .before .before .before .before .before .before .before .before .before .before .before .before .before .before .pre .0 .0) (c .before .before .before .before .before .before .before .before .before .before .before .before .before .before .before .before .before .before .before .before .before .before .pre .0 .1) e _ (c .before .before .before .before .before .before .before .before .before .before .before .before .introduces-ruby-format-dependency .ensures) (c .before .before .before .before .before .before .before .before .before .if1 .left) (c .before .before .before .before .before .before .before .before .before .before .before .before .before .before .before .before .before .before .before .before .before .before .pre .1 .0) (c .before .before .before .before .before .before .before .before .before .before .before .before .before .before .before .before .before .before .before .before .before .before .pre .1 .1) refl refl (c .before .before .before .cuts-ok .ensures) (not-false _ (c .before .before .if2 .left)) (c .before .layer-missing .ensures) (c .if3 .left)
+returns-4 c =
+    let at-cuts-ok = c .before .before .before in
+    let at-if1 = at-cuts-ok .before .before .before .before .before .before in
+    let at-introduces-ruby-format-dependency = at-if1 .before .before .before in
+    let start = at-introduces-ruby-format-dependency .before .before .before .before .before .before .before .before .before .before in
+    λ e. refused-none (start .pre .0 .0) (start .pre .0 .1) e _ (at-introduces-ruby-format-dependency .introduces-ruby-format-dependency .ensures) (at-if1 .if1 .left) (start .pre .1 .0) (start .pre .1 .1) refl refl
+    (at-cuts-ok .cuts-ok .ensures) (not-false _ (c .before .before .if2 .left)) (c .before .layer-missing .ensures) (c .if3 .left)
 
 pub cut-refusal-spec : {M : Type 1} → statement M
 cut-refusal-spec =

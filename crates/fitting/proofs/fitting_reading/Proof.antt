@@ -21,20 +21,32 @@ not-fitting-requires : tie.Need-not-fitting-requires
 not-fitting-requires c κs = search needs
 
 returns : tie.Need-returns
-returns c = reading-refused (c .before .before .before .before .before .before .before .before .before .pre) _ _ (c .before .before .check-reading .ensures) (c .before .if1 .taken) (c .not-fitting .ensures)
+returns c =
+    let start = c .before .before .before .before .before .before .before .before .before in
+    reading-refused (start .pre) _ _ (c .before .before .check-reading .ensures) (c .before .if1 .taken) (c .not-fitting .ensures)
 
 places-of-requires : tie.Need-places-of-requires
 places-of-requires c κs = search needs
 
 store-of-requires : tie.Need-store-of-requires
-store-of-requires c κs = reading-store (c .before .before .before .before .before .before .before .before .before .pre) _ _ (c .before .before .check-reading .ensures) (c .before .if1 .left) (c .places-of .ensures)
+store-of-requires c κs =
+    let start = c .before .before .before .before .before .before .before .before .before in
+    reading-store (start .pre) _ _ (c .before .before .check-reading .ensures) (c .before .if1 .left) (c .places-of .ensures)
 
 region-window-requires : tie.Need-region-window-requires
 region-window-requires c κs = c .before .before .before .before .before .before .before .before .before .before .pre
 
 reading-refusal-requires : tie.Need-reading-refusal-requires
 unfolding editOf
-reading-refusal-requires c κs = let read = reading-read (c .before .before .before .before .before .before .before .before .before .before .before .before .before .before .pre) _ _ (c .before .before .before .before .before .before .before .check-reading .ensures) (c .before .before .before .before .before .before .if1 .left) (c .before .before .before .before .before .places-of .ensures) (c .before .before .before .before .store-of .ensures) in (window-read read (c .before .before .before .region-window .result) (c .before .before .before .region-window .ensures), window-offsets read (c .before .before .before .region-window .result) (c .before .before .before .region-window .ensures))
+reading-refusal-requires c κs =
+    let at-region-window = c .before .before .before in
+    let at-store-of = at-region-window .before in
+    let at-places-of = at-store-of .before in
+    let at-if1 = at-places-of .before in
+    let at-check-reading = at-if1 .before in
+    let start = at-check-reading .before .before .before .before .before .before .before in
+    let read = reading-read (start .pre) _ _ (at-check-reading .check-reading .ensures) (at-if1 .if1 .left) (at-places-of .places-of .ensures) (at-store-of .store-of .ensures) in
+    (window-read read (at-region-window .region-window .result) (at-region-window .region-window .ensures), window-offsets read (at-region-window .region-window .result) (at-region-window .region-window .ensures))
 
 not-fitting-requires-2 : tie.Need-not-fitting-requires-2
 not-fitting-requires-2 c κs = search needs
@@ -44,14 +56,37 @@ same-length c = search needs
 
 returns-2 : tie.Need-returns-2
 unfolding editOf
-returns-2 c = let read = reading-read (c .before .before .before .before .before .before .before .before .before .before .before .before .before .before .before .before .before .before .before .pre) _ _ (c .before .before .before .before .before .before .before .before .before .before .before .before .check-reading .ensures) (c .before .before .before .before .before .before .before .before .before .before .before .if1 .left) (c .before .before .before .before .before .before .before .before .before .before .places-of .ensures) (c .before .before .before .before .before .before .before .before .before .store-of .ensures) in read-refused (c .before .before .before .before .before .before .before .before .before .before .before .before .before .before .before .before .before .before .before .pre) _ _ (c .before .before .before .before .before .before .before .before .before .before .before .before .check-reading .ensures) (c .before .before .before .before .before .before .before .before .before .before .before .if1 .left) (window-refused read (c .before .before .before .before .before .before .before .before .region-window .result) (c .before .before .before .before .before .before .before .before .region-window .ensures) (c .before .before .before .before .reading-refusal .ensures) (c .before .if2 .taken)) (c .before .if2 .taken) (c .not-fitting2 .ensures)
+returns-2 c =
+    let at-reading-refusal = c .before .before .before .before in
+    let at-region-window = at-reading-refusal .before .before .before .before in
+    let at-store-of = at-region-window .before in
+    let at-places-of = at-store-of .before in
+    let at-if1 = at-places-of .before in
+    let at-check-reading = at-if1 .before in
+    let start = at-check-reading .before .before .before .before .before .before .before in
+    let read = reading-read (start .pre) _ _ (at-check-reading .check-reading .ensures) (at-if1 .if1 .left) (at-places-of .places-of .ensures) (at-store-of .store-of .ensures) in
+    read-refused (start .pre) _ _ (at-check-reading .check-reading .ensures) (at-if1 .if1 .left)
+    (window-refused read (at-region-window .region-window .result) (at-region-window .region-window .ensures) (at-reading-refusal .reading-refusal .ensures) (c .before .if2 .taken)) (c .before .if2 .taken)
+    (c .not-fitting2 .ensures)
 
 same-length-2 : tie.Need-same-length-2
 same-length-2 c = search needs
 
 returns-3 : tie.Need-returns-3
 unfolding editOf
-returns-3 c = window-fits (reading-read (c .before .before .before .before .before .before .before .before .before .before .before .before .before .before .before .before .before .before .pre) _ _ (c .before .before .before .before .before .before .before .before .before .before .before .check-reading .ensures) (c .before .before .before .before .before .before .before .before .before .before .if1 .left) (c .before .before .before .before .before .before .before .before .before .places-of .ensures) (c .before .before .before .before .before .before .before .before .store-of .ensures)) (c .before .before .before .before .before .before .before .region-window .result) (c .before .before .before .before .before .before .before .region-window .ensures) (c .before .before .before .reading-refusal .ensures) (c .if2 .left) (record { byte = λ i h. omega (arith, c .before .before .before .before .before .before .before .before .before .before .before .before .before .before .before .before .before .shared-slice-known .given i) }) (record { byte = λ i h. omega (arith, c .before .before .before .before .before .before .before .before .before .before .before .before .before .before .shared-slice-known4 .given i) })
+returns-3 c =
+    let at-reading-refusal = c .before .before .before in
+    let at-region-window = at-reading-refusal .before .before .before .before in
+    let at-store-of = at-region-window .before in
+    let at-places-of = at-store-of .before in
+    let at-if1 = at-places-of .before in
+    let at-check-reading = at-if1 .before in
+    let at-shared-slice-known4 = at-check-reading .before .before .before in
+    let at-shared-slice-known = at-shared-slice-known4 .before .before .before in
+    let start = at-shared-slice-known .before in
+    window-fits (reading-read (start .pre) _ _ (at-check-reading .check-reading .ensures) (at-if1 .if1 .left) (at-places-of .places-of .ensures) (at-store-of .store-of .ensures))
+    (at-region-window .region-window .result) (at-region-window .region-window .ensures) (at-reading-refusal .reading-refusal .ensures) (c .if2 .left)
+    (record { byte = λ i h. omega (arith, at-shared-slice-known .shared-slice-known .given i) }) (record { byte = λ i h. omega (arith, at-shared-slice-known4 .shared-slice-known4 .given i) })
 
 pub fitting-reading-spec : {M : Type 1} → statement M
 fitting-reading-spec =

@@ -23,7 +23,9 @@ part-text-start : tie.Need-part-text-start
 part-text-start c = search needs
 
 part-text-end : tie.Need-part-text-end
-part-text-end c = omega (arith, held-texts (c .before .before .before .before .before .before .before .before .before .before .pre .0 .given .held))
+part-text-end c =
+    let start = c .before .before .before .before .before .before .before .before .before .before in
+    omega (arith, held-texts (start .pre .0 .given .held))
 
 region-text-requires : tie.Need-region-text-requires
 region-text-requires c κs = search needs
@@ -38,53 +40,95 @@ part-own-text-start : tie.Need-part-own-text-start
 part-own-text-start c = search needs
 
 part-own-text-end : tie.Need-part-own-text-end
-part-own-text-end c = omega (arith, held-texts (c .before .before .before .before .before .before .before .before .before .before .before .before .before .pre .0 .held))
+part-own-text-end c =
+    let start = c .before .before .before .before .before .before .before .before .before .before .before .before .before in
+    omega (arith, held-texts (start .pre .0 .held))
 
 sub-first : tie.Need-sub-first
 unfolding editOf
-sub-first c = omega (arith, region-asked (c .before .before .before .before .before .before .before .before .before .before .before .before .before .before .before .pre .0))
+sub-first c =
+    let start = c .before .before .before .before .before .before .before .before .before .before .before .before .before .before .before in
+    omega (arith, region-asked (start .pre .0))
 
 cast-first : tie.Need-cast-first
 cast-first c = search needs
 
 sub-last : tie.Need-sub-last
 unfolding editOf
-sub-last c = omega (arith, region-asked (c .before .before .before .before .before .before .before .before .before .before .before .before .before .before .before .before .pre .0))
+sub-last c =
+    let start = c .before .before .before .before .before .before .before .before .before .before .before .before .before .before .before .before in
+    omega (arith, region-asked (start .pre .0))
 
 cast-last : tie.Need-cast-last
-cast-last c = omega (arith, c .before .before .before .before .before .before .before .before .before .before .before .before .before .before .before .before .fits .end)
+cast-last c =
+    let at-fits = c .before .before .before .before .before .before .before .before .before .before .before .before .before .before .before .before in
+    omega (arith, at-fits .fits .end)
 
 is-region-text-requires : tie.Need-is-region-text-requires
 unfolding editOf
-is-region-text-requires c κs = passage-asked (c .before .before .before .before .before .before .before .before .before .before .before .before .before .before .before .before .pre .0) (c .before .before .before .before .region-text .ensures)
+is-region-text-requires c κs =
+    let at-region-text = c .before .before .before .before in
+    let start = at-region-text .before .before .before .before .before .before .before .before .before .before .before .before in
+    passage-asked (start .pre .0) (at-region-text .region-text .ensures)
 
 returns : tie.Need-returns
 unfolding editOf
-returns c = refused-12 (c .before .before .before .before .before .before .before .before .before .before .before .before .before .before .before .before .before .before .pre .0) (c .before .before .before .before .before .before .region-text .ensures) (c .before .is-region-text .ensures) (not-true _ (c .if1 .taken))
+returns c =
+    let at-region-text = c .before .before .before .before .before .before in
+    let start = at-region-text .before .before .before .before .before .before .before .before .before .before .before .before in
+    refused-12 (start .pre .0) (at-region-text .region-text .ensures) (c .before .is-region-text .ensures) (not-true _ (c .if1 .taken))
 
 balanced-nodes-requires : tie.Need-balanced-nodes-requires
-balanced-nodes-requires c κs = held-nodes (c .before .before .before .before .before .before .before .before .before .before .before .before .before .before .before .before .before .before .pre .0 .held)
+balanced-nodes-requires c κs =
+    let start = c .before .before .before .before .before .before .before .before .before .before .before .before .before .before .before .before .before .before in
+    held-nodes (start .pre .0 .held)
 
 returns-2 : tie.Need-returns-2
 unfolding editOf
-returns-2 c = refused-13 (c .before .before .before .before .before .before .before .before .before .before .before .before .before .before .before .before .before .before .before .before .pre .0) (c .before .before .before .before .before .before .before .before .region-text .ensures) (c .before .before .before .is-region-text .ensures) (not-false _ (c .before .before .if1 .left)) (c .before .balanced-nodes .ensures) (not-true _ (c .if2 .taken))
+returns-2 c =
+    let at-is-region-text = c .before .before .before in
+    let at-region-text = at-is-region-text .before .before .before .before .before in
+    let start = at-region-text .before .before .before .before .before .before .before .before .before .before .before .before in
+    refused-13 (start .pre .0) (at-region-text .region-text .ensures) (at-is-region-text .is-region-text .ensures) (not-false _ (c .before .before .if1 .left)) (c .before .balanced-nodes .ensures)
+    (not-true _ (c .if2 .taken))
 
 has-unclosed-requires : tie.Need-has-unclosed-requires
-has-unclosed-requires c κs = held-diagnostics (c .before .before .before .before .before .before .before .before .before .before .before .before .before .before .before .before .before .before .before .before .pre .0 .held)
+has-unclosed-requires c κs =
+    let start = c .before .before .before .before .before .before .before .before .before .before .before .before .before .before .before .before .before .before .before .before in
+    held-diagnostics (start .pre .0 .held)
 
 returns-3 : tie.Need-returns-3
 unfolding editOf
-returns-3 c = refused-14 (c .before .before .before .before .before .before .before .before .before .before .before .before .before .before .before .before .before .before .before .before .before .before .pre .0) (c .before .before .before .before .before .before .before .before .before .before .region-text .ensures) (c .before .before .before .before .before .is-region-text .ensures) (not-false _ (c .before .before .before .before .if1 .left)) (c .before .before .before .balanced-nodes .ensures) (not-false _ (c .before .before .if2 .left)) (c .before .has-unclosed .ensures) (c .if3 .taken)
+returns-3 c =
+    let at-balanced-nodes = c .before .before .before in
+    let at-if1 = at-balanced-nodes .before in
+    let at-is-region-text = at-if1 .before in
+    let at-region-text = at-is-region-text .before .before .before .before .before in
+    let start = at-region-text .before .before .before .before .before .before .before .before .before .before .before .before in
+    refused-14 (start .pre .0) (at-region-text .region-text .ensures) (at-is-region-text .is-region-text .ensures) (not-false _ (at-if1 .if1 .left)) (at-balanced-nodes .balanced-nodes .ensures)
+    (not-false _ (c .before .before .if2 .left)) (c .before .has-unclosed .ensures) (c .if3 .taken)
 
 cut-refusal-requires : tie.Need-cut-refusal-requires
-cut-refusal-requires c κs = ((c .before .before .before .before .before .before .before .before .before .before .before .before .before .before .before .before .before .before .before .before .before .before .before .pre .0 .given .held, c .before .before .before .before .before .before .before .before .before .before .before .before .before .before .before .before .before .before .before .before .before .before .before .pre .0 .held), c .before .before .before .before .before .before .before .before .before .before .before .before .before .before .before .before .before .before .before .before .before .before .before .pre .1)
+cut-refusal-requires c κs =
+    let start = c .before .before .before .before .before .before .before .before .before .before .before .before .before .before .before .before .before .before .before .before .before .before .before in
+    ((start .pre .0 .given .held, start .pre .0 .held), start .pre .1)
 
 same-length : tie.Need-same-length
 same-length c = search needs
 
 returns-4 : tie.Need-returns-4
 unfolding editOf
-returns-4 c = refused-cut (c .before .before .before .before .before .before .before .before .before .before .before .before .before .before .before .before .before .before .before .before .before .before .before .before .before .before .pre .0) (c .before .before .before .before .before .before .before .before .before .before .before .before .before .before .region-text .ensures) (c .before .before .before .before .before .before .before .before .before .is-region-text .ensures) (not-false _ (c .before .before .before .before .before .before .before .before .if1 .left)) (c .before .before .before .before .before .before .before .balanced-nodes .ensures) (not-false _ (c .before .before .before .before .before .before .if2 .left)) (c .before .before .before .before .before .has-unclosed .ensures) (c .before .before .before .before .if3 .left) (c .before .before .cut-refusal .ensures _)
+returns-4 c =
+    let at-if3 = c .before .before .before .before in
+    let at-has-unclosed = at-if3 .before in
+    let at-if2 = at-has-unclosed .before in
+    let at-balanced-nodes = at-if2 .before in
+    let at-if1 = at-balanced-nodes .before in
+    let at-is-region-text = at-if1 .before in
+    let at-region-text = at-is-region-text .before .before .before .before .before in
+    let start = at-region-text .before .before .before .before .before .before .before .before .before .before .before .before in
+    refused-cut (start .pre .0) (at-region-text .region-text .ensures) (at-is-region-text .is-region-text .ensures) (not-false _ (at-if1 .if1 .left)) (at-balanced-nodes .balanced-nodes .ensures)
+    (not-false _ (at-if2 .if2 .left)) (at-has-unclosed .has-unclosed .ensures) (at-if3 .if3 .left) (c .before .before .cut-refusal .ensures _)
 
 pub reading-refusal-spec : {M : Type 1} → statement M
 reading-refusal-spec =

@@ -11,17 +11,26 @@ use Rattle.fitting.proofs.normalized_cut.Reads as normalized-cut-reads
 use Rattle.fitting.proofs.window.Reads as window-reads
 
 normalized-cut-requires : tie.Need-normalized-cut-requires
-normalized-cut-requires c κs = ((held-nodes (c .before .before .before .before .pre .held), held-order (c .before .before .before .before .pre .held)), start-small (c .before .before .before .before .pre) refl)
+normalized-cut-requires c κs =
+    let start = c .before .before .before .before in
+    ((held-nodes (start .pre .held), held-order (start .pre .held)), start-small (start .pre) refl)
 
 normalized-cut-requires-2 : tie.Need-normalized-cut-requires-2
-normalized-cut-requires-2 c κs = ((held-nodes (c .before .before .before .before .before .pre .held), held-order (c .before .before .before .before .before .pre .held)), end-small (c .before .before .before .before .before .pre) refl)
+normalized-cut-requires-2 c κs =
+    let start = c .before .before .before .before .before in
+    ((held-nodes (start .pre .held), held-order (start .pre .held)), end-small (start .pre) refl)
 
 window-requires : tie.Need-window-requires
 unfolding editOf
-window-requires c κs = (given-inside (c .before .before .before .before .before .before .pre) .edit, normal-order (c .before .before .before .before .before .before .pre) (c .before .normalized-cut .ensures) (c .normalized-cut2 .ensures))
+window-requires c κs =
+    let start = c .before .before .before .before .before .before in
+    (given-inside (start .pre) .edit, normal-order (start .pre) (c .before .normalized-cut .ensures) (c .normalized-cut2 .ensures))
 
 returns : tie.Need-returns
-returns c = window-cuts _ _ (length (c .before .before .before .before .before .before .before .args .replacement .now)) (c .before .before .before .before .before .before .before .args .start) (c .before .before .before .before .before .before .before .args .end) (c .before .before .before .before .before .before .before .args .normalized) (c .window .ensures) (c .before .before .normalized-cut .ensures) (c .before .normalized-cut2 .ensures)
+returns c =
+    let start = c .before .before .before .before .before .before .before in
+    window-cuts _ _ (length (start .args .replacement .now)) (start .args .start) (start .args .end) (start .args .normalized) (c .window .ensures) (c .before .before .normalized-cut .ensures)
+    (c .before .normalized-cut2 .ensures)
 
 pub region-window-spec : {M : Type 1} → statement M
 region-window-spec =

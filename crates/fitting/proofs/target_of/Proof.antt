@@ -27,7 +27,10 @@ store-of-requires : tie.Need-store-of-requires
 store-of-requires c κs = choose-store _ _ (c .before .before .check-book .ensures) (c .before .if1 .left) (c .places-of .ensures)
 
 chosen-region-requires : tie.Need-chosen-region-requires
-chosen-region-requires c κs = choose-held _ _ (c .before .before .before .before .check-book .ensures) (c .before .before .before .if1 .left) (c .before .before .places-of .ensures) (c .before .store-of .ensures)
+chosen-region-requires c κs =
+    let at-if1 = c .before .before .before in
+    let at-check-book = at-if1 .before in
+    choose-held _ _ (at-check-book .check-book .ensures) (at-if1 .if1 .left) (c .before .before .places-of .ensures) (c .before .store-of .ensures)
 
 enum-known-found : tie.Need-enum-known-found
 enum-known-found c = search needs
@@ -39,7 +42,11 @@ same-length : tie.Need-same-length
 same-length c = search needs
 
 returns-2 : tie.Need-returns-2
-returns-2 c = edit-refused _ _ (c .before .before .before .before .before .before .before .before .before .before .before .check-book .ensures) (c .before .before .before .before .before .before .before .before .before .before .if1 .left) _ (c .before .before .before .before .before .before .chosen-region .ensures) (c .before .before .found .given .1) (c .no-target2 .ensures)
+returns-2 c =
+    let at-chosen-region = c .before .before .before .before .before .before in
+    let at-if1 = at-chosen-region .before .before .before .before in
+    let at-check-book = at-if1 .before in
+    edit-refused _ _ (at-check-book .check-book .ensures) (at-if1 .if1 .left) _ (at-chosen-region .chosen-region .ensures) (c .before .before .found .given .1) (c .no-target2 .ensures)
 
 enum-known-found-2 : tie.Need-enum-known-found-2
 enum-known-found-2 c = search needs
@@ -48,7 +55,14 @@ same-length-2 : tie.Need-same-length-2
 same-length-2 c = search needs
 
 returns-3 : tie.Need-returns-3
-returns-3 c = edit-found _ _ (c .before .before .before .before .before .before .before .before .before .before .check-book .ensures) (c .before .before .before .before .before .before .before .before .before .if1 .left) _ (c .before .before .before .before .before .chosen-region .ensures) (c .before .found2 .given .1) (c .before .before .before .before .before .before .before .before .places-of .ensures) (c .before .before .before .before .before .before .before .store-of .ensures)
+returns-3 c =
+    let at-chosen-region = c .before .before .before .before .before in
+    let at-store-of = at-chosen-region .before .before in
+    let at-places-of = at-store-of .before in
+    let at-if1 = at-places-of .before in
+    let at-check-book = at-if1 .before in
+    edit-found _ _ (at-check-book .check-book .ensures) (at-if1 .if1 .left) _ (at-chosen-region .chosen-region .ensures) (c .before .found2 .given .1) (at-places-of .places-of .ensures)
+    (at-store-of .store-of .ensures)
 
 pub target-of-spec : {M : Type 1} → statement M
 target-of-spec =
