@@ -1,3 +1,7 @@
+use mathlib.Core.Path.{refl}
+use Rattle.model.specs.Merge.{resultChecked}
+use Rattle.result.specs.Stages.{written-refused}
+use Rattle.incremental.specs.Merging.{merge-refused, merge-result, written-later}
 use borrow.Author.Needs.{needs}
 use Rattle.incremental.proofs.merge_checked.Statement.{statement}
 use Rattle.incremental.proofs.merge_checked.Tie as tie
@@ -7,41 +11,32 @@ use Rattle.fitting.proofs.fitted.Reads as fitted-reads
 use Rattle.output.proofs.refused_output.Reads as refused-output-reads
 use Rattle.result.proofs.merge_books.Reads as merge-books-reads
 
--- src/lib.rt:24:9
 fitted-requires : tie.Need-fitted-requires
 fitted-requires c κs = search needs
 
--- src/lib.rt:35:9
 refused-output-requires : tie.Need-refused-output-requires
 refused-output-requires c κs = search needs
 
--- src/lib.rt:35:9
 same-length : tie.Need-same-length
 same-length c = search needs
 
--- src/lib.rt:35:9
 returns : tie.Need-returns
-returns c = ?
+returns c = written-refused _ _ _ _ (merge-refused (c .before .before .before .before .before .fitted .ensures) _ (c .before .if1 .taken)) (c .refused-output .ensures) refl refl (c .before .before .before .before .before .fitted .kept .1 .1 .1 .1 .1 .1 .1 .0)
 
--- src/lib.rt:37:5
 merge-books-requires : tie.Need-merge-books-requires
-merge-books-requires c κs = ?
+merge-books-requires c κs = c .before .before .before .before .before .before .before .fitted .ensures .books (c .before .before .before .if1 .left)
 
--- src/lib.rt:10:1
 same-length-2 : tie.Need-same-length-2
 same-length-2 c = search needs
 
--- src/lib.rt:10:1
 same-length-3 : tie.Need-same-length-3
 same-length-3 c = search needs
 
--- src/lib.rt:10:1
 same-length-4 : tie.Need-same-length-4
 same-length-4 c = search needs
 
--- src/lib.rt:10:1
 returns-2 : tie.Need-returns-2
-returns-2 c = ?
+returns-2 c = written-later _ _ (resultChecked _ _ _ _) (merge-result (c .before .before .before .before .before .before .before .before .before .before .before .before .before .before .fitted .ensures) _ (c .before .before .before .before .before .before .before .before .before .before .if1 .left)) (c .before .before .before .before .before .before .before .before .before .before .before .before .before .before .fitted .kept .1 .1 .1 .1 .1 .1 .1 .0) (c .before .before .before .before .before .before .merge-books .ensures)
 
 pub merge-checked-spec : {M : Type 1} → statement M
 merge-checked-spec =
