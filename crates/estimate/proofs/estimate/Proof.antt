@@ -18,7 +18,9 @@ same-length : tie.Need-same-length
 same-length c = search needs
 
 returns : tie.Need-returns
-returns c = (c .before .before .before .before .before .before .estimate-checked .ensures, c .before .before .zero-words .ensures ∙ ap zeros (c .before .before .before .before .before .before .estimate-checked .kept .1 .1 .1 .1 .1 .1 .1 .0))
+returns c =
+    let at-estimate-checked = c .before .before .before .before .before .before in
+    (at-estimate-checked .estimate-checked .ensures, c .before .before .zero-words .ensures ∙ ap zeros (at-estimate-checked .estimate-checked .kept .1 .1 .1 .1 .1 .1 .1 .0))
 
 pub estimate-spec : {M : Type 1} → statement M
 estimate-spec =

@@ -18,7 +18,9 @@ same-length : tie.Need-same-length
 same-length c = search needs
 
 returns : tie.Need-returns
-returns c = estimate-none (c .before .before .before .before .before .fitted .ensures) (c .before .if1 .taken) (c .refused .ensures)
+returns c =
+    let at-fitted = c .before .before .before .before .before in
+    estimate-none (at-fitted .fitted .ensures) (c .before .if1 .taken) (c .refused .ensures)
 
 price-fitted-requires : tie.Need-price-fitted-requires
 price-fitted-requires c κs = c .before .before .before .before .fitted .ensures .books (c .if1 .left)
@@ -27,7 +29,9 @@ same-length-2 : tie.Need-same-length-2
 same-length-2 c = search needs
 
 returns-2 : tie.Need-returns-2
-returns-2 c = estimate-some (c .before .before .before .before .before .fitted .ensures) (c .before .if1 .left) (c .price-fitted .ensures)
+returns-2 c =
+    let at-fitted = c .before .before .before .before .before in
+    estimate-some (at-fitted .fitted .ensures) (c .before .if1 .left) (c .price-fitted .ensures)
 
 pub estimate-checked-spec : {M : Type 1} → statement M
 estimate-checked-spec =

@@ -14,7 +14,9 @@ use Rattle.sizes.proofs.reading_sizes.Reads as reading-sizes-reads
 
 new-lengths-requires : tie.Need-new-lengths-requires
 unfolding editOf
-new-lengths-requires c κs = let i = inside (c .before .before .before .before .before .before .before .pre) in ((i .ends, i .normalEnds, i .limit), (texts-inside (c .before .before .before .before .before .before .before .pre) .0, omega arith))
+new-lengths-requires c κs =
+    let start = c .before .before .before .before .before .before .before in
+    let i = inside (start .pre) in ((i .ends, i .normalEnds, i .limit), (texts-inside (start .pre) .0, omega arith))
 
 reading-sizes-requires : tie.Need-reading-sizes-requires
 unfolding editOf
@@ -29,7 +31,10 @@ price-by-requires c κs = search needs
 
 returns : tie.Need-returns
 unfolding editOf
-returns c = priced (c .before .before .before .before .before .before .before .before .before .before .before .pre) (c .before .before .reading-sizes .ensures) (c .before .before .before .new-lengths .ensures) (c .price-by .ensures)
+returns c =
+    let at-new-lengths = c .before .before .before in
+    let start = at-new-lengths .before .before .before .before .before .before .before .before in
+    priced (start .pre) (c .before .before .reading-sizes .ensures) (at-new-lengths .new-lengths .ensures) (c .price-by .ensures)
 
 pub price-fitted-spec : {M : Type 1} → statement M
 price-fitted-spec =
