@@ -1,5 +1,1 @@
-pub mod Numbers
-pub mod Stages
-pub mod Window
-pub mod Reading
 pub mod Merging

@@ -20,12 +20,12 @@ use Rattle.model.specs.Tape.{parse}
 use Rattle.model.specs.WellFormed.{textsAreUtf8, withinLimits, contentOk, segmentOk, nodeOk, idsOk, levelOk, levelsOk, spanOk, ordered, offsetsOk, pairOk, containerOk, placesOk, images, spans, normalizedLengthOk, laidOut, wellFormed, checkBook, checkReading}
 use Rattle.model.specs.Region.{Edit, edited, editOk, balancedRegion, isWhole, hasRubyFormatDependency, chosenRegion}
 use Rattle.model.specs.Graft.{With}
-use Rattle.model.specs.Merge.{Stored, Room, IncrementalOutput, windowOf, newRegionText, balancedNodes, isUnclosed, introducesRubyFormatDependency, cutsOk, grafted, mergedBook, answer, fitsRoom, resultOk, mergeBooks, merge}
+use Rattle.model.specs.Merge.{Stored, Room, IncrementalOutput, windowOf, newRegionText, balancedNodes, isUnclosed, introducesRubyFormatDependency, cutsOk, grafted, mergedBook, answer, fitsRoom, resultOk, fitting, resultChecked, mergeBooks, merge, MergeWindow}
 use Rattle.laws.specs.Lists.{both}
 
 -- ---- steps of a chain
 
-refused-not : {A : Type 0} (n : ℕ) (a : A) → refused n ≡ accepted a → ⊥
+pub refused-not : {A : Type 0} (n : ℕ) (a : A) → refused n ≡ accepted a → ⊥
 refused-not n a e = let z : _≡_ {A = ℕ} 0 1 = cc in omega arith
 
 pub bind-accepted : {A B : Type 0} (x : Checked A) (f : A → Checked B) (y : B) → (x >>= f) ≡ accepted y → (a : A) × (x ≡ accepted a) × (f a ≡ accepted y)
@@ -253,6 +253,41 @@ chosen-facts b e r q =
 abbrev pub mergedOf : LexOutput → Edit → RegionOutput → Span → LexOutput
 mergedOf old e reading r = mergedBook old e reading (windowOf old e reading r) (grafted old reading)
 
+-- 12 to 17 have passed
+pub record Passed (old : LexOutput) (e : Edit) (r : Span) (reading : RegionOutput) : Type 0 where
+  pub regionText : same (reading .sanitized) (newRegionText old e r) ≡ true
+  pub balanced : balancedNodes (reading .sourceNodes) ≡ true
+  pub closed : any isUnclosed (reading .diagnostics) ≡ false
+  pub independent : introducesRubyFormatDependency old reading r ≡ false
+  pub cuts : cutsOk old (windowOf old e reading r) ≡ true
+  pub layers : not (isEmpty (reading .sourceNodes)) && leb maxLayers (length (old .layers)) ≡ false
+
+module _ (old : LexOutput) (e : Edit) (r : Span) (reading : RegionOutput) where
+  pub passed-fitting : Passed old e r reading → fitting old e r reading ≡ accepted (windowOf old e reading r)
+  unfolding fitting refuse_if_ _>>=_
+  passed-fitting p = rw (p .regionText, p .balanced, p .closed, p .independent, p .cuts, p .layers) refl
+
+  pub fitting-passed : (w : MergeWindow) → fitting old e r reading ≡ accepted w → (windowOf old e reading r ≡ w) × Passed old e r reading
+  unfolding fitting
+  fitting-passed w q =
+      let v = windowOf old e reading r in
+      let s₂ = refuse-accepted 12 (not (same (reading .sanitized) (newRegionText old e r))) _ w q in
+      let s₃ = refuse-accepted 13 (not (balancedNodes (reading .sourceNodes))) _ w (s₂ .1) in
+      let s₄ = refuse-accepted 14 (any isUnclosed (reading .diagnostics)) _ w (s₃ .1) in
+      let s₅ = refuse-accepted 15 (introducesRubyFormatDependency old reading r) _ w (s₄ .1) in
+      let s₆ = refuse-accepted 16 (not (cutsOk old v)) _ w (s₅ .1) in
+      let s₇ = refuse-accepted 17 (not (isEmpty (reading .sourceNodes)) && leb maxLayers (length (old .layers))) _ w (s₆ .1) in (
+        same-accepted v w (s₇ .1),
+        record {
+          regionText = not-false (same (reading .sanitized) (newRegionText old e r)) (s₂ .0);
+          balanced = not-false (balancedNodes (reading .sourceNodes)) (s₃ .0);
+          closed = s₄ .0;
+          independent = s₅ .0;
+          cuts = not-false (cutsOk old v) (s₆ .0);
+          layers = s₇ .0;
+        },
+      )
+
 pub record MergeFacts (old : LexOutput) (e : Edit) (r : Span) (reading : RegionOutput) (room : Room) (m : IncrementalOutput) : Type 0 where
   pub regionText : reading .sanitized ≡ newRegionText old e r
   pub balanced : balancedNodes (reading .sourceNodes) ≡ true
@@ -267,30 +302,27 @@ pub record MergeFacts (old : LexOutput) (e : Edit) (r : Span) (reading : RegionO
   pub result : m ≡ answer old reading (windowOf old e reading r) (grafted old reading) (mergedOf old e reading r)
 
 pub merge-facts : (old : LexOutput) (e : Edit) (r : Span) (reading : RegionOutput) (room : Room) (m : IncrementalOutput) → mergeBooks old e r reading room ≡ accepted m → MergeFacts old e r reading room m
-unfolding mergeBooks resultOk
+unfolding mergeBooks resultChecked resultOk
 merge-facts old e r reading room m q =
     let w = windowOf old e reading r in
     let g = grafted old reading in
     let new = mergedBook old e reading w g in
     let a = answer old reading w g new in
-    let s₂ = refuse-accepted 12 (not (same (reading .sanitized) (newRegionText old e r))) _ m q in
-    let s₃ = refuse-accepted 13 (not (balancedNodes (reading .sourceNodes))) _ m (s₂ .1) in
-    let s₄ = refuse-accepted 14 (any isUnclosed (reading .diagnostics)) _ m (s₃ .1) in
-    let s₅ = refuse-accepted 15 (introducesRubyFormatDependency old reading r) _ m (s₄ .1) in
-    let s₆ = refuse-accepted 16 (not (cutsOk old w)) _ m (s₅ .1) in
-    let s₇ = refuse-accepted 17 (not (isEmpty (reading .sourceNodes)) && leb maxLayers (length (old .layers))) _ m (s₆ .1) in
-    let s₈ = refuse-accepted 18 (not (resultOk room g new (a .output))) _ m (s₇ .1) in
-    let u₃ = both _ (leb minWorkWords (room .workWords)) (not-false (resultOk room g new (a .output)) (s₈ .0)) in
+    let s₁ = bind-accepted (fitting old e r reading) _ m q in
+    let s₂ = fitting-passed old e r reading (s₁ .0) (s₁ .1) in
+    let s₃ = refuse-accepted 18 (not (resultOk room g new (a .output))) _ m (subst (λ (x : MergeWindow). resultChecked old e reading x room ≡ accepted m) (sym (s₂ .0)) (s₁ .2)) in
+    let p = s₂ .1 in
+    let u₃ = both _ (leb minWorkWords (room .workWords)) (not-false (resultOk room g new (a .output)) (s₃ .0)) in
     let u₂ = both _ (fitsRoom room (a .output)) (u₃ .0) in
     let u₁ = both (withinLimits new) (leb (length (g .1 .interner .strings)) maxNewStrings) (u₂ .0) in
-    let same-answer = same-accepted a m (s₈ .1) in
+    let same-answer = same-accepted a m (s₃ .1) in
     record {
-      regionText = same-eq (reading .sanitized) (newRegionText old e r) (not-false (same (reading .sanitized) (newRegionText old e r)) (s₂ .0));
-      balanced = not-false (balancedNodes (reading .sourceNodes)) (s₃ .0);
-      closed = s₄ .0;
-      independent = s₅ .0;
-      cuts = not-false (cutsOk old w) (s₆ .0);
-      layers = s₇ .0;
+      regionText = same-eq (reading .sanitized) (newRegionText old e r) (p .regionText);
+      balanced = p .balanced;
+      closed = p .closed;
+      independent = p .independent;
+      cuts = p .cuts;
+      layers = p .layers;
       limits = u₁ .0;
       newStrings = leb-true (length (g .1 .interner .strings)) maxNewStrings (u₁ .1);
       fits = subst (λ (x : IncrementalOutput). fitsRoom room (x .output) ≡ true) same-answer (u₂ .1);

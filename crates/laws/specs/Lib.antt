@@ -21,3 +21,4 @@ pub mod Intern
 pub mod Graft
 pub mod Levels
 pub mod Layers
+pub mod Estimate

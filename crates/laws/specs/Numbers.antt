@@ -11,7 +11,8 @@ use Rattle.model.specs.Refusal.{Checked, Checked.refused, Checked.accepted, _>>
 use Rattle.model.specs.Tape.{parse}
 use Rattle.model.specs.WellFormed.{laidOut, wellFormed, checkBook, checkReading}
 use Rattle.model.specs.Region.{Edit, chosenRegion, chooseRegion}
-use Rattle.model.specs.Merge.{Stored, Room, IncrementalOutput, mergeBooks, merge}
+use Rattle.model.specs.Merge.{Stored, Room, IncrementalOutput, fitting, resultChecked, mergeBooks, merge, fitted}
+use Rattle.model.specs.Estimate.{estimate}
 use Rattle.model.specs.Lookup.{copyBook}
 use Rattle.model.specs.Runs.{asked, program}
 
@@ -52,17 +53,21 @@ module _ (last : ℕ) where
   reading-up-to h t d =
       bind-up-to (laidOut (parse t d)) _ (laid-out-up-to (omega arith) (parse t d)) (λ b. line 1 _ _ (omega arith) (omega arith) (well-formed-up-to h b))
 
-  chosen-up-to : 11 ≤ last → (b : LexOutput) (e : Edit) → UpTo last (chosenRegion b e)
+  pub chosen-up-to : 11 ≤ last → (b : LexOutput) (e : Edit) → UpTo last (chosenRegion b e)
   unfolding chosenRegion
   chosen-up-to h b e =
       line 8 _ _ (omega arith) (omega arith) (line 2 _ _ (omega arith) (omega arith) (line 3 _ _ (omega arith) (omega arith)
       (line 9 _ _ (omega arith) (omega arith) (line 10 _ _ (omega arith) (omega arith) (line 11 _ _ (omega arith) h tt)))))
 
-  merge-books-up-to : 18 ≤ last → (old : LexOutput) (e : Edit) (r : Span) (reading : RegionOutput) (room : Room) → UpTo last (mergeBooks old e r reading room)
-  unfolding mergeBooks
-  merge-books-up-to h old e r reading room =
+  fitting-up-to : 17 ≤ last → (old : LexOutput) (e : Edit) (r : Span) (reading : RegionOutput) → UpTo last (fitting old e r reading)
+  unfolding fitting
+  fitting-up-to h old e r reading =
       line 12 _ _ (omega arith) (omega arith) (line 13 _ _ (omega arith) (omega arith) (line 14 _ _ (omega arith) (omega arith)
-      (line 15 _ _ (omega arith) (omega arith) (line 16 _ _ (omega arith) (omega arith) (line 17 _ _ (omega arith) (omega arith) (line 18 _ _ (omega arith) h tt))))))
+      (line 15 _ _ (omega arith) (omega arith) (line 16 _ _ (omega arith) (omega arith) (line 17 _ _ (omega arith) h tt)))))
+
+  merge-books-up-to : 18 ≤ last → (old : LexOutput) (e : Edit) (r : Span) (reading : RegionOutput) (room : Room) → UpTo last (mergeBooks old e r reading room)
+  unfolding mergeBooks resultChecked
+  merge-books-up-to h old e r reading room = bind-up-to (fitting old e r reading) _ (fitting-up-to (omega arith) old e r reading) (λ w. line 18 _ _ (omega arith) h tt)
 
 -- Choosing the region alone runs up to 11.
 pub choose-region-numbers : (t d : List ℕ) (e : Edit) → UpTo 11 (chooseRegion t d e)
@@ -77,6 +82,16 @@ merge-numbers s e rs room =
     bind-up-to 18 (chosenRegion old e) _ (chosen-up-to 18 (omega arith) old e) (λ r.
     bind-up-to 18 (checkReading (rs .tape) (rs .bytes)) _ (reading-up-to 18 (omega arith) (rs .tape) (rs .bytes)) (λ reading.
     merge-books-up-to 18 (omega arith) old e r reading room)))
+
+-- Its estimate (wish 2) has no 18.
+pub estimate-numbers : (s : Stored) (e : Edit) (rs : Stored) → UpTo 17 (estimate s e rs)
+unfolding estimate fitted
+estimate-numbers s e rs =
+    bind-up-to 17 (fitted s e rs) _
+    (bind-up-to 17 (checkBook (s .tape) (s .bytes)) _ (book-up-to 17 (omega arith) (s .tape) (s .bytes)) (λ old.
+    bind-up-to 17 (chosenRegion old e) _ (chosen-up-to 17 (omega arith) old e) (λ r.
+    bind-up-to 17 (checkReading (rs .tape) (rs .bytes)) _ (reading-up-to 17 (omega arith) (rs .tape) (rs .bytes)) (λ reading.
+    bind-up-to 17 (fitting old e r reading) _ (fitting-up-to 17 (omega arith) old e r reading) (λ w. tt))))) (λ f. tt)
 
 pub copy-book-numbers : (s : Stored) (room : Room) → UpTo 18 (copyBook s room)
 unfolding copyBook

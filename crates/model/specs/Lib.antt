@@ -13,6 +13,7 @@ pub mod Tree
 pub mod Graft
 pub mod Region
 pub mod Merge
+pub mod Estimate
 pub mod Lookup
 pub mod Runs
 pub mod Demand3

@@ -280,13 +280,10 @@ resultOk room g new s =
 
 -- ---- the merge, in the table's order
 
--- 12 to 18, of a book and a reading that passed.
-unfoldable pub mergeBooks : LexOutput → Edit → Span → RegionOutput → Room → Checked IncrementalOutput
-mergeBooks old e r reading room =
+-- 12 to 17, of a book and a reading that passed: the merge's window.
+unfoldable pub fitting : LexOutput → Edit → Span → RegionOutput → Checked MergeWindow
+fitting old e r reading =
     let w = windowOf old e reading r in
-    let g = grafted old reading in
-    let new = mergedBook old e reading w g in
-    let a = answer old reading w g new in
     do
       _ ← refuse 12 if not (same (reading .sanitized) (newRegionText old e r))
       _ ← refuse 13 if not (balancedNodes (reading .sourceNodes))
@@ -294,8 +291,23 @@ mergeBooks old e r reading room =
       _ ← refuse 15 if introducesRubyFormatDependency old reading r
       _ ← refuse 16 if not (cutsOk old w)
       _ ← refuse 17 if not (isEmpty (reading .sourceNodes)) && leb maxLayers (length (old .layers))
+      accepted w
+
+-- 18 of what passed 1 to 17, and the answer.
+unfoldable pub resultChecked : LexOutput → Edit → RegionOutput → MergeWindow → Room → Checked IncrementalOutput
+resultChecked old e reading w room =
+    let g = grafted old reading in
+    let new = mergedBook old e reading w g in
+    let a = answer old reading w g new in
+    do
       _ ← refuse 18 if not (resultOk room g new (a .output))
       accepted a
+
+-- 12 to 18, of a book and a reading that passed.
+unfoldable pub mergeBooks : LexOutput → Edit → Span → RegionOutput → Room → Checked IncrementalOutput
+mergeBooks old e r reading room = do
+  w ← fitting old e r reading
+  resultChecked old e reading w room
 
 -- `merge`. Order: old book 1 to 7, rising; edit 8; replacement 2, new text 3; 9, 10, 11; reading as the old book; 12 to 18.
 unfoldable pub merge : Stored → Edit → Stored → Room → Checked IncrementalOutput
@@ -304,6 +316,23 @@ merge book e reading room = do
   r ← chosenRegion old e
   new ← checkReading (reading .tape) (reading .bytes)
   mergeBooks old e r new room
+
+-- ---- the merge up to 17
+
+-- What passed 1 to 17: the old book, the reading, the merge's window.
+pub record Fitted : Type 0 where
+  pub old : LexOutput
+  pub reading : RegionOutput
+  pub window : MergeWindow
+
+-- 1 to 17, in the merge's order.
+unfoldable pub fitted : Stored → Edit → Stored → Checked Fitted
+fitted book e reading = do
+  old ← checkBook (book .tape) (book .bytes)
+  r ← chosenRegion old e
+  new ← checkReading (reading .tape) (reading .bytes)
+  w ← fitting old e r new
+  accepted (record { old = old; reading = new; window = w })
 
 -- ---- what the lent buffers hold at the end
 

@@ -10,7 +10,7 @@ use mathlib.Core.Bool.{Bool, true, false}
 --    5  WellFormed.levelsOk                        14  Merge.isUnclosed
 --    6  WellFormed.placesOk                        15  Merge.introducesRubyFormatDependency
 --    7  WellFormed.normalizedLengthOk              16  Merge.cutsOk
---    8  Region.editOk                              17  Merge.mergeBooks
+--    8  Region.editOk                              17  Merge.fitting
 --    9  Region.edited                              18  Merge.resultOk
 
 -- A value, or the number that refuses it.

@@ -9,15 +9,16 @@ use lib.ListN.{length, replicate}
 use Rattle.model.specs.Lists.{tabulate, ascii}
 use Rattle.model.specs.Limits.{noString}
 use Rattle.model.specs.Offset.{Span}
-use Rattle.model.specs.Intern.{StrInterner, Interned, freshInterner, intern, internAll}
+use Rattle.model.specs.Intern.{InternStats, StrInterner, Interned, freshInterner, intern, internAll}
 use Rattle.model.specs.Types.{Body, Content, Segment, Layer, SourceNode, PairLink, ContainerPair, Diagnostic, LexOutput, RegionOutput}
 use Rattle.model.specs.Refusal.{Checked, Checked.refused, Checked.accepted, numberOf}
 use Rattle.model.specs.Tape.{parse, tapeOf, bytesOf}
 use Rattle.model.specs.WellFormed.{checkBook, checkReading}
 use Rattle.model.specs.Tree.{shownNodes}
-use Rattle.model.specs.Graft.{layered, graftNodeRefs}
+use Rattle.model.specs.Graft.{NewLayer, layered, graftNodeRefs}
 use Rattle.model.specs.Region.{Edit, chooseRegion}
-use Rattle.model.specs.Merge.{Stored, Room, IncrementalOutput, storedBook, merge}
+use Rattle.model.specs.Merge.{Stored, Room, IncrementalOutput, storedBook, grafted, windowOf, merge}
+use Rattle.model.specs.Estimate.{Estimate, isOver, priceOf, estimate}
 use Rattle.model.specs.Runs.{program, programRoom}
 use Rattle.model.specs.Examples.{plainBook, edit, regionIn, region, rubyReading, input}
 use Rattle.model.specs.Computed.{computed}
@@ -297,3 +298,67 @@ pub program-input :
     × (numberOf (program (input (plainBook (ascii "aa\n\nbb\n\ncc")) (edit 4 5) rubyReading ++ (0 ∷ []))) ≡ 1)
 unfolding computed
 program-input = (refl, refl, refl)
+
+-- ---- wish 2
+
+-- "aa\n\nbb\n\ncc" with these layers and this normalized text, without nodes
+abbrev layersWith : List ℕ → List Layer → LexOutput
+layersWith normalized layers = record {
+  sanitized = ascii "aa\n\nbb\n\ncc";
+  normalized = normalized;
+  layers = layers;
+  sourceNodes = [];
+  pairs = [];
+  containerPairs = [];
+  diagnostics = [];
+}
+
+-- the estimate of P4's edit
+abbrev priced : LexOutput → RegionOutput → Checked Estimate
+priced old reading = estimate (storedBook old) (edit 4 5) (storedBook reading)
+
+abbrev price : ℕ → ℕ → ℕ → ℕ → ℕ → Estimate
+price nodes calls contents segments bytes = record { reparsedNodes = nodes; calls = calls; contents = contents; segments = segments; byteLength = bytes }
+
+-- Wish 2. The strings of all old layers are in the byte buffer beside both texts; the reading's strings are the new layer's. Without nodes
+-- the four counts are 0.
+pub old-strings-priced :
+    (priced (layersWith (ascii "aa\n\nbb\n\ncc") (layerOf (ascii "old" ∷ []) [] [] ∷ layerOf (ascii "er" ∷ []) [] [] ∷ [])) rubyReading ≡ accepted (price 1 2 2 0 26))
+    × (priced (threeWith [] [] []) (plainReading []) ≡ accepted (price 0 0 0 0 20))
+unfolding computed
+old-strings-priced = (refl, refl)
+
+-- Wish 2. 1048575 is not over, for none of the three; one more is, for each.
+pub over-by-one-of-three :
+    (isOver 1048575 1048575 1048575 ≡ false) × (isOver 1048576 0 0 ≡ true) × (isOver 0 1048576 0 ≡ true) × (isOver 0 0 1048576 ≡ true)
+unfolding computed
+over-by-one-of-three = (refl, refl, refl, refl)
+
+-- 1048576 calls, two contents, no segment
+abbrev manyCalls : LexOutput → RegionOutput → Estimate
+manyCalls old reading =
+    let g = grafted old reading .1 in
+    let stats : InternStats = record { calls = 1048576; cacheHits = 0; tableHits = 0; allocs = 0; longBypass = 0; resizes = 0; probeSteps = 0 } in
+    let state : StrInterner = record { strings = []; table = []; occupied = 0; last = 0; stats = stats } in
+    let made : NewLayer = record { stringOffset = 0; contentOffset = 0; segmentOffset = 0; interner = state; contents = g .contents; segments = g .segments } in
+    priceOf old (edit 4 5) reading (windowOf old (edit 4 5) reading (span 4 8)) ([], made)
+
+-- Wish 2. Over by one, all three are given as over; nodes and length stay as they are.
+pub over-for-all-three : manyCalls (threeWith [] [] []) rubyReading ≡ price 1 1048576 1048576 1048576 21
+unfolding computed
+over-for-all-three = refl
+
+-- the same text, its normalized form with a character across the cut at 4
+abbrev badCut : List ℕ
+badCut = ascii "aa\n" ++ (0xee ∷ 0x80 ∷ 0x81 ∷ ascii "\n\ncc")
+
+abbrev layersOf : ℕ → List Layer
+layersOf n = replicate n (layerOf [] [] [])
+
+-- Wish 2. 16 and 17 come as the merge gives them, 16 first; a reading without nodes needs no layer.
+pub sixteen-before-seventeen :
+    (priced (layersWith badCut (layersOf 32)) rubyReading ≡ refused 16)
+    × (priced (layersWith (ascii "aa\n\nbb\n\ncc") (layersOf 32)) rubyReading ≡ refused 17)
+    × (priced (layersWith (ascii "aa\n\nbb\n\ncc") (layersOf 32)) (plainReading []) ≡ accepted (price 0 0 0 0 20))
+unfolding computed
+sixteen-before-seventeen = (refl, refl, refl)

@@ -1,4 +1,4 @@
--- A book and a reading that passed 1 to 17, and what follows for the code that writes their merge.
+-- What follows of a book and a reading that passed 1 to 17 (fitting's Books), for the code that writes their merge.
 use mathlib.Core.Path.{_≡_, refl, sym, ap, _∙_}
 use Prim.Native.Nat.{ℕ, _+_, _-_, _≤_}
 use native.Mathlib.Omega.{arith}
@@ -7,13 +7,11 @@ use mathlib.Core.List.{List, _++_, append-assoc}
 use lib.ListN.{length}
 use Rattle.model.specs.Lists.{isEmpty}
 use Rattle.model.specs.Limits.{maxText}
-use Rattle.model.specs.Bytes.{AreBytes}
 use Rattle.model.specs.Types.{LexOutput, RegionOutput}
-use Rattle.model.specs.Refusal.{Checked.accepted}
-use Rattle.model.specs.Tape.{places, bookAt, bytesOf}
-use Rattle.model.specs.Region.{Edit, edited, chosenRegion}
+use Rattle.model.specs.Tape.{bytesOf}
+use Rattle.model.specs.Region.{Edit, edited}
 use Rattle.model.specs.Merge.{MergeWindow, windowOf, mergedNormalized, grafted, mergedBook}
-use Rattle.laws.specs.Checks.{WellFormed, Chosen, chosen-facts, same-eq, LimitFacts, limit-facts}
+use Rattle.laws.specs.Checks.{Chosen, chosen-facts, same-eq, LimitFacts, limit-facts}
 use Rattle.laws.specs.Fits.{fits}
 use Rattle.laws.specs.ReadFits.{read-fits}
 use Rattle.laws.specs.Nodes.{normal-inside}
@@ -21,39 +19,15 @@ use Rattle.laws.specs.Splice.{splice}
 use Rattle.commute.specs.Merged.{Fit, normal-region-rises}
 use Rattle.commute.specs.Step.{Begun, begun-fit}
 use Rattle.places.specs.declared.Places.{Places}
-use Rattle.places.specs.Found.{found}
 use Rattle.store.specs.declared.Store.{Store}
-use Rattle.store.specs.Stored.{storeAt}
 use Rattle.store.specs.Lengths.{BookLengths, book-lengths}
-use Rattle.tape.specs.Accepted.{Accepted, AcceptedReading}
-use Rattle.result.specs.Checked.{Passed}
+use Rattle.fitting.specs.Books.{Books, bookIn, well-formed}
 use Rattle.result.specs.Parts.{oldStringBytes, newStringBytes, merged-strings}
 use Rattle.merged_texts.specs.Writing.{spliced-length}
 
--- The region is the window's own.
-pub record Books (t d : List ℕ) (p : Places) (st : Store) (e : Edit) (w : MergeWindow) (rt rd : List ℕ) (q : Places) (rst : Store) : Type 0 where
-  pub bytes : AreBytes t
-  pub book : Accepted t d
-  pub oldPlaces : p ≡ found t
-  pub oldStore : st ≡ storeAt t
-  pub readingBytes : AreBytes rt
-  pub reading : AcceptedReading rt rd
-  pub readingPlaces : q ≡ found rt
-  pub readingStore : rst ≡ storeAt rt
-  pub region : chosenRegion (bookAt t (places t) d) e ≡ accepted (w .source)
-  pub window : w ≡ windowOf (bookAt t (places t) d) e (bookAt rt (places rt) rd) (w .source)
-  pub passed : Passed (bookAt t (places t) d) e (w .source) (bookAt rt (places rt) rd)
-
--- the book of a tape
-abbrev pub bookIn : List ℕ → List ℕ → LexOutput
-bookIn t d = bookAt t (places t) d
-
--- the merge of two of them
+-- the merge of two books
 abbrev pub mergeOf : LexOutput → Edit → RegionOutput → MergeWindow → LexOutput
 mergeOf old e reading w = mergedBook old e reading w (grafted old reading)
-
-formed : {t d : List ℕ} → Accepted t d → WellFormed (bookIn t d)
-formed a = record { utf8 = a .texts; limits = a .limits; ids = a .ids; levels = a .levels; places = a .placesOk; sizes = a .normalizedLengthOk }
 
 -- where the edit and the region lie in the old texts
 pub record Inside (e : Edit) (w : MergeWindow) (text normalized : ℕ) : Type 0 where
@@ -80,8 +54,8 @@ module _ {t d : List ℕ} {p : Places} {st : Store} {e : Edit} {w : MergeWindow}
 
   pub begun : Begun old e (w .source) read
   begun = record {
-    oldFormed = formed (b .book);
-    readingFormed = formed (b .reading .whole);
+    oldFormed = well-formed (b .book);
+    readingFormed = well-formed (b .reading .whole);
     chosen = chosen;
     regionText = same-eq (read .sanitized) _ (b .passed .regionText);
     balanced = b .passed .balanced;

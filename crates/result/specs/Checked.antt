@@ -1,13 +1,12 @@
 -- Number 18 decided and the answer given: what is left of a merge once 12 to 17 have passed.
-use mathlib.Core.Path.{_≡_, refl}
+use mathlib.Core.Path.{_≡_, refl, ap}
 use Prim.Native.Nat.{_≤_}
-use mathlib.Core.Bool.{Bool, true, false, cond, not, _&&_}
+use mathlib.Core.Bool.{Bool, true, false, cond, not}
 use mathlib.Core.List.{List}
 use lib.ListN.{length}
 use lib.Dec.{leb}
 use borrow.Author.Tests.{leb-true, le-leb}
-use Rattle.model.specs.Lists.{any, isEmpty, same}
-use Rattle.model.specs.Limits.{maxLayers, maxNewStrings, minWorkWords}
+use Rattle.model.specs.Limits.{maxNewStrings, minWorkWords}
 use Rattle.model.specs.Offset.{Span}
 use Rattle.model.specs.Types.{SourceNode, LexOutput, RegionOutput}
 use Rattle.model.specs.Refusal.{Checked, Checked.refused, Checked.accepted, _>>=_, refuse_if_}
@@ -15,28 +14,9 @@ use Rattle.model.specs.Tape.{tapeOf, bytesOf}
 use Rattle.model.specs.WellFormed.{withinLimits}
 use Rattle.model.specs.Graft.{With}
 use Rattle.model.specs.Region.{Edit}
-use Rattle.model.specs.Merge.{Room, IncrementalOutput, MergeWindow, newRegionText, balancedNodes, isUnclosed, introducesRubyFormatDependency, windowOf, cutsOk, grafted, mergedBook, storedBook, answer, fitsRoom, resultOk, mergeBooks}
+use Rattle.model.specs.Merge.{Room, IncrementalOutput, MergeWindow, windowOf, grafted, mergedBook, storedBook, answer, fitsRoom, resultOk, resultChecked, mergeBooks}
 use Rattle.laws.specs.Lists.{both}
-use Rattle.laws.specs.Checks.{LimitFacts, limit-facts}
-
--- ---- definitions
-
--- Number 18, and the answer.
-unfoldable pub resultChecked : LexOutput → Edit → RegionOutput → MergeWindow → Room → Checked IncrementalOutput
-resultChecked old e reading w room =
-    let g = grafted old reading in
-    let new = mergedBook old e reading w g in
-    let a = accepted (answer old reading w g new) in
-    cond (resultOk room g new (storedBook new)) a (refused 18)
-
--- 12 to 17 have passed
-pub record Passed (old : LexOutput) (e : Edit) (r : Span) (reading : RegionOutput) : Type 0 where
-  pub regionText : same (reading .sanitized) (newRegionText old e r) ≡ true
-  pub balanced : balancedNodes (reading .sourceNodes) ≡ true
-  pub closed : any isUnclosed (reading .diagnostics) ≡ false
-  pub independent : introducesRubyFormatDependency old reading r ≡ false
-  pub cuts : cutsOk old (windowOf old e reading r) ≡ true
-  pub layers : not (isEmpty (reading .sourceNodes)) && leb maxLayers (length (old .layers)) ≡ false
+use Rattle.laws.specs.Checks.{LimitFacts, limit-facts, Passed, passed-fitting}
 
 -- ---- the merge's own end
 
@@ -45,14 +25,19 @@ unfolding refuse_if_ _>>=_
 checked-cond true a = refl
 checked-cond false a = refl
 
+pub result-cond : (old : LexOutput) (e : Edit) (reading : RegionOutput) (w : MergeWindow) (room : Room)
+    → (let g = grafted old reading in let new = mergedBook old e reading w g in
+    resultChecked old e reading w room ≡ cond (resultOk room g new (storedBook new)) (accepted (answer old reading w g new)) (refused 18))
+unfolding resultChecked answer
+result-cond old e reading w room =
+    let g = grafted old reading in
+    let new = mergedBook old e reading w g in
+    checked-cond (resultOk room g new (storedBook new)) (answer old reading w g new)
+
 pub merge-passed : (old : LexOutput) (e : Edit) (r : Span) (reading : RegionOutput) (room : Room) → Passed old e r reading
     → mergeBooks old e r reading room ≡ resultChecked old e reading (windowOf old e reading r) room
-unfolding mergeBooks resultChecked refuse_if_ _>>=_ answer
-merge-passed old e r reading room p =
-    let g = grafted old reading in
-    let w = windowOf old e reading r in
-    let new = mergedBook old e reading w g in
-    rw (p .regionText, p .balanced, p .closed, p .independent, p .cuts, p .layers) (checked-cond (resultOk room g new (storedBook new)) (answer old reading w g new))
+unfolding mergeBooks _>>=_
+merge-passed old e r reading room p = ap (λ (x : Checked MergeWindow). x >>= λ w. resultChecked old e reading w room) (passed-fitting old e r reading p)
 
 -- ---- number 18 part by part
 

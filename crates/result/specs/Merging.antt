@@ -10,7 +10,7 @@ use Rattle.model.specs.Limits.{maxPool}
 use Rattle.model.specs.Refusal.{Checked, Checked.accepted}
 use Rattle.model.specs.Tape.{recordsAt, recordsBytes, nodeCodec, bytesNeeded}
 use Rattle.model.specs.Region.{Edit}
-use Rattle.model.specs.Merge.{Room, IncrementalOutput, MergeWindow, nodeLocated, keptBefore, keptBehind, grafted, storedBook, answer, roomOf}
+use Rattle.model.specs.Merge.{Room, IncrementalOutput, MergeWindow, nodeLocated, keptBefore, keptBehind, grafted, storedBook, answer, roomOf, resultChecked}
 use Rattle.wire.specs.Overwrite.{overwrite}
 use Rattle.places.specs.declared.Places.{Places}
 use Rattle.places.specs.Found.{found}
@@ -23,9 +23,10 @@ use Rattle.merged_lists.specs.declared.Lengths.{Lengths}
 use Rattle.result.specs.declared.Graft.{Graft}
 use Rattle.output.specs.declared.IncrementalOutput.{IncrementalOutput as Output}
 use Rattle.output.specs.Answer.{refusedOutput, outputBy, Written}
-use Rattle.result.specs.Checked.{resultChecked, ResultFacts}
+use Rattle.result.specs.Checked.{ResultFacts}
 use Rattle.result.specs.Parts.{old-layers-length}
-use Rattle.result.specs.Books.{Books, bookIn, mergeOf, lengths-read, limits-old}
+use Rattle.fitting.specs.Books.{Books, bookIn}
+use Rattle.result.specs.Books.{mergeOf, lengths-read, limits-old}
 use Rattle.merged_lists.specs.Sizes.{keptOf, roomFor, lengthsOf, listsEnd, room-facts, room-ok}
 use Rattle.merged_lists.specs.Lists.{Lists, listsOf}
 use Rattle.result.specs.Grafting.{offsetsOf}

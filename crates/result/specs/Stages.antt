@@ -11,12 +11,12 @@ use Rattle.model.specs.Lists.{isEmpty}
 use Rattle.model.specs.Bytes.{part}
 use Rattle.model.specs.Intern.{InternStats}
 use Rattle.model.specs.Types.{SourceNode, LexOutput, RegionOutput}
-use Rattle.model.specs.Refusal.{Checked, Checked.refused, Checked.accepted, numberOf}
+use Rattle.model.specs.Refusal.{Checked, Checked.refused, Checked.accepted}
 use Rattle.model.specs.Tape.{recordsBytes, nodeCodec, bookAt, bytesOf}
 use Rattle.model.specs.Graft.{With}
 use Rattle.model.specs.Region.{Edit}
 use Rattle.model.specs.Merge.{IncrementalOutput, MergeWindow, grafted, mergedBook, answer}
-use Rattle.laws.specs.Checks.{same-accepted}
+use Rattle.laws.specs.Checks.{refused-not, same-accepted}
 use Rattle.laws.specs.Splice.{splice}
 use Rattle.wire.specs.Overwrite.{overwrite, length-overwrite, overwrite-next, take-overwrite}
 use Rattle.stats.specs.Counts.{statsOf}
@@ -32,7 +32,8 @@ use Rattle.output.specs.declared.IncrementalOutput.{IncrementalOutput as Output
 use Rattle.output.specs.Answer.{countersOf, refusedOutput, outputBy, outputOf, Written}
 use Rattle.merged_texts.specs.Writing.{headBytes, head-length}
 use Rattle.result.specs.Parts.{oldLayerBytes, oldStringBytes, newLayerBytes, newStringBytes, old-layers, old-strings, old-layers-length}
-use Rattle.result.specs.Books.{Books, bookIn, mergeOf, lengths-read, new-text, new-normalized, new-bytes}
+use Rattle.fitting.specs.Books.{Books, bookIn}
+use Rattle.result.specs.Books.{mergeOf, lengths-read, new-text, new-normalized, new-bytes}
 use Rattle.merged_lists.specs.Sizes.{lengthsOf}
 use Rattle.result.specs.Grafting.{offsetsOf, graftOk, GraftTold}
 use Rattle.result.specs.Whole.{above, text-is, normalized-is, base-is, node-bytes}
@@ -184,17 +185,13 @@ module _ {t d : List ℕ} {p : Places} {st : Store} {e : Edit} {w : MergeWindow}
 
 -- ---- the answer
 
-not-accepted : (a : IncrementalOutput) → refused 18 ≡ accepted a → ⊥
-unfolding numberOf
-not-accepted a e = let n : _≡_ {A = ℕ} 18 0 = ap numberOf e in omega (arith, n)
-
-pub written-refused : (asked : Checked IncrementalOutput) {r : Output} (out text work : List ℕ) {out′ text′ work′ : List ℕ} → asked ≡ refused 18 → r ≡ refusedOutput 18
+pub written-refused : (asked : Checked IncrementalOutput) {n : ℕ} {r : Output} (out text work : List ℕ) {out′ text′ work′ : List ℕ} → asked ≡ refused n → r ≡ refusedOutput n
     → length out′ ≡ length out → length text′ ≡ length text → length work′ ≡ length work → Written asked r out text work out′ text′ work′
 unfolding outputOf
-written-refused asked out text work e f a b c = rw (e, f) (record {
+written-refused asked {n} out text work e f a b c = rw (e, f) (record {
   answer = refl;
-  tape = λ x y. absurd (not-accepted x y);
-  bytes = λ x y. absurd (not-accepted x y);
+  tape = λ x y. absurd (refused-not n x y);
+  bytes = λ x y. absurd (refused-not n x y);
   tapeLength = a;
   textLength = b;
   wordsLength = c;

@@ -18,7 +18,7 @@ use Rattle.model.specs.Store.{storeOf, stringCounts, contentCounts, segmentCoun
 use Rattle.model.specs.Tape.{recordsAt, recordsBytes, nodeCodec, pairCodec, containerCodec, diagnosticCodec, layerBytes, places, bookAt, tapeOf, bytesOf}
 use Rattle.model.specs.Graft.{layered, layerOf, With, graftNodeRefs}
 use Rattle.model.specs.Region.{Edit}
-use Rattle.model.specs.Merge.{Room, MergeWindow, windowOf, spliced, nodeLocated, pairLocated, containerLocated, diagnosticLocated, grafted, mergedBook, storedBook, answer, resultOk}
+use Rattle.model.specs.Merge.{Room, MergeWindow, windowOf, spliced, nodeLocated, pairLocated, containerLocated, diagnosticLocated, grafted, mergedBook, storedBook, answer, resultOk, resultChecked}
 use Rattle.laws.specs.Checks.{merge-facts, mergedOf}
 use Rattle.laws.specs.Fits.{recordFits, fits}
 use Rattle.laws.specs.WriteRead.{book-fits}
@@ -40,11 +40,12 @@ use Rattle.layer.specs.Layered.{Above, layerRecords, layer-fits, layer-ok}
 use Rattle.wire.specs.Apart.{overwrite-covered}
 use Rattle.merged_lists.specs.declared.Kept.{Kept}
 use Rattle.merged_lists.specs.declared.Lengths.{Lengths}
-use Rattle.result.specs.Checked.{resultChecked, merge-passed, ResultFacts, result-facts, result-ok}
+use Rattle.result.specs.Checked.{result-cond, merge-passed, ResultFacts, result-facts, result-ok}
 use Rattle.merged_texts.specs.Writing.{headBytes, head-length}
 use Rattle.result.specs.Parts.{oldLayerBytes, oldStringBytes, newLayerBytes, newStringBytes, ifLayer, listBytes, tape-parts, list-length, merged-layers, merged-count, merged-number, old-layers-length, old-strings}
 use Rattle.merged_lists.specs.Widths.{sixWords, nodes-width, nodes-six, grafted-six, length-grafted, spliced-six}
-use Rattle.result.specs.Books.{Books, bookIn, mergeOf, chosen, begun, old-fits, reading-fits, lengths-old, lengths-read, limits-old, limits-read, text-length, normalized-length, new-bytes}
+use Rattle.fitting.specs.Books.{Books, bookIn}
+use Rattle.result.specs.Books.{mergeOf, chosen, begun, old-fits, reading-fits, lengths-old, lengths-read, limits-old, limits-read, text-length, normalized-length, new-bytes}
 use Rattle.merged_lists.specs.Sizes.{sidesOf, keptOf, totalOf, lengthsOf, Small, listsEnd, RoomFor, few-kept}
 use Rattle.merged_lists.specs.Lists.{listsOf, oldDiagnostics}
 use Rattle.result.specs.Grafting.{graftOk, offsetsOf}
@@ -332,8 +333,7 @@ module _ {t d : List ℕ} {p : Places} {st : Store} {e : Edit} {w : MergeWindow}
           ok = result-ok room g new f
 
           pub accepted-is : resultChecked old e read w room ≡ accepted (answer old read w g new)
-          unfolding resultChecked
-          accepted-is = rw ok refl
+          accepted-is = result-cond old e read w room ∙ rw ok refl
 
           step : Step old e (w .source) read (answer old read w g new)
           step = record {
@@ -359,8 +359,7 @@ module _ {t d : List ℕ} {p : Places} {st : Store} {e : Edit} {w : MergeWindow}
               ∙ book-fits (mergedOf old e read (w .source)) (merged-book step .0) .diagnostics)
 
         pub refused-is : (ResultFacts room g new → ⊥) → resultChecked old e read w room ≡ refused 18
-        unfolding resultChecked
-        refused-is h = by-bool (resultOk room g new (storedBook new)) (λ y. absurd (h (result-facts room g new y))) (λ y. rw y refl)
+        refused-is h = by-bool (resultOk room g new (storedBook new)) (λ y. absurd (h (result-facts room g new y))) (λ y. result-cond old e read w room ∙ rw y refl)
 
       -- ---- the lists behind the layers
 

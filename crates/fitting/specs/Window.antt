@@ -10,7 +10,7 @@ use Rattle.model.specs.Types.{LexOutput, SourceNode}
 use Rattle.model.specs.Tape.{recordsAt, nodeCodec, places, bookAt}
 use Rattle.model.specs.Region.{Edit}
 use Rattle.model.specs.Merge.{MergeWindow, normalizedOffset, changeInLength, windowOf}
-use Rattle.laws.specs.Checks.{WellFormed, Chosen, chosen-facts, limit-facts}
+use Rattle.laws.specs.Checks.{Chosen, chosen-facts, limit-facts}
 use Rattle.laws.specs.Nodes.{Sound, SafeCut, sound-of, safe-facts, normal-rises, normal-inside}
 use Rattle.commute.specs.Passage.{Bounds, bounds}
 use Rattle.span.specs.Values.{valueOf}
@@ -21,12 +21,12 @@ use Rattle.store.specs.declared.Store.{Store}
 use Rattle.strings.specs.Starts.{lengthsIn}
 use Rattle.strings.specs.Index.{indexIn}
 use Rattle.wire.specs.Overwrite.{overwrite}
-use Rattle.tape.specs.Accepted.{Accepted}
 use Rattle.region.specs.Ready.{Ready, ready-nodes, ready-length}
 use Rattle.region.specs.Held.{held-without}
 use Rattle.splice.specs.declared.Window.{Window}
 use Rattle.splice.specs.Window.{windowValue}
-use Rattle.incremental.specs.Stages.{Given}
+use Rattle.fitting.specs.Books.{well-formed}
+use Rattle.fitting.specs.Stages.{Given}
 
 -- by the ends of the region in both texts, the replacement's length, the edit, and the length of the reading's normalized text
 abbrev pub windowFrom : ℕ → ℕ → ℕ → ℕ → ℕ → ℕ → ℕ → ℕ → MergeWindow
@@ -41,10 +41,11 @@ pub window-made : (from to nstart nend len start end normalized : ℕ) (by nby :
     → windowValue (record { start = from; end = to; nstart = nstart; nend = nend; by = by; nby = nby }) ≡ windowFrom from to nstart nend len start end normalized
 window-made from to nstart nend len start end normalized by nby e f = λ i. record { source = record { start = from; end = to }; normalized = record { start = nstart; end = nend }; sourceDelta = e i; normalizedDelta = f i }
 
--- ---- what is known of the region
+-- the cuts by their definition
+pub window-cuts : {v : MergeWindow} (from to len start end normalized : ℕ) {x y x′ y′ : ℕ} → v ≡ windowFrom from to x y len start end normalized → x ≡ x′ → y ≡ y′ → v ≡ windowFrom from to x′ y′ len start end normalized
+window-cuts from to len start end normalized e f g = e ∙ ap₂ (λ (a b : ℕ). windowFrom from to a b len start end normalized) f g
 
-pub well-formed : {t d : List ℕ} → Accepted t d → WellFormed (bookAt t (places t) d)
-well-formed a = record { utf8 = a .texts; limits = a .limits; ids = a .ids; levels = a .levels; places = a .placesOk; sizes = a .normalizedLengthOk }
+-- ---- what is known of the region
 
 module _ {t d : List ℕ} {p : Places} {st : Store} {e : Edit} {r : Span} (g : Given t d p st e r) where
   abbrev old : LexOutput

@@ -24,9 +24,9 @@ use Rattle.passage.specs.Layers.{layerMissing, missingOf, missing-book}
 use Rattle.reading.specs.Book.{text-found, normalized-found, balanced-book, unclosed-book, cuts-book}
 use Rattle.region.specs.Ready.{ready-inside}
 use Rattle.region.specs.Held.{Held, held-without}
-use Rattle.incremental.specs.Numbers.{cutNumber, readingNumber, number-12, number-13, number-14, number-rest, number-15, number-16, number-17, number-0}
-use Rattle.incremental.specs.Stages.{Read}
-use Rattle.incremental.specs.Window.{given-inside}
+use Rattle.fitting.specs.Numbers.{cutNumber, readingNumber, number-12, number-13, number-14, number-rest, number-15, number-16, number-17, number-0}
+use Rattle.fitting.specs.Stages.{Read}
+use Rattle.fitting.specs.Window.{given-inside}
 
 module _ {t d : List ℕ} {p : Places} {st : Store} (h : Held t d p st) where
   abbrev pub bookOf : LexOutput

@@ -1,9 +1,9 @@
-use Rattle.incremental.specs.Window.{window-made}
+use Rattle.fitting.specs.Window.{window-made}
 use borrow.Author.Needs.{needs}
-use Rattle.incremental.proofs.window.Statement.{statement}
-use Rattle.incremental.proofs.window.Tie as tie
-use Rattle.incremental.proofs.window.Reads as reads
-use Rattle.incremental.proofs.window.Lts as lts
+use Rattle.fitting.proofs.window.Statement.{statement}
+use Rattle.fitting.proofs.window.Tie as tie
+use Rattle.fitting.proofs.window.Reads as reads
+use Rattle.fitting.proofs.window.Lts as lts
 use Rattle.span.proofs.difference.Reads as difference-reads
 
 sub-difference : tie.Need-sub-difference

@@ -1,4 +1,4 @@
--- The numbers of `merge`, by the first condition that holds, for each return of the code.
+-- Numbers 12 to 17, by the first condition that holds, for each return of the code.
 use mathlib.Core.Path.{_≡_, refl, sym, _∙_}
 use Prim.Native.Nat.{ℕ}
 use native.Mathlib.Omega.{arith}
@@ -9,12 +9,12 @@ use Rattle.model.specs.Limits.{maxLayers}
 use Rattle.model.specs.Lists.{any, isEmpty, same}
 use Rattle.model.specs.Offset.{Span}
 use Rattle.model.specs.Types.{LexOutput, RegionOutput}
-use Rattle.model.specs.Refusal.{Checked.refused, Checked.accepted, _>>=_, refuse_if_}
+use Rattle.model.specs.Refusal.{Checked.refused, _>>=_, refuse_if_}
 use Rattle.model.specs.Region.{Edit}
-use Rattle.model.specs.Merge.{Room, newRegionText, balancedNodes, isUnclosed, introducesRubyFormatDependency, windowOf, cutsOk, mergeBooks}
+use Rattle.model.specs.Merge.{newRegionText, balancedNodes, isUnclosed, introducesRubyFormatDependency, windowOf, cutsOk, fitting}
+use Rattle.laws.specs.Checks.{Passed}
 use Rattle.wire.specs.Loops.{by-bool}
 use Rattle.passage.specs.Layers.{layerMissing}
-use Rattle.result.specs.Checked.{Passed}
 
 -- the first of 15 to 17 that holds, or 0
 unfoldable pub cutNumber : LexOutput → Edit → Span → RegionOutput → ℕ
@@ -70,12 +70,12 @@ module _ (old : LexOutput) (e : Edit) (r : Span) (reading : RegionOutput) where
         unfolding cutNumber
         number-0 h = rw (← f₄, h₄, ← f₅, h₅, h) refl
 
-  -- ---- the merge's chain
+  -- ---- the model's chain
 
   module _ {n : ℕ} (q : n ≡ readingNumber old e r reading) where
-    pub number-refused : (n ≡ 0 → ⊥) → (room : Room) → mergeBooks old e r reading room ≡ refused n
-    unfolding mergeBooks refuse_if_ _>>=_ readingNumber cutNumber layerMissing
-    number-refused h room =
+    pub number-refused : (n ≡ 0 → ⊥) → fitting old e r reading ≡ refused n
+    unfolding fitting refuse_if_ _>>=_ readingNumber cutNumber layerMissing
+    number-refused h =
         by-bool (same (reading .sanitized) (newRegionText old e r))
         (λ x₁.
         by-bool (balancedNodes (reading .sourceNodes))
