@@ -12,7 +12,8 @@ const MAX_TEXT: usize = 16_777_215;
 #[derive(Clone, Copy, PartialEq)]
 enum Timed { Check, Region, Merge }
 
-struct Hostile { book: Tape, edit: (usize, usize), reading: Tape }
+// `shared`: bytes of records that runs named more than once add to the result
+struct Hostile { book: Tape, edit: (usize, usize), reading: Tape, shared: usize }
 
 // `most` is the n at which a limit of document 01 is met. `make` is given n.
 struct Shape { name: &'static str, timed: Timed, words: &'static [usize], most: usize, make: Box<dyn Fn(usize) -> Hostile> }
@@ -69,7 +70,7 @@ fn unlike(n: usize) -> Vec<String> { (0..n).map(|i| format!("{i:08}")).collect()
 fn first_line(b: &Book) -> Hostile {
     let mut r = Book::default();
     r.put("x\n\n");
-    Hostile { book: b.done(), edit: (0, 1), reading: r.done() }
+    Hostile { book: b.done(), edit: (0, 1), reading: r.done(), shared: 0 }
 }
 
 fn pools(fill: impl FnOnce(&mut Book)) -> Hostile {
@@ -201,7 +202,7 @@ fn long_introduced(n: usize, k: usize) -> Hostile {
     let targets: Vec<u32> = strings[k..].iter().map(|s| r.plain(s)).collect();
     for i in 0..n { r.node("f", 2, 4, [targets[i % k], 1, 0, 0, 0, 0]); }
     r.put("\n\n");
-    Hostile { book: b.done(), edit: (at, at + 1), reading: r.done() }
+    Hostile { book: b.done(), edit: (at, at + 1), reading: r.done(), shared: 0 }
 }
 
 // a line of text, and a reading of it with one AngleQuote over all its contents
@@ -212,7 +213,7 @@ fn grafted(mut r: Book) -> Hostile {
     let contents = r.contents.len() as u32 / 10;
     r.node("y", 14, 0, [0, contents, 0, 0, 0, 0]);
     r.put("\n\n");
-    Hostile { book: b.done(), edit: (0, 1), reading: r.done() }
+    Hostile { book: b.done(), edit: (0, 1), reading: r.done(), shared: 0 }
 }
 
 // n contents that name two equal long strings in turn
@@ -242,7 +243,7 @@ fn shared(mut r: Book) -> Hostile {
     r.content(1, 0, rubies);
     r.node("y", 14, 0, [run, 1, 0, 0, 0, 0]);
     r.put("\n\n");
-    Hostile { book: b.done(), edit: (0, 1), reading: r.done() }
+    Hostile { book: b.done(), edit: (0, 1), reading: r.done(), shared: 10 * MAX_POOL }
 }
 
 // n equal strings of a kilobyte, named in turn, a million times
@@ -273,7 +274,7 @@ fn introduced(strings: &[String]) -> Hostile {
     r.put("x");
     for s in targets { r.format("f", s); }
     r.put("\n\n");
-    Hostile { book: b.done(), edit: (at, at + 1), reading: r.done() }
+    Hostile { book: b.done(), edit: (at, at + 1), reading: r.done(), shared: 0 }
 }
 
 // A safe cut at one end of the book, n brackets over gaps behind it or in front of it, and the edit at the other end.
@@ -286,7 +287,7 @@ fn bracketed(front: bool, fill: impl FnOnce(&mut Book)) -> Hostile {
     let last = b.text.len();
     b.put("y\n\nb");
     let at = if front { first } else { last };
-    Hostile { book: b.done(), edit: (at, at + 1), reading: (Vec::new(), Vec::new()) }
+    Hostile { book: b.done(), edit: (at, at + 1), reading: (Vec::new(), Vec::new()), shared: 0 }
 }
 
 fn bracket(b: &mut Book, inside: impl FnOnce(&mut Book)) {
@@ -313,7 +314,7 @@ fn diagnosed_by(n: usize, start: impl Fn(usize) -> usize) -> Hostile {
     b.put("a\n\n");
     r.put("x\n\n");
     for i in 0..n { b.diagnostic(start(i), start(i) + 1); }
-    Hostile { book: b.done(), edit: (at, at + 1), reading: r.done() }
+    Hostile { book: b.done(), edit: (at, at + 1), reading: r.done(), shared: 0 }
 }
 
 // text alone of n bytes, at most
@@ -377,7 +378,7 @@ fn all_shapes() -> Vec<Shape> {
         shape("grafting: n contents that name two equal long strings in turn", Merge, ONE, MAX_POOL, |n| long_again(n)),
         shape("grafting: a million contents by shared runs, n equal strings of a kilobyte in turn", Merge, ONE, 65_536, |n| long_shared(n)),
         shape("grafting: 3,583 strings of one slot, then n contents that name the last and the first in turn", Merge, ONE, MAX_POOL - 3583, move |n| probed(&slot(3583), n)),
-        shape("grafting: 3,583 strings of one slot, a million contents by shared runs of n, far strings in turn", Merge, ONE, MAX_POOL / 2 - 3584, move |n| probed_shared(&slot_too(3583), n)),
+        shape("grafting: 3,583 strings of one slot, a million contents by shared runs of n, far strings in turn", Merge, ONE, 65_536, move |n| probed_shared(&slot_too(3583), n)),
     ]
 }
 
@@ -397,7 +398,7 @@ fn call(h: &Hostile, timed: Timed, words: usize) -> (u32, f64) {
     let (mut taken, mut number) = (Vec::new(), 0);
     let mut lent = vec![7; words];
     let mut o = Buffers { tape: Vec::new(), bytes: Vec::new(), work: vec![7; words] };
-    if timed == Timed::Merge { (o.tape, o.bytes) = (vec![7; h.book.0.len() + 2 * h.reading.0.len() + 64], vec![7; h.book.1.len() + 2 * h.reading.1.len() + 64]); }
+    if timed == Timed::Merge { (o.tape, o.bytes) = (vec![7; h.book.0.len() + 2 * h.reading.0.len() + h.shared + 64], vec![7; h.book.1.len() + 2 * h.reading.1.len() + 64]); }
     while taken.len() < 7 && taken.iter().sum::<f64>() < 0.1 {
         let start = now();
         number = black_box(match timed {
