@@ -1,9 +1,9 @@
 use Rattle.answers.specs.Answers.{str-told}
 use borrow.Author.Needs.{needs}
-use Rattle.exports.proofs.aozora_lookup_str.Statement.{statement}
-use Rattle.exports.proofs.aozora_lookup_str.Tie as tie
-use Rattle.exports.proofs.aozora_lookup_str.Reads as reads
-use Rattle.exports.proofs.aozora_lookup_str.Lts as lts
+use Rattle.book_answers.proofs.lookup_str.Statement.{statement}
+use Rattle.book_answers.proofs.lookup_str.Tie as tie
+use Rattle.book_answers.proofs.lookup_str.Reads as reads
+use Rattle.book_answers.proofs.lookup_str.Lts as lts
 use Rattle.answers.proofs.str_answer.Reads as str-answer-reads
 use Rattle.lookup.proofs.lookup_str.Reads as lookup-str-reads
 
@@ -16,5 +16,5 @@ str-answer-requires c κs = search needs
 returns : tie.Need-returns
 returns c = str-told _ _ _ (c .str-answer .ensures) (c .before .lookup-str .ensures)
 
-pub aozora-lookup-str-spec : {M : Type 1} → statement M
-aozora-lookup-str-spec = tie.close (tie.spec lookup-str-requires str-answer-requires returns)
+pub lookup-str-spec : {M : Type 1} → statement M
+lookup-str-spec = tie.close (tie.spec lookup-str-requires str-answer-requires returns)

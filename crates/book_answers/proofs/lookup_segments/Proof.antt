@@ -2,10 +2,10 @@ use Rattle.model.specs.Tape.{segmentCodec}
 use Rattle.lookup.specs.Ranges.{rangeShown}
 use Rattle.answers.specs.Answers.{range-told}
 use borrow.Author.Needs.{needs}
-use Rattle.exports.proofs.aozora_lookup_segments.Statement.{statement}
-use Rattle.exports.proofs.aozora_lookup_segments.Tie as tie
-use Rattle.exports.proofs.aozora_lookup_segments.Reads as reads
-use Rattle.exports.proofs.aozora_lookup_segments.Lts as lts
+use Rattle.book_answers.proofs.lookup_segments.Statement.{statement}
+use Rattle.book_answers.proofs.lookup_segments.Tie as tie
+use Rattle.book_answers.proofs.lookup_segments.Reads as reads
+use Rattle.book_answers.proofs.lookup_segments.Lts as lts
 use Rattle.answers.proofs.range_answer.Reads as range-answer-reads
 use Rattle.lookup.proofs.lookup_segments.Reads as lookup-segments-reads
 
@@ -18,6 +18,6 @@ range-answer-requires c κs = search needs
 returns : tie.Need-returns
 returns c = range-told _ _ _ _ _ (c .range-answer .ensures) (rangeShown segmentCodec _) (c .before .lookup-segments .ensures)
 
-pub aozora-lookup-segments-spec : {M : Type 1} → statement M
-aozora-lookup-segments-spec =
+pub lookup-segments-spec : {M : Type 1} → statement M
+lookup-segments-spec =
     tie.close (tie.spec lookup-segments-requires range-answer-requires returns)

@@ -1,10 +1,10 @@
 use mathlib.Core.Path.{ap, _∙_}
 use Rattle.answers.specs.Answers.{nodeAnswer}
 use borrow.Author.Needs.{needs}
-use Rattle.exports.proofs.aozora_node_at_source.Statement.{statement}
-use Rattle.exports.proofs.aozora_node_at_source.Tie as tie
-use Rattle.exports.proofs.aozora_node_at_source.Reads as reads
-use Rattle.exports.proofs.aozora_node_at_source.Lts as lts
+use Rattle.book_answers.proofs.node_at_source.Statement.{statement}
+use Rattle.book_answers.proofs.node_at_source.Tie as tie
+use Rattle.book_answers.proofs.node_at_source.Reads as reads
+use Rattle.book_answers.proofs.node_at_source.Lts as lts
 use Rattle.answers.proofs.node_answer.Reads as node-answer-reads
 use Rattle.lookup.proofs.node_at_source.Reads as node-at-source-reads
 
@@ -17,6 +17,6 @@ node-answer-requires c κs = search needs
 returns : tie.Need-returns
 returns c = c .node-answer .ensures ∙ ap nodeAnswer (c .before .node-at-source .ensures)
 
-pub aozora-node-at-source-spec : {M : Type 1} → statement M
-aozora-node-at-source-spec =
+pub node-at-source-spec : {M : Type 1} → statement M
+node-at-source-spec =
     tie.close (tie.spec node-at-source-requires node-answer-requires returns)

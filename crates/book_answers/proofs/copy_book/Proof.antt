@@ -1,10 +1,10 @@
 use mathlib.Core.Path.{ap, _∙_}
 use Rattle.answers.specs.Answers.{copyAnswer}
 use borrow.Author.Needs.{needs}
-use Rattle.exports.proofs.aozora_copy_book.Statement.{statement}
-use Rattle.exports.proofs.aozora_copy_book.Tie as tie
-use Rattle.exports.proofs.aozora_copy_book.Reads as reads
-use Rattle.exports.proofs.aozora_copy_book.Lts as lts
+use Rattle.book_answers.proofs.copy_book.Statement.{statement}
+use Rattle.book_answers.proofs.copy_book.Tie as tie
+use Rattle.book_answers.proofs.copy_book.Reads as reads
+use Rattle.book_answers.proofs.copy_book.Lts as lts
 use Rattle.answers.proofs.copy_answer.Reads as copy-answer-reads
 use Rattle.copy.proofs.copy_book.Reads as copy-book-reads
 
@@ -23,6 +23,6 @@ same-length-2 c = search needs
 returns : tie.Need-returns
 returns c = (c .copy-answer .ensures ∙ ap copyAnswer (c .before .before .before .before .before .copy-book .ensures .0), c .before .before .before .before .before .copy-book .ensures .1, c .before .before .before .before .before .copy-book .ensures .2)
 
-pub aozora-copy-book-spec : {M : Type 1} → statement M
-aozora-copy-book-spec =
+pub copy-book-spec : {M : Type 1} → statement M
+copy-book-spec =
     tie.close (tie.spec copy-book-requires copy-answer-requires same-length same-length-2 returns)
