@@ -1,8 +1,7 @@
 -- Numbers 10 and 15 compare the target of a Format with the bases of Rubies. As the code asks: is a string the plain base of a Ruby
 -- among these nodes?
 use mathlib.Core.Path.{_≡_, refl, sym, ap, ap₂, _∙_}
-use Prim.Native.Nat.{ℕ, zero, suc, _+_, _*_, _<_}
-use native.Mathlib.Omega.{arith}
+use Prim.Native.Nat.{ℕ, zero, suc, _+_, _*_}
 use mathlib.Core.Bool.{Bool, true, false, cond, _&&_, _||_, or-false, or-assoc}
 use mathlib.Core.Option.{Option, none, some}
 use mathlib.Core.List.{List, [], _∷_, _++_, append-assoc, append-nil}
@@ -14,6 +13,7 @@ use Rattle.model.specs.Region.{isRuby, isReferencedFormat, firstPlain, isAmong,
 use Rattle.model.specs.Merge.{rubyBases}
 use Rattle.model.specs.Tape.{recordAt, recordsAt, nodeCodec}
 use Rattle.wire.specs.Loops.{anyUpTo, by-bool, tabulate-last}
+use Rattle.ruby_formats.specs.Asks.{asksTarget}
 
 -- is it this string? None is not
 unfoldable pub isPlain : List ℕ → Option (List ℕ) → Bool
@@ -28,10 +28,6 @@ hasBase st s n = isRuby n && isPlain s (firstPlain st n)
 unfoldable pub amongBases : NodeStore → List SourceNode → Option (List ℕ) → Bool
 amongBases st ns none = false
 amongBases st ns (some s) = any (hasBase st s) ns
-
--- Number 10 asks for the target of this node: a Referenced Format that ends behind `from`.
-unfoldable pub asksTarget : ℕ → SourceNode → Bool
-asksTarget from n = isReferencedFormat n && ltb from (n .sourceSpan .end)
 
 -- Number 10, one node: a Referenced Format that ends behind `from` and whose target is the base of an earlier Ruby.
 unfoldable pub refersBack : NodeStore → ℕ → List SourceNode → SourceNode → Bool

@@ -22,8 +22,9 @@ use Rattle.strings.specs.Shown.{TwoSides, Resolvable}
 use Rattle.strings.specs.PlainContent.{plainOf, plainString}
 use Rattle.strings.specs.declared.Plain.{Plain}
 use Rattle.strings.specs.declared.Plain.the-variants.{Id, Nothing}
-use Rattle.dependency.specs.Bases.{isPlain, hasBase, amongBases, asksTarget, refersBack, refersAt}
-use Rattle.dependency.specs.Sound.{SoundNode, firstContents, plain-first}
+use Rattle.ruby_formats.specs.Asks.{asksTarget}
+use Rattle.dependency.specs.Bases.{isPlain, hasBase, amongBases, refersBack, refersAt}
+use Rattle.ruby_formats.specs.Sound.{SoundNode, firstContents, plain-first}
 
 -- ---- a string and bytes
 

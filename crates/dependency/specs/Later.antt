@@ -1,12 +1,12 @@
 -- A node whose target a later node asks for is left to that node: where the later one refers to no base, neither does it.
-use mathlib.Core.Path.{_≡_, refl, sym, ap, _∙_}
+use mathlib.Core.Path.{_≡_, sym, ap, _∙_}
 use Prim.Native.Nat.{ℕ, zero, suc, _+_, _-_, _*_, _≤_, _<_, min}
 use native.Mathlib.Omega.{arith}
 use mathlib.Core.Bool.{Bool, true, false, _&&_, _||_, false≢true, true≢false}
 use mathlib.Core.Option.{Option}
 use mathlib.Core.List.{List, _++_}
 use lib.Dec.{ltb}
-use borrow.Author.Tests.{ltb-true, ltb-false, lt-ltb, le-ltb}
+use borrow.Author.Tests.{ltb-true, ltb-false}
 use Rattle.model.specs.Types.{SourceNode}
 use Rattle.model.specs.Store.{NodeStore}
 use Rattle.model.specs.Tape.{recordAt, recordsAt, nodeCodec}
@@ -14,36 +14,11 @@ use Rattle.model.specs.Region.{isRuby, isReferencedFormat, firstPlain}
 use Rattle.laws.specs.Lists.{both}
 use Rattle.wire.specs.Loops.{anyUpTo, any-missed, by-bool}
 use Rattle.strings.specs.Starts.{storeIn}
-use Rattle.dependency.specs.Bases.{amongBases, asksTarget, refersBack}
-use Rattle.dependency.specs.Asked.{asksAt}
+use Rattle.ruby_formats.specs.Asks.{asksTarget, asksAt}
+use Rattle.dependency.specs.Bases.{amongBases, refersBack}
 use Rattle.dependency.specs.Parts.{refersAmong}
 use Rattle.dependency.specs.Pieces.{run-join, among-join}
-use Rattle.dependency.specs.Named.{namedBy, samePlain, same-first, or-left, or-right}
-
--- ---- a target again
-
--- a later node that asks for the target of node i by the same id
-unfoldable pub asksAgain : ℕ → List ℕ → ℕ → ℕ → ℕ → ℕ → List ℕ → Bool
-asksAgain from t at i v count b = ltb i v && ltb v count && asksAt from t at v && samePlain (namedBy t (at + 49 * i) b) (namedBy t (at + 49 * v) b)
-
-module _ (from : ℕ) (t : List ℕ) (at i v count : ℕ) where
-  pub again-before : v ≤ i → (b : List ℕ) → false ≡ asksAgain from t at i v count b
-  unfolding asksAgain
-  again-before h b = rw (le-ltb i v h) refl
-
-  module _ (h : i < v) where
-    pub again-past : count ≤ v → (b : List ℕ) → false ≡ asksAgain from t at i v count b
-    unfolding asksAgain
-    again-past g b = rw (lt-ltb i v h, le-ltb v count g) refl
-
-    module _ (g : v < count) {x : Bool} (e : x ≡ asksTarget from (recordAt nodeCodec t (at + 49 * v))) where
-      pub again-other : x ≡ false → (b : List ℕ) → false ≡ asksAgain from t at i v count b
-      unfolding asksAgain asksAt
-      again-other f b = rw (lt-ltb i v h, lt-ltb v count g, ← e, f) refl
-
-      pub again-same : x ≡ true → {y : Bool} → ((b : List ℕ) → y ≡ samePlain (namedBy t (at + 49 * i) b) (namedBy t (at + 49 * v) b)) → (b : List ℕ) → y ≡ asksAgain from t at i v count b
-      unfolding asksAgain asksAt
-      again-same f q b = rw (lt-ltb i v h, lt-ltb v count g, ← e, f) (q b)
+use Rattle.ruby_formats.specs.Named.{namedBy, samePlain, same-first, or-left, or-right, asksAgain}
 
 -- ---- what is left to a later place
 

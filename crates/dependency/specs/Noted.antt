@@ -28,7 +28,7 @@ use Rattle.strings.specs.declared.Plain.the-variants.{Id, Nothing}
 use Rattle.bloom.specs.Filter.{mayContain, inserted, inserted-own, inserted-kept, inserted-front}
 pub use Rattle.sorted_ids.specs.Row.{firstWords}
 use Rattle.dependency.specs.Bases.{isPlain, hasBase, any-snoc}
-use Rattle.dependency.specs.Sound.{SoundNode, firstContents, plain-first}
+use Rattle.ruby_formats.specs.Sound.{SoundNode, firstContents, plain-first}
 
 -- What the filter knows a string by: its hash, or of a long one the hashes of its two ends and its length, since many nodes may name
 -- one long string.

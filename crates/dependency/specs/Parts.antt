@@ -24,9 +24,10 @@ use Rattle.strings.specs.PlainContent.{plainOf, plainString}
 use Rattle.strings.specs.declared.Plain.{Plain}
 use Rattle.sorted_ids.specs.Row.{any-false}
 use Rattle.sorted_ids.specs.Words.{resolvable-own}
-use Rattle.dependency.specs.Bases.{isPlain, hasBase, asksTarget, amongBases, refersBack, refersAt, depends-records}
+use Rattle.ruby_formats.specs.Asks.{asksTarget}
+use Rattle.dependency.specs.Bases.{isPlain, hasBase, amongBases, refersBack, refersAt, depends-records}
 use Rattle.dependency.specs.Noted.{firstWords, Noted, notedBy, noted-none, noted-next}
-use Rattle.dependency.specs.Sound.{Sound, SoundNode, firstContents, plain-first}
+use Rattle.ruby_formats.specs.Sound.{Sound, SoundNode, firstContents, plain-first}
 use Rattle.dependency.specs.Pieces.{run-join, among-join, among-none}
 
 -- node i of a run and those of the first n that stand before it

@@ -16,7 +16,7 @@ use Rattle.wire.specs.Loops.{tabulate-last}
 use Rattle.records.specs.Runs.{run-before}
 use Rattle.store.specs.declared.Store.{Store}
 use Rattle.dependency.specs.Bases.{hasBase, amongBases}
-use Rattle.dependency.specs.Sound.{layersIn, Sound}
+use Rattle.ruby_formats.specs.Sound.{layersIn, Sound}
 
 -- ---- a run in two
 

@@ -20,8 +20,9 @@ use Rattle.strings.specs.PlainContent.{plainOf, plainString}
 use Rattle.strings.specs.declared.Plain.{Plain}
 use Rattle.strings.specs.declared.Plain.the-variants.{Id, Nothing}
 use Rattle.sorted_ids.specs.Row.{Row, holdsAt, isString, Inserted, inserted-none, inserted-as}
-use Rattle.dependency.specs.Bases.{isPlain, hasBase, amongBases, asksTarget, refersBack, any-snoc}
-use Rattle.dependency.specs.Sound.{SoundNode, firstContents, plain-first}
+use Rattle.ruby_formats.specs.Asks.{asksTarget}
+use Rattle.dependency.specs.Bases.{isPlain, hasBase, amongBases, refersBack, any-snoc}
+use Rattle.ruby_formats.specs.Sound.{SoundNode, firstContents, plain-first}
 use Rattle.dependency.specs.Parts.{refersAmong}
 
 -- ---- an answer that may be 2 for not known

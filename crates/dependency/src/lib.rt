@@ -5,109 +5,31 @@
 // chosen so that they crowd the filter, and the filter knows a long string by its ends only: where it does not tell, the part's bases go
 // into a row of ids that is sorted by their strings, and a target is found by bisection. Many nodes may name one long string: by its id, a
 // base goes in where a Ruby names it first, and a target is asked for where a Format names it last. specs/Bases.antt says what is asked,
-// specs/Sound.antt what number 4 has shown of it, specs/Noted.antt what the filter says, specs/Rows.antt what the row says,
-// specs/Named.antt and specs/Later.antt what nodes that name one id share.
+// specs/Noted.antt what the filter says, specs/Rows.antt what the row says, specs/Named.antt and specs/Later.antt what nodes that name
+// one id share; crate `ruby_formats` has what is asked of one node and what number 4 has shown of it.
 use strings::Plain;
 ghost use mathlib.Core.Path.{_≡_};
-ghost use mathlib.Core.List.{List, [], _++_};
-ghost use Prim.Native.Nat.{ℕ, _+_, _*_, _≤_, _<_, min};
+ghost use mathlib.Core.List.{[], _++_};
+ghost use Prim.Native.Nat.{_+_, _*_, _≤_, _<_, min};
 ghost use lib.ListN.{length};
 ghost use Rattle.model.specs.Lists.{any, same as sameBytes};
 ghost use Rattle.model.specs.Tape.{recordAt, recordsAt, nodeCodec};
 ghost use Rattle.model.specs.Store.{resolveStr};
-ghost use Rattle.model.specs.Region.{isRuby, isReferencedFormat, dependsFrom};
-ghost use Rattle.strings.specs.Starts.{OfTape, storeIn};
+ghost use Rattle.model.specs.Region.{dependsFrom};
+ghost use Rattle.strings.specs.Starts.{storeIn};
 ghost use Rattle.strings.specs.Shown.{Resolvable};
-ghost use Rattle.strings.specs.PlainContent.{plainOf, plainString};
+ghost use Rattle.strings.specs.PlainContent.{plainString};
 ghost use Rattle.wire.specs.Loops.{anyUpTo};
-ghost use Rattle.dependency.specs.Bases.{isPlain, hasBase, amongBases, asksTarget};
+ghost use Rattle.dependency.specs.Bases.{isPlain, hasBase, amongBases};
 ghost use Rattle.dependency.specs.Parts.{refersAmong};
-ghost use Rattle.dependency.specs.Asked.{asksAt, countToLast};
-ghost use Rattle.dependency.specs.Sound.{Sound, SoundNode, FirstRange, PlainIn, firstContents, noIndex};
+ghost use Rattle.ruby_formats.specs.Sound.{Sound, SoundNode, PlainIn, noIndex};
 ghost use Rattle.dependency.specs.Noted.{filterKey, insertedPlain, notedBy, Noted};
 ghost use Rattle.dependency.specs.Rows.{Told, isOne, isBaseOf, Rowed, amongRow, refersRow};
-ghost use Rattle.dependency.specs.Named.{Naming, Namings, namedBy, isId, samePlain, baseAgain};
-ghost use Rattle.dependency.specs.Later.{asksAgain, Settled};
+ghost use Rattle.ruby_formats.specs.Named.{Naming, Namings};
+ghost use Rattle.dependency.specs.Later.{Settled};
 ghost use Rattle.sorted_ids.specs.Row.{firstWords, Row, Inserted};
 ghost use lib.Dec.{ltb};
 ghost use mathlib.Core.Bool.{_&&_};
-
-// An Inline Ruby.
-pub fn is_ruby(tape: &[u8], at: usize) -> bool
-    requires { ⌜ at + 49 ≤ length (now tape) ⌝ }
-    ensures { λ r. ⌜ r ≡ isRuby (recordAt nodeCodec (now (tape .entry)) at) ⌝ }
-{
-    if tape[at + 1] != 0 {
-        return false;
-    }
-    tape[at + 15] == 1
-}
-
-pub fn any_ruby(tape: &[u8], at: usize, count: usize) -> bool
-    requires { ⌜ at + 49 * count ≤ length (now tape) ⌝ }
-    ensures { λ r. ⌜ r ≡ any isRuby (recordsAt nodeCodec (now (tape .entry)) at count) ⌝ }
-{
-    let mut i = 0;
-    while i < count {
-        if is_ruby(tape, at + 49 * i) {
-            return true;
-        }
-        i += 1;
-    }
-    false
-}
-
-// An Inline Format whose `ForwardOrigin` is Referenced.
-pub fn is_referenced_format(tape: &[u8], at: usize) -> bool
-    requires { ⌜ at + 49 ≤ length (now tape) ⌝ }
-    ensures { λ r. ⌜ r ≡ isReferencedFormat (recordAt nodeCodec (now (tape .entry)) at) ⌝ }
-{
-    if tape[at + 1] != 0 {
-        return false;
-    }
-    if tape[at + 15] != 2 {
-        return false;
-    }
-    tape[at + 16] / 4 == 1
-}
-
-// Number 10 asks for its target: a Referenced Format that ends behind `from`.
-fn asks_target(tape: &[u8], at: usize, from: u32) -> bool
-    requires { ⌜ at + 49 ≤ length (now tape) ⌝ }
-    ensures { λ r. ⌜ r ≡ asksTarget from (recordAt nodeCodec (now (tape .entry)) at) ⌝ }
-{
-    if !is_referenced_format(tape, at) {
-        return false;
-    }
-    from < records::node_end(tape, at)
-}
-
-// How many nodes there are up to the last whose target is asked for: the others need no filter.
-fn asked_nodes(tape: &[u8], at: usize, count: usize, from: u32) -> usize
-    requires { ⌜ at + 49 * count ≤ length (now tape) ⌝ }
-    ensures { λ r. ⌜ r ≡ countToLast count (asksAt from (now (tape .entry)) at) ⌝ }
-{
-    let mut n = count;
-    while 0 < n {
-        if asks_target(tape, at + 49 * (n - 1), from) {
-            return n;
-        }
-        n -= 1;
-    }
-    0
-}
-
-// The contents of a node's first range, if they are one Plain content: the base of a Ruby, the target of a Format.
-pub fn first_plain(tape: &[u8], st: store::Store, at: usize) -> Plain
-    requires { ⌜ OfTape (now tape) st ⌝ }
-    requires { ⌜ at + 49 ≤ length (now tape) ⌝ }
-    requires { ⌜ FirstRange (now tape) st at ⌝ }
-    ensures { λ r. ⌜ ((b : List ℕ) → r ≡ plainOf (firstContents (now (tape .entry)) at b)) ⌝ }
-{
-    let start = records::body_word(tape, at + 15, 0);
-    let len = records::body_word(tape, at + 15, 1);
-    strings::content_range_as_plain(tape, st, start, len)
-}
 
 // Is it the string of an id? Lengths first: where they differ, the string is not looked for.
 fn is_string<'a>(
@@ -165,10 +87,10 @@ fn has_base<'a>(
     requires { ⌜ SoundNode (now tape) st (now words) (now old) (now new) at ⌝ }
     ensures { λ r. ⌜ r ≡ hasBase (storeIn (now (tape .entry)) (now (old .entry) ++ now (new .entry))) (now (s .entry)) (recordAt nodeCodec (now (tape .entry)) at) ⌝ }
 {
-    if !is_ruby(tape, at) {
+    if !ruby_formats::is_ruby(tape, at) {
         return false;
     }
-    let p = first_plain(tape, st, at);
+    let p = ruby_formats::first_plain(tape, st, at);
     is_plain(tape, st, words, old, new, p, s)
 }
 
@@ -299,10 +221,10 @@ fn refers_among<'a>(
     ensures { λ r. ⌜ Told r (refersAmong (storeIn (now (tape .entry)) (now (old .entry) ++ now (new .entry))) from (now (tape .entry)) at n i) ⌝ }
 {
     let place = at + 49 * i;
-    if !asks_target(tape, place, from) {
+    if !ruby_formats::asks_target(tape, place, from) {
         return 0;
     }
-    let p = first_plain(tape, st, place);
+    let p = ruby_formats::first_plain(tape, st, place);
     let k = smaller(n, i);
     is_target_base(tape, st, words, base, old, new, at, k, p)
 }
@@ -349,10 +271,10 @@ pub fn note_ruby<'a>(
     requires { ⌜ base ≤ length (now words) ⌝ }
     ensures { λ _. ⌜ now (words .exit) ≡ notedBy (storeIn (now (tape .entry)) (now (old .entry) ++ now (new .entry))) (now (words .entry)) base (recordAt nodeCodec (now (tape .entry)) at) ⌝ }
 {
-    if !is_ruby(tape, at) {
+    if !ruby_formats::is_ruby(tape, at) {
         return;
     }
-    let p = first_plain(tape, st, at);
+    let p = ruby_formats::first_plain(tape, st, at);
     insert_plain(tape, st, words, base, old, new, p);
 }
 
@@ -429,102 +351,11 @@ fn any_refers_among<'a>(
     0
 }
 
-// The string that a Ruby or a Referenced Format names.
-pub fn named(tape: &[u8], st: store::Store, at: usize) -> Plain
-    requires { ⌜ Naming (now tape) st at ⌝ }
-    ensures { λ r. ⌜ ((b : List ℕ) → r ≡ namedBy (now (tape .entry)) at b) × PlainIn st r ⌝ }
-{
-    if is_ruby(tape, at) {
-        return first_plain(tape, st, at);
-    }
-    if is_referenced_format(tape, at) {
-        return first_plain(tape, st, at);
-    }
-    Plain::Nothing
-}
-
-fn is_id(p: Plain, id: u32) -> bool
-    ensures { λ r. ⌜ r ≡ isId id p ⌝ }
-{
-    match p {
-        Plain::Id(own) => {
-            return own == id;
-        }
-        Plain::Nothing => {
-            return false;
-        }
-    }
-}
-
-fn same_plain(p: Plain, q: Plain) -> bool
-    ensures { λ r. ⌜ r ≡ samePlain p q ⌝ }
-{
-    match q {
-        Plain::Id(id) => {
-            return is_id(p, id);
-        }
-        Plain::Nothing => {
-            return false;
-        }
-    }
-}
-
-// Do two nodes name a string by the same id?
-pub fn same_named(tape: &[u8], st: store::Store, first: usize, second: usize) -> bool
-    requires { ⌜ Naming (now tape) st first ⌝ }
-    requires { ⌜ Naming (now tape) st second ⌝ }
-    ensures { λ r. ⌜ ((b : List ℕ) → r ≡ samePlain (namedBy (now (tape .entry)) first b) (namedBy (now (tape .entry)) second b)) ⌝ }
-{
-    let p = named(tape, st, first);
-    let q = named(tape, st, second);
-    same_plain(p, q)
-}
-
-// Is node v a Ruby before node i, and have they one base by its id? Then the row has the base.
-fn is_base_again(tape: &[u8], st: store::Store, at: usize, i: usize, v: usize) -> bool
-    requires { ⌜ Namings (now tape) st at (i + 1) ⌝ }
-    ensures { λ r. ⌜ ((b : List ℕ) → r ≡ baseAgain (now (tape .entry)) at i v b) ⌝ }
-{
-    if i <= v {
-        return false;
-    }
-    if !is_ruby(tape, at + 49 * v) {
-        return false;
-    }
-    same_named(tape, st, at + 49 * i, at + 49 * v)
-}
-
-// Does node v behind node i ask for the target of node i by its id? If node i refers to a base, then node v does.
-fn asks_again(
-    tape: &[u8],
-    st: store::Store,
-    at: usize,
-    i: usize,
-    v: usize,
-    count: usize,
-    from: u32,
-) -> bool
-    requires { ⌜ Namings (now tape) st at count ⌝ }
-    requires { ⌜ i < count ⌝ }
-    ensures { λ r. ⌜ ((b : List ℕ) → r ≡ asksAgain from (now (tape .entry)) at i v count b) ⌝ }
-{
-    if v <= i {
-        return false;
-    }
-    if count <= v {
-        return false;
-    }
-    if !asks_target(tape, at + 49 * v, from) {
-        return false;
-    }
-    same_named(tape, st, at + 49 * i, at + 49 * v)
-}
-
 // The place that is noted for what a node names. Whoever asks looks whether it is so.
 pub fn noted_place(tape: &[u8], st: store::Store, at: usize, places: &[u64]) -> usize
     requires { ⌜ Naming (now tape) st at ⌝ }
 {
-    let p = named(tape, st, at);
+    let p = ruby_formats::named(tape, st, at);
     match p {
         Plain::Id(id) => {
             return id_places::find(places, id);
@@ -558,7 +389,7 @@ pub fn note_place(
     requires { ⌜ m ≤ length (now places) ⌝ }
     ensures { λ r. ⌜ r ≤ length (now (places .entry)) ⌝ }
 {
-    let p = named(tape, st, at + 49 * i);
+    let p = ruby_formats::named(tape, st, at + 49 * i);
     match p {
         Plain::Id(id) => {
             if strings::string_length(tape, st, id) <= long {
@@ -585,7 +416,7 @@ fn note_base_place(
     requires { ⌜ m ≤ length (now places) ⌝ }
     ensures { λ r. ⌜ r ≤ length (now (places .entry)) ⌝ }
 {
-    if is_ruby(tape, at + 49 * i) {
+    if ruby_formats::is_ruby(tape, at + 49 * i) {
         return note_place(tape, st, at, i, long, places, m);
     }
     m
@@ -626,7 +457,7 @@ fn note_target_place(
     requires { ⌜ m ≤ length (now places) ⌝ }
     ensures { λ r. ⌜ r ≤ length (now (places .entry)) ⌝ }
 {
-    if asks_target(tape, at + 49 * i, from) {
+    if ruby_formats::asks_target(tape, at + 49 * i, from) {
         return note_place(tape, st, at, i, long, places, m);
     }
     m
@@ -699,10 +530,10 @@ fn refers_to_row<'a>(
     requires { ⌜ Row (storeIn (now tape) (now old ++ now new)) (st .totals .strings) (now words) base m ⌝ }
     ensures { λ r. ⌜ r ≡ refersRow (storeIn (now (tape .entry)) (now (old .entry) ++ now (new .entry))) from (now (words .entry)) base m (recordAt nodeCodec (now (tape .entry)) place) ⌝ }
 {
-    if !asks_target(tape, place, from) {
+    if !ruby_formats::asks_target(tape, place, from) {
         return false;
     }
-    let p = first_plain(tape, st, place);
+    let p = ruby_formats::first_plain(tape, st, place);
     is_plain_in_row(tape, st, words, base, m, old, new, p)
 }
 
@@ -751,10 +582,10 @@ pub fn insert_base<'a>(
     ensures { λ r. ⌜ Inserted (storeIn (now (tape .entry)) (now (old .entry) ++ now (new .entry))) (st .totals .strings) (isBaseOf (storeIn (now (tape .entry)) (now (old .entry) ++ now (new .entry)))
         (recordAt nodeCodec (now (tape .entry)) at)) (now (words .entry)) base m (now (words .exit)) r ⌝ }
 {
-    if !is_ruby(tape, at) {
+    if !ruby_formats::is_ruby(tape, at) {
         return m;
     }
-    let p = first_plain(tape, st, at);
+    let p = ruby_formats::first_plain(tape, st, at);
     insert_id(tape, st, words, base, m, old, new, p)
 }
 
@@ -781,7 +612,7 @@ fn refers_or_later<'a>(
 {
     let place = at + 49 * i;
     let v = noted_place(tape, st, place, last);
-    if asks_again(tape, st, at, i, v, count, from) {
+    if ruby_formats::asks_again(tape, st, at, i, v, count, from) {
         return false;
     }
     refers_to_row(tape, st, words, base, m, old, new, place, from)
@@ -812,7 +643,7 @@ pub fn insert_first<'a>(
     }
     let place = at + 49 * i;
     let v = noted_place(tape, st, place, first);
-    if is_base_again(tape, st, at, i, v) {
+    if ruby_formats::is_base_again(tape, st, at, i, v) {
         return m;
     }
     insert_base(tape, st, words, base, m, old, new, place)
@@ -944,7 +775,7 @@ fn refers_to_part<'a>(
     requires { ⌜ (n ≤ count) × (base + n ≤ length (now words)) ⌝ }
     ensures { λ r. ⌜ (r ≡ anyUpTo count (refersAmong (storeIn (now (tape .entry)) (now (old .entry) ++ now (new .entry))) from (now (tape .entry)) at n)) × (firstWords base (now (words .exit)) ≡ firstWords base (now (words .entry))) ⌝ }
 {
-    if any_ruby(tape, at, n) {
+    if ruby_formats::any_ruby(tape, at, n) {
         return part_refers(tape, st, words, base, old, new, at, count, n, from);
     }
     false
@@ -1050,7 +881,7 @@ pub fn has_ruby_format_dependency<'a>(
     requires { ⌜ Sound (now tape) st (noIndex (now tape)) (now old) (now new) at count ⌝ }
     ensures { λ r. ⌜ r ≡ dependsFrom (storeIn (now (tape .entry)) (now (old .entry) ++ now (new .entry))) from [] (recordsAt nodeCodec (now (tape .entry)) at count) ⌝ }
 {
-    let n = asked_nodes(tape, at, count, from);
+    let n = ruby_formats::asked_nodes(tape, at, count, from);
     if n == 0 {
         return false;
     }

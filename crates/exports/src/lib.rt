@@ -25,14 +25,14 @@ ghost use Rattle.answers.specs.Answers.{allowedAnswer, nodeAnswer, rangeAnswer,
 pub extern "C" fn aozora_check_book(tape: &[u8], bytes: &[u8]) -> u32
     ensures { λ r. ⌜ r ≡ numberOf (checkBook (now (tape .entry)) (now (bytes .entry))) ⌝ }
 {
-    tape::check_book(tape, bytes)
+    book_answers::check_book(tape, bytes)
 }
 
 #[no_mangle]
 pub extern "C" fn aozora_check_reading(tape: &[u8], bytes: &[u8]) -> u32
     ensures { λ r. ⌜ r ≡ numberOf (checkReading (now (tape .entry)) (now (bytes .entry))) ⌝ }
 {
-    tape::check_reading(tape, bytes)
+    book_answers::check_reading(tape, bytes)
 }
 
 #[no_mangle]
@@ -42,7 +42,7 @@ pub extern "C" fn aozora_diagnostics_allow_incremental(
 ) -> answers::AllowedAnswer
     ensures { λ r. ⌜ r ≡ allowedAnswer (allowedOf (askBook (now (tape .entry)) (now (bytes .entry)) (λ b. diagnosticsAllowIncremental (b .diagnostics)))) ⌝ }
 {
-    answers::allowed_answer(lookup::diagnostics_allow_incremental(tape, bytes))
+    book_answers::diagnostics_allow_incremental(tape, bytes)
 }
 
 #[no_mangle]
@@ -53,7 +53,7 @@ pub extern "C" fn aozora_node_at_source(
 ) -> answers::NodeAnswer
     ensures { λ r. ⌜ r ≡ nodeAnswer (nodeAtOf (askBook (now (tape .entry)) (now (bytes .entry)) (λ b. nodeAtSource (b .sourceNodes) offset))) ⌝ }
 {
-    answers::node_answer(lookup::node_at_source(tape, bytes, offset))
+    book_answers::node_at_source(tape, bytes, offset)
 }
 
 #[no_mangle]
@@ -61,7 +61,7 @@ pub extern "C" fn aozora_lookup_str(tape: &[u8], bytes: &[u8], id: u32) -> answe
     ensures { λ r. ⌜ (r ≡ strAnswer (strAtOf (askBook (now (tape .entry)) (now (bytes .entry)) (λ b. lookupStrSpan b id))))
         × (strShown (now (bytes .entry)) (strRead r) ≡ askBook (now (tape .entry)) (now (bytes .entry)) (λ b. lookupStr b id)) ⌝ }
 {
-    answers::str_answer(lookup::lookup_str(tape, bytes, id))
+    book_answers::lookup_str(tape, bytes, id)
 }
 
 #[no_mangle]
@@ -74,7 +74,7 @@ pub extern "C" fn aozora_lookup_contents(
     ensures { λ r. ⌜ (r ≡ rangeAnswer (rangeAtOf (askBook (now (tape .entry)) (now (bytes .entry)) (contentsOk start len)) (contentPlace (storeAt (now (tape .entry))) start) len))
         × (rangeShown contentCodec (now (tape .entry)) (rangeRead r) ≡ askBook (now (tape .entry)) (now (bytes .entry)) (λ b. lookupContents b start len)) ⌝ }
 {
-    answers::range_answer(lookup::lookup_contents(tape, bytes, start, len))
+    book_answers::lookup_contents(tape, bytes, start, len)
 }
 
 #[no_mangle]
@@ -87,7 +87,7 @@ pub extern "C" fn aozora_lookup_segments(
     ensures { λ r. ⌜ (r ≡ rangeAnswer (rangeAtOf (askBook (now (tape .entry)) (now (bytes .entry)) (segmentsOk start len)) (segmentPlace (storeAt (now (tape .entry))) start) len))
         × (rangeShown segmentCodec (now (tape .entry)) (rangeRead r) ≡ askBook (now (tape .entry)) (now (bytes .entry)) (λ b. lookupSegments b start len)) ⌝ }
 {
-    answers::range_answer(lookup::lookup_segments(tape, bytes, start, len))
+    book_answers::lookup_segments(tape, bytes, start, len)
 }
 
 #[no_mangle]
@@ -102,7 +102,7 @@ pub extern "C" fn aozora_copy_book(
         × (now (outtape .exit) ≡ copiedTape (length (now (outtape .entry))) copy)
         × (now (outbytes .exit) ≡ copiedBytes (length (now (outbytes .entry))) copy)) ⌝ }
 {
-    answers::copy_answer(copy::copy_book(tape, bytes, outtape, outbytes))
+    book_answers::copy_book(tape, bytes, outtape, outbytes)
 }
 
 #[no_mangle]

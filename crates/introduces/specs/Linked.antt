@@ -1,10 +1,9 @@
 -- Number 15, as the code asks it: a Ruby of the reading and a Referenced Format behind the region, or a Referenced Format of the reading
 -- whose target is the base of a Ruby before the region.
 use mathlib.Core.Path.{_≡_, refl, sym, ap, _∙_}
-use Prim.Native.Nat.{ℕ, _+_}
+use Prim.Native.Nat.{ℕ}
 use mathlib.Core.Bool.{Bool, true, false, _&&_, _||_, and-false, and-true}
 use mathlib.Core.List.{List, [], _∷_, _++_}
-use lib.Dec.{leb}
 use borrow.Author.Tests.{le-leb}
 use native.Mathlib.Omega.{arith}
 use Rattle.model.specs.Lists.{any, keep}
@@ -22,22 +21,10 @@ use Rattle.strings.specs.Starts.{storeIn}
 use Rattle.strings.specs.PlainContent.{plainOf, plainString}
 use Rattle.strings.specs.declared.Plain.{Plain}
 use Rattle.dependency.specs.Bases.{amongBases, among-bases}
-use Rattle.dependency.specs.Sound.{SoundNode, firstContents, plain-first}
+use Rattle.ruby_formats.specs.Sound.{SoundNode, firstContents, plain-first}
+use Rattle.ruby_formats.specs.Asks.{formatFrom}
 
 -- ---- one node
-
--- a Referenced Format that starts at or behind an offset
-unfoldable pub formatFrom : ℕ → SourceNode → Bool
-formatFrom o n = isReferencedFormat n && startsAt o n
-
-module _ (o : ℕ) (n : SourceNode) {x : Bool} (e : x ≡ isReferencedFormat n) where
-  pub format-other : x ≡ false → false ≡ formatFrom o n
-  unfolding formatFrom
-  format-other h = rw (← e, h) refl
-
-  pub format-start : x ≡ true → {start : ℕ} → start ≡ n .sourceSpan .start → leb o start ≡ formatFrom o n
-  unfolding formatFrom
-  format-start h f = rw (← e, h, f) refl
 
 -- a Referenced Format whose target, in a store of its own, is the base of a Ruby among these nodes
 unfoldable pub refersTo : NodeStore → List SourceNode → NodeStore → SourceNode → Bool

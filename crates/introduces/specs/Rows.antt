@@ -1,11 +1,11 @@
 -- A target of the reading among the old bases in a row of ids, where the filter is crowded.
 use mathlib.Core.Path.{_≡_, refl, sym, ap, ap₂, _∙_}
-use Prim.Native.Nat.{ℕ, _+_, _*_, _≤_, _<_}
+use Prim.Native.Nat.{ℕ, _+_, _*_}
 use mathlib.Core.Bool.{Bool, true, false, _&&_, _||_}
 use mathlib.Core.Option.{Option}
 use mathlib.Core.List.{List, [], _∷_, _++_}
 use lib.Dec.{ltb}
-use borrow.Author.Tests.{ltb-true, lt-ltb, le-ltb}
+use borrow.Author.Tests.{ltb-true}
 use Rattle.model.specs.Lists.{any}
 use Rattle.model.specs.Types.{SourceNode}
 use Rattle.model.specs.Store.{NodeStore}
@@ -18,9 +18,9 @@ use Rattle.store.specs.declared.Store.{Store}
 use Rattle.strings.specs.Starts.{storeIn}
 use Rattle.strings.specs.PlainContent.{plainOf, plainString}
 use Rattle.strings.specs.declared.Plain.{Plain}
-use Rattle.dependency.specs.Sound.{SoundNode, firstContents, plain-first}
+use Rattle.ruby_formats.specs.Sound.{SoundNode, firstContents, plain-first}
 use Rattle.dependency.specs.Rows.{Rowed, amongRow, among-row}
-use Rattle.dependency.specs.Named.{namedBy, samePlain, same-first, or-right}
+use Rattle.ruby_formats.specs.Named.{namedBy, samePlain, same-first, or-right, targetAgain}
 use Rattle.introduces.specs.Linked.{refersTo}
 
 -- a Referenced Format whose target, in a store of its own, is in the row
@@ -53,27 +53,7 @@ rowed-any r own ns q = q ∙ row-bases r own ns
 pub rowed-words : {st : NodeStore} {ids : ℕ} {ns : List SourceNode} {words other : List ℕ} {base m : ℕ} → words ≡ other → Rowed st ids ns other base m → Rowed st ids ns words base m
 rowed-words e r = rw e r
 
--- ---- a target again
-
--- a Format before node i with its target by the same id
-unfoldable pub targetAgain : List ℕ → ℕ → ℕ → ℕ → List ℕ → Bool
-targetAgain t at i v b = ltb v i && isReferencedFormat (recordAt nodeCodec t (at + 49 * v)) && samePlain (namedBy t (at + 49 * i) b) (namedBy t (at + 49 * v) b)
-
-module _ (t : List ℕ) (at i v : ℕ) where
-  pub target-late : i ≤ v → (b : List ℕ) → false ≡ targetAgain t at i v b
-  unfolding targetAgain
-  target-late h b = rw (le-ltb v i h) refl
-
-  module _ (h : v < i) {x : Bool} (e : x ≡ isReferencedFormat (recordAt nodeCodec t (at + 49 * v))) where
-    pub target-other : x ≡ false → (b : List ℕ) → false ≡ targetAgain t at i v b
-    unfolding targetAgain
-    target-other f b = rw (lt-ltb v i h, ← e, f) refl
-
-    pub target-same : x ≡ true → {y : Bool} → ((b : List ℕ) → y ≡ samePlain (namedBy t (at + 49 * i) b) (namedBy t (at + 49 * v) b)) → (b : List ℕ) → y ≡ targetAgain t at i v b
-    unfolding targetAgain
-    target-same f q b = rw (lt-ltb v i h, ← e, f) (q b)
-
--- the earlier one does not refer to the row, so neither does node i
+-- ---- a target again: the earlier one does not refer to the row, so neither does node i
 module _ (st : NodeStore) (words : List ℕ) (base m : ℕ) (t front back : List ℕ) (at i v : ℕ) {x : Bool} (e : (b : List ℕ) → x ≡ targetAgain t at i v b) (f : x ≡ true)
     (missed : Missed (testAt nodeCodec (refersToRow st words base m (storeIn t (front ++ back))) t at) i) where
   abbrev node : ℕ → SourceNode

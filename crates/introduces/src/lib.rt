@@ -7,8 +7,8 @@
 // of its own.
 use strings::Plain;
 ghost use mathlib.Core.Path.{_≡_};
-ghost use mathlib.Core.List.{List, _++_};
-ghost use Prim.Native.Nat.{ℕ, _+_, _*_, _≤_, min};
+ghost use mathlib.Core.List.{_++_};
+ghost use Prim.Native.Nat.{_+_, _*_, _≤_, min};
 ghost use lib.ListN.{length};
 ghost use Rattle.model.specs.Lists.{any, keep};
 ghost use Rattle.model.specs.Tape.{recordAt, recordsAt, nodeCodec, places as placesIn, bookAt};
@@ -21,29 +21,19 @@ ghost use Rattle.strings.specs.Starts.{storeIn, lengthsIn, Readable};
 ghost use Rattle.strings.specs.Shown.{Resolvable};
 ghost use Rattle.strings.specs.PlainContent.{plainString};
 ghost use Rattle.dependency.specs.Bases.{amongBases};
-ghost use Rattle.dependency.specs.Sound.{Sound, SoundNode, PlainIn};
+ghost use Rattle.ruby_formats.specs.Sound.{Sound, SoundNode, PlainIn};
 ghost use Rattle.dependency.specs.Noted.{Noted};
 ghost use Rattle.dependency.specs.Rows.{Told, Rowed, amongRow};
 ghost use Rattle.sorted_ids.specs.Row.{firstWords, Row};
 ghost use Rattle.region.specs.Ready.{Ready};
 ghost use Rattle.region.specs.Held.{Held};
-ghost use Rattle.introduces.specs.Linked.{formatFrom, refersTo, rubyForLater};
+ghost use Rattle.introduces.specs.Linked.{refersTo, rubyForLater};
 ghost use Rattle.dependency.specs.Words.{lastWords};
 ghost use Rattle.introduces.specs.Words.{KeptIndexes, BothIndexed};
-ghost use Rattle.introduces.specs.Rows.{refersToRow, targetAgain};
-ghost use Rattle.dependency.specs.Named.{Naming, Namings};
+ghost use Rattle.ruby_formats.specs.Named.{Naming, Namings};
+ghost use Rattle.introduces.specs.Rows.{refersToRow};
 ghost use Rattle.records.specs.Runs.{testAt};
 ghost use Rattle.wire.specs.Loops.{Missed};
-
-fn is_format_from(tape: &[u8], at: usize, from: u32) -> bool
-    requires { ⌜ at + 49 ≤ length (now tape) ⌝ }
-    ensures { λ r. ⌜ r ≡ formatFrom from (recordAt nodeCodec (now (tape .entry)) at) ⌝ }
-{
-    if !dependency::is_referenced_format(tape, at) {
-        return false;
-    }
-    from <= records::node_start(tape, at)
-}
 
 // A Referenced Format that starts at or behind an offset.
 fn any_format_from(tape: &[u8], at: usize, count: usize, from: u32) -> bool
@@ -52,7 +42,7 @@ fn any_format_from(tape: &[u8], at: usize, count: usize, from: u32) -> bool
 {
     let mut i = 0;
     while i < count {
-        if is_format_from(tape, at + 49 * i, from) {
+        if ruby_formats::is_format_from(tape, at + 49 * i, from) {
             return true;
         }
         i += 1;
@@ -73,7 +63,7 @@ fn ruby_for_later(
     requires { ⌜ (at + 49 * count ≤ length (now tape)) × (place + 49 * nodes ≤ length (now reading)) ⌝ }
     ensures { λ r. ⌜ r ≡ rubyForLater (recordsAt nodeCodec (now (reading .entry)) place nodes) (recordsAt nodeCodec (now (tape .entry)) at count) end ⌝ }
 {
-    if !dependency::any_ruby(reading, place, nodes) {
+    if !ruby_formats::any_ruby(reading, place, nodes) {
         return false;
     }
     any_format_from(tape, at, count, end)
@@ -181,10 +171,10 @@ fn refers_to<'a, 'b>(
     ensures { λ r. ⌜ Told r (refersTo (storeIn (now (tape .entry)) (now (old .entry) ++ now (new .entry))) (recordsAt nodeCodec (now (tape .entry)) at count) (storeIn (now (reading .entry)) (now
         (front .entry) ++ now (back .entry))) (recordAt nodeCodec (now (reading .entry)) place)) ⌝ }
 {
-    if !dependency::is_referenced_format(reading, place) {
+    if !ruby_formats::is_referenced_format(reading, place) {
         return 0;
     }
-    let p = dependency::first_plain(reading, own, place);
+    let p = ruby_formats::first_plain(reading, own, place);
     is_base_of(
         tape,
         st,
@@ -341,10 +331,10 @@ fn refers_to_row<'a, 'b>(
     ensures { λ r. ⌜ r ≡ refersToRow (storeIn (now (tape .entry)) (now (old .entry) ++ now (new .entry))) (now (words .entry)) base m (storeIn (now (reading .entry)) (now (front .entry) ++ now
         (back .entry))) (recordAt nodeCodec (now (reading .entry)) place) ⌝ }
 {
-    if !dependency::is_referenced_format(reading, place) {
+    if !ruby_formats::is_referenced_format(reading, place) {
         return false;
     }
-    let p = dependency::first_plain(reading, own, place);
+    let p = ruby_formats::first_plain(reading, own, place);
     is_in_row(
         tape,
         st,
@@ -362,20 +352,6 @@ fn refers_to_row<'a, 'b>(
     )
 }
 
-// Is node v before node i a Format with the target of node i by its id? Then the answer of node v is node i's.
-fn is_target_again(tape: &[u8], st: store::Store, at: usize, i: usize, v: usize) -> bool
-    requires { ⌜ Namings (now tape) st at (i + 1) ⌝ }
-    ensures { λ r. ⌜ ((b : List ℕ) → r ≡ targetAgain (now (tape .entry)) at i v b) ⌝ }
-{
-    if i <= v {
-        return false;
-    }
-    if !dependency::is_referenced_format(tape, at + 49 * v) {
-        return false;
-    }
-    dependency::same_named(tape, st, at + 49 * i, at + 49 * v)
-}
-
 fn note_target(
     tape: &[u8],
     st: store::Store,
@@ -389,7 +365,7 @@ fn note_target(
     requires { ⌜ m ≤ length (now places) ⌝ }
     ensures { λ r. ⌜ r ≤ length (now (places .entry)) ⌝ }
 {
-    if dependency::is_referenced_format(tape, at + 49 * i) {
+    if ruby_formats::is_referenced_format(tape, at + 49 * i) {
         return dependency::note_place(tape, st, at, i, long, places, m);
     }
     m
@@ -443,7 +419,7 @@ fn refers_first_to_row<'a, 'b>(
 {
     let here = place + 49 * i;
     let v = dependency::noted_place(reading, own, here, first);
-    if is_target_again(reading, own, place, i, v) {
+    if ruby_formats::is_target_again(reading, own, place, i, v) {
         return false;
     }
     refers_to_row(

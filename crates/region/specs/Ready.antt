@@ -31,7 +31,7 @@ use Rattle.strings.specs.Shown.{oldStrings, TwoSides, two-sides}
 use Rattle.tape.specs.Accepted.{Accepted, accepted-store, accepted-places}
 use Rattle.tape.specs.Numbers.{store-few}
 use Rattle.tape.specs.Placed.{fit-nodes, fit-pairs}
-use Rattle.dependency.specs.Sound.{layersIn, Sound}
+use Rattle.ruby_formats.specs.Sound.{layersIn, Sound}
 use Rattle.cuts.specs.Gaps.{NodesIn, book-nodes}
 
 pub record Ready (t d : List ℕ) (p : Places) (st : Store) (words : List ℕ) : Type 0 where

@@ -1,5 +1,5 @@
 use Prim.Native.Nat.{min}
-use Rattle.dependency.specs.Sound.{sound-before, sound-node, sound-index}
+use Rattle.ruby_formats.specs.Sound.{sound-before, sound-node, sound-index}
 use Rattle.model.specs.Tape.{recordsAt, nodeCodec}
 use Rattle.wire.specs.Loops.{Missed, missed-none, missed-more, any-found, any-missed, anyUpTo}
 use Rattle.strings.specs.Starts.{storeIn}

@@ -1,5 +1,5 @@
 use Prim.Native.Nat.{min}
-use Rattle.dependency.specs.Sound.{sound-before, sound-index}
+use Rattle.ruby_formats.specs.Sound.{sound-before, sound-index}
 use Rattle.model.specs.Tape.{recordsAt, nodeCodec}
 use Rattle.wire.specs.Loops.{any-found}
 use Rattle.strings.specs.Starts.{storeIn}

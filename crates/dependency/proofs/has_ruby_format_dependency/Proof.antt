@@ -1,7 +1,7 @@
 use Prim.Native.Nat.{_+_}
 use lib.ListN.{length}
 use native.Mathlib.Omega.{arith}
-use Rattle.dependency.specs.Sound.{sound-before}
+use Rattle.ruby_formats.specs.Sound.{sound-before}
 use Rattle.dependency.specs.Asked.{asked-inside, asked-depends, asked-none}
 use Rattle.dependency.specs.Words.{lent-enough}
 use borrow.Author.Needs.{needs}
@@ -9,7 +9,7 @@ use Rattle.dependency.proofs.has_ruby_format_dependency.Statement.{stat
 use Rattle.dependency.proofs.has_ruby_format_dependency.Tie as tie
 use Rattle.dependency.proofs.has_ruby_format_dependency.Reads as reads
 use Rattle.dependency.proofs.has_ruby_format_dependency.Lts as lts
-use Rattle.dependency.proofs.asked_nodes.Reads as asked-nodes-reads
+use Rattle.ruby_formats.proofs.asked_nodes.Reads as asked-nodes-reads
 use Rattle.dependency.proofs.in_many_parts.Reads as in-many-parts-reads
 use Rattle.dependency.proofs.refers_by_own.Reads as refers-by-own-reads
 use Rattle.dependency.proofs.refers_by_words.Reads as refers-by-words-reads

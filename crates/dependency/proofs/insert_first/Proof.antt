@@ -1,6 +1,7 @@
 use Rattle.dependency.specs.Rows.{rowed-past, rowed-one}
-use Rattle.dependency.specs.Named.{sound-naming, sound-namings, rowed-again}
-use Rattle.dependency.specs.Sound.{sound-last}
+use Rattle.ruby_formats.specs.Named.{sound-naming, sound-namings}
+use Rattle.dependency.specs.Named.{rowed-again}
+use Rattle.ruby_formats.specs.Sound.{sound-last}
 use mathlib.Core.Path.{refl}
 use native.Mathlib.Omega.{arith}
 use borrow.Author.Needs.{needs}
@@ -9,7 +10,7 @@ use Rattle.dependency.proofs.insert_first.Tie as tie
 use Rattle.dependency.proofs.insert_first.Reads as reads
 use Rattle.dependency.proofs.insert_first.Lts as lts
 use Rattle.dependency.proofs.insert_base.Reads as insert-base-reads
-use Rattle.dependency.proofs.is_base_again.Reads as is-base-again-reads
+use Rattle.ruby_formats.proofs.is_base_again.Reads as is-base-again-reads
 use Rattle.dependency.proofs.noted_place.Reads as noted-place-reads
 
 returns : tie.Need-returns

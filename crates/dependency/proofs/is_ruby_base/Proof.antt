@@ -7,7 +7,7 @@ use Rattle.wire.specs.Loops.{Missed, missed-none}
 use Rattle.records.specs.Runs.{testAt, run-missed, run-found, run-nowhere}
 use Rattle.strings.specs.Starts.{storeIn}
 use Rattle.dependency.specs.Bases.{hasBase}
-use Rattle.dependency.specs.Sound.{sound-node}
+use Rattle.ruby_formats.specs.Sound.{sound-node}
 use Rattle.dependency.proofs.is_ruby_base.Statement.{statement}
 use Rattle.dependency.proofs.is_ruby_base.Tie as tie
 use Rattle.dependency.proofs.is_ruby_base.Reads as reads

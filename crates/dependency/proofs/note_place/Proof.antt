@@ -3,7 +3,7 @@ use Rattle.dependency.proofs.note_place.Statement.{statement}
 use Rattle.dependency.proofs.note_place.Tie as tie
 use Rattle.dependency.proofs.note_place.Reads as reads
 use Rattle.dependency.proofs.note_place.Lts as lts
-use Rattle.dependency.proofs.named.Reads as named-reads
+use Rattle.ruby_formats.proofs.named.Reads as named-reads
 use Rattle.id_places.proofs.insert.Reads as insert-reads
 use Rattle.strings.proofs.string_length.Reads as string-length-reads
 

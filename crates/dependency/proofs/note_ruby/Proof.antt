@@ -1,13 +1,13 @@
 use borrow.Author.Tests.{not-true, not-false}
-use Rattle.dependency.specs.Sound.{ruby-first, plain-inside}
+use Rattle.ruby_formats.specs.Sound.{ruby-first, plain-inside}
 use Rattle.dependency.specs.Noted.{note-other, note-ruby}
 use borrow.Author.Needs.{needs}
 use Rattle.dependency.proofs.note_ruby.Statement.{statement}
 use Rattle.dependency.proofs.note_ruby.Tie as tie
 use Rattle.dependency.proofs.note_ruby.Reads as reads
 use Rattle.dependency.proofs.note_ruby.Lts as lts
-use Rattle.dependency.proofs.first_plain.Reads as first-plain-reads
-use Rattle.dependency.proofs.is_ruby.Reads as is-ruby-reads
+use Rattle.ruby_formats.proofs.first_plain.Reads as first-plain-reads
+use Rattle.ruby_formats.proofs.is_ruby.Reads as is-ruby-reads
 use Rattle.dependency.proofs.insert_plain.Reads as insert-plain-reads
 
 is-ruby-requires : tie.Need-is-ruby-requires

@@ -1,5 +1,5 @@
 use Rattle.dependency.specs.Words.{last-length}
-use Rattle.dependency.specs.Sound.{sound-index}
+use Rattle.ruby_formats.specs.Sound.{sound-index}
 use Rattle.dependency.specs.Words.{last-first, last-inside}
 use mathlib.Core.Path.{refl, _∙_}
 use native.Mathlib.Omega.{arith}

@@ -2,15 +2,15 @@ use Rattle.dependency.specs.Rows.{told-as, told-no}
 use mathlib.Core.Path.{refl, sym}
 use native.Mathlib.Omega.{arith}
 use borrow.Author.Tests.{not-true, not-false}
-use Rattle.dependency.specs.Sound.{sound-last, sound-before, format-first, plain-inside}
+use Rattle.ruby_formats.specs.Sound.{sound-last, sound-before, format-first, plain-inside}
 use Rattle.dependency.specs.Parts.{refers-other, refers-target, noted-few}
 use borrow.Author.Needs.{needs}
 use Rattle.dependency.proofs.refers_among.Statement.{statement}
 use Rattle.dependency.proofs.refers_among.Tie as tie
 use Rattle.dependency.proofs.refers_among.Reads as reads
 use Rattle.dependency.proofs.refers_among.Lts as lts
-use Rattle.dependency.proofs.asks_target.Reads as asks-target-reads
-use Rattle.dependency.proofs.first_plain.Reads as first-plain-reads
+use Rattle.ruby_formats.proofs.asks_target.Reads as asks-target-reads
+use Rattle.ruby_formats.proofs.first_plain.Reads as first-plain-reads
 use Rattle.dependency.proofs.is_target_base.Reads as is-target-base-reads
 use Rattle.dependency.proofs.smaller.Reads as smaller-reads
 

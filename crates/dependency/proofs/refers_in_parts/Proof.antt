@@ -1,5 +1,5 @@
 use Rattle.dependency.specs.Noted.{firstWords}
-use Rattle.dependency.specs.Sound.{sound-index}
+use Rattle.ruby_formats.specs.Sound.{sound-index}
 use Rattle.dependency.specs.Pieces.{sound-piece}
 use Rattle.dependency.specs.Parts.{refersAmong, parts-none, parts-more, parts-found, parts-all}
 use Rattle.strings.specs.Starts.{storeIn}

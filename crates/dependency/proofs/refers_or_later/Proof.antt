@@ -1,6 +1,6 @@
 use Rattle.dependency.specs.Later.{settled-later, settled-here}
-use Rattle.dependency.specs.Named.{sound-naming, sound-namings}
-use Rattle.dependency.specs.Sound.{sound-node}
+use Rattle.ruby_formats.specs.Named.{sound-naming, sound-namings}
+use Rattle.ruby_formats.specs.Sound.{sound-node}
 use Rattle.dependency.specs.Rows.{rowed-refers}
 use Rattle.dependency.specs.Parts.{refersAmong}
 use Rattle.strings.specs.Starts.{storeIn}
@@ -10,7 +10,7 @@ use Rattle.dependency.proofs.refers_or_later.Statement.{statement}
 use Rattle.dependency.proofs.refers_or_later.Tie as tie
 use Rattle.dependency.proofs.refers_or_later.Reads as reads
 use Rattle.dependency.proofs.refers_or_later.Lts as lts
-use Rattle.dependency.proofs.asks_again.Reads as asks-again-reads
+use Rattle.ruby_formats.proofs.asks_again.Reads as asks-again-reads
 use Rattle.dependency.proofs.noted_place.Reads as noted-place-reads
 use Rattle.dependency.proofs.refers_to_row.Reads as refers-to-row-reads
 

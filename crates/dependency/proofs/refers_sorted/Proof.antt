@@ -1,4 +1,4 @@
-use Rattle.dependency.specs.Named.{sound-namings, namings-before}
+use Rattle.ruby_formats.specs.Named.{sound-namings, namings-before}
 use borrow.Author.Needs.{needs}
 use Rattle.dependency.proofs.refers_sorted.Statement.{statement}
 use Rattle.dependency.proofs.refers_sorted.Tie as tie

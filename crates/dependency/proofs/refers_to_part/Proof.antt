@@ -5,7 +5,7 @@ use Rattle.dependency.proofs.refers_to_part.Statement.{statement}
 use Rattle.dependency.proofs.refers_to_part.Tie as tie
 use Rattle.dependency.proofs.refers_to_part.Reads as reads
 use Rattle.dependency.proofs.refers_to_part.Lts as lts
-use Rattle.dependency.proofs.any_ruby.Reads as any-ruby-reads
+use Rattle.ruby_formats.proofs.any_ruby.Reads as any-ruby-reads
 use Rattle.dependency.proofs.part_refers.Reads as part-refers-reads
 
 any-ruby-requires : tie.Need-any-ruby-requires

@@ -1,13 +1,13 @@
 use borrow.Author.Tests.{not-true, not-false}
-use Rattle.dependency.specs.Sound.{format-first, plain-inside}
+use Rattle.ruby_formats.specs.Sound.{format-first, plain-inside}
 use Rattle.dependency.specs.Rows.{row-asks-not, row-target}
 use borrow.Author.Needs.{needs}
 use Rattle.dependency.proofs.refers_to_row.Statement.{statement}
 use Rattle.dependency.proofs.refers_to_row.Tie as tie
 use Rattle.dependency.proofs.refers_to_row.Reads as reads
 use Rattle.dependency.proofs.refers_to_row.Lts as lts
-use Rattle.dependency.proofs.asks_target.Reads as asks-target-reads
-use Rattle.dependency.proofs.first_plain.Reads as first-plain-reads
+use Rattle.ruby_formats.proofs.asks_target.Reads as asks-target-reads
+use Rattle.ruby_formats.proofs.first_plain.Reads as first-plain-reads
 use Rattle.dependency.proofs.is_plain_in_row.Reads as is-plain-in-row-reads
 
 asks-target-requires : tie.Need-asks-target-requires

@@ -4,13 +4,14 @@ use Rattle.wire.specs.Loops.{Missed, missed-none}
 use Rattle.records.specs.Runs.{testAt, run-missed, run-found, run-nowhere}
 use Prim.Native.Nat.{_-_, _≤_}
 use native.Mathlib.Omega.{arith}
-use Rattle.introduces.specs.Linked.{formatFrom, formats-from}
+use Rattle.ruby_formats.specs.Asks.{formatFrom}
+use Rattle.introduces.specs.Linked.{formats-from}
 use mathlib.Core.Path.{refl, _∙_}
 use Rattle.introduces.proofs.any_format_from.Statement.{statement}
 use Rattle.introduces.proofs.any_format_from.Tie as tie
 use Rattle.introduces.proofs.any_format_from.Reads as reads
 use Rattle.introduces.proofs.any_format_from.Lts as lts
-use Rattle.introduces.proofs.is_format_from.Reads as is-format-from-reads
+use Rattle.ruby_formats.proofs.is_format_from.Reads as is-format-from-reads
 
 abbrev Inv-loop : tie.InvT-loop
 Inv-loop tape at count from i₀ i = (i ≤ count) × Missed (testAt nodeCodec (formatFrom from) tape at) i

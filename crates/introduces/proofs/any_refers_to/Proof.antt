@@ -1,6 +1,6 @@
 use Rattle.records.specs.Runs.{testAt, run-missed, run-found, run-nowhere}
 use Rattle.wire.specs.Loops.{Missed, missed-none}
-use Rattle.dependency.specs.Sound.{sound-node}
+use Rattle.ruby_formats.specs.Sound.{sound-node}
 use Rattle.model.specs.Tape.{recordsAt, nodeCodec}
 use Rattle.strings.specs.Starts.{storeIn}
 use borrow.Author.Tests.{eq-eqb, ne-eqb}

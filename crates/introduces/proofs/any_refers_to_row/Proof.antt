@@ -1,6 +1,6 @@
 use Rattle.records.specs.Runs.{testAt, run-missed, run-found, run-nowhere}
 use Rattle.wire.specs.Loops.{Missed, missed-none}
-use Rattle.dependency.specs.Sound.{sound-before}
+use Rattle.ruby_formats.specs.Sound.{sound-before}
 use Rattle.model.specs.Tape.{nodeCodec}
 use Rattle.strings.specs.Starts.{storeIn}
 use Rattle.introduces.specs.Rows.{refersToRow}

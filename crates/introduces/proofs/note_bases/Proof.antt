@@ -1,5 +1,5 @@
 use Rattle.dependency.specs.Words.{last-first, last-inside}
-use Rattle.dependency.specs.Sound.{sound-index}
+use Rattle.ruby_formats.specs.Sound.{sound-index}
 use mathlib.Core.Path.{refl, _∙_}
 use borrow.Author.Needs.{needs}
 use Rattle.introduces.proofs.note_bases.Statement.{statement}

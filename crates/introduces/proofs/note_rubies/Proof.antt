@@ -1,5 +1,5 @@
 use Rattle.dependency.specs.Noted.{firstWords, Noted, noted-none, noted-next, noted-front}
-use Rattle.dependency.specs.Sound.{sound-node, sound-index}
+use Rattle.ruby_formats.specs.Sound.{sound-node, sound-index}
 use Rattle.strings.specs.Starts.{storeIn}
 use Rattle.model.specs.Tape.{recordsAt, nodeCodec}
 use lib.ListN.{length}

@@ -1,7 +1,7 @@
 use Rattle.introduces.specs.Books.{refers-by}
 use Rattle.region.specs.Held.{ready-held, ready-in-order}
 use Rattle.region.specs.Ready.{ready-runs, ready-cut, ready-sound, ready-store, ready-nodes}
-use Rattle.dependency.specs.Sound.{sound-before}
+use Rattle.ruby_formats.specs.Sound.{sound-before}
 use Rattle.model.specs.Lists.{keep}
 use Rattle.laws.specs.Nodes.{endsBy}
 use mathlib.Core.Path.{refl, ap, _∙_}

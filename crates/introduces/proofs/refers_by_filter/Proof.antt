@@ -1,4 +1,4 @@
-use Rattle.dependency.specs.Sound.{sound-index}
+use Rattle.ruby_formats.specs.Sound.{sound-index}
 use Rattle.introduces.specs.Words.{first-kept, noted-words}
 use Rattle.dependency.specs.Words.{first-front, first-inside, first-last}
 use borrow.Author.Needs.{needs}

@@ -1,7 +1,7 @@
 use Rattle.introduces.specs.Words.{KeptIndexes, kept-none, kept-more}
 use Rattle.dependency.specs.Pieces.{sound-piece}
 use Rattle.introduces.specs.Pieces.{Unreferred, unreferred-none, unreferred-more, unreferred-all, referred-here}
-use Rattle.dependency.specs.Sound.{sound-index}
+use Rattle.ruby_formats.specs.Sound.{sound-index}
 use Rattle.strings.specs.Starts.{storeIn}
 use Rattle.model.specs.Tape.{recordsAt, nodeCodec}
 use mathlib.Core.Path.{_∙_}

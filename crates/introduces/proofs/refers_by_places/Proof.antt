@@ -1,4 +1,4 @@
-use Rattle.dependency.specs.Sound.{sound-index}
+use Rattle.ruby_formats.specs.Sound.{sound-index}
 use Rattle.model.specs.Tape.{recordsAt, nodeCodec}
 use Rattle.strings.specs.Starts.{storeIn}
 use Rattle.introduces.specs.Words.{first-kept}

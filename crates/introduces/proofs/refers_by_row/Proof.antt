@@ -1,4 +1,4 @@
-use Rattle.dependency.specs.Named.{sound-namings}
+use Rattle.ruby_formats.specs.Named.{sound-namings}
 use borrow.Author.Needs.{needs}
 use Rattle.introduces.proofs.refers_by_row.Statement.{statement}
 use Rattle.introduces.proofs.refers_by_row.Tie as tie

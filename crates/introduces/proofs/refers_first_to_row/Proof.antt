@@ -1,13 +1,13 @@
 use Rattle.introduces.specs.Rows.{target-again}
-use Rattle.dependency.specs.Named.{sound-naming, sound-namings}
-use Rattle.dependency.specs.Sound.{sound-last}
+use Rattle.ruby_formats.specs.Named.{sound-naming, sound-namings}
+use Rattle.ruby_formats.specs.Sound.{sound-last}
 use borrow.Author.Needs.{needs}
 use Rattle.introduces.proofs.refers_first_to_row.Statement.{statement}
 use Rattle.introduces.proofs.refers_first_to_row.Tie as tie
 use Rattle.introduces.proofs.refers_first_to_row.Reads as reads
 use Rattle.introduces.proofs.refers_first_to_row.Lts as lts
 use Rattle.dependency.proofs.noted_place.Reads as noted-place-reads
-use Rattle.introduces.proofs.is_target_again.Reads as is-target-again-reads
+use Rattle.ruby_formats.proofs.is_target_again.Reads as is-target-again-reads
 use Rattle.introduces.proofs.refers_to_row.Reads as refers-to-row-reads
 
 mul-here : tie.Need-mul-here

@@ -1,14 +1,14 @@
 use Rattle.dependency.specs.Rows.{told-as, told-no}
 use mathlib.Core.Path.{refl, sym}
 use Rattle.introduces.specs.Linked.{refers-other, refers-target}
-use Rattle.dependency.specs.Sound.{target-first, plain-inside}
+use Rattle.ruby_formats.specs.Sound.{target-first, plain-inside}
 use borrow.Author.Tests.{not-true, not-false}
 use Rattle.introduces.proofs.refers_to.Statement.{statement}
 use Rattle.introduces.proofs.refers_to.Tie as tie
 use Rattle.introduces.proofs.refers_to.Reads as reads
 use Rattle.introduces.proofs.refers_to.Lts as lts
-use Rattle.dependency.proofs.first_plain.Reads as first-plain-reads
-use Rattle.dependency.proofs.is_referenced_format.Reads as is-referenced-format-reads
+use Rattle.ruby_formats.proofs.first_plain.Reads as first-plain-reads
+use Rattle.ruby_formats.proofs.is_referenced_format.Reads as is-referenced-format-reads
 use Rattle.introduces.proofs.is_base_of.Reads as is-base-of-reads
 
 is-referenced-format-requires : tie.Need-is-referenced-format-requires

@@ -1,13 +1,13 @@
 use borrow.Author.Tests.{not-true, not-false}
-use Rattle.dependency.specs.Sound.{target-first, plain-inside}
+use Rattle.ruby_formats.specs.Sound.{target-first, plain-inside}
 use Rattle.introduces.specs.Rows.{row-other, row-target}
 use borrow.Author.Needs.{needs}
 use Rattle.introduces.proofs.refers_to_row.Statement.{statement}
 use Rattle.introduces.proofs.refers_to_row.Tie as tie
 use Rattle.introduces.proofs.refers_to_row.Reads as reads
 use Rattle.introduces.proofs.refers_to_row.Lts as lts
-use Rattle.dependency.proofs.first_plain.Reads as first-plain-reads
-use Rattle.dependency.proofs.is_referenced_format.Reads as is-referenced-format-reads
+use Rattle.ruby_formats.proofs.first_plain.Reads as first-plain-reads
+use Rattle.ruby_formats.proofs.is_referenced_format.Reads as is-referenced-format-reads
 use Rattle.introduces.proofs.is_in_row.Reads as is-in-row-reads
 
 is-referenced-format-requires : tie.Need-is-referenced-format-requires

@@ -1,4 +1,4 @@
-use Rattle.dependency.specs.Sound.{sound-index}
+use Rattle.ruby_formats.specs.Sound.{sound-index}
 use Rattle.introduces.specs.Words.{kept-more}
 use native.Mathlib.Omega.{arith}
 use borrow.Author.Needs.{needs}

@@ -6,7 +6,7 @@ use Rattle.introduces.proofs.ruby_for_later.Tie as tie
 use Rattle.introduces.proofs.ruby_for_later.Reads as reads
 use Rattle.introduces.proofs.ruby_for_later.Lts as lts
 use Rattle.introduces.proofs.any_format_from.Reads as any-format-from-reads
-use Rattle.dependency.proofs.any_ruby.Reads as any-ruby-reads
+use Rattle.ruby_formats.proofs.any_ruby.Reads as any-ruby-reads
 
 any-ruby-requires : tie.Need-any-ruby-requires
 any-ruby-requires c κs = search needs

@@ -1,0 +1,4 @@
+pub mod Kinds
+pub mod Asks
+pub mod Sound
+pub mod Named
