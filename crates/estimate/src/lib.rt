@@ -85,7 +85,8 @@ fn price_fitted(
     f: fitting::Fitting,
 ) -> Price
     requires { ⌜ Books (now tape) (now bytes) (f .p) (f .st) (editOf start end (now replacement)) (windowValue (f .w)) (now readingtape) (now readingbytes) (f .q) (f .own) ⌝ }
-    ensures { λ r. ⌜ r ≡ estimateOf (accepted (priceIn (bookIn (now (tape .entry)) (now (bytes .entry))) (editOf start end (now (replacement .entry))) (bookIn (now (readingtape .entry)) (now (readingbytes .entry))) (windowValue (f .w)))) ⌝ }
+    ensures { λ r. ⌜ r ≡ estimateOf (accepted (priceIn (bookIn (now (tape .entry)) (now (bytes .entry))) (editOf start end (now (replacement .entry)))
+        (bookIn (now (readingtape .entry)) (now (readingbytes .entry))) (windowValue (f .w)))) ⌝ }
 {
     let q = f.q;
     let w = f.w;
@@ -156,7 +157,8 @@ pub fn estimate(
     readingbytes: &[u8],
     work: &mut [u32],
 ) -> Price
-    ensures { λ r. ⌜ (r ≡ estimateOf (estimate (storedOf (now (tape .entry)) (now (bytes .entry))) (editOf start end (now (replacement .entry))) (storedOf (now (readingtape .entry)) (now (readingbytes .entry))))) × (now (work .exit) ≡ zeros (length (now (work .entry)))) ⌝ }
+    ensures { λ r. ⌜ (r ≡ estimateOf (estimate (storedOf (now (tape .entry)) (now (bytes .entry))) (editOf start end (now (replacement .entry))) (storedOf (now (readingtape .entry)) (now (readingbytes .entry)))))
+        × (now (work .exit) ≡ zeros (length (now (work .entry)))) ⌝ }
 {
     let r = estimate_checked(
         tape,

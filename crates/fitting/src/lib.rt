@@ -180,7 +180,10 @@ fn region_window(
     normalized: u32,
 ) -> Window
     requires { ⌜ Given (now tape) (now bytes) (b .p) (b .st) (editOf start end (now replacement)) (regionOf (b .from) (b .to)) ⌝ }
-    ensures { λ r. ⌜ windowValue r ≡ windowFrom (b .from) (b .to) (normalizedOffset (recordsAt nodeCodec (now (tape .entry)) (b .p .nodes .at) (b .p .nodes .count)) (b .from)) (normalizedOffset (recordsAt nodeCodec (now (tape .entry)) (b .p .nodes .at) (b .p .nodes .count)) (b .to)) (length (now (replacement .entry))) start end normalized ⌝ }
+    ensures { λ r. ⌜ windowValue r ≡ windowFrom (b .from) (b .to)
+        (normalizedOffset (recordsAt nodeCodec (now (tape .entry)) (b .p .nodes .at) (b .p .nodes .count)) (b .from))
+        (normalizedOffset (recordsAt nodeCodec (now (tape .entry)) (b .p .nodes .at) (b .p .nodes .count)) (b .to))
+        (length (now (replacement .entry))) start end normalized ⌝ }
 {
     let p = b.p;
     let nstart = normalized_cut(tape, p.nodes, SourceOffset(b.from));
@@ -199,8 +202,10 @@ fn cut_refusal(
     work: &mut [u32],
 ) -> u32
     requires { ⌜ Held (now tape) (now bytes) (f .p) (f .st) × Held (now readingtape) (now readingbytes) (f .q) (f .own) ⌝ }
-    requires { ⌜ (f .w .nstart ≡ normalizedOffset (recordsAt nodeCodec (now tape) (f .p .nodes .at) (f .p .nodes .count)) (f .w .start)) × (f .w .nend ≡ normalizedOffset (recordsAt nodeCodec (now tape) (f .p .nodes .at) (f .p .nodes .count)) (f .w .end)) ⌝ }
-    ensures { λ r. ⌜ ((e : Edit) → r ≡ cutNumber (bookAt (now (tape .entry)) (placesIn (now (tape .entry))) (now (bytes .entry))) e (regionOf (f .w .start) (f .w .end)) (bookAt (now (readingtape .entry)) (placesIn (now (readingtape .entry))) (now (readingbytes .entry)))) ⌝ }
+    requires { ⌜ (f .w .nstart ≡ normalizedOffset (recordsAt nodeCodec (now tape) (f .p .nodes .at) (f .p .nodes .count)) (f .w .start))
+        × (f .w .nend ≡ normalizedOffset (recordsAt nodeCodec (now tape) (f .p .nodes .at) (f .p .nodes .count)) (f .w .end)) ⌝ }
+    ensures { λ r. ⌜ ((e : Edit) → r ≡ cutNumber (bookAt (now (tape .entry)) (placesIn (now (tape .entry))) (now (bytes .entry))) e (regionOf (f .w .start) (f .w .end))
+        (bookAt (now (readingtape .entry)) (placesIn (now (readingtape .entry))) (now (readingbytes .entry)))) ⌝ }
 {
     let p = f.p;
     let q = f.q;
@@ -244,8 +249,10 @@ fn reading_refusal(
     work: &mut [u32],
 ) -> u32
     requires { ⌜ Read (now tape) (now bytes) (f .p) (f .st) (editOf start end (now replacement)) (regionOf (f .w .start) (f .w .end)) (now readingtape) (now readingbytes) (f .q) (f .own) ⌝ }
-    requires { ⌜ (f .w .nstart ≡ normalizedOffset (recordsAt nodeCodec (now tape) (f .p .nodes .at) (f .p .nodes .count)) (f .w .start)) × (f .w .nend ≡ normalizedOffset (recordsAt nodeCodec (now tape) (f .p .nodes .at) (f .p .nodes .count)) (f .w .end)) ⌝ }
-    ensures { λ r. ⌜ r ≡ readingNumber (bookAt (now (tape .entry)) (placesIn (now (tape .entry))) (now (bytes .entry))) (editOf start end (now (replacement .entry))) (regionOf (f .w .start) (f .w .end)) (bookAt (now (readingtape .entry)) (placesIn (now (readingtape .entry))) (now (readingbytes .entry))) ⌝ }
+    requires { ⌜ (f .w .nstart ≡ normalizedOffset (recordsAt nodeCodec (now tape) (f .p .nodes .at) (f .p .nodes .count)) (f .w .start))
+        × (f .w .nend ≡ normalizedOffset (recordsAt nodeCodec (now tape) (f .p .nodes .at) (f .p .nodes .count)) (f .w .end)) ⌝ }
+    ensures { λ r. ⌜ r ≡ readingNumber (bookAt (now (tape .entry)) (placesIn (now (tape .entry))) (now (bytes .entry))) (editOf start end (now (replacement .entry))) (regionOf (f .w .start) (f .w .end))
+        (bookAt (now (readingtape .entry)) (placesIn (now (readingtape .entry))) (now (readingbytes .entry))) ⌝ }
 {
     let p = f.p;
     let q = f.q;

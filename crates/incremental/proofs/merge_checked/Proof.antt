@@ -21,10 +21,15 @@ same-length : tie.Need-same-length
 same-length c = search needs
 
 returns : tie.Need-returns
-returns c = written-refused _ _ _ _ (merge-refused (c .before .before .before .before .before .fitted .ensures) _ (c .before .if1 .taken)) (c .refused-output .ensures) refl refl (c .before .before .before .before .before .fitted .kept .1 .1 .1 .1 .1 .1 .1 .0)
+returns c =
+    let at-fitted = c .before .before .before .before .before in
+    written-refused _ _ _ _ (merge-refused (at-fitted .fitted .ensures) _ (c .before .if1 .taken)) (c .refused-output .ensures) refl refl (at-fitted .fitted .kept .1 .1 .1 .1 .1 .1 .1 .0)
 
 merge-books-requires : tie.Need-merge-books-requires
-merge-books-requires c κs = c .before .before .before .before .before .before .before .fitted .ensures .books (c .before .before .before .if1 .left)
+merge-books-requires c κs =
+    let at-if1 = c .before .before .before in
+    let at-fitted = at-if1 .before .before .before .before in
+    at-fitted .fitted .ensures .books (at-if1 .if1 .left)
 
 same-length-2 : tie.Need-same-length-2
 same-length-2 c = search needs
@@ -36,7 +41,11 @@ same-length-4 : tie.Need-same-length-4
 same-length-4 c = search needs
 
 returns-2 : tie.Need-returns-2
-returns-2 c = written-later _ _ (resultChecked _ _ _ _) (merge-result (c .before .before .before .before .before .before .before .before .before .before .before .before .before .before .fitted .ensures) _ (c .before .before .before .before .before .before .before .before .before .before .if1 .left)) (c .before .before .before .before .before .before .before .before .before .before .before .before .before .before .fitted .kept .1 .1 .1 .1 .1 .1 .1 .0) (c .before .before .before .before .before .before .merge-books .ensures)
+returns-2 c =
+    let at-merge-books = c .before .before .before .before .before .before in
+    let at-if1 = at-merge-books .before .before .before .before in
+    let at-fitted = at-if1 .before .before .before .before in
+    written-later _ _ (resultChecked _ _ _ _) (merge-result (at-fitted .fitted .ensures) _ (at-if1 .if1 .left)) (at-fitted .fitted .kept .1 .1 .1 .1 .1 .1 .1 .0) (at-merge-books .merge-books .ensures)
 
 pub merge-checked-spec : {M : Type 1} → statement M
 merge-checked-spec =
