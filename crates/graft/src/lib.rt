@@ -173,7 +173,8 @@ fn graft_string(
     requires { ⌜ Good (now work) (now strs) (m .state) × Named (now tape) (now bytes) (now work) (now strs) m ⌝ }
     requires { ⌜ (m .ok ≡ true) × (hasRoom (length (now strs)) (m .state .base) (stateOf (now work) (now strs) (m .state)) ≡ true) ⌝ }
     requires { ⌜ (usedWell st usage id 0 ≡ true) × (m .state .stats .calls < 2 ^ 32) × (p .strings + 2 ^ 12 < 2 ^ 32) ⌝ }
-    ensures { λ r. ⌜ ((out : List ℕ) → StartTold (now (tape .entry)) (now (bytes .entry)) p m out (now (work .entry)) (now (strs .entry)) out (now (work .exit)) (now (strs .exit)) r (idFrom (now (tape .entry)) (now (bytes .entry)) usage id (layerFrom p (now (work .entry)) (now (strs .entry)) m))) ⌝ }
+    ensures { λ r. ⌜ ((out : List ℕ) → StartTold (now (tape .entry)) (now (bytes .entry)) p m out (now (work .entry)) (now (strs .entry)) out (now (work .exit)) (now (strs .exit)) r
+        (idFrom (now (tape .entry)) (now (bytes .entry)) usage id (layerFrom p (now (work .entry)) (now (strs .entry)) m))) ⌝ }
 {
     if usage == 1 {
         return graft_str(tape, bytes, st, work, strs, p, m, id);
@@ -333,7 +334,8 @@ pub fn graft_body(
 ) -> Words
     requires { ⌜ Ready (now tape) (now bytes) st p m (now out) (now work) (now strs) (bodyAdds level (now tape) st (bodyAt (now tape) at)) ⌝ }
     requires { ⌜ (at + 34 ≤ length (now tape)) × (bodyIn st (bodyAt (now tape) at) ≡ true) ⌝ }
-    ensures { λ r. ⌜ WordsTold (now (tape .entry)) (now (bytes .entry)) p m (now (out .entry)) (now (work .entry)) (now (strs .entry)) (now (out .exit)) (now (work .exit)) (now (strs .exit)) r (bodyFrom level (now (tape .entry)) (now (bytes .entry)) p (now (work .entry)) (now (strs .entry)) m (bodyAt (now (tape .entry)) at) 6) ⌝ }
+    ensures { λ r. ⌜ WordsTold (now (tape .entry)) (now (bytes .entry)) p m (now (out .entry)) (now (work .entry)) (now (strs .entry)) (now (out .exit)) (now (work .exit)) (now (strs .exit)) r
+        (bodyFrom level (now (tape .entry)) (now (bytes .entry)) p (now (work .entry)) (now (strs .entry)) m (bodyAt (now (tape .entry)) at) 6) ⌝ }
 {
     let mut u = Words {
         mark: m,
@@ -367,7 +369,8 @@ fn graft_place(
 ) -> Words
     requires { ⌜ Ready (now tape) (now bytes) st p (u .mark) (now out) (now work) (now strs) (placeAdds (innerAdds level (now tape) st) (now tape) st (bodyAt (now tape) at) j) ⌝ }
     requires { ⌜ (at + 34 ≤ length (now tape)) × (bodyIn st (bodyAt (now tape) at) ≡ true) × (j < 6) ⌝ }
-    ensures { λ r. ⌜ WordsTold (now (tape .entry)) (now (bytes .entry)) p (u .mark) (now (out .entry)) (now (work .entry)) (now (strs .entry)) (now (out .exit)) (now (work .exit)) (now (strs .exit)) r (placeFrom level (now (tape .entry)) (now (bytes .entry)) (bodyAt (now (tape .entry)) at) j (u .words) (layerFrom p (now (work .entry)) (now (strs .entry)) (u .mark))) ⌝ }
+    ensures { λ r. ⌜ WordsTold (now (tape .entry)) (now (bytes .entry)) p (u .mark) (now (out .entry)) (now (work .entry)) (now (strs .entry)) (now (out .exit)) (now (work .exit)) (now (strs .exit)) r
+        (placeFrom level (now (tape .entry)) (now (bytes .entry)) (bodyAt (now (tape .entry)) at) j (u .words) (layerFrom p (now (work .entry)) (now (strs .entry)) (u .mark))) ⌝ }
 {
     let i = sizes::field_word(tape[at], j);
     let f = sizes::field_at(tape, at, j);
@@ -393,7 +396,8 @@ fn graft_field(
 ) -> Start
     requires { ⌜ Ready (now tape) (now bytes) st p m (now out) (now work) (now strs) (usedAdds (innerAdds level (now tape) st) (now tape) st f) ⌝ }
     requires { ⌜ usedWell st (f .usage) (f .first) (f .second) ≡ true ⌝ }
-    ensures { λ r. ⌜ StartTold (now (tape .entry)) (now (bytes .entry)) p m (now (out .entry)) (now (work .entry)) (now (strs .entry)) (now (out .exit)) (now (work .exit)) (now (strs .exit)) r (fieldFrom level (now (tape .entry)) (now (bytes .entry)) f (layerFrom p (now (work .entry)) (now (strs .entry)) m)) ⌝ }
+    ensures { λ r. ⌜ StartTold (now (tape .entry)) (now (bytes .entry)) p m (now (out .entry)) (now (work .entry)) (now (strs .entry)) (now (out .exit)) (now (work .exit)) (now (strs .exit)) r
+        (fieldFrom level (now (tape .entry)) (now (bytes .entry)) f (layerFrom p (now (work .entry)) (now (strs .entry)) m)) ⌝ }
 {
     if f.usage == 3 {
         return graft_content_run(
@@ -444,7 +448,8 @@ fn graft_content_run(
 ) -> Start
     requires { ⌜ Ready (now tape) (now bytes) st p m (now out) (now work) (now strs) (contentRunAdds (innerAdds level (now tape) st) (now tape) st start len) ⌝ }
     requires { ⌜ contentsIn st start len ≡ true ⌝ }
-    ensures { λ r. ⌜ StartTold (now (tape .entry)) (now (bytes .entry)) p m (now (out .entry)) (now (work .entry)) (now (strs .entry)) (now (out .exit)) (now (work .exit)) (now (strs .exit)) r (contentRunFrom level (now (tape .entry)) (now (bytes .entry)) start len (layerFrom p (now (work .entry)) (now (strs .entry)) m)) ⌝ }
+    ensures { λ r. ⌜ StartTold (now (tape .entry)) (now (bytes .entry)) p m (now (out .entry)) (now (work .entry)) (now (strs .entry)) (now (out .exit)) (now (work .exit)) (now (strs .exit)) r
+        (contentRunFrom level (now (tape .entry)) (now (bytes .entry)) start len (layerFrom p (now (work .entry)) (now (strs .entry)) m)) ⌝ }
 {
     if len == 0 {
         return Start {
@@ -490,7 +495,8 @@ fn graft_contents(
     requires { ⌜ Ready (now tape) (now bytes) st p m (now out) (now work) (now strs) (contentsAdd (innerAdds level (now tape) st) (now tape) st at count) ⌝ }
     requires { ⌜ (at + 10 * count ≤ length (now tape)) × (all (contentIn st) (recordsAt contentCodec (now tape) at count) ≡ true) ⌝ }
     requires { ⌜ (m .contents + contentsAdd (innerAdds level (now tape) st) (now tape) st at count .contents ≤ to) × (p .contentsat + 10 * (to + count) ≤ p .segmentsat) × (to + count < 2 ^ 32) ⌝ }
-    ensures { λ r. ⌜ ContentsTold (now (tape .entry)) (now (bytes .entry)) p m to (now (out .entry)) (now (work .entry)) (now (strs .entry)) (now (out .exit)) (now (work .exit)) (now (strs .exit)) r (shownContents level (now (tape .entry)) (now (bytes .entry)) (recordsAt contentCodec (now (tape .entry)) at count) (layerFrom p (now (work .entry)) (now (strs .entry)) m)) ⌝ }
+    ensures { λ r. ⌜ ContentsTold (now (tape .entry)) (now (bytes .entry)) p m to (now (out .entry)) (now (work .entry)) (now (strs .entry)) (now (out .exit)) (now (work .exit)) (now (strs .exit)) r
+        (shownContents level (now (tape .entry)) (now (bytes .entry)) (recordsAt contentCodec (now (tape .entry)) at count) (layerFrom p (now (work .entry)) (now (strs .entry)) m)) ⌝ }
 {
     let mut u = m;
     let mut i = 0;
@@ -533,7 +539,8 @@ fn graft_content(
     requires { ⌜ Ready (now tape) (now bytes) st p m (now out) (now work) (now strs) (contentAdds (innerAdds level (now tape) st) (now tape) st (recordAt contentCodec (now tape) at)) ⌝ }
     requires { ⌜ (at + 10 ≤ length (now tape)) × (contentIn st (recordAt contentCodec (now tape) at) ≡ true) ⌝ }
     requires { ⌜ (m .contents + contentAdds (innerAdds level (now tape) st) (now tape) st (recordAt contentCodec (now tape) at) .contents ≤ to) × (p .contentsat + 10 * (to + 1) ≤ p .segmentsat) ⌝ }
-    ensures { λ r. ⌜ ContentsTold (now (tape .entry)) (now (bytes .entry)) p m to (now (out .entry)) (now (work .entry)) (now (strs .entry)) (now (out .exit)) (now (work .exit)) (now (strs .exit)) r (shownContents level (now (tape .entry)) (now (bytes .entry)) (recordAt contentCodec (now (tape .entry)) at ∷ []) (layerFrom p (now (work .entry)) (now (strs .entry)) m)) ⌝ }
+    ensures { λ r. ⌜ ContentsTold (now (tape .entry)) (now (bytes .entry)) p m to (now (out .entry)) (now (work .entry)) (now (strs .entry)) (now (out .exit)) (now (work .exit)) (now (strs .exit)) r
+        (shownContents level (now (tape .entry)) (now (bytes .entry)) (recordAt contentCodec (now (tape .entry)) at ∷ []) (layerFrom p (now (work .entry)) (now (strs .entry)) m)) ⌝ }
 {
     let c = records::content_at(tape, at);
     let place = p.contentsat + 10 * (to as usize);
@@ -583,7 +590,8 @@ fn graft_segment_run(
 ) -> Start
     requires { ⌜ Ready (now tape) (now bytes) st p m (now out) (now work) (now strs) (segmentRunAdds (innerAdds level (now tape) st) (now tape) st start len) ⌝ }
     requires { ⌜ segmentsIn st start len ≡ true ⌝ }
-    ensures { λ r. ⌜ StartTold (now (tape .entry)) (now (bytes .entry)) p m (now (out .entry)) (now (work .entry)) (now (strs .entry)) (now (out .exit)) (now (work .exit)) (now (strs .exit)) r (segmentRunFrom level (now (tape .entry)) (now (bytes .entry)) start len (layerFrom p (now (work .entry)) (now (strs .entry)) m)) ⌝ }
+    ensures { λ r. ⌜ StartTold (now (tape .entry)) (now (bytes .entry)) p m (now (out .entry)) (now (work .entry)) (now (strs .entry)) (now (out .exit)) (now (work .exit)) (now (strs .exit)) r
+        (segmentRunFrom level (now (tape .entry)) (now (bytes .entry)) start len (layerFrom p (now (work .entry)) (now (strs .entry)) m)) ⌝ }
 {
     if len == 0 {
         return Start {
@@ -629,7 +637,8 @@ fn graft_segments(
     requires { ⌜ Ready (now tape) (now bytes) st p m (now out) (now work) (now strs) (segmentsAdd (innerAdds level (now tape) st) (now tape) at count) ⌝ }
     requires { ⌜ (at + 37 * count ≤ length (now tape)) × (all (segmentIn st) (recordsAt segmentCodec (now tape) at count) ≡ true) ⌝ }
     requires { ⌜ (m .segments + segmentsAdd (innerAdds level (now tape) st) (now tape) at count .segments ≤ to) × (p .segmentsat + 37 * (to + count) ≤ length (now out)) × (to + count < 2 ^ 32) ⌝ }
-    ensures { λ r. ⌜ SegmentsTold (now (tape .entry)) (now (bytes .entry)) p m to (now (out .entry)) (now (work .entry)) (now (strs .entry)) (now (out .exit)) (now (work .exit)) (now (strs .exit)) r (shownSegments level (now (tape .entry)) (now (bytes .entry)) (recordsAt segmentCodec (now (tape .entry)) at count) (layerFrom p (now (work .entry)) (now (strs .entry)) m)) ⌝ }
+    ensures { λ r. ⌜ SegmentsTold (now (tape .entry)) (now (bytes .entry)) p m to (now (out .entry)) (now (work .entry)) (now (strs .entry)) (now (out .exit)) (now (work .exit)) (now (strs .exit)) r
+        (shownSegments level (now (tape .entry)) (now (bytes .entry)) (recordsAt segmentCodec (now (tape .entry)) at count) (layerFrom p (now (work .entry)) (now (strs .entry)) m)) ⌝ }
 {
     let mut u = m;
     let mut i = 0;
@@ -672,7 +681,8 @@ fn graft_segment(
     requires { ⌜ Ready (now tape) (now bytes) st p m (now out) (now work) (now strs) (innerAdds level (now tape) st (recordAt segmentCodec (now tape) at .body)) ⌝ }
     requires { ⌜ (at + 37 ≤ length (now tape)) × (segmentIn st (recordAt segmentCodec (now tape) at) ≡ true) ⌝ }
     requires { ⌜ (m .segments + innerAdds level (now tape) st (recordAt segmentCodec (now tape) at .body) .segments ≤ to) × (p .segmentsat + 37 * (to + 1) ≤ length (now out)) ⌝ }
-    ensures { λ r. ⌜ SegmentsTold (now (tape .entry)) (now (bytes .entry)) p m to (now (out .entry)) (now (work .entry)) (now (strs .entry)) (now (out .exit)) (now (work .exit)) (now (strs .exit)) r (shownSegments level (now (tape .entry)) (now (bytes .entry)) (recordAt segmentCodec (now (tape .entry)) at ∷ []) (layerFrom p (now (work .entry)) (now (strs .entry)) m)) ⌝ }
+    ensures { λ r. ⌜ SegmentsTold (now (tape .entry)) (now (bytes .entry)) p m to (now (out .entry)) (now (work .entry)) (now (strs .entry)) (now (out .exit)) (now (work .exit)) (now (strs .exit)) r
+        (shownSegments level (now (tape .entry)) (now (bytes .entry)) (recordAt segmentCodec (now (tape .entry)) at ∷ []) (layerFrom p (now (work .entry)) (now (strs .entry)) m)) ⌝ }
 {
     let place = p.segmentsat + 37 * (to as usize);
     let tag = tape[at + 1];

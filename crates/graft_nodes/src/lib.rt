@@ -28,7 +28,8 @@ pub fn graft_node(
 ) -> graft::Words
     requires { ⌜ Ready (now tape) (now bytes) st p m (now out) (now work) (now strs) (nodeAdds (now tape) st (recordAt nodeCodec (now tape) at)) ⌝ }
     requires { ⌜ (at + 49 ≤ length (now tape)) × (nodeIn st (recordAt nodeCodec (now tape) at) ≡ true) ⌝ }
-    ensures { λ r. ⌜ WordsTold (now (tape .entry)) (now (bytes .entry)) p m (now (out .entry)) (now (work .entry)) (now (strs .entry)) (now (out .exit)) (now (work .exit)) (now (strs .exit)) r (nodeWords (now (tape .entry)) (now (bytes .entry)) (recordAt nodeCodec (now (tape .entry)) at) (layerFrom p (now (work .entry)) (now (strs .entry)) m)) ⌝ }
+    ensures { λ r. ⌜ WordsTold (now (tape .entry)) (now (bytes .entry)) p m (now (out .entry)) (now (work .entry)) (now (strs .entry)) (now (out .exit)) (now (work .exit)) (now (strs .exit)) r
+        (nodeWords (now (tape .entry)) (now (bytes .entry)) (recordAt nodeCodec (now (tape .entry)) at) (layerFrom p (now (work .entry)) (now (strs .entry)) m)) ⌝ }
 {
     if 2 <= tape[at + 1] {
         return graft::Words {
@@ -54,7 +55,8 @@ fn graft_node_at(
 ) -> graft::Mark
     requires { ⌜ Ready (now tape) (now bytes) st p m (now out) (now work) (now strs) (nodeAdds (now tape) st (recordAt nodeCodec (now tape) at)) ⌝ }
     requires { ⌜ (at + 49 ≤ length (now tape)) × (nodeIn st (recordAt nodeCodec (now tape) at) ≡ true) × (to + 49 ≤ length (now out)) ⌝ }
-    ensures { λ r. ⌜ NodesTold (now (tape .entry)) (now (bytes .entry)) p m to (now (out .entry)) (now (work .entry)) (now (strs .entry)) (now (out .exit)) (now (work .exit)) (now (strs .exit)) r (refsFrom p (now (work .entry)) (now (strs .entry)) m (shownOf (now (tape .entry)) (now (bytes .entry)) (recordAt nodeCodec (now (tape .entry)) at ∷ []))) ⌝ }
+    ensures { λ r. ⌜ NodesTold (now (tape .entry)) (now (bytes .entry)) p m to (now (out .entry)) (now (work .entry)) (now (strs .entry)) (now (out .exit)) (now (work .exit)) (now (strs .exit)) r
+        (refsFrom p (now (work .entry)) (now (strs .entry)) m (shownOf (now (tape .entry)) (now (bytes .entry)) (recordAt nodeCodec (now (tape .entry)) at ∷ []))) ⌝ }
 {
     let w = graft_node(tape, bytes, st, out, work, strs, p, m, at);
     let k = w.mark;
@@ -101,7 +103,8 @@ pub fn graft_nodes(
     requires { ⌜ Ready (now tape) (now bytes) st p m (now out) (now work) (now strs) (nodesAdd (now tape) st at count) ⌝ }
     requires { ⌜ (at + 49 * count ≤ length (now tape)) × (all (nodeIn st) (recordsAt nodeCodec (now tape) at count) ≡ true) ⌝ }
     requires { ⌜ (p .segmentsat + 37 * (m .segments + nodesAdd (now tape) st at count .segments) ≤ nodesat) × (nodesat + 49 * count ≤ length (now out)) ⌝ }
-    ensures { λ r. ⌜ NodesTold (now (tape .entry)) (now (bytes .entry)) p m nodesat (now (out .entry)) (now (work .entry)) (now (strs .entry)) (now (out .exit)) (now (work .exit)) (now (strs .exit)) r (refsFrom p (now (work .entry)) (now (strs .entry)) m (shownOf (now (tape .entry)) (now (bytes .entry)) (recordsAt nodeCodec (now (tape .entry)) at count))) ⌝ }
+    ensures { λ r. ⌜ NodesTold (now (tape .entry)) (now (bytes .entry)) p m nodesat (now (out .entry)) (now (work .entry)) (now (strs .entry)) (now (out .exit)) (now (work .exit)) (now (strs .exit)) r
+        (refsFrom p (now (work .entry)) (now (strs .entry)) m (shownOf (now (tape .entry)) (now (bytes .entry)) (recordsAt nodeCodec (now (tape .entry)) at count))) ⌝ }
 {
     let mut u = m;
     let mut i = 0;

@@ -352,7 +352,19 @@ fn graft_long(
     ensures { λ r. ⌜ LayerTold (now (out .entry)) (now (strs .entry)) (now (out .exit)) (now (strs .exit)) at base o r (graftedInto (now (tape .entry)) (now (bytes .entry)) o) ⌝ }
 {
     let mut words = [0u32; 24577];
-    graft_paired(tape, bytes, p, st, out, &mut words[0..24577], strs, o, at, base, s)
+    graft_paired(
+        tape,
+        bytes,
+        p,
+        st,
+        out,
+        &mut words[0..24577],
+        strs,
+        o,
+        at,
+        base,
+        s,
+    )
 }
 
 // `graft_layer` where the sizes are known.
@@ -376,7 +388,19 @@ fn graft_sized(
     if representatives::any_long(tape, st, representatives::long_from(bytes.len())) {
         return graft_long(tape, bytes, p, st, out, strs, o, at, base, s);
     }
-    graft_by(tape, bytes, p, st, out, &mut work[0..16384], strs, o, at, base, s)
+    graft_by(
+        tape,
+        bytes,
+        p,
+        st,
+        out,
+        &mut work[0..16384],
+        strs,
+        o,
+        at,
+        base,
+        s,
+    )
 }
 
 // Sections 3 and 5. The nodes of a source that passed 1 to 7, grafted into one new layer above layers of these counts: the layer's

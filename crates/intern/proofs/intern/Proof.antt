@@ -27,9 +27,10 @@ is-last-requires : tie.Need-is-last-requires
 is-last-requires c κs = search needs
 
 intern-last-requires : tie.Need-intern-last-requires
-intern-last-requires c κs =
-    ((last-there (c .before .before .before .before .before .before .before .args .work .now) (c .before .before .before .before .before .before .before .args .strs .now) (c .before .before .before .before .before .before .before .args .st) (c .before .before .before .before .before .before .before .pre .0) (c .before .before .before .before .before .before .before .args .s .now) (sym (c .before .is-last .ensures) ∙ c .if1 .taken), omega (arith, c .before .before .before .before .before .before .before .pre .0 .known, c .before .before .before .before .before .before .before .pre .0 .words .few)),
-    (c .before .before .before .before .before .before .before .pre .0 .counts, c .before .before .before .before .before .before .before .pre .1))
+intern-last-requires c κs = (
+  (last-there (c .before .before .before .before .before .before .before .args .work .now) (c .before .before .before .before .before .before .before .args .strs .now) (c .before .before .before .before .before .before .before .args .st) (c .before .before .before .before .before .before .before .pre .0) (c .before .before .before .before .before .before .before .args .s .now) (sym (c .before .is-last .ensures) ∙ c .if1 .taken), omega (arith, c .before .before .before .before .before .before .before .pre .0 .known, c .before .before .before .before .before .before .before .pre .0 .words .few)),
+  (c .before .before .before .before .before .before .before .pre .0 .counts, c .before .before .before .before .before .before .before .pre .1),
+)
 
 same-length : tie.Need-same-length
 same-length c = search needs
