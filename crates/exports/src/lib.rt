@@ -4,6 +4,7 @@ ghost use lib.ListN.{length};
 ghost use Rattle.model.specs.Bytes.{zeros};
 ghost use Rattle.model.specs.Refusal.{numberOf};
 ghost use Rattle.model.specs.Merge.{merge, roomOf, storedOf};
+ghost use Rattle.model.specs.Estimate.{estimate};
 ghost use Rattle.model.specs.WellFormed.{checkBook, checkReading};
 ghost use Rattle.model.specs.Region.{chooseRegion, editOf};
 ghost use Rattle.model.specs.Tape.{contentCodec, segmentCodec};
@@ -17,6 +18,7 @@ ghost use Rattle.lookup.specs.Ranges.{rangeAtOf, rangeShown};
 ghost use Rattle.lookup.specs.Strings.{strAtOf, strShown};
 ghost use Rattle.copy.specs.Copying.{copiedOf};
 ghost use Rattle.region.specs.Chosen.{chosenOf};
+ghost use Rattle.estimate.specs.Pricing.{estimateOf};
 ghost use Rattle.output.specs.Answer.{Merged};
 ghost use Rattle.orders.specs.Orders.{MergedBothOrders};
 ghost use Rattle.answers.specs.Answers.{allowedAnswer, nodeAnswer, rangeAnswer, rangeRead, strAnswer, strRead, copyAnswer, regionAnswer, outputRead, ordersRead};
@@ -118,6 +120,32 @@ pub extern "C" fn aozora_choose_region(
         × (now (words .exit) ≡ zeros (length (now (words .entry)))) ⌝ }
 {
     answers::region_answer(region::choose_region(tape, bytes, start, end, replacement, words))
+}
+
+#[no_mangle]
+pub extern "C" fn aozora_estimate(
+    tape: &[u8],
+    bytes: &[u8],
+    start: u32,
+    end: u32,
+    replacement: &[u8],
+    readingtape: &[u8],
+    readingbytes: &[u8],
+    work: &mut [u32],
+) -> estimate::Price
+    ensures { λ r. ⌜ (r ≡ estimateOf (estimate (storedOf (now (tape .entry)) (now (bytes .entry))) (editOf start end (now (replacement .entry))) (storedOf (now (readingtape .entry)) (now (readingbytes .entry)))))
+        × (now (work .exit) ≡ zeros (length (now (work .entry)))) ⌝ }
+{
+    estimate::estimate(
+        tape,
+        bytes,
+        start,
+        end,
+        replacement,
+        readingtape,
+        readingbytes,
+        work,
+    )
 }
 
 #[no_mangle]
