@@ -103,25 +103,28 @@ class Graft:
         return Body(b.kind, b.tag, b.plain, words)
     def node(s, n): return Node(n.cls, n.inline, n.start, n.end, n.off, s.body(n.body) if n.cls < 2 else n.body)
 
-    # how many contents and segments a graft adds, a range counted once, so that a layer that no pool holds need not be made
-    def adds(s, bodies):
-        ranges = [(form, *b.words[i:i + 2]) for b in bodies for form, i in fields(b) if form in ('contents', 'segments')]
-        return [sum(n) for n in zip((0, 0), *(s.range_adds(*r) for r in ranges))]
+    # how often a graft calls `intern`, and how many contents and segments it adds: a range counted once, so that a layer that no pool holds need not be made
+    def adds(s, bodies): return together(s.field_adds(form, *b.words[i:i + 2]) for b in bodies for form, i in fields(b))
+    def field_adds(s, form, first, length):
+        if form in ('contents', 'segments'): return s.range_adds(form, first, length)
+        return 0 if form == 'missing' and first == NONE else 1, 0, 0
     def range_adds(s, form, start, length):
         key = form, start, length
         if key not in s.known:
-            if form == 'segments':
-                contents, segments = s.adds([g.body for g in s.from_segments[start:start + length]])
-                s.known[key] = contents, segments + length
-            else:
-                runs = [s.range_adds('segments', a, n) for tag, a, n in s.from_contents[start:start + length] if tag == 1]
-                s.known[key] = length + sum(c for c, _ in runs), sum(g for _, g in runs)
+            if form == 'segments': s.known[key] = together([(0, 0, length), s.adds([g.body for g in s.from_segments[start:start + length]])])
+            else: s.known[key] = together([(0, length, 0), *((1, 0, 0) if tag == 0 else s.range_adds('segments', a, n) for tag, a, n in s.from_contents[start:start + length])])
         return s.known[key]
+
+def together(counts): return tuple(map(sum, zip((0, 0, 0), *counts)))
+
+def added(source):
+    """calls of `intern`, contents and segments of a graft, however many"""
+    return Graft(source, 0, 0, 0).adds([n.body for n in source.nodes if n.cls < 2])
 
 def graft(source, strings, contents, segments):
     """the grafted nodes, and the Graft with the new layer; Over where a pool or the new layer's strings pass their limit"""
     g = Graft(source, strings, contents, segments)
-    if any(b + n > POOL for b, n in zip(g.below, [0] + g.adds([n.body for n in source.nodes if n.cls < 2]))): raise Over
+    if any(b + n > POOL for b, n in zip(g.below, (0, *added(source)[1:]))): raise Over
     nodes = [g.node(n) for n in source.nodes]
     if len(g.interner.strings) > STRINGS or strings + len(g.interner.strings) > POOL: raise Over
     return nodes, g

@@ -1,7 +1,8 @@
-"""Sections 6 and 7 of document 01 and its numbers 8 to 18, with wish 1 of document 02: the merge of a reading into a book, tape to tape."""
+"""Sections 6 and 7 of document 01 and its numbers 8 to 18, with wishes 1 and 2 of document 02: the merge of a reading into a book, tape to tape,
+and its price."""
 from gen import NONE, Book, Node
 from book import Refused, check_book, check_reading, drift, is_utf8, must, pool, within_limits
-from graft import COUNTS, Over, fields, graft
+from graft import COUNTS, POOL, Over, added, fields, graft
 
 WORK = 16384
 
@@ -81,8 +82,8 @@ def spliced(old, reading, nodes, layer, text, start, end):
     b.diags.sort(key=lambda d: (d[2], d[3], d[1]))
     return b
 
-def merge(tape, data, start, end, replacement, rtape, rdata, room=(65536, 65536, WORK)):
-    """the result's tape and bytes, and (region start, end, reused, reread, the seven counts); or Refused. room: bytes for both, work words"""
+def fitted(tape, data, start, end, replacement, rtape, rdata):
+    """1 to 17: the book, the reading, the new text and the region"""
     old = check_book(tape, data)
     (first, last), text = choose(old, start, end, replacement)
     reading = check_reading(rtape, rdata)
@@ -92,6 +93,11 @@ def merge(tape, data, start, end, replacement, rtape, rdata, room=(65536, 65536,
     must(15, not introduces_ruby_format_dependency(old, reading, first, last))
     must(16, all(is_utf8(old.norm[:normalized(old, cut)]) for cut in (first, last)))
     must(17, not reading.nodes or len(old.layers) < 32)
+    return old, reading, text, first, last
+
+def merge(tape, data, start, end, replacement, rtape, rdata, room=(65536, 65536, WORK)):
+    """the result's tape and bytes, and (region start, end, reused, reread, the seven counts); or Refused. room: bytes for both, work words"""
+    old, reading, text, first, last = fitted(tape, data, start, end, replacement, rtape, rdata)
     nodes, layer, counts = [], None, [0] * len(COUNTS)
     if reading.nodes:
         try: nodes, g = graft(reading, *(len(pool(old, p)) for p in ('strings', 'contents', 'segments')))
@@ -101,6 +107,15 @@ def merge(tape, data, start, end, replacement, rtape, rdata, room=(65536, 65536,
     must(18, within_limits(b) and len(b.tape()) <= room[0] and len(b.bytes()) <= room[1] and WORK <= room[2])
     reused = len(b.nodes) - len(nodes)
     return b.tape(), b.bytes(), (first, last, reused, len(nodes), counts)
+
+# ---- document 02, wish 2
+
+def estimate(*case):
+    """reread nodes, intern calls, contents and segments added, the length of the byte buffer without the new layer's strings; or Refused, 1 to 17"""
+    old, reading, text, first, last = fitted(*case)
+    counts = added(reading)
+    if max(counts) > POOL: counts = [POOL + 1] * 3
+    return (len(reading.nodes), *counts, len(spliced(old, reading, [], None, text, first, last).bytes()))
 
 # ---- demand 3: equal books
 
