@@ -24,6 +24,8 @@ extern "C" {
 /* How many work words aozora_merge and aozora_merge_both_orders are lent at least. With two words for each node of a book of more than
    30,000, numbers 10 and 15 are faster. */
 #define AOZORA_WORK_WORDS 16384
+/* what aozora_estimate tells where one of its three counts is above 1048575: over */
+#define AOZORA_OVER 1048576
 /* a string id that is missing */
 #define AOZORA_NO_STRING 0xFFFFFFFFu
 
@@ -91,6 +93,11 @@ typedef struct { uint32_t number; size_t tape, bytes; } aozora_copy;
 /* the region in offsets of the old text */
 typedef struct { uint32_t number; uint32_t start, end; } aozora_region;
 
+/* what a merge would cost: the reading's nodes, which are what is charged; how often the interner would be called, whether it finds the string or
+   not; contents and segments that would be added; and the length of the result's byte buffer without the strings of the new layer. Where
+   calls, contents or segments are above 1048575, all three are AOZORA_OVER; the other two are exact then too. */
+typedef struct { uint32_t number, reread, calls, contents, segments; size_t bytes; } aozora_price;
+
 /* the region in offsets of the old text; old nodes kept, the reading's nodes; the interner's seven counts; how many bytes of the two result
    buffers the book takes */
 typedef struct {
@@ -121,6 +128,18 @@ aozora_copy aozora_copy_book(const uint8_t *tape, size_t tape_len, const uint8_t
    number, also none; more make it faster. They come back as zeros. */
 aozora_region aozora_choose_region(const uint8_t *tape, size_t tape_len, const uint8_t *bytes, size_t bytes_len, uint32_t start, uint32_t end,
                                    const uint8_t *replacement, size_t replacement_len, uint32_t *words, size_t words_len);
+
+/* What aozora_merge would cost, without a result: a number 1 to 17 exactly where the merge answers it, whatever it is lent; else the price. Where
+   the merge is accepted, these are its numbers; where it is refused with 18, those that it would have had. There is no 18 here. The words may
+   be any number, also none; two for each node of a large book make numbers 10 and 15 faster. They come back as zeros. It takes the time of the
+   merge up to number 17 and one walk over what would be grafted, which ends where contents or segments are over: a few records can stand for
+   2^33 items, and no more than some two million are walked.
+   Result buffers that are certainly long enough for the merge: for the tape tape_len + reading_tape_len + 17916 + 10 * contents + 37 * segments
+   bytes, for the texts and strings bytes plus 3583 times the reading's longest string; where no string of the reading has more than 64 bytes,
+   reading_bytes_len is enough in place of the last. */
+aozora_price aozora_estimate(const uint8_t *tape, size_t tape_len, const uint8_t *bytes, size_t bytes_len, uint32_t start, uint32_t end,
+                             const uint8_t *replacement, size_t replacement_len, const uint8_t *reading_tape, size_t reading_tape_len,
+                             const uint8_t *reading_bytes, size_t reading_bytes_len, uint32_t *work, size_t work_len);
 
 /* A number 1 to 18, or the merged book in the two result buffers. They are written whole, with zeros behind the book or after a refusal; the
    words, AOZORA_WORK_WORDS at least, come back as zeros. */

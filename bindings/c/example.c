@@ -1,4 +1,4 @@
-/* Document 01's P5 merged, a damaged tape refused, two corrections in both orders, and what else can be asked of a book. From the repository's root:
+/* Document 01's P5 priced and merged, a damaged tape refused, two corrections in both orders, and what else can be asked of a book. From the repository's root:
      rt staticlib exports && cc -I bindings/c bindings/c/example.c -L target/staticlib -lexports -o /tmp/example && /tmp/example
    It prints bindings/c/example.txt. */
 #include <stdio.h>
@@ -54,8 +54,12 @@ static void merge_p5(void) {
     uint8_t out_tape[256], out_bytes[256];
     aozora_region r = aozora_choose_region(SLICE(tape), STR(BYTES), 4, 5, STR("x"), WORDS(work));
     printf("the edit 4..5 has the region %u..%u\n", (unsigned)r.start, (unsigned)r.end);
+    aozora_price p = aozora_estimate(SLICE(tape), STR(BYTES), 4, 5, STR("x"), SLICE(reading_tape), STR(READING_BYTES), WORDS(work));
+    printf("before the merge: reread %u calls %u contents %u segments %u, %zu bytes and the new strings\n", (unsigned)p.reread, (unsigned)p.calls,
+           (unsigned)p.contents, (unsigned)p.segments, p.bytes);
     aozora_merge_answer a = aozora_merge(SLICE(tape), STR(BYTES), 4, 5, STR("x"), SLICE(reading_tape), STR(READING_BYTES), SLICE(out_tape), SLICE(out_bytes), WORDS(work));
     line("P5", a);
+    printf("it takes %zu and %zu bytes\n", a.tape, a.bytes);
     text("the merged text", out_bytes, 10);
     printf("check_book of it: %u\n", (unsigned)aozora_check_book(out_tape, a.tape, out_bytes, a.bytes));
     aozora_node n = aozora_node_at_source(out_tape, a.tape, out_bytes, a.bytes, 5);
@@ -69,9 +73,12 @@ static void why_refused(void) {
     uint8_t damaged[sizeof reading_tape], out_tape[256], out_bytes[256];
     memcpy(damaged, reading_tape, sizeof damaged);
     damaged[32] = 9;   /* content 1 is then string 9 of 2 */
+    aozora_price p;
     uint32_t n = aozora_check_reading(SLICE(damaged), STR(READING_BYTES));
     printf("a damaged reading: %u, %s\n", (unsigned)n, aozora_refusal_message(n));
     line("it is not merged", aozora_merge(SLICE(tape), STR(BYTES), 4, 5, STR("x"), SLICE(damaged), STR(READING_BYTES), SLICE(out_tape), SLICE(out_bytes), WORDS(work)));
+    p = aozora_estimate(SLICE(tape), STR(BYTES), 4, 5, STR("x"), SLICE(damaged), STR(READING_BYTES), WORDS(work));
+    printf("nor has it a price: refused %u\n", (unsigned)p.number);
     line("a reading of another text", aozora_merge(SLICE(tape), STR(BYTES), 4, 5, STR("z"), SLICE(reading_tape), STR(READING_BYTES), SLICE(out_tape), SLICE(out_bytes), WORDS(work)));
     size_t rest = 0;
     for (size_t i = 0; i < sizeof out_tape; i++) rest += out_tape[i] != 0;
