@@ -1,6 +1,8 @@
 //! Document 01's P5: "aa⏎⏎bb⏎⏎cc" with one letter of the middle passage corrected, and a reading
 //! with one Ruby.
-use aozora_incremental::{Book, BookBuilder, Edit, Node, NodeRef, Refusal, choose_region, merge};
+use aozora_incremental::{
+    Book, BookBuilder, Edit, Node, NodeRef, Refusal, choose_region, estimate, merge,
+};
 
 fn main() -> Result<(), Refusal> {
     let old = BookBuilder::new().text("aa\n\nbb\n\ncc").build()?;
@@ -17,6 +19,7 @@ fn main() -> Result<(), Refusal> {
     reading.node("xb", NodeRef::Inline(Node::Ruby { base, reading: read })).text("\n\n");
     let reading = reading.build_reading()?;
 
+    println!("the price: {}", estimate(&old, edit, &reading)?);
     let merged = merge(&old, edit, &reading)?;
     println!("{merged}");
     let book = Book::new(&merged.book)?;

@@ -5,7 +5,9 @@ use crate::record::Record;
 use crate::records::Records;
 use crate::refusal::Refusal;
 use crate::room;
-use crate::stored::{Correction, Edit, Lengths, Merged, Orders, Room, Stored, StoredBook};
+use crate::stored::{
+    Correction, Edit, Estimate, Lengths, Merged, Orders, Room, Stored, StoredBook,
+};
 use crate::syntax::{Content, ContentRange, SegRange, Segment, Span, StrId, WORK_WORDS};
 
 /// Is it a book? Numbers 1 to 7 of document 01; 0 of the archive is `Ok`.
@@ -151,6 +153,44 @@ pub fn copy_book<'a>(book: impl Into<Stored<'a>>) -> Result<StoredBook, Refusal>
 pub fn choose_region<'a>(book: impl Into<Stored<'a>>, edit: Edit<'_>) -> Result<Span, Refusal> {
     let book = book.into();
     raw::choose_region(book, edit, &mut zeros(work_words(book))?)
+}
+
+/// What [`merge`] would cost, without merging: the price that is quoted for a large reading first
+/// (wish 2 of document 02).
+///
+/// It is refused with n exactly where the merge is refused with n of 1 to 17, whatever room the
+/// merge has. Where it is given, the merge is refused with 18 or these are its numbers; every count
+/// that is not given as [over](Estimate::OVER) is what grafting would make, also where 18 would
+/// refuse the merge. It takes the time of the merge up to number 17 and one walk over what would be
+/// grafted, which ends where contents or segments are over: a small reading can stand for 2^33
+/// items, and no more than some two million are walked.
+///
+/// ```
+/// use aozora_incremental::{BookBuilder, Edit, Refusal, estimate, merge_within};
+///
+/// let old = BookBuilder::new().text("aa\n\nbb\n\ncc").build()?;
+/// let reading = BookBuilder::new().text("xb\n\n").build_reading()?;
+/// let edit = Edit::new(4, 5, "x");
+///
+/// let price = estimate(&old, edit, &reading)?;
+/// assert_eq!((price.reread, price.byte_length), (0, 20));
+/// let merged = merge_within(&old, edit, &reading, price.room(&old, &reading))?;
+/// assert_eq!(merged.reread, price.reread);
+/// # Ok::<(), Refusal>(())
+/// ```
+///
+/// # Errors
+///
+/// A number 1 to 17.
+pub fn estimate<'a, 'b>(
+    book: impl Into<Stored<'a>>,
+    edit: Edit<'_>,
+    reading: impl Into<Stored<'b>>,
+) -> Result<Estimate, Refusal> {
+    let book = book.into();
+    // Without words it answers the same, only slower.
+    let mut work = zeros(work_words(book)).unwrap_or_default();
+    raw::estimate(book, edit, reading.into(), &mut work)
 }
 
 /// Merges the reading of an edit's region into a book: the corrected book, in memory of its own.

@@ -53,6 +53,16 @@ pub(crate) struct RegionAnswer {
 }
 
 #[repr(C)]
+pub(crate) struct PriceAnswer {
+    pub number: u32,
+    pub reread: u32,
+    pub calls: u32,
+    pub contents: u32,
+    pub segments: u32,
+    pub bytes: usize,
+}
+
+#[repr(C)]
 pub(crate) struct MergeAnswer {
     pub number: u32,
     pub start: u32,
@@ -149,6 +159,22 @@ unsafe extern "C" {
         words: *mut u32,
         words_len: usize,
     ) -> RegionAnswer;
+    fn aozora_estimate(
+        tape: *const u8,
+        tape_len: usize,
+        bytes: *const u8,
+        bytes_len: usize,
+        start: u32,
+        end: u32,
+        replacement: *const u8,
+        replacement_len: usize,
+        reading_tape: *const u8,
+        reading_tape_len: usize,
+        reading_bytes: *const u8,
+        reading_bytes_len: usize,
+        work: *mut u32,
+        work_len: usize,
+    ) -> PriceAnswer;
     fn aozora_merge(
         tape: *const u8,
         tape_len: usize,
@@ -344,6 +370,34 @@ pub(crate) fn choose_region(book: Stored<'_>, edit: Edit<'_>, words: &mut [u32])
     }
 }
 
+pub(crate) fn estimate(
+    book: Stored<'_>,
+    edit: Edit<'_>,
+    reading: Stored<'_>,
+    work: &mut [u32],
+) -> PriceAnswer {
+    // SAFETY: all pointers are those of borrowed slices: not null, valid for their lengths; the
+    // words are borrowed `&mut`, so they overlap with nothing that is passed.
+    unsafe {
+        aozora_estimate(
+            book.tape.as_ptr(),
+            book.tape.len(),
+            book.bytes.as_ptr(),
+            book.bytes.len(),
+            edit.start,
+            edit.end,
+            edit.replacement.as_ptr(),
+            edit.replacement.len(),
+            reading.tape.as_ptr(),
+            reading.tape.len(),
+            reading.bytes.as_ptr(),
+            reading.bytes.len(),
+            work.as_mut_ptr(),
+            work.len(),
+        )
+    }
+}
+
 pub(crate) fn merge(
     book: Stored<'_>,
     edit: Edit<'_>,
@@ -479,6 +533,7 @@ mod tests {
         "aozora_str" StrAnswer { number, found, start, end }
         "aozora_copy" CopyAnswer { number, tape, bytes }
         "aozora_region" RegionAnswer { number, start, end }
+        "aozora_price" PriceAnswer { number, reread, calls, contents, segments, bytes }
         "aozora_merge_answer" MergeAnswer { number, start, end, reused, reread, calls, cache_hits, table_hits, allocs, long_bypass, resizes, probe_steps, tape, bytes }
         "aozora_orders_answer" OrdersAnswer { earlier_first, later_second, later_first, earlier_second }
     }

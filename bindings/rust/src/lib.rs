@@ -3,7 +3,7 @@
 //! A *book* is a cached parse, a *reading* is a parser's output for one passage. Whoever corrects a
 //! book asks [`choose_region`] which passage has to be read again, parses that passage, and gives
 //! the reading to [`merge`]. The corrected book is what comes out; how many nodes were reread is on
-//! the answer.
+//! the answer. [`estimate`] tells the price of a merge before it is made.
 //!
 //! This is P5 of document 01, "aa⏎⏎bb⏎⏎cc" with one letter of the middle passage corrected:
 //!
@@ -27,7 +27,7 @@
 //!
 //! # What is promised
 //!
-//! The eleven entries of [`raw`] are those of a static library that was proved, for every input, to
+//! The twelve entries of [`raw`] are those of a static library that was proved, for every input, to
 //! do what document 01 says:
 //!
 //! 1. **An answer, always.** Any bytes and numbers give a result or one [`Refusal`], under its
@@ -47,8 +47,8 @@
 //!
 //! - the declarations of the entries, one private module with the crate's only `unsafe` code; a
 //!   test compares its structs with bindings/c/aozora.h;
-//! - memory: how large the result buffers of [`merge`] and [`merge_both_orders`] have to be. Too
-//!   small a guess would give number 18, never a wrong book;
+//! - memory: how large the result buffers of [`merge`] and [`merge_both_orders`] have to be, and
+//!   [`Estimate::room`]. Too small a guess would give number 18, never a wrong book;
 //! - [`BookBuilder`] and [`Book`], which write and read tapes. What [`BookBuilder::build`] gives
 //!   was accepted by the proved check, and a [`Book`] is made only of what was accepted; that the
 //!   fields of a record are the right ones rests on tests: every kind is written, read and written
@@ -96,14 +96,14 @@ mod tree;
 pub use book::{Book, Layer};
 pub use builder::BookBuilder;
 pub use calls::{
-    check_book, check_reading, choose_region, copy_book, diagnostics_allow_incremental,
+    check_book, check_reading, choose_region, copy_book, diagnostics_allow_incremental, estimate,
     lookup_contents, lookup_segments, lookup_str, merge, merge_both_orders, merge_within,
     node_at_source,
 };
 pub use records::Records;
 pub use refusal::{NotARefusal, Refusal};
 pub use stored::{
-    Correction, Edit, InternStats, Lengths, Merged, Orders, Room, Stored, StoredBook,
+    Correction, Edit, Estimate, InternStats, Lengths, Merged, Orders, Room, Stored, StoredBook,
 };
 pub use syntax::{
     ContainerPair, Content, ContentRange, Diagnostic, DiagnosticKind, Directive, DirectiveKind,

@@ -8,7 +8,9 @@ use std::ops::Range;
 
 use crate::ffi;
 use crate::refusal::Refusal;
-use crate::stored::{Correction, Edit, InternStats, Lengths, Merged, Orders, Room, Stored};
+use crate::stored::{
+    Correction, Edit, Estimate, InternStats, Lengths, Merged, Orders, Room, Stored,
+};
 use crate::syntax::{ContentRange, SegRange, Span, StrId};
 
 /// Is it a book: numbers 1 to 7?
@@ -113,6 +115,30 @@ pub fn copy_book(book: Stored<'_>, room: Room<'_>) -> Result<Lengths, Refusal> {
 pub fn choose_region(book: Stored<'_>, edit: Edit<'_>, words: &mut [u32]) -> Result<Span, Refusal> {
     let answer = ffi::choose_region(book, edit, words);
     Refusal::of_answer(answer.number).map(|()| Span::new(answer.start, answer.end))
+}
+
+/// What [`merge`] would cost, without a result: see [`estimate`](crate::estimate). No result buffer
+/// is lent, and there is no 18. `work` may be any number of words, also none; with
+/// [`WORK_WORDS`](crate::WORK_WORDS), or two for each node of a large book, numbers 10 and 15 are
+/// faster. They come back as zeros.
+///
+/// # Errors
+///
+/// A number 1 to 17, exactly where [`merge`] gives it.
+pub fn estimate(
+    book: Stored<'_>,
+    edit: Edit<'_>,
+    reading: Stored<'_>,
+    work: &mut [u32],
+) -> Result<Estimate, Refusal> {
+    let answer = ffi::estimate(book, edit, reading, work);
+    Refusal::of_answer(answer.number).map(|()| Estimate {
+        reread: answer.reread,
+        calls: answer.calls,
+        contents: answer.contents,
+        segments: answer.segments,
+        byte_length: answer.bytes,
+    })
 }
 
 fn merged(answer: &ffi::MergeAnswer) -> Result<Merged<Lengths>, Refusal> {

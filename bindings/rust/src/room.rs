@@ -2,7 +2,7 @@
 //! memory: where it said too little, the merge would be refused with 18.
 
 use crate::book::Book;
-use crate::stored::{Edit, Lengths, Stored};
+use crate::stored::{Edit, Estimate, Lengths, Stored};
 use crate::syntax::{
     Content, ContentRange, ForwardPayload, GaijiCanonical, MAX_LEVEL, MAX_NEW_STRINGS, MAX_POOL,
     Node, SegRange, Segment, SegmentItem, StrId,
@@ -43,6 +43,42 @@ pub(crate) fn enough(book: Stored<'_>, edit: Edit<'_>, reading: Stored<'_>) -> O
         tape: least.tape.saturating_add(1 + 5 * MAX_NEW_STRINGS + 10 * contents + 37 * segments),
         bytes: least.bytes.saturating_add(long),
     })
+}
+
+/// What is certainly enough, by the counts of an estimate. A tape that cannot be walked was refused.
+pub(crate) fn priced(price: &Estimate, book: Stored<'_>, reading: Stored<'_>) -> Lengths {
+    let Ok(new) = Book::walk(reading) else { return Lengths::default() };
+    // Document 01, number 18: the result passes no limit, so more than a limit is never written.
+    let at_most = |count: u32, most: usize| (count as usize).min(most);
+    let strings = at_most(price.calls, MAX_NEW_STRINGS);
+    let layer = if price.reread == 0 {
+        0
+    } else {
+        1 + 5 * strings
+            + 10 * at_most(price.contents, MAX_POOL)
+            + 37 * at_most(price.segments, MAX_POOL)
+    };
+    let lists = 49 * new.nodes().len()
+        + 18 * new.pairs().len()
+        + 13 * new.containers().len()
+        + 18 * new.diagnostics().len();
+    let is_long = |string: &&str| string.len() > INTERN_LENGTH_LIMIT;
+    let short: usize = new.strings().filter(|s| !is_long(s)).map(str::len).sum();
+    let longest = new.strings().filter(is_long).map(str::len).max().unwrap_or(0);
+    let long = match longest {
+        0 => 0,
+        _ => usize::try_from(Costs::of(&new).nodes(&new).long_bytes).unwrap_or(usize::MAX),
+    };
+    let new_strings = if price.reread == 0 {
+        0
+    } else {
+        let short = short.min(strings.saturating_mul(INTERN_LENGTH_LIMIT));
+        short.saturating_add(long.min(strings.saturating_mul(longest)))
+    };
+    Lengths {
+        tape: book.tape.len().saturating_add(layer + lists),
+        bytes: price.byte_length.saturating_add(new_strings),
+    }
 }
 
 /// What grafting stores.

@@ -2,6 +2,7 @@
 
 use std::fmt;
 
+use crate::room;
 use crate::syntax::Span;
 
 /// A book or a reading as it is stored: a tape of records and a byte buffer with text, normalized
@@ -139,6 +140,76 @@ pub struct InternStats {
     pub resizes: u64,
     /// How many slots were looked at.
     pub probe_steps: u64,
+}
+
+/// What a merge would cost, from [`estimate`](crate::estimate).
+///
+/// Where [`calls`](Self::calls), [`contents`](Self::contents) or [`segments`](Self::segments) are
+/// above [`MAX_POOL`](crate::MAX_POOL), all three are [`OVER`](Self::OVER); `reread` and
+/// `byte_length` are exact all the same.
+#[derive(Debug, Clone, Copy, PartialEq, Eq, Hash, Default)]
+pub struct Estimate {
+    /// How many nodes the reading has: what is charged.
+    pub reread: u32,
+    /// How often the interner would be called. Every call counts, whether it finds its string or
+    /// not; a missing optional string is none.
+    pub calls: u32,
+    /// How many contents the merge would add, each time that one is named.
+    pub contents: u32,
+    /// How many segments the merge would add, each time that one is named.
+    pub segments: u32,
+    /// How long the result's byte buffer would be without the new layer's strings: both new texts
+    /// and the strings of the old layers. The reading's own strings are not in it.
+    pub byte_length: usize,
+}
+
+impl Estimate {
+    /// What the three counts are where one of them is above [`MAX_POOL`](crate::MAX_POOL).
+    pub const OVER: u32 = 1_048_576;
+
+    /// Are the three counts given as [`OVER`](Self::OVER)? Contents or segments that are over
+    /// refuse the merge with 18; calls alone do not.
+    #[must_use]
+    pub const fn is_over(&self) -> bool {
+        self.calls == Self::OVER
+    }
+
+    /// Result buffers that are certainly long enough for the merge, of the book and the reading
+    /// that were priced: with them and [`WORK_WORDS`](crate::WORK_WORDS) words,
+    /// [`raw::merge`](crate::raw::merge) answers 18 only where no room would be enough.
+    ///
+    /// Each is exact in some cases, and else an upper bound:
+    ///
+    /// - `tape`, where the reading has no nodes, or every call of the interner gives a new string;
+    ///   and where no old node, pair, container or diagnostic lies in the region. A string that is
+    ///   found again has no record, but 5 bytes of room here; a dropped record is no longer there,
+    ///   but keeps its room.
+    /// - `bytes`, where each string of the reading that has up to 64 bytes is named by a node and
+    ///   is unlike the others, and no longer one is named twice in a row. A short string is stored
+    ///   once, however often it is named; a longer one each time that the call before was for
+    ///   another.
+    ///
+    /// Where the counts [are over](Self::is_over), `tape` has room for as many contents and
+    /// segments as a book may have. This function is not proved; the counts that it starts from are.
+    #[must_use]
+    pub fn room<'a, 'b>(
+        &self,
+        book: impl Into<Stored<'a>>,
+        reading: impl Into<Stored<'b>>,
+    ) -> Lengths {
+        room::priced(self, book.into(), reading.into())
+    }
+}
+
+/// The price as a line, in the words of [`Merged`]'s.
+impl fmt::Display for Estimate {
+    fn fmt(&self, f: &mut fmt::Formatter<'_>) -> fmt::Result {
+        let Self { reread, calls, contents, segments, byte_length } = self;
+        write!(
+            f,
+            "reread {reread} calls {calls} contents {contents} segments {segments} bytes {byte_length}"
+        )
+    }
 }
 
 /// What a merge answers; `B` is the merged book, or the lengths of it in the buffers that were

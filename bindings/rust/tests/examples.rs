@@ -18,6 +18,8 @@ fn p4() {
 #[test]
 fn p5() {
     let (old, reading) = (plain(ABC), ruby_reading());
+    let price = estimate(&old, Edit::new(4, 5, "x"), &reading).unwrap();
+    assert_eq!(price.to_string(), "reread 1 calls 2 contents 2 segments 0 bytes 21");
     let merged = merge(&old, Edit::new(4, 5, "x"), &reading).unwrap();
     assert_eq!(merged.to_string(), "region 4 8 reused 0 reread 1 calls 2 probes 2");
     let stats = InternStats { calls: 2, allocs: 2, probe_steps: 2, ..InternStats::default() };

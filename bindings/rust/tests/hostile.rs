@@ -4,7 +4,9 @@
 mod common;
 
 use aozora_incremental::*;
-use common::{ABC, Random, lavish, plain, random_book, read_all, rounds, ruby_reading};
+use common::{
+    ABC, Random, lavish, plain, price_agrees, random_book, read_all, rounds, ruby_reading,
+};
 
 /// A small book with a record of each kind.
 fn small() -> StoredBook {
@@ -171,6 +173,7 @@ fn random_merges() {
         let reading = reading_for(&old, edit, r);
         let answer = merge(&old, edit, &reading);
         assert_eq!(answer, lavish(&old, edit, &reading, 1 << 16));
+        assert_eq!(answer, price_agrees(old.as_stored(), edit, reading.as_stored()));
         match answer {
             Ok(merged) => {
                 accepted += 1;

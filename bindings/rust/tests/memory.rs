@@ -185,3 +185,78 @@ fn every_field() {
         assert!(merged.unwrap().book.bytes.len() > 64 * long.len());
     }
 }
+
+/// A large merge, in the room that its price says.
+fn merged_by_price(reading: &StoredBook) -> (Estimate, Result<Merged<Lengths>, Refusal>) {
+    let old = plain("a\n\nb\n\nc");
+    let price = estimate(&old, edit(), reading).unwrap();
+    let Lengths { tape, bytes } = price.room(&old, reading);
+    let (mut tape, mut bytes, mut work) = (vec![7; tape], vec![7; bytes], vec![7; WORK_WORDS]);
+    let room = Room::new(&mut tape, &mut bytes);
+    (price, raw::merge(old.as_stored(), edit(), reading.as_stored(), room, &mut work))
+}
+
+/// The room of a price is exact where nothing is dropped or found again, and one byte less is not
+/// enough.
+#[test]
+fn exact_room() {
+    let (old, reading) = (plain(common::ABC), common::ruby_reading());
+    let edit = Edit::new(4, 5, "x");
+    let exact = estimate(&old, edit, &reading).unwrap().room(&old, &reading);
+    assert_eq!(exact, Lengths { tape: 91, bytes: 23 });
+    assert!(merge_within(&old, edit, &reading, exact).is_ok());
+    for limit in
+        [Lengths { tape: exact.tape - 1, ..exact }, Lengths { bytes: exact.bytes - 1, ..exact }]
+    {
+        assert_eq!(merge_within(&old, edit, &reading, limit), Err(Refusal::NoRoom));
+    }
+    // two long strings in turn are stored each time
+    let long = doubled(3, |b| Segment::text(b.string(&"長".repeat(40))));
+    let (price, merged) = merged_by_price(&long);
+    assert_eq!(price.room(&plain("a\n\nb\n\nc"), &long).bytes, merged.unwrap().book.bytes);
+    // without nodes nothing is grafted
+    let none = BookBuilder::new().text("x\n\n").build_reading().unwrap();
+    let (price, merged) = merged_by_price(&none);
+    assert_eq!(price.room(&plain("a\n\nb\n\nc"), &none), merged.unwrap().book);
+}
+
+#[test]
+fn large_prices() {
+    let of = |levels| merged_by_price(&doubling(levels, "語"));
+    let (price, merged) = of(17);
+    let merged = merged.unwrap();
+    assert_eq!(merged.stats.calls, 1 << 18);
+    assert_eq!(
+        (price.calls, price.contents, price.segments, price.is_over()),
+        (1 << 18, (1 << 18) - 1, (1 << 18) + (1 << 17) - 1, false)
+    );
+    // 2 to the 19 texts and as many others: segments are over
+    let (price, merged) = of(19);
+    assert_eq!((price.is_over(), merged), (true, Err(Refusal::NoRoom)));
+    assert_eq!((price.reread, price.segments), (1, Estimate::OVER));
+    // 2 to the 32 of both
+    let reading = doubling(31, "語");
+    let old = plain("a\n\nb\n\nc");
+    let price = estimate(&old, edit(), &reading).unwrap();
+    assert_eq!((price.is_over(), price.byte_length), (true, 16));
+}
+
+/// Calls alone may be over: the merge is accepted.
+#[test]
+fn calls_over() {
+    let reading = doubled(18, |b| {
+        let s = b.string("s");
+        let (some, none) = (Some(s), None);
+        b.node_segment(Node::Illustration(Illustration {
+            file: s,
+            number: some,
+            dimensions: some,
+            caption: none,
+            description: some,
+        }))
+    });
+    let (price, merged) = merged_by_price(&reading);
+    let stats = merged.unwrap().stats;
+    assert!(stats.calls > MAX_POOL as u64, "{stats:?}");
+    assert_eq!([price.calls, price.contents, price.segments], [Estimate::OVER; 3]);
+}

@@ -4,12 +4,12 @@
 mod common;
 
 use aozora_incremental::*;
-use common::{ABC, plain, ruby_reading};
+use common::{ABC, plain, price_agrees, ruby_reading};
 use std::collections::BTreeSet;
 
 /// P5 with another old book, edit or reading.
 fn p5<'a>(old: impl Into<Stored<'a>>, edit: Edit<'_>, reading: impl Into<Stored<'a>>) -> Refusal {
-    merge(old, edit, reading).unwrap_err()
+    price_agrees(old.into(), edit, reading.into()).unwrap_err()
 }
 
 fn x() -> Edit<'static> {

@@ -5,7 +5,7 @@
 mod common;
 
 use aozora_incremental::*;
-use common::{Parts, cases, file, fx_hash, repository};
+use common::{Parts, cases, file, fx_hash, price_agrees, repository};
 use std::fmt::Write;
 
 /// As crates/vectors prints a merge: the program lends buffers full of sevens, as long as the case
@@ -27,6 +27,7 @@ fn vector_line(case: &common::Case<'_>) -> String {
     let rest = |s: &[u8]| s.iter().filter(|&&b| b != 0).count();
     let words = work.iter().filter(|&&w| w != 0).count();
     the_convenient_form_agrees(case.book, edit, reading, &answer, &tape[..t], &bytes[..b]);
+    _ = price_agrees(case.book, edit, reading);
     format!("{}: {shown}, rest {} {} {words}", case.label, rest(&tape[t..]), rest(&bytes[b..]))
 }
 
@@ -66,6 +67,38 @@ fn replay(name: &str, line: impl Fn(&common::Case<'_>) -> String) {
 #[test]
 fn vectors() {
     replay("vectors", vector_line);
+}
+
+/// As crates/estimate_run prints a price: the program lends words that are all seven.
+#[test]
+fn estimate_run() {
+    let mut numbers = std::collections::BTreeMap::new();
+    let input = file("crates/estimate_run/stdin");
+    let lines: Vec<String> = cases(&input)
+        .iter()
+        .map(|case| {
+            let mut parts = Parts(case.replacement);
+            let [words, replacement, reading] = [(); 3].map(|()| parts.word() as usize);
+            let edit = Edit::new(case.start, case.end, parts.take(replacement));
+            let reading = Stored::new(parts.take(reading), parts.0);
+            let mut work = vec![7; words];
+            let price = raw::estimate(case.book, edit, reading, &mut work);
+            // tests/memory.rs merges the large ones
+            if !price.is_ok_and(|price| price.calls.max(price.contents) > 10_000) {
+                let merged = price_agrees(case.book, edit, reading);
+                *numbers.entry(merged.map_or_else(Refusal::number, |_| 0)).or_insert(0) += 1;
+            }
+            let shown = price.map_or_else(
+                |refusal| format!("refused {}", refusal.number()),
+                |price| price.to_string(),
+            );
+            let rest = work.iter().filter(|&&w| w != 0).count();
+            format!("{}: {shown}, rest {rest}", case.label)
+        })
+        .collect();
+    let stored = String::from_utf8(file("crates/estimate_run/stdout")).unwrap();
+    assert_eq!(lines.join("\n") + "\n", stored);
+    assert!((0..=18).all(|n| numbers.contains_key(&n)), "{numbers:?}");
 }
 
 #[test]

@@ -142,6 +142,78 @@ pub fn lavish(
     Ok(Merged { book: StoredBook { tape, bytes }, region, reused, reread, stats })
 }
 
+/// The price of a merge beside the merge: the same number 1 to 17, or what the merge made; and the
+/// room that it says is enough. What the merge answered.
+pub fn price_agrees(
+    book: Stored<'_>,
+    edit: Edit<'_>,
+    reading: Stored<'_>,
+) -> Result<Merged, Refusal> {
+    let (price, merged) = (estimate(book, edit, reading), merge(book, edit, reading));
+    for words in [0, 1, 100] {
+        let mut work = vec![7; words];
+        assert_eq!(raw::estimate(book, edit, reading, &mut work), price);
+        assert!(work.iter().all(|&w| w == 0));
+    }
+    let price = match price {
+        Ok(price) => price,
+        Err(refusal) => {
+            assert_ne!(refusal, Refusal::NoRoom);
+            assert_eq!(merged, Err(refusal));
+            return merged;
+        }
+    };
+    let Lengths { tape, bytes } = price.room(book, reading);
+    let (mut tape, mut bytes, mut work) = (vec![7; tape], vec![7; bytes], vec![7; WORK_WORDS]);
+    let room = Room::new(&mut tape, &mut bytes);
+    let within = raw::merge(book, edit, reading, room, &mut work);
+    match &merged {
+        Err(refusal) => {
+            assert_eq!((*refusal, within), (Refusal::NoRoom, Err(Refusal::NoRoom)));
+        }
+        Ok(merged) => {
+            let lengths = Lengths { tape: merged.book.tape.len(), bytes: merged.book.bytes.len() };
+            assert_eq!(within.unwrap().book, lengths);
+            assert_eq!(price, price_of(&Book::new(book).unwrap(), merged));
+            let header = header_room(&price, book, reading);
+            assert!(lengths.tape <= header.tape && lengths.bytes <= header.bytes);
+        }
+    }
+    merged
+}
+
+/// The buffers that bindings/c/aozora.h says are enough.
+fn header_room(price: &Estimate, book: Stored<'_>, reading: Stored<'_>) -> Lengths {
+    let (contents, segments) = (price.contents as usize, price.segments as usize);
+    let new = Book::reading(reading).unwrap();
+    let longest = new.strings().map(str::len).max().unwrap_or(0);
+    let strings = if longest > 64 { 3583 * longest } else { reading.bytes.len() };
+    Lengths {
+        tape: book.tape.len() + reading.tape.len() + 17916 + 10 * contents + 37 * segments,
+        bytes: price.byte_length + strings,
+    }
+}
+
+/// The price of a merge, from its result.
+pub fn price_of(old: &Book<'_>, merged: &Merged) -> Estimate {
+    let new = Book::new(&merged.book).unwrap();
+    let counts = [
+        usize::try_from(merged.stats.calls).unwrap(),
+        new.content_count() - old.content_count(),
+        new.segment_count() - old.segment_count(),
+    ];
+    let over = counts.iter().any(|&n| n > MAX_POOL);
+    let told = |n: usize| if over { Estimate::OVER } else { n as u32 };
+    let strings: usize = new.strings().skip(old.string_count()).map(str::len).sum();
+    Estimate {
+        reread: merged.reread,
+        calls: told(counts[0]),
+        contents: told(counts[1]),
+        segments: told(counts[2]),
+        byte_length: merged.book.bytes.len() - strings,
+    }
+}
+
 /// Asks a book for everything that the reader has. How many items it saw.
 pub fn read_all(book: &Book<'_>, random: &mut Random) -> usize {
     let mut seen = 0;
