@@ -5,10 +5,15 @@ struct Answer { number: u32, start: u32, end: u32, reused: u32, reread: u32, cou
 #[repr(C)]
 #[derive(Clone, Copy)]
 struct Region { number: u32, start: u32, end: u32 }
+#[repr(C)]
+#[derive(Clone, Copy)]
+struct Price { number: u32, reread: u32, calls: u32, contents: u32, segments: u32, bytes: usize }
 unsafe extern "C" {
     fn aozora_check_book(t: *const u8, tn: usize, d: *const u8, dn: usize) -> u32;
     fn aozora_check_reading(t: *const u8, tn: usize, d: *const u8, dn: usize) -> u32;
     fn aozora_choose_region(t: *const u8, tn: usize, d: *const u8, dn: usize, start: u32, end: u32, r: *const u8, rn: usize, w: *mut u32, wn: usize) -> Region;
+    fn aozora_estimate(t: *const u8, tn: usize, d: *const u8, dn: usize, start: u32, end: u32, r: *const u8, rn: usize, rt: *const u8, rtn: usize, rd: *const u8, rdn: usize,
+        w: *mut u32, wn: usize) -> Price;
     fn aozora_merge(t: *const u8, tn: usize, d: *const u8, dn: usize, start: u32, end: u32, r: *const u8, rn: usize, rt: *const u8, rtn: usize, rd: *const u8, rdn: usize,
         ot: *mut u8, otn: usize, od: *mut u8, odn: usize, w: *mut u32, wn: usize) -> Answer;
 }
@@ -30,6 +35,13 @@ fn check_reading(r: &Tape) -> u32 { unsafe { aozora_check_reading(r.0.as_ptr(), 
 
 fn choose_region(b: &Tape, at: (usize, usize), replacement: &[u8], words: &mut [u32]) -> Region {
     unsafe { aozora_choose_region(b.0.as_ptr(), b.0.len(), b.1.as_ptr(), b.1.len(), at.0 as u32, at.1 as u32, replacement.as_ptr(), replacement.len(), words.as_mut_ptr(), words.len()) }
+}
+
+fn estimate(b: &Tape, at: (usize, usize), replacement: &[u8], r: &Tape, words: &mut [u32]) -> Price {
+    unsafe {
+        aozora_estimate(b.0.as_ptr(), b.0.len(), b.1.as_ptr(), b.1.len(), at.0 as u32, at.1 as u32, replacement.as_ptr(), replacement.len(), r.0.as_ptr(), r.0.len(), r.1.as_ptr(), r.1.len(),
+            words.as_mut_ptr(), words.len())
+    }
 }
 
 fn merge(b: &Tape, at: (usize, usize), replacement: &[u8], r: &Tape, o: &mut Buffers) -> Answer {

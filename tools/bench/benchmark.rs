@@ -32,7 +32,9 @@ const TAPES: usize = 6;
 const QUICK: usize = 7;
 const LIMIT: usize = 8;
 const INTERN: usize = 9; // of QUICK the interning of the old strings, in the case with Rubies of 1 MB
-const SIDES: usize = 10;
+const PRICE: usize = 10; // the estimate, with 16384 words
+const SHORT: usize = 11; // the merge into empty result buffers: refused with 18, so all of it up to number 17
+const SIDES: usize = 12;
 
 struct Row { shown: Vec<(Group, String)>, text: usize, nodes: usize, bytes: usize, times: [Option<Times>; SIDES] }
 
@@ -138,6 +140,8 @@ fn limit(c: &Case, result: &Tape, copy: &mut Tape) -> (i32, u64) {
     told
 }
 
+fn priced(c: &Case, words: &mut [u32]) -> Price { estimate(&c.book, c.edit, c.replacement.as_bytes(), &c.reading, words) }
+
 fn ours(c: &Case, o: &mut Buffers) -> Answer { merge(&c.book, c.edit, c.replacement.as_bytes(), &c.reading, o) }
 
 // All sides on one case: they must agree in the region, the nodes kept and reread, the seven counts, the tape and the bytes. Answers the result,
@@ -146,6 +150,8 @@ fn agree(label: &str, c: &Case) -> Tape {
     let mut o = Buffers::new(c.book.0.len() + 4 * c.reading.0.len() + 4096, c.book.1.len() + 2 * c.reading.1.len() + 4096);
     let a = ours(c, &mut o);
     assert_eq!(a.number, 0, "{label}");
+    let p = priced(c, &mut o.work);
+    assert_eq!((p.number, p.reread, u64::from(p.calls)), (0, a.reread, a.counts[0]), "{label}: the price");
     let ((tape, bytes), m, _) = with_tapes(c);
     assert_eq!((m.region.start, m.region.end, m.reused, m.reread, m.counts()), (a.start, a.end, a.reused, a.reread, a.counts), "{label}");
     assert!(tape == o.tape[..a.tape] && bytes == o.bytes[..a.bytes], "{label}: tape and bytes");
@@ -160,6 +166,20 @@ fn agree(label: &str, c: &Case) -> Tape {
 // how long both texts of a book are
 fn text_bytes(tape: &[u8]) -> usize { [1, 5].map(|at| u32::from_le_bytes(tape[at..at + 4].try_into().unwrap()) as usize).iter().sum() }
 
+// what an estimate takes is timed where the book's size or the reading's varies
+fn has_price(group: &Group) -> bool { matches!(group, Group::Sizes(_) | Group::Readings) }
+
+// The price of a small reading that stands for 2^33 texts, and how many bytes its tape has: best and median of 15 calls.
+fn priced_doubled() -> (Times, usize) {
+    let c = doubled();
+    let mut words = vec![7; 16384];
+    let p = priced(&c, &mut words);
+    assert_eq!((p.number, p.reread, p.calls, p.contents, p.segments), (0, 2, 1048576, 1048576, 1048576));
+    let mut v: Vec<f64> = (0..15).map(|_| clock(|| priced(&c, &mut words))).collect();
+    v.sort_by(f64::total_cmp);
+    (Times { best: v[0], median: v[7], calls: v.len() }, c.reading.0.len())
+}
+
 fn time(entry: &Entry, seconds: f64, cost: f64) -> Row {
     let c = (entry.make)();
     let result = agree(&entry.shown[0].1, &c);
@@ -167,7 +187,8 @@ fn time(entry: &Entry, seconds: f64, cost: f64) -> Row {
     let (mut exact, mut twice, mut more) = (Buffers::new(tape, bytes), Buffers::new(2 * tape, 2 * bytes), Buffers::new(tape, bytes));
     let mut copy = (vec![7; tape], vec![7; bytes]);
     more.work = vec![7; 262144];
-    let mut words = vec![7; 16384];
+    let (mut words, mut price_words) = (vec![7; 16384], vec![7; 16384]);
+    let mut short = Buffers::new(0, 0);
     let r = in_rust(&c);
     let mut sides: Vec<Side> = vec![
         (MERGE, Box::new(|| clock(|| ours(&c, &mut exact)))),
@@ -184,6 +205,11 @@ fn time(entry: &Entry, seconds: f64, cost: f64) -> Row {
     if unsafe { limit_known() } == 1 {
         assert_eq!(limit(&c, &result, &mut copy).0, 1, "the limit's UTF-8");
         sides.push((LIMIT, Box::new(|| clock(|| limit(&c, &result, &mut copy)))));
+    }
+    if has_price(&entry.shown[0].0) {
+        assert_eq!(ours(&c, &mut short).number, 18);
+        sides.push((PRICE, Box::new(|| clock(|| priced(&c, &mut price_words)))));
+        sides.push((SHORT, Box::new(|| clock(|| ours(&c, &mut short)))));
     }
     if let Group::Sizes(_) = entry.shown[0].0 {
         sides.push((TWICE, Box::new(|| clock(|| ours(&c, &mut twice)))));

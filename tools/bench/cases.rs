@@ -101,6 +101,24 @@ fn case_of(b: &Book, at: usize, kind: Kind, n: usize) -> Case {
 
 fn simple(kind: Kind, size: usize, place: Place, n: usize) -> Case { let (b, at) = novel(kind, size, place, n); case_of(&b, at, kind, n) }
 
+// A reading of two nodes that each stand for 2^32 texts: an AngleQuote of two contents, both the run with the one below, 32 levels of it.
+fn doubled() -> Case {
+    let (mut b, mut r) = (Book::default(), Book::default());
+    b.put(BEFORE);
+    b.put("\n\n次の段落\n\n");
+    let id = r.string("字");
+    let mut inner = r.segment(0, 0, 0, [id, 0, 0, 0, 0, 0]);
+    for level in 1..=32 {
+        let first = r.content(1, inner, 1);
+        r.content(1, inner, 1);
+        inner = r.segment(3, level, 14, [first, 2, 0, 0, 0, 0]);
+    }
+    let top = r.content(1, inner, 1);
+    for s in ["訂", "正"] { r.node(s, 14, 0, [top, 1, 0, 0, 0, 0]); }
+    r.put("\n\n");
+    Case { book: b.done(), edit: (0, BEFORE.len()), replacement: AFTER, reading: r.done(), nodes: 0 }
+}
+
 // so many diagnostics at equal distances: in the order of the text, or at every 7,919th place, which is far from any order
 fn diagnosed(size: usize, count: usize, ordered: bool) -> Case {
     let (mut b, at) = novel(Kind::Ruby, size, Place::Middle, 10);

@@ -78,6 +78,15 @@ fn lent(rows: &[Row]) -> String {
     s
 }
 
+fn prices(rows: &[Row]) -> String {
+    let mut s = "| book | the merge | of it up to number 17 | the price | price / up to 17 | price / merge |\n|---|---|---|---|---|---|\n".to_string();
+    for r in rows.iter().filter(|r| has_price(&r.shown[0].0)) {
+        s += &format!("| {} | {} | {} | {} | **{}** | {} |\n", name_of(r), cell(r.times[MERGE]), cell(r.times[SHORT]), cell(r.times[PRICE]), figures(r.ratio(PRICE, SHORT)), figures(r.ratio(PRICE, MERGE)));
+    }
+    let (doubled, tape) = priced_doubled();
+    s + &format!("\nA reading of {tape} bytes of tape whose two nodes stand for 2^33 texts, all three counts over: {}.\n", cell(Some(doubled)))
+}
+
 fn name_of(r: &Row) -> String {
     let (group, label) = &r.shown[0];
     match group {
@@ -191,6 +200,7 @@ fn write(template: &str, docs: &str, rows: &[Row], slow: &[HostileRow], p: &Prof
         ("places", table(rows, Group::Places, "book and edit")),
         ("shapes", table(rows, Group::Shapes, "book")),
         ("lent", lent(rows)),
+        ("prices", prices(rows)),
         ("behind-count", count(rows, MERGE, REPARSE)),
         ("ahead-count", count(rows, REPARSE, MERGE)),
         ("behind-tapes-count", count(rows, MERGE, TAPES)),
