@@ -132,8 +132,8 @@ aozora_region aozora_choose_region(const uint8_t *tape, size_t tape_len, const u
 /* What aozora_merge would cost, without a result: a number 1 to 17 exactly where the merge answers it, whatever it is lent; else the price. Where
    the merge is accepted, these are its numbers; where it is refused with 18, those that it would have had. There is no 18 here. The words may
    be any number, also none; two for each node of a large book make numbers 10 and 15 faster. They come back as zeros. It takes the time of the
-   merge up to number 17 and one walk over what would be grafted, some two million items at most: a few records can stand for 2^33 items, and
-   they are not walked then.
+   merge up to number 17 and one walk over what would be grafted, which ends where contents or segments are over: a few records can stand for
+   2^33 items, and no more than some two million are walked.
    Result buffers that are certainly long enough for the merge: for the tape tape_len + reading_tape_len + 17916 + 10 * contents + 37 * segments
    bytes, for the texts and strings bytes plus 3583 times the reading's longest string; where no string of the reading has more than 64 bytes,
    reading_bytes_len is enough in place of the last. */

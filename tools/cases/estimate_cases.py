@@ -2,7 +2,7 @@
 added; None where merge.py alone says it), old book, edit, replacement, reading, and how many work words are lent. Every case of the
 merge is one too."""
 from small import *
-from graft_cases import doubling, longs, quote
+from graft_cases import doubling, longs, nodes_of, quote
 import graft_cases, merge_cases
 from merge import WORK
 from tape_cases import but, node, run, text
@@ -82,3 +82,21 @@ read_last('contents over, segments and calls not', (1, *OVER), empty_runs(3))
 def breaks(n): return doubled(17, node(2, 11, 2, [0, NONE, NONE, NONE, 18, n]), segments=[node(1)] * n)
 read_last('1048575 segments', (1, 2**17, 2**18 - 1, MOST), breaks(6))
 read_last('segments over, contents and calls not', (1, *OVER), breaks(7))
+
+# ---- how a run is shared: three times in a row, with a string between, and twice with two unlike runs around them; two segments alike in one run
+def patterned(levels, pattern):
+    """each AngleQuote holds the one below for each r, a string for each s, an empty run for each e"""
+    contents, segments = [], [text()]
+    for level in range(1, levels + 1):
+        segments.append(node(level, 14, 0, [len(contents), len(pattern)]))
+        contents += [{'r': run(level - 1, 1), 's': P(0), 'e': run(0, 0)}[p] for p in pattern]
+    return nodes_of((14, 0, [len(contents), 1]), strings='x', contents=contents + [run(levels, 1)], segments=segments)
+read_last('11 levels, three times in a row', (1, 3**11, (3**12 - 1) // 2, (3**12 - 1) // 2), patterned(11, 'rrr'))
+read_last('17 levels, a string between', (1, 2**18 - 1, 3 * 2**17 - 2, 2**18 - 1), patterned(17, 'rsr'))
+read_last('17 levels, unlike runs around', (1, 2**17, 2**19 - 3, 2**18 - 1), patterned(17, 'erre'))
+read_last('32 levels, a string between', (1, *OVER), patterned(32, 'rsr'))
+def alike(levels):
+    segments = [text(), text()] + [node(level, 14, 0, [level - 1, 1]) for level in range(1, levels + 1) for _ in 'ab']
+    return nodes_of((14, 0, [levels, 1]), strings='x', contents=[run(2 * i, 2) for i in range(levels + 1)], segments=segments)
+read_last('16 levels, two segments alike', (1, 2**17, 2**17 - 1, 2**18 - 2), alike(16))
+read_last('31 levels, two segments alike', (1, *OVER), alike(31))

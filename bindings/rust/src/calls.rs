@@ -162,8 +162,8 @@ pub fn choose_region<'a>(book: impl Into<Stored<'a>>, edit: Edit<'_>) -> Result<
 /// merge has. Where it is given, the merge is refused with 18 or these are its numbers; every count
 /// that is not given as [over](Estimate::OVER) is what grafting would make, also where 18 would
 /// refuse the merge. It takes the time of the merge up to number 17 and one walk over what would be
-/// grafted, which ends where the counts are over: a small reading that stands for 2^33 items is
-/// priced in milliseconds.
+/// grafted, which ends where contents or segments are over: a small reading can stand for 2^33
+/// items, and no more than some two million are walked.
 ///
 /// ```
 /// use aozora_incremental::{BookBuilder, Edit, Refusal, estimate, merge_within};

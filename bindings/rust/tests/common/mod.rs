@@ -175,9 +175,23 @@ pub fn price_agrees(
             let lengths = Lengths { tape: merged.book.tape.len(), bytes: merged.book.bytes.len() };
             assert_eq!(within.unwrap().book, lengths);
             assert_eq!(price, price_of(&Book::new(book).unwrap(), merged));
+            let header = header_room(&price, book, reading);
+            assert!(lengths.tape <= header.tape && lengths.bytes <= header.bytes);
         }
     }
     merged
+}
+
+/// The buffers that bindings/c/aozora.h says are enough.
+fn header_room(price: &Estimate, book: Stored<'_>, reading: Stored<'_>) -> Lengths {
+    let (contents, segments) = (price.contents as usize, price.segments as usize);
+    let new = Book::reading(reading).unwrap();
+    let longest = new.strings().map(str::len).max().unwrap_or(0);
+    let strings = if longest > 64 { 3583 * longest } else { reading.bytes.len() };
+    Lengths {
+        tape: book.tape.len() + reading.tape.len() + 17916 + 10 * contents + 37 * segments,
+        bytes: price.byte_length + strings,
+    }
 }
 
 /// The price of a merge, from its result.
