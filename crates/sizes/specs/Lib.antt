@@ -6,3 +6,4 @@ pub mod InPlace
 pub mod Answers
 pub mod Shown
 pub mod Calls
+pub mod Again

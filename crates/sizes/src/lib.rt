@@ -6,7 +6,7 @@
 // what the graft of the shown trees adds.
 ghost use mathlib.Core.Path.{_≡_};
 ghost use Prim.Native.Nat.{ℕ, _+_, _*_, _≤_, _<_, min};
-ghost use mathlib.Core.Bool.{true};
+ghost use mathlib.Core.Bool.{true, false};
 ghost use mathlib.Core.List.{List};
 ghost use lib.ListN.{length};
 ghost use Rattle.model.specs.Tape.{recordAt, contentCodec, segmentCodec, nodeCodec, places, bookAt};
@@ -17,6 +17,8 @@ ghost use Rattle.store.specs.Stored.{OfTape};
 ghost use Rattle.sizes.specs.Trees.{nodesSize};
 ghost use Rattle.sizes.specs.Order.{fieldWord};
 ghost use Rattle.sizes.specs.Capped.{overSizes, noSizes, capped, sizesIn, plus, Kept};
+ghost use Rattle.sizes.specs.Added.{Added};
+ghost use Rattle.sizes.specs.Again.{times, Alike};
 ghost use Rattle.sizes.specs.Calls.{Limited};
 ghost use Rattle.sizes.specs.InPlace.{contentCount, segmentCount, fieldWords, stringAdds, usedAdds, innerAdds, bodyAdds};
 ghost use Rattle.sizes.specs.InPlace.{contentAdds, contentsAdd, contentRunAdds, segmentsAdd, segmentRunAdds, nodeAdds, nodesAdd};
@@ -89,6 +91,55 @@ pub fn with_added(room: Room, t: Sizes, contents: u32, segments: u32, calls: u32
         calls: calls_sum(t.calls, calls),
         over: false,
     }
+}
+
+// What was added from `before` to `after`, added k times more: so many items that are alike need not be walked one by one.
+fn again(room: Room, before: Sizes, after: Sizes, k: usize) -> Sizes
+    requires { ⌜ (before .over ≡ false) × (after .over ≡ false) × Kept room after ⌝ }
+    requires { ⌜ (before .contents ≤ after .contents) × (before .segments ≤ after .segments) × (before .calls ≤ after .calls) ⌝ }
+    ensures { λ r. ⌜ ((a : Added) → after ≡ plus room before a → r ≡ plus room after (times a k)) ⌝ }
+{
+    let contents = after.contents - before.contents;
+    let segments = after.segments - before.segments;
+    let calls = after.calls - before.calls;
+    let mut u = after;
+    let mut j = 0;
+    while j < k {
+        u = with_added(room, u, contents, segments, calls);
+        j += 1;
+    }
+    u
+}
+
+// Are these two contents the same?
+fn same_content(tape: &[u8], a: usize, b: usize) -> bool
+    requires { ⌜ (a + 10 ≤ length (now tape)) × (b + 10 ≤ length (now tape)) ⌝ }
+    ensures { λ r. ⌜ (r ≡ true → recordAt contentCodec (now (tape .entry)) b ≡ recordAt contentCodec (now (tape .entry)) a) ⌝ }
+{
+    let x = records::content_at(tape, a);
+    let y = records::content_at(tape, b);
+    if x.tag != y.tag {
+        return false;
+    }
+    if x.first != y.first {
+        return false;
+    }
+    x.second == y.second
+}
+
+// How many contents right behind the one at `at` are the same, up to `most` of them.
+fn contents_alike(tape: &[u8], at: usize, most: usize) -> usize
+    requires { ⌜ at + 10 * (most + 1) ≤ length (now tape) ⌝ }
+    ensures { λ r. ⌜ Alike (now (tape .entry)) at most r ⌝ }
+{
+    let mut k = 0;
+    while k < most {
+        if !same_content(tape, at, at + 10 * (k + 1)) {
+            return k;
+        }
+        k += 1;
+    }
+    k
 }
 
 // How many contents a range names, and how many segments; none where it is no range.
@@ -260,11 +311,16 @@ pub fn contents_sizes(
     let mut u = t;
     let mut i = 0;
     while i < count {
-        u = content_sizes(tape, st, room, u, at + 10 * i, level);
+        let next = content_sizes(tape, st, room, u, at + 10 * i, level);
+        if next.over {
+            return next;
+        }
+        let k = contents_alike(tape, at + 10 * i, count - i - 1);
+        u = again(room, u, next, k);
         if u.over {
             return u;
         }
-        i += 1;
+        i += 1 + k;
     }
     u
 }

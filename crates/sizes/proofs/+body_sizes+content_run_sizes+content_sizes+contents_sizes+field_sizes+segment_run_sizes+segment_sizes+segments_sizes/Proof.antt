@@ -8,6 +8,9 @@ use mathlib.Core.Path.{ap, _∙_}
 use Prim.Native.Nat.{ℕ, _+_, _-_, _*_, _<_}
 use native.Mathlib.Omega.{arith}
 use borrow.Author.Needs.{needs}
+use Rattle.sizes.specs.Again.{going-before, kept-high, grown, adding-again, again-over, contents-same}
+use Rattle.sizes.proofs.again.Reads as again-reads
+use Rattle.sizes.proofs.contents_alike.Reads as contents-alike-reads
 use borrow.Fn.Kinds.{In}
 use borrow.Fn.PlainCycle.{Measures, is, falls, and}
 use Rattle.sizes.proofs.body_sizes.Reads as body-sizes
@@ -406,58 +409,179 @@ contents-sizes-μ-loop tape st room at count level u₀ i₀ u i = count - i
 contents-sizes-loop-holds : (t : ℕ) → contents-sizes-lts.Need-loop-holds (
   content-sizes-below t,
   content-sizes.Post,
+  contents-alike-reads.Asked,
+  contents-alike-reads.Learnt,
+  again-reads.Asked,
+  again-reads.Learnt,
 ) (contents-sizes-at t) contents-sizes.Post contents-sizes-Inv-loop contents-sizes-μ-loop
 contents-sizes-loop-holds t c = adding-none (contentFrom (innerAdds (c .before .args .level) (c .before .args .tape .now) (c .before .args .st)) (c .before .args .tape .now) (c .before .args .st) (c .before .args .at)) (c .before .args .count) (c .before .pre .1 .1 .0)
 
 contents-sizes-mul-content-sizes : (t : ℕ) → contents-sizes-lts.Need-mul-content-sizes (
   content-sizes-below t,
   content-sizes.Post,
+  contents-alike-reads.Asked,
+  contents-alike-reads.Learnt,
+  again-reads.Asked,
+  again-reads.Learnt,
 ) (contents-sizes-at t) contents-sizes.Post contents-sizes-Inv-loop contents-sizes-μ-loop
 contents-sizes-mul-content-sizes t c = omega (arith, c .before .before .before .pre .1 .1 .1)
 
 contents-sizes-add-content-sizes : (t : ℕ) → contents-sizes-lts.Need-add-content-sizes (
   content-sizes-below t,
   content-sizes.Post,
+  contents-alike-reads.Asked,
+  contents-alike-reads.Learnt,
+  again-reads.Asked,
+  again-reads.Learnt,
 ) (contents-sizes-at t) contents-sizes.Post contents-sizes-Inv-loop contents-sizes-μ-loop
 contents-sizes-add-content-sizes t c = omega (arith, c .before .before .before .pre .1 .1 .1)
 
 contents-sizes-content-sizes-requires : (t : ℕ) → contents-sizes-lts.Need-content-sizes-requires (
   content-sizes-below t,
   content-sizes.Post,
+  contents-alike-reads.Asked,
+  contents-alike-reads.Learnt,
+  again-reads.Asked,
+  again-reads.Learnt,
 ) (contents-sizes-at t) contents-sizes.Post contents-sizes-Inv-loop contents-sizes-μ-loop
 contents-sizes-content-sizes-requires t c κs = (omega arith, ((c .before .before .before .pre .1 .0), (c .before .loop .inv .kept, omega (arith, c .before .before .before .pre .1 .1 .1))))
 
 contents-sizes-returns : (t : ℕ) → contents-sizes-lts.Need-returns (
   content-sizes-below t,
   content-sizes.Post,
+  contents-alike-reads.Asked,
+  contents-alike-reads.Learnt,
+  again-reads.Asked,
+  again-reads.Learnt,
 ) (contents-sizes-at t) contents-sizes.Post contents-sizes-Inv-loop contents-sizes-μ-loop
 unfolding contentFrom
 contents-sizes-returns t c = adding-over (c .before .before .before .loop .inv) (c .before .before .loop-test .taken) (c .before .content-sizes .ensures) (c .if1 .taken) ∙ ap (plus (c .before .before .before .before .before .args .room) (c .before .before .before .before .before .args .t)) (contents-from (c .before .before .before .before .before .args .tape .now) (c .before .before .before .before .before .args .at) (c .before .before .before .before .before .args .count) (innerAdds (c .before .before .before .before .before .args .level) (c .before .before .before .before .before .args .tape .now) (c .before .before .before .before .before .args .st)) (c .before .before .before .before .before .args .st))
 
-contents-sizes-add-i : (t : ℕ) → contents-sizes-lts.Need-add-i (
+contents-sizes-mul-contents-alike : (t : ℕ) → contents-sizes-lts.Need-mul-contents-alike (
   content-sizes-below t,
   content-sizes.Post,
+  contents-alike-reads.Asked,
+  contents-alike-reads.Learnt,
+  again-reads.Asked,
+  again-reads.Learnt,
 ) (contents-sizes-at t) contents-sizes.Post contents-sizes-Inv-loop contents-sizes-μ-loop
-contents-sizes-add-i t c = omega (arith, c .before .before .before .before .before .pre .1 .1 .1)
+contents-sizes-mul-contents-alike t c = omega (arith, c .before .before .before .before .before .pre .1 .1 .1, c .before .before .loop-test .taken)
 
-contents-sizes-loop-less : (t : ℕ) → contents-sizes-lts.Need-loop-less (
+contents-sizes-add-contents-alike : (t : ℕ) → contents-sizes-lts.Need-add-contents-alike (
   content-sizes-below t,
   content-sizes.Post,
+  contents-alike-reads.Asked,
+  contents-alike-reads.Learnt,
+  again-reads.Asked,
+  again-reads.Learnt,
 ) (contents-sizes-at t) contents-sizes.Post contents-sizes-Inv-loop contents-sizes-μ-loop
-contents-sizes-loop-less t c = omega arith
+contents-sizes-add-contents-alike t c = omega (arith, c .before .before .before .before .before .pre .1 .1 .1, c .before .before .loop-test .taken)
 
-contents-sizes-loop-again : (t : ℕ) → contents-sizes-lts.Need-loop-again (
+contents-sizes-sub-contents-alike : (t : ℕ) → contents-sizes-lts.Need-sub-contents-alike (
   content-sizes-below t,
   content-sizes.Post,
+  contents-alike-reads.Asked,
+  contents-alike-reads.Learnt,
+  again-reads.Asked,
+  again-reads.Learnt,
 ) (contents-sizes-at t) contents-sizes.Post contents-sizes-Inv-loop contents-sizes-μ-loop
-unfolding contentFrom
-contents-sizes-loop-again t c = adding-more (c .before .before .before .loop .inv) (c .before .before .loop-test .taken) (c .before .content-sizes .ensures)
+contents-sizes-sub-contents-alike t c = omega (arith, c .before .before .loop-test .taken)
+
+contents-sizes-sub-contents-alike-2 : (t : ℕ) → contents-sizes-lts.Need-sub-contents-alike-2 (
+  content-sizes-below t,
+  content-sizes.Post,
+  contents-alike-reads.Asked,
+  contents-alike-reads.Learnt,
+  again-reads.Asked,
+  again-reads.Learnt,
+) (contents-sizes-at t) contents-sizes.Post contents-sizes-Inv-loop contents-sizes-μ-loop
+contents-sizes-sub-contents-alike-2 t c = omega (arith, c .before .before .loop-test .taken)
+
+contents-sizes-contents-alike-requires : (t : ℕ) → contents-sizes-lts.Need-contents-alike-requires (
+  content-sizes-below t,
+  content-sizes.Post,
+  contents-alike-reads.Asked,
+  contents-alike-reads.Learnt,
+  again-reads.Asked,
+  again-reads.Learnt,
+) (contents-sizes-at t) contents-sizes.Post contents-sizes-Inv-loop contents-sizes-μ-loop
+contents-sizes-contents-alike-requires t c κs = omega (arith, c .before .before .before .before .before .pre .1 .1 .1, c .before .before .loop-test .taken)
+
+contents-sizes-again-requires : (t : ℕ) → contents-sizes-lts.Need-again-requires (
+  content-sizes-below t,
+  content-sizes.Post,
+  contents-alike-reads.Asked,
+  contents-alike-reads.Learnt,
+  again-reads.Asked,
+  again-reads.Learnt,
+) (contents-sizes-at t) contents-sizes.Post contents-sizes-Inv-loop contents-sizes-μ-loop
+contents-sizes-again-requires t c κs =
+    let on = c .before .if1 .left in
+    let e = c .before .before .content-sizes .ensures in
+    let going = going-before (c .before .before .before .before .before .before .args .room) (c .before .before .before .before .loop .u) _ e on in
+    ((going, on, kept-plus (c .before .before .before .before .loop .u) _ e), grown (c .before .before .before .before .before .before .args .room) (c .before .before .before .before .loop .u) (c .before .before .content-sizes .result) _ going on e (kept-high (c .before .before .before .before .loop .inv .kept) going))
 
 contents-sizes-returns-2 : (t : ℕ) → contents-sizes-lts.Need-returns-2 (
   content-sizes-below t,
   content-sizes.Post,
+  contents-alike-reads.Asked,
+  contents-alike-reads.Learnt,
+  again-reads.Asked,
+  again-reads.Learnt,
 ) (contents-sizes-at t) contents-sizes.Post contents-sizes-Inv-loop contents-sizes-μ-loop
-contents-sizes-returns-2 t c = adding-all (c .before .loop .inv) (c .loop-test .left) ∙ ap (plus (c .before .before .before .args .room) (c .before .before .before .args .t)) (contents-from (c .before .before .before .args .tape .now) (c .before .before .before .args .at) (c .before .before .before .args .count) (innerAdds (c .before .before .before .args .level) (c .before .before .before .args .tape .now) (c .before .before .before .args .st)) (c .before .before .before .args .st))
+unfolding contentFrom
+contents-sizes-returns-2 t c = again-over (adding-more (c .before .before .before .before .before .before .loop .inv) (c .before .before .before .before .before .loop-test .taken) (c .before .before .before .before .content-sizes .ensures)) (c .before .before .contents-alike .result) (omega (arith, c .before .before .contents-alike .ensures .few, c .before .before .before .before .before .loop-test .taken)) (contents-same (innerAdds (c .before .before .before .before .before .before .before .before .args .level) (c .before .before .before .before .before .before .before .before .args .tape .now) (c .before .before .before .before .before .before .before .before .args .st)) (c .before .before .before .before .before .before .before .before .args .tape .now) (c .before .before .before .before .before .before .before .before .args .st) (c .before .before .before .before .before .before .before .before .args .at) (c .before .before .before .before .before .before .loop .i) (c .before .before .contents-alike .ensures)) (c .before .again .ensures _ (c .before .before .before .before .content-sizes .ensures)) (c .if2 .taken) ∙ ap (plus (c .before .before .before .before .before .before .before .before .args .room) (c .before .before .before .before .before .before .before .before .args .t)) (contents-from (c .before .before .before .before .before .before .before .before .args .tape .now) (c .before .before .before .before .before .before .before .before .args .at) (c .before .before .before .before .before .before .before .before .args .count) (innerAdds (c .before .before .before .before .before .before .before .before .args .level) (c .before .before .before .before .before .before .before .before .args .tape .now) (c .before .before .before .before .before .before .before .before .args .st)) (c .before .before .before .before .before .before .before .before .args .st))
+
+contents-sizes-add-i : (t : ℕ) → contents-sizes-lts.Need-add-i (
+  content-sizes-below t,
+  content-sizes.Post,
+  contents-alike-reads.Asked,
+  contents-alike-reads.Learnt,
+  again-reads.Asked,
+  again-reads.Learnt,
+) (contents-sizes-at t) contents-sizes.Post contents-sizes-Inv-loop contents-sizes-μ-loop
+contents-sizes-add-i t c = omega (arith, c .before .before .contents-alike .ensures .few, c .before .before .before .before .before .loop-test .taken, c .before .before .before .before .before .before .before .before .pre .1 .1 .1)
+
+contents-sizes-add-i-2 : (t : ℕ) → contents-sizes-lts.Need-add-i-2 (
+  content-sizes-below t,
+  content-sizes.Post,
+  contents-alike-reads.Asked,
+  contents-alike-reads.Learnt,
+  again-reads.Asked,
+  again-reads.Learnt,
+) (contents-sizes-at t) contents-sizes.Post contents-sizes-Inv-loop contents-sizes-μ-loop
+contents-sizes-add-i-2 t c = omega (arith, c .before .before .contents-alike .ensures .few, c .before .before .before .before .before .loop-test .taken, c .before .before .before .before .before .before .before .before .pre .1 .1 .1)
+
+contents-sizes-loop-less : (t : ℕ) → contents-sizes-lts.Need-loop-less (
+  content-sizes-below t,
+  content-sizes.Post,
+  contents-alike-reads.Asked,
+  contents-alike-reads.Learnt,
+  again-reads.Asked,
+  again-reads.Learnt,
+) (contents-sizes-at t) contents-sizes.Post contents-sizes-Inv-loop contents-sizes-μ-loop
+contents-sizes-loop-less t c = omega (arith, c .before .before .before .before .before .loop-test .taken)
+
+contents-sizes-loop-again : (t : ℕ) → contents-sizes-lts.Need-loop-again (
+  content-sizes-below t,
+  content-sizes.Post,
+  contents-alike-reads.Asked,
+  contents-alike-reads.Learnt,
+  again-reads.Asked,
+  again-reads.Learnt,
+) (contents-sizes-at t) contents-sizes.Post contents-sizes-Inv-loop contents-sizes-μ-loop
+unfolding contentFrom
+contents-sizes-loop-again t c = adding-again (adding-more (c .before .before .before .before .before .before .loop .inv) (c .before .before .before .before .before .loop-test .taken) (c .before .before .before .before .content-sizes .ensures)) (c .before .before .contents-alike .result) (omega (arith, c .before .before .contents-alike .ensures .few, c .before .before .before .before .before .loop-test .taken)) (contents-same (innerAdds (c .before .before .before .before .before .before .before .before .args .level) (c .before .before .before .before .before .before .before .before .args .tape .now) (c .before .before .before .before .before .before .before .before .args .st)) (c .before .before .before .before .before .before .before .before .args .tape .now) (c .before .before .before .before .before .before .before .before .args .st) (c .before .before .before .before .before .before .before .before .args .at) (c .before .before .before .before .before .before .loop .i) (c .before .before .contents-alike .ensures)) (c .before .again .ensures _ (c .before .before .before .before .content-sizes .ensures))
+
+contents-sizes-returns-3 : (t : ℕ) → contents-sizes-lts.Need-returns-3 (
+  content-sizes-below t,
+  content-sizes.Post,
+  contents-alike-reads.Asked,
+  contents-alike-reads.Learnt,
+  again-reads.Asked,
+  again-reads.Learnt,
+) (contents-sizes-at t) contents-sizes.Post contents-sizes-Inv-loop contents-sizes-μ-loop
+contents-sizes-returns-3 t c = adding-all (c .before .loop .inv) (c .loop-test .left) ∙ ap (plus (c .before .before .before .args .room) (c .before .before .before .args .t)) (contents-from (c .before .before .before .args .tape .now) (c .before .before .before .args .at) (c .before .before .before .args .count) (innerAdds (c .before .before .before .args .level) (c .before .before .before .args .tape .now) (c .before .before .before .args .st)) (c .before .before .before .args .st))
 
 field-sizes-content-run-sizes-requires : (t : ℕ) → field-sizes-lts.Need-content-run-sizes-requires (
   content-run-sizes-below t,
@@ -775,8 +899,14 @@ pub +body-sizes+content-run-sizes+content-sizes+contents-sizes+field-sizes+segme
     (content-sizes-returns t)
     (content-sizes-segment-run-sizes-requires t)
     (content-sizes-returns-2 t))
-    (λ t. contents-sizes-lts.spec
-    (content-sizes-below t, content-sizes.Post)
+    (λ t. contents-sizes-lts.spec (
+      content-sizes-below t,
+      content-sizes.Post,
+      contents-alike-reads.Asked,
+      contents-alike-reads.Learnt,
+      again-reads.Asked,
+      again-reads.Learnt,
+    )
     (contents-sizes-at t)
     contents-sizes.Post
     contents-sizes-Inv-loop
@@ -786,10 +916,18 @@ pub +body-sizes+content-run-sizes+content-sizes+contents-sizes+field-sizes+segme
     (contents-sizes-add-content-sizes t)
     (contents-sizes-content-sizes-requires t)
     (contents-sizes-returns t)
+    (contents-sizes-mul-contents-alike t)
+    (contents-sizes-add-contents-alike t)
+    (contents-sizes-sub-contents-alike t)
+    (contents-sizes-sub-contents-alike-2 t)
+    (contents-sizes-contents-alike-requires t)
+    (contents-sizes-again-requires t)
+    (contents-sizes-returns-2 t)
     (contents-sizes-add-i t)
+    (contents-sizes-add-i-2 t)
     (contents-sizes-loop-less t)
     (contents-sizes-loop-again t)
-    (contents-sizes-returns-2 t))
+    (contents-sizes-returns-3 t))
     (λ t. field-sizes-lts.spec (
       content-run-sizes-below t,
       content-run-sizes.Post,
