@@ -4,17 +4,16 @@ use Prim.Native.Nat.{ℕ, zero, suc, _+_, _-_, _*_, _≤_, _<_, min}
 use native.Mathlib.Omega.{arith}
 use mathlib.Core.Bool.{true, false, cond, _&&_, true≢false}
 use mathlib.Core.List.{List}
-use lib.Dec.{leb, ltb}
-use borrow.Author.Tests.{ltb-true, ltb-false}
+use lib.Dec.{leb}
 use Rattle.model.specs.Types.{Body}
 use Rattle.model.specs.Tape.{recordAt, contentCodec}
-use Rattle.records.specs.Values.{contentOf}
-use Rattle.records.specs.declared.Content.{Content as ContentRead}
+use Rattle.records.specs.Values.{bodyAt, segment-body}
+use Rattle.alike.specs.Alike.{Alike}
 use Rattle.store.specs.declared.Store.{Store}
 use Rattle.wire.specs.Loops.{by-bool}
 use Rattle.sizes.specs.Added.{Added, nothing, add, add-nothing, nothing-add, add-assoc}
 use Rattle.sizes.specs.Capped.{fits, exactSizes, overSizes, capped, addedOf, plus, capped-exact, capped-over, plus-going, plus-over, plus-plus, Kept, kept-plus, addFrom, Adding}
-use Rattle.sizes.specs.InPlace.{contentAdds, contentFrom}
+use Rattle.sizes.specs.InPlace.{contentAdds, contentFrom, segmentFrom}
 use Rattle.sizes.specs.declared.Room.{Room}
 use Rattle.sizes.specs.declared.Sizes.{Sizes}
 
@@ -171,30 +170,21 @@ times-none d h = sym (h .is)
 pub times-more : (m : Room) (r : Sizes) (d : Added) (j : ℕ) {u v : Sizes} → u ≡ plus m r (times d j) → v ≡ plus m u d → v ≡ plus m r (times d (j + 1))
 times-more m r d j e f = f ∙ ap (λ (x : Sizes). plus m x d) e ∙ plus-plus m r (times d j) d ∙ ap (plus m r) (sym (times-next d j 0))
 
--- ---- contents that are the same
-
-pub record Alike (t : List ℕ) (at most r : ℕ) : Type 0 where
-  pub few : r ≤ most
-  pub same : (j : ℕ) → j < r → recordAt contentCodec t (at + 10 * (j + 1)) ≡ recordAt contentCodec t at
-
-pub alike-none : (t : List ℕ) (at most : ℕ) → Alike t at most 0
-alike-none t at most = record { few = omega arith; same = λ j h. absurd (omega arith) }
-
-pub alike-more : {t : List ℕ} {at most k : ℕ} → Alike t at most k → k < most → recordAt contentCodec t (at + 10 * (k + 1)) ≡ recordAt contentCodec t at → Alike t at most (k + 1)
-alike-more {t} {at} {most} {k} a h e = record {
-  few = omega arith;
-  same = λ j l. by-bool (ltb j k)
-      (λ q. a .same j (ltb-true j k q))
-      (λ q. let n = ltb-false j k q in let z : j ≡ k = omega (arith, n, l) in ap (λ (i : ℕ). recordAt contentCodec t (at + 10 * (i + 1))) z ∙ e);
-}
-
-pub same-read : (t : List ℕ) (a b : ℕ) {x y : ContentRead} → contentOf x ≡ recordAt contentCodec t a → contentOf y ≡ recordAt contentCodec t b
-    → x .tag ≡ y .tag → x .first ≡ y .first → x .second ≡ y .second → recordAt contentCodec t b ≡ recordAt contentCodec t a
-same-read t a b {x} {y} p q e f g = sym q ∙ (λ i. record { tag = sym e i; first = sym f i; second = sym g i }) ∙ p
+-- ---- items of a run that are alike
 
 -- the items from i on are as item i
-pub contents-same : (inner : Body → Added) (t : List ℕ) (st : Store) (at i : ℕ) {most k : ℕ} → Alike t (at + 10 * i) most k → (j : ℕ) → j < k → contentFrom inner t st at (i + 1 + j) ≡ contentFrom inner t st at i
+pub contents-same : (inner : Body → Added) (t : List ℕ) (st : Store) (at i : ℕ) {most k : ℕ} → Alike (λ (j : ℕ). recordAt contentCodec t (at + 10 * i + 10 * j)) most k
+    → (j : ℕ) → j < k → contentFrom inner t st at (i + 1 + j) ≡ contentFrom inner t st at i
 unfolding contentFrom
 contents-same inner t st at i a j h =
     let p : at + 10 * (i + 1 + j) ≡ at + 10 * i + 10 * (j + 1) = omega arith in
-    ap (contentAdds inner t st) (ap (recordAt contentCodec t) p ∙ a .same j h)
+    let q : at + 10 * i + 10 * 0 ≡ at + 10 * i = omega arith in
+    ap (contentAdds inner t st) (ap (recordAt contentCodec t) p ∙ a .same j h ∙ ap (recordAt contentCodec t) q)
+
+pub segments-same : (inner : Body → Added) (t : List ℕ) (at i : ℕ) {most k : ℕ} → Alike (λ (j : ℕ). bodyAt t (at + 37 * i + 37 * j + 3)) most k
+    → (j : ℕ) → j < k → segmentFrom inner t at (i + 1 + j) ≡ segmentFrom inner t at i
+unfolding segmentFrom
+segments-same inner t at i a j h =
+    let p : at + 37 * i + 37 * (j + 1) ≡ at + 37 * (i + 1 + j) = omega arith in
+    let q : at + 37 * i + 37 * 0 ≡ at + 37 * i = omega arith in
+    ap inner (sym (segment-body t (at + 37 * (i + 1 + j))) ∙ ap (λ (n : ℕ). bodyAt t (n + 3)) (sym p) ∙ a .same j h ∙ ap (λ (n : ℕ). bodyAt t (n + 3)) q ∙ segment-body t (at + 37 * i))

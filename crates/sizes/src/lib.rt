@@ -18,7 +18,7 @@ ghost use Rattle.sizes.specs.Trees.{nodesSize};
 ghost use Rattle.sizes.specs.Order.{fieldWord};
 ghost use Rattle.sizes.specs.Capped.{overSizes, noSizes, capped, sizesIn, plus, Kept};
 ghost use Rattle.sizes.specs.Added.{Added};
-ghost use Rattle.sizes.specs.Again.{times, Alike};
+ghost use Rattle.sizes.specs.Again.{times};
 ghost use Rattle.sizes.specs.Calls.{Limited};
 ghost use Rattle.sizes.specs.InPlace.{contentCount, segmentCount, fieldWords, stringAdds, usedAdds, innerAdds, bodyAdds};
 ghost use Rattle.sizes.specs.InPlace.{contentAdds, contentsAdd, contentRunAdds, segmentsAdd, segmentRunAdds, nodeAdds, nodesAdd};
@@ -109,37 +109,6 @@ fn again(room: Room, before: Sizes, after: Sizes, k: usize) -> Sizes
         j += 1;
     }
     u
-}
-
-// Are these two contents the same?
-fn same_content(tape: &[u8], a: usize, b: usize) -> bool
-    requires { ⌜ (a + 10 ≤ length (now tape)) × (b + 10 ≤ length (now tape)) ⌝ }
-    ensures { λ r. ⌜ (r ≡ true → recordAt contentCodec (now (tape .entry)) b ≡ recordAt contentCodec (now (tape .entry)) a) ⌝ }
-{
-    let x = records::content_at(tape, a);
-    let y = records::content_at(tape, b);
-    if x.tag != y.tag {
-        return false;
-    }
-    if x.first != y.first {
-        return false;
-    }
-    x.second == y.second
-}
-
-// How many contents right behind the one at `at` are the same, up to `most` of them.
-fn contents_alike(tape: &[u8], at: usize, most: usize) -> usize
-    requires { ⌜ at + 10 * (most + 1) ≤ length (now tape) ⌝ }
-    ensures { λ r. ⌜ Alike (now (tape .entry)) at most r ⌝ }
-{
-    let mut k = 0;
-    while k < most {
-        if !same_content(tape, at, at + 10 * (k + 1)) {
-            return k;
-        }
-        k += 1;
-    }
-    k
 }
 
 // How many contents a range names, and how many segments; none where it is no range.
@@ -315,7 +284,7 @@ pub fn contents_sizes(
         if next.over {
             return next;
         }
-        let k = contents_alike(tape, at + 10 * i, count - i - 1);
+        let k = alike::contents_alike(tape, at + 10 * i, count - i - 1);
         u = again(room, u, next, k);
         if u.over {
             return u;
@@ -383,11 +352,16 @@ pub fn segments_sizes(
     let mut u = t;
     let mut i = 0;
     while i < count {
-        u = segment_sizes(tape, st, room, u, at + 37 * i, level);
+        let next = segment_sizes(tape, st, room, u, at + 37 * i, level);
+        if next.over {
+            return next;
+        }
+        let k = alike::segments_alike(tape, at + 37 * i, count - i - 1);
+        u = again(room, u, next, k);
         if u.over {
             return u;
         }
-        i += 1;
+        i += 1 + k;
     }
     u
 }

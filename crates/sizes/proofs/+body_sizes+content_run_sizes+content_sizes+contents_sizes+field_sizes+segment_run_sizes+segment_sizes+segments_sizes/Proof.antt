@@ -8,9 +8,10 @@ use mathlib.Core.Path.{ap, _∙_}
 use Prim.Native.Nat.{ℕ, _+_, _-_, _*_, _<_}
 use native.Mathlib.Omega.{arith}
 use borrow.Author.Needs.{needs}
-use Rattle.sizes.specs.Again.{going-before, kept-high, grown, adding-again, again-over, contents-same}
+use Rattle.sizes.specs.Again.{going-before, kept-high, grown, adding-again, again-over, contents-same, segments-same}
 use Rattle.sizes.proofs.again.Reads as again-reads
-use Rattle.sizes.proofs.contents_alike.Reads as contents-alike-reads
+use Rattle.alike.proofs.contents_alike.Reads as contents-alike-reads
+use Rattle.alike.proofs.segments_alike.Reads as segments-alike-reads
 use borrow.Fn.Kinds.{In}
 use borrow.Fn.PlainCycle.{Measures, is, falls, and}
 use Rattle.sizes.proofs.body_sizes.Reads as body-sizes
@@ -781,58 +782,179 @@ segments-sizes-μ-loop tape st room at count level u₀ i₀ u i = count - i
 segments-sizes-loop-holds : (t : ℕ) → segments-sizes-lts.Need-loop-holds (
   segment-sizes-below t,
   segment-sizes.Post,
+  segments-alike-reads.Asked,
+  segments-alike-reads.Learnt,
+  again-reads.Asked,
+  again-reads.Learnt,
 ) (segments-sizes-at t) segments-sizes.Post segments-sizes-Inv-loop segments-sizes-μ-loop
 segments-sizes-loop-holds t c = adding-none (segmentFrom (innerAdds (c .before .args .level) (c .before .args .tape .now) (c .before .args .st)) (c .before .args .tape .now) (c .before .args .at)) (c .before .args .count) (c .before .pre .1 .1 .0)
 
 segments-sizes-mul-segment-sizes : (t : ℕ) → segments-sizes-lts.Need-mul-segment-sizes (
   segment-sizes-below t,
   segment-sizes.Post,
+  segments-alike-reads.Asked,
+  segments-alike-reads.Learnt,
+  again-reads.Asked,
+  again-reads.Learnt,
 ) (segments-sizes-at t) segments-sizes.Post segments-sizes-Inv-loop segments-sizes-μ-loop
 segments-sizes-mul-segment-sizes t c = omega (arith, c .before .before .before .pre .1 .1 .1)
 
 segments-sizes-add-segment-sizes : (t : ℕ) → segments-sizes-lts.Need-add-segment-sizes (
   segment-sizes-below t,
   segment-sizes.Post,
+  segments-alike-reads.Asked,
+  segments-alike-reads.Learnt,
+  again-reads.Asked,
+  again-reads.Learnt,
 ) (segments-sizes-at t) segments-sizes.Post segments-sizes-Inv-loop segments-sizes-μ-loop
 segments-sizes-add-segment-sizes t c = omega (arith, c .before .before .before .pre .1 .1 .1)
 
 segments-sizes-segment-sizes-requires : (t : ℕ) → segments-sizes-lts.Need-segment-sizes-requires (
   segment-sizes-below t,
   segment-sizes.Post,
+  segments-alike-reads.Asked,
+  segments-alike-reads.Learnt,
+  again-reads.Asked,
+  again-reads.Learnt,
 ) (segments-sizes-at t) segments-sizes.Post segments-sizes-Inv-loop segments-sizes-μ-loop
 segments-sizes-segment-sizes-requires t c κs = (omega arith, ((c .before .before .before .pre .1 .0), (c .before .loop .inv .kept, omega (arith, c .before .before .before .pre .1 .1 .1))))
 
 segments-sizes-returns : (t : ℕ) → segments-sizes-lts.Need-returns (
   segment-sizes-below t,
   segment-sizes.Post,
+  segments-alike-reads.Asked,
+  segments-alike-reads.Learnt,
+  again-reads.Asked,
+  again-reads.Learnt,
 ) (segments-sizes-at t) segments-sizes.Post segments-sizes-Inv-loop segments-sizes-μ-loop
 unfolding segmentFrom
 segments-sizes-returns t c = adding-over (c .before .before .before .loop .inv) (c .before .before .loop-test .taken) (c .before .segment-sizes .ensures) (c .if1 .taken) ∙ ap (plus (c .before .before .before .before .before .args .room) (c .before .before .before .before .before .args .t)) (segments-from (c .before .before .before .before .before .args .tape .now) (c .before .before .before .before .before .args .at) (c .before .before .before .before .before .args .count) (innerAdds (c .before .before .before .before .before .args .level) (c .before .before .before .before .before .args .tape .now) (c .before .before .before .before .before .args .st)))
 
-segments-sizes-add-i : (t : ℕ) → segments-sizes-lts.Need-add-i (
+segments-sizes-mul-segments-alike : (t : ℕ) → segments-sizes-lts.Need-mul-segments-alike (
   segment-sizes-below t,
   segment-sizes.Post,
+  segments-alike-reads.Asked,
+  segments-alike-reads.Learnt,
+  again-reads.Asked,
+  again-reads.Learnt,
 ) (segments-sizes-at t) segments-sizes.Post segments-sizes-Inv-loop segments-sizes-μ-loop
-segments-sizes-add-i t c = omega (arith, c .before .before .before .before .before .pre .1 .1 .1)
+segments-sizes-mul-segments-alike t c = omega (arith, c .before .before .before .before .before .pre .1 .1 .1, c .before .before .loop-test .taken)
 
-segments-sizes-loop-less : (t : ℕ) → segments-sizes-lts.Need-loop-less (
+segments-sizes-add-segments-alike : (t : ℕ) → segments-sizes-lts.Need-add-segments-alike (
   segment-sizes-below t,
   segment-sizes.Post,
+  segments-alike-reads.Asked,
+  segments-alike-reads.Learnt,
+  again-reads.Asked,
+  again-reads.Learnt,
 ) (segments-sizes-at t) segments-sizes.Post segments-sizes-Inv-loop segments-sizes-μ-loop
-segments-sizes-loop-less t c = omega arith
+segments-sizes-add-segments-alike t c = omega (arith, c .before .before .before .before .before .pre .1 .1 .1, c .before .before .loop-test .taken)
 
-segments-sizes-loop-again : (t : ℕ) → segments-sizes-lts.Need-loop-again (
+segments-sizes-sub-segments-alike : (t : ℕ) → segments-sizes-lts.Need-sub-segments-alike (
   segment-sizes-below t,
   segment-sizes.Post,
+  segments-alike-reads.Asked,
+  segments-alike-reads.Learnt,
+  again-reads.Asked,
+  again-reads.Learnt,
 ) (segments-sizes-at t) segments-sizes.Post segments-sizes-Inv-loop segments-sizes-μ-loop
-unfolding segmentFrom
-segments-sizes-loop-again t c = adding-more (c .before .before .before .loop .inv) (c .before .before .loop-test .taken) (c .before .segment-sizes .ensures)
+segments-sizes-sub-segments-alike t c = omega (arith, c .before .before .loop-test .taken)
+
+segments-sizes-sub-segments-alike-2 : (t : ℕ) → segments-sizes-lts.Need-sub-segments-alike-2 (
+  segment-sizes-below t,
+  segment-sizes.Post,
+  segments-alike-reads.Asked,
+  segments-alike-reads.Learnt,
+  again-reads.Asked,
+  again-reads.Learnt,
+) (segments-sizes-at t) segments-sizes.Post segments-sizes-Inv-loop segments-sizes-μ-loop
+segments-sizes-sub-segments-alike-2 t c = omega (arith, c .before .before .loop-test .taken)
+
+segments-sizes-segments-alike-requires : (t : ℕ) → segments-sizes-lts.Need-segments-alike-requires (
+  segment-sizes-below t,
+  segment-sizes.Post,
+  segments-alike-reads.Asked,
+  segments-alike-reads.Learnt,
+  again-reads.Asked,
+  again-reads.Learnt,
+) (segments-sizes-at t) segments-sizes.Post segments-sizes-Inv-loop segments-sizes-μ-loop
+segments-sizes-segments-alike-requires t c κs = omega (arith, c .before .before .before .before .before .pre .1 .1 .1, c .before .before .loop-test .taken)
+
+segments-sizes-again-requires : (t : ℕ) → segments-sizes-lts.Need-again-requires (
+  segment-sizes-below t,
+  segment-sizes.Post,
+  segments-alike-reads.Asked,
+  segments-alike-reads.Learnt,
+  again-reads.Asked,
+  again-reads.Learnt,
+) (segments-sizes-at t) segments-sizes.Post segments-sizes-Inv-loop segments-sizes-μ-loop
+segments-sizes-again-requires t c κs =
+    let on = c .before .if1 .left in
+    let e = c .before .before .segment-sizes .ensures in
+    let going = going-before (c .before .before .before .before .before .before .args .room) (c .before .before .before .before .loop .u) _ e on in
+    ((going, on, kept-plus (c .before .before .before .before .loop .u) _ e), grown (c .before .before .before .before .before .before .args .room) (c .before .before .before .before .loop .u) (c .before .before .segment-sizes .result) _ going on e (kept-high (c .before .before .before .before .loop .inv .kept) going))
 
 segments-sizes-returns-2 : (t : ℕ) → segments-sizes-lts.Need-returns-2 (
   segment-sizes-below t,
   segment-sizes.Post,
+  segments-alike-reads.Asked,
+  segments-alike-reads.Learnt,
+  again-reads.Asked,
+  again-reads.Learnt,
 ) (segments-sizes-at t) segments-sizes.Post segments-sizes-Inv-loop segments-sizes-μ-loop
-segments-sizes-returns-2 t c = adding-all (c .before .loop .inv) (c .loop-test .left) ∙ ap (plus (c .before .before .before .args .room) (c .before .before .before .args .t)) (segments-from (c .before .before .before .args .tape .now) (c .before .before .before .args .at) (c .before .before .before .args .count) (innerAdds (c .before .before .before .args .level) (c .before .before .before .args .tape .now) (c .before .before .before .args .st)))
+unfolding segmentFrom
+segments-sizes-returns-2 t c = again-over (adding-more (c .before .before .before .before .before .before .loop .inv) (c .before .before .before .before .before .loop-test .taken) (c .before .before .before .before .segment-sizes .ensures)) (c .before .before .segments-alike .result) (omega (arith, c .before .before .segments-alike .ensures .few, c .before .before .before .before .before .loop-test .taken)) (segments-same (innerAdds (c .before .before .before .before .before .before .before .before .args .level) (c .before .before .before .before .before .before .before .before .args .tape .now) (c .before .before .before .before .before .before .before .before .args .st)) (c .before .before .before .before .before .before .before .before .args .tape .now) (c .before .before .before .before .before .before .before .before .args .at) (c .before .before .before .before .before .before .loop .i) (c .before .before .segments-alike .ensures)) (c .before .again .ensures _ (c .before .before .before .before .segment-sizes .ensures)) (c .if2 .taken) ∙ ap (plus (c .before .before .before .before .before .before .before .before .args .room) (c .before .before .before .before .before .before .before .before .args .t)) (segments-from (c .before .before .before .before .before .before .before .before .args .tape .now) (c .before .before .before .before .before .before .before .before .args .at) (c .before .before .before .before .before .before .before .before .args .count) (innerAdds (c .before .before .before .before .before .before .before .before .args .level) (c .before .before .before .before .before .before .before .before .args .tape .now) (c .before .before .before .before .before .before .before .before .args .st)))
+
+segments-sizes-add-i : (t : ℕ) → segments-sizes-lts.Need-add-i (
+  segment-sizes-below t,
+  segment-sizes.Post,
+  segments-alike-reads.Asked,
+  segments-alike-reads.Learnt,
+  again-reads.Asked,
+  again-reads.Learnt,
+) (segments-sizes-at t) segments-sizes.Post segments-sizes-Inv-loop segments-sizes-μ-loop
+segments-sizes-add-i t c = omega (arith, c .before .before .segments-alike .ensures .few, c .before .before .before .before .before .loop-test .taken, c .before .before .before .before .before .before .before .before .pre .1 .1 .1)
+
+segments-sizes-add-i-2 : (t : ℕ) → segments-sizes-lts.Need-add-i-2 (
+  segment-sizes-below t,
+  segment-sizes.Post,
+  segments-alike-reads.Asked,
+  segments-alike-reads.Learnt,
+  again-reads.Asked,
+  again-reads.Learnt,
+) (segments-sizes-at t) segments-sizes.Post segments-sizes-Inv-loop segments-sizes-μ-loop
+segments-sizes-add-i-2 t c = omega (arith, c .before .before .segments-alike .ensures .few, c .before .before .before .before .before .loop-test .taken, c .before .before .before .before .before .before .before .before .pre .1 .1 .1)
+
+segments-sizes-loop-less : (t : ℕ) → segments-sizes-lts.Need-loop-less (
+  segment-sizes-below t,
+  segment-sizes.Post,
+  segments-alike-reads.Asked,
+  segments-alike-reads.Learnt,
+  again-reads.Asked,
+  again-reads.Learnt,
+) (segments-sizes-at t) segments-sizes.Post segments-sizes-Inv-loop segments-sizes-μ-loop
+segments-sizes-loop-less t c = omega (arith, c .before .before .before .before .before .loop-test .taken)
+
+segments-sizes-loop-again : (t : ℕ) → segments-sizes-lts.Need-loop-again (
+  segment-sizes-below t,
+  segment-sizes.Post,
+  segments-alike-reads.Asked,
+  segments-alike-reads.Learnt,
+  again-reads.Asked,
+  again-reads.Learnt,
+) (segments-sizes-at t) segments-sizes.Post segments-sizes-Inv-loop segments-sizes-μ-loop
+unfolding segmentFrom
+segments-sizes-loop-again t c = adding-again (adding-more (c .before .before .before .before .before .before .loop .inv) (c .before .before .before .before .before .loop-test .taken) (c .before .before .before .before .segment-sizes .ensures)) (c .before .before .segments-alike .result) (omega (arith, c .before .before .segments-alike .ensures .few, c .before .before .before .before .before .loop-test .taken)) (segments-same (innerAdds (c .before .before .before .before .before .before .before .before .args .level) (c .before .before .before .before .before .before .before .before .args .tape .now) (c .before .before .before .before .before .before .before .before .args .st)) (c .before .before .before .before .before .before .before .before .args .tape .now) (c .before .before .before .before .before .before .before .before .args .at) (c .before .before .before .before .before .before .loop .i) (c .before .before .segments-alike .ensures)) (c .before .again .ensures _ (c .before .before .before .before .segment-sizes .ensures))
+
+segments-sizes-returns-3 : (t : ℕ) → segments-sizes-lts.Need-returns-3 (
+  segment-sizes-below t,
+  segment-sizes.Post,
+  segments-alike-reads.Asked,
+  segments-alike-reads.Learnt,
+  again-reads.Asked,
+  again-reads.Learnt,
+) (segments-sizes-at t) segments-sizes.Post segments-sizes-Inv-loop segments-sizes-μ-loop
+segments-sizes-returns-3 t c = adding-all (c .before .loop .inv) (c .loop-test .left) ∙ ap (plus (c .before .before .before .args .room) (c .before .before .before .args .t)) (segments-from (c .before .before .before .args .tape .now) (c .before .before .before .args .at) (c .before .before .before .args .count) (innerAdds (c .before .before .before .args .level) (c .before .before .before .args .tape .now) (c .before .before .before .args .st)))
 
 pub +body-sizes+content-run-sizes+content-sizes+contents-sizes+field-sizes+segment-run-sizes+segment-sizes+segments-sizes-spec :
     {M : Type 1} → statement M
@@ -973,8 +1095,14 @@ pub +body-sizes+content-run-sizes+content-sizes+contents-sizes+field-sizes+segme
     (segment-sizes-sub-body-sizes t)
     (segment-sizes-body-sizes-requires t)
     (segment-sizes-returns-2 t))
-    λ t. segments-sizes-lts.spec
-    (segment-sizes-below t, segment-sizes.Post)
+    λ t. segments-sizes-lts.spec (
+      segment-sizes-below t,
+      segment-sizes.Post,
+      segments-alike-reads.Asked,
+      segments-alike-reads.Learnt,
+      again-reads.Asked,
+      again-reads.Learnt,
+    )
     (segments-sizes-at t)
     segments-sizes.Post
     segments-sizes-Inv-loop
@@ -984,7 +1112,15 @@ pub +body-sizes+content-run-sizes+content-sizes+contents-sizes+field-sizes+segme
     (segments-sizes-add-segment-sizes t)
     (segments-sizes-segment-sizes-requires t)
     (segments-sizes-returns t)
+    (segments-sizes-mul-segments-alike t)
+    (segments-sizes-add-segments-alike t)
+    (segments-sizes-sub-segments-alike t)
+    (segments-sizes-sub-segments-alike-2 t)
+    (segments-sizes-segments-alike-requires t)
+    (segments-sizes-again-requires t)
+    (segments-sizes-returns-2 t)
     (segments-sizes-add-i t)
+    (segments-sizes-add-i-2 t)
     (segments-sizes-loop-less t)
     (segments-sizes-loop-again t)
-    (segments-sizes-returns-2 t)
+    (segments-sizes-returns-3 t)

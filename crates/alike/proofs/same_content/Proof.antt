@@ -1,10 +1,10 @@
 use mathlib.Core.Bool.{true≢false}
 use mathlib.Core.Path.{sym}
 use borrow.Author.Tests.{eqb-true}
-use Rattle.sizes.specs.Again.{same-read}
+use Rattle.alike.specs.Alike.{same-read}
 use borrow.Author.Needs.{needs}
-use Rattle.sizes.proofs.same_content.Statement.{statement}
-use Rattle.sizes.proofs.same_content.Tie as tie
+use Rattle.alike.proofs.same_content.Statement.{statement}
+use Rattle.alike.proofs.same_content.Tie as tie
 
 content-at-requires : tie.Need-content-at-requires
 content-at-requires c κs = search needs
