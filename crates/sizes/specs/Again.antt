@@ -41,15 +41,15 @@ module _ (m : Room) (t r : Sizes) (a : Added) (going : t .over ≡ false) (on : 
   is-exact : r ≡ exactSizes (add (addedOf t) a)
   is-exact = e ∙ plus-going m t a going ∙ capped-exact m (add (addedOf t) a) room-there
 
-  exact-contents : r .contents ≡ t .contents + a .contents
+  pub exact-contents : r .contents ≡ t .contents + a .contents
   unfolding add
   exact-contents = ap (λ (s : Sizes). s .contents) is-exact
 
-  exact-segments : r .segments ≡ t .segments + a .segments
+  pub exact-segments : r .segments ≡ t .segments + a .segments
   unfolding add
   exact-segments = ap (λ (s : Sizes). s .segments) is-exact
 
-  exact-calls : r .calls ≡ min (t .calls + a .calls) 4294967295
+  pub exact-calls : r .calls ≡ min (t .calls + a .calls) 4294967295
   unfolding add
   exact-calls = ap (λ (s : Sizes). s .calls) is-exact
 

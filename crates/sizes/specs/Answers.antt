@@ -94,6 +94,10 @@ module _ (m : Room) (t : Sizes) (inner : Body → Added) (tp : List ℕ) (st : S
 
 -- ---- the level falls
 
+pub above-zero : (k : ℕ) → (k ≡ 0 → ⊥) → k ≡ suc (k - 1)
+above-zero zero n = absurd (n refl)
+above-zero (suc k) n = omega arith
+
 module _ (m : Room) (t : Sizes) (tp : List ℕ) (st : Store) (at level : ℕ) where
   pub segment-last : Kept m t → level ≡ 0 → t ≡ plus m t (innerAdds level tp st (recordAt segmentCodec tp at .body))
   unfolding innerAdds
@@ -103,26 +107,22 @@ module _ (m : Room) (t : Sizes) (tp : List ℕ) (st : Store) (at level : ℕ) wh
       → r ≡ plus m t (innerAdds level tp st (recordAt segmentCodec tp at .body))
   unfolding innerAdds bodyAdds
   segment-below z {r} q =
-      let e : level ≡ suc (level - 1) = by-zero level z in
+      let e : level ≡ suc (level - 1) = above-zero level z in
       q ∙ ap (λ (b : Body). plus m t (innerAdds (suc (level - 1)) tp st b)) (segment-body tp at)
       ∙ ap (λ (k : ℕ). plus m t (innerAdds k tp st (recordAt segmentCodec tp at .body))) (sym e)
-    where
-      by-zero : (k : ℕ) → (k ≡ 0 → ⊥) → k ≡ suc (k - 1)
-      by-zero zero n = absurd (n refl)
-      by-zero (suc k) n = omega arith
 
 -- ---- nodes
 
-module _ (m : Room) (t : Sizes) (tp : List ℕ) (st : Store) (at : ℕ) where
-  node-class : byteAt tp (at + 1) ≡ recordAt nodeCodec tp at .class
-  unfolding recordAt operandsAt nodeCodec
-  node-class = refl
+pub node-class : (tp : List ℕ) (at : ℕ) → byteAt tp (at + 1) ≡ recordAt nodeCodec tp at .class
+unfolding recordAt operandsAt nodeCodec
+node-class tp at = refl
 
+module _ (m : Room) (t : Sizes) (tp : List ℕ) (st : Store) (at : ℕ) where
   -- classes 2 and 3 have no words
   pub node-bare : Kept m t → 2 ≤ byteAt tp (at + 1) → t ≡ plus m t (nodeAdds tp st (recordAt nodeCodec tp at))
   unfolding nodeAdds nodeFields fieldsAdd addAll
-  node-bare k h = rw (← node-class, le-ltb (byteAt tp (at + 1)) 2 h) (sym (k .is))
+  node-bare k h = rw (← node-class tp at, le-ltb (byteAt tp (at + 1)) 2 h) (sym (k .is))
 
   pub node-body-read : {r : Sizes} → byteAt tp (at + 1) < 2 → r ≡ plus m t (bodyAdds 33 tp st (bodyAt tp (at + 15))) → r ≡ plus m t (nodeAdds tp st (recordAt nodeCodec tp at))
   unfolding nodeAdds nodeFields bodyAdds
-  node-body-read h q = rw (← node-class, lt-ltb (byteAt tp (at + 1)) 2 h) (q ∙ ap (λ (b : Body). plus m t (bodyAdds 33 tp st b)) (node-body tp at))
+  node-body-read h q = rw (← node-class tp at, lt-ltb (byteAt tp (at + 1)) 2 h) (q ∙ ap (λ (b : Body). plus m t (bodyAdds 33 tp st b)) (node-body tp at))

@@ -7,3 +7,5 @@ pub mod Answers
 pub mod Shown
 pub mod Calls
 pub mod Again
+pub mod Known
+pub mod Plain

@@ -1,31 +1,57 @@
-use Rattle.sizes.specs.Answers.{node-bare, node-body-read}
+use mathlib.Core.Path.{sym, _∙_}
 use native.Mathlib.Omega.{arith}
+use Rattle.sizes.specs.Answers.{node-bare, node-body-read}
+use Rattle.sizes.specs.Plain.{ruby-adds}
 use borrow.Author.Needs.{needs}
 use Rattle.sizes.proofs.node_sizes.Statement.{statement}
 use Rattle.sizes.proofs.node_sizes.Tie as tie
 use Rattle.sizes.proofs.node_sizes.Reads as reads
 use Rattle.sizes.proofs.node_sizes.Lts as lts
 use Rattle.sizes.proofs.body_sizes.Reads as body-sizes-reads
+use Rattle.sizes.proofs.plain_ruby.Reads as plain-ruby-reads
+use Rattle.sizes.proofs.ruby_sizes.Reads as ruby-sizes-reads
 
-add-if1 : tie.Need-add-if1
-add-if1 c = search needs
+plain-ruby-requires : tie.Need-plain-ruby-requires
+plain-ruby-requires c κs = search needs
 
-shared-slice-read-if1 : tie.Need-shared-slice-read-if1
-shared-slice-read-if1 c = search needs
+ruby-sizes-requires : tie.Need-ruby-sizes-requires
+ruby-sizes-requires c κs = search needs
 
 returns : tie.Need-returns
-returns c = node-bare (c .before .before .before .args .room) (c .before .before .before .args .t) (c .before .before .before .args .tape .now) (c .before .before .before .args .st) (c .before .before .before .args .at) (c .before .before .before .pre .1 .0) (c .if1 .taken)
+returns c = (ruby-adds (c .before .before .before .before .before .args .room) (c .before .before .before .before .before .args .t) (c .before .before .before .before .before .args .tape .now) (c .before .before .before .before .before .args .st) (c .before .before .before .before .before .args .own) (c .before .before .before .before .before .pre .0 .2) (c .before .before .before .before .before .args .at) (sym (c .before .before .plain-ruby .ensures) ∙ c .before .if1 .taken) (c .ruby-sizes .ensures), c .before .before .before .before .before .pre .0 .1)
+
+add-if2 : tie.Need-add-if2
+add-if2 c = search needs
+
+shared-slice-read-if2 : tie.Need-shared-slice-read-if2
+shared-slice-read-if2 c = search needs
+
+returns-2 : tie.Need-returns-2
+returns-2 c = (node-bare (c .before .before .before .before .before .before .args .room) (c .before .before .before .before .before .before .args .t) (c .before .before .before .before .before .before .args .tape .now) (c .before .before .before .before .before .before .args .st) (c .before .before .before .before .before .before .args .at) (c .before .before .before .before .before .before .pre .1 .0) (c .if2 .taken), c .before .before .before .before .before .before .pre .0 .1)
 
 add-body-sizes : tie.Need-add-body-sizes
 add-body-sizes c = search needs
 
 body-sizes-requires : tie.Need-body-sizes-requires
-body-sizes-requires c κs = (c .before .before .before .pre .0, (c .before .before .before .pre .1 .0, omega (arith, c .before .before .before .pre .1 .1)))
+body-sizes-requires c κs = ((c .before .before .before .before .before .before .before .pre .0 .0, c .before .before .before .before .before .before .before .pre .0 .1), (c .before .before .before .before .before .before .before .pre .1 .0, omega (arith, c .before .before .before .before .before .before .before .pre .1 .1)))
 
-returns-2 : tie.Need-returns-2
-returns-2 c = node-body-read (c .before .before .before .before .args .room) (c .before .before .before .before .args .t) (c .before .before .before .before .args .tape .now) (c .before .before .before .before .args .st) (c .before .before .before .before .args .at) (c .before .if1 .left) (c .body-sizes .ensures)
+same-length : tie.Need-same-length
+same-length c = search needs
+
+returns-3 : tie.Need-returns-3
+returns-3 c = (node-body-read (c .before .before .before .before .before .before .before .before .before .before .args .room) (c .before .before .before .before .before .before .before .before .before .before .args .t) (c .before .before .before .before .before .before .before .before .before .before .args .tape .now) (c .before .before .before .before .before .before .before .before .before .before .args .st) (c .before .before .before .before .before .before .before .before .before .before .args .at) (c .before .before .before .before .if2 .left) (c .before .before .body-sizes .ensures .0), c .before .before .body-sizes .ensures .1)
 
 pub node-sizes-spec : {M : Type 1} → statement M
 node-sizes-spec =
     tie.close
-    (tie.spec add-if1 shared-slice-read-if1 returns add-body-sizes body-sizes-requires returns-2)
+    (tie.spec
+    plain-ruby-requires
+    ruby-sizes-requires
+    returns
+    add-if2
+    shared-slice-read-if2
+    returns-2
+    add-body-sizes
+    body-sizes-requires
+    same-length
+    returns-3)

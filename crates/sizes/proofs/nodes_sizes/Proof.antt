@@ -1,53 +1,66 @@
-use Rattle.sizes.specs.InPlace.{nodeFrom, nodes-from}
-use Rattle.sizes.specs.Capped.{noSizes, kept-none, Adding, adding-none, adding-more, adding-over, adding-all, plus-none, capped}
-use mathlib.Core.Path.{ap, _∙_}
+use mathlib.Core.Path.{_≡_, refl, ap, _∙_}
 use Prim.Native.Nat.{_-_}
 use native.Mathlib.Omega.{arith}
 use borrow.Author.Needs.{needs}
+use lib.ListN.{length}
+use Rattle.sizes.specs.InPlace.{nodeFrom, nodes-from}
+use Rattle.sizes.specs.Capped.{noSizes, kept-none, Adding, adding-none, adding-more, adding-over, adding-all, plus-none, capped}
+use Rattle.sizes.specs.Known.{Known}
+use Rattle.sizes.specs.Plain.{whole-inside}
 use Rattle.sizes.proofs.nodes_sizes.Statement.{statement}
 use Rattle.sizes.proofs.nodes_sizes.Tie as tie
 use Rattle.sizes.proofs.nodes_sizes.Reads as reads
 use Rattle.sizes.proofs.nodes_sizes.Lts as lts
 use Rattle.sizes.proofs.node_sizes.Reads as node-sizes-reads
 use Rattle.sizes.proofs.none.Reads as none-reads
+use Rattle.sizes.proofs.only_contents.Reads as only-contents-reads
 
 abbrev Inv-loop : tie.InvT-loop
-Inv-loop tape st room at count u₀ i₀ u i = Adding room noSizes (nodeFrom tape st at) count i u
+Inv-loop tape st memo₀ room at count own u₀ i₀ memo u i = Adding room noSizes (nodeFrom tape st at) count i u × Known tape st memo × (length memo ≡ length memo₀)
 
 abbrev μ-loop : tie.MeasureT-loop
-μ-loop tape st room at count u₀ i₀ u i = count - i
+μ-loop tape st memo₀ room at count own u₀ i₀ memo u i = count - i
+
+only-contents-requires : tie.Need-only-contents-requires Inv-loop μ-loop
+only-contents-requires c κs = c .before .before .pre .0 .0 .few
 
 none-requires : tie.Need-none-requires Inv-loop μ-loop
 none-requires c κs = search needs
 
 loop-holds : tie.Need-loop-holds Inv-loop μ-loop
-loop-holds c = rw (c .none .ensures) (adding-none (nodeFrom (c .before .before .args .tape .now) (c .before .before .args .st) (c .before .before .args .at)) (c .before .before .args .count) (kept-none (c .before .before .args .room)))
+loop-holds c = (rw (c .none .ensures) (adding-none (nodeFrom (c .before .before .before .before .args .tape .now) (c .before .before .before .before .args .st) (c .before .before .before .before .args .at)) (c .before .before .before .before .args .count) (kept-none (c .before .before .before .before .args .room))), c .before .before .before .before .pre .0 .1, refl)
 
 mul-node-sizes : tie.Need-mul-node-sizes Inv-loop μ-loop
-mul-node-sizes c = omega arith
+mul-node-sizes c = omega (arith, c .before .before .before .before .before .before .before .pre .1, c .before .loop-test .taken)
 
 add-node-sizes : tie.Need-add-node-sizes Inv-loop μ-loop
-add-node-sizes c = omega arith
+add-node-sizes c = omega (arith, c .before .before .before .before .before .before .before .pre .1, c .before .loop-test .taken)
 
 node-sizes-requires : tie.Need-node-sizes-requires Inv-loop μ-loop
-node-sizes-requires c κs = (c .before .before .before .before .pre .0, (c .before .loop .inv .kept, omega arith))
+node-sizes-requires c κs = ((c .before .before .before .before .before .before .before .pre .0 .0, c .before .before .loop .inv .1, c .before .before .before .before .only-contents .ensures, whole-inside (c .before .before .before .before .before .before .before .args .tape .now) (c .before .before .before .before .before .before .before .args .st) (c .before .before .before .before .before .before .before .pre .0 .0) (c .before .before .before .before .only-contents .result) (c .before .before .before .before .only-contents .ensures)), (c .before .before .loop .inv .0 .kept, omega (arith, c .before .before .before .before .before .before .before .pre .1, c .before .loop-test .taken)))
+
+same-length : tie.Need-same-length Inv-loop μ-loop
+same-length c = c .before .before .before .node-sizes .kept .1 .1 .1 .0 ∙ c .before .before .before .before .before .before .loop .inv .2
 
 returns : tie.Need-returns Inv-loop μ-loop
 unfolding nodeFrom
-returns c = adding-over (c .before .before .before .loop .inv) (c .before .before .loop-test .taken) (c .before .node-sizes .ensures) (c .if1 .taken) ∙ plus-none (c .before .before .before .before .before .before .args .room) _ ∙ ap (capped (c .before .before .before .before .before .before .args .room)) (nodes-from (c .before .before .before .before .before .before .args .tape .now) (c .before .before .before .before .before .before .args .at) (c .before .before .before .before .before .before .args .count) (c .before .before .before .before .before .before .args .st))
+returns c = adding-over (c .before .before .before .before .before .before .loop .inv .0) (c .before .before .before .before .before .loop-test .taken) (c .before .before .before .node-sizes .ensures .0) (c .if1 .taken) ∙ plus-none (c .before .before .before .before .before .before .before .before .before .before .before .args .room) _ ∙ ap (capped (c .before .before .before .before .before .before .before .before .before .before .before .args .room)) (nodes-from (c .before .before .before .before .before .before .before .before .before .before .before .args .tape .now) (c .before .before .before .before .before .before .before .before .before .before .before .args .at) (c .before .before .before .before .before .before .before .before .before .before .before .args .count) (c .before .before .before .before .before .before .before .before .before .before .before .args .st))
 
 add-i : tie.Need-add-i Inv-loop μ-loop
-add-i c = omega arith
+add-i c = omega (arith, c .before .before .before .before .before .before .before .before .before .before .before .pre .1, c .before .before .before .before .before .loop-test .taken)
 
 loop-less : tie.Need-loop-less Inv-loop μ-loop
-loop-less c = omega arith
+loop-less c = omega (arith, c .before .before .before .before .before .loop-test .taken)
 
 loop-again : tie.Need-loop-again Inv-loop μ-loop
 unfolding nodeFrom
-loop-again c = adding-more (c .before .before .before .loop .inv) (c .before .before .loop-test .taken) (c .before .node-sizes .ensures)
+loop-again c = (adding-more (c .before .before .before .before .before .before .loop .inv .0) (c .before .before .before .before .before .loop-test .taken) (c .before .before .before .node-sizes .ensures .0), c .before .before .before .node-sizes .ensures .1, c .before .before .before .node-sizes .kept .1 .1 .1 .0 ∙ c .before .before .before .before .before .before .loop .inv .2)
+
+same-length-2 : tie.Need-same-length-2 Inv-loop μ-loop
+same-length-2 c = c .before .loop .inv .2
 
 returns-2 : tie.Need-returns-2 Inv-loop μ-loop
-returns-2 c = adding-all (c .before .loop .inv) (c .loop-test .left) ∙ plus-none (c .before .before .before .before .args .room) _ ∙ ap (capped (c .before .before .before .before .args .room)) (nodes-from (c .before .before .before .before .args .tape .now) (c .before .before .before .before .args .at) (c .before .before .before .before .args .count) (c .before .before .before .before .args .st))
+returns-2 c = adding-all (c .before .loop .inv .0) (c .loop-test .left) ∙ plus-none (c .before .before .before .before .before .before .args .room) _ ∙ ap (capped (c .before .before .before .before .before .before .args .room)) (nodes-from (c .before .before .before .before .before .before .args .tape .now) (c .before .before .before .before .before .before .args .at) (c .before .before .before .before .before .before .args .count) (c .before .before .before .before .before .before .args .st))
 
 pub nodes-sizes-spec : {M : Type 1} → statement M
 nodes-sizes-spec =
@@ -55,13 +68,16 @@ nodes-sizes-spec =
     (tie.spec
     Inv-loop
     μ-loop
+    only-contents-requires
     none-requires
     loop-holds
     mul-node-sizes
     add-node-sizes
     node-sizes-requires
+    same-length
     returns
     add-i
     loop-less
     loop-again
+    same-length-2
     returns-2)

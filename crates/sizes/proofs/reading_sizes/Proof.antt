@@ -4,13 +4,21 @@ use Rattle.sizes.proofs.reading_sizes.Statement.{statement}
 use Rattle.sizes.proofs.reading_sizes.Tie as tie
 use Rattle.sizes.proofs.reading_sizes.Reads as reads
 use Rattle.sizes.proofs.reading_sizes.Lts as lts
-use Rattle.sizes.proofs.nodes_sizes.Reads as nodes-sizes-reads
+use Rattle.sizes.proofs.nodes_bare.Reads as nodes-bare-reads
+use Rattle.sizes.proofs.nodes_noted.Reads as nodes-noted-reads
 
-nodes-sizes-requires : tie.Need-nodes-sizes-requires
-nodes-sizes-requires c κs = (reading-levels (c .before .pre .0), ids-nodes (c .before .pre .0))
+nodes-bare-requires : tie.Need-nodes-bare-requires
+nodes-bare-requires c κs = (reading-levels (c .before .before .before .pre .0), ids-nodes (c .before .before .before .pre .0))
 
 returns : tie.Need-returns
-returns c = reading-answer (c .before .before .pre .0) (c .before .before .args .room) (c .before .before .pre .1 .0) (c .before .before .pre .1 .1) (c .nodes-sizes .ensures)
+returns c = reading-answer (c .before .before .before .before .pre .0) (c .before .before .before .before .args .room) (c .before .before .before .before .pre .1 .0) (c .before .before .before .before .pre .1 .1) (c .nodes-bare .ensures)
+
+nodes-noted-requires : tie.Need-nodes-noted-requires
+nodes-noted-requires c κs = (reading-levels (c .before .before .before .pre .0), ids-nodes (c .before .before .before .pre .0))
+
+returns-2 : tie.Need-returns-2
+returns-2 c = reading-answer (c .before .before .before .before .pre .0) (c .before .before .before .before .args .room) (c .before .before .before .before .pre .1 .0) (c .before .before .before .before .pre .1 .1) (c .nodes-noted .ensures)
 
 pub reading-sizes-spec : {M : Type 1} → statement M
-reading-sizes-spec = tie.close (tie.spec nodes-sizes-requires returns)
+reading-sizes-spec =
+    tie.close (tie.spec nodes-bare-requires returns nodes-noted-requires returns-2)
