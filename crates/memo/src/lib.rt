@@ -5,11 +5,11 @@ ghost use Prim.Native.Nat.{_<_};
 ghost use Rattle.memo.specs.Memo.{isOf, putIn};
 
 // How many entries there can be: an entry's number is below.
-const ENTRIES: usize = 1024;
+const ENTRIES: usize = 4096;
 
-// The number of the entry of a place and level. Places that are a record apart, up to 1024 of them, have entries of their own.
+// The number of the entry of a place and level. Places that are a record apart, up to 4096 of them, have entries of their own.
 pub fn entry_of(place: usize, level: u8) -> usize
-    ensures { λ r. ⌜ r < 1024 ⌝ }
+    ensures { λ r. ⌜ r < 4096 ⌝ }
 {
     (place % ENTRIES + 97 * (level as usize)) % ENTRIES
 }
@@ -22,7 +22,7 @@ fn wide(x: u32) -> usize
 
 // Is entry e there, and of that place and level?
 pub fn is_of(memo: &[u32], e: usize, place: usize, level: u8) -> bool
-    requires { ⌜ e < 1024 ⌝ }
+    requires { ⌜ e < 4096 ⌝ }
     ensures { λ r. ⌜ r ≡ isOf (now (memo .entry)) e place level ⌝ }
 {
     if memo.len() < 5 * e + 5 {
@@ -44,7 +44,7 @@ pub fn put(
     segments: u32,
     calls: u32,
 )
-    requires { ⌜ e < 1024 ⌝ }
+    requires { ⌜ e < 4096 ⌝ }
     ensures { λ _. ⌜ now (memo .exit) ≡ putIn (now (memo .entry)) e (record { place = place; level = level; contents = contents; segments = segments; calls = calls }) ⌝ }
 {
     if memo.len() < 5 * e + 5 {

@@ -9,3 +9,4 @@ pub mod Calls
 pub mod Again
 pub mod Known
 pub mod Plain
+pub mod Lone

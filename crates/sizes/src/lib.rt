@@ -205,7 +205,7 @@ fn with_entry(room: Room, t: Sizes, memo: &[u32], e: usize) -> Sizes
 
 // What the segment at `at` has added on that level, remembered; not where the calls may have been cut.
 fn note(memo: &mut [u32], e: usize, at: usize, level: u8, before: Sizes, after: Sizes)
-    requires { ⌜ e < 1024 ⌝ }
+    requires { ⌜ e < 4096 ⌝ }
     requires { ⌜ (before .contents ≤ after .contents) × (before .segments ≤ after .segments) × (before .calls ≤ after .calls) ⌝ }
     ensures { λ _. ⌜ now (memo .exit) ≡ noteIn (now (memo .entry)) e at level before after ⌝ }
 {
@@ -651,7 +651,7 @@ fn nodes_noted(tape: &[u8], st: store::Store, room: Room, at: usize, count: usiz
     requires { ⌜ at + 49 * count ≤ length (now tape) ⌝ }
     ensures { λ r. ⌜ r ≡ capped room (nodesAdd (now (tape .entry)) st at count) ⌝ }
 {
-    let mut memo = [0u32; 5120];
+    let mut memo = [0u32; 20480];
     nodes_sizes(tape, st, &mut memo[..], room, at, count)
 }
 

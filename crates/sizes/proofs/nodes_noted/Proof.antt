@@ -10,7 +10,7 @@ slice-aggregate-nodes-sizes : tie.Need-slice-aggregate-nodes-sizes
 slice-aggregate-nodes-sizes c = search needs
 
 nodes-sizes-requires : tie.Need-nodes-sizes-requires
-nodes-sizes-requires c κs = ((c .before .before .pre .0, known-none (c .before .before .args .tape .now) (c .before .before .args .st) 5120), c .before .before .pre .1)
+nodes-sizes-requires c κs = ((c .before .before .pre .0, known-none (c .before .before .args .tape .now) (c .before .before .args .st) 20480), c .before .before .pre .1)
 
 returns : tie.Need-returns
 returns c = search needs
