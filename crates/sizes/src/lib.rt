@@ -25,8 +25,8 @@ ghost use Rattle.sizes.specs.Added.{Added};
 ghost use Rattle.sizes.specs.Again.{times};
 ghost use Rattle.sizes.specs.Calls.{Limited};
 ghost use Rattle.sizes.specs.Known.{Known, addedIn, noteIn};
-ghost use Rattle.sizes.specs.Plain.{Whole, plainRun, plainRuby, plainAdds};
-ghost use Rattle.sizes.specs.Plain.{isPlain};
+ghost use Rattle.sizes.specs.Plain.{Whole, isPlain, plainRun, plainRuby, plainAdds};
+ghost use Rattle.sizes.specs.Lone.{lonePlace};
 ghost use Rattle.sizes.specs.InPlace.{contentCount, segmentCount, fieldWords, stringAdds, usedAdds, innerAdds, bodyAdds};
 ghost use Rattle.sizes.specs.InPlace.{contentAdds, contentsAdd, contentRunAdds, segmentsAdd, segmentRunAdds, nodeAdds, nodesAdd};
 
@@ -336,7 +336,23 @@ fn contents_walk(
     u
 }
 
-// Section 5. Plain is a string, Segments a run.
+// Where segment i of a store of one layer stands, 0 for any other. By single fields of the store, which costs no copy of it.
+fn lone_place(st: store::Store, i: u32) -> usize
+    ensures { λ r. ⌜ r ≡ lonePlace st i ⌝ }
+{
+    if st.layers != 1 {
+        return 0;
+    }
+    if st.segments[0] != 0 {
+        return 0;
+    }
+    if st.totals.segments <= i {
+        return 0;
+    }
+    10 + 5 * wide(st.totals.strings) + 10 * wide(st.totals.contents) + 37 * wide(i)
+}
+
+// Section 5. Plain is a string, Segments a run; one of a single segment is that segment.
 fn content_sizes(
     tape: &[u8],
     st: store::Store,
@@ -355,7 +371,18 @@ fn content_sizes(
     if c.tag == 0 {
         return with_added(room, t, 0, 0, 1);
     }
-    segment_run_sizes(tape, st, memo, room, t, c.first, c.second, level)
+    if c.second != 1 {
+        return segment_run_sizes(tape, st, memo, room, t, c.first, c.second, level);
+    }
+    let place = lone_place(st, c.first);
+    if place == 0 {
+        return segment_run_sizes(tape, st, memo, room, t, c.first, c.second, level);
+    }
+    let u = with_added(room, t, 0, 1, 0);
+    if u.over {
+        return u;
+    }
+    segment_sizes(tape, st, memo, room, u, place, level)
 }
 
 // Section 5. A run of segments that a body of that level names, with what is pushed before it.
@@ -418,8 +445,7 @@ fn segments_walk(
     u
 }
 
-// The body of a segment is of the level below; below level 0 there is none. A text is one call; any other body is walked once, unless its
-// entry was taken by another.
+// The body of a segment is of the level below; below level 0 there is none. A text is one call; what is in the memo is not walked again.
 fn segment_sizes(
     tape: &[u8],
     st: store::Store,
@@ -444,6 +470,25 @@ fn segment_sizes(
     if memo::is_of(memo, e, at, level) {
         return with_entry(room, t, memo, e);
     }
+    segment_walk(tape, st, memo, room, t, at, level, e)
+}
+
+// The same by a walk, which is put into the memo as entry e.
+fn segment_walk(
+    tape: &[u8],
+    st: store::Store,
+    memo: &mut [u32],
+    room: Room,
+    t: Sizes,
+    at: usize,
+    level: u8,
+    e: usize,
+) -> Sizes
+    requires { ⌜ OfTape (now tape) st × Known (now tape) st (now memo) ⌝ }
+    requires { ⌜ Kept room t ⌝ }
+    requires { ⌜ (at + 37 ≤ length (now tape)) × (1 ≤ level) × (e < 4096) ⌝ }
+    ensures { λ r. ⌜ (r ≡ plus room t (innerAdds level (now (tape .entry)) st (recordAt segmentCodec (now (tape .entry)) at .body))) × Known (now (tape .entry)) st (now (memo .exit)) ⌝ }
+{
     let r = body_sizes(tape, st, memo, room, t, at + 3, level - 1);
     if r.over {
         return r;

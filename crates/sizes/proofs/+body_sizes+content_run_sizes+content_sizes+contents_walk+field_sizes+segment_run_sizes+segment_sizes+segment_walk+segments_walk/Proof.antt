@@ -3,6 +3,7 @@ use Prim.Native.Nat.{ℕ, _+_, _-_, _*_, _<_}
 use Rattle.records.specs.Values.{bodyAt, contentOf}
 use Rattle.model.specs.Tape.{recordAt, segmentCodec}
 use Rattle.memo.specs.Memo.{is-there}
+use Rattle.sizes.specs.Lone.{lone-inside, lone-over, lone-then}
 use Rattle.sizes.specs.Known.{Known, known-adds, known-note, text-adds}
 use Rattle.sizes.specs.Answers.{contents-over, contents-empty, contents-then, segments-over, segments-empty, segments-then, segment-last, segment-below}
 use Rattle.sizes.specs.Answers.{body-sum, place-read, used-contents, used-segments, used-string, content-plain, content-segments}
@@ -17,28 +18,31 @@ use borrow.Fn.Kinds.{In}
 use borrow.Fn.PlainCycle.{Measures, is, falls, and}
 use Rattle.sizes.proofs.body_sizes.Reads as body-sizes
 use Rattle.sizes.proofs.body_sizes.Kinds as body-sizes-kinds
-use Rattle.sizes.proofs.+body_sizes+content_run_sizes+content_sizes+contents_walk+field_sizes+segment_run_sizes+segment_sizes+segments_walk.Lts-body_sizes as body-sizes-lts
+use Rattle.sizes.proofs.+body_sizes+content_run_sizes+content_sizes+contents_walk+field_sizes+segment_run_sizes+segment_sizes+segment_walk+segments_walk.Lts-body_sizes as body-sizes-lts
 use Rattle.sizes.proofs.content_run_sizes.Reads as content-run-sizes
 use Rattle.sizes.proofs.content_run_sizes.Kinds as content-run-sizes-kinds
-use Rattle.sizes.proofs.+body_sizes+content_run_sizes+content_sizes+contents_walk+field_sizes+segment_run_sizes+segment_sizes+segments_walk.Lts-content_run_sizes as content-run-sizes-lts
+use Rattle.sizes.proofs.+body_sizes+content_run_sizes+content_sizes+contents_walk+field_sizes+segment_run_sizes+segment_sizes+segment_walk+segments_walk.Lts-content_run_sizes as content-run-sizes-lts
 use Rattle.sizes.proofs.content_sizes.Reads as content-sizes
 use Rattle.sizes.proofs.content_sizes.Kinds as content-sizes-kinds
-use Rattle.sizes.proofs.+body_sizes+content_run_sizes+content_sizes+contents_walk+field_sizes+segment_run_sizes+segment_sizes+segments_walk.Lts-content_sizes as content-sizes-lts
+use Rattle.sizes.proofs.+body_sizes+content_run_sizes+content_sizes+contents_walk+field_sizes+segment_run_sizes+segment_sizes+segment_walk+segments_walk.Lts-content_sizes as content-sizes-lts
 use Rattle.sizes.proofs.contents_walk.Reads as contents-walk
 use Rattle.sizes.proofs.contents_walk.Kinds as contents-walk-kinds
-use Rattle.sizes.proofs.+body_sizes+content_run_sizes+content_sizes+contents_walk+field_sizes+segment_run_sizes+segment_sizes+segments_walk.Lts-contents_walk as contents-walk-lts
+use Rattle.sizes.proofs.+body_sizes+content_run_sizes+content_sizes+contents_walk+field_sizes+segment_run_sizes+segment_sizes+segment_walk+segments_walk.Lts-contents_walk as contents-walk-lts
 use Rattle.sizes.proofs.field_sizes.Reads as field-sizes
 use Rattle.sizes.proofs.field_sizes.Kinds as field-sizes-kinds
-use Rattle.sizes.proofs.+body_sizes+content_run_sizes+content_sizes+contents_walk+field_sizes+segment_run_sizes+segment_sizes+segments_walk.Lts-field_sizes as field-sizes-lts
+use Rattle.sizes.proofs.+body_sizes+content_run_sizes+content_sizes+contents_walk+field_sizes+segment_run_sizes+segment_sizes+segment_walk+segments_walk.Lts-field_sizes as field-sizes-lts
 use Rattle.sizes.proofs.segment_run_sizes.Reads as segment-run-sizes
 use Rattle.sizes.proofs.segment_run_sizes.Kinds as segment-run-sizes-kinds
-use Rattle.sizes.proofs.+body_sizes+content_run_sizes+content_sizes+contents_walk+field_sizes+segment_run_sizes+segment_sizes+segments_walk.Lts-segment_run_sizes as segment-run-sizes-lts
+use Rattle.sizes.proofs.+body_sizes+content_run_sizes+content_sizes+contents_walk+field_sizes+segment_run_sizes+segment_sizes+segment_walk+segments_walk.Lts-segment_run_sizes as segment-run-sizes-lts
 use Rattle.sizes.proofs.segment_sizes.Reads as segment-sizes
 use Rattle.sizes.proofs.segment_sizes.Kinds as segment-sizes-kinds
-use Rattle.sizes.proofs.+body_sizes+content_run_sizes+content_sizes+contents_walk+field_sizes+segment_run_sizes+segment_sizes+segments_walk.Lts-segment_sizes as segment-sizes-lts
+use Rattle.sizes.proofs.+body_sizes+content_run_sizes+content_sizes+contents_walk+field_sizes+segment_run_sizes+segment_sizes+segment_walk+segments_walk.Lts-segment_sizes as segment-sizes-lts
+use Rattle.sizes.proofs.segment_walk.Reads as segment-walk
+use Rattle.sizes.proofs.segment_walk.Kinds as segment-walk-kinds
+use Rattle.sizes.proofs.+body_sizes+content_run_sizes+content_sizes+contents_walk+field_sizes+segment_run_sizes+segment_sizes+segment_walk+segments_walk.Lts-segment_walk as segment-walk-lts
 use Rattle.sizes.proofs.segments_walk.Reads as segments-walk
 use Rattle.sizes.proofs.segments_walk.Kinds as segments-walk-kinds
-use Rattle.sizes.proofs.+body_sizes+content_run_sizes+content_sizes+contents_walk+field_sizes+segment_run_sizes+segment_sizes+segments_walk.Lts-segments_walk as segments-walk-lts
+use Rattle.sizes.proofs.+body_sizes+content_run_sizes+content_sizes+contents_walk+field_sizes+segment_run_sizes+segment_sizes+segment_walk+segments_walk.Lts-segments_walk as segments-walk-lts
 use Rattle.alike.proofs.contents_alike.Reads as contents-alike-reads
 use Rattle.alike.proofs.segments_alike.Reads as segments-alike-reads
 use Rattle.memo.proofs.entry_of.Reads as entry-of-reads
@@ -47,6 +51,7 @@ use Rattle.records.proofs.content_at.Reads as content-at-reads
 use Rattle.sizes.proofs.again.Reads as again-reads
 use Rattle.sizes.proofs.content_count.Reads as content-count-reads
 use Rattle.sizes.proofs.field_at.Reads as field-at-reads
+use Rattle.sizes.proofs.lone_place.Reads as lone-place-reads
 use Rattle.sizes.proofs.note.Reads as note-reads
 use Rattle.sizes.proofs.segment_count.Reads as segment-count-reads
 use Rattle.sizes.proofs.string_sizes.Reads as string-sizes-reads
@@ -54,36 +59,39 @@ use Rattle.sizes.proofs.with_added.Reads as with-added-reads
 use Rattle.sizes.proofs.with_entry.Reads as with-entry-reads
 use Rattle.store.proofs.content_place.Reads as content-place-reads
 use Rattle.store.proofs.segment_place.Reads as segment-place-reads
-use Rattle.sizes.proofs.+body_sizes+content_run_sizes+content_sizes+contents_walk+field_sizes+segment_run_sizes+segment_sizes+segments_walk.{
+use Rattle.sizes.proofs.+body_sizes+content_run_sizes+content_sizes+contents_walk+field_sizes+segment_run_sizes+segment_sizes+segment_walk+segments_walk.{
   statement,
 }
-use Rattle.sizes.proofs.+body_sizes+content_run_sizes+content_sizes+contents_walk+field_sizes+segment_run_sizes+segment_sizes+segments_walk.Tie.{
+use Rattle.sizes.proofs.+body_sizes+content_run_sizes+content_sizes+contents_walk+field_sizes+segment_run_sizes+segment_sizes+segment_walk+segments_walk.Tie.{
   close,
 }
 
 abbrev μ-body-sizes : Measures 2 body-sizes-kinds.ps ℕ
-μ-body-sizes κs a = a .1 .1 .1 .1 .1 .1 .0 * 8 + 7
+μ-body-sizes κs a = a .1 .1 .1 .1 .1 .1 .0 * 9 + 8
 
 abbrev μ-content-run-sizes : Measures 2 content-run-sizes-kinds.ps ℕ
-μ-content-run-sizes κs a = a .1 .1 .1 .1 .1 .1 .1 .0 * 8 + 5
+μ-content-run-sizes κs a = a .1 .1 .1 .1 .1 .1 .1 .0 * 9 + 6
 
 abbrev μ-content-sizes : Measures 2 content-sizes-kinds.ps ℕ
-μ-content-sizes κs a = a .1 .1 .1 .1 .1 .1 .0 * 8 + 3
+μ-content-sizes κs a = a .1 .1 .1 .1 .1 .1 .0 * 9 + 4
 
 abbrev μ-contents-walk : Measures 2 contents-walk-kinds.ps ℕ
-μ-contents-walk κs a = a .1 .1 .1 .1 .1 .1 .1 .0 * 8 + 4
+μ-contents-walk κs a = a .1 .1 .1 .1 .1 .1 .1 .0 * 9 + 5
 
 abbrev μ-field-sizes : Measures 2 field-sizes-kinds.ps ℕ
-μ-field-sizes κs a = a .1 .1 .1 .1 .1 .1 .0 * 8 + 6
+μ-field-sizes κs a = a .1 .1 .1 .1 .1 .1 .0 * 9 + 7
 
 abbrev μ-segment-run-sizes : Measures 2 segment-run-sizes-kinds.ps ℕ
-μ-segment-run-sizes κs a = a .1 .1 .1 .1 .1 .1 .1 .0 * 8 + 2
+μ-segment-run-sizes κs a = a .1 .1 .1 .1 .1 .1 .1 .0 * 9 + 3
 
 abbrev μ-segment-sizes : Measures 2 segment-sizes-kinds.ps ℕ
-μ-segment-sizes κs a = a .1 .1 .1 .1 .1 .1 .0 * 8 + 0
+μ-segment-sizes κs a = a .1 .1 .1 .1 .1 .1 .0 * 9 + 1
+
+abbrev μ-segment-walk : Measures 2 segment-walk-kinds.ps ℕ
+μ-segment-walk κs a = a .1 .1 .1 .1 .1 .1 .0 * 9 + 0
 
 abbrev μ-segments-walk : Measures 2 segments-walk-kinds.ps ℕ
-μ-segments-walk κs a = a .1 .1 .1 .1 .1 .1 .1 .0 * 8 + 1
+μ-segments-walk κs a = a .1 .1 .1 .1 .1 .1 .1 .0 * 9 + 2
 
 abbrev body-sizes-at : ℕ → In 2 body-sizes-kinds.ps
 body-sizes-at t =
@@ -168,6 +176,18 @@ segment-sizes-below t =
     segment-sizes-kinds.ps
     (falls 2 segment-sizes-kinds.ps _<_ μ-segment-sizes t)
     segment-sizes.Pre
+
+abbrev segment-walk-at : ℕ → In 2 segment-walk-kinds.ps
+segment-walk-at t =
+    and 2 segment-walk-kinds.ps (is 2 segment-walk-kinds.ps μ-segment-walk t) segment-walk.Pre
+
+abbrev segment-walk-below : ℕ → In 2 segment-walk-kinds.ps
+segment-walk-below t =
+    and
+    2
+    segment-walk-kinds.ps
+    (falls 2 segment-walk-kinds.ps _<_ μ-segment-walk t)
+    segment-walk.Pre
 
 abbrev segments-walk-at : ℕ → In 2 segments-walk-kinds.ps
 segments-walk-at t =
@@ -385,6 +405,10 @@ content-sizes-content-at-requires : (t : ℕ) → content-sizes-lts.Need-content
   with-added-reads.Learnt,
   segment-run-sizes-below t,
   segment-run-sizes.Post,
+  lone-place-reads.Asked,
+  lone-place-reads.Learnt,
+  segment-sizes-below t,
+  segment-sizes.Post,
 ) (content-sizes-at t) content-sizes.Post
 content-sizes-content-at-requires t c κs = omega (arith, c .before .before .pre .1 .1 .1)
 
@@ -395,6 +419,10 @@ content-sizes-with-added-requires : (t : ℕ) → content-sizes-lts.Need-with-ad
   with-added-reads.Learnt,
   segment-run-sizes-below t,
   segment-run-sizes.Post,
+  lone-place-reads.Asked,
+  lone-place-reads.Learnt,
+  segment-sizes-below t,
+  segment-sizes.Post,
 ) (content-sizes-at t) content-sizes.Post
 content-sizes-with-added-requires t c κs = search needs
 
@@ -405,6 +433,10 @@ content-sizes-returns : (t : ℕ) → content-sizes-lts.Need-returns (
   with-added-reads.Learnt,
   segment-run-sizes-below t,
   segment-run-sizes.Post,
+  lone-place-reads.Asked,
+  lone-place-reads.Learnt,
+  segment-sizes-below t,
+  segment-sizes.Post,
 ) (content-sizes-at t) content-sizes.Post
 content-sizes-returns t c = (content-plain (c .before .before .before .before .before .before .args .room) (c .before .before .before .before .before .before .args .t) (innerAdds (c .before .before .before .before .before .before .args .level) (c .before .before .before .before .before .before .args .tape .now) (c .before .before .before .before .before .before .args .st)) (c .before .before .before .before .before .before .args .tape .now) (c .before .before .before .before .before .before .args .st) (contentOf (c .before .before .before .content-at .result)) (c .before .before .before .content-at .ensures) (c .before .if1 .taken) (c .with-added .ensures), c .before .before .before .before .before .before .pre .1 .0 .1)
 
@@ -416,8 +448,12 @@ content-sizes-segment-run-sizes-requires :
       with-added-reads.Learnt,
       segment-run-sizes-below t,
       segment-run-sizes.Post,
+      lone-place-reads.Asked,
+      lone-place-reads.Learnt,
+      segment-sizes-below t,
+      segment-sizes.Post,
     ) (content-sizes-at t) content-sizes.Post
-content-sizes-segment-run-sizes-requires t c κs = (omega arith, ((c .before .before .before .before .before .before .pre .1 .0 .0, c .before .before .before .before .before .before .pre .1 .0 .1), c .before .before .before .before .before .before .pre .1 .1 .0))
+content-sizes-segment-run-sizes-requires t c κs = (omega arith, ((c .before .before .before .before .before .before .before .before .pre .1 .0 .0, c .before .before .before .before .before .before .before .before .pre .1 .0 .1), c .before .before .before .before .before .before .before .before .pre .1 .1 .0))
 
 content-sizes-same-length : (t : ℕ) → content-sizes-lts.Need-same-length (
   content-at-reads.Asked,
@@ -426,6 +462,10 @@ content-sizes-same-length : (t : ℕ) → content-sizes-lts.Need-same-length (
   with-added-reads.Learnt,
   segment-run-sizes-below t,
   segment-run-sizes.Post,
+  lone-place-reads.Asked,
+  lone-place-reads.Learnt,
+  segment-sizes-below t,
+  segment-sizes.Post,
 ) (content-sizes-at t) content-sizes.Post
 content-sizes-same-length t c = search needs
 
@@ -436,8 +476,139 @@ content-sizes-returns-2 : (t : ℕ) → content-sizes-lts.Need-returns-2 (
   with-added-reads.Learnt,
   segment-run-sizes-below t,
   segment-run-sizes.Post,
+  lone-place-reads.Asked,
+  lone-place-reads.Learnt,
+  segment-sizes-below t,
+  segment-sizes.Post,
 ) (content-sizes-at t) content-sizes.Post
-content-sizes-returns-2 t c = (content-segments (c .before .before .before .before .before .before .before .before .before .args .room) (c .before .before .before .before .before .before .before .before .before .args .t) (innerAdds (c .before .before .before .before .before .before .before .before .before .args .level) (c .before .before .before .before .before .before .before .before .before .args .tape .now) (c .before .before .before .before .before .before .before .before .before .args .st)) (c .before .before .before .before .before .before .before .before .before .args .tape .now) (c .before .before .before .before .before .before .before .before .before .args .st) (contentOf (c .before .before .before .before .before .before .content-at .result)) (c .before .before .before .before .before .before .content-at .ensures) (c .before .before .before .before .if1 .left) (c .before .before .segment-run-sizes .ensures .0), c .before .before .segment-run-sizes .ensures .1)
+content-sizes-returns-2 t c = (content-segments (c .before .before .before .before .before .before .before .before .before .before .before .args .room) (c .before .before .before .before .before .before .before .before .before .before .before .args .t) (innerAdds (c .before .before .before .before .before .before .before .before .before .before .before .args .level) (c .before .before .before .before .before .before .before .before .before .before .before .args .tape .now) (c .before .before .before .before .before .before .before .before .before .before .before .args .st)) (c .before .before .before .before .before .before .before .before .before .before .before .args .tape .now) (c .before .before .before .before .before .before .before .before .before .before .before .args .st) (contentOf (c .before .before .before .before .before .before .before .before .content-at .result)) (c .before .before .before .before .before .before .before .before .content-at .ensures) (c .before .before .before .before .before .before .if1 .left) (c .before .before .segment-run-sizes .ensures .0), c .before .before .segment-run-sizes .ensures .1)
+
+content-sizes-lone-place-requires : (t : ℕ) → content-sizes-lts.Need-lone-place-requires (
+  content-at-reads.Asked,
+  content-at-reads.Learnt,
+  with-added-reads.Asked,
+  with-added-reads.Learnt,
+  segment-run-sizes-below t,
+  segment-run-sizes.Post,
+  lone-place-reads.Asked,
+  lone-place-reads.Learnt,
+  segment-sizes-below t,
+  segment-sizes.Post,
+) (content-sizes-at t) content-sizes.Post
+content-sizes-lone-place-requires t c κs = search needs
+
+content-sizes-segment-run-sizes-requires-2 :
+    (t : ℕ) → content-sizes-lts.Need-segment-run-sizes-requires-2 (
+      content-at-reads.Asked,
+      content-at-reads.Learnt,
+      with-added-reads.Asked,
+      with-added-reads.Learnt,
+      segment-run-sizes-below t,
+      segment-run-sizes.Post,
+      lone-place-reads.Asked,
+      lone-place-reads.Learnt,
+      segment-sizes-below t,
+      segment-sizes.Post,
+    ) (content-sizes-at t) content-sizes.Post
+content-sizes-segment-run-sizes-requires-2 t c κs = (omega arith, ((c .before .before .before .before .before .before .before .before .before .before .pre .1 .0 .0, c .before .before .before .before .before .before .before .before .before .before .pre .1 .0 .1), c .before .before .before .before .before .before .before .before .before .before .pre .1 .1 .0))
+
+content-sizes-same-length-2 : (t : ℕ) → content-sizes-lts.Need-same-length-2 (
+  content-at-reads.Asked,
+  content-at-reads.Learnt,
+  with-added-reads.Asked,
+  with-added-reads.Learnt,
+  segment-run-sizes-below t,
+  segment-run-sizes.Post,
+  lone-place-reads.Asked,
+  lone-place-reads.Learnt,
+  segment-sizes-below t,
+  segment-sizes.Post,
+) (content-sizes-at t) content-sizes.Post
+content-sizes-same-length-2 t c = search needs
+
+content-sizes-returns-3 : (t : ℕ) → content-sizes-lts.Need-returns-3 (
+  content-at-reads.Asked,
+  content-at-reads.Learnt,
+  with-added-reads.Asked,
+  with-added-reads.Learnt,
+  segment-run-sizes-below t,
+  segment-run-sizes.Post,
+  lone-place-reads.Asked,
+  lone-place-reads.Learnt,
+  segment-sizes-below t,
+  segment-sizes.Post,
+) (content-sizes-at t) content-sizes.Post
+content-sizes-returns-3 t c = (content-segments (c .before .before .before .before .before .before .before .before .before .before .before .before .before .args .room) (c .before .before .before .before .before .before .before .before .before .before .before .before .before .args .t) (innerAdds (c .before .before .before .before .before .before .before .before .before .before .before .before .before .args .level) (c .before .before .before .before .before .before .before .before .before .before .before .before .before .args .tape .now) (c .before .before .before .before .before .before .before .before .before .before .before .before .before .args .st)) (c .before .before .before .before .before .before .before .before .before .before .before .before .before .args .tape .now) (c .before .before .before .before .before .before .before .before .before .before .before .before .before .args .st) (contentOf (c .before .before .before .before .before .before .before .before .before .before .content-at .result)) (c .before .before .before .before .before .before .before .before .before .before .content-at .ensures) (c .before .before .before .before .before .before .before .before .if1 .left) (c .before .before .segment-run-sizes2 .ensures .0), c .before .before .segment-run-sizes2 .ensures .1)
+
+content-sizes-with-added-requires-2 : (t : ℕ) → content-sizes-lts.Need-with-added-requires-2 (
+  content-at-reads.Asked,
+  content-at-reads.Learnt,
+  with-added-reads.Asked,
+  with-added-reads.Learnt,
+  segment-run-sizes-below t,
+  segment-run-sizes.Post,
+  lone-place-reads.Asked,
+  lone-place-reads.Learnt,
+  segment-sizes-below t,
+  segment-sizes.Post,
+) (content-sizes-at t) content-sizes.Post
+content-sizes-with-added-requires-2 t c κs = search needs
+
+content-sizes-returns-4 : (t : ℕ) → content-sizes-lts.Need-returns-4 (
+  content-at-reads.Asked,
+  content-at-reads.Learnt,
+  with-added-reads.Asked,
+  with-added-reads.Learnt,
+  segment-run-sizes-below t,
+  segment-run-sizes.Post,
+  lone-place-reads.Asked,
+  lone-place-reads.Learnt,
+  segment-sizes-below t,
+  segment-sizes.Post,
+) (content-sizes-at t) content-sizes.Post
+content-sizes-returns-4 t c = (content-segments (c .before .before .before .before .before .before .before .before .before .before .before .args .room) (c .before .before .before .before .before .before .before .before .before .before .before .args .t) (innerAdds (c .before .before .before .before .before .before .before .before .before .before .before .args .level) (c .before .before .before .before .before .before .before .before .before .before .before .args .tape .now) (c .before .before .before .before .before .before .before .before .before .before .before .args .st)) (c .before .before .before .before .before .before .before .before .before .before .before .args .tape .now) (c .before .before .before .before .before .before .before .before .before .before .before .args .st) (contentOf (c .before .before .before .before .before .before .before .before .content-at .result)) (c .before .before .before .before .before .before .before .before .content-at .ensures) (c .before .before .before .before .before .before .if1 .left) (lone-over (c .before .before .before .before .before .before .before .before .before .before .before .args .room) (c .before .before .before .before .before .before .before .before .before .before .before .args .t) (innerAdds (c .before .before .before .before .before .before .before .before .before .before .before .args .level) (c .before .before .before .before .before .before .before .before .before .before .before .args .tape .now) (c .before .before .before .before .before .before .before .before .before .before .before .args .st)) (c .before .before .before .before .before .before .before .before .before .before .before .args .tape .now) (c .before .before .before .before .before .before .before .before .before .before .before .args .st) (c .before .before .before .before .before .before .before .before .content-at .result .first) (c .before .before .before .before .before .before .before .before .content-at .result .second) (c .before .before .before .lone-place .result) (c .before .before .before .before .if2 .left) (c .before .before .before .lone-place .ensures) (c .before .before .if3 .left) (c .before .with-added2 .ensures) (c .if4 .taken)), c .before .before .before .before .before .before .before .before .before .before .before .pre .1 .0 .1)
+
+content-sizes-segment-sizes-requires : (t : ℕ) → content-sizes-lts.Need-segment-sizes-requires (
+  content-at-reads.Asked,
+  content-at-reads.Learnt,
+  with-added-reads.Asked,
+  with-added-reads.Learnt,
+  segment-run-sizes-below t,
+  segment-run-sizes.Post,
+  lone-place-reads.Asked,
+  lone-place-reads.Learnt,
+  segment-sizes-below t,
+  segment-sizes.Post,
+) (content-sizes-at t) content-sizes.Post
+content-sizes-segment-sizes-requires t c κs = (omega arith, ((c .before .before .before .before .before .before .before .before .before .before .before .before .pre .1 .0 .0, c .before .before .before .before .before .before .before .before .before .before .before .before .pre .1 .0 .1), (kept-plus (c .before .before .before .before .before .before .before .before .before .before .before .before .args .t) (newSegments 1) (c .before .before .with-added2 .ensures), lone-inside (c .before .before .before .before .before .before .before .before .before .before .before .before .args .room) (c .before .before .before .before .before .before .before .before .before .before .before .before .args .t) (innerAdds (c .before .before .before .before .before .before .before .before .before .before .before .before .args .level) (c .before .before .before .before .before .before .before .before .before .before .before .before .args .tape .now) (c .before .before .before .before .before .before .before .before .before .before .before .before .args .st)) (c .before .before .before .before .before .before .before .before .before .before .before .before .args .tape .now) (c .before .before .before .before .before .before .before .before .before .before .before .before .args .st) (c .before .before .before .before .before .before .before .before .before .content-at .result .first) (c .before .before .before .before .before .before .before .before .before .content-at .result .second) (c .before .before .before .before .lone-place .result) (c .before .before .before .before .before .if2 .left) (c .before .before .before .before .lone-place .ensures) (c .before .before .before .if3 .left) (c .before .before .before .before .before .before .before .before .before .before .before .before .pre .1 .0 .0))))
+
+content-sizes-same-length-3 : (t : ℕ) → content-sizes-lts.Need-same-length-3 (
+  content-at-reads.Asked,
+  content-at-reads.Learnt,
+  with-added-reads.Asked,
+  with-added-reads.Learnt,
+  segment-run-sizes-below t,
+  segment-run-sizes.Post,
+  lone-place-reads.Asked,
+  lone-place-reads.Learnt,
+  segment-sizes-below t,
+  segment-sizes.Post,
+) (content-sizes-at t) content-sizes.Post
+content-sizes-same-length-3 t c = search needs
+
+content-sizes-returns-5 : (t : ℕ) → content-sizes-lts.Need-returns-5 (
+  content-at-reads.Asked,
+  content-at-reads.Learnt,
+  with-added-reads.Asked,
+  with-added-reads.Learnt,
+  segment-run-sizes-below t,
+  segment-run-sizes.Post,
+  lone-place-reads.Asked,
+  lone-place-reads.Learnt,
+  segment-sizes-below t,
+  segment-sizes.Post,
+) (content-sizes-at t) content-sizes.Post
+content-sizes-returns-5 t c = (content-segments (c .before .before .before .before .before .before .before .before .before .before .before .before .before .before .before .args .room) (c .before .before .before .before .before .before .before .before .before .before .before .before .before .before .before .args .t) (innerAdds (c .before .before .before .before .before .before .before .before .before .before .before .before .before .before .before .args .level) (c .before .before .before .before .before .before .before .before .before .before .before .before .before .before .before .args .tape .now) (c .before .before .before .before .before .before .before .before .before .before .before .before .before .before .before .args .st)) (c .before .before .before .before .before .before .before .before .before .before .before .before .before .before .before .args .tape .now) (c .before .before .before .before .before .before .before .before .before .before .before .before .before .before .before .args .st) (contentOf (c .before .before .before .before .before .before .before .before .before .before .before .before .content-at .result)) (c .before .before .before .before .before .before .before .before .before .before .before .before .content-at .ensures) (c .before .before .before .before .before .before .before .before .before .before .if1 .left) (lone-then (c .before .before .before .before .before .before .before .before .before .before .before .before .before .before .before .args .room) (c .before .before .before .before .before .before .before .before .before .before .before .before .before .before .before .args .t) (innerAdds (c .before .before .before .before .before .before .before .before .before .before .before .before .before .before .before .args .level) (c .before .before .before .before .before .before .before .before .before .before .before .before .before .before .before .args .tape .now) (c .before .before .before .before .before .before .before .before .before .before .before .before .before .before .before .args .st)) (c .before .before .before .before .before .before .before .before .before .before .before .before .before .before .before .args .tape .now) (c .before .before .before .before .before .before .before .before .before .before .before .before .before .before .before .args .st) (c .before .before .before .before .before .before .before .before .before .before .before .before .content-at .result .first) (c .before .before .before .before .before .before .before .before .before .before .before .before .content-at .result .second) (c .before .before .before .before .before .before .before .lone-place .result) (c .before .before .before .before .before .before .before .before .if2 .left) (c .before .before .before .before .before .before .before .lone-place .ensures) (c .before .before .before .before .before .before .if3 .left) (c .before .before .before .before .before .with-added2 .ensures) (c .before .before .segment-sizes .ensures .0)), c .before .before .segment-sizes .ensures .1)
 
 abbrev contents-walk-Inv-loop : contents-walk-lts.InvT-loop
 contents-walk-Inv-loop tape st memo₀ room at count level u₀ i₀ memo u i = Adding room u₀ (contentFrom (innerAdds level tape st) tape st at) count i u × Known tape st memo × (length memo ≡ length memo₀)
@@ -851,10 +1022,8 @@ segment-sizes-returns : (t : ℕ) → segment-sizes-lts.Need-returns (
   is-of-reads.Learnt,
   with-entry-reads.Asked,
   with-entry-reads.Learnt,
-  body-sizes-below t,
-  body-sizes.Post,
-  note-reads.Asked,
-  note-reads.Learnt,
+  segment-walk-below t,
+  segment-walk.Post,
 ) (segment-sizes-at t) segment-sizes.Post
 segment-sizes-returns t c = (segment-last (c .before .before .before .args .room) (c .before .before .before .args .t) (c .before .before .before .args .tape .now) (c .before .before .before .args .st) (c .before .before .before .args .at) (c .before .before .before .args .level) (c .before .before .before .pre .1 .1 .0) (c .if1 .taken), c .before .before .before .pre .1 .0 .1)
 
@@ -867,10 +1036,8 @@ segment-sizes-add-if2 : (t : ℕ) → segment-sizes-lts.Need-add-if2 (
   is-of-reads.Learnt,
   with-entry-reads.Asked,
   with-entry-reads.Learnt,
-  body-sizes-below t,
-  body-sizes.Post,
-  note-reads.Asked,
-  note-reads.Learnt,
+  segment-walk-below t,
+  segment-walk.Post,
 ) (segment-sizes-at t) segment-sizes.Post
 segment-sizes-add-if2 t c = omega (arith, c .before .before .before .pre .1 .1 .1)
 
@@ -883,10 +1050,8 @@ segment-sizes-shared-slice-read-if2 : (t : ℕ) → segment-sizes-lts.Need-share
   is-of-reads.Learnt,
   with-entry-reads.Asked,
   with-entry-reads.Learnt,
-  body-sizes-below t,
-  body-sizes.Post,
-  note-reads.Asked,
-  note-reads.Learnt,
+  segment-walk-below t,
+  segment-walk.Post,
 ) (segment-sizes-at t) segment-sizes.Post
 segment-sizes-shared-slice-read-if2 t c = omega (arith, c .before .before .before .before .pre .1 .1 .1)
 
@@ -899,10 +1064,8 @@ segment-sizes-with-added-requires : (t : ℕ) → segment-sizes-lts.Need-with-ad
   is-of-reads.Learnt,
   with-entry-reads.Asked,
   with-entry-reads.Learnt,
-  body-sizes-below t,
-  body-sizes.Post,
-  note-reads.Asked,
-  note-reads.Learnt,
+  segment-walk-below t,
+  segment-walk.Post,
 ) (segment-sizes-at t) segment-sizes.Post
 segment-sizes-with-added-requires t c κs = search needs
 
@@ -915,10 +1078,8 @@ segment-sizes-returns-2 : (t : ℕ) → segment-sizes-lts.Need-returns-2 (
   is-of-reads.Learnt,
   with-entry-reads.Asked,
   with-entry-reads.Learnt,
-  body-sizes-below t,
-  body-sizes.Post,
-  note-reads.Asked,
-  note-reads.Learnt,
+  segment-walk-below t,
+  segment-walk.Post,
 ) (segment-sizes-at t) segment-sizes.Post
 segment-sizes-returns-2 t c = (text-adds (c .before .before .before .before .before .before .args .room) (c .before .before .before .before .before .before .args .t) (c .before .before .before .before .before .before .args .tape .now) (c .before .before .before .before .before .before .args .st) (c .before .before .before .before .before .before .args .at) (c .before .before .before .before .before .before .args .level) (c .before .before .before .if1 .left) (c .before .if2 .taken) (c .with-added .ensures), c .before .before .before .before .before .before .pre .1 .0 .1)
 
@@ -931,10 +1092,8 @@ segment-sizes-entry-of-requires : (t : ℕ) → segment-sizes-lts.Need-entry-of-
   is-of-reads.Learnt,
   with-entry-reads.Asked,
   with-entry-reads.Learnt,
-  body-sizes-below t,
-  body-sizes.Post,
-  note-reads.Asked,
-  note-reads.Learnt,
+  segment-walk-below t,
+  segment-walk.Post,
 ) (segment-sizes-at t) segment-sizes.Post
 segment-sizes-entry-of-requires t c κs = search needs
 
@@ -947,10 +1106,8 @@ segment-sizes-is-of-requires : (t : ℕ) → segment-sizes-lts.Need-is-of-requir
   is-of-reads.Learnt,
   with-entry-reads.Asked,
   with-entry-reads.Learnt,
-  body-sizes-below t,
-  body-sizes.Post,
-  note-reads.Asked,
-  note-reads.Learnt,
+  segment-walk-below t,
+  segment-walk.Post,
 ) (segment-sizes-at t) segment-sizes.Post
 segment-sizes-is-of-requires t c κs = c .before .entry-of .ensures
 
@@ -963,10 +1120,8 @@ segment-sizes-with-entry-requires : (t : ℕ) → segment-sizes-lts.Need-with-en
   is-of-reads.Learnt,
   with-entry-reads.Asked,
   with-entry-reads.Learnt,
-  body-sizes-below t,
-  body-sizes.Post,
-  note-reads.Asked,
-  note-reads.Learnt,
+  segment-walk-below t,
+  segment-walk.Post,
 ) (segment-sizes-at t) segment-sizes.Post
 segment-sizes-with-entry-requires t c κs = is-there (c .before .before .before .before .before .before .before .before .before .before .args .memo .now) (c .before .before .before .before .entry-of .result) (c .before .before .before .before .before .before .before .before .before .before .args .at) (c .before .before .before .before .before .before .before .before .before .before .args .level) (sym (c .before .before .is-of .ensures) ∙ c .before .if3 .taken)
 
@@ -979,10 +1134,8 @@ segment-sizes-same-length : (t : ℕ) → segment-sizes-lts.Need-same-length (
   is-of-reads.Learnt,
   with-entry-reads.Asked,
   with-entry-reads.Learnt,
-  body-sizes-below t,
-  body-sizes.Post,
-  note-reads.Asked,
-  note-reads.Learnt,
+  segment-walk-below t,
+  segment-walk.Post,
 ) (segment-sizes-at t) segment-sizes.Post
 segment-sizes-same-length t c = search needs
 
@@ -995,14 +1148,12 @@ segment-sizes-returns-3 : (t : ℕ) → segment-sizes-lts.Need-returns-3 (
   is-of-reads.Learnt,
   with-entry-reads.Asked,
   with-entry-reads.Learnt,
-  body-sizes-below t,
-  body-sizes.Post,
-  note-reads.Asked,
-  note-reads.Learnt,
+  segment-walk-below t,
+  segment-walk.Post,
 ) (segment-sizes-at t) segment-sizes.Post
 segment-sizes-returns-3 t c = (c .with-entry .ensures ∙ ap (plus (c .before .before .before .before .before .before .before .before .before .before .before .args .room) (c .before .before .before .before .before .before .before .before .before .before .before .args .t)) (known-adds (c .before .before .before .before .before .before .before .before .before .before .before .args .memo .now) (c .before .before .before .before .before .before .before .before .before .before .before .pre .1 .0 .1) (c .before .before .before .before .before .entry-of .result) (c .before .before .before .before .before .before .before .before .before .before .before .args .at) (c .before .before .before .before .before .before .before .before .before .before .before .args .level) (sym (c .before .before .before .is-of .ensures) ∙ c .before .before .if3 .taken) (c .before .before .before .before .before .before .before .before .if1 .left)), c .before .before .before .before .before .before .before .before .before .before .before .pre .1 .0 .1)
 
-segment-sizes-add-body-sizes : (t : ℕ) → segment-sizes-lts.Need-add-body-sizes (
+segment-sizes-segment-walk-requires : (t : ℕ) → segment-sizes-lts.Need-segment-walk-requires (
   with-added-reads.Asked,
   with-added-reads.Learnt,
   entry-of-reads.Asked,
@@ -1011,44 +1162,10 @@ segment-sizes-add-body-sizes : (t : ℕ) → segment-sizes-lts.Need-add-body-siz
   is-of-reads.Learnt,
   with-entry-reads.Asked,
   with-entry-reads.Learnt,
-  body-sizes-below t,
-  body-sizes.Post,
-  note-reads.Asked,
-  note-reads.Learnt,
+  segment-walk-below t,
+  segment-walk.Post,
 ) (segment-sizes-at t) segment-sizes.Post
-segment-sizes-add-body-sizes t c = omega (arith, c .before .before .before .before .before .before .before .before .before .before .pre .1 .1 .1)
-
-segment-sizes-sub-body-sizes : (t : ℕ) → segment-sizes-lts.Need-sub-body-sizes (
-  with-added-reads.Asked,
-  with-added-reads.Learnt,
-  entry-of-reads.Asked,
-  entry-of-reads.Learnt,
-  is-of-reads.Asked,
-  is-of-reads.Learnt,
-  with-entry-reads.Asked,
-  with-entry-reads.Learnt,
-  body-sizes-below t,
-  body-sizes.Post,
-  note-reads.Asked,
-  note-reads.Learnt,
-) (segment-sizes-at t) segment-sizes.Post
-segment-sizes-sub-body-sizes t c = omega (arith, c .before .before .before .before .before .before .before .if1 .left)
-
-segment-sizes-body-sizes-requires : (t : ℕ) → segment-sizes-lts.Need-body-sizes-requires (
-  with-added-reads.Asked,
-  with-added-reads.Learnt,
-  entry-of-reads.Asked,
-  entry-of-reads.Learnt,
-  is-of-reads.Asked,
-  is-of-reads.Learnt,
-  with-entry-reads.Asked,
-  with-entry-reads.Learnt,
-  body-sizes-below t,
-  body-sizes.Post,
-  note-reads.Asked,
-  note-reads.Learnt,
-) (segment-sizes-at t) segment-sizes.Post
-segment-sizes-body-sizes-requires t c κs = (omega (arith, c .before .before .before .before .before .before .before .if1 .left), ((c .before .before .before .before .before .before .before .before .before .before .pre .1 .0 .0, c .before .before .before .before .before .before .before .before .before .before .pre .1 .0 .1), (c .before .before .before .before .before .before .before .before .before .before .pre .1 .1 .0, omega (arith, c .before .before .before .before .before .before .before .before .before .before .pre .1 .1 .1))))
+segment-sizes-segment-walk-requires t c κs = (omega arith, ((c .before .before .before .before .before .before .before .before .before .before .pre .1 .0 .0, c .before .before .before .before .before .before .before .before .before .before .pre .1 .0 .1), (c .before .before .before .before .before .before .before .before .before .before .pre .1 .1 .0, (c .before .before .before .before .before .before .before .before .before .before .pre .1 .1 .1, omega (arith, c .before .before .before .before .before .before .before .if1 .left), c .before .before .before .before .entry-of .ensures))))
 
 segment-sizes-same-length-2 : (t : ℕ) → segment-sizes-lts.Need-same-length-2 (
   with-added-reads.Asked,
@@ -1059,10 +1176,8 @@ segment-sizes-same-length-2 : (t : ℕ) → segment-sizes-lts.Need-same-length-2
   is-of-reads.Learnt,
   with-entry-reads.Asked,
   with-entry-reads.Learnt,
-  body-sizes-below t,
-  body-sizes.Post,
-  note-reads.Asked,
-  note-reads.Learnt,
+  segment-walk-below t,
+  segment-walk.Post,
 ) (segment-sizes-at t) segment-sizes.Post
 segment-sizes-same-length-2 t c = search needs
 
@@ -1075,66 +1190,80 @@ segment-sizes-returns-4 : (t : ℕ) → segment-sizes-lts.Need-returns-4 (
   is-of-reads.Learnt,
   with-entry-reads.Asked,
   with-entry-reads.Learnt,
-  body-sizes-below t,
-  body-sizes.Post,
-  note-reads.Asked,
-  note-reads.Learnt,
+  segment-walk-below t,
+  segment-walk.Post,
 ) (segment-sizes-at t) segment-sizes.Post
-segment-sizes-returns-4 t c = (segment-below (c .before .before .before .before .before .before .before .before .before .before .before .before .before .before .args .room) (c .before .before .before .before .before .before .before .before .before .before .before .before .before .before .args .t) (c .before .before .before .before .before .before .before .before .before .before .before .before .before .before .args .tape .now) (c .before .before .before .before .before .before .before .before .before .before .before .before .before .before .args .st) (c .before .before .before .before .before .before .before .before .before .before .before .before .before .before .args .at) (c .before .before .before .before .before .before .before .before .before .before .before .before .before .before .args .level) (c .before .before .before .before .before .before .before .before .before .before .before .if1 .left) (c .before .before .before .body-sizes .ensures .0), c .before .before .before .body-sizes .ensures .1)
+segment-sizes-returns-4 t c = (c .before .before .segment-walk .ensures .0, c .before .before .segment-walk .ensures .1)
 
-segment-sizes-note-requires : (t : ℕ) → segment-sizes-lts.Need-note-requires (
-  with-added-reads.Asked,
-  with-added-reads.Learnt,
-  entry-of-reads.Asked,
-  entry-of-reads.Learnt,
-  is-of-reads.Asked,
-  is-of-reads.Learnt,
-  with-entry-reads.Asked,
-  with-entry-reads.Learnt,
+segment-walk-add-body-sizes : (t : ℕ) → segment-walk-lts.Need-add-body-sizes (
   body-sizes-below t,
   body-sizes.Post,
   note-reads.Asked,
   note-reads.Learnt,
-) (segment-sizes-at t) segment-sizes.Post
-segment-sizes-note-requires t c κs = let on = c .before .if4 .left in
-    let e = segment-below (c .before .before .before .before .before .before .before .before .before .before .before .before .before .before .before .args .room) (c .before .before .before .before .before .before .before .before .before .before .before .before .before .before .before .args .t) (c .before .before .before .before .before .before .before .before .before .before .before .before .before .before .before .args .tape .now) (c .before .before .before .before .before .before .before .before .before .before .before .before .before .before .before .args .st) (c .before .before .before .before .before .before .before .before .before .before .before .before .before .before .before .args .at) (c .before .before .before .before .before .before .before .before .before .before .before .before .before .before .before .args .level) (c .before .before .before .before .before .before .before .before .before .before .before .before .if1 .left) (c .before .before .before .before .body-sizes .ensures .0) in
-    let going = going-before (c .before .before .before .before .before .before .before .before .before .before .before .before .before .before .before .args .room) (c .before .before .before .before .before .before .before .before .before .before .before .before .before .before .before .args .t) (innerAdds (c .before .before .before .before .before .before .before .before .before .before .before .before .before .before .before .args .level) (c .before .before .before .before .before .before .before .before .before .before .before .before .before .before .before .args .tape .now) (c .before .before .before .before .before .before .before .before .before .before .before .before .before .before .before .args .st) (recordAt segmentCodec (c .before .before .before .before .before .before .before .before .before .before .before .before .before .before .before .args .tape .now) (c .before .before .before .before .before .before .before .before .before .before .before .before .before .before .before .args .at) .body)) e on in
-    (c .before .before .before .before .before .before .before .before .before .entry-of .ensures, grown (c .before .before .before .before .before .before .before .before .before .before .before .before .before .before .before .args .room) (c .before .before .before .before .before .before .before .before .before .before .before .before .before .before .before .args .t) (c .before .before .before .before .body-sizes .result) (innerAdds (c .before .before .before .before .before .before .before .before .before .before .before .before .before .before .before .args .level) (c .before .before .before .before .before .before .before .before .before .before .before .before .before .before .before .args .tape .now) (c .before .before .before .before .before .before .before .before .before .before .before .before .before .before .before .args .st) (recordAt segmentCodec (c .before .before .before .before .before .before .before .before .before .before .before .before .before .before .before .args .tape .now) (c .before .before .before .before .before .before .before .before .before .before .before .before .before .before .before .args .at) .body)) going on e (kept-high (c .before .before .before .before .before .before .before .before .before .before .before .before .before .before .before .pre .1 .1 .0) going))
+) (segment-walk-at t) segment-walk.Post
+segment-walk-add-body-sizes t c = omega (arith, c .before .before .before .pre .1 .1 .1 .0)
 
-segment-sizes-same-length-3 : (t : ℕ) → segment-sizes-lts.Need-same-length-3 (
-  with-added-reads.Asked,
-  with-added-reads.Learnt,
-  entry-of-reads.Asked,
-  entry-of-reads.Learnt,
-  is-of-reads.Asked,
-  is-of-reads.Learnt,
-  with-entry-reads.Asked,
-  with-entry-reads.Learnt,
+segment-walk-sub-body-sizes : (t : ℕ) → segment-walk-lts.Need-sub-body-sizes (
   body-sizes-below t,
   body-sizes.Post,
   note-reads.Asked,
   note-reads.Learnt,
-) (segment-sizes-at t) segment-sizes.Post
-segment-sizes-same-length-3 t c = search needs
+) (segment-walk-at t) segment-walk.Post
+segment-walk-sub-body-sizes t c = omega (arith, c .before .before .before .pre .1 .1 .1 .1)
 
-segment-sizes-returns-5 : (t : ℕ) → segment-sizes-lts.Need-returns-5 (
-  with-added-reads.Asked,
-  with-added-reads.Learnt,
-  entry-of-reads.Asked,
-  entry-of-reads.Learnt,
-  is-of-reads.Asked,
-  is-of-reads.Learnt,
-  with-entry-reads.Asked,
-  with-entry-reads.Learnt,
+segment-walk-body-sizes-requires : (t : ℕ) → segment-walk-lts.Need-body-sizes-requires (
   body-sizes-below t,
   body-sizes.Post,
   note-reads.Asked,
   note-reads.Learnt,
-) (segment-sizes-at t) segment-sizes.Post
-segment-sizes-returns-5 t c = let on = c .before .before .before .before .if4 .left in
-    let e = segment-below (c .before .before .before .before .before .before .before .before .before .before .before .before .before .before .before .before .before .before .args .room) (c .before .before .before .before .before .before .before .before .before .before .before .before .before .before .before .before .before .before .args .t) (c .before .before .before .before .before .before .before .before .before .before .before .before .before .before .before .before .before .before .args .tape .now) (c .before .before .before .before .before .before .before .before .before .before .before .before .before .before .before .before .before .before .args .st) (c .before .before .before .before .before .before .before .before .before .before .before .before .before .before .before .before .before .before .args .at) (c .before .before .before .before .before .before .before .before .before .before .before .before .before .before .before .before .before .before .args .level) (c .before .before .before .before .before .before .before .before .before .before .before .before .before .before .before .if1 .left) (c .before .before .before .before .before .before .before .body-sizes .ensures .0) in
-    let going = going-before (c .before .before .before .before .before .before .before .before .before .before .before .before .before .before .before .before .before .before .args .room) (c .before .before .before .before .before .before .before .before .before .before .before .before .before .before .before .before .before .before .args .t) (innerAdds (c .before .before .before .before .before .before .before .before .before .before .before .before .before .before .before .before .before .before .args .level) (c .before .before .before .before .before .before .before .before .before .before .before .before .before .before .before .before .before .before .args .tape .now) (c .before .before .before .before .before .before .before .before .before .before .before .before .before .before .before .before .before .before .args .st) (recordAt segmentCodec (c .before .before .before .before .before .before .before .before .before .before .before .before .before .before .before .before .before .before .args .tape .now) (c .before .before .before .before .before .before .before .before .before .before .before .before .before .before .before .before .before .before .args .at) .body)) e on in
-    (e, rw (c .before .before .note .ensures) (known-note _ (c .before .before .before .before .before .before .before .body-sizes .ensures .1) (c .before .before .before .before .before .before .before .before .before .before .before .before .entry-of .result) (c .before .before .before .before .before .before .before .before .before .before .before .before .before .before .before .before .before .before .args .at) (c .before .before .before .before .before .before .before .before .before .before .before .before .before .before .before .before .before .before .args .level) (c .before .before .before .before .before .before .before .before .before .before .before .before .before .before .before .before .before .before .args .room) (c .before .before .before .before .before .before .before .before .before .before .before .before .before .before .before .before .before .before .args .t) (c .before .before .before .before .before .before .before .body-sizes .result) going on e))
+) (segment-walk-at t) segment-walk.Post
+segment-walk-body-sizes-requires t c κs = (omega (arith, c .before .before .before .pre .1 .1 .1 .1), ((c .before .before .before .pre .1 .0 .0, c .before .before .before .pre .1 .0 .1), (c .before .before .before .pre .1 .1 .0, omega (arith, c .before .before .before .pre .1 .1 .1 .0))))
+
+segment-walk-same-length : (t : ℕ) → segment-walk-lts.Need-same-length (
+  body-sizes-below t,
+  body-sizes.Post,
+  note-reads.Asked,
+  note-reads.Learnt,
+) (segment-walk-at t) segment-walk.Post
+segment-walk-same-length t c = search needs
+
+segment-walk-returns : (t : ℕ) → segment-walk-lts.Need-returns (
+  body-sizes-below t,
+  body-sizes.Post,
+  note-reads.Asked,
+  note-reads.Learnt,
+) (segment-walk-at t) segment-walk.Post
+segment-walk-returns t c = (segment-below (c .before .before .before .before .before .before .before .args .room) (c .before .before .before .before .before .before .before .args .t) (c .before .before .before .before .before .before .before .args .tape .now) (c .before .before .before .before .before .before .before .args .st) (c .before .before .before .before .before .before .before .args .at) (c .before .before .before .before .before .before .before .args .level) (λ q. absurd (omega (arith, c .before .before .before .before .before .before .before .pre .1 .1 .1 .1, q))) (c .before .before .before .body-sizes .ensures .0), c .before .before .before .body-sizes .ensures .1)
+
+segment-walk-note-requires : (t : ℕ) → segment-walk-lts.Need-note-requires (
+  body-sizes-below t,
+  body-sizes.Post,
+  note-reads.Asked,
+  note-reads.Learnt,
+) (segment-walk-at t) segment-walk.Post
+segment-walk-note-requires t c κs = let on = c .before .if1 .left in
+    let e = segment-below (c .before .before .before .before .before .before .before .before .args .room) (c .before .before .before .before .before .before .before .before .args .t) (c .before .before .before .before .before .before .before .before .args .tape .now) (c .before .before .before .before .before .before .before .before .args .st) (c .before .before .before .before .before .before .before .before .args .at) (c .before .before .before .before .before .before .before .before .args .level) (λ q. absurd (omega (arith, c .before .before .before .before .before .before .before .before .pre .1 .1 .1 .1, q))) (c .before .before .before .before .body-sizes .ensures .0) in
+    let going = going-before (c .before .before .before .before .before .before .before .before .args .room) (c .before .before .before .before .before .before .before .before .args .t) (innerAdds (c .before .before .before .before .before .before .before .before .args .level) (c .before .before .before .before .before .before .before .before .args .tape .now) (c .before .before .before .before .before .before .before .before .args .st) (recordAt segmentCodec (c .before .before .before .before .before .before .before .before .args .tape .now) (c .before .before .before .before .before .before .before .before .args .at) .body)) e on in
+    (c .before .before .before .before .before .before .before .before .pre .1 .1 .1 .2, grown (c .before .before .before .before .before .before .before .before .args .room) (c .before .before .before .before .before .before .before .before .args .t) (c .before .before .before .before .body-sizes .result) (innerAdds (c .before .before .before .before .before .before .before .before .args .level) (c .before .before .before .before .before .before .before .before .args .tape .now) (c .before .before .before .before .before .before .before .before .args .st) (recordAt segmentCodec (c .before .before .before .before .before .before .before .before .args .tape .now) (c .before .before .before .before .before .before .before .before .args .at) .body)) going on e (kept-high (c .before .before .before .before .before .before .before .before .pre .1 .1 .0) going))
+
+segment-walk-same-length-2 : (t : ℕ) → segment-walk-lts.Need-same-length-2 (
+  body-sizes-below t,
+  body-sizes.Post,
+  note-reads.Asked,
+  note-reads.Learnt,
+) (segment-walk-at t) segment-walk.Post
+segment-walk-same-length-2 t c = search needs
+
+segment-walk-returns-2 : (t : ℕ) → segment-walk-lts.Need-returns-2 (
+  body-sizes-below t,
+  body-sizes.Post,
+  note-reads.Asked,
+  note-reads.Learnt,
+) (segment-walk-at t) segment-walk.Post
+segment-walk-returns-2 t c = let on = c .before .before .before .before .if1 .left in
+    let e = segment-below (c .before .before .before .before .before .before .before .before .before .before .before .args .room) (c .before .before .before .before .before .before .before .before .before .before .before .args .t) (c .before .before .before .before .before .before .before .before .before .before .before .args .tape .now) (c .before .before .before .before .before .before .before .before .before .before .before .args .st) (c .before .before .before .before .before .before .before .before .before .before .before .args .at) (c .before .before .before .before .before .before .before .before .before .before .before .args .level) (λ q. absurd (omega (arith, c .before .before .before .before .before .before .before .before .before .before .before .pre .1 .1 .1 .1, q))) (c .before .before .before .before .before .before .before .body-sizes .ensures .0) in
+    let going = going-before (c .before .before .before .before .before .before .before .before .before .before .before .args .room) (c .before .before .before .before .before .before .before .before .before .before .before .args .t) (innerAdds (c .before .before .before .before .before .before .before .before .before .before .before .args .level) (c .before .before .before .before .before .before .before .before .before .before .before .args .tape .now) (c .before .before .before .before .before .before .before .before .before .before .before .args .st) (recordAt segmentCodec (c .before .before .before .before .before .before .before .before .before .before .before .args .tape .now) (c .before .before .before .before .before .before .before .before .before .before .before .args .at) .body)) e on in
+    (e, rw (c .before .before .note .ensures) (known-note _ (c .before .before .before .before .before .before .before .body-sizes .ensures .1) (c .before .before .before .before .before .before .before .before .before .before .before .args .e) (c .before .before .before .before .before .before .before .before .before .before .before .args .at) (c .before .before .before .before .before .before .before .before .before .before .before .args .level) (c .before .before .before .before .before .before .before .before .before .before .before .args .room) (c .before .before .before .before .before .before .before .before .before .before .before .args .t) (c .before .before .before .before .before .before .before .body-sizes .result) going on e))
 
 abbrev segments-walk-Inv-loop : segments-walk-lts.InvT-loop
 segments-walk-Inv-loop tape st memo₀ room at count level u₀ i₀ memo u i = Adding room u₀ (segmentFrom (innerAdds level tape st) tape at) count i u × Known tape st memo × (length memo ≡ length memo₀)
@@ -1348,9 +1477,9 @@ segments-walk-returns-3 : (t : ℕ) → segments-walk-lts.Need-returns-3 (
 ) (segments-walk-at t) segments-walk.Post segments-walk-Inv-loop segments-walk-μ-loop
 segments-walk-returns-3 t c = (adding-all (c .before .loop .inv .0) (c .loop-test .left) ∙ ap (plus (c .before .before .before .before .args .room) (c .before .before .before .before .args .t)) (segments-from (c .before .before .before .before .args .tape .now) (c .before .before .before .before .args .at) (c .before .before .before .before .args .count) (innerAdds (c .before .before .before .before .args .level) (c .before .before .before .before .args .tape .now) (c .before .before .before .before .args .st))), c .before .loop .inv .1)
 
-pub +body-sizes+content-run-sizes+content-sizes+contents-walk+field-sizes+segment-run-sizes+segment-sizes+segments-walk-spec :
+pub +body-sizes+content-run-sizes+content-sizes+contents-walk+field-sizes+segment-run-sizes+segment-sizes+segment-walk+segments-walk-spec :
     {M : Type 1} → statement M
-+body-sizes+content-run-sizes+content-sizes+contents-walk+field-sizes+segment-run-sizes+segment-sizes+segments-walk-spec =
++body-sizes+content-run-sizes+content-sizes+contents-walk+field-sizes+segment-run-sizes+segment-sizes+segment-walk+segments-walk-spec =
     close
     μ-body-sizes
     μ-content-run-sizes
@@ -1359,6 +1488,7 @@ pub +body-sizes+content-run-sizes+content-sizes+contents-walk+field-sizes+segmen
     μ-field-sizes
     μ-segment-run-sizes
     μ-segment-sizes
+    μ-segment-walk
     μ-segments-walk
     (λ t. body-sizes-lts.spec (
       field-at-reads.Asked,
@@ -1408,6 +1538,10 @@ pub +body-sizes+content-run-sizes+content-sizes+contents-walk+field-sizes+segmen
       with-added-reads.Learnt,
       segment-run-sizes-below t,
       segment-run-sizes.Post,
+      lone-place-reads.Asked,
+      lone-place-reads.Learnt,
+      segment-sizes-below t,
+      segment-sizes.Post,
     )
     (content-sizes-at t)
     content-sizes.Post
@@ -1416,7 +1550,16 @@ pub +body-sizes+content-run-sizes+content-sizes+contents-walk+field-sizes+segmen
     (content-sizes-returns t)
     (content-sizes-segment-run-sizes-requires t)
     (content-sizes-same-length t)
-    (content-sizes-returns-2 t))
+    (content-sizes-returns-2 t)
+    (content-sizes-lone-place-requires t)
+    (content-sizes-segment-run-sizes-requires-2 t)
+    (content-sizes-same-length-2 t)
+    (content-sizes-returns-3 t)
+    (content-sizes-with-added-requires-2 t)
+    (content-sizes-returns-4 t)
+    (content-sizes-segment-sizes-requires t)
+    (content-sizes-same-length-3 t)
+    (content-sizes-returns-5 t))
     (λ t. contents-walk-lts.spec (
       content-sizes-below t,
       content-sizes.Post,
@@ -1497,10 +1640,8 @@ pub +body-sizes+content-run-sizes+content-sizes+contents-walk+field-sizes+segmen
       is-of-reads.Learnt,
       with-entry-reads.Asked,
       with-entry-reads.Learnt,
-      body-sizes-below t,
-      body-sizes.Post,
-      note-reads.Asked,
-      note-reads.Learnt,
+      segment-walk-below t,
+      segment-walk.Post,
     )
     (segment-sizes-at t)
     segment-sizes.Post
@@ -1514,14 +1655,25 @@ pub +body-sizes+content-run-sizes+content-sizes+contents-walk+field-sizes+segmen
     (segment-sizes-with-entry-requires t)
     (segment-sizes-same-length t)
     (segment-sizes-returns-3 t)
-    (segment-sizes-add-body-sizes t)
-    (segment-sizes-sub-body-sizes t)
-    (segment-sizes-body-sizes-requires t)
+    (segment-sizes-segment-walk-requires t)
     (segment-sizes-same-length-2 t)
-    (segment-sizes-returns-4 t)
-    (segment-sizes-note-requires t)
-    (segment-sizes-same-length-3 t)
-    (segment-sizes-returns-5 t))
+    (segment-sizes-returns-4 t))
+    (λ t. segment-walk-lts.spec (
+      body-sizes-below t,
+      body-sizes.Post,
+      note-reads.Asked,
+      note-reads.Learnt,
+    )
+    (segment-walk-at t)
+    segment-walk.Post
+    (segment-walk-add-body-sizes t)
+    (segment-walk-sub-body-sizes t)
+    (segment-walk-body-sizes-requires t)
+    (segment-walk-same-length t)
+    (segment-walk-returns t)
+    (segment-walk-note-requires t)
+    (segment-walk-same-length-2 t)
+    (segment-walk-returns-2 t))
     λ t. segments-walk-lts.spec (
       segment-sizes-below t,
       segment-sizes.Post,
