@@ -13,7 +13,7 @@ use Rattle.model.specs.Merge.{storedOf, MergeWindow, fitting, fitted}
 use Rattle.laws.specs.Checks.{passed-fitting}
 use Rattle.laws.specs.Numbers.{UpTo, chosen-up-to}
 use Rattle.places.specs.declared.Places.{Places}
-use Rattle.places.specs.Found.{placesOf}
+use Rattle.places.specs.Found.{found, placesOf}
 use Rattle.store.specs.declared.Store.{Store}
 use Rattle.store.specs.Stored.{StoreFits, storeAt}
 use Rattle.tape.specs.Accepted.{Accepted, AcceptedReading, accepted-book, accepted-reading, accepted-found, accepted-store, refusal-of}
@@ -105,12 +105,12 @@ module _ (t d : List ℕ) {n : ℕ} (q : n ≡ numberOf (checkBook t d)) where
           let u : (1 ≤ m) × (m ≤ 11) = subst (λ (x : Checked Span). UpTo 11 x) (chosen-is h) (chosen-up-to 11 (omega arith) old e) in
           refused-target t d e (rw (passed .book, chosen-is h) refl) (λ i. omega (arith, u, i)) f
 
-      pub edit-found : {from to : ℕ} → c ≡ Region from to → {p : Places} → p ≡ placesOf t d → {st : Store} → st ≡ storeAt t
+      pub edit-found : {from to : ℕ} → c ≡ Region from to → {p : Places} → p ≡ found t → {st : Store} → st ≡ storeAt t
           → TargetFound t d e (record { number = 0; p = p; st = st; from = from; to = to })
       unfolding _>>=_ checkedOf numberOf
-      edit-found h {p} f g = record {
+      edit-found h f g = record {
         number = sym (rw (passed .book, chosen-is h) refl);
-        given = λ i. record { held = record { accepted = passed; is = accepted-found passed p f; stored = g }; chosen = chosen-is h };
+        given = λ i. record { held = record { accepted = passed; is = f; stored = g }; chosen = chosen-is h };
       }
 
 -- ---- 12 to 17

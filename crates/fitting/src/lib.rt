@@ -111,11 +111,11 @@ fn target_of(
 ) -> Target
     ensures { λ r. ⌜ TargetFound (now (tape .entry)) (now (bytes .entry)) (editOf start end (now (replacement .entry))) r ⌝ }
 {
-    let n = tape::check_book(tape, bytes);
-    if n != 0 {
-        return no_target(n);
+    let b = tape::checked_book(tape, bytes);
+    if b.number != 0 {
+        return no_target(b.number);
     }
-    let p = places::places_of(tape, bytes);
+    let p = b.p;
     let st = store::store_of(tape, p.layers);
     let found = region::chosen_region(tape, bytes, p, st, work, start, end, replacement);
     match found {

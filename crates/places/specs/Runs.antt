@@ -1,17 +1,18 @@
 -- Laws of runs of records: `recordsIn` one record further, how far a run reaches, and the sum of a run of strings.
 use mathlib.Core.Path.{_≡_, refl, sym, ap}
-use Prim.Native.Nat.{ℕ, zero, suc, _+_, _-_, _*_, _≤_, _<_, min}
+use Prim.Native.Nat.{ℕ, zero, suc, _+_, _-_, _*_, _≤_, _<_, min, max}
 use native.Mathlib.Omega.{arith}
-use native.Mathlib.Nat.{mul-suc, mul-zero}
-use mathlib.Core.Bool.{Bool, true, false, cond}
+use native.Mathlib.Nat.{mul-suc, mul-zero, add-mul}
+use mathlib.Core.Bool.{Bool, true, false, cond, _&&_}
 use mathlib.Core.List.{List, [], _∷_}
 use lib.ListN.{length, drop, drop-of-length-le, length-drop}
 use lib.Seq.{drop-cons, drop-drop}
 use lib.Dec.{eqb}
-use borrow.Author.Tests.{eq-eqb, ne-eqb}
+use borrow.Author.Tests.{eq-eqb, ne-eqb, eqb-true}
 use Rattle.model.specs.Lists.{sum}
 use Rattle.model.specs.Bytes.{byteAt, wordAt}
 use Rattle.model.specs.Tape.{recordsIn, recordsAt, recordAt, operandsAt, stringCodec}
+use Rattle.laws.specs.Lists.{both}
 use Rattle.wire.specs.Loops.{sumTo, sum-mono, sum-tabulate}
 
 -- a sum that is known only up to room: over, it is room + 1
@@ -87,6 +88,60 @@ module _ {command size : ℕ} {t : List ℕ} {at n place : ℕ} (c : Counted com
 
   pub counted-past : length t ≤ place → n ≡ recordsIn command size 0 (drop at t)
   counted-past h = let m = records-past command size t place h in omega (arith, c .is, m)
+
+-- ---- eight records at once
+
+unfoldable pub eightAt : ℕ → ℕ → List ℕ → ℕ → Bool
+eightAt command size t at =
+    eqb (byteAt t at) command && eqb (byteAt t (at + size)) command
+    && eqb (byteAt t (at + 2 * size)) command && eqb (byteAt t (at + 3 * size)) command && eqb (byteAt t (at + 4 * size)) command
+    && eqb (byteAt t (at + 5 * size)) command && eqb (byteAt t (at + 6 * size)) command && eqb (byteAt t (at + 7 * size)) command
+
+module _ {command size : ℕ} {t : List ℕ} {at : ℕ} (z : 1 ≤ size) where
+  counted-to : {n place : ℕ} → Counted command size t at n place → place < length t → eqb (byteAt t place) command ≡ true
+      → (m next : ℕ) → m ≡ n + 1 → next ≡ place + size → Counted command size t at m next
+  counted-to {n} {place} c h e m next f g = rw (f, g) (counted-more c z h (eqb-true (byteAt t place) command e))
+
+  pub counted-eight : {n place : ℕ} → Counted command size t at n place → place + 7 * size < length t → eightAt command size t place ≡ true
+      → Counted command size t at (n + 8) (place + 8 * size)
+  unfolding eightAt
+  counted-eight {n} {place} c h e =
+      let e7 = both _ _ e in
+      let e6 = both _ _ (e7 .0) in
+      let e5 = both _ _ (e6 .0) in
+      let e4 = both _ _ (e5 .0) in
+      let e3 = both _ _ (e4 .0) in
+      let e2 = both _ _ (e3 .0) in
+      let e1 = both _ _ (e2 .0) in
+      let c1 = counted-to c (omega arith) (e1 .0) (n + 1) (place + size) (omega arith) (omega arith) in
+      let c2 = counted-to c1 (omega arith) (e1 .1) (n + 2) (place + 2 * size) (omega arith) (omega arith) in
+      let c3 = counted-to c2 (omega arith) (e2 .1) (n + 3) (place + 3 * size) (omega arith) (omega arith) in
+      let c4 = counted-to c3 (omega arith) (e3 .1) (n + 4) (place + 4 * size) (omega arith) (omega arith) in
+      let c5 = counted-to c4 (omega arith) (e4 .1) (n + 5) (place + 5 * size) (omega arith) (omega arith) in
+      let c6 = counted-to c5 (omega arith) (e5 .1) (n + 6) (place + 6 * size) (omega arith) (omega arith) in
+      let c7 = counted-to c6 (omega arith) (e6 .1) (n + 7) (place + 7 * size) (omega arith) (omega arith) in
+      counted-to c7 (omega arith) (e7 .1) (n + 8) (place + 8 * size) (omega arith) (omega arith)
+
+-- ---- the loop of `eights_at`: `place` is where record n stands
+
+pub record Eights (command size : ℕ) (t : List ℕ) (at n place : ℕ) : Type 0 where
+  pub counted : Counted command size t at n place
+  pub here : place ≡ at + n * size
+  pub inside : place ≤ max at (length t)
+
+pub eights-none : (command size : ℕ) (t : List ℕ) (at : ℕ) → Eights command size t at 0 at
+eights-none command size t at = record { counted = counted-none command size t at; here = omega arith; inside = omega arith }
+
+module _ {command size : ℕ} {t : List ℕ} {at n place : ℕ} (c : Eights command size t at n place) where
+  pub eights-more : 1 ≤ size → 8 * size < length t - place → eightAt command size t place ≡ true → Eights command size t at (n + 8) (place + 8 * size)
+  eights-more z h e = record {
+    counted = counted-eight z (c .counted) (omega (arith, h)) e;
+    here = rw add-mul (omega (arith, c .here));
+    inside = omega (arith, h);
+  }
+
+  pub eights-done : Counted command size t at n (at + n * size) × (at + n * size ≤ max at (length t))
+  eights-done = rw (← c .here) (c .counted, c .inside)
 
 -- ---- the loop of `strings_length`
 

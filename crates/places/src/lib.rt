@@ -4,11 +4,11 @@
 // counts are at most the tape's bytes, and string bytes are known to be over once they pass the byte buffer. `next_layer` walks
 // the layers again. The shapes of the records are left to whoever reads them.
 ghost use mathlib.Core.Path.{_≡_};
-ghost use Prim.Native.Nat.{_+_, _*_, _^_, _≤_, _<_};
+ghost use Prim.Native.Nat.{_+_, _*_, _^_, _≤_, _<_, max};
 ghost use lib.ListN.{length, drop};
 ghost use Rattle.model.specs.Lists.{sum};
 ghost use Rattle.model.specs.Tape.{recordsIn, recordsAt, stringCodec, layerPlaces};
-ghost use Rattle.places.specs.Runs.{capped};
+ghost use Rattle.places.specs.Runs.{eightAt, Counted, capped};
 ghost use Rattle.places.specs.Found.{layerRuns, addLayer, Small, tallied, listRuns, frameHolds, noPlaces, foundBy, placesOf};
 
 // A run of records of one kind: where the first stands, and how many they are.
@@ -57,13 +57,52 @@ pub struct Places {
     pub end: usize,
 }
 
+// Whether eight records begin with the command, the first at `at`: one answer for all, so that a long run costs one branch for eight.
+fn eight_at(tape: &[u8], at: usize, command: u8, size: usize) -> bool
+    requires { ⌜ at + 7 * size < length (now tape) ⌝ }
+    ensures { λ r. ⌜ r ≡ eightAt command size (now (tape .entry)) at ⌝ }
+{
+    (tape[at] == command)
+        & (tape[at + size] == command)
+        & (tape[at + 2 * size] == command)
+        & (tape[at + 3 * size] == command)
+        & (tape[at + 4 * size] == command)
+        & (tape[at + 5 * size] == command)
+        & (tape[at + 6 * size] == command)
+        & (tape[at + 7 * size] == command)
+}
+
+// The first records of a run, counted by eights while a ninth begins inside the tape. No record has 64 bytes, so 8 * size cannot overflow.
+fn eights_at(tape: &[u8], at: usize, command: u8, size: usize) -> usize
+    requires { ⌜ 1 ≤ size ⌝ }
+    ensures { λ r. ⌜ Counted command size (now (tape .entry)) at r (at + r * size) × (at + r * size ≤ max at (length (now (tape .entry)))) ⌝ }
+{
+    if tape.len() < at {
+        return 0;
+    }
+    if 64 <= size {
+        return 0;
+    }
+    let step = 8 * size;
+    let mut n = 0;
+    let mut place = at;
+    while step < tape.len() - place {
+        if !eight_at(tape, place, command, size) {
+            return n;
+        }
+        n += 8;
+        place += step;
+    }
+    n
+}
+
 // How many records stand one behind the other; one that is cut short counts too, and ends behind the tape's end.
 pub fn count_at(tape: &[u8], at: usize, command: u8, size: usize) -> usize
     requires { ⌜ 1 ≤ size ⌝ }
     ensures { λ r. ⌜ r ≡ recordsIn command size 0 (drop at (now (tape .entry))) ⌝ }
 {
-    let mut n = 0;
-    let mut place = at;
+    let mut n = eights_at(tape, at, command, size);
+    let mut place = at + n * size;
     while place < tape.len() {
         if tape[place] != command {
             return n;

@@ -7,10 +7,10 @@ use Rattle.model.specs.Tape.{places, bookAt}
 use Rattle.model.specs.WellFormed.{checkBook}
 use Rattle.model.specs.Region.{Edit, chosenRegion, chooseRegion}
 use Rattle.places.specs.declared.Places.{Places}
-use Rattle.places.specs.Found.{placesOf}
+use Rattle.places.specs.Found.{found}
 use Rattle.store.specs.declared.Store.{Store}
 use Rattle.store.specs.Stored.{StoreFits, storeAt}
-use Rattle.tape.specs.Accepted.{Accepted, accepted-book, accepted-found, accepted-store, refusal-of}
+use Rattle.tape.specs.Accepted.{Accepted, accepted-book, accepted-store, refusal-of}
 use Rattle.region.specs.declared.Chosen.{Chosen}
 use Rattle.region.specs.declared.Chosen.the-variants.{Refused}
 use Rattle.region.specs.Chosen.{chosenOf}
@@ -29,10 +29,10 @@ module _ (t d : List ℕ) {n : ℕ} (q : n ≡ numberOf (checkBook t d)) where
     unfolding chooseRegion _>>=_
     choose-accepted e f = f ∙ sym (rw (passed .book) refl)
 
-    module _ {p : Places} (e : p ≡ placesOf t d) where
+    module _ {p : Places} (e : p ≡ found t) where
       pub choose-store : StoreFits t (p .layers)
-      choose-store = accepted-store passed (accepted-found passed p e)
+      choose-store = accepted-store passed e
 
       module _ {st : Store} (f : st ≡ storeAt t) where
         pub choose-held : Held t d p st
-        choose-held = record { accepted = passed; is = accepted-found passed p e; stored = f }
+        choose-held = record { accepted = passed; is = e; stored = f }

@@ -116,11 +116,11 @@ fn region_of(
 ) -> Chosen
     ensures { λ r. ⌜ (r ≡ chosenOf (chooseRegion (now (tape .entry)) (now (bytes .entry)) (editOf start end (now (replacement .entry))))) × (length (now (words .exit)) ≡ length (now (words .entry))) ⌝ }
 {
-    let n = tape::check_book(tape, bytes);
-    if n != 0 {
-        return Chosen::Refused(n);
+    let b = tape::checked_book(tape, bytes);
+    if b.number != 0 {
+        return Chosen::Refused(b.number);
     }
-    let p = places::places_of(tape, bytes);
+    let p = b.p;
     let st = store::store_of(tape, p.layers);
     chosen_region(tape, bytes, p, st, words, start, end, replacement)
 }

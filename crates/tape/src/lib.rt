@@ -6,6 +6,7 @@ ghost use mathlib.Core.Path.{_≡_};
 ghost use mathlib.Core.List.{List};
 ghost use Prim.Native.Nat.{ℕ};
 ghost use Rattle.model.specs.Tape.{places, bookAt};
+ghost use Rattle.places.specs.Found.{found};
 ghost use Rattle.places.specs.Again.{Frame};
 ghost use Rattle.model.specs.Refusal.{numberOf};
 ghost use Rattle.model.specs.WellFormed.{checkBook, checkReading};
@@ -123,15 +124,30 @@ pub fn book_refusal(tape: &[u8], bytes: &[u8], p: places::Places) -> u32
     places_refusal(tape, p)
 }
 
+// A book's number 1 to 7, or 0 and where its records stand: whoever goes on with the book need not look for them again.
+pub struct CheckedBook {
+    pub number: u32,
+    pub p: places::Places,
+}
+
+// Numbers 1 to 7 of a book.
+pub fn checked_book(tape: &[u8], bytes: &[u8]) -> CheckedBook
+    ensures { λ r. ⌜ (r .number ≡ numberOf (checkBook (now (tape .entry)) (now (bytes .entry)))) × (r .number ≡ 0 → r .p ≡ found (now (tape .entry))) ⌝ }
+{
+    let p = layout::layout(tape, bytes);
+    if p.fault {
+        return CheckedBook { number: 1, p: p };
+    }
+    let n = book_refusal(tape, bytes, p);
+    CheckedBook { number: n, p: p }
+}
+
 // `check_book`: numbers 1 to 7 of a book, 0 where it is accepted.
 pub fn check_book(tape: &[u8], bytes: &[u8]) -> u32
     ensures { λ r. ⌜ r ≡ numberOf (checkBook (now (tape .entry)) (now (bytes .entry))) ⌝ }
 {
-    let p = layout::layout(tape, bytes);
-    if p.fault {
-        return 1;
-    }
-    book_refusal(tape, bytes, p)
+    let b = checked_book(tape, bytes);
+    b.number
 }
 
 // `check_reading`: numbers 1 to 7 of a reading, which has exactly one layer; another count is 1 too, before 2.

@@ -15,10 +15,9 @@ use Rattle.model.specs.Tape.{LayerPlaces, layerPlaces, places, recordsAt, strin
 use Rattle.laws.specs.Lists.{both}
 use Rattle.laws.specs.RoundTrip.{layer-end, stringBytes}
 use Rattle.places.specs.declared.LayerRuns.{LayerRuns}
-use Rattle.places.specs.Runs.{capped}
 use Rattle.places.specs.Found.{layerRuns}
 use Rattle.places.specs.Again.{AtLayer, at-first, at-inside, at-here, at-next, at-before}
-use Rattle.texts.specs.Strings.{pieces-behind}
+use Rattle.texts.specs.Strings.{pieces-behind, stringsEnd, end-over, end-inside}
 
 -- each string of a layer by itself
 abbrev pub layerUtf8 : Layer → Bool
@@ -76,7 +75,7 @@ module _ {t d : List ℕ} {from i at place : ℕ} (s : LayersLeft t d from i at 
       unfolding stringLengths
       lengths = ap (λ (x : LayerRuns). recordsAt stringCodec t (x .strings .at) (x .strings .count)) e
 
-      -- as `strings_utf8` asks
+      -- as `strings_end` asks
       pub layers-records : l .strings .at + 5 * l .strings .count ≤ length t
       unfolding layerPlaces
       layers-records =
@@ -90,12 +89,6 @@ module _ {t d : List ℕ} {from i at place : ℕ} (s : LayersLeft t d from i at 
       pub layers-bytes : place + sum (recordsAt stringCodec t (l .strings .at) (l .strings .count)) ≤ length d
       layers-bytes = let q = ap sum lengths in omega (arith, q, total, fits .bytes)
 
-      next : (n : ℕ) → n ≡ capped (length d) (sum (recordsAt stringCodec t (l .strings .at) (l .strings .count))) → n ≡ sum (stringLengths t (layerPlaces t at))
-      next n f = let q = ap sum lengths in omega (arith, f, q, layers-bytes)
-
-      pub layers-place : {n : ℕ} → n ≡ capped (length d) (sum (recordsAt stringCodec t (l .strings .at) (l .strings .count))) → place + n ≤ length d
-      layers-place {n} f = let q = next n f in omega (arith, q, total, fits .bytes)
-
       split : layersUtf8 t (places t .layers) (drop from d)
           ≡ (all utf8 (pieces (recordsAt stringCodec t (l .strings .at) (l .strings .count)) (drop place d))
           && layersUtf8 t (drop (i + 1) (places t .layers)) (drop (place + sum (stringLengths t (layerPlaces t at))) d))
@@ -107,25 +100,20 @@ module _ {t d : List ℕ} {from i at place : ℕ} (s : LayersLeft t d from i at 
           ∙ ap (λ (x : List ℕ). all utf8 (pieces ns (drop place d)) && layersUtf8 t ls x) (drop-drop (sum ns) place d)
           ∙ ap (λ (x : List ℕ). all utf8 (pieces x (drop place d)) && layersUtf8 t ls (drop (place + sum ns) d)) (sym lengths)
 
-      module _ {r : Bool} (q : r ≡ all utf8 (pieces (recordsAt stringCodec t (l .strings .at) (l .strings .count)) (drop place d))) where
-        pub layers-bad : r ≡ false → false ≡ layersUtf8 t (places t .layers) (drop from d)
-        layers-bad f = sym (split ∙ rw (sym q ∙ f) refl)
+      module _ {end : ℕ} (q : end ≡ stringsEnd (recordsAt stringCodec t (l .strings .at) (l .strings .count)) d place) where
+        pub layers-bad : length d < end → false ≡ layersUtf8 t (places t .layers) (drop from d)
+        layers-bad h = sym (split ∙ rw (end-over _ d place q layers-bytes h) refl)
 
-        behind : {n : ℕ} → r ≡ true → n ≡ sum (stringLengths t (layerPlaces t at)) → utf8 (drop (place + n) d) ≡ true
-        behind {n} f m =
+        pub layers-more : end ≤ length d → LayersLeft t d from (i + 1) (l .end) end
+        layers-more h =
             let ns = recordsAt stringCodec t (l .strings .at) (l .strings .count) in
-            let k : sum ns ≡ n = ap sum lengths ∙ sym m in
-            ap (λ (x : ℕ). utf8 (drop (place + x) d)) (sym k) ∙ ap utf8 (sym (drop-drop (sum ns) place d)) ∙ sym (pieces-behind ns (drop place d) (sym q ∙ f)) ∙ s .whole
-
-        pub layers-more : {n : ℕ} → r ≡ true → n ≡ capped (length d) (sum (recordsAt stringCodec t (l .strings .at) (l .strings .count)))
-            → LayersLeft t d from (i + 1) (l .end) (place + n)
-        layers-more {n} f g =
-            let m = next n g in
+            let w = end-inside ns d place q h in
+            let m : end ≡ place + sum (stringLengths t (layerPlaces t at)) = w .1 ∙ ap (λ (x : List ℕ). place + sum x) lengths in
             record {
               here = at-next (s .here) inside e;
-              is = split ∙ rw (sym q ∙ f) (ap (λ (k : ℕ). layersUtf8 t (drop (i + 1) (places t .layers)) (drop (place + k) d)) (sym m));
+              is = split ∙ rw (w .0) (ap (λ (k : ℕ). layersUtf8 t (drop (i + 1) (places t .layers)) (drop k d)) (sym m));
               bytes = omega (arith, total, m);
-              whole = behind f m;
+              whole = ap (λ (k : ℕ). utf8 (drop k d)) (w .1) ∙ ap utf8 (sym (drop-drop (sum ns) place d)) ∙ sym (pieces-behind ns (drop place d) (w .0)) ∙ s .whole;
             }
 
   pub layers-all : layers ≤ i → true ≡ layersUtf8 t (places t .layers) (drop from d)

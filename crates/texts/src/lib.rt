@@ -8,10 +8,11 @@ ghost use Prim.Native.Nat.{_+_, _*_, _≤_};
 ghost use lib.ListN.{length, take, drop};
 ghost use Rattle.model.specs.Lists.{all, sum};
 ghost use Rattle.model.specs.Utf8.{utf8};
-ghost use Rattle.model.specs.Tape.{recordsAt, stringCodec, pieces, places as placesIn, layersAt, bookAt};
+ghost use Rattle.model.specs.Tape.{recordsAt, stringCodec, places as placesIn, layersAt, bookAt};
 ghost use Rattle.model.specs.WellFormed.{textsAreUtf8};
 ghost use Rattle.places.specs.Found.{holds, found};
 ghost use Rattle.texts.specs.Limits.{fewEnough};
+ghost use Rattle.texts.specs.Strings.{stringsEnd};
 ghost use Rattle.texts.specs.Layers.{layerUtf8, LayersFit};
 
 const MAX_TEXT: u32 = 16777215;
@@ -46,24 +47,25 @@ fn part_utf8(bytes: &[u8], at: usize, len: usize) -> bool
     utf8::is_char_boundary(bytes, at + len)
 }
 
-// Number 2, one layer: its string records stand at `at`, the bytes of its strings at `from`, from where on all is UTF-8.
-fn strings_utf8(tape: &[u8], at: usize, count: usize, bytes: &[u8], from: usize) -> bool
+// Number 2, one layer: its string records stand at `at`, the bytes of its strings at `from`, from where on all is UTF-8. Where each
+// string is UTF-8 by itself, the place behind them, else a place behind the bytes: the strings are walked once for both.
+fn strings_end(tape: &[u8], at: usize, count: usize, bytes: &[u8], from: usize) -> usize
     requires { ⌜ at + 5 * count ≤ length (now tape) ⌝ }
     requires { ⌜ from + sum (recordsAt stringCodec (now tape) at count) ≤ length (now bytes) ⌝ }
     requires { ⌜ utf8 (drop from (now bytes)) ≡ true ⌝ }
-    ensures { λ r. ⌜ r ≡ all utf8 (pieces (recordsAt stringCodec (now (tape .entry)) at count) (drop from (now (bytes .entry)))) ⌝ }
+    ensures { λ r. ⌜ r ≡ stringsEnd (recordsAt stringCodec (now (tape .entry)) at count) (now (bytes .entry)) from ⌝ }
 {
     let mut place = from;
     let mut i = 0;
     while i < count {
         let n = wire::u32_at(tape, at + 5 * i + 1) as usize;
         if !part_utf8(bytes, place, n) {
-            return false;
+            return bytes.len() + 1;
         }
         place += n;
         i += 1;
     }
-    true
+    place
 }
 
 // Number 2, all layers: the first stands at 9, the bytes of their strings at `from`, from where on all is UTF-8.
@@ -76,10 +78,11 @@ fn layers_utf8(tape: &[u8], bytes: &[u8], layers: usize, from: usize) -> bool
     let mut i = 0;
     while i < layers {
         let l = places::next_layer(tape, at);
-        if !strings_utf8(tape, l.strings.at, l.strings.count, bytes, place) {
+        let end = strings_end(tape, l.strings.at, l.strings.count, bytes, place);
+        if bytes.len() < end {
             return false;
         }
-        place += places::strings_length(tape, l.strings.at, l.strings.count, bytes.len());
+        place = end;
         at = l.end;
         i += 1;
     }

@@ -6,31 +6,30 @@ use Rattle.fitting.proofs.target_of.Tie as tie
 use Rattle.fitting.proofs.target_of.Reads as reads
 use Rattle.fitting.proofs.target_of.Lts as lts
 use Rattle.fitting.proofs.no_target.Reads as no-target-reads
-use Rattle.places.proofs.places_of.Reads as places-of-reads
 use Rattle.region.proofs.chosen_region.Reads as chosen-region-reads
 use Rattle.store.proofs.store_of.Reads as store-of-reads
-use Rattle.tape.proofs.check_book.Reads as check-book-reads
+use Rattle.tape.proofs.checked_book.Reads as checked-book-reads
 
-check-book-requires : tie.Need-check-book-requires
-check-book-requires c κs = search needs
+checked-book-requires : tie.Need-checked-book-requires
+checked-book-requires c κs = search needs
 
 no-target-requires : tie.Need-no-target-requires
 no-target-requires c κs = search needs
 
 returns : tie.Need-returns
-returns c = book-refused _ _ (c .before .before .check-book .ensures) (c .before .if1 .taken) _ (c .no-target .ensures)
-
-places-of-requires : tie.Need-places-of-requires
-places-of-requires c κs = search needs
+returns c = book-refused _ _ (c .before .before .before .checked-book .ensures .0) (c .before .if1 .taken) _ (c .no-target .ensures)
 
 store-of-requires : tie.Need-store-of-requires
-store-of-requires c κs = choose-store _ _ (c .before .before .check-book .ensures) (c .before .if1 .left) (c .places-of .ensures)
+store-of-requires c κs =
+    let at-if1 = c .before in
+    let book = at-if1 .before .before .checked-book .ensures in
+    choose-store _ _ (book .0) (at-if1 .if1 .left) (book .1 (at-if1 .if1 .left))
 
 chosen-region-requires : tie.Need-chosen-region-requires
 chosen-region-requires c κs =
     let at-if1 = c .before .before .before in
-    let at-check-book = at-if1 .before in
-    choose-held _ _ (at-check-book .check-book .ensures) (at-if1 .if1 .left) (c .before .before .places-of .ensures) (c .before .store-of .ensures)
+    let book = at-if1 .before .before .checked-book .ensures in
+    choose-held _ _ (book .0) (at-if1 .if1 .left) (book .1 (at-if1 .if1 .left)) (c .before .store-of .ensures)
 
 enum-known-found : tie.Need-enum-known-found
 enum-known-found c = search needs
@@ -45,8 +44,8 @@ returns-2 : tie.Need-returns-2
 returns-2 c =
     let at-chosen-region = c .before .before .before .before .before .before in
     let at-if1 = at-chosen-region .before .before .before .before in
-    let at-check-book = at-if1 .before in
-    edit-refused _ _ (at-check-book .check-book .ensures) (at-if1 .if1 .left) _ (at-chosen-region .chosen-region .ensures) (c .before .before .found .given .1) (c .no-target2 .ensures)
+    let book = at-if1 .before .before .checked-book .ensures in
+    edit-refused _ _ (book .0) (at-if1 .if1 .left) _ (at-chosen-region .chosen-region .ensures) (c .before .before .found .given .1) (c .no-target2 .ensures)
 
 enum-known-found-2 : tie.Need-enum-known-found-2
 enum-known-found-2 c = search needs
@@ -58,20 +57,17 @@ returns-3 : tie.Need-returns-3
 returns-3 c =
     let at-chosen-region = c .before .before .before .before .before in
     let at-store-of = at-chosen-region .before .before in
-    let at-places-of = at-store-of .before in
-    let at-if1 = at-places-of .before in
-    let at-check-book = at-if1 .before in
-    edit-found _ _ (at-check-book .check-book .ensures) (at-if1 .if1 .left) _ (at-chosen-region .chosen-region .ensures) (c .before .found2 .given .1) (at-places-of .places-of .ensures)
-    (at-store-of .store-of .ensures)
+    let at-if1 = at-store-of .before .before in
+    let book = at-if1 .before .before .checked-book .ensures in
+    edit-found _ _ (book .0) (at-if1 .if1 .left) _ (at-chosen-region .chosen-region .ensures) (c .before .found2 .given .1) (book .1 (at-if1 .if1 .left)) (at-store-of .store-of .ensures)
 
 pub target-of-spec : {M : Type 1} → statement M
 target-of-spec =
     tie.close
     (tie.spec
-    check-book-requires
+    checked-book-requires
     no-target-requires
     returns
-    places-of-requires
     store-of-requires
     chosen-region-requires
     enum-known-found

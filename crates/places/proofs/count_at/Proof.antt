@@ -1,4 +1,4 @@
-use Rattle.places.specs.Runs.{Counted, counted-none, counted-more, counted-other, counted-past}
+use Rattle.places.specs.Runs.{Counted, counted-more, counted-other, counted-past}
 use Prim.Native.Nat.{_-_}
 use native.Mathlib.Omega.{arith}
 use lib.ListN.{length}
@@ -6,6 +6,7 @@ use Rattle.places.proofs.count_at.Statement.{statement}
 use Rattle.places.proofs.count_at.Tie as tie
 use Rattle.places.proofs.count_at.Reads as reads
 use Rattle.places.proofs.count_at.Lts as lts
+use Rattle.places.proofs.eights_at.Reads as eights-at-reads
 
 abbrev Inv-loop : tie.InvT-loop
 Inv-loop tape at command size n₀ place₀ n place = Counted command size tape at n place
@@ -13,8 +14,17 @@ Inv-loop tape at command size n₀ place₀ n place = Counted command size tape 
 abbrev μ-loop : tie.MeasureT-loop
 μ-loop tape at command size n₀ place₀ n place = length tape - place
 
+eights-at-requires : tie.Need-eights-at-requires Inv-loop μ-loop
+eights-at-requires c κs = c .before .pre
+
+mul-place : tie.Need-mul-place Inv-loop μ-loop
+mul-place c = omega (arith, c .eights-at .ensures .1)
+
+add-place : tie.Need-add-place Inv-loop μ-loop
+add-place c = omega (arith, c .eights-at .ensures .1)
+
 loop-holds : tie.Need-loop-holds Inv-loop μ-loop
-loop-holds c = counted-none _ _ _ _
+loop-holds c = c .eights-at .ensures .0
 
 shared-slice-read-if1 : tie.Need-shared-slice-read-if1 Inv-loop μ-loop
 shared-slice-read-if1 c = omega arith
@@ -29,16 +39,16 @@ sub-if2 : tie.Need-sub-if2 Inv-loop μ-loop
 sub-if2 c = omega arith
 
 returns-2 : tie.Need-returns-2 Inv-loop μ-loop
-returns-2 c = counted-past (counted-more (c .before .before .before .before .loop .inv) (c .before .before .before .before .before .pre) (c .before .before .before .loop-test .taken) (c .before .if1 .left)) (omega arith)
+returns-2 c = counted-past (counted-more (c .before .before .before .before .loop .inv) (c .before .before .before .before .before .before .before .pre) (c .before .before .before .loop-test .taken) (c .before .if1 .left)) (omega arith)
 
-add-place : tie.Need-add-place Inv-loop μ-loop
-add-place c = omega arith
+add-place-2 : tie.Need-add-place-2 Inv-loop μ-loop
+add-place-2 c = omega arith
 
 loop-less : tie.Need-loop-less Inv-loop μ-loop
 loop-less c = omega arith
 
 loop-again : tie.Need-loop-again Inv-loop μ-loop
-loop-again c = counted-more (c .before .before .before .before .loop .inv) (c .before .before .before .before .before .pre) (c .before .before .before .loop-test .taken) (c .before .if1 .left)
+loop-again c = counted-more (c .before .before .before .before .loop .inv) (c .before .before .before .before .before .before .before .pre) (c .before .before .before .loop-test .taken) (c .before .if1 .left)
 
 returns-3 : tie.Need-returns-3 Inv-loop μ-loop
 returns-3 c = counted-past (c .before .loop .inv) (c .loop-test .left)
@@ -49,13 +59,16 @@ count-at-spec =
     (tie.spec
     Inv-loop
     μ-loop
+    eights-at-requires
+    mul-place
+    add-place
     loop-holds
     shared-slice-read-if1
     returns
     add-n
     sub-if2
     returns-2
-    add-place
+    add-place-2
     loop-less
     loop-again
     returns-3)

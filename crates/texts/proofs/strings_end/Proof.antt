@@ -2,10 +2,10 @@ use Rattle.texts.specs.Strings.{StringsLeft, strings-none, strings-fit, 
 use Prim.Native.Nat.{_-_, _≤_}
 use native.Mathlib.Omega.{arith}
 use borrow.Author.Tests.{not-true, not-false}
-use Rattle.texts.proofs.strings_utf8.Statement.{statement}
-use Rattle.texts.proofs.strings_utf8.Tie as tie
-use Rattle.texts.proofs.strings_utf8.Reads as reads
-use Rattle.texts.proofs.strings_utf8.Lts as lts
+use Rattle.texts.proofs.strings_end.Statement.{statement}
+use Rattle.texts.proofs.strings_end.Tie as tie
+use Rattle.texts.proofs.strings_end.Reads as reads
+use Rattle.texts.proofs.strings_end.Lts as lts
 use Rattle.texts.proofs.part_utf8.Reads as part-utf8-reads
 use Rattle.wire.proofs.u32_at.Reads as u32-at-reads
 
@@ -36,6 +36,9 @@ cast-n c = omega arith
 part-utf8-requires : tie.Need-part-utf8-requires Inv-loop μ-loop
 part-utf8-requires c κs = (strings-fit (c .before .before .loop .inv .1) (c .before .loop-test .taken) (c .u32-at .ensures) (c .before .before .before .before .before .pre .1 .0), c .before .before .loop .inv .1 .whole)
 
+add-result : tie.Need-add-result Inv-loop μ-loop
+add-result c = omega arith
+
 returns : tie.Need-returns Inv-loop μ-loop
 returns c = strings-bad (c .before .before .before .before .loop .inv .1) (c .before .before .before .loop-test .taken) (c .before .before .u32-at .ensures) (c .before .part-utf8 .ensures) (not-true _ (c .if1 .taken))
 
@@ -54,8 +57,8 @@ loop-again c = (omega arith, strings-more (c .before .before .before .before .lo
 returns-2 : tie.Need-returns-2 Inv-loop μ-loop
 returns-2 c = strings-all (c .before .loop .inv .1) (omega arith)
 
-pub strings-utf8-spec : {M : Type 1} → statement M
-strings-utf8-spec =
+pub strings-end-spec : {M : Type 1} → statement M
+strings-end-spec =
     tie.close
     (tie.spec
     Inv-loop
@@ -67,6 +70,7 @@ strings-utf8-spec =
     u32-at-requires
     cast-n
     part-utf8-requires
+    add-result
     returns
     add-place
     add-i
