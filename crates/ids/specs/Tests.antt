@@ -159,6 +159,16 @@ body-rest st t p i e f h z m = body-passed st (bodyAt t p) 6 (omega arith) (omeg
 unfoldable pub twoRuns : List ℕ → ℕ → ℕ → Body → Bool
 twoRuns starts layers total b = rangeIn starts layers total (wordOf b 0) (wordOf b 1) && rangeIn starts layers total (wordOf b 2) (wordOf b 3)
 
+module _ (starts : List ℕ) (layers total : ℕ) (b : Body) {a n : ℕ} (e : a ≡ wordOf b 0) (f : n ≡ wordOf b 1) {r : Bool} (q : r ≡ rangeIn starts layers total a n) where
+  pub runs-failed : r ≡ false → false ≡ twoRuns starts layers total b
+  unfolding twoRuns
+  runs-failed h = rw (← e, ← f, ← q, h) refl
+
+  pub runs-passed : r ≡ true → {x m : ℕ} → x ≡ wordOf b 2 → m ≡ wordOf b 3 → {s : Bool} → s ≡ rangeIn starts layers total x m → s ≡ twoRuns starts layers total b
+  unfolding twoRuns
+  runs-passed h k l v = rw (← e, ← f, ← q, h, ← k, ← l) v
+
+-- kind 1 has no other field
 pub ruby-body : (st : Store) (t : List ℕ) (p : ℕ) → byteAt t p ≡ 1 → twoRuns (st .contents) (st .layers) (st .totals .contents) (bodyAt t p) ≡ bodyIn st (bodyAt t p)
 unfolding twoRuns bodyIn fieldsOf fieldTable fieldIn bodyAt
 ruby-body st t p e = rw (e, and-true) refl

@@ -51,7 +51,9 @@ returns-2 : tie.Need-returns-2 Inv-loop μ-loop
 returns-2 c = body-rest _ _ _ (c .before .before .before .loop .i) (c .before .before .before .before .uses-of .ensures) (c .before .use-in .ensures) (c .before .before .loop-test .taken) (c .if2 .taken) (c .before .before .before .loop .inv .1)
 
 word-ok-requires : tie.Need-word-ok-requires Inv-loop μ-loop
-word-ok-requires c κs = (c .before .before .before .before .before .before .before .before .before .before .pre .0, c .before .before .loop-test .taken, c .before .before .before .before .before .before .before .before .before .before .pre .1)
+word-ok-requires c κs =
+    let start = c .before .before .before .before .before .before .before .before .before .before in
+    (start .pre .0, c .before .before .loop-test .taken, start .pre .1)
 
 returns-3 : tie.Need-returns-3 Inv-loop μ-loop
 returns-3 c =

@@ -1,6 +1,5 @@
-use Rattle.ids.specs.Tests.{twoRuns}
+use Rattle.ids.specs.Tests.{runs-failed, runs-passed}
 use borrow.Author.Tests.{not-true, not-false}
-use mathlib.Core.Path.{refl, _∙_}
 use borrow.Author.Needs.{needs}
 use Rattle.ids.proofs.two_runs_ok.Statement.{statement}
 use Rattle.ids.proofs.two_runs_ok.Tie as tie
@@ -19,8 +18,7 @@ range-ok-requires : tie.Need-range-ok-requires
 range-ok-requires c κs = search needs
 
 returns : tie.Need-returns
-unfolding twoRuns
-returns c = rw (← c .before .before .before .body-word .ensures, ← c .before .before .body-word2 .ensures, ← c .before .range-ok .ensures, not-true (c .before .range-ok .result) (c .if1 .taken)) refl
+returns c = runs-failed _ _ _ _ (c .before .before .before .body-word .ensures) (c .before .before .body-word2 .ensures) (c .before .range-ok .ensures) (not-true _ (c .if1 .taken))
 
 body-word-requires-3 : tie.Need-body-word-requires-3
 body-word-requires-3 c κs = search needs
@@ -32,8 +30,9 @@ range-ok-requires-2 : tie.Need-range-ok-requires-2
 range-ok-requires-2 c κs = search needs
 
 returns-2 : tie.Need-returns-2
-unfolding twoRuns
-returns-2 c = rw (← c .before .before .before .before .before .before .body-word .ensures, ← c .before .before .before .before .before .body-word2 .ensures, ← c .before .before .before .before .range-ok .ensures, not-false (c .before .before .before .before .range-ok .result) (c .before .before .before .if1 .left), ← c .before .before .body-word3 .ensures, ← c .before .body-word4 .ensures) (c .range-ok2 .ensures)
+returns-2 c =
+    let first = c .before .before .before .before in
+    runs-passed _ _ _ _ (first .before .before .body-word .ensures) (first .before .body-word2 .ensures) (first .range-ok .ensures) (not-false _ (c .before .before .before .if1 .left)) (c .before .before .body-word3 .ensures) (c .before .body-word4 .ensures) (c .range-ok2 .ensures)
 
 pub two-runs-ok-spec : {M : Type 1} → statement M
 two-runs-ok-spec =
