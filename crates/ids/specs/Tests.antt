@@ -2,7 +2,7 @@
 use mathlib.Core.Path.{_≡_, refl, sym, ap, _∙_}
 use Prim.Native.Nat.{ℕ, zero, suc, _+_, _-_, _≤_, _<_}
 use native.Mathlib.Omega.{arith}
-use mathlib.Core.Bool.{Bool, true, false, cond, _&&_, _||_}
+use mathlib.Core.Bool.{Bool, true, false, cond, _&&_, _||_, and-true}
 use mathlib.Core.List.{List, [], _∷_}
 use lib.ListN.{length, getD}
 use lib.Dec.{leb, ltb, eqb}
@@ -12,13 +12,14 @@ use Rattle.model.specs.Bytes.{byteAt, wordAt}
 use Rattle.model.specs.Limits.{noString}
 use Rattle.model.specs.Types.{Body, Content, Segment, SourceNode}
 use Rattle.model.specs.WellFormed.{wordOf}
-use Rattle.model.specs.Tape.{Field, Field.str, Field.optStr, Field.contentRange, Field.segRange, fieldsOf, nodeFields, recordAt, operandsAt, contentCodec, segmentCodec, nodeCodec}
+use Rattle.model.specs.Tape.{Field, Field.str, Field.optStr, Field.contentRange, Field.segRange, fieldTable, fieldsOf, nodeFields, recordAt, operandsAt, contentCodec, segmentCodec, nodeCodec}
 use Rattle.wire.specs.Loops.{allUpTo, Passed, all-passed, all-failed, by-bool}
 use Rattle.records.specs.Values.{bodyAt, segment-body, node-body}
 use Rattle.records.specs.Uses.{wordUse, usesOf, useAmong, uses-right, unused-from}
 use Rattle.records.specs.Words.{wordTest, all-by-words}
 use Rattle.store.specs.Pools.{rangeIn}
 use Rattle.store.specs.declared.Store.{Store}
+use Rattle.store.specs.declared.Totals.{Totals}
 
 -- ---- ids and ranges
 
@@ -51,6 +52,32 @@ segmentIn st s = bodyIn st (s .body)
 
 unfoldable pub nodeIn : Store → SourceNode → Bool
 nodeIn st n = all (fieldIn st (n .body)) (nodeFields n)
+
+-- ---- by the starts alone
+
+-- a store with these starts; where its strings begin is not asked
+abbrev pub shown : List ℕ → List ℕ → ℕ → Totals → Store
+shown contents segments layers totals = record { layers = layers; strings = []; contents = contents; segments = segments; totals = totals }
+
+module _ (st : Store) where
+  shown-field : (b : Body) (f : Field) → fieldIn (shown (st .contents) (st .segments) (st .layers) (st .totals)) b f ≡ fieldIn st b f
+  unfolding fieldIn
+  shown-field b (str i) = refl
+  shown-field b (optStr i) = refl
+  shown-field b (contentRange i) = refl
+  shown-field b (segRange i) = refl
+
+  pub shown-content : (c : Content) → contentIn (shown [] (st .segments) (st .layers) (st .totals)) c ≡ contentIn st c
+  unfolding contentIn
+  shown-content c = refl
+
+  pub shown-segment : (s : Segment) → segmentIn (shown (st .contents) (st .segments) (st .layers) (st .totals)) s ≡ segmentIn st s
+  unfolding segmentIn bodyIn
+  shown-segment s = λ j. all (λ (f : Field). shown-field (s .body) f j) (fieldsOf (s .body))
+
+  pub shown-node : (n : SourceNode) → nodeIn (shown (st .contents) (st .segments) (st .layers) (st .totals)) n ≡ nodeIn st n
+  unfolding nodeIn
+  shown-node n = λ j. all (λ (f : Field). shown-field (n .body) f j) (nodeFields n)
 
 -- ---- word by word
 
@@ -125,6 +152,26 @@ body-rest st t p i e f h z m = body-passed st (bodyAt t p) 6 (omega arith) (omeg
         let n : wordUse (byteAt t p) (byteAt t (p + 1)) k ≡ 0 =
         ap (wordUse (byteAt t p) (byteAt t (p + 1))) (sym q) ∙ unused-from (byteAt t p) (byteAt t (p + 1)) i (k - i) (omega arith) (sym (use-read st t p i e f h) ∙ z) in
         rw n refl
+
+-- ---- a Ruby
+
+-- its base and its reading, each a range of contents
+unfoldable pub twoRuns : List ℕ → ℕ → ℕ → Body → Bool
+twoRuns starts layers total b = rangeIn starts layers total (wordOf b 0) (wordOf b 1) && rangeIn starts layers total (wordOf b 2) (wordOf b 3)
+
+module _ (starts : List ℕ) (layers total : ℕ) (b : Body) {a n : ℕ} (e : a ≡ wordOf b 0) (f : n ≡ wordOf b 1) {r : Bool} (q : r ≡ rangeIn starts layers total a n) where
+  pub runs-failed : r ≡ false → false ≡ twoRuns starts layers total b
+  unfolding twoRuns
+  runs-failed h = rw (← e, ← f, ← q, h) refl
+
+  pub runs-passed : r ≡ true → {x m : ℕ} → x ≡ wordOf b 2 → m ≡ wordOf b 3 → {s : Bool} → s ≡ rangeIn starts layers total x m → s ≡ twoRuns starts layers total b
+  unfolding twoRuns
+  runs-passed h k l v = rw (← e, ← f, ← q, h, ← k, ← l) v
+
+-- kind 1 has no other field
+pub ruby-body : (st : Store) (t : List ℕ) (p : ℕ) → byteAt t p ≡ 1 → twoRuns (st .contents) (st .layers) (st .totals .contents) (bodyAt t p) ≡ bodyIn st (bodyAt t p)
+unfolding twoRuns bodyIn fieldsOf fieldTable fieldIn bodyAt
+ruby-body st t p e = rw (e, and-true) refl
 
 -- ---- the code's answers of single records
 

@@ -4,16 +4,16 @@ use Prim.Native.Nat.{ℕ, _+_, _*_, _≤_, _<_}
 use native.Mathlib.Omega.{arith}
 use native.Mathlib.Numerals.{add-one}
 use mathlib.Core.Bool.{Bool, true, false, _&&_}
-use mathlib.Core.List.{List}
+use mathlib.Core.List.{List, [], _∷_}
 use lib.ListN.{length, getD, drop, drop-of-length-le}
 use lib.Seq.{drop-cons}
-use Rattle.model.specs.Lists.{all}
+use Rattle.model.specs.Lists.{all, sum}
 use Rattle.model.specs.Tape.{recordsAt, segmentCodec, LayerPlaces, layerPlaces, places}
 use Rattle.places.specs.declared.LayerRuns.{LayerRuns}
-use Rattle.places.specs.Found.{layerRuns}
+use Rattle.places.specs.Found.{layerRuns, segmentsIn}
 use Rattle.places.specs.Again.{AtLayer, at-first, at-inside, at-here, at-next, at-before}
 use Rattle.store.specs.declared.Store.{Store}
-use Rattle.store.specs.Stored.{OfTape}
+use Rattle.store.specs.Stored.{OfTape, storeAt}
 use Rattle.levels.specs.Below.{levelIn}
 
 -- the segments of a layer
@@ -25,6 +25,22 @@ layerLevels t st l = runLevels t st (layerRuns l)
 
 unfoldable pub levelsIn : List ℕ → Store → Bool
 levelsIn t st = all (layerLevels t st) (places t .layers)
+
+-- ---- a book without segments
+
+no-runs : (t : List ℕ) (st : Store) (ls : List LayerPlaces) → sum (segmentsIn ls) ≡ 0 → true ≡ all (layerLevels t st) ls
+unfolding layerLevels runLevels recordsAt
+no-runs t st [] h = refl
+no-runs t st (l ∷ ls) h =
+    let e : l .segmentCount ≡ 0 = omega (arith, h) in
+    let f : sum (segmentsIn ls) ≡ 0 = omega (arith, h) in
+    rw e (no-runs t st ls f)
+
+pub no-segments : {t : List ℕ} {st : Store} → OfTape t st → st .totals .segments ≡ 0 → true ≡ levelsIn t st
+unfolding levelsIn storeAt
+no-segments {t} {st} fits e = no-runs t st (places t .layers) (sym (ap (λ (s : Store). s .totals .segments) (fits .stored)) ∙ e)
+
+-- ---- its layers walked
 
 pub record Walked (t : List ℕ) (st : Store) (i at : ℕ) : Type 0 where
   pub place : AtLayer t i at

@@ -590,12 +590,15 @@ fn levels_tabled(tape: &[u8], st: store::Store, layers: usize) -> bool
 }
 
 // Number 5, whole. The first layer is asked by itself: called from two places, `levels_tabled` is not made part of its caller, and
-// a book that needs no tables needs no room for them.
+// a book that needs no tables needs no room for them. In a book without segments there is nothing to ask.
 pub fn levels_ok(tape: &[u8], st: store::Store, layers: usize) -> bool
     requires { ⌜ OfTape (now tape) st ⌝ }
     requires { ⌜ layers ≡ length (places (now tape) .layers) ⌝ }
     ensures { λ r. ⌜ r ≡ levelsIn (now (tape .entry)) st ⌝ }
 {
+    if st.totals.segments == 0 {
+        return true;
+    }
     if layers == 0 {
         return true;
     }

@@ -2,11 +2,11 @@
 use Prim.Native.Nat.{ℕ, _<_, _≤_}
 use mathlib.Core.List.{List}
 use lib.ListN.{getD}
-use mathlib.Core.Path.{_≡_, refl, _∙_}
+use mathlib.Core.Path.{_≡_, refl, sym, _∙_}
 use mathlib.Core.Bool.{Bool, true, false, cond, _&&_, _||_, or-false}
 use lib.Dec.{leb, ltb, eqb}
 use borrow.Author.Tests.{ne-eqb, eqb-true, lt-ltb, le-ltb, ltb-true, ltb-false, le-leb, lt-leb}
-use Rattle.wire.specs.Loops.{by-bool}
+use Rattle.wire.specs.Loops.{by-bool, allUpTo, all-at}
 use Rattle.model.specs.Types.{Body, Content, Segment, SourceNode}
 use Rattle.model.specs.Tape.{Field, tagCounts, unusedZero, fieldsOf, nodeFields, bodyShape, contentShape, segmentShape, nodeShape}
 use Rattle.records.specs.Uses.{fieldsFor}
@@ -77,6 +77,19 @@ module _ (n : SourceNode) where
   node-goes-on e = node-parts ∙ rw e refl
 
 -- ---- bodies
+
+-- kinds other than these have one tag
+unfoldable oneTag : ℕ → Bool
+oneTag k = eqb k 2 || (eqb k 3 || (eqb k 11 || (eqb k 13 || eqb (getD tagCounts k 0) 1)))
+
+all-one-tag : allUpTo 16 oneTag ≡ true
+unfolding allUpTo oneTag tagCounts
+all-one-tag = refl
+
+pub one-tag : (k : ℕ) → k < 16 → (k ≡ 2 → ⊥) → (k ≡ 3 → ⊥) → (k ≡ 11 → ⊥) → (k ≡ 13 → ⊥) → 1 ≡ getD tagCounts k 0
+unfolding oneTag
+one-tag k h a b d e =
+    sym (eqb-true (getD tagCounts k 0) 1 (rw (ne-eqb k 2 a, ne-eqb k 3 b, ne-eqb k 11 d, ne-eqb k 13 e) at (all-at oneTag 16 k all-one-tag h)))
 
 module _ (fs : List Field) (b : Body) (count : ℕ) (e : count ≡ getD tagCounts (b .kind) 0) where
   -- no such kind or no such tag of it

@@ -211,15 +211,18 @@ fits-done fs ws i h = rw (drop-of-length-le ws h) refl
 
 -- ---- the code's answers
 
-module _ (used : Bool) (k t i w : ℕ) where
-  pub fits-zero : w ≡ 0 → wordFits (fieldsFor used k t) i w ≡ true
-  unfolding wordFits
-  fits-zero e = rw (eq-eqb w 0 e, or-true) refl
+-- a word by the code's number of uses
+unfoldable pub usesFit : Bool → ℕ → ℕ → ℕ → Bool
+usesFit used uses i w = cond (eqb w 0) true (cond used (not (eqb (useAmong uses i) 0)) false)
 
-  pub fits-unused : (w ≡ 0 → ⊥) → used ≡ false → wordFits (fieldsFor used k t) i w ≡ false
-  unfolding wordFits fieldsFor
-  fits-unused n e = rw (e, ne-eqb w 0 n) refl
+module _ (used : Bool) (k t i w : ℕ) (h : i < 6) where
+  fits-same : usesFit used (usesOf k t) i w ≡ wordFits (fieldsFor used k t) i w
+  unfolding usesFit wordFits fieldsFor wordUse
+  fits-same = by-bool (eqb w 0) (λ e. rw (e, or-true) refl) (λ e. rw (e, or-false) (by-used used))
+    where
+      by-used : (x : Bool) → cond x (not (eqb (useAmong (usesOf k t) i) 0)) false ≡ any (usesWord i) (cond x (getD (fieldTable t) k []) [])
+      by-used true = rw (uses-right k t i h) (sym (uses-word i (getD (fieldTable t) k [])))
+      by-used false = refl
 
-  pub fits-use : (w ≡ 0 → ⊥) → used ≡ true → (u : ℕ) → u ≡ wordUse k t i → not (eqb u 0) ≡ wordFits (fieldsFor used k t) i w
-  unfolding wordFits wordUse fieldsFor
-  fits-use n e u q = rw (e, ne-eqb w 0 n, uses-word, q, or-false) refl
+  pub fits-read : {u : ℕ} → u ≡ usesOf k t → {r : Bool} → r ≡ usesFit used u i w → wordFits (fieldsFor used k t) i w ≡ r
+  fits-read e q = sym (q ∙ ap (λ (n : ℕ). usesFit used n i w) e ∙ fits-same)

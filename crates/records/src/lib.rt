@@ -12,7 +12,7 @@ ghost use Rattle.model.specs.Tape.{contentShape, segmentShape, nodeShape, pairS
 ghost use Rattle.model.specs.WellFormed.{wordOf};
 ghost use Rattle.records.specs.Values.{bodyOf, contentOf, segmentOf, sourceNodeOf, pairLinkOf, containerPairOf, diagnosticOf};
 ghost use Rattle.records.specs.Values.{bodyAt};
-ghost use Rattle.records.specs.Uses.{formatUses, mencodeUses, imageUses, usesOf, useAmong, wordUse, fieldsFor, wordFits};
+ghost use Rattle.records.specs.Uses.{formatUses, mencodeUses, imageUses, usesOf, useAmong, wordUse, fieldsFor, usesFit};
 ghost use Rattle.records.specs.Shapes.{segmentHead, nodeHead};
 
 // Section 4. A body: what a `Node` or a text holds.
@@ -194,22 +194,30 @@ pub fn diagnostic_at(tape: &[u8], at: usize) -> Diagnostic
     }
 }
 
-// Section 4. How many tags each kind has.
-const TAGS: [u8; 16] = [1, 1, 16, 3, 1, 1, 1, 1, 1, 1, 1, 3, 1, 14, 1, 1];
-
+// Section 4. How many tags each kind has. By ifs, as a table of constants would be written to the stack at each call.
 fn tag_count(kind: u8) -> u8
     ensures { λ r. ⌜ r ≡ getD tagCounts kind 0 ⌝ }
 {
     if 16 <= kind {
         return 0;
     }
-    let k = kind as usize;
-    TAGS[k]
+    if kind == 2 {
+        return 16;
+    }
+    if kind == 3 {
+        return 3;
+    }
+    if kind == 11 {
+        return 3;
+    }
+    if kind == 13 {
+        return 14;
+    }
+    1
 }
 
 // What the six words of a body are for, three bits a word from the lowest on: 0 unused, 1 a string, 2 a string that may be missing,
-// 3 and 4 start and length of contents, 5 and 6 start and length of segments. Plain numbers, as a table of constants would be
-// written to the stack at each call.
+// 3 and 4 start and length of contents, 5 and 6 start and length of segments. Plain numbers, as for `tag_count`.
 
 // Format's tag is origin × 4 + payload, and only the payload matters here.
 fn format_uses(tag: u8) -> u32
@@ -297,9 +305,9 @@ pub fn word_use(kind: u8, tag: u8, i: usize) -> u8
 }
 
 // Section 4. Unused words are 0; a body that is not `used`, of a node of class 2 or 3, has no words.
-fn word_fits(used: bool, kind: u8, tag: u8, i: usize, w: u32) -> bool
+fn word_fits(used: bool, uses: u32, i: usize, w: u32) -> bool
     requires { ⌜ i < 6 ⌝ }
-    ensures { λ r. ⌜ r ≡ wordFits (fieldsFor used kind tag) i w ⌝ }
+    ensures { λ r. ⌜ r ≡ usesFit used uses i w ⌝ }
 {
     if w == 0 {
         return true;
@@ -307,15 +315,16 @@ fn word_fits(used: bool, kind: u8, tag: u8, i: usize, w: u32) -> bool
     if !used {
         return false;
     }
-    word_use(kind, tag, i) != 0
+    use_in(uses, i) != 0
 }
 
 fn words_fit(used: bool, kind: u8, tag: u8, words: [u32; 6]) -> bool
     ensures { λ r. ⌜ r ≡ unusedZero (fieldsFor used kind tag) 0 words ⌝ }
 {
+    let uses = uses_of(kind, tag);
     let mut i = 0;
     while i < 6 {
-        if !word_fits(used, kind, tag, i, words[i]) {
+        if !word_fits(used, uses, i, words[i]) {
             return false;
         }
         i += 1;

@@ -13,7 +13,7 @@ shared-slice-read-if1 : tie.Need-shared-slice-read-if1
 shared-slice-read-if1 c = search needs
 
 returns : tie.Need-returns
-returns c = node-bare (c .before .before .before .args .st) (c .before .before .before .args .tape .now) (c .before .before .before .args .at) (c .if1 .taken)
+returns c = node-bare _ _ _ (c .if1 .taken)
 
 add-body-ids-ok : tie.Need-add-body-ids-ok
 add-body-ids-ok c = search needs
@@ -22,7 +22,7 @@ body-ids-ok-requires : tie.Need-body-ids-ok-requires
 body-ids-ok-requires c κs = search needs
 
 returns-2 : tie.Need-returns-2
-returns-2 c = node-answer (c .before .before .before .before .args .st) (c .before .before .before .before .args .tape .now) (c .before .before .before .before .args .at) _ (c .before .if1 .left) (c .body-ids-ok .ensures)
+returns-2 c = node-answer _ _ _ _ (c .before .if1 .left) (c .body-ids-ok .ensures)
 
 pub node-ids-ok-spec : {M : Type 1} → statement M
 node-ids-ok-spec =

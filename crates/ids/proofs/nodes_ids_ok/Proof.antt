@@ -1,11 +1,11 @@
 use Rattle.model.specs.Tape.{nodeCodec}
 use Rattle.wire.specs.Loops.{Passed, passed-none}
 use Rattle.records.specs.Runs.{testAt, run-more, run-failed, run-passed}
-use Rattle.ids.specs.Tests.{nodeIn}
+use Rattle.ids.specs.Tests.{nodeIn, shown-node}
 use borrow.Author.Tests.{not-true, not-false}
-use mathlib.Core.Path.{refl}
-use Prim.Native.Nat.{_-_, _≤_}
+use mathlib.Core.Path.{refl, _∙_}
 use native.Mathlib.Omega.{arith}
+use Prim.Native.Nat.{_-_, _≤_}
 use Rattle.ids.proofs.nodes_ids_ok.Statement.{statement}
 use Rattle.ids.proofs.nodes_ids_ok.Tie as tie
 use Rattle.ids.proofs.nodes_ids_ok.Reads as reads
@@ -13,10 +13,10 @@ use Rattle.ids.proofs.nodes_ids_ok.Lts as lts
 use Rattle.ids.proofs.node_ids_ok.Reads as node-ids-ok-reads
 
 abbrev Inv-loop : tie.InvT-loop
-Inv-loop tape st at count i₀ i = (i ≤ count) × Passed (testAt nodeCodec (nodeIn st) tape at) i
+Inv-loop tape st at count contents segments i₀ i = (i ≤ count) × Passed (testAt nodeCodec (nodeIn st) tape at) i
 
 abbrev μ-loop : tie.MeasureT-loop
-μ-loop tape st at count i₀ i = count - i
+μ-loop tape st at count contents segments i₀ i = count - i
 
 loop-holds : tie.Need-loop-holds Inv-loop μ-loop
 loop-holds c = (omega arith, passed-none _)
@@ -28,11 +28,13 @@ add-node-ids-ok : tie.Need-add-node-ids-ok Inv-loop μ-loop
 add-node-ids-ok c = omega arith
 
 node-ids-ok-requires : tie.Need-node-ids-ok-requires Inv-loop μ-loop
-node-ids-ok-requires c κs = (omega arith, c .before .before .before .pre .1)
+node-ids-ok-requires c κs = (omega arith, c .before .before .before .before .before .before .before .pre .1)
 
 returns : tie.Need-returns Inv-loop μ-loop
 unfolding nodeCodec
-returns c = run-failed nodeCodec (nodeIn (c .before .before .before .before .before .args .st)) (c .before .before .before .before .before .args .tape .now) (c .before .before .before .before .before .args .at) (c .before .before .before .loop .i) _ refl _ (c .before .node-ids-ok .ensures) _ (c .before .before .loop-test .taken) (not-true _ (c .if1 .taken))
+returns c =
+    let start = c .before .before .before .before .before .before .before .before .before in
+    run-failed nodeCodec (nodeIn (start .args .st)) (start .args .tape .now) (start .args .at) (c .before .before .before .before .before .loop .i) _ refl _ (c .before .node-ids-ok .ensures ∙ shown-node (start .args .st) _) _ (c .before .before .before .before .loop-test .taken) (not-true _ (c .if1 .taken))
 
 add-i : tie.Need-add-i Inv-loop μ-loop
 add-i c = omega arith
@@ -42,10 +44,14 @@ loop-less c = omega arith
 
 loop-again : tie.Need-loop-again Inv-loop μ-loop
 unfolding nodeCodec
-loop-again c = (omega arith, run-more nodeCodec (nodeIn (c .before .before .before .before .before .args .st)) (c .before .before .before .before .before .args .tape .now) (c .before .before .before .before .before .args .at) (c .before .before .before .loop .i) _ refl _ (c .before .node-ids-ok .ensures) (not-false _ (c .if1 .left)) (c .before .before .before .loop .inv .1))
+loop-again c =
+    let start = c .before .before .before .before .before .before .before .before .before in
+    (omega arith, run-more nodeCodec (nodeIn (start .args .st)) (start .args .tape .now) (start .args .at) (c .before .before .before .before .before .loop .i) _ refl _ (c .before .node-ids-ok .ensures ∙ shown-node (start .args .st) _) (not-false _ (c .if1 .left)) (c .before .before .before .before .before .loop .inv .1))
 
 returns-2 : tie.Need-returns-2 Inv-loop μ-loop
-returns-2 c = run-passed nodeCodec (nodeIn (c .before .before .before .args .st)) (c .before .before .before .args .tape .now) (c .before .before .before .args .at) _ (c .before .loop .i) (omega arith) (c .before .loop .inv .1)
+returns-2 c =
+    let start = c .before .before .before .before .before in
+    run-passed nodeCodec (nodeIn (start .args .st)) (start .args .tape .now) (start .args .at) _ (c .before .loop .i) (omega arith) (c .before .loop .inv .1)
 
 pub nodes-ids-ok-spec : {M : Type 1} → statement M
 nodes-ids-ok-spec =

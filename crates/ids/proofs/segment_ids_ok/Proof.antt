@@ -13,7 +13,7 @@ body-ids-ok-requires : tie.Need-body-ids-ok-requires
 body-ids-ok-requires c κs = search needs
 
 returns : tie.Need-returns
-returns c = segment-answer (c .before .before .args .st) (c .before .before .args .tape .now) (c .before .before .args .at) _ (c .body-ids-ok .ensures)
+returns c = segment-answer _ _ _ _ (c .body-ids-ok .ensures)
 
 pub segment-ids-ok-spec : {M : Type 1} → statement M
 segment-ids-ok-spec = tie.close (tie.spec add-body-ids-ok body-ids-ok-requires returns)

@@ -1,6 +1,3 @@
-use Rattle.ids.specs.Tests.{usedWell}
-use mathlib.Core.Path.{ap₂, _∙_}
-use Prim.Native.Nat.{ℕ}
 use borrow.Author.Needs.{needs}
 use Rattle.ids.proofs.word_ok.Statement.{statement}
 use Rattle.ids.proofs.word_ok.Tie as tie
@@ -20,7 +17,7 @@ used-well-requires : tie.Need-used-well-requires
 used-well-requires c κs = search needs
 
 returns : tie.Need-returns
-returns c = c .used-well .ensures ∙ ap₂ (λ (w next : ℕ). usedWell (c .before .before .before .before .args .st) (c .before .before .before .before .args .usage) w next) (c .before .before .body-word .ensures) (c .before .next-word .ensures)
+returns c = cc
 
 pub word-ok-spec : {M : Type 1} → statement M
 word-ok-spec =
