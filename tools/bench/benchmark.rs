@@ -169,15 +169,31 @@ fn text_bytes(tape: &[u8]) -> usize { [1, 5].map(|at| u32::from_le_bytes(tape[at
 // what an estimate takes is timed where the book's size or the reading's varies
 fn has_price(group: &Group) -> bool { matches!(group, Group::Sizes(_) | Group::Readings) }
 
-// The price of a small reading that stands for 2^33 texts, and how many bytes its tape has: best and median of 15 calls.
-fn priced_doubled() -> (Times, usize) {
-    let c = doubled();
+// a reading whose runs are shared: its bytes of tape and strings, how many texts it stands for, and its price
+struct SharedRow { name: &'static str, bytes: usize, texts: u64, price: Times }
+
+fn shared_rows() -> Vec<SharedRow> {
+    let row = |name, sharing| priced_shared(name, |r| (tree(r, sharing, 32), texts_of(sharing, 32)));
+    vec![
+        row("one run beside itself", Sharing::Turn(1)),
+        row("two runs in turn", Sharing::Turn(2)),
+        row("three runs in turn", Sharing::Turn(3)),
+        row("64 runs in turn", Sharing::Turn(64)),
+        row("one run by two fields of a body", Sharing::Fields),
+        row("two runs by paths of unlike length", Sharing::Unlike),
+        priced_shared("one run of 350 contents by 95 segments", |r| wide_tree(r, 95, 350)),
+    ]
+}
+
+// best and median of 15 calls
+fn priced_shared(name: &'static str, make: impl FnOnce(&mut Book) -> (u32, u64)) -> SharedRow {
+    let (c, texts) = two_trees(make);
     let mut words = vec![7; 16384];
     let p = priced(&c, &mut words);
-    assert_eq!((p.number, p.reread, p.calls, p.contents, p.segments), (0, 2, 1048576, 1048576, 1048576));
+    assert_eq!((p.number, p.reread, p.calls, p.contents, p.segments), (0, 2, 1048576, 1048576, 1048576), "{name}");
     let mut v: Vec<f64> = (0..15).map(|_| clock(|| priced(&c, &mut words))).collect();
     v.sort_by(f64::total_cmp);
-    (Times { best: v[0], median: v[7], calls: v.len() }, c.reading.0.len())
+    SharedRow { name, bytes: c.reading.0.len() + c.reading.1.len(), texts, price: Times { best: v[0], median: v[7], calls: v.len() } }
 }
 
 fn time(entry: &Entry, seconds: f64, cost: f64) -> Row {

@@ -101,22 +101,70 @@ fn case_of(b: &Book, at: usize, kind: Kind, n: usize) -> Case {
 
 fn simple(kind: Kind, size: usize, place: Place, n: usize) -> Case { let (b, at) = novel(kind, size, place, n); case_of(&b, at, kind, n) }
 
-// A reading of two nodes that each stand for 2^32 texts: an AngleQuote of two contents, both the run with the one below, 32 levels of it.
-fn doubled() -> Case {
+// How the levels of a tree share runs, so that few records stand for many texts
+#[derive(Clone, Copy, PartialEq)]
+enum Sharing {
+    Turn(u32), // k AngleQuotes on each level; the one at j holds two runs of the level below, those at 2j and 2j + 1 modulo k: of one, the same run twice
+    Fields,    // a Ruby on each level; its base and its reading are the run of the level below
+    Unlike,    // an AngleQuote on each level, of the run one level below, of that two levels below, and of the first again
+}
+
+// how many texts one of the top level stands for
+fn texts_of(sharing: Sharing, levels: u8) -> u64 { (0..levels).fold((1, 1), |(a, below), _| (2 * a + if sharing == Sharing::Unlike { below } else { 0 }, a)).0 }
+
+// so many levels above texts; answers the first segment of the top level
+fn tree(r: &mut Book, sharing: Sharing, levels: u8) -> u32 {
+    let width = if let Sharing::Turn(k) = sharing { k } else { 1 };
+    let next = |r: &Book| r.segments.len() as u32 / 37;
+    let (id, mut inner) = (r.string("字"), next(r));
+    let mut lower = inner;
+    for _ in 0..width { r.segment(0, 0, 0, [id, 0, 0, 0, 0, 0]); }
+    for level in 1..=levels {
+        let first = r.contents.len() as u32 / 10;
+        match sharing {
+            Sharing::Turn(k) => for i in 0..k + k % 2 { r.content(1, inner + i % k, 1); },
+            Sharing::Fields => { r.content(1, inner, 1); }
+            Sharing::Unlike => for s in [inner, lower, inner] { r.content(1, s, 1); },
+        }
+        (lower, inner) = (inner, next(r));
+        for j in 0..width {
+            match sharing {
+                Sharing::Turn(k) => r.segment(3, level, 14, [first + 2 * j % k, 2, 0, 0, 0, 0]),
+                Sharing::Fields => r.segment(3, level, 1, [first, 1, first, 1, 0, 0]),
+                Sharing::Unlike => r.segment(3, level, 14, [first, 3, 0, 0, 0, 0]),
+            };
+        }
+    }
+    inner
+}
+
+// m AngleQuotes, unlike their neighbours, over one run of n contents, two texts in turn; above them 31 levels, each with all m and twice the level below.
+// Answers the top and how many texts it stands for.
+fn wide_tree(r: &mut Book, m: u32, n: u32) -> (u32, u64) {
+    let id = r.string("字");
+    for _ in 0..2 { r.segment(0, 0, 0, [id, 0, 0, 0, 0, 0]); }
+    for i in 0..=n { r.content(1, i % 2, 1); }
+    for i in 0..m { r.segment(3, 1, 14, [i % 2, n, 0, 0, 0, 0]); }
+    let (wide, mut inner, mut texts) = (2, 2, u64::from(n));
+    for level in 2..=32 {
+        let first = r.content(1, wide, m);
+        for _ in 0..2 { r.content(1, inner, 1); }
+        inner = r.segment(3, level, 14, [first, 3, 0, 0, 0, 0]);
+        texts = u64::from(m * n) + 2 * texts;
+    }
+    (inner, texts)
+}
+
+// A reading of two nodes that both name one tree, and how many texts they stand for
+fn two_trees(make: impl FnOnce(&mut Book) -> (u32, u64)) -> (Case, u64) {
     let (mut b, mut r) = (Book::default(), Book::default());
     b.put(BEFORE);
     b.put("\n\n次の段落\n\n");
-    let id = r.string("字");
-    let mut inner = r.segment(0, 0, 0, [id, 0, 0, 0, 0, 0]);
-    for level in 1..=32 {
-        let first = r.content(1, inner, 1);
-        r.content(1, inner, 1);
-        inner = r.segment(3, level, 14, [first, 2, 0, 0, 0, 0]);
-    }
+    let (inner, texts) = make(&mut r);
     let top = r.content(1, inner, 1);
     for s in ["訂", "正"] { r.node(s, 14, 0, [top, 1, 0, 0, 0, 0]); }
     r.put("\n\n");
-    Case { book: b.done(), edit: (0, BEFORE.len()), replacement: AFTER, reading: r.done(), nodes: 0 }
+    (Case { book: b.done(), edit: (0, BEFORE.len()), replacement: AFTER, reading: r.done(), nodes: 0 }, 2 * texts)
 }
 
 // so many diagnostics at equal distances: in the order of the text, or at every 7,919th place, which is far from any order

@@ -83,8 +83,15 @@ fn prices(rows: &[Row]) -> String {
     for r in rows.iter().filter(|r| has_price(&r.shown[0].0)) {
         s += &format!("| {} | {} | {} | {} | **{}** | {} |\n", name_of(r), cell(r.times[MERGE]), cell(r.times[SHORT]), cell(r.times[PRICE]), figures(r.ratio(PRICE, SHORT)), figures(r.ratio(PRICE, MERGE)));
     }
-    let (doubled, tape) = priced_doubled();
-    s + &format!("\nA reading of {tape} bytes of tape whose two nodes stand for 2^33 texts, all three counts over: {}.\n", cell(Some(doubled)))
+    s
+}
+
+fn power_of_two(n: u64) -> String { format!("{}2^{}", if n.is_power_of_two() { "" } else { "more than " }, n.ilog2()) }
+
+fn shared_prices() -> String {
+    let mut s = "| shared on each level | tape and bytes of the reading | texts it stands for | the price |\n|---|---|---|---|\n".to_string();
+    for r in shared_rows() { s += &format!("| {} | {} | {} | {} |\n", r.name, thousands(r.bytes), power_of_two(r.texts), cell(Some(r.price))); }
+    s
 }
 
 fn name_of(r: &Row) -> String {
@@ -201,6 +208,7 @@ fn write(template: &str, docs: &str, rows: &[Row], slow: &[HostileRow], p: &Prof
         ("shapes", table(rows, Group::Shapes, "book")),
         ("lent", lent(rows)),
         ("prices", prices(rows)),
+        ("shared-prices", shared_prices()),
         ("behind-count", count(rows, MERGE, REPARSE)),
         ("ahead-count", count(rows, REPARSE, MERGE)),
         ("behind-tapes-count", count(rows, MERGE, TAPES)),

@@ -10,7 +10,7 @@ const MAX_TEXT: usize = 16_777_215;
 
 // the entry that is timed
 #[derive(Clone, Copy, PartialEq)]
-enum Timed { Check, Region, Merge }
+enum Timed { Check, Region, Merge, Price }
 
 // `shared`: bytes of records that runs named more than once add to the result
 struct Hostile { book: Tape, edit: (usize, usize), reading: Tape, shared: usize }
@@ -205,16 +205,18 @@ fn long_introduced(n: usize, k: usize) -> Hostile {
     Hostile { book: b.done(), edit: (at, at + 1), reading: r.done(), shared: 0 }
 }
 
-// a line of text, and a reading of it with one AngleQuote over all its contents
-fn grafted(mut r: Book) -> Hostile {
+// a line of text, and a reading of it with one AngleQuote over its contents from `first` on
+fn grafted_from(mut r: Book, first: u32) -> Hostile {
     let mut b = Book::default();
     b.put("ay\n\nb");
     r.put("x");
     let contents = r.contents.len() as u32 / 10;
-    r.node("y", 14, 0, [0, contents, 0, 0, 0, 0]);
+    r.node("y", 14, 0, [first, contents - first, 0, 0, 0, 0]);
     r.put("\n\n");
     Hostile { book: b.done(), edit: (0, 1), reading: r.done(), shared: 0 }
 }
+
+fn grafted(r: Book) -> Hostile { grafted_from(r, 0) }
 
 // n contents that name two equal long strings in turn
 fn long_again(n: usize) -> Hostile {
@@ -259,6 +261,35 @@ fn probed_shared(strings: &[String], n: usize) -> Hostile {
     for s in strings { r.plain(s); }
     for i in 0..n { r.content(0, (strings.len() - 1 - i * 7 % 1000) as u32, 0); }
     shared(r)
+}
+
+// n trees whose runs are shared, with as many levels as the pools have room for when they are grafted
+fn trees(n: usize, sharing: Sharing) -> Hostile {
+    let levels = (1..32).take_while(|l| 2 * n as u64 * texts_of(sharing, *l) <= MAX_POOL as u64).count();
+    let mut r = Book::default();
+    let tops: Vec<u32> = (0..n).map(|_| tree(&mut r, sharing, levels as u8)).collect();
+    let first = r.contents.len() as u32 / 10;
+    for s in tops { r.content(1, s, 1); }
+    grafted_from(r, first)
+}
+
+// n AngleQuotes on each of 32 levels, so that more runs are shared than a table of any fixed size holds: 2^32 texts
+fn crowded_levels(n: usize) -> Hostile {
+    let mut r = Book::default();
+    let inner = tree(&mut r, Sharing::Turn(n as u32), 32);
+    let top = r.content(1, inner, 1);
+    grafted_from(r, top)
+}
+
+// n AngleQuotes, unlike their neighbours, over n of n + 1 contents: strings, or runs of one segment each
+fn one_run(n: usize, strings: bool) -> Hostile {
+    let (mut r, m) = (Book::default(), n as u32);
+    for s in ["語", "句"] { r.string(s); }
+    for i in 0..=m { if strings { r.content(0, i % 2, 0); } else { r.content(1, i, 1); r.segment(3, 1, 5, [0; 6]); } }
+    let first = r.segments.len() as u32 / 37;
+    for i in 0..m { r.segment(3, 2, 14, [i % 2, m, 0, 0, 0, 0]); }
+    let top = r.content(1, first, m);
+    grafted_from(r, top)
 }
 
 // n Rubies in the book, n Formats in the reading
@@ -341,7 +372,8 @@ fn all_shapes() -> Vec<Shape> {
     const ALL: &[usize] = &[0, 256, 16384, 262144];
     const SORTED: &[usize] = &[16384, 262144]; // with fewer words a merge says 18 before it sorts
     const ONE: &[usize] = &[16384];
-    use Timed::{Check, Merge, Region};
+    const PRICED: &[usize] = &[0, 16384];
+    use Timed::{Check, Merge, Price, Region};
     let common: &'static str = Box::leak("青空文庫の本を読む人は".repeat(6).into_boxed_str());
     let (crowded, with_prefix, slot) = (Rc::new(crowd("", crowds_filter)), crowd(common, crowds_filter), Rc::new(crowd("", one_slot)));
     let (crowded_reading, slot_too) = (crowded.clone(), slot.clone());
@@ -379,6 +411,12 @@ fn all_shapes() -> Vec<Shape> {
         shape("grafting: a million contents by shared runs, n equal strings of a kilobyte in turn", Merge, ONE, 65_536, |n| long_shared(n)),
         shape("grafting: 3,583 strings of one slot, then n contents that name the last and the first in turn", Merge, ONE, MAX_POOL - 3583, move |n| probed(&slot(3583), n)),
         shape("grafting: 3,583 strings of one slot, a million contents by shared runs of n, far strings in turn", Merge, ONE, 65_536, move |n| probed_shared(&slot_too(3583), n)),
+        shape("price: n trees, two shared runs in turn on each level", Price, PRICED, MAX_POOL / 8, |n| trees(n, Sharing::Turn(2))),
+        shape("price: n trees, a run shared by two fields on each level", Price, PRICED, MAX_POOL / 8, |n| trees(n, Sharing::Fields)),
+        shape("price: n trees, runs shared by paths of unlike length", Price, PRICED, MAX_POOL / 8, |n| trees(n, Sharing::Unlike)),
+        shape("price: n shared runs in turn on each of 32 levels", Price, PRICED, MAX_POOL / 33, |n| crowded_levels(n)),
+        shape("price: n segments that name one shared run of n strings", Price, PRICED, MAX_POOL / 2, |n| one_run(n, true)),
+        shape("price: n segments that name one shared run of n runs", Price, PRICED, MAX_POOL / 2, |n| one_run(n, false)),
     ]
 }
 
@@ -405,6 +443,7 @@ fn call(h: &Hostile, timed: Timed, words: usize) -> (u32, f64) {
             Timed::Check => check_book(&h.book),
             Timed::Region => choose_region(&h.book, h.edit, b"x", &mut lent).number,
             Timed::Merge => merge(&h.book, h.edit, b"x", &h.reading, &mut o).number,
+            Timed::Price => estimate(&h.book, h.edit, b"x", &h.reading, &mut lent).number,
         });
         taken.push(now() - start);
     }
@@ -465,7 +504,7 @@ fn hostile_rows(how: &str) -> Vec<HostileRow> {
     rows
 }
 
-fn entry_name(t: Timed) -> &'static str { match t { Timed::Check => "`check_book`", Timed::Region => "`choose_region`", Timed::Merge => "`merge`" } }
+fn entry_name(t: Timed) -> &'static str { match t { Timed::Check => "`check_book`", Timed::Region => "`choose_region`", Timed::Merge => "`merge`", Timed::Price => "`estimate`" } }
 
 fn shown_exponent(r: &HostileRow) -> String { exponent(&r.points).map_or("unknown".into(), |e| format!("{e:.2}")) }
 

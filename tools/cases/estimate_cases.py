@@ -2,7 +2,7 @@
 added; None where merge.py alone says it), old book, edit, replacement, reading, and how many work words are lent. Every case of the
 merge is one too."""
 from small import *
-from graft_cases import doubling, longs, nodes_of, quote
+from graft_cases import doubling, nodes_of, quote
 import graft_cases, merge_cases
 from merge import WORK
 from tape_cases import but, node, run, text
@@ -19,9 +19,9 @@ def read_last(label, told, reading, old=None, **more):
     """the reading of the last passage, whatever its text"""
     case(label, told, old or plain('aa\n\nb'), 4, 5, reading.text, reading, **more)
 
-# ---- each kind of node, with every tag: which strings are calls, which runs are added
+# ---- each kind of node, with every tag: which strings are calls, which runs are added. Doubled runs stand below
 for label, number, b, *_ in graft_cases.cases:
-    if number in (0, 18) and len(b.layers) == 1 and b.nodes and len(b.tape()) < 4000: read_last('reading: ' + label, None, b)
+    if number in (0, 18) and len(b.layers) == 1 and b.nodes and len(b.tape()) < 3000 and 'doubled' not in label: read_last('reading: ' + label, None, b)
 
 # ---- work words: any number
 p5 = plain(abc), 4, 5, b'x'
@@ -42,8 +42,8 @@ read_last('images of seven bytes', (3, 0, 0, 0), book('xyz', nodes=[leaf(0, 1, 5
 
 # ---- every call counts, found in the cache, in the table or new
 read_last('one string eight times', (1, 8, 8, 0), quote([0] * 8, 'a'))
-read_last('4000 strings', (8, 4000, 4000, 0), longs(7, 416))
-read_last('3584 strings', (7, 3584, 3584, 0), longs(6, 512))
+# 40 AngleQuotes over one run of two long strings in turn, each a new one
+read_last('4000 strings', (40, 4000, 4000, 0), nodes_of(*[(14, 0, [0, 100])] * 40, strings=['a' * 65, 'b' * 65], contents=[P(0), P(1)] * 50, segments=[]))
 
 # ---- few records that stand for many. Doubled n times: 2^n calls, and 2^(n + 1) - 1 contents and as many segments
 read_last('18 levels, doubled', (1, 2**18, 2**19 - 1, 2**19 - 1), doubling(18))
@@ -84,19 +84,67 @@ read_last('1048575 segments', (1, 2**17, 2**18 - 1, MOST), breaks(6))
 read_last('segments over, contents and calls not', (1, *OVER), breaks(7))
 
 # ---- how a run is shared: three times in a row, with a string between, and twice with two unlike runs around them; two segments alike in one run
-def patterned(levels, pattern):
-    """each AngleQuote holds the one below for each r, a string for each s, an empty run for each e"""
-    contents, segments = [], [text()]
+leaves = [text(), Seg(1, 0, Body(3, 2, (0, 0), [0, 0])), Seg(2, 0, Body(13, 1, (0, 0), [0]))]  # one call, two, one
+def patterned(levels, *patterns):
+    """on each level an AngleQuote for each pattern, which says what it holds: x, y, z the runs of the first, the second and the third one level
+    below, X, Y, Z those two levels below, s a string, e an empty run. Patterns that are alike share their contents"""
+    contents, segments, count = [], leaves[:len(patterns)], len(patterns)
+    def held(p, level):
+        if p in 'se': return P(0) if p == 's' else run(0, 0)
+        return run(count * max(0, level - 1 - p.isupper()) + 'xyz'.index(p.lower()), 1)
     for level in range(1, levels + 1):
-        segments.append(node(level, 14, 0, [len(contents), len(pattern)]))
-        contents += [{'r': run(level - 1, 1), 's': P(0), 'e': run(0, 0)}[p] for p in pattern]
-    return nodes_of((14, 0, [len(contents), 1]), strings='x', contents=contents + [run(levels, 1)], segments=segments)
-read_last('11 levels, three times in a row', (1, 3**11, (3**12 - 1) // 2, (3**12 - 1) // 2), patterned(11, 'rrr'))
-read_last('17 levels, a string between', (1, 2**18 - 1, 3 * 2**17 - 2, 2**18 - 1), patterned(17, 'rsr'))
-read_last('17 levels, unlike runs around', (1, 2**17, 2**19 - 3, 2**18 - 1), patterned(17, 'erre'))
-read_last('32 levels, a string between', (1, *OVER), patterned(32, 'rsr'))
+        first = {}
+        for pattern in patterns:
+            if pattern not in first: first[pattern], contents = len(contents), contents + [held(p, level) for p in pattern]
+            segments.append(node(level, 14, 0, [first[pattern], len(pattern)]))
+    return nodes_of((14, 0, [len(contents), 1]), strings='x', contents=contents + [run(count * levels, 1)], segments=segments)
+read_last('11 levels, three times in a row', (1, 3**11, (3**12 - 1) // 2, (3**12 - 1) // 2), patterned(11, 'xxx'))
+read_last('17 levels, a string between', (1, 2**18 - 1, 3 * 2**17 - 2, 2**18 - 1), patterned(17, 'xsx'))
+read_last('17 levels, unlike runs around', (1, 2**17, 2**19 - 3, 2**18 - 1), patterned(17, 'exxe'))
+read_last('32 levels, a string between', (1, *OVER), patterned(32, 'xsx'))
 def alike(levels):
     segments = [text(), text()] + [node(level, 14, 0, [level - 1, 1]) for level in range(1, levels + 1) for _ in 'ab']
     return nodes_of((14, 0, [levels, 1]), strings='x', contents=[run(2 * i, 2) for i in range(levels + 1)], segments=segments)
 read_last('16 levels, two segments alike', (1, 2**17, 2**17 - 1, 2**18 - 2), alike(16))
 read_last('31 levels, two segments alike', (1, *OVER), alike(31))
+
+# ---- runs in turn, so that none stands beside itself. Two leaves have three calls, three have four
+read_last('18 levels, two runs in turn, from two nodes: 1048574 contents and segments', (2, 3 * 2**18, MOST - 1, MOST - 1), with_node(patterned(18, 'xy', 'yx'), (14, 0, [72, 1])))
+read_last('19 levels, two runs in turn: 1048575 contents and segments', (1, 3 * 2**18, MOST, MOST), patterned(19, 'xy', 'yx'))
+read_last('19 levels, two runs in turn, and one more text', (2, *OVER), with_node(patterned(19, 'xy', 'xy'), (14, 0, [0, 1])))
+read_last('32 levels, two runs in turn: 2^32 leaves', (1, *OVER), patterned(32, 'xy', 'xy'))
+read_last('12 levels, three runs in turn', (1, 4 * 3**11, (3**13 - 1) // 2, (3**13 - 1) // 2), patterned(12, 'xyz', 'yzx', 'zxy'))
+read_last('13 levels, three runs in turn', (1, *OVER), patterned(13, 'xyz', 'xyz', 'xyz'))
+read_last('6 levels, three unlike runs in turn, one and two levels below', None, patterned(6, 'xyX', 'zsYx', 'Zey'))
+
+# ---- two fields of one body: a Ruby whose base and text are the same run
+def two_fields(levels):
+    segments = [text()] + [node(i + 1, 1, 0, [i, 1, i, 1]) for i in range(levels)]
+    return nodes_of((14, 0, [levels, 1]), strings='x', contents=[run(i, 1) for i in range(levels + 1)], segments=segments)
+read_last('19 levels, two fields: 1048575 contents and segments', (1, 2**19, MOST, MOST), two_fields(19))
+read_last('19 levels, two fields, and one more text', (2, *OVER), with_node(two_fields(19), (14, 0, [0, 1])))
+read_last('32 levels, two fields, 0 work words', (1, *OVER), two_fields(32), words=0)
+
+# ---- paths of unlike length to one segment: each AngleQuote holds the run one level below and the one two levels below, or both segments in one
+# run, so that each run overlaps the next
+read_last('32 levels, paths of unlike length', (1, *OVER), patterned(32, 'xX'))
+def stepped(n):
+    """so many segments, by nodes that each stand for as many as are left; content i stands for 1, 3, 6, 11, .. of them"""
+    adds, bodies = [1, 3], []
+    while adds[-1] < n: adds.append(2 + adds[-2] + adds[-1])
+    for i in reversed(range(len(adds))):
+        while adds[i] <= n: bodies, n = bodies + [(14, 0, [i, 1])], n - adds[i]
+    segments = [text()] + [node(i + 1, 14, 0, [i, 1]) for i in range(len(adds))]
+    return nodes_of(*bodies, strings='x', contents=[run(0, 1)] + [run(i, 2) for i in range(len(adds))], segments=segments)
+read_last('7000 segments, paths of unlike length', (3, 2676, 4327, 7000), stepped(7000))
+read_last('1048575 segments, paths of unlike length', (9, 400527, 648057, MOST), stepped(MOST))
+read_last('1048576 segments, paths of unlike length', (10, *OVER), stepped(MOST + 1))
+
+# ---- one segment of three strings from five nodes: alone and in runs that begin or end as others do, at unlike depths, by contents and by captions;
+# ranges of contents and ranges of segments that have the same two words
+contents = [run(1, 1), run(1, 2), run(0, 2), run(4, 1), run(5, 2), run(4, 3), run(7, 1), P(2)]
+segments = [text(), node(1, 11, 0, [0, 1, 2, NONE]), node(1), text(1), node(2, 14, 0, [0, 2]), node(3, 1, 0, [0, 1, 1, 3]),
+    node(4, 11, 2, [0, NONE, NONE, 1, 1, 4]), node(5, 15, 0, [4, 2, 0, 3])]
+bodies = [(14, 0, [6, 2]), (1, 0, [0, 2, 1, 1]), (11, 2, [2, NONE, 1, NONE, 1, 2]), (15, 0, [1, 2, 1, 6]), (11, 2, [0, NONE, NONE, NONE, 1, 1])]
+for order, label in ((1, 'the deepest first'), (-1, 'the deepest last')):
+    read_last('one segment from five nodes, ' + label, None, nodes_of(*bodies[::order], strings='abc', contents=contents, segments=segments))
