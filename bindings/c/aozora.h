@@ -6,7 +6,7 @@
    - a slice goes as a pointer and a length; the pointer is not null, also where the length is 0, and valid for so many items;
    - what is written overlaps with nothing else that is passed.
 
-   The caller lends all memory but some stack: a thread that calls should have 768 kB. Nothing is allocated, and nothing is kept behind a call. A book or a reading is a tape and a byte buffer: docs/FORMAT.md.
+   The caller lends all memory but some stack: a thread that calls should have 1 MB. Nothing is allocated, and nothing is kept behind a call. A book or a reading is a tape and a byte buffer: docs/FORMAT.md.
    In every answer `number` is 0, or that of the refusal; what an answer does not have is 0.
 
    Build: rt staticlib exports && cc main.c -I bindings/c -L target/staticlib -lexports      (x86-64 Linux) */
