@@ -8,5 +8,6 @@ pub mod Shown
 pub mod Calls
 pub mod Again
 pub mod Known
+pub mod OneLayer
 pub mod Plain
 pub mod Lone

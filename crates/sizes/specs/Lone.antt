@@ -6,20 +6,20 @@ use mathlib.Core.Bool.{Bool, true, false, cond, _&&_}
 use mathlib.Core.List.{List}
 use lib.ListN.{length, getD}
 use lib.Dec.{leb, ltb, eqb}
-use borrow.Author.Tests.{le-leb, lt-ltb, le-ltb, eq-eqb, ne-eqb, eqb-true, ltb-true}
+use borrow.Author.Tests.{lt-ltb, le-ltb, eq-eqb, ne-eqb, eqb-true, ltb-true}
 use Rattle.model.specs.Types.{Body}
 use Rattle.model.specs.Tape.{recordAt, recordsAt, segmentCodec}
 use Rattle.laws.specs.Lists.{both}
-use Rattle.wire.specs.Loops.{by-bool, anyUpTo}
-use Rattle.store.specs.Pools.{rangeIn, inOne, inLayer, layerOf}
+use Rattle.wire.specs.Loops.{by-bool}
 use Rattle.store.specs.Standing.{segmentPlace}
 use Rattle.store.specs.Stored.{OfTape}
 use Rattle.store.specs.declared.Store.{Store}
 use Rattle.ids.specs.Tests.{segmentsIn}
 use Rattle.sizes.specs.Added.{Added, newSegments, addAll, add-nothing}
 use Rattle.sizes.specs.Capped.{plus}
-use Rattle.sizes.specs.InPlace.{segmentCount, segmentsAdd, segmentRunAdds, segment-count-in, segments-from, segments-inside}
+use Rattle.sizes.specs.InPlace.{segmentCount, segmentsAdd, segmentRunAdds, segment-count-in, segments-inside}
 use Rattle.sizes.specs.Answers.{segments-over, segments-then}
+use Rattle.sizes.specs.OneLayer.{only-range, only-layer}
 use Rattle.sizes.specs.declared.Room.{Room}
 use Rattle.sizes.specs.declared.Sizes.{Sizes}
 
@@ -44,23 +44,15 @@ module _ (st : Store) (i : ℕ) where
       unfolding lonePlace
       lone-none h = rw (eq-eqb (st .layers) 1 one, eq-eqb (getD (st .segments) 0 0) 0 first, le-ltb i (st .totals .segments) h) refl
 
-      only-layer : layerOf (st .segments) (st .layers) i ≡ 0
-      unfolding layerOf
-      only-layer = rw (one, first, le-leb 0 i (omega arith)) refl
-
       only-place : 10 + 5 * st .totals .strings + 10 * st .totals .contents + 37 * i ≡ segmentPlace st i
       unfolding segmentPlace
-      only-place = rw (only-layer, one) (omega arith)
+      only-place = rw (only-layer (st .segments) (st .layers) one first i, one) (omega arith)
 
       pub lone-found : {r : ℕ} → i < st .totals .segments → r ≡ 10 + 5 * st .totals .strings + 10 * st .totals .contents + 37 * i → r ≡ lonePlace st i
       unfolding lonePlace
       lone-found h e = rw (eq-eqb (st .layers) 1 one, eq-eqb (getD (st .segments) 0 0) 0 first, lt-ltb i (st .totals .segments) h) (e ∙ only-place)
 
 -- ---- a place that is found
-
-only-in : (st : Store) (i : ℕ) → st .layers ≡ 1 → getD (st .segments) 0 0 ≡ 0 → i < st .totals .segments → segmentsIn st i 1 ≡ true
-unfolding rangeIn inOne inLayer anyUpTo
-only-in st i one first h = rw (one, first, le-leb 0 i (omega arith), le-leb (i + 1) (st .totals .segments) (omega (arith, h))) refl
 
 record Found (st : Store) (i place : ℕ) : Type 0 where
   range : segmentsIn st i 1 ≡ true
@@ -74,7 +66,8 @@ found st i place e z =
     let a = both (eqb (st .layers) 1) _ q in
     let b = both (eqb (getD (st .segments) 0 0) 0) (ltb i (st .totals .segments)) (a .1) in
     record {
-      range = only-in st i (eqb-true (st .layers) 1 (a .0)) (eqb-true (getD (st .segments) 0 0) 0 (b .0)) (ltb-true i (st .totals .segments) (b .1));
+      range = let h = ltb-true i (st .totals .segments) (b .1) in
+          only-range (st .segments) (st .layers) (eqb-true (st .layers) 1 (a .0)) (eqb-true (getD (st .segments) 0 0) 0 (b .0)) (st .totals .segments) i 1 (omega (arith, h));
       place-is = e ∙ rw q refl;
     })
     (λ q. absurd (z (e ∙ rw q refl)))

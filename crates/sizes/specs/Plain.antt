@@ -13,10 +13,10 @@ use Rattle.model.specs.Types.{Body, Content, SourceNode}
 use Rattle.model.specs.WellFormed.{wordOf}
 use Rattle.model.specs.Tape.{recordAt, recordsAt, operandsAt, contentCodec, nodeCodec, fieldsOf, fieldTable, nodeFields}
 use Rattle.laws.specs.Lists.{both}
-use Rattle.wire.specs.Loops.{by-bool, anyUpTo}
+use Rattle.wire.specs.Loops.{by-bool}
 use Rattle.records.specs.Values.{bodyAt, node-body}
 use Rattle.places.specs.declared.Run.{Run}
-use Rattle.store.specs.Pools.{rangeIn, inOne, inLayer, layerOf}
+use Rattle.store.specs.Pools.{rangeIn}
 use Rattle.store.specs.Standing.{contentPlace, length-records}
 use Rattle.store.specs.Stored.{OfTape}
 use Rattle.store.specs.declared.Store.{Store}
@@ -25,7 +25,8 @@ use Rattle.sizes.specs.Added.{Added, nothing, oneCall, newContents, add,
 use Rattle.sizes.specs.Trees.{runOfContents}
 use Rattle.sizes.specs.Capped.{plus, plus-plus}
 use Rattle.sizes.specs.InPlace.{contentCount, contentAdds, contentsAdd, contentRunAdds, fieldsAdd, fieldAdds, innerAdds, nodeAdds, contents-inside, content-count-in}
-use Rattle.sizes.specs.Answers.{node-class}
+use Rattle.sizes.specs.Answers.{above-zero, node-class}
+use Rattle.sizes.specs.OneLayer.{only-range, only-layer}
 use Rattle.sizes.specs.declared.Room.{Room}
 use Rattle.sizes.specs.declared.Sizes.{Sizes}
 
@@ -71,25 +72,14 @@ whole-none st p a z = record {
 }
 
 module _ (st : Store) (one : st .layers ≡ 1) (first : getD (st .contents) 0 0 ≡ 0) where
-  only-range : (start len : ℕ) → start + len ≤ st .totals .contents → contentsIn st start len ≡ true
-  unfolding rangeIn inOne inLayer anyUpTo
-  only-range start len h =
-      let low = le-leb 0 start (omega arith) in
-      let high = le-leb (start + len) (st .totals .contents) h in
-      rw (one, first, low, high) (by-bool (eqb len 0) (λ z. rw z refl) (λ z. rw z refl))
-
-  layer-zero : (i : ℕ) → layerOf (st .contents) (st .layers) i ≡ 0
-  unfolding layerOf
-  layer-zero i = rw (one, first, le-leb 0 i (omega arith)) refl
-
   only-place : (start : ℕ) → contentPlace st start ≡ contentPlace st 0 + 10 * start
   unfolding contentPlace
-  only-place start = rw (layer-zero start, layer-zero 0) (omega arith)
+  only-place start = rw (only-layer (st .contents) (st .layers) one first start, only-layer (st .contents) (st .layers) one first 0) (omega arith)
 
   pub whole-only : (p : Run) → p .at ≡ contentPlace st 0 → p .count ≡ st .totals .contents → (st .totals .contents ≡ 0 → ⊥) → Whole st p
   whole-only p a c n = record {
     none = λ z. absurd (n (sym c ∙ z));
-    range = λ start len h. only-range start len (omega (arith, h, c));
+    range = λ start len h. only-range (st .contents) (st .layers) one first (st .totals .contents) start len (omega (arith, h, c));
     place = λ start h. only-place start ∙ ap (λ (k : ℕ). k + 10 * start) (sym a);
   }
 
@@ -101,11 +91,8 @@ whole-inside t st f p w =
     (λ z.
     let n = eqb-false (p .count) 0 z in
     let e : p .count ≡ contentCount st 0 (p .count) = content-count-in st 0 (p .count) (sym (w .range 0 (p .count) (omega arith))) refl in
-    let a : p .at ≡ contentPlace st 0 = let q = w .place 0 (positive n) in omega (arith, q) in
+    let a : p .at ≡ contentPlace st 0 = let m = above-zero (p .count) n in let q = w .place 0 (omega (arith, m)) in omega (arith, q) in
     contents-inside t st f 0 (p .count) (p .count) (p .at) n e a)
-  where
-    positive : (p .count ≡ 0 → ⊥) → 0 < p .count
-    positive n = by-bool (ltb 0 (p .count)) (λ q. ltb-true 0 (p .count) q) (λ q. let l = ltb-false 0 (p .count) q in absurd (n (omega (arith, l))))
 
 -- ---- a range of plain contents
 
@@ -115,9 +102,6 @@ plain-all inner t st [] h = refl
 plain-all inner t st (c ∷ cs) h =
     let b = both (eqb (c .tag) 0) (all isPlain cs) h in
     rw (b .0, plain-all inner t st cs (b .1)) (same-added refl refl (omega arith))
-
-less : {len start count : ℕ} → (len ≡ 0 → ⊥) → start + len ≤ count → start < count
-less {len} {start} {count} n h = by-bool (ltb 0 len) (λ q. let l = ltb-true 0 len q in omega (arith, l, h)) (λ q. let l = ltb-false 0 len q in absurd (n (omega (arith, l))))
 
 module _ (inner : Body → Added) (t : List ℕ) (st : Store) (p : Run) (w : Whole st p) where
   run-adds : (start len : ℕ) → plainRun t p start len ≡ true → contentRunAdds inner t st start len ≡ plainAdds len
@@ -129,7 +113,8 @@ module _ (inner : Body → Added) (t : List ℕ) (st : Store) (p : Run) (w : Who
       (λ z. let e = eqb-true len 0 z in rw (w .range start len inside, e) (add-nothing nothing))
       (λ z.
       let n = eqb-false len 0 z in
-      let q = w .place start (less n inside) in
+      let m = above-zero len n in
+      let q = w .place start (omega (arith, m, inside)) in
       rw (w .range start len inside, q, plain-all inner t st _ (b .1), length-records contentCodec t (p .at + 10 * start) len) (same-added (omega arith) refl (omega arith)))
 
 -- ---- a Ruby
