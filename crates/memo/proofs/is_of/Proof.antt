@@ -29,7 +29,10 @@ wide-requires : tie.Need-wide-requires
 wide-requires c κs = search needs
 
 returns-2 : tie.Need-returns-2
-returns-2 c = is-elsewhere (c .before .before .before .before .before .args .memo .now) (c .before .before .before .before .before .args .e) (c .before .before .before .before .before .args .place) (c .before .before .before .before .before .args .level) (c .before .before .before .if1 .left) (λ q. c .if2 .taken (c .before .wide .ensures ∙ q))
+returns-2 c =
+    let at-if1 = c .before .before .before in
+    let start = at-if1 .before .before in
+    is-elsewhere (start .args .memo .now) (start .args .e) (start .args .place) (start .args .level) (at-if1 .if1 .left) (λ q. c .if2 .taken (c .before .wide .ensures ∙ q))
 
 mul-result : tie.Need-mul-result
 mul-result c = search needs
@@ -44,7 +47,10 @@ shared-slice-read-result : tie.Need-shared-slice-read-result
 shared-slice-read-result c = search needs
 
 returns-3 : tie.Need-returns-3
-returns-3 c = is-told (c .before .before .before .before .before .before .args .memo .now) (c .before .before .before .before .before .before .args .e) (c .before .before .before .before .before .before .args .place) (c .before .before .before .before .before .before .args .level) (c .before .before .before .before .if1 .left) (sym (c .before .before .wide .ensures) ∙ c .before .if2 .left) refl
+returns-3 c =
+    let at-if1 = c .before .before .before .before in
+    let start = at-if1 .before .before in
+    is-told (start .args .memo .now) (start .args .e) (start .args .place) (start .args .level) (at-if1 .if1 .left) (sym (c .before .before .wide .ensures) ∙ c .before .if2 .left) refl
 
 pub is-of-spec : {M : Type 1} → statement M
 is-of-spec =

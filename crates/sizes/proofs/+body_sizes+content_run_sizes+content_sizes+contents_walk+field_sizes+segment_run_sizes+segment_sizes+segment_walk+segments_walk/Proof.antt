@@ -229,7 +229,10 @@ body-sizes-field-sizes-requires : (t : ℕ) → body-sizes-lts.Need-field-sizes-
   field-sizes-below t,
   field-sizes.Post,
 ) (body-sizes-at t) body-sizes.Post body-sizes-Inv-loop body-sizes-μ-loop
-body-sizes-field-sizes-requires t c κs = (omega arith, ((c .before .before .before .before .before .before .pre .1 .0 .0, c .before .before .before .loop .inv .1), c .before .before .before .loop .inv .0 .kept))
+body-sizes-field-sizes-requires t c κs =
+    let turn = c .before .before .before in
+    let start = turn .before .before .before in
+    (omega arith, ((start .pre .1 .0 .0, turn .loop .inv .1), turn .loop .inv .0 .kept))
 
 body-sizes-same-length : (t : ℕ) → body-sizes-lts.Need-same-length (
   field-at-reads.Asked,
@@ -245,7 +248,13 @@ body-sizes-returns : (t : ℕ) → body-sizes-lts.Need-returns (
   field-sizes-below t,
   field-sizes.Post,
 ) (body-sizes-at t) body-sizes.Post body-sizes-Inv-loop body-sizes-μ-loop
-body-sizes-returns t c = (adding-over (c .before .before .before .before .before .before .before .loop .inv .0) (c .before .before .before .before .before .before .loop-test .taken) (place-read (c .before .before .before .before .before .before .before .before .before .before .args .room) (c .before .before .before .before .before .before .before .loop .u) (innerAdds (c .before .before .before .before .before .before .before .before .before .before .args .level) (c .before .before .before .before .before .before .before .before .before .before .args .tape .now) (c .before .before .before .before .before .before .before .before .before .before .args .st)) (c .before .before .before .before .before .before .before .before .before .before .args .tape .now) (c .before .before .before .before .before .before .before .before .before .before .args .st) (bodyAt (c .before .before .before .before .before .before .before .before .before .before .args .tape .now) (c .before .before .before .before .before .before .before .before .before .before .args .at)) (c .before .before .before .before .before .before .before .loop .j) (c .before .before .before .before .before .field-at .result) (c .before .before .before .before .before .field-at .ensures) (c .before .before .before .field-sizes .ensures .0)) (c .if1 .taken) ∙ ap (plus (c .before .before .before .before .before .before .before .before .before .before .args .room) (c .before .before .before .before .before .before .before .before .before .before .args .t)) (body-sum (c .before .before .before .before .before .before .before .before .before .before .args .level) (c .before .before .before .before .before .before .before .before .before .before .args .tape .now) (c .before .before .before .before .before .before .before .before .before .before .args .st) (bodyAt (c .before .before .before .before .before .before .before .before .before .before .args .tape .now) (c .before .before .before .before .before .before .before .before .before .before .args .at))), c .before .before .before .field-sizes .ensures .1)
+body-sizes-returns t c =
+    let at-field-sizes = c .before .before .before in
+    let at-field-at = at-field-sizes .before .before in
+    let at-loop-test = at-field-at .before in
+    let turn = at-loop-test .before in
+    let start = turn .before .before .before in
+    (adding-over (turn .loop .inv .0) (at-loop-test .loop-test .taken) (place-read (start .args .room) (turn .loop .u) (innerAdds (start .args .level) (start .args .tape .now) (start .args .st)) (start .args .tape .now) (start .args .st) (bodyAt (start .args .tape .now) (start .args .at)) (turn .loop .j) (at-field-at .field-at .result) (at-field-at .field-at .ensures) (at-field-sizes .field-sizes .ensures .0)) (c .if1 .taken) ∙ ap (plus (start .args .room) (start .args .t)) (body-sum (start .args .level) (start .args .tape .now) (start .args .st) (bodyAt (start .args .tape .now) (start .args .at))), at-field-sizes .field-sizes .ensures .1)
 
 body-sizes-add-j : (t : ℕ) → body-sizes-lts.Need-add-j (
   field-at-reads.Asked,
@@ -269,7 +278,13 @@ body-sizes-loop-again : (t : ℕ) → body-sizes-lts.Need-loop-again (
   field-sizes-below t,
   field-sizes.Post,
 ) (body-sizes-at t) body-sizes.Post body-sizes-Inv-loop body-sizes-μ-loop
-body-sizes-loop-again t c = (adding-more (c .before .before .before .before .before .before .before .loop .inv .0) (c .before .before .before .before .before .before .loop-test .taken) (place-read (c .before .before .before .before .before .before .before .before .before .before .args .room) (c .before .before .before .before .before .before .before .loop .u) (innerAdds (c .before .before .before .before .before .before .before .before .before .before .args .level) (c .before .before .before .before .before .before .before .before .before .before .args .tape .now) (c .before .before .before .before .before .before .before .before .before .before .args .st)) (c .before .before .before .before .before .before .before .before .before .before .args .tape .now) (c .before .before .before .before .before .before .before .before .before .before .args .st) (bodyAt (c .before .before .before .before .before .before .before .before .before .before .args .tape .now) (c .before .before .before .before .before .before .before .before .before .before .args .at)) (c .before .before .before .before .before .before .before .loop .j) (c .before .before .before .before .before .field-at .result) (c .before .before .before .before .before .field-at .ensures) (c .before .before .before .field-sizes .ensures .0)), c .before .before .before .field-sizes .ensures .1, c .before .before .before .field-sizes .kept .1 .1 .0 ∙ c .before .before .before .before .before .before .before .loop .inv .2)
+body-sizes-loop-again t c =
+    let at-field-sizes = c .before .before .before in
+    let at-field-at = at-field-sizes .before .before in
+    let at-loop-test = at-field-at .before in
+    let turn = at-loop-test .before in
+    let start = turn .before .before .before in
+    (adding-more (turn .loop .inv .0) (at-loop-test .loop-test .taken) (place-read (start .args .room) (turn .loop .u) (innerAdds (start .args .level) (start .args .tape .now) (start .args .st)) (start .args .tape .now) (start .args .st) (bodyAt (start .args .tape .now) (start .args .at)) (turn .loop .j) (at-field-at .field-at .result) (at-field-at .field-at .ensures) (at-field-sizes .field-sizes .ensures .0)), at-field-sizes .field-sizes .ensures .1, at-field-sizes .field-sizes .kept .1 .1 .0 ∙ turn .loop .inv .2)
 
 body-sizes-same-length-2 : (t : ℕ) → body-sizes-lts.Need-same-length-2 (
   field-at-reads.Asked,
@@ -285,7 +300,9 @@ body-sizes-returns-2 : (t : ℕ) → body-sizes-lts.Need-returns-2 (
   field-sizes-below t,
   field-sizes.Post,
 ) (body-sizes-at t) body-sizes.Post body-sizes-Inv-loop body-sizes-μ-loop
-body-sizes-returns-2 t c = (adding-all (c .before .loop .inv .0) (c .loop-test .left) ∙ ap (plus (c .before .before .before .before .args .room) (c .before .before .before .before .args .t)) (body-sum (c .before .before .before .before .args .level) (c .before .before .before .before .args .tape .now) (c .before .before .before .before .args .st) (bodyAt (c .before .before .before .before .args .tape .now) (c .before .before .before .before .args .at))), c .before .loop .inv .1)
+body-sizes-returns-2 t c =
+    let start = c .before .before .before .before in
+    (adding-all (c .before .loop .inv .0) (c .loop-test .left) ∙ ap (plus (start .args .room) (start .args .t)) (body-sum (start .args .level) (start .args .tape .now) (start .args .st) (bodyAt (start .args .tape .now) (start .args .at))), c .before .loop .inv .1)
 
 content-run-sizes-content-count-requires :
     (t : ℕ) → content-run-sizes-lts.Need-content-count-requires (
@@ -322,7 +339,9 @@ content-run-sizes-returns : (t : ℕ) → content-run-sizes-lts.Need-returns (
   contents-walk-below t,
   contents-walk.Post,
 ) (content-run-sizes-at t) content-run-sizes.Post
-content-run-sizes-returns t c = (contents-over (c .before .before .before .before .before .args .room) (c .before .before .before .before .before .args .t) (innerAdds (c .before .before .before .before .before .args .level) (c .before .before .before .before .before .args .tape .now) (c .before .before .before .before .before .args .st)) (c .before .before .before .before .before .args .tape .now) (c .before .before .before .before .before .args .st) (c .before .before .before .before .before .args .start) (c .before .before .before .before .before .args .len) (c .before .before .content-count .result) (c .before .before .content-count .ensures) (c .before .with-added .ensures) (c .if1 .taken), c .before .before .before .before .before .pre .1 .0 .1)
+content-run-sizes-returns t c =
+    let start = c .before .before .before .before .before in
+    (contents-over (start .args .room) (start .args .t) (innerAdds (start .args .level) (start .args .tape .now) (start .args .st)) (start .args .tape .now) (start .args .st) (start .args .start) (start .args .len) (c .before .before .content-count .result) (c .before .before .content-count .ensures) (c .before .with-added .ensures) (c .if1 .taken), start .pre .1 .0 .1)
 
 content-run-sizes-returns-2 : (t : ℕ) → content-run-sizes-lts.Need-returns-2 (
   content-count-reads.Asked,
@@ -334,7 +353,10 @@ content-run-sizes-returns-2 : (t : ℕ) → content-run-sizes-lts.Need-returns-2
   contents-walk-below t,
   contents-walk.Post,
 ) (content-run-sizes-at t) content-run-sizes.Post
-content-run-sizes-returns-2 t c = (contents-empty (c .before .before .before .before .before .before .args .room) (c .before .before .before .before .before .before .args .t) (innerAdds (c .before .before .before .before .before .before .args .level) (c .before .before .before .before .before .before .args .tape .now) (c .before .before .before .before .before .before .args .st)) (c .before .before .before .before .before .before .args .tape .now) (c .before .before .before .before .before .before .args .st) (c .before .before .before .before .before .before .args .start) (c .before .before .before .before .before .before .args .len) (c .before .before .before .content-count .result) (c .before .before .before .content-count .ensures) (c .before .before .with-added .ensures) (c .if2 .taken), c .before .before .before .before .before .before .pre .1 .0 .1)
+content-run-sizes-returns-2 t c =
+    let at-content-count = c .before .before .before in
+    let start = at-content-count .before .before .before in
+    (contents-empty (start .args .room) (start .args .t) (innerAdds (start .args .level) (start .args .tape .now) (start .args .st)) (start .args .tape .now) (start .args .st) (start .args .start) (start .args .len) (at-content-count .content-count .result) (at-content-count .content-count .ensures) (c .before .before .with-added .ensures) (c .if2 .taken), start .pre .1 .0 .1)
 
 content-run-sizes-content-place-requires :
     (t : ℕ) → content-run-sizes-lts.Need-content-place-requires (
@@ -372,7 +394,11 @@ content-run-sizes-contents-walk-requires :
       contents-walk-below t,
       contents-walk.Post,
     ) (content-run-sizes-at t) content-run-sizes.Post
-content-run-sizes-contents-walk-requires t c κs = (omega arith, ((c .before .before .before .before .before .before .before .before .pre .1 .0 .0, c .before .before .before .before .before .before .before .before .pre .1 .0 .1), (kept-plus (c .before .before .before .before .before .before .before .before .args .t) (newContents (c .before .before .before .before .before .content-count .result)) (c .before .before .before .before .with-added .ensures), contents-inside (c .before .before .before .before .before .before .before .before .args .tape .now) (c .before .before .before .before .before .before .before .before .args .st) (c .before .before .before .before .before .before .before .before .pre .1 .0 .0) (c .before .before .before .before .before .before .before .before .args .start) (c .before .before .before .before .before .before .before .before .args .len) _ _ (c .before .before .if2 .left) (c .before .before .before .before .before .content-count .ensures) (c .before .content-place .ensures))))
+content-run-sizes-contents-walk-requires t c κs =
+    let at-with-added = c .before .before .before .before in
+    let at-content-count = at-with-added .before in
+    let start = at-content-count .before .before .before in
+    (omega arith, ((start .pre .1 .0 .0, start .pre .1 .0 .1), (kept-plus (start .args .t) (newContents (at-content-count .content-count .result)) (at-with-added .with-added .ensures), contents-inside (start .args .tape .now) (start .args .st) (start .pre .1 .0 .0) (start .args .start) (start .args .len) _ _ (c .before .before .if2 .left) (at-content-count .content-count .ensures) (c .before .content-place .ensures))))
 
 content-run-sizes-same-length : (t : ℕ) → content-run-sizes-lts.Need-same-length (
   content-count-reads.Asked,
@@ -396,7 +422,12 @@ content-run-sizes-returns-3 : (t : ℕ) → content-run-sizes-lts.Need-returns-3
   contents-walk-below t,
   contents-walk.Post,
 ) (content-run-sizes-at t) content-run-sizes.Post
-content-run-sizes-returns-3 t c = (contents-then (c .before .before .before .before .before .before .before .before .before .before .before .args .room) (c .before .before .before .before .before .before .before .before .before .before .before .args .t) (innerAdds (c .before .before .before .before .before .before .before .before .before .before .before .args .level) (c .before .before .before .before .before .before .before .before .before .before .before .args .tape .now) (c .before .before .before .before .before .before .before .before .before .before .before .args .st)) (c .before .before .before .before .before .before .before .before .before .before .before .args .tape .now) (c .before .before .before .before .before .before .before .before .before .before .before .args .st) (c .before .before .before .before .before .before .before .before .before .before .before .args .start) (c .before .before .before .before .before .before .before .before .before .before .before .args .len) (c .before .before .before .before .before .before .before .before .content-count .result) (c .before .before .before .before .before .before .before .before .content-count .ensures) (c .before .before .before .before .before .before .before .with-added .ensures) _ (c .before .before .before .before .content-place .ensures) (c .before .before .contents-walk .ensures .0), c .before .before .contents-walk .ensures .1)
+content-run-sizes-returns-3 t c =
+    let at-content-place = c .before .before .before .before in
+    let at-with-added = at-content-place .before .before .before in
+    let at-content-count = at-with-added .before in
+    let start = at-content-count .before .before .before in
+    (contents-then (start .args .room) (start .args .t) (innerAdds (start .args .level) (start .args .tape .now) (start .args .st)) (start .args .tape .now) (start .args .st) (start .args .start) (start .args .len) (at-content-count .content-count .result) (at-content-count .content-count .ensures) (at-with-added .with-added .ensures) _ (at-content-place .content-place .ensures) (c .before .before .contents-walk .ensures .0), c .before .before .contents-walk .ensures .1)
 
 content-sizes-content-at-requires : (t : ℕ) → content-sizes-lts.Need-content-at-requires (
   content-at-reads.Asked,
@@ -438,7 +469,10 @@ content-sizes-returns : (t : ℕ) → content-sizes-lts.Need-returns (
   segment-sizes-below t,
   segment-sizes.Post,
 ) (content-sizes-at t) content-sizes.Post
-content-sizes-returns t c = (content-plain (c .before .before .before .before .before .before .args .room) (c .before .before .before .before .before .before .args .t) (innerAdds (c .before .before .before .before .before .before .args .level) (c .before .before .before .before .before .before .args .tape .now) (c .before .before .before .before .before .before .args .st)) (c .before .before .before .before .before .before .args .tape .now) (c .before .before .before .before .before .before .args .st) (contentOf (c .before .before .before .content-at .result)) (c .before .before .before .content-at .ensures) (c .before .if1 .taken) (c .with-added .ensures), c .before .before .before .before .before .before .pre .1 .0 .1)
+content-sizes-returns t c =
+    let at-content-at = c .before .before .before in
+    let start = at-content-at .before .before .before in
+    (content-plain (start .args .room) (start .args .t) (innerAdds (start .args .level) (start .args .tape .now) (start .args .st)) (start .args .tape .now) (start .args .st) (contentOf (at-content-at .content-at .result)) (at-content-at .content-at .ensures) (c .before .if1 .taken) (c .with-added .ensures), start .pre .1 .0 .1)
 
 content-sizes-segment-run-sizes-requires :
     (t : ℕ) → content-sizes-lts.Need-segment-run-sizes-requires (
@@ -453,7 +487,9 @@ content-sizes-segment-run-sizes-requires :
       segment-sizes-below t,
       segment-sizes.Post,
     ) (content-sizes-at t) content-sizes.Post
-content-sizes-segment-run-sizes-requires t c κs = (omega arith, ((c .before .before .before .before .before .before .before .before .pre .1 .0 .0, c .before .before .before .before .before .before .before .before .pre .1 .0 .1), c .before .before .before .before .before .before .before .before .pre .1 .1 .0))
+content-sizes-segment-run-sizes-requires t c κs =
+    let start = c .before .before .before .before .before .before .before .before in
+    (omega arith, ((start .pre .1 .0 .0, start .pre .1 .0 .1), start .pre .1 .1 .0))
 
 content-sizes-same-length : (t : ℕ) → content-sizes-lts.Need-same-length (
   content-at-reads.Asked,
@@ -481,7 +517,11 @@ content-sizes-returns-2 : (t : ℕ) → content-sizes-lts.Need-returns-2 (
   segment-sizes-below t,
   segment-sizes.Post,
 ) (content-sizes-at t) content-sizes.Post
-content-sizes-returns-2 t c = (content-segments (c .before .before .before .before .before .before .before .before .before .before .before .args .room) (c .before .before .before .before .before .before .before .before .before .before .before .args .t) (innerAdds (c .before .before .before .before .before .before .before .before .before .before .before .args .level) (c .before .before .before .before .before .before .before .before .before .before .before .args .tape .now) (c .before .before .before .before .before .before .before .before .before .before .before .args .st)) (c .before .before .before .before .before .before .before .before .before .before .before .args .tape .now) (c .before .before .before .before .before .before .before .before .before .before .before .args .st) (contentOf (c .before .before .before .before .before .before .before .before .content-at .result)) (c .before .before .before .before .before .before .before .before .content-at .ensures) (c .before .before .before .before .before .before .if1 .left) (c .before .before .segment-run-sizes .ensures .0), c .before .before .segment-run-sizes .ensures .1)
+content-sizes-returns-2 t c =
+    let at-if1 = c .before .before .before .before .before .before in
+    let at-content-at = at-if1 .before .before in
+    let start = at-content-at .before .before .before in
+    (content-segments (start .args .room) (start .args .t) (innerAdds (start .args .level) (start .args .tape .now) (start .args .st)) (start .args .tape .now) (start .args .st) (contentOf (at-content-at .content-at .result)) (at-content-at .content-at .ensures) (at-if1 .if1 .left) (c .before .before .segment-run-sizes .ensures .0), c .before .before .segment-run-sizes .ensures .1)
 
 content-sizes-lone-place-requires : (t : ℕ) → content-sizes-lts.Need-lone-place-requires (
   content-at-reads.Asked,
@@ -510,7 +550,9 @@ content-sizes-segment-run-sizes-requires-2 :
       segment-sizes-below t,
       segment-sizes.Post,
     ) (content-sizes-at t) content-sizes.Post
-content-sizes-segment-run-sizes-requires-2 t c κs = (omega arith, ((c .before .before .before .before .before .before .before .before .before .before .pre .1 .0 .0, c .before .before .before .before .before .before .before .before .before .before .pre .1 .0 .1), c .before .before .before .before .before .before .before .before .before .before .pre .1 .1 .0))
+content-sizes-segment-run-sizes-requires-2 t c κs =
+    let start = c .before .before .before .before .before .before .before .before .before .before in
+    (omega arith, ((start .pre .1 .0 .0, start .pre .1 .0 .1), start .pre .1 .1 .0))
 
 content-sizes-same-length-2 : (t : ℕ) → content-sizes-lts.Need-same-length-2 (
   content-at-reads.Asked,
@@ -538,7 +580,11 @@ content-sizes-returns-3 : (t : ℕ) → content-sizes-lts.Need-returns-3 (
   segment-sizes-below t,
   segment-sizes.Post,
 ) (content-sizes-at t) content-sizes.Post
-content-sizes-returns-3 t c = (content-segments (c .before .before .before .before .before .before .before .before .before .before .before .before .before .args .room) (c .before .before .before .before .before .before .before .before .before .before .before .before .before .args .t) (innerAdds (c .before .before .before .before .before .before .before .before .before .before .before .before .before .args .level) (c .before .before .before .before .before .before .before .before .before .before .before .before .before .args .tape .now) (c .before .before .before .before .before .before .before .before .before .before .before .before .before .args .st)) (c .before .before .before .before .before .before .before .before .before .before .before .before .before .args .tape .now) (c .before .before .before .before .before .before .before .before .before .before .before .before .before .args .st) (contentOf (c .before .before .before .before .before .before .before .before .before .before .content-at .result)) (c .before .before .before .before .before .before .before .before .before .before .content-at .ensures) (c .before .before .before .before .before .before .before .before .if1 .left) (c .before .before .segment-run-sizes2 .ensures .0), c .before .before .segment-run-sizes2 .ensures .1)
+content-sizes-returns-3 t c =
+    let at-if1 = c .before .before .before .before .before .before .before .before in
+    let at-content-at = at-if1 .before .before in
+    let start = at-content-at .before .before .before in
+    (content-segments (start .args .room) (start .args .t) (innerAdds (start .args .level) (start .args .tape .now) (start .args .st)) (start .args .tape .now) (start .args .st) (contentOf (at-content-at .content-at .result)) (at-content-at .content-at .ensures) (at-if1 .if1 .left) (c .before .before .segment-run-sizes2 .ensures .0), c .before .before .segment-run-sizes2 .ensures .1)
 
 content-sizes-with-added-requires-2 : (t : ℕ) → content-sizes-lts.Need-with-added-requires-2 (
   content-at-reads.Asked,
@@ -566,7 +612,13 @@ content-sizes-returns-4 : (t : ℕ) → content-sizes-lts.Need-returns-4 (
   segment-sizes-below t,
   segment-sizes.Post,
 ) (content-sizes-at t) content-sizes.Post
-content-sizes-returns-4 t c = (content-segments (c .before .before .before .before .before .before .before .before .before .before .before .args .room) (c .before .before .before .before .before .before .before .before .before .before .before .args .t) (innerAdds (c .before .before .before .before .before .before .before .before .before .before .before .args .level) (c .before .before .before .before .before .before .before .before .before .before .before .args .tape .now) (c .before .before .before .before .before .before .before .before .before .before .before .args .st)) (c .before .before .before .before .before .before .before .before .before .before .before .args .tape .now) (c .before .before .before .before .before .before .before .before .before .before .before .args .st) (contentOf (c .before .before .before .before .before .before .before .before .content-at .result)) (c .before .before .before .before .before .before .before .before .content-at .ensures) (c .before .before .before .before .before .before .if1 .left) (lone-over (c .before .before .before .before .before .before .before .before .before .before .before .args .room) (c .before .before .before .before .before .before .before .before .before .before .before .args .t) (innerAdds (c .before .before .before .before .before .before .before .before .before .before .before .args .level) (c .before .before .before .before .before .before .before .before .before .before .before .args .tape .now) (c .before .before .before .before .before .before .before .before .before .before .before .args .st)) (c .before .before .before .before .before .before .before .before .before .before .before .args .tape .now) (c .before .before .before .before .before .before .before .before .before .before .before .args .st) (c .before .before .before .before .before .before .before .before .content-at .result .first) (c .before .before .before .before .before .before .before .before .content-at .result .second) (c .before .before .before .lone-place .result) (c .before .before .before .before .if2 .left) (c .before .before .before .lone-place .ensures) (c .before .before .if3 .left) (c .before .with-added2 .ensures) (c .if4 .taken)), c .before .before .before .before .before .before .before .before .before .before .before .pre .1 .0 .1)
+content-sizes-returns-4 t c =
+    let at-lone-place = c .before .before .before in
+    let at-if2 = at-lone-place .before in
+    let at-if1 = at-if2 .before .before in
+    let at-content-at = at-if1 .before .before in
+    let start = at-content-at .before .before .before in
+    (content-segments (start .args .room) (start .args .t) (innerAdds (start .args .level) (start .args .tape .now) (start .args .st)) (start .args .tape .now) (start .args .st) (contentOf (at-content-at .content-at .result)) (at-content-at .content-at .ensures) (at-if1 .if1 .left) (lone-over (start .args .room) (start .args .t) (innerAdds (start .args .level) (start .args .tape .now) (start .args .st)) (start .args .tape .now) (start .args .st) (at-content-at .content-at .result .first) (at-content-at .content-at .result .second) (at-lone-place .lone-place .result) (at-if2 .if2 .left) (at-lone-place .lone-place .ensures) (c .before .before .if3 .left) (c .before .with-added2 .ensures) (c .if4 .taken)), start .pre .1 .0 .1)
 
 content-sizes-segment-sizes-requires : (t : ℕ) → content-sizes-lts.Need-segment-sizes-requires (
   content-at-reads.Asked,
@@ -580,7 +632,13 @@ content-sizes-segment-sizes-requires : (t : ℕ) → content-sizes-lts.Need-segm
   segment-sizes-below t,
   segment-sizes.Post,
 ) (content-sizes-at t) content-sizes.Post
-content-sizes-segment-sizes-requires t c κs = (omega arith, ((c .before .before .before .before .before .before .before .before .before .before .before .before .pre .1 .0 .0, c .before .before .before .before .before .before .before .before .before .before .before .before .pre .1 .0 .1), (kept-plus (c .before .before .before .before .before .before .before .before .before .before .before .before .args .t) (newSegments 1) (c .before .before .with-added2 .ensures), lone-inside (c .before .before .before .before .before .before .before .before .before .before .before .before .args .room) (c .before .before .before .before .before .before .before .before .before .before .before .before .args .t) (innerAdds (c .before .before .before .before .before .before .before .before .before .before .before .before .args .level) (c .before .before .before .before .before .before .before .before .before .before .before .before .args .tape .now) (c .before .before .before .before .before .before .before .before .before .before .before .before .args .st)) (c .before .before .before .before .before .before .before .before .before .before .before .before .args .tape .now) (c .before .before .before .before .before .before .before .before .before .before .before .before .args .st) (c .before .before .before .before .before .before .before .before .before .content-at .result .first) (c .before .before .before .before .before .before .before .before .before .content-at .result .second) (c .before .before .before .before .lone-place .result) (c .before .before .before .before .before .if2 .left) (c .before .before .before .before .lone-place .ensures) (c .before .before .before .if3 .left) (c .before .before .before .before .before .before .before .before .before .before .before .before .pre .1 .0 .0))))
+content-sizes-segment-sizes-requires t c κs =
+    let at-if3 = c .before .before .before in
+    let at-lone-place = at-if3 .before in
+    let at-if2 = at-lone-place .before in
+    let at-content-at = at-if2 .before .before .before .before in
+    let start = at-content-at .before .before .before in
+    (omega arith, ((start .pre .1 .0 .0, start .pre .1 .0 .1), (kept-plus (start .args .t) (newSegments 1) (c .before .before .with-added2 .ensures), lone-inside (start .args .room) (start .args .t) (innerAdds (start .args .level) (start .args .tape .now) (start .args .st)) (start .args .tape .now) (start .args .st) (at-content-at .content-at .result .first) (at-content-at .content-at .result .second) (at-lone-place .lone-place .result) (at-if2 .if2 .left) (at-lone-place .lone-place .ensures) (at-if3 .if3 .left) (start .pre .1 .0 .0))))
 
 content-sizes-same-length-3 : (t : ℕ) → content-sizes-lts.Need-same-length-3 (
   content-at-reads.Asked,
@@ -608,7 +666,15 @@ content-sizes-returns-5 : (t : ℕ) → content-sizes-lts.Need-returns-5 (
   segment-sizes-below t,
   segment-sizes.Post,
 ) (content-sizes-at t) content-sizes.Post
-content-sizes-returns-5 t c = (content-segments (c .before .before .before .before .before .before .before .before .before .before .before .before .before .before .before .args .room) (c .before .before .before .before .before .before .before .before .before .before .before .before .before .before .before .args .t) (innerAdds (c .before .before .before .before .before .before .before .before .before .before .before .before .before .before .before .args .level) (c .before .before .before .before .before .before .before .before .before .before .before .before .before .before .before .args .tape .now) (c .before .before .before .before .before .before .before .before .before .before .before .before .before .before .before .args .st)) (c .before .before .before .before .before .before .before .before .before .before .before .before .before .before .before .args .tape .now) (c .before .before .before .before .before .before .before .before .before .before .before .before .before .before .before .args .st) (contentOf (c .before .before .before .before .before .before .before .before .before .before .before .before .content-at .result)) (c .before .before .before .before .before .before .before .before .before .before .before .before .content-at .ensures) (c .before .before .before .before .before .before .before .before .before .before .if1 .left) (lone-then (c .before .before .before .before .before .before .before .before .before .before .before .before .before .before .before .args .room) (c .before .before .before .before .before .before .before .before .before .before .before .before .before .before .before .args .t) (innerAdds (c .before .before .before .before .before .before .before .before .before .before .before .before .before .before .before .args .level) (c .before .before .before .before .before .before .before .before .before .before .before .before .before .before .before .args .tape .now) (c .before .before .before .before .before .before .before .before .before .before .before .before .before .before .before .args .st)) (c .before .before .before .before .before .before .before .before .before .before .before .before .before .before .before .args .tape .now) (c .before .before .before .before .before .before .before .before .before .before .before .before .before .before .before .args .st) (c .before .before .before .before .before .before .before .before .before .before .before .before .content-at .result .first) (c .before .before .before .before .before .before .before .before .before .before .before .before .content-at .result .second) (c .before .before .before .before .before .before .before .lone-place .result) (c .before .before .before .before .before .before .before .before .if2 .left) (c .before .before .before .before .before .before .before .lone-place .ensures) (c .before .before .before .before .before .before .if3 .left) (c .before .before .before .before .before .with-added2 .ensures) (c .before .before .segment-sizes .ensures .0)), c .before .before .segment-sizes .ensures .1)
+content-sizes-returns-5 t c =
+    let at-with-added2 = c .before .before .before .before .before in
+    let at-if3 = at-with-added2 .before in
+    let at-lone-place = at-if3 .before in
+    let at-if2 = at-lone-place .before in
+    let at-if1 = at-if2 .before .before in
+    let at-content-at = at-if1 .before .before in
+    let start = at-content-at .before .before .before in
+    (content-segments (start .args .room) (start .args .t) (innerAdds (start .args .level) (start .args .tape .now) (start .args .st)) (start .args .tape .now) (start .args .st) (contentOf (at-content-at .content-at .result)) (at-content-at .content-at .ensures) (at-if1 .if1 .left) (lone-then (start .args .room) (start .args .t) (innerAdds (start .args .level) (start .args .tape .now) (start .args .st)) (start .args .tape .now) (start .args .st) (at-content-at .content-at .result .first) (at-content-at .content-at .result .second) (at-lone-place .lone-place .result) (at-if2 .if2 .left) (at-lone-place .lone-place .ensures) (at-if3 .if3 .left) (at-with-added2 .with-added2 .ensures) (c .before .before .segment-sizes .ensures .0)), c .before .before .segment-sizes .ensures .1)
 
 abbrev contents-walk-Inv-loop : contents-walk-lts.InvT-loop
 contents-walk-Inv-loop tape st memo₀ room at count level u₀ i₀ memo u i = Adding room u₀ (contentFrom (innerAdds level tape st) tape st at) count i u × Known tape st memo × (length memo ≡ length memo₀)
@@ -654,7 +720,9 @@ contents-walk-content-sizes-requires : (t : ℕ) → contents-walk-lts.Need-cont
   again-reads.Asked,
   again-reads.Learnt,
 ) (contents-walk-at t) contents-walk.Post contents-walk-Inv-loop contents-walk-μ-loop
-contents-walk-content-sizes-requires t c κs = (omega arith, ((c .before .before .before .before .before .pre .1 .0 .0, c .before .before .loop .inv .1), (c .before .before .loop .inv .0 .kept, omega (arith, c .before .before .before .before .before .pre .1 .1 .1))))
+contents-walk-content-sizes-requires t c κs =
+    let start = c .before .before .before .before .before in
+    (omega arith, ((start .pre .1 .0 .0, c .before .before .loop .inv .1), (c .before .before .loop .inv .0 .kept, omega (arith, start .pre .1 .1 .1))))
 
 contents-walk-same-length : (t : ℕ) → contents-walk-lts.Need-same-length (
   content-sizes-below t,
@@ -675,7 +743,12 @@ contents-walk-returns : (t : ℕ) → contents-walk-lts.Need-returns (
   again-reads.Learnt,
 ) (contents-walk-at t) contents-walk.Post contents-walk-Inv-loop contents-walk-μ-loop
 unfolding contentFrom
-contents-walk-returns t c = (adding-over (c .before .before .before .before .before .before .loop .inv .0) (c .before .before .before .before .before .loop-test .taken) (c .before .before .before .content-sizes .ensures .0) (c .if1 .taken) ∙ ap (plus (c .before .before .before .before .before .before .before .before .before .args .room) (c .before .before .before .before .before .before .before .before .before .args .t)) (contents-from (c .before .before .before .before .before .before .before .before .before .args .tape .now) (c .before .before .before .before .before .before .before .before .before .args .at) (c .before .before .before .before .before .before .before .before .before .args .count) (innerAdds (c .before .before .before .before .before .before .before .before .before .args .level) (c .before .before .before .before .before .before .before .before .before .args .tape .now) (c .before .before .before .before .before .before .before .before .before .args .st)) (c .before .before .before .before .before .before .before .before .before .args .st)), c .before .before .before .content-sizes .ensures .1)
+contents-walk-returns t c =
+    let at-content-sizes = c .before .before .before in
+    let at-loop-test = at-content-sizes .before .before in
+    let turn = at-loop-test .before in
+    let start = turn .before .before .before in
+    (adding-over (turn .loop .inv .0) (at-loop-test .loop-test .taken) (at-content-sizes .content-sizes .ensures .0) (c .if1 .taken) ∙ ap (plus (start .args .room) (start .args .t)) (contents-from (start .args .tape .now) (start .args .at) (start .args .count) (innerAdds (start .args .level) (start .args .tape .now) (start .args .st)) (start .args .st)), at-content-sizes .content-sizes .ensures .1)
 
 contents-walk-mul-contents-alike : (t : ℕ) → contents-walk-lts.Need-mul-contents-alike (
   content-sizes-below t,
@@ -685,7 +758,10 @@ contents-walk-mul-contents-alike : (t : ℕ) → contents-walk-lts.Need-mul-cont
   again-reads.Asked,
   again-reads.Learnt,
 ) (contents-walk-at t) contents-walk.Post contents-walk-Inv-loop contents-walk-μ-loop
-contents-walk-mul-contents-alike t c = omega (arith, c .before .before .before .before .before .before .before .before .before .pre .1 .1 .1, c .before .before .before .before .before .loop-test .taken)
+contents-walk-mul-contents-alike t c =
+    let at-loop-test = c .before .before .before .before .before in
+    let start = at-loop-test .before .before .before .before in
+    omega (arith, start .pre .1 .1 .1, at-loop-test .loop-test .taken)
 
 contents-walk-add-contents-alike : (t : ℕ) → contents-walk-lts.Need-add-contents-alike (
   content-sizes-below t,
@@ -695,7 +771,10 @@ contents-walk-add-contents-alike : (t : ℕ) → contents-walk-lts.Need-add-cont
   again-reads.Asked,
   again-reads.Learnt,
 ) (contents-walk-at t) contents-walk.Post contents-walk-Inv-loop contents-walk-μ-loop
-contents-walk-add-contents-alike t c = omega (arith, c .before .before .before .before .before .before .before .before .before .pre .1 .1 .1, c .before .before .before .before .before .loop-test .taken)
+contents-walk-add-contents-alike t c =
+    let at-loop-test = c .before .before .before .before .before in
+    let start = at-loop-test .before .before .before .before in
+    omega (arith, start .pre .1 .1 .1, at-loop-test .loop-test .taken)
 
 contents-walk-sub-contents-alike : (t : ℕ) → contents-walk-lts.Need-sub-contents-alike (
   content-sizes-below t,
@@ -725,7 +804,10 @@ contents-walk-contents-alike-requires : (t : ℕ) → contents-walk-lts.Need-con
   again-reads.Asked,
   again-reads.Learnt,
 ) (contents-walk-at t) contents-walk.Post contents-walk-Inv-loop contents-walk-μ-loop
-contents-walk-contents-alike-requires t c κs = omega (arith, c .before .before .before .before .before .before .before .before .before .pre .1 .1 .1, c .before .before .before .before .before .loop-test .taken)
+contents-walk-contents-alike-requires t c κs =
+    let at-loop-test = c .before .before .before .before .before in
+    let start = at-loop-test .before .before .before .before in
+    omega (arith, start .pre .1 .1 .1, at-loop-test .loop-test .taken)
 
 contents-walk-again-requires : (t : ℕ) → contents-walk-lts.Need-again-requires (
   content-sizes-below t,
@@ -759,7 +841,12 @@ contents-walk-returns-2 : (t : ℕ) → contents-walk-lts.Need-returns-2 (
   again-reads.Learnt,
 ) (contents-walk-at t) contents-walk.Post contents-walk-Inv-loop contents-walk-μ-loop
 unfolding contentFrom
-contents-walk-returns-2 t c = (again-over (adding-more (c .before .before .before .before .before .before .before .before .before .loop .inv .0) (c .before .before .before .before .before .before .before .before .loop-test .taken) (c .before .before .before .before .before .before .content-sizes .ensures .0)) (c .before .before .contents-alike .result) (omega (arith, c .before .before .contents-alike .ensures .few, c .before .before .before .before .before .before .before .before .loop-test .taken)) (contents-same (innerAdds (c .before .before .before .before .before .before .before .before .before .before .before .before .args .level) (c .before .before .before .before .before .before .before .before .before .before .before .before .args .tape .now) (c .before .before .before .before .before .before .before .before .before .before .before .before .args .st)) (c .before .before .before .before .before .before .before .before .before .before .before .before .args .tape .now) (c .before .before .before .before .before .before .before .before .before .before .before .before .args .st) (c .before .before .before .before .before .before .before .before .before .before .before .before .args .at) (c .before .before .before .before .before .before .before .before .before .loop .i) (c .before .before .contents-alike .ensures)) (c .before .again .ensures _ (c .before .before .before .before .before .before .content-sizes .ensures .0)) (c .if2 .taken) ∙ ap (plus (c .before .before .before .before .before .before .before .before .before .before .before .before .args .room) (c .before .before .before .before .before .before .before .before .before .before .before .before .args .t)) (contents-from (c .before .before .before .before .before .before .before .before .before .before .before .before .args .tape .now) (c .before .before .before .before .before .before .before .before .before .before .before .before .args .at) (c .before .before .before .before .before .before .before .before .before .before .before .before .args .count) (innerAdds (c .before .before .before .before .before .before .before .before .before .before .before .before .args .level) (c .before .before .before .before .before .before .before .before .before .before .before .before .args .tape .now) (c .before .before .before .before .before .before .before .before .before .before .before .before .args .st)) (c .before .before .before .before .before .before .before .before .before .before .before .before .args .st)), c .before .before .before .before .before .before .content-sizes .ensures .1)
+contents-walk-returns-2 t c =
+    let at-content-sizes = c .before .before .before .before .before .before in
+    let at-loop-test = at-content-sizes .before .before in
+    let turn = at-loop-test .before in
+    let start = turn .before .before .before in
+    (again-over (adding-more (turn .loop .inv .0) (at-loop-test .loop-test .taken) (at-content-sizes .content-sizes .ensures .0)) (c .before .before .contents-alike .result) (omega (arith, c .before .before .contents-alike .ensures .few, at-loop-test .loop-test .taken)) (contents-same (innerAdds (start .args .level) (start .args .tape .now) (start .args .st)) (start .args .tape .now) (start .args .st) (start .args .at) (turn .loop .i) (c .before .before .contents-alike .ensures)) (c .before .again .ensures _ (at-content-sizes .content-sizes .ensures .0)) (c .if2 .taken) ∙ ap (plus (start .args .room) (start .args .t)) (contents-from (start .args .tape .now) (start .args .at) (start .args .count) (innerAdds (start .args .level) (start .args .tape .now) (start .args .st)) (start .args .st)), at-content-sizes .content-sizes .ensures .1)
 
 contents-walk-add-i : (t : ℕ) → contents-walk-lts.Need-add-i (
   content-sizes-below t,
@@ -769,7 +856,10 @@ contents-walk-add-i : (t : ℕ) → contents-walk-lts.Need-add-i (
   again-reads.Asked,
   again-reads.Learnt,
 ) (contents-walk-at t) contents-walk.Post contents-walk-Inv-loop contents-walk-μ-loop
-contents-walk-add-i t c = omega (arith, c .before .before .contents-alike .ensures .few, c .before .before .before .before .before .before .before .before .loop-test .taken, c .before .before .before .before .before .before .before .before .before .before .before .before .pre .1 .1 .1)
+contents-walk-add-i t c =
+    let at-loop-test = c .before .before .before .before .before .before .before .before in
+    let start = at-loop-test .before .before .before .before in
+    omega (arith, c .before .before .contents-alike .ensures .few, at-loop-test .loop-test .taken, start .pre .1 .1 .1)
 
 contents-walk-add-i-2 : (t : ℕ) → contents-walk-lts.Need-add-i-2 (
   content-sizes-below t,
@@ -779,7 +869,10 @@ contents-walk-add-i-2 : (t : ℕ) → contents-walk-lts.Need-add-i-2 (
   again-reads.Asked,
   again-reads.Learnt,
 ) (contents-walk-at t) contents-walk.Post contents-walk-Inv-loop contents-walk-μ-loop
-contents-walk-add-i-2 t c = omega (arith, c .before .before .contents-alike .ensures .few, c .before .before .before .before .before .before .before .before .loop-test .taken, c .before .before .before .before .before .before .before .before .before .before .before .before .pre .1 .1 .1)
+contents-walk-add-i-2 t c =
+    let at-loop-test = c .before .before .before .before .before .before .before .before in
+    let start = at-loop-test .before .before .before .before in
+    omega (arith, c .before .before .contents-alike .ensures .few, at-loop-test .loop-test .taken, start .pre .1 .1 .1)
 
 contents-walk-loop-less : (t : ℕ) → contents-walk-lts.Need-loop-less (
   content-sizes-below t,
@@ -800,7 +893,12 @@ contents-walk-loop-again : (t : ℕ) → contents-walk-lts.Need-loop-again (
   again-reads.Learnt,
 ) (contents-walk-at t) contents-walk.Post contents-walk-Inv-loop contents-walk-μ-loop
 unfolding contentFrom
-contents-walk-loop-again t c = (adding-again (adding-more (c .before .before .before .before .before .before .before .before .before .loop .inv .0) (c .before .before .before .before .before .before .before .before .loop-test .taken) (c .before .before .before .before .before .before .content-sizes .ensures .0)) (c .before .before .contents-alike .result) (omega (arith, c .before .before .contents-alike .ensures .few, c .before .before .before .before .before .before .before .before .loop-test .taken)) (contents-same (innerAdds (c .before .before .before .before .before .before .before .before .before .before .before .before .args .level) (c .before .before .before .before .before .before .before .before .before .before .before .before .args .tape .now) (c .before .before .before .before .before .before .before .before .before .before .before .before .args .st)) (c .before .before .before .before .before .before .before .before .before .before .before .before .args .tape .now) (c .before .before .before .before .before .before .before .before .before .before .before .before .args .st) (c .before .before .before .before .before .before .before .before .before .before .before .before .args .at) (c .before .before .before .before .before .before .before .before .before .loop .i) (c .before .before .contents-alike .ensures)) (c .before .again .ensures _ (c .before .before .before .before .before .before .content-sizes .ensures .0)), c .before .before .before .before .before .before .content-sizes .ensures .1, c .before .before .before .before .before .before .content-sizes .kept .1 .1 .0 ∙ c .before .before .before .before .before .before .before .before .before .loop .inv .2)
+contents-walk-loop-again t c =
+    let at-content-sizes = c .before .before .before .before .before .before in
+    let at-loop-test = at-content-sizes .before .before in
+    let turn = at-loop-test .before in
+    let start = turn .before .before .before in
+    (adding-again (adding-more (turn .loop .inv .0) (at-loop-test .loop-test .taken) (at-content-sizes .content-sizes .ensures .0)) (c .before .before .contents-alike .result) (omega (arith, c .before .before .contents-alike .ensures .few, at-loop-test .loop-test .taken)) (contents-same (innerAdds (start .args .level) (start .args .tape .now) (start .args .st)) (start .args .tape .now) (start .args .st) (start .args .at) (turn .loop .i) (c .before .before .contents-alike .ensures)) (c .before .again .ensures _ (at-content-sizes .content-sizes .ensures .0)), at-content-sizes .content-sizes .ensures .1, at-content-sizes .content-sizes .kept .1 .1 .0 ∙ turn .loop .inv .2)
 
 contents-walk-same-length-3 : (t : ℕ) → contents-walk-lts.Need-same-length-3 (
   content-sizes-below t,
@@ -820,7 +918,9 @@ contents-walk-returns-3 : (t : ℕ) → contents-walk-lts.Need-returns-3 (
   again-reads.Asked,
   again-reads.Learnt,
 ) (contents-walk-at t) contents-walk.Post contents-walk-Inv-loop contents-walk-μ-loop
-contents-walk-returns-3 t c = (adding-all (c .before .loop .inv .0) (c .loop-test .left) ∙ ap (plus (c .before .before .before .before .args .room) (c .before .before .before .before .args .t)) (contents-from (c .before .before .before .before .args .tape .now) (c .before .before .before .before .args .at) (c .before .before .before .before .args .count) (innerAdds (c .before .before .before .before .args .level) (c .before .before .before .before .args .tape .now) (c .before .before .before .before .args .st)) (c .before .before .before .before .args .st)), c .before .loop .inv .1)
+contents-walk-returns-3 t c =
+    let start = c .before .before .before .before in
+    (adding-all (c .before .loop .inv .0) (c .loop-test .left) ∙ ap (plus (start .args .room) (start .args .t)) (contents-from (start .args .tape .now) (start .args .at) (start .args .count) (innerAdds (start .args .level) (start .args .tape .now) (start .args .st)) (start .args .st)), c .before .loop .inv .1)
 
 field-sizes-content-run-sizes-requires : (t : ℕ) → field-sizes-lts.Need-content-run-sizes-requires (
   content-run-sizes-below t,
@@ -830,7 +930,9 @@ field-sizes-content-run-sizes-requires : (t : ℕ) → field-sizes-lts.Need-cont
   string-sizes-reads.Asked,
   string-sizes-reads.Learnt,
 ) (field-sizes-at t) field-sizes.Post
-field-sizes-content-run-sizes-requires t c κs = (omega arith, ((c .before .before .before .before .before .pre .1 .0 .0, c .before .before .before .before .before .pre .1 .0 .1), c .before .before .before .before .before .pre .1 .1))
+field-sizes-content-run-sizes-requires t c κs =
+    let start = c .before .before .before .before .before in
+    (omega arith, ((start .pre .1 .0 .0, start .pre .1 .0 .1), start .pre .1 .1))
 
 field-sizes-same-length : (t : ℕ) → field-sizes-lts.Need-same-length (
   content-run-sizes-below t,
@@ -850,7 +952,10 @@ field-sizes-returns : (t : ℕ) → field-sizes-lts.Need-returns (
   string-sizes-reads.Asked,
   string-sizes-reads.Learnt,
 ) (field-sizes-at t) field-sizes.Post
-field-sizes-returns t c = (used-contents (c .before .before .before .before .before .before .before .before .args .room) (c .before .before .before .before .before .before .before .before .args .t) (innerAdds (c .before .before .before .before .before .before .before .before .args .level) (c .before .before .before .before .before .before .before .before .args .tape .now) (c .before .before .before .before .before .before .before .before .args .st)) (c .before .before .before .before .before .before .before .before .args .tape .now) (c .before .before .before .before .before .before .before .before .args .st) (c .before .before .before .before .before .before .before .before .args .f) (c .before .before .before .before .if1 .taken) (c .before .before .content-run-sizes .ensures .0), c .before .before .content-run-sizes .ensures .1)
+field-sizes-returns t c =
+    let at-if1 = c .before .before .before .before in
+    let start = at-if1 .before .before .before .before in
+    (used-contents (start .args .room) (start .args .t) (innerAdds (start .args .level) (start .args .tape .now) (start .args .st)) (start .args .tape .now) (start .args .st) (start .args .f) (at-if1 .if1 .taken) (c .before .before .content-run-sizes .ensures .0), c .before .before .content-run-sizes .ensures .1)
 
 field-sizes-segment-run-sizes-requires : (t : ℕ) → field-sizes-lts.Need-segment-run-sizes-requires (
   content-run-sizes-below t,
@@ -860,7 +965,9 @@ field-sizes-segment-run-sizes-requires : (t : ℕ) → field-sizes-lts.Need-segm
   string-sizes-reads.Asked,
   string-sizes-reads.Learnt,
 ) (field-sizes-at t) field-sizes.Post
-field-sizes-segment-run-sizes-requires t c κs = (omega arith, ((c .before .before .before .before .before .before .before .pre .1 .0 .0, c .before .before .before .before .before .before .before .pre .1 .0 .1), c .before .before .before .before .before .before .before .pre .1 .1))
+field-sizes-segment-run-sizes-requires t c κs =
+    let start = c .before .before .before .before .before .before .before in
+    (omega arith, ((start .pre .1 .0 .0, start .pre .1 .0 .1), start .pre .1 .1))
 
 field-sizes-same-length-2 : (t : ℕ) → field-sizes-lts.Need-same-length-2 (
   content-run-sizes-below t,
@@ -880,7 +987,11 @@ field-sizes-returns-2 : (t : ℕ) → field-sizes-lts.Need-returns-2 (
   string-sizes-reads.Asked,
   string-sizes-reads.Learnt,
 ) (field-sizes-at t) field-sizes.Post
-field-sizes-returns-2 t c = (used-segments (c .before .before .before .before .before .before .before .before .before .before .args .room) (c .before .before .before .before .before .before .before .before .before .before .args .t) (innerAdds (c .before .before .before .before .before .before .before .before .before .before .args .level) (c .before .before .before .before .before .before .before .before .before .before .args .tape .now) (c .before .before .before .before .before .before .before .before .before .before .args .st)) (c .before .before .before .before .before .before .before .before .before .before .args .tape .now) (c .before .before .before .before .before .before .before .before .before .before .args .st) (c .before .before .before .before .before .before .before .before .before .before .args .f) (c .before .before .before .before .before .before .if1 .left) (c .before .before .before .before .if2 .taken) (c .before .before .segment-run-sizes .ensures .0), c .before .before .segment-run-sizes .ensures .1)
+field-sizes-returns-2 t c =
+    let at-if2 = c .before .before .before .before in
+    let at-if1 = at-if2 .before .before in
+    let start = at-if1 .before .before .before .before in
+    (used-segments (start .args .room) (start .args .t) (innerAdds (start .args .level) (start .args .tape .now) (start .args .st)) (start .args .tape .now) (start .args .st) (start .args .f) (at-if1 .if1 .left) (at-if2 .if2 .taken) (c .before .before .segment-run-sizes .ensures .0), c .before .before .segment-run-sizes .ensures .1)
 
 field-sizes-string-sizes-requires : (t : ℕ) → field-sizes-lts.Need-string-sizes-requires (
   content-run-sizes-below t,
@@ -900,7 +1011,10 @@ field-sizes-returns-3 : (t : ℕ) → field-sizes-lts.Need-returns-3 (
   string-sizes-reads.Asked,
   string-sizes-reads.Learnt,
 ) (field-sizes-at t) field-sizes.Post
-field-sizes-returns-3 t c = (used-string (c .before .before .before .before .before .before .before .args .room) (c .before .before .before .before .before .before .before .args .t) (innerAdds (c .before .before .before .before .before .before .before .args .level) (c .before .before .before .before .before .before .before .args .tape .now) (c .before .before .before .before .before .before .before .args .st)) (c .before .before .before .before .before .before .before .args .tape .now) (c .before .before .before .before .before .before .before .args .st) (c .before .before .before .before .before .before .before .args .f) (c .before .before .before .if1 .left) (c .before .if2 .left) (c .string-sizes .ensures), c .before .before .before .before .before .before .before .pre .1 .0 .1)
+field-sizes-returns-3 t c =
+    let at-if1 = c .before .before .before in
+    let start = at-if1 .before .before .before .before in
+    (used-string (start .args .room) (start .args .t) (innerAdds (start .args .level) (start .args .tape .now) (start .args .st)) (start .args .tape .now) (start .args .st) (start .args .f) (at-if1 .if1 .left) (c .before .if2 .left) (c .string-sizes .ensures), start .pre .1 .0 .1)
 
 segment-run-sizes-segment-count-requires :
     (t : ℕ) → segment-run-sizes-lts.Need-segment-count-requires (
@@ -937,7 +1051,9 @@ segment-run-sizes-returns : (t : ℕ) → segment-run-sizes-lts.Need-returns (
   segments-walk-below t,
   segments-walk.Post,
 ) (segment-run-sizes-at t) segment-run-sizes.Post
-segment-run-sizes-returns t c = (segments-over (c .before .before .before .before .before .args .room) (c .before .before .before .before .before .args .t) (innerAdds (c .before .before .before .before .before .args .level) (c .before .before .before .before .before .args .tape .now) (c .before .before .before .before .before .args .st)) (c .before .before .before .before .before .args .tape .now) (c .before .before .before .before .before .args .st) (c .before .before .before .before .before .args .start) (c .before .before .before .before .before .args .len) (c .before .before .segment-count .result) (c .before .before .segment-count .ensures) (c .before .with-added .ensures) (c .if1 .taken), c .before .before .before .before .before .pre .1 .0 .1)
+segment-run-sizes-returns t c =
+    let start = c .before .before .before .before .before in
+    (segments-over (start .args .room) (start .args .t) (innerAdds (start .args .level) (start .args .tape .now) (start .args .st)) (start .args .tape .now) (start .args .st) (start .args .start) (start .args .len) (c .before .before .segment-count .result) (c .before .before .segment-count .ensures) (c .before .with-added .ensures) (c .if1 .taken), start .pre .1 .0 .1)
 
 segment-run-sizes-returns-2 : (t : ℕ) → segment-run-sizes-lts.Need-returns-2 (
   segment-count-reads.Asked,
@@ -949,7 +1065,10 @@ segment-run-sizes-returns-2 : (t : ℕ) → segment-run-sizes-lts.Need-returns-2
   segments-walk-below t,
   segments-walk.Post,
 ) (segment-run-sizes-at t) segment-run-sizes.Post
-segment-run-sizes-returns-2 t c = (segments-empty (c .before .before .before .before .before .before .args .room) (c .before .before .before .before .before .before .args .t) (innerAdds (c .before .before .before .before .before .before .args .level) (c .before .before .before .before .before .before .args .tape .now) (c .before .before .before .before .before .before .args .st)) (c .before .before .before .before .before .before .args .tape .now) (c .before .before .before .before .before .before .args .st) (c .before .before .before .before .before .before .args .start) (c .before .before .before .before .before .before .args .len) (c .before .before .before .segment-count .result) (c .before .before .before .segment-count .ensures) (c .before .before .with-added .ensures) (c .if2 .taken), c .before .before .before .before .before .before .pre .1 .0 .1)
+segment-run-sizes-returns-2 t c =
+    let at-segment-count = c .before .before .before in
+    let start = at-segment-count .before .before .before in
+    (segments-empty (start .args .room) (start .args .t) (innerAdds (start .args .level) (start .args .tape .now) (start .args .st)) (start .args .tape .now) (start .args .st) (start .args .start) (start .args .len) (at-segment-count .segment-count .result) (at-segment-count .segment-count .ensures) (c .before .before .with-added .ensures) (c .if2 .taken), start .pre .1 .0 .1)
 
 segment-run-sizes-segment-place-requires :
     (t : ℕ) → segment-run-sizes-lts.Need-segment-place-requires (
@@ -987,7 +1106,11 @@ segment-run-sizes-segments-walk-requires :
       segments-walk-below t,
       segments-walk.Post,
     ) (segment-run-sizes-at t) segment-run-sizes.Post
-segment-run-sizes-segments-walk-requires t c κs = (omega arith, ((c .before .before .before .before .before .before .before .before .pre .1 .0 .0, c .before .before .before .before .before .before .before .before .pre .1 .0 .1), (kept-plus (c .before .before .before .before .before .before .before .before .args .t) (newSegments (c .before .before .before .before .before .segment-count .result)) (c .before .before .before .before .with-added .ensures), segments-inside (c .before .before .before .before .before .before .before .before .args .tape .now) (c .before .before .before .before .before .before .before .before .args .st) (c .before .before .before .before .before .before .before .before .pre .1 .0 .0) (c .before .before .before .before .before .before .before .before .args .start) (c .before .before .before .before .before .before .before .before .args .len) _ _ (c .before .before .if2 .left) (c .before .before .before .before .before .segment-count .ensures) (c .before .segment-place .ensures))))
+segment-run-sizes-segments-walk-requires t c κs =
+    let at-with-added = c .before .before .before .before in
+    let at-segment-count = at-with-added .before in
+    let start = at-segment-count .before .before .before in
+    (omega arith, ((start .pre .1 .0 .0, start .pre .1 .0 .1), (kept-plus (start .args .t) (newSegments (at-segment-count .segment-count .result)) (at-with-added .with-added .ensures), segments-inside (start .args .tape .now) (start .args .st) (start .pre .1 .0 .0) (start .args .start) (start .args .len) _ _ (c .before .before .if2 .left) (at-segment-count .segment-count .ensures) (c .before .segment-place .ensures))))
 
 segment-run-sizes-same-length : (t : ℕ) → segment-run-sizes-lts.Need-same-length (
   segment-count-reads.Asked,
@@ -1011,7 +1134,12 @@ segment-run-sizes-returns-3 : (t : ℕ) → segment-run-sizes-lts.Need-returns-3
   segments-walk-below t,
   segments-walk.Post,
 ) (segment-run-sizes-at t) segment-run-sizes.Post
-segment-run-sizes-returns-3 t c = (segments-then (c .before .before .before .before .before .before .before .before .before .before .before .args .room) (c .before .before .before .before .before .before .before .before .before .before .before .args .t) (innerAdds (c .before .before .before .before .before .before .before .before .before .before .before .args .level) (c .before .before .before .before .before .before .before .before .before .before .before .args .tape .now) (c .before .before .before .before .before .before .before .before .before .before .before .args .st)) (c .before .before .before .before .before .before .before .before .before .before .before .args .tape .now) (c .before .before .before .before .before .before .before .before .before .before .before .args .st) (c .before .before .before .before .before .before .before .before .before .before .before .args .start) (c .before .before .before .before .before .before .before .before .before .before .before .args .len) (c .before .before .before .before .before .before .before .before .segment-count .result) (c .before .before .before .before .before .before .before .before .segment-count .ensures) (c .before .before .before .before .before .before .before .with-added .ensures) _ (c .before .before .before .before .segment-place .ensures) (c .before .before .segments-walk .ensures .0), c .before .before .segments-walk .ensures .1)
+segment-run-sizes-returns-3 t c =
+    let at-segment-place = c .before .before .before .before in
+    let at-with-added = at-segment-place .before .before .before in
+    let at-segment-count = at-with-added .before in
+    let start = at-segment-count .before .before .before in
+    (segments-then (start .args .room) (start .args .t) (innerAdds (start .args .level) (start .args .tape .now) (start .args .st)) (start .args .tape .now) (start .args .st) (start .args .start) (start .args .len) (at-segment-count .segment-count .result) (at-segment-count .segment-count .ensures) (at-with-added .with-added .ensures) _ (at-segment-place .segment-place .ensures) (c .before .before .segments-walk .ensures .0), c .before .before .segments-walk .ensures .1)
 
 segment-sizes-returns : (t : ℕ) → segment-sizes-lts.Need-returns (
   with-added-reads.Asked,
@@ -1025,7 +1153,9 @@ segment-sizes-returns : (t : ℕ) → segment-sizes-lts.Need-returns (
   segment-walk-below t,
   segment-walk.Post,
 ) (segment-sizes-at t) segment-sizes.Post
-segment-sizes-returns t c = (segment-last (c .before .before .before .args .room) (c .before .before .before .args .t) (c .before .before .before .args .tape .now) (c .before .before .before .args .st) (c .before .before .before .args .at) (c .before .before .before .args .level) (c .before .before .before .pre .1 .1 .0) (c .if1 .taken), c .before .before .before .pre .1 .0 .1)
+segment-sizes-returns t c =
+    let start = c .before .before .before in
+    (segment-last (start .args .room) (start .args .t) (start .args .tape .now) (start .args .st) (start .args .at) (start .args .level) (start .pre .1 .1 .0) (c .if1 .taken), start .pre .1 .0 .1)
 
 segment-sizes-add-if2 : (t : ℕ) → segment-sizes-lts.Need-add-if2 (
   with-added-reads.Asked,
@@ -1081,7 +1211,10 @@ segment-sizes-returns-2 : (t : ℕ) → segment-sizes-lts.Need-returns-2 (
   segment-walk-below t,
   segment-walk.Post,
 ) (segment-sizes-at t) segment-sizes.Post
-segment-sizes-returns-2 t c = (text-adds (c .before .before .before .before .before .before .args .room) (c .before .before .before .before .before .before .args .t) (c .before .before .before .before .before .before .args .tape .now) (c .before .before .before .before .before .before .args .st) (c .before .before .before .before .before .before .args .at) (c .before .before .before .before .before .before .args .level) (c .before .before .before .if1 .left) (c .before .if2 .taken) (c .with-added .ensures), c .before .before .before .before .before .before .pre .1 .0 .1)
+segment-sizes-returns-2 t c =
+    let at-if1 = c .before .before .before in
+    let start = at-if1 .before .before .before in
+    (text-adds (start .args .room) (start .args .t) (start .args .tape .now) (start .args .st) (start .args .at) (start .args .level) (at-if1 .if1 .left) (c .before .if2 .taken) (c .with-added .ensures), start .pre .1 .0 .1)
 
 segment-sizes-entry-of-requires : (t : ℕ) → segment-sizes-lts.Need-entry-of-requires (
   with-added-reads.Asked,
@@ -1123,7 +1256,10 @@ segment-sizes-with-entry-requires : (t : ℕ) → segment-sizes-lts.Need-with-en
   segment-walk-below t,
   segment-walk.Post,
 ) (segment-sizes-at t) segment-sizes.Post
-segment-sizes-with-entry-requires t c κs = is-there (c .before .before .before .before .before .before .before .before .before .before .args .memo .now) (c .before .before .before .before .entry-of .result) (c .before .before .before .before .before .before .before .before .before .before .args .at) (c .before .before .before .before .before .before .before .before .before .before .args .level) (sym (c .before .before .is-of .ensures) ∙ c .before .if3 .taken)
+segment-sizes-with-entry-requires t c κs =
+    let at-entry-of = c .before .before .before .before in
+    let start = at-entry-of .before .before .before .before .before .before in
+    is-there (start .args .memo .now) (at-entry-of .entry-of .result) (start .args .at) (start .args .level) (sym (c .before .before .is-of .ensures) ∙ c .before .if3 .taken)
 
 segment-sizes-same-length : (t : ℕ) → segment-sizes-lts.Need-same-length (
   with-added-reads.Asked,
@@ -1151,7 +1287,12 @@ segment-sizes-returns-3 : (t : ℕ) → segment-sizes-lts.Need-returns-3 (
   segment-walk-below t,
   segment-walk.Post,
 ) (segment-sizes-at t) segment-sizes.Post
-segment-sizes-returns-3 t c = (c .with-entry .ensures ∙ ap (plus (c .before .before .before .before .before .before .before .before .before .before .before .args .room) (c .before .before .before .before .before .before .before .before .before .before .before .args .t)) (known-adds (c .before .before .before .before .before .before .before .before .before .before .before .args .memo .now) (c .before .before .before .before .before .before .before .before .before .before .before .pre .1 .0 .1) (c .before .before .before .before .before .entry-of .result) (c .before .before .before .before .before .before .before .before .before .before .before .args .at) (c .before .before .before .before .before .before .before .before .before .before .before .args .level) (sym (c .before .before .before .is-of .ensures) ∙ c .before .before .if3 .taken) (c .before .before .before .before .before .before .before .before .if1 .left)), c .before .before .before .before .before .before .before .before .before .before .before .pre .1 .0 .1)
+segment-sizes-returns-3 t c =
+    let at-is-of = c .before .before .before in
+    let at-entry-of = at-is-of .before .before in
+    let at-if1 = at-entry-of .before .before .before in
+    let start = at-if1 .before .before .before in
+    (c .with-entry .ensures ∙ ap (plus (start .args .room) (start .args .t)) (known-adds (start .args .memo .now) (start .pre .1 .0 .1) (at-entry-of .entry-of .result) (start .args .at) (start .args .level) (sym (at-is-of .is-of .ensures) ∙ c .before .before .if3 .taken) (at-if1 .if1 .left)), start .pre .1 .0 .1)
 
 segment-sizes-segment-walk-requires : (t : ℕ) → segment-sizes-lts.Need-segment-walk-requires (
   with-added-reads.Asked,
@@ -1165,7 +1306,11 @@ segment-sizes-segment-walk-requires : (t : ℕ) → segment-sizes-lts.Need-segme
   segment-walk-below t,
   segment-walk.Post,
 ) (segment-sizes-at t) segment-sizes.Post
-segment-sizes-segment-walk-requires t c κs = (omega arith, ((c .before .before .before .before .before .before .before .before .before .before .pre .1 .0 .0, c .before .before .before .before .before .before .before .before .before .before .pre .1 .0 .1), (c .before .before .before .before .before .before .before .before .before .before .pre .1 .1 .0, (c .before .before .before .before .before .before .before .before .before .before .pre .1 .1 .1, omega (arith, c .before .before .before .before .before .before .before .if1 .left), c .before .before .before .before .entry-of .ensures))))
+segment-sizes-segment-walk-requires t c κs =
+    let at-entry-of = c .before .before .before .before in
+    let at-if1 = at-entry-of .before .before .before in
+    let start = at-if1 .before .before .before in
+    (omega arith, ((start .pre .1 .0 .0, start .pre .1 .0 .1), (start .pre .1 .1 .0, (start .pre .1 .1 .1, omega (arith, at-if1 .if1 .left), at-entry-of .entry-of .ensures))))
 
 segment-sizes-same-length-2 : (t : ℕ) → segment-sizes-lts.Need-same-length-2 (
   with-added-reads.Asked,
@@ -1217,7 +1362,9 @@ segment-walk-body-sizes-requires : (t : ℕ) → segment-walk-lts.Need-body-size
   note-reads.Asked,
   note-reads.Learnt,
 ) (segment-walk-at t) segment-walk.Post
-segment-walk-body-sizes-requires t c κs = (omega (arith, c .before .before .before .pre .1 .1 .1 .1), ((c .before .before .before .pre .1 .0 .0, c .before .before .before .pre .1 .0 .1), (c .before .before .before .pre .1 .1 .0, omega (arith, c .before .before .before .pre .1 .1 .1 .0))))
+segment-walk-body-sizes-requires t c κs =
+    let start = c .before .before .before in
+    (omega (arith, start .pre .1 .1 .1 .1), ((start .pre .1 .0 .0, start .pre .1 .0 .1), (start .pre .1 .1 .0, omega (arith, start .pre .1 .1 .1 .0))))
 
 segment-walk-same-length : (t : ℕ) → segment-walk-lts.Need-same-length (
   body-sizes-below t,
@@ -1233,7 +1380,10 @@ segment-walk-returns : (t : ℕ) → segment-walk-lts.Need-returns (
   note-reads.Asked,
   note-reads.Learnt,
 ) (segment-walk-at t) segment-walk.Post
-segment-walk-returns t c = (segment-below (c .before .before .before .before .before .before .before .args .room) (c .before .before .before .before .before .before .before .args .t) (c .before .before .before .before .before .before .before .args .tape .now) (c .before .before .before .before .before .before .before .args .st) (c .before .before .before .before .before .before .before .args .at) (c .before .before .before .before .before .before .before .args .level) (λ q. absurd (omega (arith, c .before .before .before .before .before .before .before .pre .1 .1 .1 .1, q))) (c .before .before .before .body-sizes .ensures .0), c .before .before .before .body-sizes .ensures .1)
+segment-walk-returns t c =
+    let at-body-sizes = c .before .before .before in
+    let start = at-body-sizes .before .before .before .before in
+    (segment-below (start .args .room) (start .args .t) (start .args .tape .now) (start .args .st) (start .args .at) (start .args .level) (λ q. absurd (omega (arith, start .pre .1 .1 .1 .1, q))) (at-body-sizes .body-sizes .ensures .0), at-body-sizes .body-sizes .ensures .1)
 
 segment-walk-note-requires : (t : ℕ) → segment-walk-lts.Need-note-requires (
   body-sizes-below t,
@@ -1309,7 +1459,9 @@ segments-walk-segment-sizes-requires : (t : ℕ) → segments-walk-lts.Need-segm
   again-reads.Asked,
   again-reads.Learnt,
 ) (segments-walk-at t) segments-walk.Post segments-walk-Inv-loop segments-walk-μ-loop
-segments-walk-segment-sizes-requires t c κs = (omega arith, ((c .before .before .before .before .before .pre .1 .0 .0, c .before .before .loop .inv .1), (c .before .before .loop .inv .0 .kept, omega (arith, c .before .before .before .before .before .pre .1 .1 .1))))
+segments-walk-segment-sizes-requires t c κs =
+    let start = c .before .before .before .before .before in
+    (omega arith, ((start .pre .1 .0 .0, c .before .before .loop .inv .1), (c .before .before .loop .inv .0 .kept, omega (arith, start .pre .1 .1 .1))))
 
 segments-walk-same-length : (t : ℕ) → segments-walk-lts.Need-same-length (
   segment-sizes-below t,
@@ -1330,7 +1482,12 @@ segments-walk-returns : (t : ℕ) → segments-walk-lts.Need-returns (
   again-reads.Learnt,
 ) (segments-walk-at t) segments-walk.Post segments-walk-Inv-loop segments-walk-μ-loop
 unfolding segmentFrom
-segments-walk-returns t c = (adding-over (c .before .before .before .before .before .before .loop .inv .0) (c .before .before .before .before .before .loop-test .taken) (c .before .before .before .segment-sizes .ensures .0) (c .if1 .taken) ∙ ap (plus (c .before .before .before .before .before .before .before .before .before .args .room) (c .before .before .before .before .before .before .before .before .before .args .t)) (segments-from (c .before .before .before .before .before .before .before .before .before .args .tape .now) (c .before .before .before .before .before .before .before .before .before .args .at) (c .before .before .before .before .before .before .before .before .before .args .count) (innerAdds (c .before .before .before .before .before .before .before .before .before .args .level) (c .before .before .before .before .before .before .before .before .before .args .tape .now) (c .before .before .before .before .before .before .before .before .before .args .st))), c .before .before .before .segment-sizes .ensures .1)
+segments-walk-returns t c =
+    let at-segment-sizes = c .before .before .before in
+    let at-loop-test = at-segment-sizes .before .before in
+    let turn = at-loop-test .before in
+    let start = turn .before .before .before in
+    (adding-over (turn .loop .inv .0) (at-loop-test .loop-test .taken) (at-segment-sizes .segment-sizes .ensures .0) (c .if1 .taken) ∙ ap (plus (start .args .room) (start .args .t)) (segments-from (start .args .tape .now) (start .args .at) (start .args .count) (innerAdds (start .args .level) (start .args .tape .now) (start .args .st))), at-segment-sizes .segment-sizes .ensures .1)
 
 segments-walk-mul-segments-alike : (t : ℕ) → segments-walk-lts.Need-mul-segments-alike (
   segment-sizes-below t,
@@ -1340,7 +1497,10 @@ segments-walk-mul-segments-alike : (t : ℕ) → segments-walk-lts.Need-mul-segm
   again-reads.Asked,
   again-reads.Learnt,
 ) (segments-walk-at t) segments-walk.Post segments-walk-Inv-loop segments-walk-μ-loop
-segments-walk-mul-segments-alike t c = omega (arith, c .before .before .before .before .before .before .before .before .before .pre .1 .1 .1, c .before .before .before .before .before .loop-test .taken)
+segments-walk-mul-segments-alike t c =
+    let at-loop-test = c .before .before .before .before .before in
+    let start = at-loop-test .before .before .before .before in
+    omega (arith, start .pre .1 .1 .1, at-loop-test .loop-test .taken)
 
 segments-walk-add-segments-alike : (t : ℕ) → segments-walk-lts.Need-add-segments-alike (
   segment-sizes-below t,
@@ -1350,7 +1510,10 @@ segments-walk-add-segments-alike : (t : ℕ) → segments-walk-lts.Need-add-segm
   again-reads.Asked,
   again-reads.Learnt,
 ) (segments-walk-at t) segments-walk.Post segments-walk-Inv-loop segments-walk-μ-loop
-segments-walk-add-segments-alike t c = omega (arith, c .before .before .before .before .before .before .before .before .before .pre .1 .1 .1, c .before .before .before .before .before .loop-test .taken)
+segments-walk-add-segments-alike t c =
+    let at-loop-test = c .before .before .before .before .before in
+    let start = at-loop-test .before .before .before .before in
+    omega (arith, start .pre .1 .1 .1, at-loop-test .loop-test .taken)
 
 segments-walk-sub-segments-alike : (t : ℕ) → segments-walk-lts.Need-sub-segments-alike (
   segment-sizes-below t,
@@ -1380,7 +1543,10 @@ segments-walk-segments-alike-requires : (t : ℕ) → segments-walk-lts.Need-seg
   again-reads.Asked,
   again-reads.Learnt,
 ) (segments-walk-at t) segments-walk.Post segments-walk-Inv-loop segments-walk-μ-loop
-segments-walk-segments-alike-requires t c κs = omega (arith, c .before .before .before .before .before .before .before .before .before .pre .1 .1 .1, c .before .before .before .before .before .loop-test .taken)
+segments-walk-segments-alike-requires t c κs =
+    let at-loop-test = c .before .before .before .before .before in
+    let start = at-loop-test .before .before .before .before in
+    omega (arith, start .pre .1 .1 .1, at-loop-test .loop-test .taken)
 
 segments-walk-again-requires : (t : ℕ) → segments-walk-lts.Need-again-requires (
   segment-sizes-below t,
@@ -1414,7 +1580,12 @@ segments-walk-returns-2 : (t : ℕ) → segments-walk-lts.Need-returns-2 (
   again-reads.Learnt,
 ) (segments-walk-at t) segments-walk.Post segments-walk-Inv-loop segments-walk-μ-loop
 unfolding segmentFrom
-segments-walk-returns-2 t c = (again-over (adding-more (c .before .before .before .before .before .before .before .before .before .loop .inv .0) (c .before .before .before .before .before .before .before .before .loop-test .taken) (c .before .before .before .before .before .before .segment-sizes .ensures .0)) (c .before .before .segments-alike .result) (omega (arith, c .before .before .segments-alike .ensures .few, c .before .before .before .before .before .before .before .before .loop-test .taken)) (segments-same (innerAdds (c .before .before .before .before .before .before .before .before .before .before .before .before .args .level) (c .before .before .before .before .before .before .before .before .before .before .before .before .args .tape .now) (c .before .before .before .before .before .before .before .before .before .before .before .before .args .st)) (c .before .before .before .before .before .before .before .before .before .before .before .before .args .tape .now) (c .before .before .before .before .before .before .before .before .before .before .before .before .args .at) (c .before .before .before .before .before .before .before .before .before .loop .i) (c .before .before .segments-alike .ensures)) (c .before .again .ensures _ (c .before .before .before .before .before .before .segment-sizes .ensures .0)) (c .if2 .taken) ∙ ap (plus (c .before .before .before .before .before .before .before .before .before .before .before .before .args .room) (c .before .before .before .before .before .before .before .before .before .before .before .before .args .t)) (segments-from (c .before .before .before .before .before .before .before .before .before .before .before .before .args .tape .now) (c .before .before .before .before .before .before .before .before .before .before .before .before .args .at) (c .before .before .before .before .before .before .before .before .before .before .before .before .args .count) (innerAdds (c .before .before .before .before .before .before .before .before .before .before .before .before .args .level) (c .before .before .before .before .before .before .before .before .before .before .before .before .args .tape .now) (c .before .before .before .before .before .before .before .before .before .before .before .before .args .st))), c .before .before .before .before .before .before .segment-sizes .ensures .1)
+segments-walk-returns-2 t c =
+    let at-segment-sizes = c .before .before .before .before .before .before in
+    let at-loop-test = at-segment-sizes .before .before in
+    let turn = at-loop-test .before in
+    let start = turn .before .before .before in
+    (again-over (adding-more (turn .loop .inv .0) (at-loop-test .loop-test .taken) (at-segment-sizes .segment-sizes .ensures .0)) (c .before .before .segments-alike .result) (omega (arith, c .before .before .segments-alike .ensures .few, at-loop-test .loop-test .taken)) (segments-same (innerAdds (start .args .level) (start .args .tape .now) (start .args .st)) (start .args .tape .now) (start .args .at) (turn .loop .i) (c .before .before .segments-alike .ensures)) (c .before .again .ensures _ (at-segment-sizes .segment-sizes .ensures .0)) (c .if2 .taken) ∙ ap (plus (start .args .room) (start .args .t)) (segments-from (start .args .tape .now) (start .args .at) (start .args .count) (innerAdds (start .args .level) (start .args .tape .now) (start .args .st))), at-segment-sizes .segment-sizes .ensures .1)
 
 segments-walk-add-i : (t : ℕ) → segments-walk-lts.Need-add-i (
   segment-sizes-below t,
@@ -1424,7 +1595,10 @@ segments-walk-add-i : (t : ℕ) → segments-walk-lts.Need-add-i (
   again-reads.Asked,
   again-reads.Learnt,
 ) (segments-walk-at t) segments-walk.Post segments-walk-Inv-loop segments-walk-μ-loop
-segments-walk-add-i t c = omega (arith, c .before .before .segments-alike .ensures .few, c .before .before .before .before .before .before .before .before .loop-test .taken, c .before .before .before .before .before .before .before .before .before .before .before .before .pre .1 .1 .1)
+segments-walk-add-i t c =
+    let at-loop-test = c .before .before .before .before .before .before .before .before in
+    let start = at-loop-test .before .before .before .before in
+    omega (arith, c .before .before .segments-alike .ensures .few, at-loop-test .loop-test .taken, start .pre .1 .1 .1)
 
 segments-walk-add-i-2 : (t : ℕ) → segments-walk-lts.Need-add-i-2 (
   segment-sizes-below t,
@@ -1434,7 +1608,10 @@ segments-walk-add-i-2 : (t : ℕ) → segments-walk-lts.Need-add-i-2 (
   again-reads.Asked,
   again-reads.Learnt,
 ) (segments-walk-at t) segments-walk.Post segments-walk-Inv-loop segments-walk-μ-loop
-segments-walk-add-i-2 t c = omega (arith, c .before .before .segments-alike .ensures .few, c .before .before .before .before .before .before .before .before .loop-test .taken, c .before .before .before .before .before .before .before .before .before .before .before .before .pre .1 .1 .1)
+segments-walk-add-i-2 t c =
+    let at-loop-test = c .before .before .before .before .before .before .before .before in
+    let start = at-loop-test .before .before .before .before in
+    omega (arith, c .before .before .segments-alike .ensures .few, at-loop-test .loop-test .taken, start .pre .1 .1 .1)
 
 segments-walk-loop-less : (t : ℕ) → segments-walk-lts.Need-loop-less (
   segment-sizes-below t,
@@ -1455,7 +1632,12 @@ segments-walk-loop-again : (t : ℕ) → segments-walk-lts.Need-loop-again (
   again-reads.Learnt,
 ) (segments-walk-at t) segments-walk.Post segments-walk-Inv-loop segments-walk-μ-loop
 unfolding segmentFrom
-segments-walk-loop-again t c = (adding-again (adding-more (c .before .before .before .before .before .before .before .before .before .loop .inv .0) (c .before .before .before .before .before .before .before .before .loop-test .taken) (c .before .before .before .before .before .before .segment-sizes .ensures .0)) (c .before .before .segments-alike .result) (omega (arith, c .before .before .segments-alike .ensures .few, c .before .before .before .before .before .before .before .before .loop-test .taken)) (segments-same (innerAdds (c .before .before .before .before .before .before .before .before .before .before .before .before .args .level) (c .before .before .before .before .before .before .before .before .before .before .before .before .args .tape .now) (c .before .before .before .before .before .before .before .before .before .before .before .before .args .st)) (c .before .before .before .before .before .before .before .before .before .before .before .before .args .tape .now) (c .before .before .before .before .before .before .before .before .before .before .before .before .args .at) (c .before .before .before .before .before .before .before .before .before .loop .i) (c .before .before .segments-alike .ensures)) (c .before .again .ensures _ (c .before .before .before .before .before .before .segment-sizes .ensures .0)), c .before .before .before .before .before .before .segment-sizes .ensures .1, c .before .before .before .before .before .before .segment-sizes .kept .1 .1 .0 ∙ c .before .before .before .before .before .before .before .before .before .loop .inv .2)
+segments-walk-loop-again t c =
+    let at-segment-sizes = c .before .before .before .before .before .before in
+    let at-loop-test = at-segment-sizes .before .before in
+    let turn = at-loop-test .before in
+    let start = turn .before .before .before in
+    (adding-again (adding-more (turn .loop .inv .0) (at-loop-test .loop-test .taken) (at-segment-sizes .segment-sizes .ensures .0)) (c .before .before .segments-alike .result) (omega (arith, c .before .before .segments-alike .ensures .few, at-loop-test .loop-test .taken)) (segments-same (innerAdds (start .args .level) (start .args .tape .now) (start .args .st)) (start .args .tape .now) (start .args .at) (turn .loop .i) (c .before .before .segments-alike .ensures)) (c .before .again .ensures _ (at-segment-sizes .segment-sizes .ensures .0)), at-segment-sizes .segment-sizes .ensures .1, at-segment-sizes .segment-sizes .kept .1 .1 .0 ∙ turn .loop .inv .2)
 
 segments-walk-same-length-3 : (t : ℕ) → segments-walk-lts.Need-same-length-3 (
   segment-sizes-below t,
@@ -1475,7 +1657,9 @@ segments-walk-returns-3 : (t : ℕ) → segments-walk-lts.Need-returns-3 (
   again-reads.Asked,
   again-reads.Learnt,
 ) (segments-walk-at t) segments-walk.Post segments-walk-Inv-loop segments-walk-μ-loop
-segments-walk-returns-3 t c = (adding-all (c .before .loop .inv .0) (c .loop-test .left) ∙ ap (plus (c .before .before .before .before .args .room) (c .before .before .before .before .args .t)) (segments-from (c .before .before .before .before .args .tape .now) (c .before .before .before .before .args .at) (c .before .before .before .before .args .count) (innerAdds (c .before .before .before .before .args .level) (c .before .before .before .before .args .tape .now) (c .before .before .before .before .args .st))), c .before .loop .inv .1)
+segments-walk-returns-3 t c =
+    let start = c .before .before .before .before in
+    (adding-all (c .before .loop .inv .0) (c .loop-test .left) ∙ ap (plus (start .args .room) (start .args .t)) (segments-from (start .args .tape .now) (start .args .at) (start .args .count) (innerAdds (start .args .level) (start .args .tape .now) (start .args .st))), c .before .loop .inv .1)
 
 pub +body-sizes+content-run-sizes+content-sizes+contents-walk+field-sizes+segment-run-sizes+segment-sizes+segment-walk+segments-walk-spec :
     {M : Type 1} → statement M

@@ -18,7 +18,9 @@ ruby-sizes-requires : tie.Need-ruby-sizes-requires
 ruby-sizes-requires c κs = search needs
 
 returns : tie.Need-returns
-returns c = (ruby-adds (c .before .before .before .before .before .args .room) (c .before .before .before .before .before .args .t) (c .before .before .before .before .before .args .tape .now) (c .before .before .before .before .before .args .st) (c .before .before .before .before .before .args .own) (c .before .before .before .before .before .pre .0 .2) (c .before .before .before .before .before .args .at) (sym (c .before .before .plain-ruby .ensures) ∙ c .before .if1 .taken) (c .ruby-sizes .ensures), c .before .before .before .before .before .pre .0 .1)
+returns c =
+    let start = c .before .before .before .before .before in
+    (ruby-adds (start .args .room) (start .args .t) (start .args .tape .now) (start .args .st) (start .args .own) (start .pre .0 .2) (start .args .at) (sym (c .before .before .plain-ruby .ensures) ∙ c .before .if1 .taken) (c .ruby-sizes .ensures), start .pre .0 .1)
 
 add-if2 : tie.Need-add-if2
 add-if2 c = search needs
@@ -27,19 +29,26 @@ shared-slice-read-if2 : tie.Need-shared-slice-read-if2
 shared-slice-read-if2 c = search needs
 
 returns-2 : tie.Need-returns-2
-returns-2 c = (node-bare (c .before .before .before .before .before .before .args .room) (c .before .before .before .before .before .before .args .t) (c .before .before .before .before .before .before .args .tape .now) (c .before .before .before .before .before .before .args .st) (c .before .before .before .before .before .before .args .at) (c .before .before .before .before .before .before .pre .1 .0) (c .if2 .taken), c .before .before .before .before .before .before .pre .0 .1)
+returns-2 c =
+    let start = c .before .before .before .before .before .before in
+    (node-bare (start .args .room) (start .args .t) (start .args .tape .now) (start .args .st) (start .args .at) (start .pre .1 .0) (c .if2 .taken), start .pre .0 .1)
 
 add-body-sizes : tie.Need-add-body-sizes
 add-body-sizes c = search needs
 
 body-sizes-requires : tie.Need-body-sizes-requires
-body-sizes-requires c κs = ((c .before .before .before .before .before .before .before .pre .0 .0, c .before .before .before .before .before .before .before .pre .0 .1), (c .before .before .before .before .before .before .before .pre .1 .0, omega (arith, c .before .before .before .before .before .before .before .pre .1 .1)))
+body-sizes-requires c κs =
+    let start = c .before .before .before .before .before .before .before in
+    ((start .pre .0 .0, start .pre .0 .1), (start .pre .1 .0, omega (arith, start .pre .1 .1)))
 
 same-length : tie.Need-same-length
 same-length c = search needs
 
 returns-3 : tie.Need-returns-3
-returns-3 c = (node-body-read (c .before .before .before .before .before .before .before .before .before .before .args .room) (c .before .before .before .before .before .before .before .before .before .before .args .t) (c .before .before .before .before .before .before .before .before .before .before .args .tape .now) (c .before .before .before .before .before .before .before .before .before .before .args .st) (c .before .before .before .before .before .before .before .before .before .before .args .at) (c .before .before .before .before .if2 .left) (c .before .before .body-sizes .ensures .0), c .before .before .body-sizes .ensures .1)
+returns-3 c =
+    let at-if2 = c .before .before .before .before in
+    let start = at-if2 .before .before .before .before .before .before in
+    (node-body-read (start .args .room) (start .args .t) (start .args .tape .now) (start .args .st) (start .args .at) (at-if2 .if2 .left) (c .before .before .body-sizes .ensures .0), c .before .before .body-sizes .ensures .1)
 
 pub node-sizes-spec : {M : Type 1} → statement M
 node-sizes-spec =

@@ -28,7 +28,9 @@ none-requires : tie.Need-none-requires Inv-loop μ-loop
 none-requires c κs = search needs
 
 loop-holds : tie.Need-loop-holds Inv-loop μ-loop
-loop-holds c = (rw (c .none .ensures) (adding-none (nodeFrom (c .before .before .before .before .args .tape .now) (c .before .before .before .before .args .st) (c .before .before .before .before .args .at)) (c .before .before .before .before .args .count) (kept-none (c .before .before .before .before .args .room))), c .before .before .before .before .pre .0 .1, refl)
+loop-holds c =
+    let start = c .before .before .before .before in
+    (rw (c .none .ensures) (adding-none (nodeFrom (start .args .tape .now) (start .args .st) (start .args .at)) (start .args .count) (kept-none (start .args .room))), start .pre .0 .1, refl)
 
 mul-node-sizes : tie.Need-mul-node-sizes Inv-loop μ-loop
 mul-node-sizes c = omega (arith, c .before .before .before .before .before .before .before .pre .1, c .before .loop-test .taken)
@@ -37,30 +39,50 @@ add-node-sizes : tie.Need-add-node-sizes Inv-loop μ-loop
 add-node-sizes c = omega (arith, c .before .before .before .before .before .before .before .pre .1, c .before .loop-test .taken)
 
 node-sizes-requires : tie.Need-node-sizes-requires Inv-loop μ-loop
-node-sizes-requires c κs = ((c .before .before .before .before .before .before .before .pre .0 .0, c .before .before .loop .inv .1, c .before .before .before .before .only-contents .ensures, whole-inside (c .before .before .before .before .before .before .before .args .tape .now) (c .before .before .before .before .before .before .before .args .st) (c .before .before .before .before .before .before .before .pre .0 .0) (c .before .before .before .before .only-contents .result) (c .before .before .before .before .only-contents .ensures)), (c .before .before .loop .inv .0 .kept, omega (arith, c .before .before .before .before .before .before .before .pre .1, c .before .loop-test .taken)))
+node-sizes-requires c κs =
+    let at-only-contents = c .before .before .before .before in
+    let start = at-only-contents .before .before .before in
+    ((start .pre .0 .0, c .before .before .loop .inv .1, at-only-contents .only-contents .ensures, whole-inside (start .args .tape .now) (start .args .st) (start .pre .0 .0) (at-only-contents .only-contents .result) (at-only-contents .only-contents .ensures)), (c .before .before .loop .inv .0 .kept, omega (arith, start .pre .1, c .before .loop-test .taken)))
 
 same-length : tie.Need-same-length Inv-loop μ-loop
-same-length c = c .before .before .before .node-sizes .kept .1 .1 .1 .0 ∙ c .before .before .before .before .before .before .loop .inv .2
+same-length c =
+    let at-node-sizes = c .before .before .before in
+    let turn = at-node-sizes .before .before .before in
+    at-node-sizes .node-sizes .kept .1 .1 .1 .0 ∙ turn .loop .inv .2
 
 returns : tie.Need-returns Inv-loop μ-loop
 unfolding nodeFrom
-returns c = adding-over (c .before .before .before .before .before .before .loop .inv .0) (c .before .before .before .before .before .loop-test .taken) (c .before .before .before .node-sizes .ensures .0) (c .if1 .taken) ∙ plus-none (c .before .before .before .before .before .before .before .before .before .before .before .args .room) _ ∙ ap (capped (c .before .before .before .before .before .before .before .before .before .before .before .args .room)) (nodes-from (c .before .before .before .before .before .before .before .before .before .before .before .args .tape .now) (c .before .before .before .before .before .before .before .before .before .before .before .args .at) (c .before .before .before .before .before .before .before .before .before .before .before .args .count) (c .before .before .before .before .before .before .before .before .before .before .before .args .st))
+returns c =
+    let at-node-sizes = c .before .before .before in
+    let at-loop-test = at-node-sizes .before .before in
+    let turn = at-loop-test .before in
+    let start = turn .before .before .before .before .before in
+    adding-over (turn .loop .inv .0) (at-loop-test .loop-test .taken) (at-node-sizes .node-sizes .ensures .0) (c .if1 .taken) ∙ plus-none (start .args .room) _ ∙ ap (capped (start .args .room)) (nodes-from (start .args .tape .now) (start .args .at) (start .args .count) (start .args .st))
 
 add-i : tie.Need-add-i Inv-loop μ-loop
-add-i c = omega (arith, c .before .before .before .before .before .before .before .before .before .before .before .pre .1, c .before .before .before .before .before .loop-test .taken)
+add-i c =
+    let at-loop-test = c .before .before .before .before .before in
+    let start = at-loop-test .before .before .before .before .before .before in
+    omega (arith, start .pre .1, at-loop-test .loop-test .taken)
 
 loop-less : tie.Need-loop-less Inv-loop μ-loop
 loop-less c = omega (arith, c .before .before .before .before .before .loop-test .taken)
 
 loop-again : tie.Need-loop-again Inv-loop μ-loop
 unfolding nodeFrom
-loop-again c = (adding-more (c .before .before .before .before .before .before .loop .inv .0) (c .before .before .before .before .before .loop-test .taken) (c .before .before .before .node-sizes .ensures .0), c .before .before .before .node-sizes .ensures .1, c .before .before .before .node-sizes .kept .1 .1 .1 .0 ∙ c .before .before .before .before .before .before .loop .inv .2)
+loop-again c =
+    let at-node-sizes = c .before .before .before in
+    let at-loop-test = at-node-sizes .before .before in
+    let turn = at-loop-test .before in
+    (adding-more (turn .loop .inv .0) (at-loop-test .loop-test .taken) (at-node-sizes .node-sizes .ensures .0), at-node-sizes .node-sizes .ensures .1, at-node-sizes .node-sizes .kept .1 .1 .1 .0 ∙ turn .loop .inv .2)
 
 same-length-2 : tie.Need-same-length-2 Inv-loop μ-loop
 same-length-2 c = c .before .loop .inv .2
 
 returns-2 : tie.Need-returns-2 Inv-loop μ-loop
-returns-2 c = adding-all (c .before .loop .inv .0) (c .loop-test .left) ∙ plus-none (c .before .before .before .before .before .before .args .room) _ ∙ ap (capped (c .before .before .before .before .before .before .args .room)) (nodes-from (c .before .before .before .before .before .before .args .tape .now) (c .before .before .before .before .before .before .args .at) (c .before .before .before .before .before .before .args .count) (c .before .before .before .before .before .before .args .st))
+returns-2 c =
+    let start = c .before .before .before .before .before .before in
+    adding-all (c .before .loop .inv .0) (c .loop-test .left) ∙ plus-none (start .args .room) _ ∙ ap (capped (start .args .room)) (nodes-from (start .args .tape .now) (start .args .at) (start .args .count) (start .args .st))
 
 pub nodes-sizes-spec : {M : Type 1} → statement M
 nodes-sizes-spec =

@@ -11,7 +11,9 @@ returns : tie.Need-returns
 returns c = note-far (c .before .before .args .memo .now) (c .before .before .args .e) (c .before .before .args .at) (c .before .before .args .level) (c .before .before .args .before) (c .before .before .args .after) (c .if1 .taken)
 
 returns-2 : tie.Need-returns-2
-returns-2 c = note-cut (c .before .before .before .before .args .memo .now) (c .before .before .before .before .args .e) (c .before .before .before .before .args .at) (c .before .before .before .before .args .level) (c .before .before .before .before .args .before) (c .before .before .before .before .args .after) (c .before .before .if1 .left) (c .if2 .taken)
+returns-2 c =
+    let start = c .before .before .before .before in
+    note-cut (start .args .memo .now) (start .args .e) (start .args .at) (start .args .level) (start .args .before) (start .args .after) (c .before .before .if1 .left) (c .if2 .taken)
 
 cast-put : tie.Need-cast-put
 cast-put c = search needs
@@ -32,7 +34,11 @@ same-length : tie.Need-same-length
 same-length c = search needs
 
 returns-3 : tie.Need-returns-3
-returns-3 c = note-put (c .before .before .before .before .before .before .before .before .before .before .before .before .before .before .args .memo .now) (c .before .before .before .before .before .before .before .before .before .before .before .before .before .before .args .e) (c .before .before .before .before .before .before .before .before .before .before .before .before .before .before .args .at) (c .before .before .before .before .before .before .before .before .before .before .before .before .before .before .args .level) (c .before .before .before .before .before .before .before .before .before .before .before .before .before .before .args .before) (c .before .before .before .before .before .before .before .before .before .before .before .before .before .before .args .after) (c .before .before .before .before .before .before .before .before .before .before .before .before .if1 .left) (c .before .before .before .before .before .before .before .before .before .before .if2 .left) _ refl (c .before .before .put .ensures)
+returns-3 c =
+    let at-if2 = c .before .before .before .before .before .before .before .before .before .before in
+    let at-if1 = at-if2 .before .before in
+    let start = at-if1 .before .before in
+    note-put (start .args .memo .now) (start .args .e) (start .args .at) (start .args .level) (start .args .before) (start .args .after) (at-if1 .if1 .left) (at-if2 .if2 .left) _ refl (c .before .before .put .ensures)
 
 pub note-spec : {M : Type 1} → statement M
 note-spec =

@@ -32,7 +32,10 @@ is-plain-requires c κs = omega arith
 
 returns : tie.Need-returns Inv-loop μ-loop
 unfolding contentCodec
-returns c = run-failed contentCodec isPlain (c .before .before .before .before .before .args .tape .now) (c .before .before .before .before .before .args .at) (c .before .before .before .loop .i) _ refl _ (c .before .is-plain .ensures) _ (c .before .before .loop-test .taken) (not-true _ (c .if1 .taken))
+returns c =
+    let turn = c .before .before .before in
+    let start = turn .before .before in
+    run-failed contentCodec isPlain (start .args .tape .now) (start .args .at) (turn .loop .i) _ refl _ (c .before .is-plain .ensures) _ (c .before .before .loop-test .taken) (not-true _ (c .if1 .taken))
 
 add-i : tie.Need-add-i Inv-loop μ-loop
 add-i c = omega arith
@@ -42,10 +45,15 @@ loop-less c = omega arith
 
 loop-again : tie.Need-loop-again Inv-loop μ-loop
 unfolding contentCodec
-loop-again c = (omega arith, run-more contentCodec isPlain (c .before .before .before .before .before .args .tape .now) (c .before .before .before .before .before .args .at) (c .before .before .before .loop .i) _ refl _ (c .before .is-plain .ensures) (not-false _ (c .if1 .left)) (c .before .before .before .loop .inv .1))
+loop-again c =
+    let turn = c .before .before .before in
+    let start = turn .before .before in
+    (omega arith, run-more contentCodec isPlain (start .args .tape .now) (start .args .at) (turn .loop .i) _ refl _ (c .before .is-plain .ensures) (not-false _ (c .if1 .left)) (turn .loop .inv .1))
 
 returns-2 : tie.Need-returns-2 Inv-loop μ-loop
-returns-2 c = run-passed contentCodec isPlain (c .before .before .before .args .tape .now) (c .before .before .before .args .at) _ (c .before .loop .i) (omega arith) (c .before .loop .inv .1)
+returns-2 c =
+    let start = c .before .before .before in
+    run-passed contentCodec isPlain (start .args .tape .now) (start .args .at) _ (c .before .loop .i) (omega arith) (c .before .loop .inv .1)
 
 pub plain-contents-spec : {M : Type 1} → statement M
 plain-contents-spec =

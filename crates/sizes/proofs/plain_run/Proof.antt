@@ -18,7 +18,10 @@ add-if1 : tie.Need-add-if1
 add-if1 c = search needs
 
 returns : tie.Need-returns
-returns c = plain-over (c .before .before .before .before .before .args .tape .now) (c .before .before .before .before .before .args .own) (c .before .before .before .before .before .args .start) (c .before .before .before .before .before .args .len) (omega (arith, c .if1 .taken, c .before .before .before .wide .ensures, c .before .before .wide2 .ensures))
+returns c =
+    let at-wide = c .before .before .before in
+    let start = at-wide .before .before in
+    plain-over (start .args .tape .now) (start .args .own) (start .args .start) (start .args .len) (omega (arith, c .if1 .taken, at-wide .wide .ensures, c .before .before .wide2 .ensures))
 
 mul-plain-contents : tie.Need-mul-plain-contents
 mul-plain-contents c = search needs
@@ -30,7 +33,11 @@ plain-contents-requires : tie.Need-plain-contents-requires
 plain-contents-requires c κs = search needs
 
 returns-2 : tie.Need-returns-2
-returns-2 c = plain-told (c .before .before .before .before .before .before .before .args .tape .now) (c .before .before .before .before .before .before .before .args .own) (c .before .before .before .before .before .before .before .args .start) (c .before .before .before .before .before .before .before .args .len) _ _ (omega (arith, c .before .before .before .before .before .wide .ensures)) (c .before .before .before .before .wide2 .ensures) (omega (arith, c .before .before .if1 .left, c .before .before .before .before .before .wide .ensures, c .before .before .before .before .wide2 .ensures)) (c .plain-contents .ensures)
+returns-2 c =
+    let at-wide2 = c .before .before .before .before in
+    let at-wide = at-wide2 .before in
+    let start = at-wide .before .before in
+    plain-told (start .args .tape .now) (start .args .own) (start .args .start) (start .args .len) _ _ (omega (arith, at-wide .wide .ensures)) (at-wide2 .wide2 .ensures) (omega (arith, c .before .before .if1 .left, at-wide .wide .ensures, at-wide2 .wide2 .ensures)) (c .plain-contents .ensures)
 
 pub plain-run-spec : {M : Type 1} → statement M
 plain-run-spec =

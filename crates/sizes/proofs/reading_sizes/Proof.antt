@@ -11,13 +11,17 @@ nodes-bare-requires : tie.Need-nodes-bare-requires
 nodes-bare-requires c κs = (reading-levels (c .before .before .before .pre .0), ids-nodes (c .before .before .before .pre .0))
 
 returns : tie.Need-returns
-returns c = reading-answer (c .before .before .before .before .pre .0) (c .before .before .before .before .args .room) (c .before .before .before .before .pre .1 .0) (c .before .before .before .before .pre .1 .1) (c .nodes-bare .ensures)
+returns c =
+    let start = c .before .before .before .before in
+    reading-answer (start .pre .0) (start .args .room) (start .pre .1 .0) (start .pre .1 .1) (c .nodes-bare .ensures)
 
 nodes-noted-requires : tie.Need-nodes-noted-requires
 nodes-noted-requires c κs = (reading-levels (c .before .before .before .pre .0), ids-nodes (c .before .before .before .pre .0))
 
 returns-2 : tie.Need-returns-2
-returns-2 c = reading-answer (c .before .before .before .before .pre .0) (c .before .before .before .before .args .room) (c .before .before .before .before .pre .1 .0) (c .before .before .before .before .pre .1 .1) (c .nodes-noted .ensures)
+returns-2 c =
+    let start = c .before .before .before .before in
+    reading-answer (start .pre .0) (start .args .room) (start .pre .1 .0) (start .pre .1 .1) (c .nodes-noted .ensures)
 
 pub reading-sizes-spec : {M : Type 1} → statement M
 reading-sizes-spec =

@@ -26,7 +26,10 @@ with-added-requires-2 : tie.Need-with-added-requires-2
 with-added-requires-2 c κs = search needs
 
 returns : tie.Need-returns
-returns c = ruby-read (c .before .before .before .before .before .args .room) (c .before .before .before .before .before .args .t) (c .before .before .before .body-word .result) (c .before .before .body-word2 .result) (c .before .before .before .body-word .ensures) (c .before .before .body-word2 .ensures) (c .before .with-added .ensures) (c .with-added2 .ensures)
+returns c =
+    let at-body-word = c .before .before .before in
+    let start = at-body-word .before .before in
+    ruby-read (start .args .room) (start .args .t) (at-body-word .body-word .result) (c .before .before .body-word2 .result) (at-body-word .body-word .ensures) (c .before .before .body-word2 .ensures) (c .before .with-added .ensures) (c .with-added2 .ensures)
 
 pub ruby-sizes-spec : {M : Type 1} → statement M
 ruby-sizes-spec =
