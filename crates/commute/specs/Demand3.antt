@@ -6,7 +6,6 @@ use native.Mathlib.Nat.{add-comm}
 use mathlib.Core.Bool.{Bool, true, false, cond, false≢true}
 use mathlib.Core.List.{List, [], _∷_, _++_, append-assoc, append-nil}
 use lib.ListN.{length, take, drop, take-append-drop}
-use borrow.Author.Tests.{eq-eqb}
 use Rattle.model.specs.Lists.{isEmpty, same}
 use Rattle.model.specs.Offset.{Span}
 use Rattle.model.specs.Types.{Layer, LexOutput, RegionOutput}
@@ -15,6 +14,7 @@ use Rattle.model.specs.Graft.{layerOf}
 use Rattle.model.specs.Region.{Edit, edited, balancedRegion}
 use Rattle.model.specs.Merge.{IncrementalOutput, windowOf, grafted, mergedLayers, mergedBook, answer}
 use Rattle.model.specs.Demand3.{shown, KeptReferences, movedBehind, regionBehind, Demand3}
+use Rattle.laws.specs.Lists.{same-refl}
 use Rattle.laws.specs.Checks.{checked-book, checked-reading, Chosen, chosen-facts, merge-accepted, mergedOf}
 use Rattle.laws.specs.ReadFits.{read-fits}
 use Rattle.laws.specs.Layers.{kept-references}
@@ -25,10 +25,6 @@ use Rattle.commute.specs.Step.{Step, step-of, twelve, fit-of}
 use Rattle.commute.specs.Book.{merged-book, output-again}
 
 -- ---- the regions of the second merges
-
-same-refl : (l : List ℕ) → same l l ≡ true
-same-refl [] = refl
-same-refl (x ∷ l) = rw (eq-eqb x x refl) (same-refl l)
 
 -- an insertion at a text's end that changes it is not empty: number 9
 inserts : (b : LexOutput) (e : Edit) (r : Span) → Chosen b e r → e .start ≡ length (b .sanitized) → 1 ≤ length (e .replacement)

@@ -1,10 +1,10 @@
--- Laws of `same`: the loop's, and that it is equality.
+-- Laws of `same` for its loop.
 use Prim.Native.Nat.{ℕ, suc, _+_, _≤_, _<_}
 use native.Mathlib.Omega.{arith}
 use mathlib.Core.Path.{_≡_, refl, ap, _∙_}
-use mathlib.Core.Bool.{Bool, true, false, _&&_, and-assoc, false≢true}
+use mathlib.Core.Bool.{Bool, true, false, _&&_, and-assoc}
 use mathlib.Core.List.{List, [], _∷_}
-use borrow.Author.Tests.{eq-eqb, ne-eqb, eqb-true}
+use borrow.Author.Tests.{eq-eqb, ne-eqb}
 use lib.ListN.{length, getD, drop, drop-of-length-le}
 use lib.Seq.{drop-cons}
 use lib.Dec.{eqb}
@@ -81,20 +81,3 @@ module _ (a b : List ℕ) (i : ℕ) (ha : i < length a) (hb : i < length b) wher
 
 pub same-done : (a b : List ℕ) (i : ℕ) → length a ≤ i → length b ≤ i → same (drop i a) (drop i b) ≡ true
 same-done a b i ha hb = rw (drop-of-length-le a ha, drop-of-length-le b hb) refl
-
--- `same` is equality
-pub same-eq : (a b : List ℕ) → same a b ≡ true → a ≡ b
-same-eq [] [] h = refl
-same-eq [] (y ∷ ys) h = absurd (false≢true h)
-same-eq (x ∷ xs) [] h = absurd (false≢true h)
-same-eq (x ∷ xs) (y ∷ ys) h =
-    by-bool (eqb x y)
-    (λ t.
-    let e : x ≡ y = eqb-true x y t in
-    let r : xs ≡ ys = same-eq xs ys (rw t at h) in
-    cc)
-    (λ f. absurd (false≢true (rw f at h)))
-
-pub same-refl : (a : List ℕ) → same a a ≡ true
-same-refl [] = refl
-same-refl (x ∷ xs) = rw (eq-eqb x x refl, same-refl xs) refl

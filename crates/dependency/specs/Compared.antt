@@ -12,7 +12,7 @@ use Rattle.model.specs.Types.{SourceNode}
 use Rattle.model.specs.Store.{NodeStore, resolveStr}
 use Rattle.model.specs.Tape.{recordAt, recordsAt, nodeCodec, stringCodec}
 use Rattle.model.specs.Region.{isRuby, firstPlain}
-use Rattle.laws.specs.Checks.{same-eq}
+use Rattle.laws.specs.Lists.{same-eq}
 use Rattle.wire.specs.Loops.{by-bool}
 use Rattle.store.specs.declared.Store.{Store}
 use Rattle.store.specs.Pools.{before-next, before-most}

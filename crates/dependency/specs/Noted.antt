@@ -17,8 +17,7 @@ use Rattle.model.specs.Bytes.{part}
 use Rattle.model.specs.Intern.{fxHash}
 use Rattle.model.specs.Tape.{recordAt, recordsAt, nodeCodec}
 use Rattle.model.specs.Region.{isRuby, firstPlain}
-use Rattle.laws.specs.Lists.{both}
-use Rattle.laws.specs.Checks.{same-eq}
+use Rattle.laws.specs.Lists.{both, same-eq}
 use Rattle.wire.specs.Loops.{by-bool, tabulate-last}
 use Rattle.store.specs.declared.Store.{Store}
 use Rattle.strings.specs.Starts.{storeIn}

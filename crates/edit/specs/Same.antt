@@ -10,8 +10,7 @@ use lib.Dec.{eqb}
 use borrow.Author.Tests.{eq-eqb}
 use Rattle.model.specs.Lists.{same}
 use Rattle.model.specs.Region.{Edit, edited}
-use Rattle.laws.specs.Checks.{same-eq}
-use Rattle.compare.specs.Compare.{same-refl}
+use Rattle.laws.specs.Lists.{same-eq, same-refl}
 use Rattle.wire.specs.Loops.{by-bool}
 
 same-behind : (a b c : List ℕ) → same (a ++ b) (a ++ c) ≡ same b c

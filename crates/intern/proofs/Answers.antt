@@ -11,10 +11,11 @@ use lib.ListN.{length, getD, take, drop, set, length-set, length-append}
 use lib.Seq.{drop-set-lt, drop-drop, getD-set-other}
 use Rattle.model.specs.Intern.{StrInterner, InternStats, Interned, Probe, holds, grows, tableFor, plusStats, cacheHit, bypass, tableHit, tableAlloc, tableCall, intern}
 use Rattle.model.specs.Limits.{maxNewStrings}
-use Rattle.table.specs.Layout.{taken, wideWords, tableOf, startsOf, stringsUpTo, Starts, Entries}
+use Rattle.table.specs.Layout.{wideWords, tableOf, startsOf, stringsUpTo, Starts, Entries}
 use Rattle.table.specs.Views.{part-in}
 use Rattle.table.specs.Strings.{length-strings}
-use Rattle.table.specs.Roomy.{taken-set, set-entries}
+use Rattle.laws.specs.Slots.{taken, taken-set}
+use Rattle.table.specs.Roomy.{set-entries}
 use Rattle.table.specs.Sizes.{size-hi, size-lo, size-length}
 use Rattle.stats.specs.declared.InternStats.{InternStats as Counters}
 use Rattle.stats.specs.Counts.{statsOf}

@@ -12,9 +12,8 @@ use lib.Seq.{take-take, getD-append-seam}
 use Rattle.model.specs.Limits.{internLengthLimit, maxNewStrings}
 use Rattle.model.specs.Intern.{InternStats, StrInterner, Interned, Probe, freshInterner, fxHash, plusStats, holds, probe, grows, tableFor, cacheHit, bypass, tableHit, tableAlloc, tableCall, intern, internAll}
 use Rattle.interner.specs.declared.StrInterner.{StrInterner as Interner}
-use Rattle.laws.specs.Lists.{both}
+use Rattle.laws.specs.Lists.{both, same-refl}
 use Rattle.model.specs.Lists.{same}
-use Rattle.compare.specs.Compare.{same-refl}
 use Rattle.interner.specs.State.{stateOf, Good, hasRoom}
 use Rattle.interner.specs.Added.{flatten-snoc}
 use Rattle.intern.specs.declared.Answer.{Answer}

@@ -12,7 +12,8 @@ use Rattle.wire.specs.Overwrite.{overwrite, length-overwrite, take-overwrite, g
 use Rattle.stats.specs.declared.InternStats.{InternStats as Counters}
 use Rattle.stats.specs.Counts.{Counted, statsOf}
 use Rattle.interner.specs.declared.StrInterner.{StrInterner as Interner}
-use Rattle.table.specs.Layout.{taken, part, tableOf, startsOf, startIn, withStart, stringAt, stringsUpTo, Starts, Entries}
+use Rattle.laws.specs.Slots.{taken}
+use Rattle.table.specs.Layout.{part, tableOf, startsOf, startIn, withStart, stringAt, stringsUpTo, Starts, Entries}
 use Rattle.interner.specs.State.{stateOf, Good, allocated, Alloced}
 use Rattle.interner.specs.Row.{Row, rowOf, farIn, row-apart, row-more, row-words}
 use Rattle.table.specs.Views.{length-part, getD-part}

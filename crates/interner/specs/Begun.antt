@@ -5,7 +5,8 @@ use Prim.Native.Nat.{ℕ, _≤_}
 use native.Mathlib.Omega.{arith}
 use lib.Dec.{lit≤}
 use lib.ListN.{length, getD, take}
-use Rattle.table.specs.Layout.{taken, startsOf, withStart, stringsUpTo}
+use Rattle.laws.specs.Slots.{taken}
+use Rattle.table.specs.Layout.{startsOf, withStart, stringsUpTo}
 use Rattle.stats.specs.Counts.{noStats}
 use Rattle.interner.specs.declared.StrInterner.{StrInterner as Interner}
 use Rattle.interner.specs.State.{Fresh}

@@ -12,7 +12,8 @@ use lib.Seq.{getD-set-same, getD-set-other, drop-set-lt}
 use Rattle.model.specs.Lists.{same}
 use Rattle.model.specs.Intern.{Probe, fxHash}
 use Rattle.moves.specs.Words.{movedUp, moved-length, moved-before, moved-behind, moved-drop}
-use Rattle.table.specs.Layout.{tableOf, startsOf, stringsUpTo, Entries, taken}
+use Rattle.laws.specs.Slots.{taken}
+use Rattle.table.specs.Layout.{tableOf, startsOf, stringsUpTo, Entries}
 use Rattle.table.specs.Views.{getD-part}
 use Rattle.table.specs.Cleared.{part-ext}
 use Rattle.table.specs.Roomy.{Inside, inside}

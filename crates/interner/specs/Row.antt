@@ -13,11 +13,13 @@ use lib.ListN.{length, getD, set, length-set, List·getD-append, List·getD-eq-d
 use lib.Seq.{getD-set-same, getD-set-other}
 use Rattle.model.specs.Lists.{same}
 use Rattle.model.specs.Intern.{Probe, fxHash, holds, probe}
-use Rattle.laws.specs.Checks.{same-eq}
+use Rattle.laws.specs.Lists.{same-eq}
 use Rattle.moves.specs.Words.{movedUp, moved-length, moved-before, moved-at, by-place}
 use Rattle.table.specs.Layout.{Entries}
 use Rattle.table.specs.Slots.{holds-some}
-use Rattle.table.specs.Found.{found-there, probe-keeps, set-keeps}
+use Rattle.laws.specs.Slots.{set-keeps}
+use Rattle.laws.specs.Probe.{probe-keeps}
+use Rattle.table.specs.Found.{found-there}
 use Rattle.table.specs.Sizes.{Size, none, size256, size512, size1024, size2048, size4096}
 
 -- ---- what a word remembers

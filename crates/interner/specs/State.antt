@@ -10,7 +10,8 @@ use Rattle.model.specs.Limits.{maxNewStrings}
 use Rattle.stats.specs.declared.InternStats.{InternStats as Counters}
 use Rattle.stats.specs.Counts.{statsOf, Counted}
 use Rattle.interner.specs.declared.StrInterner.{StrInterner as Interner}
-use Rattle.table.specs.Layout.{tableOf, startsOf, withStart, stringsUpTo, Work, Entries, taken}
+use Rattle.laws.specs.Slots.{taken}
+use Rattle.table.specs.Layout.{tableOf, startsOf, withStart, stringsUpTo, Work, Entries}
 use Rattle.table.specs.Sizes.{Size}
 use Rattle.interner.specs.Row.{Row, rowOf, farIn, probeFor}
 

@@ -11,13 +11,14 @@ use lib.Seq.{drop-set-lt, getD-set-same}
 use Rattle.model.specs.Lists.{isEmpty}
 use Rattle.model.specs.Intern.{grows, tableFor, moveSlots}
 use Rattle.interner.specs.declared.StrInterner.{StrInterner as Interner}
-use Rattle.table.specs.Layout.{taken, wideWords, tableOf, startsOf, stringsUpTo, stringsOf, Starts, Entries}
+use Rattle.laws.specs.Slots.{taken, taken-le, taken-zeros, moved-taken}
+use Rattle.table.specs.Layout.{wideWords, tableOf, startsOf, stringsUpTo, stringsOf, Starts, Entries}
 use Rattle.interner.specs.State.{stateOf, Good, Ready, withSlots, withTable}
 use Rattle.interner.specs.Row.{Row, rowOf, farIn, row-none}
 use Rattle.table.specs.Sizes.{Size, size256, isDue, size-lo, size-grows, size-double, size-length, strings-all, is-empty, due-full, due-not}
 use Rattle.table.specs.Views.{part-high}
 use Rattle.table.specs.Cleared.{cleared-length, cleared-part, cleared-high}
-use Rattle.table.specs.Roomy.{taken-le, taken-zeros, taken-all, entries-all, entries-zeros}
+use Rattle.table.specs.Roomy.{entries-all, entries-zeros}
 
 -- a test on the table is a test on its length
 pub grows-is : (work strs : List ℕ) (st : Interner) → Good work strs st → grows (stateOf work strs st) ≡ isDue (st .slots) (st .occupied)
@@ -165,7 +166,7 @@ module _ (work strs : List ℕ) (st : Interner) (g : Good work strs st) where
         new-number =
             let z = taken-zeros (st .slots * 2) in
             let l : length zeros ≡ st .slots * 2 = length-replicate {A = ℕ} (st .slots * 2) 0 in
-            ap taken new-is ∙ taken-all strings (tableOf (st .slots) work) zeros (omega (arith, z, l, taken-le (tableOf (st .slots) work), table-len)) ∙ omega (arith, z, g .number)
+            ap taken new-is ∙ moved-taken strings (tableOf (st .slots) work) zeros (omega (arith, z, l, taken-le (tableOf (st .slots) work), table-len)) ∙ omega (arith, z, g .number)
 
         pub grown-ready : (u : List ℕ) → u ≡ set v 8191 0 → Ready work strs st u r
         grown-ready u hu =

@@ -1,11 +1,11 @@
 -- What an accepted book, region, reading and merge say, as facts: beside each chain of `refuse n if` its record. A proof about
 -- code or about a merge takes its hypotheses from here and never opens the chains.
 use mathlib.Core.Path.{_≡_, refl, sym, ap, _∙_, subst}
-use Prim.Native.Nat.{ℕ, zero, suc, _+_, _≤_}
+use Prim.Native.Nat.{ℕ, _+_, _≤_}
 use native.Mathlib.Omega.{arith}
-use mathlib.Core.Bool.{Bool, true, false, not, _&&_, false≢true}
+use mathlib.Core.Bool.{Bool, true, false, not, _&&_}
 use mathlib.Core.Option.{Option, none, some}
-use mathlib.Core.List.{List, [], _∷_}
+use mathlib.Core.List.{List}
 use lib.ListN.{length}
 use lib.Dec.{leb, eqb}
 use borrow.Author.Tests.{leb-true, eqb-true, not-false}
@@ -21,7 +21,7 @@ use Rattle.model.specs.WellFormed.{textsAreUtf8, withinLimits, contentOk, segme
 use Rattle.model.specs.Region.{Edit, edited, editOk, balancedRegion, isWhole, hasRubyFormatDependency, chosenRegion}
 use Rattle.model.specs.Graft.{With}
 use Rattle.model.specs.Merge.{Stored, Room, IncrementalOutput, windowOf, newRegionText, balancedNodes, isUnclosed, introducesRubyFormatDependency, cutsOk, grafted, mergedBook, answer, fitsRoom, resultOk, fitting, resultChecked, mergeBooks, merge, MergeWindow}
-use Rattle.laws.specs.Lists.{both}
+use Rattle.laws.specs.Lists.{both, same-eq}
 
 -- ---- steps of a chain
 
@@ -40,17 +40,6 @@ refuse-accepted n false f y e = (refl, e)
 
 pub same-accepted : {A : Type 0} (a b : A) → accepted a ≡ accepted b → a ≡ b
 same-accepted a b e = cc
-
--- equal by the test, equal
-pub same-eq : (a b : List ℕ) → same a b ≡ true → a ≡ b
-same-eq [] [] e = refl
-same-eq [] (y ∷ b) e = absurd (false≢true e)
-same-eq (x ∷ a) [] e = absurd (false≢true e)
-same-eq (x ∷ a) (y ∷ b) e =
-    let s = both (eqb x y) (same a b) e in
-    let h = eqb-true x y (s .0) in
-    let t = same-eq a b (s .1) in
-    λ i. h i ∷ t i
 
 -- ---- 2 to 7, each as its test
 

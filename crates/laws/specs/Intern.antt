@@ -9,9 +9,8 @@ use lib.ListN.{length, getD, set, replicate, length-append}
 use lib.Seq.{getD-append-seam}
 use lib.Dec.{eqb, leb, ltb}
 use borrow.Author.Tests.{eqb-true, eqb-false, leb-true, le-leb}
-use Rattle.laws.specs.Lists.{both, join, all-map}
+use Rattle.laws.specs.Lists.{both, join, all-map, same-eq}
 use Rattle.laws.specs.Keep.{all-get, all-set}
-use Rattle.laws.specs.Checks.{same-eq}
 use Rattle.model.specs.Lists.{all, isEmpty}
 use Rattle.model.specs.Limits.{internLengthLimit, initialCapacity}
 use Rattle.model.specs.Intern.{fxHash, StrInterner, Interned, Probe, freshInterner, holds, probe, emptySlot, moveSlots, grows, tableFor, cacheHit, bypass, tableHit, tableAlloc, tableCall, intern}
@@ -20,10 +19,10 @@ use Rattle.model.specs.Intern.{fxHash, StrInterner, Interned, Probe, freshInter
 abbrev pub Below : ℕ → List ℕ → Type 0
 Below m l = all (λ x. leb x m) l ≡ true
 
-below-more : (m n : ℕ) (l : List ℕ) → m ≤ n → Below m l → Below n l
+pub below-more : (m n : ℕ) (l : List ℕ) → m ≤ n → Below m l → Below n l
 below-more m n l h b = all-map (λ x. leb x m) (λ x. leb x n) (λ x e. let k = leb-true x m e in le-leb x n (omega arith)) l b
 
-below-zeros : (m n : ℕ) → Below m (replicate n 0)
+pub below-zeros : (m n : ℕ) → Below m (replicate n 0)
 below-zeros m zero = refl
 below-zeros m (suc n) = join (leb 0 m) (all (λ x. leb x m) (replicate n 0)) (le-leb 0 m zero-le) (below-zeros m n)
 

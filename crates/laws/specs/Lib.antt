@@ -18,6 +18,11 @@ pub mod Located
 pub mod Nodes
 pub mod Prefix
 pub mod Intern
+pub mod Slots
+pub mod Probe
+pub mod Entries
+pub mod Calls
+pub mod Ceiling
 pub mod Graft
 pub mod Levels
 pub mod Layers

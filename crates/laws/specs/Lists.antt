@@ -8,8 +8,9 @@ use mathlib.Core.Option.{none, some}
 use mathlib.Core.List.{List, [], _∷_, _++_, append-assoc, append-nil, map, flatten}
 use lib.ListN.{length, getD, getElem?, take, drop, length-drop}
 use lib.Seq.{length-take-le}
-use lib.Dec.{T}
-use Rattle.model.specs.Lists.{all, keep, tabulate}
+use lib.Dec.{T, eqb}
+use borrow.Author.Tests.{eqb-true, eq-eqb}
+use Rattle.model.specs.Lists.{all, keep, same, tabulate}
 use Rattle.model.specs.Bytes.{part}
 
 -- ---- tests
@@ -30,9 +31,38 @@ pub neither : (x y : Bool) → x || y ≡ false → (x ≡ false) × (y ≡ fals
 neither true y e = absurd (false≢true (sym e))
 neither false y e = (refl, e)
 
+pub or-right : (x : Bool) {y : Bool} → y ≡ true → x || y ≡ true
+or-right true e = refl
+or-right false e = e
+
 pub T-true : (x : Bool) → T x → x ≡ true
 T-true true h = refl
 T-true false h = absurd h
+
+-- ---- lists of numbers compared: `same` is equality
+
+pub same-eq : (a b : List ℕ) → same a b ≡ true → a ≡ b
+same-eq [] [] e = refl
+same-eq [] (y ∷ b) e = absurd (false≢true e)
+same-eq (x ∷ a) [] e = absurd (false≢true e)
+same-eq (x ∷ a) (y ∷ b) e =
+    let s = both (eqb x y) (same a b) e in
+    let h = eqb-true x y (s .0) in
+    let t = same-eq a b (s .1) in
+    λ i. h i ∷ t i
+
+pub same-refl : (a : List ℕ) → same a a ≡ true
+same-refl [] = refl
+same-refl (x ∷ a) = join (eqb x x) (same a a) (eq-eqb x x refl) (same-refl a)
+
+pub same-sym : (a b : List ℕ) → same a b ≡ same b a
+same-sym a b = go (same a b) refl (same b a) refl
+  where
+    go : (x : Bool) → same a b ≡ x → (y : Bool) → same b a ≡ y → x ≡ y
+    go true e true f = refl
+    go true e false f = absurd (false≢true (sym f ∙ ap (same b) (same-eq a b e) ∙ same-refl b))
+    go false e true f = absurd (false≢true (sym e ∙ ap (same a) (same-eq b a f) ∙ same-refl a))
+    go false e false f = refl
 
 -- ---- a test of every element
 

@@ -147,3 +147,31 @@ graftNodeRefs (n ∷ ns) f =
     let r = graftNodeRef n f in
     let rest = graftNodeRefs ns (r .1) in
     (r .0 ∷ rest .0, rest .1)
+
+-- ---- Wish 7
+
+-- Wish 7. The list of intern calls that grafting makes: the strings of a tree, in section 5's order.
+unfoldable mutual
+  pub treeCalls : Tree → List (List ℕ)
+  treeCalls (tree kind tag plain1 plain2 fs) = fieldsCalls fs
+
+  pub fieldsCalls : Fields → List (List ℕ)
+  fieldsCalls done = []
+  fieldsCalls (text i s fs) = s ∷ fieldsCalls fs
+  fieldsCalls (absent i fs) = fieldsCalls fs
+  fieldsCalls (contents i cs fs) = contentsCalls cs ++ fieldsCalls fs
+  fieldsCalls (segments i ss fs) = segmentsCalls ss ++ fieldsCalls fs
+
+  pub contentsCalls : Contents → List (List ℕ)
+  contentsCalls noContent = []
+  contentsCalls (plain s cs) = s ∷ contentsCalls cs
+  contentsCalls (segmented ss cs) = segmentsCalls ss ++ contentsCalls cs
+
+  pub segmentsCalls : Segments → List (List ℕ)
+  segmentsCalls noSegment = []
+  segmentsCalls (segment tag level t ss) = treeCalls t ++ segmentsCalls ss
+
+-- Wish 7. Of nodes, one behind the other.
+unfoldable pub graftCalls : List ShownNode → List (List ℕ)
+graftCalls [] = []
+graftCalls (n ∷ ns) = treeCalls (n .body) ++ graftCalls ns

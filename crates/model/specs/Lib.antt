@@ -14,6 +14,7 @@ pub mod Graft
 pub mod Region
 pub mod Merge
 pub mod Estimate
+pub mod Ceiling
 pub mod Lookup
 pub mod Runs
 pub mod Demand3

@@ -15,10 +15,11 @@ use Rattle.model.specs.Refusal.{Checked, Checked.refused, Checked.accept
 use Rattle.model.specs.Tape.{parse, tapeOf, bytesOf}
 use Rattle.model.specs.WellFormed.{checkBook, checkReading}
 use Rattle.model.specs.Tree.{shownNodes}
-use Rattle.model.specs.Graft.{NewLayer, layered, graftNodeRefs}
+use Rattle.model.specs.Graft.{NewLayer, layered, graftNodeRefs, graftCalls}
 use Rattle.model.specs.Region.{Edit, chooseRegion}
 use Rattle.model.specs.Merge.{Stored, Room, IncrementalOutput, storedBook, grafted, windowOf, merge}
 use Rattle.model.specs.Estimate.{Estimate, isOver, priceOf, estimate}
+use Rattle.model.specs.Ceiling.{distinctShort, readingCalls}
 use Rattle.model.specs.Runs.{program, programRoom}
 use Rattle.model.specs.Examples.{plainBook, edit, regionIn, region, rubyReading, input}
 use Rattle.model.specs.Computed.{computed}
@@ -362,3 +363,36 @@ pub sixteen-before-seventeen :
     × (priced (layersWith (ascii "aa\n\nbb\n\ncc") (layersOf 32)) (plainReading []) ≡ accepted (price 0 0 0 0 20))
 unfolding computed
 sixteen-before-seventeen = (refl, refl, refl)
+
+-- calls, probes and m of a list of calls on a fresh layer
+abbrev probed : List (List ℕ) → List ℕ
+probed ss =
+    let counts = internAll freshInterner ss .stats in
+    counts .calls ∷ counts .probeSteps ∷ distinctShort ss ∷ []
+
+-- Wish 7. m counts a string of 64 bytes and none of 65. The first is at its ceiling, and without m there is no probe.
+pub ceiling-at-the-limit : (probed (replicate 64 97 ∷ []) ≡ 1 ∷ 1 ∷ 1 ∷ []) × (probed (replicate 65 97 ∷ replicate 65 98 ∷ []) ≡ 2 ∷ 0 ∷ 0 ∷ [])
+unfolding computed
+ceiling-at-the-limit = (refl, refl)
+
+-- nine strings that share one slot: of zero bytes, whose hash is 0
+abbrev oneSlot : List (List ℕ)
+oneSlot = tabulate 9 (λ k. replicate k 0)
+
+-- Wish 7. The k-th of them inspects k slots, the first time with the empty one: the ninth is at the ceiling of a call, m.
+pub ceiling-of-one-slot : (probed oneSlot ≡ 9 ∷ 45 ∷ 9 ∷ []) × (probed (oneSlot ++ oneSlot) ≡ 18 ∷ 90 ∷ 9 ∷ [])
+unfolding computed
+ceiling-of-one-slot = (refl, refl)
+
+-- Wish 7. Growth's moves are not counted: 224 entries of one probe each, then one that is there, found at once in 512 slots.
+pub growth-not-counted : probed (tabulate 224 (λ i. i ∷ []) ++ ((0 ∷ []) ∷ [])) ≡ 225 ∷ 225 ∷ 224 ∷ []
+unfolding computed
+growth-not-counted = refl
+
+-- Wish 7. The list is the one that grafting makes, in its order; what is no reading makes none.
+pub calls-in-order :
+    (graftCalls (shownNodes gaiji) ≡ ascii "m" ∷ ascii "h" ∷ [])
+    × (readingCalls (storedBook rubyReading) ≡ ascii "x" ∷ ascii "b" ∷ [])
+    × (readingCalls (storedBook (twoLayers 0 1)) ≡ [])
+unfolding computed
+calls-in-order = (refl, refl, refl)

@@ -11,7 +11,8 @@ use Rattle.model.specs.Types.{LexOutput, RegionOutput}
 use Rattle.model.specs.Tape.{bytesOf}
 use Rattle.model.specs.Region.{Edit, edited}
 use Rattle.model.specs.Merge.{MergeWindow, windowOf, mergedNormalized, grafted, mergedBook}
-use Rattle.laws.specs.Checks.{Chosen, chosen-facts, same-eq, LimitFacts, limit-facts}
+use Rattle.laws.specs.Lists.{same-eq}
+use Rattle.laws.specs.Checks.{Chosen, chosen-facts, LimitFacts, limit-facts}
 use Rattle.laws.specs.Fits.{fits}
 use Rattle.laws.specs.ReadFits.{read-fits}
 use Rattle.laws.specs.Nodes.{normal-inside}

@@ -1,23 +1,14 @@
--- Probes that stop early, and what keeps a probe that found its string. Assumes nothing.
-use mathlib.Core.Path.{_≡_, refl, sym, ap, _∙_}
+-- Probes that stop early, and what a probe that found its string tells. Assumes nothing.
+use mathlib.Core.Path.{_≡_, refl, sym}
 use mathlib.Core.Bool.{Bool, true, false, cond}
 use mathlib.Core.List.{List}
-use Prim.Native.Nat.{ℕ, zero, suc, _+_, _-_, _%_, _<_}
+use Prim.Native.Nat.{ℕ, zero, suc, _+_, _%_, _<_}
 use native.Mathlib.Omega.{arith}
-use native.Mathlib.Decide.{ℕ-discrete}
-use borrow.Author.Tests.{eq-eqb, eqb-true}
+use borrow.Author.Tests.{eqb-true}
 use lib.Dec.{eqb}
-use lib.ListN.{length, getD, set}
-use lib.Seq.{getD-set-other}
+use lib.ListN.{length, getD}
 use Rattle.model.specs.Intern.{Probe, holds, probe}
-
--- ---- one turn
-
--- two probes that stop at the same slots are the same if they go on alike
-alike : (P : Probe → Type 0) (b c : Bool) (stop x y : Probe) → P (cond b stop (cond c stop y)) → (P y → x ≡ y) → cond b stop (cond c stop x) ≡ cond b stop (cond c stop y)
-alike P true c stop x y h f = refl
-alike P false true stop x y h f = refl
-alike P false false stop x y h f = f h
+use Rattle.laws.specs.Probe.{alike}
 
 -- ---- the first slots
 
@@ -53,20 +44,3 @@ found-there (suc n) strings t s at k f =
     let more = probe n strings t s ((at + 1) % length t) (k + 1) in
     there strings t s (eqb (getD t at 0) 0) (holds strings (getD t at 0) s) stop more (λ e. eqb-true (getD t at 0) 0 e) refl refl f
     (found-there n strings t s ((at + 1) % length t) (k + 1))
-
--- in a table that has these slots and more, with strings that the slots name alike, the string is found as before
-pub probe-keeps : (n : ℕ) (strings strings′ : List (List ℕ)) (t u s : List ℕ) → length u ≡ length t
-    → ((i : ℕ) → (getD t i 0 ≡ 0 → ⊥) → getD u i 0 ≡ getD t i 0)
-    → ((i : ℕ) → (getD t i 0 ≡ 0 → ⊥) → holds strings′ (getD t i 0) s ≡ holds strings (getD t i 0) s)
-    → (at k : ℕ) → (probe n strings t s at k .slot ≡ 0 → ⊥) → probe n strings′ u s at k ≡ probe n strings t s at k
-unfolding probe
-probe-keeps zero strings strings′ t u s len keeps names at k f = absurd (f refl)
-probe-keeps (suc n) strings strings′ t u s len keeps names at k f =
-    elim (ℕ-discrete (getD t at 0) 0) [
-      | yes e ↦ absurd (f (rw (eq-eqb (getD t at 0) 0 e) e))
-      | no ne ↦ rw (keeps at ne, len, names at ne) (alike (λ (p : Probe). p .slot ≡ 0 → ⊥) (eqb (getD t at 0) 0) (holds strings (getD t at 0) s) _ _ _ f
-          (λ g. probe-keeps n strings strings′ t u s len keeps names ((at + 1) % length t) (k + 1) g))
-    ]
-
-pub set-keeps : (t : List ℕ) (p v : ℕ) → getD t p 0 ≡ 0 → (i : ℕ) → (getD t i 0 ≡ 0 → ⊥) → getD (set t p v) i 0 ≡ getD t i 0
-set-keeps t p v e i ne = getD-set-other t p i v 0 (λ q. ne (ap (λ (j : ℕ). getD t j 0) q ∙ e))

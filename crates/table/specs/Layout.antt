@@ -64,12 +64,6 @@ pub record Work (work : List ℕ) (size count : ℕ) : Type 0 where
   pub few : count ≤ maxNewStrings
   pub starts : Starts (startsOf count work) size
 
--- how many slots are taken
-unfoldable pub taken : List ℕ → ℕ
-taken [] = 0
-taken (zero ∷ t) = taken t
-taken (suc e ∷ t) = suc (taken t)
-
 -- where string id goes in a table
 unfoldable pub slotFor : List (List ℕ) → List ℕ → ℕ → ℕ
 slotFor strings table id = emptySlot (length table) table (fxHash (getD strings id []) % length table)

@@ -1,23 +1,14 @@
 -- The slots of a table: one turn of the probe, and of the search for an empty slot. Assumes nothing.
-use mathlib.Core.Path.{_≡_, refl, sym, ap, _∙_}
+use mathlib.Core.Path.{_≡_, refl, _∙_}
 use mathlib.Core.Bool.{true, false}
 use mathlib.Core.List.{List, []}
 use Prim.Native.Nat.{ℕ, zero, suc, _+_, _-_, _%_, _<_, _≤_}
 use native.Mathlib.Omega.{arith}
-use native.Mathlib.Nat.{mod-self, mod-eq-of-lt}
 use borrow.Author.Tests.{eq-eqb, ne-eqb}
 use lib.ListN.{length, getD}
 use Rattle.model.specs.Lists.{same}
 use Rattle.model.specs.Intern.{Probe, holds, probe, emptySlot}
 
--- ---- the next slot
-pub next-round : (n at : ℕ) → at + 1 ≡ n → 0 ≡ (at + 1) % n
-next-round n at e = sym (ap (λ (k : ℕ). k % n) e ∙ mod-self n)
-
-pub next-in : (n at : ℕ) → at + 1 < n → at + 1 ≡ (at + 1) % n
-next-in n at lt = sym (mod-eq-of-lt lt)
-
--- ---- the probe
 pub holds-some : (strings : List (List ℕ)) (e : ℕ) (s : List ℕ) → (e ≡ 0 → ⊥) → holds strings e s ≡ same (getD strings (e - 1) []) s
 unfolding holds
 holds-some strings zero s ne = absurd (ne refl)

@@ -1,4 +1,4 @@
-use Rattle.table.specs.Slots.{next-round, next-in}
+use Rattle.laws.specs.Slots.{next-round, next-in}
 use mathlib.Core.Path.{_≡_, refl, sym, ap, _∙_}
 use mathlib.Core.List.{List, [], _∷_, _++_}
 use Prim.Native.Nat.{ℕ, zero, suc, _+_, _-_, _*_, _%_, _/_, _^_, _≤_, _<_}
