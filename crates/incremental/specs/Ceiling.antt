@@ -1,27 +1,36 @@
--- Wish 7. What a caller of `merge` may conclude from its contract: the counts of an accepted answer are those of the reading's list of
--- intern calls, and probes are at most calls × m.
-use mathlib.Core.Path.{_≡_, refl, sym, ap, subst}
-use Prim.Native.Nat.{ℕ}
-use native.Mathlib.Omega.{arith}
+-- Wish 7. What a caller of `merge` may conclude from its contract where the number is 0.
+use mathlib.Core.Path.{_≡_, sym, ap, _∙_, subst}
+use Prim.Native.Nat.{ℕ, _*_, _≤_}
 use mathlib.Core.List.{List}
-use Rattle.model.specs.Refusal.{Checked, Checked.refused, Checked.accepted}
+use Rattle.model.specs.Limits.{maxNewStrings}
+use Rattle.model.specs.Refusal.{Checked.accepted}
 use Rattle.model.specs.Merge.{Stored, Room, IncrementalOutput}
 use Rattle.model.specs.Demand3.{Correction, mergeOf}
 use Rattle.model.specs.Ceiling.{Ceiling, readingCalls}
-use Rattle.laws.specs.Numbers.{UpTo, merge-numbers}
-use Rattle.laws.specs.Ceiling.{merge-ceiling}
+use Rattle.laws.specs.Numbers.{merge-numbers}
+use Rattle.laws.specs.Ceiling.{merge-ceiling, merge-most}
 use Rattle.stats.specs.Counts.{statsOf}
 use Rattle.output.specs.declared.IncrementalOutput.{IncrementalOutput as Output}
 use Rattle.output.specs.Answer.{outputOf, Merged}
+use Rattle.incremental.specs.Answered.{merged-value}
 
-pub merged-ceiling : (book : Stored) (c : Correction) (room : Room) {r : Output} {out text work : List ℕ}
-    → Merged (mergeOf book c room) room r out text work → r .number ≡ 0 → Ceiling (readingCalls (c .reading)) (statsOf (r .stats))
-unfolding outputOf
-merged-ceiling book c room {r} h z = go (mergeOf book c room) refl (h .answer)
-  where
-    go : (asked : Checked IncrementalOutput) → mergeOf book c room ≡ asked → r ≡ outputOf asked → Ceiling (readingCalls (c .reading)) (statsOf (r .stats))
-    go (refused n) e q =
-        let number : UpTo {A = IncrementalOutput} 18 (refused n) = subst (UpTo 18) e (merge-numbers book (c .edit) (c .reading) room) in
-        let is : r .number ≡ n = ap (λ (x : Output). x .number) q in
-        absurd (omega (arith, number .0, is, z))
-    go (accepted m) e q = subst (λ (x : Output). Ceiling (readingCalls (c .reading)) (statsOf (x .stats))) (sym q) (merge-ceiling book (c .edit) (c .reading) room m e)
+module _ (book : Stored) (c : Correction) (room : Room) {r : Output} {out text work : List ℕ} (m : Merged (mergeOf book c room) room r out text work) (z : r .number ≡ 0) where
+  accepted-value : (a : IncrementalOutput) × (mergeOf book c room ≡ accepted a)
+  accepted-value = merged-value m (merge-numbers book (c .edit) (c .reading) room) z
+
+  told : r ≡ outputOf (accepted (accepted-value .0))
+  told = m .answer ∙ ap outputOf (accepted-value .1)
+
+  -- The counts that it returns are those of the list of intern calls of the reading, and probes are at most calls × m.
+  pub merged-ceiling : Ceiling (readingCalls (c .reading)) (statsOf (r .stats))
+  unfolding outputOf
+  merged-ceiling =
+      subst (λ (x : Output). Ceiling (readingCalls (c .reading)) (statsOf (x .stats))) (sym told)
+      (merge-ceiling book (c .edit) (c .reading) room (accepted-value .0) (accepted-value .1))
+
+  -- Where m is not known: it is at most the number of strings of a new layer.
+  pub merged-most : r .stats .probesteps ≤ r .stats .calls * maxNewStrings
+  unfolding outputOf
+  merged-most =
+      subst (λ (x : Output). x .stats .probesteps ≤ x .stats .calls * maxNewStrings) (sym told)
+      (merge-most book (c .edit) (c .reading) room (accepted-value .0) (accepted-value .1))

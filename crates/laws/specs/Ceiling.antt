@@ -1,244 +1,34 @@
--- Wish 7, proved: probes are at most calls × m. The table names distinct short strings of the calls, each found by its probe, so it has
--- at most m entries, and a probe inspects the entries and at most one empty slot, which it then fills.
+-- Wish 7, proved: probes are at most calls × m. The table has at most m entries, and a probe inspects the entries and at most one empty
+-- slot, which it then fills.
 use mathlib.Core.Path.{_≡_, refl, sym, ap, ap₂, _∙_, subst}
-use mathlib.Core.Logic.{_⊎_, inl, inr}
-use Prim.Native.Nat.{ℕ, zero, suc, _+_, _*_, _%_, _≤_, _<_, zero-le}
+use Prim.Native.Nat.{ℕ, zero, suc, _+_, _*_, _%_, _≤_, _<_}
 use native.Mathlib.Omega.{arith}
-use native.Mathlib.Nat.{mod-lt, suc-mul, mul-zero}
-use mathlib.Core.Bool.{Bool, true, false, cond, not, _&&_, _||_, false≢true}
+use native.Mathlib.Nat.{mod-lt, suc-mul, mul-zero, mul-le-mul-left}
+use mathlib.Core.Bool.{Bool, true, false, cond, _||_, false≢true}
 use mathlib.Core.List.{List, [], _∷_, _++_, append-assoc}
-use lib.ListN.{length, getD, set, replicate, length-set, length-append, length-replicate, List·getD-append}
+use lib.ListN.{length, getD, set, length-append}
 use lib.Seq.{getD-append-seam}
-use lib.Dec.{eqb, leb, ltb}
-use borrow.Author.Tests.{eqb-true, eqb-false, leb-true, leb-false, le-leb, ltb-false, not-true}
-use Rattle.model.specs.Lists.{all, any, same, isEmpty}
-use Rattle.model.specs.Limits.{internLengthLimit, initialCapacity}
+use lib.Dec.{eqb, ltb}
+use borrow.Author.Tests.{eqb-true, eqb-false, le-leb, ltb-false}
+use Rattle.model.specs.Lists.{all, any, same}
+use Rattle.model.specs.Limits.{internLengthLimit, maxNewStrings}
 use Rattle.model.specs.Types.{Layer, RegionOutput}
 use Rattle.model.specs.Refusal.{Checked.accepted}
 use Rattle.model.specs.WellFormed.{checkReading}
-use Rattle.model.specs.Intern.{StrInterner, Probe, freshInterner, fxHash, plusStats, holds, probe, emptySlot, moveSlots, grows, tableFor, cacheHit, bypass, tableHit, tableAlloc, tableCall, intern, internAll}
+use Rattle.model.specs.Intern.{StrInterner, Probe, freshInterner, fxHash, plusStats, holds, probe, emptySlot, grows, tableFor, cacheHit, bypass, tableHit, tableAlloc, tableCall, intern, internAll}
 use Rattle.model.specs.Tree.{ShownNode, shownNodes}
 use Rattle.model.specs.Graft.{layered, graftNodeRefs, graftCalls}
 use Rattle.model.specs.Region.{Edit}
 use Rattle.model.specs.Merge.{Stored, Room, IncrementalOutput, grafted, answer, merge}
 use Rattle.model.specs.Ceiling.{isShort, distinctShort, Ceiling, callsOf, readingCalls}
-use Rattle.laws.specs.Lists.{both, join, either, neither, or-right, same-eq, same-refl, same-sym}
-use Rattle.laws.specs.Keep.{all-get, all-set}
+use Rattle.laws.specs.Lists.{both, join, or-right, same-refl}
 use Rattle.laws.specs.Checks.{merge-accepted}
-use Rattle.laws.specs.Intern.{Below, below-zeros, below-more}
-use Rattle.laws.specs.Slots.{taken, taken-le, taken-zeros, taken-set, set-keeps, gap, empty-inside, empty-empty, moved-length, moved-taken, taken-round}
-use Rattle.laws.specs.Probe.{inspected, miss-empty, probe-keeps, put-found}
-use Rattle.laws.specs.Entries.{Apart, known, apart-few, entries, entries-taken, entries-zeros, entries-grown, any-filled, all-filled, apart-filled}
+use Rattle.laws.specs.Intern.{Sound, intern-answers, fresh-sound}
+use Rattle.laws.specs.Slots.{taken, taken-set, empty-inside, empty-empty, taken-round}
+use Rattle.laws.specs.Probe.{inspected, miss-empty}
+use Rattle.laws.specs.Entries.{known, distinct-few, entries, entries-grown}
+use Rattle.laws.specs.Tables.{Table, entries-few, table-grown, entered, Kept, fresh-kept, Ready, ready}
 use Rattle.laws.specs.Calls.{graft-calls}
-
--- ---- a table
-
--- its entries are distinct short strings of these calls, and each is found by its probe
-record Table (calls strings : List (List ℕ)) (t : List ℕ) : Type 0 where
-  below : Below (length strings) t
-  apart : Apart (entries strings t)
-  known : all (known calls) (entries strings t) ≡ true
-  finds : (s : List ℕ) → any (same s) (entries strings t) ≡ true → probe (length t) strings t s (fxHash s % length t) 0 .slot ≡ 0 → ⊥
-
--- so it has at most m
-entries-few : (calls strings : List (List ℕ)) (t : List ℕ) → Table calls strings t → taken t ≤ distinctShort calls
-entries-few calls strings t k = let e = entries-taken strings t in let r = apart-few calls (entries strings t) (k .apart) (k .known) in omega (arith, e, r)
-
-table-zeros : (calls strings : List (List ℕ)) (n : ℕ) → Table calls strings (replicate n 0)
-table-zeros calls strings n =
-    let z = entries-zeros strings n in
-    record {
-      below = below-zeros (length strings) n;
-      apart = subst Apart (sym z) tt;
-      known = ap (all (known calls)) z;
-      finds = λ s e. absurd (false≢true (sym (ap (any (same s)) z) ∙ e));
-    }
-
-holds-grown : (strings more : List (List ℕ)) (slot : ℕ) (s : List ℕ) → slot ≤ length strings → holds (strings ++ more) slot s ≡ holds strings slot s
-unfolding holds
-holds-grown strings more zero s h = refl
-holds-grown strings more (suc i) s h = ap (λ (x : List ℕ). same x s) (List·getD-append strings more [] i (omega arith))
-
--- strings that come behind
-table-grown : (calls strings more : List (List ℕ)) (t : List ℕ) → Table calls strings t → Table calls (strings ++ more) t
-table-grown calls strings more t k =
-    let e = entries-grown strings more t (k .below) in
-    let l = length-append strings more in
-    let slot-le : (i : ℕ) → getD t i 0 ≤ length strings = λ i. leb-true (getD t i 0) (length strings) (all-get (λ x. leb x (length strings)) t i 0 (k .below) (le-leb 0 (length strings) zero-le)) in
-    record {
-      below = below-more (length strings) (length (strings ++ more)) t (omega arith) (k .below);
-      apart = subst Apart (sym e) (k .apart);
-      known = ap (all (known calls)) e ∙ k .known;
-      finds = λ s f z.
-          let there = k .finds s (sym (ap (any (same s)) e) ∙ f) in
-          there (sym (ap (λ (p : Probe). p .slot)
-          (probe-keeps (length t) strings (strings ++ more) t t s refl (λ i ne. refl) (λ i ne. holds-grown strings more (getD t i 0) s (slot-le i)) (fxHash s % length t) 0 there)) ∙ z);
-    }
-
--- a string that is not there yet, put at the first empty slot of its way
-module _ (calls strings : List (List ℕ)) (t : List ℕ) (i : ℕ) (k : Table calls strings t) (room : taken t < length t) (inside : i < length strings) where
-  abbrev own : List ℕ
-  own = getD strings i []
-
-  abbrev start : ℕ
-  start = fxHash own % length t
-
-  abbrev slot : ℕ
-  slot = emptySlot (length t) t start
-
-  start-lt : start < length t
-  start-lt = mod-lt (fxHash own) (omega (arith, room))
-
-  slot-lt : slot < length t
-  slot-lt = empty-inside t start start-lt
-
-  slot-empty : getD t slot 0 ≡ 0
-  slot-empty = empty-empty t start room start-lt
-
-  holds-own : holds strings (suc i) own ≡ true
-  unfolding holds
-  holds-own = same-refl own
-
-  entered : known calls own ≡ true → any (same own) (entries strings t) ≡ false → Table calls strings (set t slot (suc i))
-  entered kn new = record {
-    below = all-set (λ x. leb x (length strings)) t slot (suc i) (k .below) (le-leb (suc i) (length strings) (omega arith));
-    apart = apart-filled strings i t slot slot-lt slot-empty (k .apart) new;
-    known = all-filled strings i (known calls) t slot (k .known) kn;
-    finds = λ s f. rw (length-set t slot (suc i)) (go s (either (any (same s) (entries strings t)) (same s own) (sym (any-filled strings i (same s) t slot slot-lt slot-empty) ∙ f)));
-  }
-    where
-      go : (s : List ℕ) → ((any (same s) (entries strings t) ≡ true) ⊎ (same s own ≡ true)) → probe (length t) strings (set t slot (suc i)) s (fxHash s % length t) 0 .slot ≡ 0 → ⊥
-      go s (inl e) z =
-          let there = k .finds s e in
-          there (sym (ap (λ (p : Probe). p .slot)
-          (probe-keeps (length t) strings strings t (set t slot (suc i)) s (length-set t slot (suc i)) (set-keeps t slot (suc i) slot-empty) (λ j ne. refl) (fxHash s % length t) 0 there)) ∙ z)
-      go s (inr e) z =
-          put-found strings t own (suc i) (λ n. omega (arith, n)) holds-own start 0 start-lt (gap t start room start-lt)
-          (ap (λ (r : List ℕ). probe (length t) strings (set t slot (suc i)) r (fxHash r % length t) 0 .slot) (sym (same-eq s own e)) ∙ z)
-
--- ---- growth
-
--- what is to be moved: distinct, known, and none of it in the new table
-record Moving (calls strings : List (List ℕ)) (old new : List ℕ) : Type 0 where
-  below : Below (length strings) old
-  apart : Apart (entries strings old)
-  known : all (known calls) (entries strings old) ≡ true
-  others : all (λ s. not (any (same s) (entries strings new))) (entries strings old) ≡ true
-  room : taken new + taken old ≤ length new
-
-nor : {x y : Bool} → x ≡ false → y ≡ false → x || y ≡ false
-nor {x} {y} e f = ap₂ (λ (u v : Bool). u || v) e f
-
-others-more : (strings : List (List ℕ)) (i : ℕ) (t : List ℕ) (p : ℕ) → p < length t → getD t p 0 ≡ 0 → (l : List (List ℕ)) → any (same (getD strings i [])) l ≡ false
-    → all (λ s. not (any (same s) (entries strings t))) l ≡ true → all (λ s. not (any (same s) (entries strings (set t p (suc i))))) l ≡ true
-others-more strings i t p h e [] n a = refl
-others-more strings i t p h e (s ∷ l) n a =
-    let b = both (not (any (same s) (entries strings t))) (all (λ r. not (any (same r) (entries strings t))) l) a in
-    let c = neither (same (getD strings i []) s) (any (same (getD strings i [])) l) n in
-    let x : any (same s) (entries strings (set t p (suc i))) ≡ false = any-filled strings i (same s) t p h e ∙ nor (not-true (any (same s) (entries strings t)) (b .0)) (same-sym s (getD strings i []) ∙ c .0) in
-    join (not (any (same s) (entries strings (set t p (suc i))))) (all (λ r. not (any (same r) (entries strings (set t p (suc i))))) l)
-    (ap not x)
-    (others-more strings i t p h e l (c .1) (b .1))
-
-moved : (calls strings : List (List ℕ)) (old new : List ℕ) → Table calls strings new → Moving calls strings old new → Table calls strings (moveSlots strings old new)
-unfolding moveSlots entries taken
-moved calls strings [] new k m = k
-moved calls strings (zero ∷ old) new k m =
-    moved calls strings old new k
-    (record { below = both (leb 0 (length strings)) (all (λ y. leb y (length strings)) old) (m .below) .1; apart = m .apart; known = m .known; others = m .others; room = m .room })
-moved calls strings (suc i ∷ old) new k m =
-    let b = both (leb (suc i) (length strings)) (all (λ y. leb y (length strings)) old) (m .below) in
-    let x = getD strings i [] in
-    let q = both (known calls x) (all (known calls) (entries strings old)) (m .known) in
-    let o = both (not (any (same x) (entries strings new))) (all (λ s. not (any (same s) (entries strings new))) (entries strings old)) (m .others) in
-    let room : taken new < length new = omega (arith, m .room) in
-    let inside : i < length strings = let l = leb-true (suc i) (length strings) (b .0) in omega (arith, l) in
-    let at = fxHash x % length new in
-    let p = emptySlot (length new) new at in
-    let lt : at < length new = mod-lt (fxHash x) (omega (arith, room)) in
-    let e = empty-empty new at room lt in
-    let n = length-set new p (suc i) in
-    let c = taken-set new p (suc i) (empty-inside new at lt) e (λ z. omega (arith, z)) in
-    moved calls strings old (set new p (suc i)) (entered calls strings new i k room inside (q .0) (not-true (any (same x) (entries strings new)) (o .0)))
-    (record {
-      below = b .1;
-      apart = m .apart .1;
-      known = q .1;
-      others = others-more strings i new p (empty-inside new at lt) e (entries strings old) (m .apart .0) (o .1);
-      room = omega (arith, m .room, c, n);
-    })
-
--- ---- the state between calls
-
-record Kept (calls : List (List ℕ)) (t : StrInterner) : Type 0 where
-  table : Table calls (t .strings) (t .table)
-  number : t .occupied ≡ taken (t .table)
-
-fresh-kept : (calls : List (List ℕ)) → Kept calls freshInterner
-unfolding taken
-fresh-kept calls = record { table = table-zeros calls [] 0; number = refl }
-
--- the table that a call probes: the same entries, and an empty slot
-record Ready (calls : List (List ℕ)) (t : StrInterner) (table : List ℕ) : Type 0 where
-  is : Table calls (t .strings) table
-  number : t .occupied ≡ taken table
-  room : taken table < length table
-
-all-others : (strings : List (List ℕ)) (n : ℕ) (l : List (List ℕ)) → all (λ s. not (any (same s) (entries strings (replicate n 0)))) l ≡ true
-all-others strings n [] = refl
-all-others strings n (s ∷ l) =
-    let z = entries-zeros strings n in
-    join (not (any (same s) (entries strings (replicate n 0)))) (all (λ r. not (any (same r) (entries strings (replicate n 0)))) l)
-    (ap (λ (u : List (List ℕ)). not (any (same s) u)) z) (all-others strings n l)
-
-ready : (calls : List (List ℕ)) (t : StrInterner) → Kept calls t → Ready calls t (tableFor t)
-unfolding tableFor grows taken
-ready calls t k = pick (isEmpty (t .table)) refl (leb (length (t .table) * 7) (t .occupied * 8)) refl
-  where
-    S : List (List ℕ)
-    S = t .strings
-
-    T : List ℕ
-    T = t .table
-
-    zeros : List ℕ
-    zeros = replicate (length T * 2) 0
-
-    grown : List ℕ
-    grown = moveSlots S T zeros
-
-    none : (l : List ℕ) → isEmpty l ≡ true → taken l ≡ 0
-    none [] e = refl
-    none (x ∷ l) e = absurd (false≢true e)
-
-    some : (l : List ℕ) → isEmpty l ≡ false → 0 < length l
-    some [] e = absurd (false≢true (sym e))
-    some (x ∷ l) e = omega arith
-
-    room : taken zeros + taken T ≤ length zeros
-    room = omega (arith, taken-zeros (length T * 2), taken-le T, length-replicate {A = ℕ} (length T * 2) 0)
-
-    made : Table calls S grown
-    made =
-        moved calls S T zeros (table-zeros calls S (length T * 2))
-        (record { below = k .table .below; apart = k .table .apart; known = k .table .known; others = all-others S (length T * 2) (entries S T); room = room })
-
-    pick : (x : Bool) → isEmpty T ≡ x → (y : Bool) → leb (length T * 7) (t .occupied * 8) ≡ y
-        → Ready calls t (cond x (replicate initialCapacity 0) (cond (not x && y) grown T))
-    pick true e y q =
-        let z = taken-zeros initialCapacity in
-        record { is = table-zeros calls S initialCapacity; number = k .number ∙ none T e ∙ sym z; room = omega (arith, z, length-replicate {A = ℕ} initialCapacity 0) }
-    pick false e true q =
-        let c = moved-taken S T zeros room in
-        let z = taken-zeros (length T * 2) in
-        record {
-          is = made;
-          number = omega (arith, k .number, c, z);
-          room = omega (arith, c, z, moved-length S T zeros, length-replicate {A = ℕ} (length T * 2) 0, taken-le T, some T e);
-        }
-    pick false e false q =
-        let s = leb-false (length T * 7) (t .occupied * 8) q in
-        record { is = k .table; number = k .number; room = omega (arith, k .number, s, some T e) }
 
 -- ---- a call
 
@@ -369,6 +159,41 @@ ceiling ss =
       none = λ z. let q : length ss * distinctShort ss ≡ 0 = ap (λ (k : ℕ). length ss * k) z ∙ mul-zero (length ss) in omega (arith, p, q);
     }
 
+-- ---- how great m may be
+
+-- a string of the layer is still there behind a call
+grown-any : (s : List ℕ) (xs more : List (List ℕ)) → any (same s) xs ≡ true → any (same s) (xs ++ more) ≡ true
+grown-any s [] more e = absurd (false≢true e)
+grown-any s (x ∷ xs) more e = go (same s x) e (grown-any s xs more)
+  where
+    go : (t : Bool) → t || any (same s) xs ≡ true → (any (same s) xs ≡ true → any (same s) (xs ++ more) ≡ true) → t || any (same s) (xs ++ more) ≡ true
+    go true h r = refl
+    go false h r = r h
+
+any-at : (s : List ℕ) (xs : List (List ℕ)) (i : ℕ) → i < length xs → getD xs i [] ≡ s → any (same s) xs ≡ true
+any-at s [] i h e = absurd (omega arith)
+any-at s (x ∷ xs) zero h e = ap (λ (y : List ℕ). same s y || any (same s) xs) e ∙ rw (same-refl s) refl
+any-at s (x ∷ xs) (suc i) h e = or-right (same s x) (any-at s xs i (omega arith) e)
+
+-- behind the calls the layer has each string that was there, and each of the calls
+layer-has : (t : StrInterner) (ss : List (List ℕ)) → Sound t
+    → ((s : List ℕ) → any (same s) (t .strings) ≡ true → any (same s) (internAll t ss .strings) ≡ true) × (all (λ s. any (same s) (internAll t ss .strings)) ss ≡ true)
+unfolding internAll
+layer-has t [] ok = (λ s e. e, refl)
+layer-has t (r ∷ ss) ok =
+    let a = intern-answers t r ok in
+    let u = intern t r .state in
+    let on = layer-has u ss (a .sound) in (
+      λ s e. on .0 s (ap (any (same s)) (a .grown) ∙ grown-any s (t .strings) (a .more) e),
+      join (any (same r) (internAll u ss .strings)) (all (λ s. any (same s) (internAll u ss .strings)) ss) (on .0 r (any-at r (u .strings) (intern t r .id) (a .inside) (a .shows))) (on .1),
+    )
+
+-- m is at most the number of strings of the layer
+pub distinct-strings : (ss : List (List ℕ)) → distinctShort ss ≤ length (internAll freshInterner ss .strings)
+distinct-strings ss = distinct-few (internAll freshInterner ss .strings) ss (layer-has freshInterner ss fresh-sound .1)
+
+-- ---- grafting and the merge
+
 -- Wish 7. The list is the one that grafting makes: of nodes in a fresh layer above any others, as a merge grafts its reading's and a
 -- flattening the book's.
 pub graft-ceiling : (ns : List ShownNode) (ls : List Layer) → Ceiling (graftCalls ns) (graftNodeRefs ns (layered ls) .1 .interner .stats)
@@ -389,3 +214,17 @@ merge-ceiling s e rs room m q =
     let counts : graftNodeRefs ns (layered (a .old .layers)) .1 .interner .stats ≡ m .stats = sym (ap (λ (x : IncrementalOutput). x .stats) (a .facts .result)) in
     subst (λ (l : List (List ℕ)). Ceiling l (m .stats)) (sym (reading-calls rs (a .reading) (a .read)))
     (subst (Ceiling (graftCalls ns)) counts (graft-ceiling ns (a .old .layers)))
+
+-- so m is at most 3583, by number 18, and the calls alone bound the probes
+pub merge-most : (s : Stored) (e : Edit) (rs : Stored) (room : Room) (m : IncrementalOutput) → merge s e rs room ≡ accepted m → m .stats .probeSteps ≤ m .stats .calls * maxNewStrings
+unfolding grafted layered
+merge-most s e rs room m q =
+    let a = merge-accepted s e rs room m q in
+    let ns = shownNodes (a .reading) in
+    let c = merge-ceiling s e rs room m q in
+    let l = ap distinctShort (reading-calls rs (a .reading) (a .read)) in
+    let d = distinct-strings (graftCalls ns) in
+    let i = ap (λ (t : StrInterner). length (t .strings)) (graft-calls ns (layered (a .old .layers))) in
+    let few : distinctShort (readingCalls rs) ≤ maxNewStrings = omega (arith, l, d, i, a .facts .newStrings) in
+    let more = mul-le-mul-left (m .stats .calls) few in
+    omega (arith, c .probes, more)

@@ -114,6 +114,58 @@ apart-few (y ∷ ys) xs a h =
     go true e r f = let w = few-without y xs a in omega (arith, r, w)
     go false e r f = f (known-again y ys xs e h)
 
+-- ---- strings that are all in a list are at most as many, however often they come
+
+one-without : (y : List ℕ) (xs : List (List ℕ)) → any (same y) xs ≡ true → suc (length (without y xs)) ≤ length xs
+one-without y [] e = absurd (false≢true e)
+one-without y (x ∷ xs) e = go (same y x) e (one-without y xs)
+  where
+    le : (l : List (List ℕ)) → length (without y l) ≤ length l
+    le [] = omega arith
+    le (z ∷ l) = next (same y z) (le l)
+      where
+        next : (t : Bool) → length (without y l) ≤ length l → length (cond (not t) (z ∷ without y l) (without y l)) ≤ suc (length l)
+        next true r = omega (arith, r)
+        next false r = omega (arith, r)
+
+    go : (t : Bool) → t || any (same y) xs ≡ true → (any (same y) xs ≡ true → suc (length (without y xs)) ≤ length xs)
+        → suc (length (cond (not t) (x ∷ without y xs) (without y xs))) ≤ suc (length xs)
+    go true h r = omega (arith, le xs)
+    go false h r = omega (arith, r h)
+
+-- what is another string is still there
+still : (x y : List ℕ) (xs : List (List ℕ)) → same y x ≡ false → any (same x) xs ≡ true → any (same x) (without y xs) ≡ true
+still x y [] n e = e
+still x y (z ∷ xs) n e = go (same y z) refl (same x z) refl e (still x y xs n)
+  where
+    go : (t : Bool) → same y z ≡ t → (u : Bool) → same x z ≡ u → u || any (same x) xs ≡ true → (any (same x) xs ≡ true → any (same x) (without y xs) ≡ true)
+        → any (same x) (cond (not t) (z ∷ without y xs) (without y xs)) ≡ true
+    go true p true q h r = absurd (false≢true (sym n ∙ ap (same y) (same-eq x z q) ∙ p))
+    go true p false q h r = r h
+    go false p true q h r = rw q refl
+    go false p false q h r = rw q (r h)
+
+all-still : (y : List ℕ) (xs ss : List (List ℕ)) → any (same y) ss ≡ false → all (λ s. any (same s) xs) ss ≡ true → all (λ s. any (same s) (without y xs)) ss ≡ true
+all-still y xs [] n h = refl
+all-still y xs (s ∷ ss) n h =
+    let p = neither (same y s) (any (same y) ss) n in
+    let q = both (any (same s) xs) (all (λ r. any (same r) xs) ss) h in
+    join (any (same s) (without y xs)) (all (λ r. any (same r) (without y xs)) ss) (still s y xs (p .0) (q .0)) (all-still y xs ss (p .1) (q .1))
+
+pub distinct-few : (xs ss : List (List ℕ)) → all (λ s. any (same s) xs) ss ≡ true → distinctShort ss ≤ length xs
+unfolding distinctShort
+distinct-few xs [] h = omega arith
+distinct-few xs (s ∷ ss) h = go (isShort s) (any (same s) ss) refl (λ n. distinct-few (without s xs) ss (all-still s xs ss n (q .1))) (distinct-few xs ss (q .1))
+  where
+    q : (any (same s) xs ≡ true) × (all (λ r. any (same r) xs) ss ≡ true)
+    q = both (any (same s) xs) (all (λ r. any (same r) xs) ss) h
+
+    go : (x y : Bool) → any (same s) ss ≡ y → (any (same s) ss ≡ false → distinctShort ss ≤ length (without s xs)) → distinctShort ss ≤ length xs
+        → cond (x && not y) (suc (distinctShort ss)) (distinctShort ss) ≤ length xs
+    go true false e r f = let w = one-without s xs (q .0) in let z = r e in omega (arith, w, z)
+    go true true e r f = f
+    go false y e r f = f
+
 -- ---- the strings of a table
 
 -- the strings that the slots name, in slot order

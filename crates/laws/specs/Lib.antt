@@ -21,6 +21,7 @@ pub mod Intern
 pub mod Slots
 pub mod Probe
 pub mod Entries
+pub mod Tables
 pub mod Calls
 pub mod Ceiling
 pub mod Graft

@@ -13,11 +13,12 @@ use Rattle.model.specs.Region.{Edit, editOf}
 use Rattle.model.specs.Merge.{Stored, Room, IncrementalOutput, merge, padded, tapeBuffer, textBuffer, workBuffer, storedOf, resultOf, outputTape, outputBytes}
 use Rattle.model.specs.Demand3.{Correction, StoredBytes, Separate, BothOrders, Commutes, Demand3, correctionOf, mergeOf, cutBehind, cutMoved}
 use Rattle.laws.specs.Checks.{chosen-facts}
-use Rattle.laws.specs.Numbers.{UpTo, merge-numbers}
+use Rattle.laws.specs.Numbers.{merge-numbers}
 use Rattle.commute.specs.Demand3.{demand3}
 use Rattle.output.specs.Answer.{Merged, outputOf}
 use Rattle.output.specs.declared.IncrementalOutput.{IncrementalOutput as Output}
 use Rattle.output.specs.declared.BothOrders.{BothOrders as Answers}
+use Rattle.incremental.specs.Answered.{merged-value}
 use Rattle.orders.specs.Moved.{moved-exact}
 
 -- ---- what the calls leave
@@ -48,16 +49,6 @@ pub record MergedBothOrders (stored : Stored) (earlier later : Correction) (room
       → CallsCommute book stored earlier later room₁ room₂ room₃ room₄ r out₁ out₂ out₃ out₄ work
 
 -- ---- one call
-
-module _ {asked : Checked IncrementalOutput} {room : Room} {r : Output} {out text work : List ℕ} (m : Merged asked room r out text work) where
-  -- an accepted answer has the number 0, a refused one has not
-  pub merged-value : UpTo 18 asked → r .number ≡ 0 → (a : IncrementalOutput) × (asked ≡ accepted a)
-  unfolding outputOf
-  merged-value h z = go asked h (ap (λ (x : Output). x .number) (sym (m .answer)) ∙ z)
-    where
-      go : (x : Checked IncrementalOutput) → UpTo 18 x → outputOf x .number ≡ 0 → (a : IncrementalOutput) × (x ≡ accepted a)
-      go (refused n) h z = absurd (omega (arith, h .0, z))
-      go (accepted a) h z = (a, refl)
 
 -- a list at the head of a buffer
 at-head : (l z : List ℕ) {n : ℕ} {out : List ℕ} → n ≡ length l → out ≡ l ++ z → (n ≤ length out) × (take (n - 0) (drop 0 out) ≡ l)
