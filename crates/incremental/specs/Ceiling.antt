@@ -4,6 +4,7 @@ use Prim.Native.Nat.{ℕ, _*_, _≤_}
 use mathlib.Core.List.{List}
 use Rattle.model.specs.Limits.{maxNewStrings}
 use Rattle.model.specs.Refusal.{Checked.accepted}
+use Rattle.model.specs.Intern.{freshInterner, internAll}
 use Rattle.model.specs.Merge.{Stored, Room, IncrementalOutput}
 use Rattle.model.specs.Demand3.{Correction, mergeOf}
 use Rattle.model.specs.Ceiling.{Ceiling, readingCalls}
@@ -34,3 +35,10 @@ module _ (book : Stored) (c : Correction) (room : Room) {r : Output} {out text w
   merged-most =
       subst (λ (x : Output). x .stats .probesteps ≤ x .stats .calls * maxNewStrings) (sym told)
       (merge-most book (c .edit) (c .reading) room (accepted-value .0) (accepted-value .1))
+
+-- The counts hang on the reading alone: merged into another book, by another edit or in another order, it has the same.
+pub merged-counts : (book book′ : Stored) (c c′ : Correction) (room room′ : Room) {r r′ : Output} {out text work out′ text′ work′ : List ℕ}
+    → Merged (mergeOf book c room) room r out text work → r .number ≡ 0 → Merged (mergeOf book′ c′ room′) room′ r′ out′ text′ work′ → r′ .number ≡ 0
+    → c .reading ≡ c′ .reading → statsOf (r .stats) ≡ statsOf (r′ .stats)
+merged-counts book book′ c c′ room room′ m z m′ z′ same =
+    merged-ceiling book c room m z .made ∙ ap (λ (s : Stored). internAll freshInterner (readingCalls s) .stats) same ∙ sym (merged-ceiling book′ c′ room′ m′ z′ .made)
