@@ -227,13 +227,7 @@ fn main() {
     twice(b"65 bytes", &s);
     limit();
     one();
-    one_slot(
-        b"nine of slot 100",
-        b"kigakoruhutuminimukuyawoyumegotapapa",
-    );
-    one_slot(
-        b"nine of slot 250",
-        b"kohusayosukisokenitahabihunuyugedasi",
-    );
+    one_slot(b"nine of slot 100", b"kigakoruhutuminimukuyawoyumegotapapa");
+    one_slot(b"nine of slot 250", b"kohusayosukisokenitahabihunuyugedasi");
     only_long();
 }
