@@ -147,7 +147,12 @@ def distinct_short(calls):
     """m: "the number of distinct strings of at most 64 bytes among them" """
     return len({s for s in calls if len(s) <= 64})
 
+def ceiling(calls):
+    """calls × m; if m is 0 that is the 0 which the wish asks for"""
+    return len(calls) * distinct_short(calls)
+
 def within_ceiling(source, calls, probes):
-    """are these two counts those of a graft of this source, as wish 7 has it? If m is 0, calls × m is the 0 that it asks for"""
-    made = intern_calls(source)
-    return calls == len(made) and probes <= calls * distinct_short(made)
+    """are these the two counts that the list of this source's calls has on a fresh layer, and are they under its ceiling?"""
+    made, fresh = intern_calls(source), Interner()
+    for s in made: fresh.intern(s)
+    return calls == len(made) and probes == fresh.stats['probes'] and probes <= ceiling(made)
