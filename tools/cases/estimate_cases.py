@@ -1,6 +1,6 @@
 """Cases of wish 2 of document 02, price before the merge: label, what is told (a number; or reread nodes, intern calls, contents and segments
 added; None where merge.py alone says it), old book, edit, replacement, reading, and how many work words are lent. Every case of the
-merge is one too."""
+merge is one too, but those of wish 7: a price has no probes."""
 from small import *
 from graft_cases import doubling, nodes_of, quote
 import graft_cases, merge_cases
@@ -13,14 +13,15 @@ cases = []
 def case(label, told, old, start, end, replacement, reading, words=WORK): cases.append((label, told, old, start, end, replacement, reading, words))
 
 # ---- each number 1 to 17, and those that only 18 refuses
-for label, number, old, start, end, replacement, reading, room in merge_cases.cases: case(label, number if 0 < number < 18 else None, old, start, end, replacement, reading)
+def priced(cases): return [c for c in cases if not c[0].startswith('wish 7: ')]
+for label, number, old, start, end, replacement, reading, room in priced(merge_cases.cases): case(label, number if 0 < number < 18 else None, old, start, end, replacement, reading)
 
 def read_last(label, told, reading, old=None, **more):
     """the reading of the last passage, whatever its text"""
     case(label, told, old or plain('aa\n\nb'), 4, 5, reading.text, reading, **more)
 
 # ---- each kind of node, with every tag: which strings are calls, which runs are added. Doubled runs stand below
-for label, number, b, *_ in graft_cases.cases:
+for label, number, b, *_ in priced(graft_cases.cases):
     if number in (0, 18) and len(b.layers) == 1 and b.nodes and len(b.tape()) < 3000 and 'doubled' not in label: read_last('reading: ' + label, None, b)
 
 # ---- work words: any number

@@ -1,5 +1,5 @@
 """Sections 2 and 5 of document 01 over the books of gen.py: the interner with its seven counts, and the graft of a book's
-nodes into one new layer."""
+nodes into one new layer; and the ceiling on probing of document 02, wish 7."""
 from gen import NONE, Body, Layer, Node, Seg
 
 POOL = 1048575  # the table, 3: the largest pool
@@ -128,3 +128,31 @@ def graft(source, strings, contents, segments):
     nodes = [g.node(n) for n in source.nodes]
     if len(g.interner.strings) > STRINGS or strings + len(g.interner.strings) > POOL: raise Over
     return nodes, g
+
+# ---- document 02, wish 7: "for every list of intern calls on a fresh layer, probes are at most calls × m"
+
+def intern_calls(source):
+    """the list "that grafting makes": the strings of the nodes' trees, one a call, in the order of section 5. Nothing is interned here, so that this list and
+    the counts of a graft are found apart"""
+    strings, contents, segments = ([x for l in source.layers for x in getattr(l, p)] for p in ('strings', 'contents', 'segments'))
+    def content(tag, first, length): return [strings[first]] if tag == 0 else run('segments', first, length)
+    def run(form, first, length):
+        if form == 'contents': return [s for c in contents[first:first + length] for s in content(*c)]
+        if form == 'segments': return [s for g in segments[first:first + length] for s in body(g.body)]
+        return [] if form == 'missing' and first == NONE else [strings[first]]
+    def body(b): return [s for form, i in fields(b) for s in run(form, *b.words[i:i + 2])]
+    return [s for n in source.nodes if n.cls < 2 for s in body(n.body)]
+
+def distinct_short(calls):
+    """m: "the number of distinct strings of at most 64 bytes among them" """
+    return len({s for s in calls if len(s) <= 64})
+
+def ceiling(calls):
+    """calls × m; if m is 0 that is the 0 which the wish asks for"""
+    return len(calls) * distinct_short(calls)
+
+def within_ceiling(source, calls, probes):
+    """are these the two counts that the list of this source's calls has on a fresh layer, and are they under its ceiling?"""
+    made, fresh = intern_calls(source), Interner()
+    for s in made: fresh.intern(s)
+    return calls == len(made) and probes == fresh.stats['probes'] and probes <= ceiling(made)

@@ -96,6 +96,19 @@ case('223 strings, then an older one', quote([*range(223), 0], hexes(223)))
 case('224 strings, then the last', quote([*range(224), 223], hexes(224)))
 case('224 strings, then an older one: 512 slots', quote([*range(224), 0], hexes(224)))
 
+# ---- document 02, wish 7: the ceiling on probing. Of nine strings of one slot the k-th costs k probes, new or found: 90 for each twice, where calls × m is 162
+def marks(ids, strings): return nodes_of(*((12, 0, [i]) for i in ids), strings=strings, contents=[], segments=[])
+def each_twice(strings):
+    """two AngleQuotes over one run"""
+    return nodes_of(*[(14, 0, [0, len(strings)])] * 2, strings=strings, contents=[P(i) for i in range(len(strings))], segments=[])
+case('wish 7: nine strings of slot 100, each twice', marks([*range(9)] * 2, SLOT_100))
+case('wish 7: nine strings of slot 250, round the end of the table, each twice', each_twice(SLOT_250))
+case('wish 7: one string, as many probes as calls', marks([0], 'a'))
+case('wish 7: one string of 64 bytes, m is 1', marks([0], ['a' * 64]))
+case('wish 7: one string of 65 bytes, m is 0, no probes', marks([0], ['a' * 65]))
+case('wish 7: two strings of 65 bytes in turn, m is 0, no probes', marks([0, 1, 0, 1], ['a' * 65, 'b' * 65]))
+case('wish 7: 225 strings, each twice, the moves to 512 slots are no probes', each_twice(hexes(225)))
+
 # ---- one tree of every kind at 32 levels: segment 2 × i, of level i, holds the run of the two of level i - 1, by kinds in turn; beside it
 # one of the kinds that hold none
 def tower():

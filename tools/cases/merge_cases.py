@@ -2,7 +2,7 @@
 tape, bytes for texts and strings, work words)."""
 from small import *
 from book import check_book
-from graft_cases import doubling
+from graft_cases import doubling, each_twice, marks
 from merge import WORK, merge, shown
 from tape_cases import but, nest, node
 
@@ -134,6 +134,15 @@ def joined():
                diags=[(0, 0, 3, 4, 1), (1, 0, 7, 8, 2), (4, 0, 8, 9, 3), (1, 0, 12, 13, 4)])
 case('blank line lost between two passages with nodes', joined(), 6, 7, b'x', book('bbx\ncc\n\n', ['bx', 'c'], [P(0), P(1)], [], [inline(1, 3, 1, 0, [0, 1, 1, 1]), leaf(4, 5, 6)]))
 refused(12, 'blank line lost between two passages with nodes, the reading of the first', joined(), 6, 7, b'x', book('bbx\n', nodes=[leaf(0, 1, 5)]))
+
+# ---- document 02, wish 7: the ceiling on probing; the returned probes against the list of calls that the reading makes
+def probed(label, reading): case('wish 7: ' + label, plain('aa\n\nb'), 4, 5, reading.text, reading)
+probed('nine strings of slot 100, each twice', marks([*range(9)] * 2, SLOT_100))
+probed('nine strings of slot 250, round the end of the table, each twice', each_twice(SLOT_250))
+probed('one string, as many probes as calls', marks([0], 'a'))
+probed('one string of 64 bytes, m is 1', marks([0], ['a' * 64]))
+probed('one string of 65 bytes, m is 0, no probes', marks([0], ['a' * 65]))
+probed('two strings of 65 bytes in turn, m is 0, no probes', marks([0, 1, 0, 1], ['a' * 65, 'b' * 65]))
 
 # ---- both orders of a pair, demand 3
 class Stored:

@@ -4,7 +4,7 @@
 mod common;
 
 use aozora_incremental::*;
-use common::{ABC, Parts, file, plain, ruby_reading};
+use common::{ABC, Parts, file, plain, price_agrees, ruby_reading};
 
 fn region(text: &str, start: u32, end: u32, replacement: &str) -> Result<Span, Refusal> {
     choose_region(&plain(text), Edit::new(start, end, replacement))
@@ -43,6 +43,37 @@ fn p5() {
         Node::Ruby { base: vec![Content::Plain("x")], reading: vec![Content::Plain("b")] }
     );
     assert_eq!(tree.to_string(), "Ruby\n  base:\n    \"x\"\n  reading:\n    \"b\"");
+}
+
+/// Document 02, wish 7: probes are at most calls × m. Of nine strings that begin at one slot of the
+/// 256 the k-th costs k probes, when it is new and when it is found again: the ninth costs m. One
+/// string costs as many probes as calls; strings of more than 64 bytes cost none.
+#[test]
+fn probes_at_the_ceiling() {
+    // slot 100; slot 250, from which the last three lie round the table's end
+    let inside = ["kiga", "koru", "hutu", "mini", "muku", "yawo", "yume", "gota", "papa"];
+    let round = ["kohu", "sayo", "suki", "soke", "nita", "habi", "hunu", "yuge", "dasi"];
+    let [short, long, other] = [("a", 64), ("a", 65), ("b", 65)].map(|(s, n)| s.repeat(n));
+    let table: [(Vec<&str>, u64); 6] = [
+        ([inside, inside].concat(), 90),
+        ([round, round].concat(), 90),
+        (vec!["x"], 1),
+        (vec![&short], 1),
+        (vec![&long], 0),
+        (vec![&long, &other, &long, &other], 0),
+    ];
+    for (calls, probes) in table {
+        let (old, mut b) = (plain("aa\n\nb"), BookBuilder::new());
+        for string in &calls {
+            let mark = b.string(string);
+            b.node("x", NodeRef::Inline(Node::Kaeriten { mark }));
+        }
+        let (reading, text) = (b.build_reading().unwrap(), "x".repeat(calls.len()));
+        let edit = Edit::new(4, 5, &text);
+        let merged = price_agrees(old.as_stored(), edit, reading.as_stored()).unwrap();
+        let counts = (merged.stats.calls, merged.stats.probe_steps);
+        assert_eq!(counts, (calls.len() as u64, probes), "{calls:?}");
+    }
 }
 
 /// crates/merge/stdin is P5 as the program takes it: the builder writes the same bytes.

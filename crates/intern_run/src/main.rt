@@ -1,6 +1,7 @@
 // Runs document 01's cases of section 2 and prints them: P1, P2, growth at 224 entries, 64 against 65 bytes, and the refusal of
-// string 3584. The numbers in `stdout` are those of the Rust: intern.rs with main below it, rustc -O, the same calls; the Rust
-// has no limit of 3583 strings, so its last line was taken after that string.
+// string 3584; then those of document 02, wish 7, the ceiling on probing: calls that cost as much as it lets them, and calls that
+// cost nothing. The numbers in `stdout` are those of the Rust: intern.rs with main below it, rustc -O, the same calls; the Rust
+// has no limit of 3583 strings, so the numbers of the line 'one more' are those before that call.
 use intern::Answer;
 use interner::StrInterner;
 use libc::STDOUT_FILENO;
@@ -153,6 +154,70 @@ fn limit() {
     show(b"one more", d);
 }
 
+// Wish 7. One call, one string: probes are calls × 1.
+fn one() {
+    let mut work = [0u32; 16384];
+    let mut strs = [0u8; 64];
+    let a = begin(&mut work, &mut strs);
+    let b = call(&mut work, &mut strs, a, b"x");
+    show(b"one string", b);
+}
+
+// Calls for the three strings of four bytes in s.
+fn three(work: &mut [u32], strs: &mut [u8], a: Answer, s: &[u8]) -> Answer
+    requires { ⌜ (a .ok ≡ true → Good (now work) (now strs) (a .state)) ⌝ }
+    requires { ⌜ length (now s) ≡ 12 ⌝ }
+    ensures { λ r. ⌜ (r .ok ≡ true → Good (now (work .exit)) (now (strs .exit)) (r .state)) ⌝ }
+{
+    let b = call(work, strs, a, &s[0..4]);
+    let c = call(work, strs, b, &s[4..8]);
+    call(work, strs, c, &s[8..12])
+}
+
+fn nine(work: &mut [u32], strs: &mut [u8], a: Answer, s: &[u8]) -> Answer
+    requires { ⌜ (a .ok ≡ true → Good (now work) (now strs) (a .state)) ⌝ }
+    requires { ⌜ length (now s) ≡ 36 ⌝ }
+    ensures { λ r. ⌜ (r .ok ≡ true → Good (now (work .exit)) (now (strs .exit)) (r .state)) ⌝ }
+{
+    let b = three(work, strs, a, &s[0..12]);
+    let c = three(work, strs, b, &s[12..24]);
+    three(work, strs, c, &s[24..36])
+}
+
+// Wish 7. Nine strings of four bytes that begin at one slot: the k-th costs k probes, when it is new and each time that it is found.
+// The ninth, behind a long one so that it is no cache hit, costs 9, the most that the ceiling lets a call cost.
+fn one_slot(label: &[u8], s: &[u8])
+    requires { ⌜ length (now s) ≡ 36 ⌝ }
+{
+    let ninth = &s[32..36];
+    let mut work = [0u32; 16384];
+    let mut strs = [0u8; 128];
+    let a = begin(&mut work, &mut strs);
+    let b = nine(&mut work, &mut strs, a, s);
+    show(label, b);
+    let c = nine(&mut work, &mut strs, b, s);
+    show(b"each again", c);
+    let long = [97u8; 65];
+    let d = call(&mut work, &mut strs, c, &long);
+    show(b"a long one", d);
+    let e = call(&mut work, &mut strs, d, ninth);
+    show(b"the ninth", e);
+}
+
+// Wish 7. No string of at most 64 bytes: no probes.
+fn only_long() {
+    let mut work = [0u32; 16384];
+    let mut strs = [0u8; 1024];
+    let s = [97u8; 65];
+    let t = [98u8; 65];
+    let a = begin(&mut work, &mut strs);
+    let b = call(&mut work, &mut strs, a, &s);
+    let c = call(&mut work, &mut strs, b, &t);
+    let d = call(&mut work, &mut strs, c, &s);
+    let e = call(&mut work, &mut strs, d, &t);
+    show(b"long strings only", e);
+}
+
 fn main() {
     hashes();
     probes();
@@ -161,4 +226,8 @@ fn main() {
     twice(b"64 bytes", &s[..64]);
     twice(b"65 bytes", &s);
     limit();
+    one();
+    one_slot(b"nine of slot 100", b"kigakoruhutuminimukuyawoyumegotapapa");
+    one_slot(b"nine of slot 250", b"kohusayosukisokenitahabihunuyugedasi");
+    only_long();
 }

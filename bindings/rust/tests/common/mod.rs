@@ -2,6 +2,7 @@
 #![allow(dead_code, missing_docs, clippy::pedantic)]
 
 use aozora_incremental::*;
+use std::collections::BTreeSet;
 use std::path::{Path, PathBuf};
 
 pub const ABC: &str = "aa\n\nbb\n\ncc";
@@ -143,7 +144,7 @@ pub fn lavish(
 }
 
 /// The price of a merge beside the merge: the same number 1 to 17, or what the merge made; and the
-/// room that it says is enough. What the merge answered.
+/// room that it says is enough. Its counts are under the ceiling. What the merge answered.
 pub fn price_agrees(
     book: Stored<'_>,
     edit: Edit<'_>,
@@ -175,6 +176,7 @@ pub fn price_agrees(
             let lengths = Lengths { tape: merged.book.tape.len(), bytes: merged.book.bytes.len() };
             assert_eq!(within.unwrap().book, lengths);
             assert_eq!(price, price_of(&Book::new(book).unwrap(), merged));
+            within_ceiling(reading, &merged.stats);
             let header = header_room(&price, book, reading);
             assert!(lengths.tape <= header.tape && lengths.bytes <= header.bytes);
         }
@@ -211,6 +213,92 @@ pub fn price_of(old: &Book<'_>, merged: &Merged) -> Estimate {
         contents: told(counts[1]),
         segments: told(counts[2]),
         byte_length: merged.book.bytes.len() - strings,
+    }
+}
+
+/// Document 02, wish 7: probes are at most calls × m, m being how many distinct strings of at most
+/// 64 bytes there are in the list of calls that grafting makes; and none if m is 0. That list is
+/// found here from the reading's trees.
+pub fn within_ceiling(reading: Stored<'_>, stats: &InternStats) {
+    let book = Book::reading(reading).unwrap();
+    let mut calls = Calls::default();
+    for node in book.nodes() {
+        if let Some(tree) = book.tree_within(&node, 2 * MAX_POOL).unwrap() {
+            calls.node(&tree.node);
+        }
+    }
+    let short: BTreeSet<&str> = calls.0.iter().copied().filter(|s| s.len() <= 64).collect();
+    assert_eq!(stats.calls, calls.0.len() as u64);
+    assert!(stats.probe_steps <= stats.calls * short.len() as u64, "{stats:?} {}", short.len());
+}
+
+/// The strings of trees in the order of section 5, in which grafting calls the interner.
+#[derive(Default)]
+struct Calls<'a>(Vec<&'a str>);
+
+impl<'a> Calls<'a> {
+    fn contents(&mut self, contents: &[TreeContent<'a>]) {
+        contents.iter().for_each(|content| self.content(content));
+    }
+
+    fn content(&mut self, content: &TreeContent<'a>) {
+        match content {
+            Content::Plain(string) => self.0.push(string),
+            Content::Segments(segments) => segments.iter().for_each(|s| self.segment(s)),
+        }
+    }
+
+    fn segment(&mut self, segment: &TreeSegment<'a>) {
+        match &segment.item {
+            SegmentItem::Text(string) => self.0.push(string),
+            SegmentItem::Gaiji(gaiji) => self.gaiji(gaiji),
+            SegmentItem::Directive(directive) => self.0.push(directive.raw),
+            SegmentItem::Node(node) => self.node(node),
+        }
+    }
+
+    fn gaiji(&mut self, gaiji: &Gaiji<&'a str>) {
+        if let GaijiCanonical::Unresolved { mencode } = gaiji.canonical {
+            self.0.extend(mencode);
+        }
+        self.0.push(gaiji.hint);
+    }
+
+    fn illustration(&mut self, i: &Illustration<&'a str, Vec<TreeSegment<'a>>>) {
+        self.0.push(i.file);
+        self.0.extend(i.number);
+        self.0.extend(i.dimensions);
+        i.caption.iter().for_each(|caption| self.content(caption));
+        self.0.extend(i.description);
+    }
+
+    fn node(&mut self, node: &TreeNode<'a>) {
+        match node {
+            Node::Ruby { base, reading: second } | Node::MarginNote { base, note: second } => {
+                self.contents(base);
+                self.contents(second);
+            }
+            Node::Format { target, payload, .. } => {
+                self.contents(target);
+                if let ForwardPayload::AccentBody(s) | ForwardPayload::QuotedTarget(s) = payload {
+                    self.0.push(s);
+                }
+            }
+            Node::Gaiji(gaiji) => self.gaiji(gaiji),
+            Node::Heading { text: contents } | Node::AngleQuote { content: contents } => {
+                self.contents(contents);
+            }
+            Node::HeadingHint { target: string } | Node::Kaeriten { mark: string } => {
+                self.0.push(string);
+            }
+            Node::Illustration(illustration) => self.illustration(illustration),
+            Node::Directive(directive) => self.0.push(directive.raw),
+            Node::Line
+            | Node::PageBreak
+            | Node::SectionBreak
+            | Node::BodyEnd
+            | Node::ForcedBreak => {}
+        }
     }
 }
 
