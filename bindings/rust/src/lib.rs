@@ -39,6 +39,8 @@
 //!    reread nodes are equal, and every reference given out for the first book still shows what it
 //!    showed. [`merge_both_orders`] makes the four merges;
 //!    [docs/PROMISE.md](../../../../docs/PROMISE.md) says on one page what is claimed and what not.
+//! 4. **A ceiling on probing.** The probes that a merge returns are at most its calls of the
+//!    interner × the number of distinct strings of at most 64 bytes among them: [`InternStats`].
 //!
 //! Not promised: that the reading is what a parser of the whole text would give (the parser is not
 //! here); anything of time; the compiler's back end, the machine and the C library.

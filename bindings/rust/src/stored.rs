@@ -124,9 +124,18 @@ pub struct Lengths {
 
 /// The counts of the string interner, all 0 where the merge added no layer. `calls` is the sum of
 /// cache hits, table hits and allocs.
+///
+/// # The ceiling on probing
+///
+/// Proved for every merge (`merged-ceiling` in crates/incremental/specs/Ceiling.antt):
+/// [`probe_steps`](Self::probe_steps) is at most [`calls`](Self::calls) × m, m being how many
+/// distinct strings of at most 64 bytes are among those that the reading's nodes name, and 0 if m
+/// is 0. m is at most 3583 (`merged-most`), so [`Estimate::calls`] × 3583 bounds the probes before
+/// the merge, where the estimate is not over. All seven counts hang on the reading alone
+/// (`merged-counts`).
 #[derive(Debug, Clone, Copy, PartialEq, Eq, Hash, Default)]
 pub struct InternStats {
-    /// Calls.
+    /// How many strings the reading's nodes name, each as often as it is named.
     pub calls: u64,
     /// Calls with the string of the call before.
     pub cache_hits: u64,
@@ -138,7 +147,8 @@ pub struct InternStats {
     pub long_bypass: u64,
     /// How often the table was doubled.
     pub resizes: u64,
-    /// How many slots were looked at.
+    /// How many slots of the table were looked at; those of entries that move when it grows are
+    /// not counted.
     pub probe_steps: u64,
 }
 

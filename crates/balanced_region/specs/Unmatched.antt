@@ -10,7 +10,7 @@ use borrow.Author.Tests.{lt-ltb, le-ltb, ltb-false, eqb-true, eqb-false}
 use Rattle.model.specs.Types.{SourceNode}
 use Rattle.model.specs.Tape.{recordAt, recordsAt, nodeCodec}
 use Rattle.model.specs.Region.{isBlockOpen, isBlockClose, isWarichuOpen, isWarichuClose, depthBehind}
-use Rattle.laws.specs.Lists.{both}
+use Rattle.laws.specs.Lists.{both, neither}
 use Rattle.records.specs.Runs.{run-cons, run-none}
 use Rattle.wire.specs.Loops.{by-bool}
 use Rattle.places.specs.declared.Run.{Run}
@@ -211,13 +211,6 @@ back-over opens closes d n x m =
     (λ e. by-bool (closes n)
     (λ f. let ne = eqb-false d 0 (rw f at m) in rw (e, f) (omega (arith, ne)))
     (λ f. rw (e, f) refl))
-
-neither : (x y : Bool) → x || y ≡ false → (x ≡ false) × (y ≡ false)
-neither true y e = absurd-bool e
-  where
-    absurd-bool : true ≡ false → (true ≡ false) × (y ≡ false)
-    absurd-bool e = (e, by-bool y (λ f. f ∙ e) (λ f. f))
-neither false y e = (refl, e)
 
 module _ (t : List ℕ) (at n : ℕ) (j : ℕ) (h : depthsAt t at n .unmatched ≤ j) (g : j < n) where
   abbrev node : SourceNode

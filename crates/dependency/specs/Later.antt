@@ -11,14 +11,14 @@ use Rattle.model.specs.Types.{SourceNode}
 use Rattle.model.specs.Store.{NodeStore}
 use Rattle.model.specs.Tape.{recordAt, recordsAt, nodeCodec}
 use Rattle.model.specs.Region.{isRuby, isReferencedFormat, firstPlain}
-use Rattle.laws.specs.Lists.{both}
+use Rattle.laws.specs.Lists.{both, or-left, or-right}
 use Rattle.wire.specs.Loops.{anyUpTo, any-missed, by-bool}
 use Rattle.strings.specs.Starts.{storeIn}
 use Rattle.ruby_formats.specs.Asks.{asksTarget, asksAt}
 use Rattle.dependency.specs.Bases.{amongBases, refersBack}
 use Rattle.dependency.specs.Parts.{refersAmong}
 use Rattle.dependency.specs.Pieces.{run-join, among-join}
-use Rattle.ruby_formats.specs.Named.{namedBy, samePlain, same-first, or-left, or-right, asksAgain}
+use Rattle.ruby_formats.specs.Named.{namedBy, samePlain, same-first, asksAgain}
 
 -- ---- what is left to a later place
 

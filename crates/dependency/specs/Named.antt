@@ -10,14 +10,14 @@ use Rattle.model.specs.Types.{SourceNode}
 use Rattle.model.specs.Store.{NodeStore}
 use Rattle.model.specs.Tape.{recordAt, recordsAt, nodeCodec}
 use Rattle.model.specs.Region.{isRuby, isReferencedFormat, firstPlain}
-use Rattle.laws.specs.Lists.{both}
+use Rattle.laws.specs.Lists.{both, or-left}
 use Rattle.wire.specs.Loops.{anyUpTo, by-bool}
 use Rattle.records.specs.Runs.{run-found}
 use Rattle.strings.specs.Starts.{storeIn}
 use Rattle.sorted_ids.specs.Row.{holdsAt}
 use Rattle.dependency.specs.Bases.{isPlain, hasBase}
 use Rattle.dependency.specs.Rows.{isBaseOf, Rowed, rowed-one}
-use Rattle.ruby_formats.specs.Named.{namedBy, samePlain, same-first, or-left, baseAgain}
+use Rattle.ruby_formats.specs.Named.{namedBy, samePlain, same-first, baseAgain}
 
 module _ (t old new : List ℕ) {ids : ℕ} (at n i v : ℕ) {words : List ℕ} {base m : ℕ}
     (r : Rowed (storeIn t (old ++ new)) ids (recordsAt nodeCodec t at (min n i)) words base m) (h : i < n) {x : Bool} (e : (b : List ℕ) → x ≡ baseAgain t at i v b) (f : x ≡ true) where

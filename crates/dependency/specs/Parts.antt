@@ -14,6 +14,7 @@ use Rattle.model.specs.Store.{NodeStore}
 use Rattle.model.specs.Tape.{recordAt, recordsAt, nodeCodec}
 use Rattle.model.specs.Lists.{any}
 use Rattle.model.specs.Region.{isRuby, firstPlain, dependsFrom}
+use Rattle.laws.specs.Lists.{neither}
 use Rattle.wire.specs.Loops.{anyUpTo, Missed, any-missed, by-bool}
 use Rattle.records.specs.Runs.{run-none}
 use Rattle.store.specs.declared.Store.{Store}
@@ -62,14 +63,6 @@ refers-join st from a b n =
     spread : (r x y : Bool) → (r && (x || y)) ≡ ((r && x) || (r && y))
     spread true x y = refl
     spread false x y = refl
-
-or-left : (x y : Bool) → (x || y) ≡ false → x ≡ false
-or-left true y e = e
-or-left false y e = refl
-
-or-right : (x y : Bool) → (x || y) ≡ false → y ≡ false
-or-right true y e = absurd (true≢false e)
-or-right false y e = e
 
 module _ (st : NodeStore) (from : ℕ) (t : List ℕ) (at : ℕ) where
   -- node i + k, by the first i nodes and by the next m
@@ -124,12 +117,12 @@ module _ (st : NodeStore) (from : ℕ) (t : List ℕ) (at : ℕ) where
         absent : anyUpTo count (refersAt st from t at) ≡ false → (k : ℕ) → k < count - i → refersBack st from (recordsAt nodeCodec t (at + 49 * i) (min n k)) (recordAt nodeCodec t (at + 49 * i + 49 * k)) ≡ false
         absent s k b =
             let whole : refersBack st from (recordsAt nodeCodec t at (i + k)) (recordAt nodeCodec t (at + 49 * (i + k))) ≡ false = any-false (refersAt st from t at) count (i + k) s (omega arith) in
-            let own : refersBack st from (recordsAt nodeCodec t (at + 49 * i) k) (recordAt nodeCodec t (at + 49 * i + 49 * k)) ≡ false = or-right (refersBack st from (recordsAt nodeCodec t at i) (recordAt nodeCodec t (at + 49 * (i + k)))) (refersBack st from (recordsAt nodeCodec t (at + 49 * i) k) (recordAt nodeCodec t (at + 49 * i + 49 * k))) (sym (piece i k k) ∙ whole) in
+            let own : refersBack st from (recordsAt nodeCodec t (at + 49 * i) k) (recordAt nodeCodec t (at + 49 * i + 49 * k)) ≡ false = neither (refersBack st from (recordsAt nodeCodec t at i) (recordAt nodeCodec t (at + 49 * (i + k)))) (refersBack st from (recordsAt nodeCodec t (at + 49 * i) k) (recordAt nodeCodec t (at + 49 * i + 49 * k))) (sym (piece i k k) ∙ whole) .1 in
             let q : k ≡ min n k + (k - min n k) = omega arith in
-            or-left (refersBack st from (recordsAt nodeCodec t (at + 49 * i) (min n k)) (recordAt nodeCodec t (at + 49 * i + 49 * k)))
+            neither (refersBack st from (recordsAt nodeCodec t (at + 49 * i) (min n k)) (recordAt nodeCodec t (at + 49 * i + 49 * k)))
             (refersBack st from (recordsAt nodeCodec t (at + 49 * i + 49 * min n k) (k - min n k)) (recordAt nodeCodec t (at + 49 * i + 49 * k))) (sym (ap (λ (l : List SourceNode). refersBack st from l (recordAt nodeCodec t (at + 49 * i + 49 * k)))
             (ap (recordsAt nodeCodec t (at + 49 * i)) q ∙ run-join t (at + 49 * i) (min n k) (k - min n k))
-            ∙ refers-join st from (recordsAt nodeCodec t (at + 49 * i) (min n k)) (recordsAt nodeCodec t (at + 49 * i + 49 * min n k) (k - min n k)) (recordAt nodeCodec t (at + 49 * i + 49 * k))) ∙ own)
+            ∙ refers-join st from (recordsAt nodeCodec t (at + 49 * i) (min n k)) (recordsAt nodeCodec t (at + 49 * i + 49 * min n k) (k - min n k)) (recordAt nodeCodec t (at + 49 * i + 49 * k))) ∙ own) .0
 
   pub parts-all : (count i : ℕ) → i ≡ count → Missed (refersAmong st from t at i) count → false ≡ dependsFrom st from [] (recordsAt nodeCodec t at count)
   unfolding refersAmong refersAt
@@ -165,7 +158,7 @@ base-none : (st : NodeStore) (s : List ℕ) (ns : List SourceNode) → any isRub
 unfolding hasBase
 base-none st s [] e = refl
 base-none st s (n ∷ ns) e =
-    ap₂ (λ (a b : Bool). (a && isPlain s (firstPlain st n)) || b) (or-left (isRuby n) (any isRuby ns) e) (base-none st s ns (or-right (isRuby n) (any isRuby ns) e))
+    ap₂ (λ (a b : Bool). (a && isPlain s (firstPlain st n)) || b) (neither (isRuby n) (any isRuby ns) e .0) (base-none st s ns (neither (isRuby n) (any isRuby ns) e .1))
 
 among-none-of : (st : NodeStore) (ns : List SourceNode) (p : Option (List ℕ)) → any isRuby ns ≡ false → amongBases st ns p ≡ false
 unfolding amongBases
@@ -185,9 +178,9 @@ module _ (st : NodeStore) (from : ℕ) (t : List ℕ) (at n : ℕ) {x : Bool} (r
       absent i =
           let m = recordAt nodeCodec t (at + 49 * i) in
           let q : n ≡ min n i + (n - min n i) = omega arith in
-          or-left (refersBack st from (recordsAt nodeCodec t at (min n i)) m) (refersBack st from (recordsAt nodeCodec t (at + 49 * min n i) (n - min n i)) m)
+          neither (refersBack st from (recordsAt nodeCodec t at (min n i)) m) (refersBack st from (recordsAt nodeCodec t (at + 49 * min n i) (n - min n i)) m)
           (sym (ap (λ (l : List SourceNode). refersBack st from l m) (ap (recordsAt nodeCodec t at) q ∙ run-join t at (min n i) (n - min n i))
-          ∙ refers-join st from (recordsAt nodeCodec t at (min n i)) (recordsAt nodeCodec t (at + 49 * min n i) (n - min n i)) m) ∙ none-back m)
+          ∙ refers-join st from (recordsAt nodeCodec t at (min n i)) (recordsAt nodeCodec t (at + 49 * min n i) (n - min n i)) m) ∙ none-back m) .0
 
 -- ---- an index of one's own
 

@@ -11,7 +11,7 @@ use Rattle.model.specs.Types.{SourceNode}
 use Rattle.model.specs.Store.{NodeStore}
 use Rattle.model.specs.Tape.{recordAt, nodeCodec}
 use Rattle.model.specs.Region.{isRuby, isReferencedFormat, firstPlain}
-use Rattle.laws.specs.Lists.{both}
+use Rattle.laws.specs.Lists.{both, or-right}
 use Rattle.wire.specs.Loops.{Missed, by-bool}
 use Rattle.records.specs.Runs.{testAt}
 use Rattle.store.specs.declared.Store.{Store}
@@ -20,7 +20,7 @@ use Rattle.strings.specs.PlainContent.{plainOf, plainString}
 use Rattle.strings.specs.declared.Plain.{Plain}
 use Rattle.ruby_formats.specs.Sound.{SoundNode, firstContents, plain-first}
 use Rattle.dependency.specs.Rows.{Rowed, amongRow, among-row}
-use Rattle.ruby_formats.specs.Named.{namedBy, samePlain, same-first, or-right, targetAgain}
+use Rattle.ruby_formats.specs.Named.{namedBy, samePlain, same-first, targetAgain}
 use Rattle.introduces.specs.Linked.{refersTo}
 
 -- a Referenced Format whose target, in a store of its own, is in the row

@@ -144,7 +144,7 @@ among before (s ∷ ss) =
   where
     here : (l : List (List ℕ)) → any (same s) (l ++ (s ∷ ss)) ≡ true
     here [] = rw (same-refl s) refl
-    here (x ∷ l) = or-right (same s x) (here l)
+    here (x ∷ l) = or-right (same s x) (any (same s) (l ++ (s ∷ ss))) (here l)
 
 -- Wish 7. For every list of intern calls on a fresh layer, probes are at most calls × m, and 0 if m is 0.
 pub ceiling : (ss : List (List ℕ)) → Ceiling ss (internAll freshInterner ss .stats)
@@ -173,7 +173,7 @@ grown-any s (x ∷ xs) more e = go (same s x) e (grown-any s xs more)
 any-at : (s : List ℕ) (xs : List (List ℕ)) (i : ℕ) → i < length xs → getD xs i [] ≡ s → any (same s) xs ≡ true
 any-at s [] i h e = absurd (omega arith)
 any-at s (x ∷ xs) zero h e = ap (λ (y : List ℕ). same s y || any (same s) xs) e ∙ rw (same-refl s) refl
-any-at s (x ∷ xs) (suc i) h e = or-right (same s x) (any-at s xs i (omega arith) e)
+any-at s (x ∷ xs) (suc i) h e = or-right (same s x) (any (same s) xs) (any-at s xs i (omega arith) e)
 
 -- behind the calls the layer has each string that was there, and each of the calls
 layer-has : (t : StrInterner) (ss : List (List ℕ)) → Sound t

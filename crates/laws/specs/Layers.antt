@@ -13,7 +13,7 @@ use borrow.Author.Tests.{leb-true, ltb-true, le-leb, lt-ltb}
 use Rattle.laws.specs.Checks.{id-facts}
 use Rattle.laws.specs.Keep.{all-append-is}
 use Rattle.laws.specs.Prefix.{Prefix}
-use Rattle.laws.specs.Lists.{both, item-in, all-take, all-drop, all-map, join, flatten-append, flatten-snoc, map-append}
+use Rattle.laws.specs.Lists.{both, item-in, all-take, all-drop, all-map, join, flatten-append, flatten-snoc, map-append, or-right}
 use Rattle.model.specs.Lists.{all, sum}
 use Rattle.model.specs.Types.{Body, Content, Segment, Layer, SourceNode, LexOutput}
 use Rattle.model.specs.Limits.{noString, maxLevel}
@@ -329,10 +329,6 @@ in-last from [] m a n h = rw (le-leb from (from + 0 + a) (omega arith), le-leb (
 in-last from (c ∷ cs) m a n h =
     let e : from + (c + sum cs) + a ≡ from + c + sum cs + a = omega arith in
     rw e (or-right (leb from (from + c + sum cs + a) && leb (from + c + sum cs + a + n) (from + c)) (inOneLayer (from + c) (cs ++ (m ∷ [])) (from + c + sum cs + a) n) (in-last (from + c) cs m a n h))
-  where
-    or-right : (x y : Bool) → y ≡ true → x || y ≡ true
-    or-right true y q = refl
-    or-right false y q = q
 
 -- a range of the last layer
 range-last : (cs : List ℕ) (m size a n : ℕ) (counts : List ℕ) → counts ≡ cs ++ (m ∷ []) → sum cs ≡ size → sum counts ≡ size + m → a + n ≤ m → rangeOk counts (size + a) n ≡ true

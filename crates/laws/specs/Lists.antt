@@ -31,9 +31,13 @@ pub neither : (x y : Bool) → x || y ≡ false → (x ≡ false) × (y ≡ fals
 neither true y e = absurd (false≢true (sym e))
 neither false y e = (refl, e)
 
-pub or-right : (x : Bool) {y : Bool} → y ≡ true → x || y ≡ true
-or-right true e = refl
-or-right false e = e
+pub or-left : (x y : Bool) → x ≡ true → x || y ≡ true
+or-left true y e = refl
+or-left false y e = absurd (false≢true e)
+
+pub or-right : (x y : Bool) → y ≡ true → x || y ≡ true
+or-right true y e = refl
+or-right false y e = e
 
 pub T-true : (x : Bool) → T x → x ≡ true
 T-true true h = refl

@@ -120,13 +120,6 @@ module _ (t b : List ℕ) (p q : ℕ) (e : samePlain (namedBy t p b) (namedBy t 
       → firstPlain (storeIn t b) (recordAt nodeCodec t p) ≡ firstPlain (storeIn t b) (recordAt nodeCodec t q)
   same-first f g = named-is p f ∙ ap (plainString (storeIn t b)) (same-is (namedBy t p b) (namedBy t q b) e) ∙ sym (named-is q g)
 
-pub or-left : (x y : Bool) → x ≡ true → (x || y) ≡ true
-or-left x y e = rw e refl
-
-pub or-right : (x y : Bool) → y ≡ true → (x || y) ≡ true
-or-right true y e = refl
-or-right false y e = e
-
 -- ---- a base again
 
 -- a Ruby before node i with its base by the same id
