@@ -101,12 +101,15 @@ def marks(ids, strings): return nodes_of(*((12, 0, [i]) for i in ids), strings=s
 def each_twice(strings):
     """two AngleQuotes over one run"""
     return nodes_of(*[(14, 0, [0, len(strings)])] * 2, strings=strings, contents=[P(i) for i in range(len(strings))], segments=[])
-case('wish 7: nine strings of slot 100, each twice', marks([*range(9)] * 2, SLOT_100))
-case('wish 7: nine strings of slot 250, round the end of the table, each twice', each_twice(SLOT_250))
-case('wish 7: one string, as many probes as calls', marks([0], 'a'))
-case('wish 7: one string of 64 bytes, m is 1', marks([0], ['a' * 64]))
-case('wish 7: one string of 65 bytes, m is 0, no probes', marks([0], ['a' * 65]))
-case('wish 7: two strings of 65 bytes in turn, m is 0, no probes', marks([0, 1, 0, 1], ['a' * 65, 'b' * 65]))
+probed = [
+    ('nine strings of slot 100, each twice', marks([*range(9)] * 2, SLOT_100)),
+    ('nine strings of slot 250, round the end of the table, each twice', each_twice(SLOT_250)),
+    ('one string, as many probes as calls', marks([0], 'a')),
+    ('one string of 64 bytes, m is 1', marks([0], ['a' * 64])),
+    ('one string of 65 bytes, m is 0, no probes', marks([0], ['a' * 65])),
+    ('two strings of 65 bytes in turn, m is 0, no probes', marks([0, 1, 0, 1], ['a' * 65, 'b' * 65])),
+]
+for label, b in probed: case('wish 7: ' + label, b)
 case('wish 7: 225 strings, each twice, the moves to 512 slots are no probes', each_twice(hexes(225)))
 
 # ---- one tree of every kind at 32 levels: segment 2 × i, of level i, holds the run of the two of level i - 1, by kinds in turn; beside it

@@ -2,7 +2,7 @@
 tape, bytes for texts and strings, work words)."""
 from small import *
 from book import check_book
-from graft_cases import doubling, each_twice, marks
+from graft_cases import doubling, probed
 from merge import WORK, merge, shown
 from tape_cases import but, nest, node
 
@@ -136,13 +136,7 @@ case('blank line lost between two passages with nodes', joined(), 6, 7, b'x', bo
 refused(12, 'blank line lost between two passages with nodes, the reading of the first', joined(), 6, 7, b'x', book('bbx\n', nodes=[leaf(0, 1, 5)]))
 
 # ---- document 02, wish 7: the ceiling on probing; the returned probes against the list of calls that the reading makes
-def probed(label, reading): case('wish 7: ' + label, plain('aa\n\nb'), 4, 5, reading.text, reading)
-probed('nine strings of slot 100, each twice', marks([*range(9)] * 2, SLOT_100))
-probed('nine strings of slot 250, round the end of the table, each twice', each_twice(SLOT_250))
-probed('one string, as many probes as calls', marks([0], 'a'))
-probed('one string of 64 bytes, m is 1', marks([0], ['a' * 64]))
-probed('one string of 65 bytes, m is 0, no probes', marks([0], ['a' * 65]))
-probed('two strings of 65 bytes in turn, m is 0, no probes', marks([0, 1, 0, 1], ['a' * 65, 'b' * 65]))
+for label, reading in probed: case('wish 7: ' + label, plain('aa\n\nb'), 4, 5, reading.text, reading)
 
 # ---- both orders of a pair, demand 3
 class Stored:
