@@ -117,7 +117,9 @@ module _ (st : NodeStore) (from : ℕ) (t : List ℕ) (at : ℕ) where
         absent : anyUpTo count (refersAt st from t at) ≡ false → (k : ℕ) → k < count - i → refersBack st from (recordsAt nodeCodec t (at + 49 * i) (min n k)) (recordAt nodeCodec t (at + 49 * i + 49 * k)) ≡ false
         absent s k b =
             let whole : refersBack st from (recordsAt nodeCodec t at (i + k)) (recordAt nodeCodec t (at + 49 * (i + k))) ≡ false = any-false (refersAt st from t at) count (i + k) s (omega arith) in
-            let own : refersBack st from (recordsAt nodeCodec t (at + 49 * i) k) (recordAt nodeCodec t (at + 49 * i + 49 * k)) ≡ false = neither (refersBack st from (recordsAt nodeCodec t at i) (recordAt nodeCodec t (at + 49 * (i + k)))) (refersBack st from (recordsAt nodeCodec t (at + 49 * i) k) (recordAt nodeCodec t (at + 49 * i + 49 * k))) (sym (piece i k k) ∙ whole) .1 in
+            let before = refersBack st from (recordsAt nodeCodec t at i) (recordAt nodeCodec t (at + 49 * (i + k))) in
+            let behind = refersBack st from (recordsAt nodeCodec t (at + 49 * i) k) (recordAt nodeCodec t (at + 49 * i + 49 * k)) in
+            let own : behind ≡ false = neither before behind (sym (piece i k k) ∙ whole) .1 in
             let q : k ≡ min n k + (k - min n k) = omega arith in
             neither (refersBack st from (recordsAt nodeCodec t (at + 49 * i) (min n k)) (recordAt nodeCodec t (at + 49 * i + 49 * k)))
             (refersBack st from (recordsAt nodeCodec t (at + 49 * i + 49 * min n k) (k - min n k)) (recordAt nodeCodec t (at + 49 * i + 49 * k))) (sym (ap (λ (l : List SourceNode). refersBack st from l (recordAt nodeCodec t (at + 49 * i + 49 * k)))

@@ -3,17 +3,18 @@ use mathlib.Core.Path.{_≡_, refl, sym, ap, _∙_, subst}
 use mathlib.Core.Bool.{Bool, true, false, cond, _&&_}
 use mathlib.Core.Logic.{_⊎_, inl, inr, ⊎-elim}
 use mathlib.Core.List.{List, [], _∷_, _++_, flatten}
-use Prim.Native.Nat.{ℕ, zero, suc, _+_, _%_}
+use Prim.Native.Nat.{ℕ, suc, _+_, _%_}
 use native.Mathlib.Omega.{arith}
-use borrow.Author.Tests.{le-leb, leb-true, eqb-true, eqb-false}
+use borrow.Author.Tests.{le-leb, leb-true, eqb-false}
 use lib.Dec.{eqb, leb, ltb}
-use lib.ListN.{length, getD, take, length-append}
+use lib.ListN.{length, take, length-append}
 use lib.Seq.{take-take, getD-append-seam}
 use Rattle.model.specs.Limits.{internLengthLimit, maxNewStrings}
 use Rattle.model.specs.Intern.{InternStats, StrInterner, Interned, Probe, freshInterner, fxHash, plusStats, holds, probe, grows, tableFor, cacheHit, bypass, tableHit, tableAlloc, tableCall, intern, internAll}
 use Rattle.interner.specs.declared.StrInterner.{StrInterner as Interner}
 use Rattle.laws.specs.Lists.{both, same-refl}
 use Rattle.model.specs.Lists.{same}
+use Rattle.table.specs.Found.{found-there}
 use Rattle.interner.specs.State.{stateOf, Good, hasRoom}
 use Rattle.interner.specs.Added.{flatten-snoc}
 use Rattle.intern.specs.declared.Answer.{Answer}
@@ -80,23 +81,6 @@ strings-grow t s = each-way (λ (a : Interned). (a .state .strings ≡ t .string
 
 -- ---- behind a call the last answer's string is the one that was asked for
 
-probe-holds : (n : ℕ) (strings : List (List ℕ)) (table s : List ℕ) (at k : ℕ) → (probe n strings table s at k .slot ≡ 0 → ⊥) → holds strings (probe n strings table s at k .slot) s ≡ true
-unfolding probe
-probe-holds zero strings table s at k d = absurd (d refl)
-probe-holds (suc n) strings table s at k d = pick (probe-holds n strings table s ((at + 1) % length table) (k + 1)) (eqb (getD table at 0) 0) refl (holds strings (getD table at 0) s) refl d
-  where
-    stop : Probe
-    stop = record { at = at; slot = getD table at 0; steps = k + 1 }
-
-    more : Probe
-    more = probe n strings table s ((at + 1) % length table) (k + 1)
-
-    pick : ((more .slot ≡ 0 → ⊥) → holds strings (more .slot) s ≡ true) → (x : Bool) → eqb (getD table at 0) 0 ≡ x → (y : Bool) → holds strings (getD table at 0) s ≡ y
-        → (cond x stop (cond y stop more) .slot ≡ 0 → ⊥) → holds strings (cond x stop (cond y stop more) .slot) s ≡ true
-    pick rest true e y f d = absurd (d (eqb-true (getD table at 0) 0 e))
-    pick rest false e true f d = f
-    pick rest false e false f d = rest d
-
 new-holds : (ss : List (List ℕ)) (s : List ℕ) → holds (ss ++ (s ∷ [])) (suc (length ss)) s ≡ true
 unfolding holds
 new-holds ss s = ap (λ (x : List ℕ). same x s) (getD-append-seam ss s [] []) ∙ same-refl s
@@ -121,7 +105,7 @@ last-holds t s = pick (holds (t .strings) (t .last) s) refl (ltb internLengthLim
     pick true e y z f = e
     pick false e true z f = new-holds (t .strings) s
     pick false e false true f = new-holds (t .strings) s
-    pick false e false false f = probe-holds (length table) (t .strings) table s (fxHash s % length table) 0 (eqb-false (p .slot) 0 f)
+    pick false e false false f = found-there (length table) (t .strings) table s (fxHash s % length table) 0 (eqb-false (p .slot) 0 f) .holds-s
 
 less-room : (size base : ℕ) (ss : List (List ℕ)) (s : List ℕ) → (leb (length (ss ++ (s ∷ []))) maxNewStrings && leb (base + length (flatten (ss ++ (s ∷ [])))) size) ≡ true → (leb (length ss) maxNewStrings && leb (base + length (flatten ss)) size) ≡ true
 less-room size base ss s e =

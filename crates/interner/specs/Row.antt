@@ -18,7 +18,7 @@ use Rattle.moves.specs.Words.{movedUp, moved-length, moved-before, moved-at, by
 use Rattle.table.specs.Layout.{Entries}
 use Rattle.table.specs.Slots.{holds-some}
 use Rattle.laws.specs.Slots.{set-keeps}
-use Rattle.laws.specs.Probe.{probe-keeps}
+use Rattle.laws.specs.Probe.{probe-grown, probe-set}
 use Rattle.table.specs.Found.{found-there}
 use Rattle.table.specs.Sizes.{Size, none, size256, size512, size1024, size2048, size4096}
 
@@ -101,17 +101,13 @@ module _ {strings : List (List ℕ)} {table : List ℕ} {w : ℕ} (f : Far strin
       λ e ne lt. List·getD-append strings more [] (e - 1) (omega (arith, ne, lt)) in
       let s = farString strings table w in
       let z : farString (strings ++ more) table w ≡ s = old slot (f .some) (entries (w % 4096) (f .inside)) in
-      let names : (i : ℕ) → (getD table i 0 ≡ 0 → ⊥) → holds (strings ++ more) (getD table i 0) s ≡ holds strings (getD table i 0) s =
-      λ i ne.
-      holds-some (strings ++ more) (getD table i 0) s ne
-      ∙ ap (λ (l : List ℕ). same l s) (old (getD table i 0) ne (below table (length strings + 1) entries i ne))
-      ∙ sym (holds-some strings (getD table i 0) s ne) in
+      let names : (i : ℕ) → (getD table i 0 ≡ 0 → ⊥) → getD table i 0 ≤ length strings = λ i ne. omega (arith, below table (length strings + 1) entries i ne) in
       record {
         inside = f .inside;
         some = f .some;
         is =
             f .is
-            ∙ sym (probe-keeps (length table) strings (strings ++ more) table table s refl (λ i ne. refl) names (fxHash s % length table) 0 found)
+            ∙ sym (probe-grown (length table) strings more table s names (fxHash s % length table) 0 found)
             ∙ ap (probeFor (length table) (strings ++ more) table) (sym z);
       }
 
@@ -126,7 +122,7 @@ module _ {strings : List (List ℕ)} {table : List ℕ} {w : ℕ} (f : Far strin
       let z : farString strings u w ≡ s = ap (λ (j : ℕ). getD strings (j - 1) []) g in
       let q : probeAt u w ≡ probeAt table w = λ i. record { at = w % 4096; slot = g i; steps = w / 4096 } in
       let kept : probe (length table) strings u s (fxHash s % length table) 0 ≡ probe (length table) strings table s (fxHash s % length table) 0 =
-      probe-keeps (length table) strings strings table u s len (set-keeps table p v empty) (λ i ne. refl) (fxHash s % length table) 0 found in
+      probe-set (length table) strings table s p v empty (fxHash s % length table) 0 found in
       record {
         inside = omega (arith, len, f .inside);
         some = λ e. f .some (sym g ∙ e);

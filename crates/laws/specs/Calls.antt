@@ -7,7 +7,8 @@ use Rattle.model.specs.Limits.{noString}
 use Rattle.model.specs.Intern.{StrInterner, intern, internAll}
 use Rattle.model.specs.Tree.{Tree, Tree.tree, Fields, Fields.done, Fields.text, Fields.absent, Fields.contents, Fields.segments, ShownNode}
 use Rattle.model.specs.Tree.{Contents, Contents.noContent, Contents.plain, Contents.segmented, Segments, Segments.noSegment, Segments.segment}
-use Rattle.model.specs.Graft.{NewLayer, graftStr, pushContents, pushSegments, graftNode, graftFields, graftContents, graftSegments, graftNodeRef, graftNodeRefs, treeCalls, fieldsCalls, contentsCalls, segmentsCalls, graftCalls}
+use Rattle.model.specs.Graft.{NewLayer, graftStr, pushContents, pushSegments, graftNode, graftFields, graftContents, graftSegments, graftNodeRef, graftNodeRefs}
+use Rattle.model.specs.Graft.{treeCalls, fieldsCalls, contentsCalls, segmentsCalls, graftCalls}
 
 all-behind : (t : StrInterner) (xs ys : List (List ℕ)) → internAll t (xs ++ ys) ≡ internAll (internAll t xs) ys
 unfolding internAll

@@ -15,9 +15,9 @@ use Rattle.laws.specs.Slots.{taken}
 
 -- ---- no string twice
 
-abbrev pub Apart : List (List ℕ) → Type 0
-Apart [] = Unit {0}
-Apart (x ∷ xs) = (any (same x) xs ≡ false) × Apart xs
+abbrev pub Distinct : List (List ℕ) → Type 0
+Distinct [] = Unit {0}
+Distinct (x ∷ xs) = (any (same x) xs ≡ false) × Distinct xs
 
 abbrev without : List ℕ → List (List ℕ) → List (List ℕ)
 without y xs = keep (λ x. not (same y x)) xs
@@ -32,11 +32,11 @@ any-without x y (z ∷ xs) e = go (same y z) (neither (same x z) (any (same x) x
     go true n r = r (n .1)
     go false n r = rw (n .0) (r (n .1))
 
-apart-without : (y : List ℕ) (xs : List (List ℕ)) → Apart xs → Apart (without y xs)
-apart-without y [] a = tt
-apart-without y (x ∷ xs) a = go (same y x) (apart-without y xs (a .1))
+distinct-without : (y : List ℕ) (xs : List (List ℕ)) → Distinct xs → Distinct (without y xs)
+distinct-without y [] a = tt
+distinct-without y (x ∷ xs) a = go (same y x) (distinct-without y xs (a .1))
   where
-    go : (t : Bool) → Apart (without y xs) → Apart (cond (not t) (x ∷ without y xs) (without y xs))
+    go : (t : Bool) → Distinct (without y xs) → Distinct (cond (not t) (x ∷ without y xs) (without y xs))
     go true r = r
     go false r = (any-without x y xs (a .0), r)
 
@@ -48,7 +48,7 @@ none-without y (x ∷ xs) e =
     rw (n .0) (ap suc (none-without y xs (n .1)))
 
 -- and else one
-few-without : (y : List ℕ) (xs : List (List ℕ)) → Apart xs → length xs ≤ suc (length (without y xs))
+few-without : (y : List ℕ) (xs : List (List ℕ)) → Distinct xs → length xs ≤ suc (length (without y xs))
 few-without y [] a = omega arith
 few-without y (x ∷ xs) a = go (same y x) refl (few-without y xs (a .1))
   where
@@ -98,16 +98,16 @@ known-again y ys (x ∷ xs) e h =
                 ∙ ap (λ (w : List ℕ). isShort w && not (any (same w) ys)) (same-eq x y q) ∙ e))
         go false q z = z
 
-pub apart-few : (ys xs : List (List ℕ)) → Apart xs → all (known ys) xs ≡ true → length xs ≤ distinctShort ys
+pub distinct-known : (ys xs : List (List ℕ)) → Distinct xs → all (known ys) xs ≡ true → length xs ≤ distinctShort ys
 unfolding distinctShort
-apart-few [] [] a h = omega arith
-apart-few [] (x ∷ xs) a h = absurd (false≢true (sym (none (isShort x)) ∙ both (known [] x) (all (known []) xs) h .0))
+distinct-known [] [] a h = omega arith
+distinct-known [] (x ∷ xs) a h = absurd (false≢true (sym (none (isShort x)) ∙ both (known [] x) (all (known []) xs) h .0))
   where
     none : (t : Bool) → t && false ≡ false
     none true = refl
     none false = refl
-apart-few (y ∷ ys) xs a h =
-    go (isShort y && not (any (same y) ys)) refl (apart-few ys (without y xs) (apart-without y xs a) (known-fewer y ys xs h)) (λ k. apart-few ys xs a k)
+distinct-known (y ∷ ys) xs a h =
+    go (isShort y && not (any (same y) ys)) refl (distinct-known ys (without y xs) (distinct-without y xs a) (known-fewer y ys xs h)) (λ k. distinct-known ys xs a k)
   where
     go : (t : Bool) → isShort y && not (any (same y) ys) ≡ t → length (without y xs) ≤ distinctShort ys → (all (known ys) xs ≡ true → length xs ≤ distinctShort ys)
         → length xs ≤ cond t (suc (distinctShort ys)) (distinctShort ys)
@@ -231,13 +231,13 @@ module _ (strings : List (List ℕ)) (i : ℕ) where
       let s = both (q (getD strings j [])) (all q (entries strings t)) h in
       join (q (getD strings j [])) (all q (filled t p)) (s .0) (all-filled q t p (s .1) e)
 
-  pub apart-filled : (t : List ℕ) (p : ℕ) → p < length t → getD t p 0 ≡ 0 → Apart (entries strings t) → any (same own) (entries strings t) ≡ false → Apart (filled t p)
+  pub distinct-filled : (t : List ℕ) (p : ℕ) → p < length t → getD t p 0 ≡ 0 → Distinct (entries strings t) → any (same own) (entries strings t) ≡ false → Distinct (filled t p)
   unfolding entries
-  apart-filled [] p h e a n = tt
-  apart-filled (zero ∷ t) zero h e a n = (n, a)
-  apart-filled (suc j ∷ t) zero h e a n = absurd (omega (arith, e))
-  apart-filled (zero ∷ t) (suc p) h e a n = apart-filled t p (omega arith) e a n
-  apart-filled (suc j ∷ t) (suc p) h e a n =
+  distinct-filled [] p h e a n = tt
+  distinct-filled (zero ∷ t) zero h e a n = (n, a)
+  distinct-filled (suc j ∷ t) zero h e a n = absurd (omega (arith, e))
+  distinct-filled (zero ∷ t) (suc p) h e a n = distinct-filled t p (omega arith) e a n
+  distinct-filled (suc j ∷ t) (suc p) h e a n =
       let s = neither (same own (getD strings j [])) (any (same own) (entries strings t)) n in
       let x = any-filled (same (getD strings j [])) t p (omega arith) e in
-      (x ∙ rw (a .0, same-sym (getD strings j []) own ∙ s .0) refl, apart-filled t p (omega arith) e (a .1) (s .1))
+      (x ∙ rw (a .0, same-sym (getD strings j []) own ∙ s .0) refl, distinct-filled t p (omega arith) e (a .1) (s .1))

@@ -4,13 +4,14 @@ use Prim.Native.Nat.{ℕ, zero, suc, _+_, _%_, _≤_, _<_}
 use native.Mathlib.Omega.{arith}
 use native.Mathlib.Decide.{ℕ-discrete}
 use mathlib.Core.Bool.{Bool, true, false, cond}
-use mathlib.Core.List.{List}
-use lib.ListN.{length, getD, set, length-set}
+use mathlib.Core.List.{List, [], _++_}
+use lib.ListN.{length, getD, set, length-set, List·getD-append}
 use lib.Seq.{getD-set-same, getD-set-other}
 use lib.Dec.{eqb}
 use borrow.Author.Tests.{eqb-true, eqb-false, eq-eqb, ne-eqb}
+use Rattle.model.specs.Lists.{same}
 use Rattle.model.specs.Intern.{Probe, holds, probe, emptySlot}
-use Rattle.laws.specs.Slots.{onward, next-lt, Gap, full, takenFrom}
+use Rattle.laws.specs.Slots.{onward, next-lt, set-keeps, Gap, full, takenFrom}
 
 -- where a probe stops at `at`
 abbrev stop : List ℕ → ℕ → ℕ → Probe
@@ -67,7 +68,7 @@ alike P false true stop x y h f = refl
 alike P false false stop x y h f = f h
 
 -- in a table that has these slots and more, with strings that the slots name alike, the string is found as before
-pub probe-keeps : (n : ℕ) (strings strings′ : List (List ℕ)) (t u s : List ℕ) → length u ≡ length t
+probe-keeps : (n : ℕ) (strings strings′ : List (List ℕ)) (t u s : List ℕ) → length u ≡ length t
     → ((i : ℕ) → (getD t i 0 ≡ 0 → ⊥) → getD u i 0 ≡ getD t i 0)
     → ((i : ℕ) → (getD t i 0 ≡ 0 → ⊥) → holds strings′ (getD t i 0) s ≡ holds strings (getD t i 0) s)
     → (at k : ℕ) → (probe n strings t s at k .slot ≡ 0 → ⊥) → probe n strings′ u s at k ≡ probe n strings t s at k
@@ -79,6 +80,20 @@ probe-keeps (suc n) strings strings′ t u s len keeps names at k f =
       | no ne ↦ rw (keeps at ne, len, names at ne) (alike (λ (p : Probe). p .slot ≡ 0 → ⊥) (eqb (getD t at 0) 0) (holds strings (getD t at 0) s) _ _ _ f
           (λ g. probe-keeps n strings strings′ t u s len keeps names ((at + 1) % length t) (k + 1) g))
     ]
+
+holds-grown : (strings more : List (List ℕ)) (slot : ℕ) (s : List ℕ) → slot ≤ length strings → holds (strings ++ more) slot s ≡ holds strings slot s
+unfolding holds
+holds-grown strings more zero s h = refl
+holds-grown strings more (suc i) s h = ap (λ (x : List ℕ). same x s) (List·getD-append strings more [] i (omega arith))
+
+-- strings that come behind
+pub probe-grown : (n : ℕ) (strings more : List (List ℕ)) (t s : List ℕ) → ((i : ℕ) → (getD t i 0 ≡ 0 → ⊥) → getD t i 0 ≤ length strings) → (at k : ℕ) → (probe n strings t s at k .slot ≡ 0 → ⊥)
+    → probe n (strings ++ more) t s at k ≡ probe n strings t s at k
+probe-grown n strings more t s names = probe-keeps n strings (strings ++ more) t t s refl (λ i ne. refl) (λ i ne. holds-grown strings more (getD t i 0) s (names i ne))
+
+-- an empty slot filled
+pub probe-set : (n : ℕ) (strings : List (List ℕ)) (t s : List ℕ) (p v : ℕ) → getD t p 0 ≡ 0 → (at k : ℕ) → (probe n strings t s at k .slot ≡ 0 → ⊥) → probe n strings (set t p v) s at k ≡ probe n strings t s at k
+probe-set n strings t s p v e = probe-keeps n strings strings t (set t p v) s (length-set t p v) (set-keeps t p v e) (λ i ne. refl)
 
 -- a taken slot stays so
 stays : (t : List ℕ) (p v at : ℕ) → at < length t → (v ≡ 0 → ⊥) → (getD t at 0 ≡ 0 → ⊥) → getD (set t p v) at 0 ≡ 0 → ⊥

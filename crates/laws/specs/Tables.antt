@@ -6,7 +6,7 @@ use native.Mathlib.Omega.{arith}
 use native.Mathlib.Nat.{mod-lt}
 use mathlib.Core.Bool.{Bool, true, false, cond, not, _&&_, _||_, false≢true}
 use mathlib.Core.List.{List, [], _∷_, _++_}
-use lib.ListN.{length, getD, set, replicate, length-set, length-append, length-replicate, List·getD-append}
+use lib.ListN.{length, getD, set, replicate, length-set, length-append, length-replicate}
 use lib.Dec.{leb}
 use borrow.Author.Tests.{leb-true, leb-false, le-leb, not-true}
 use Rattle.model.specs.Lists.{all, any, same, isEmpty}
@@ -16,37 +16,32 @@ use Rattle.model.specs.Ceiling.{distinctShort}
 use Rattle.laws.specs.Lists.{both, join, either, neither, same-eq, same-refl, same-sym}
 use Rattle.laws.specs.Keep.{all-get, all-set}
 use Rattle.laws.specs.Intern.{Below, below-zeros, below-more}
-use Rattle.laws.specs.Slots.{taken, taken-le, taken-zeros, taken-set, set-keeps, gap, empty-inside, empty-empty, moved-length, moved-taken}
-use Rattle.laws.specs.Probe.{probe-keeps, put-found}
-use Rattle.laws.specs.Entries.{Apart, known, apart-few, entries, entries-taken, entries-zeros, entries-grown, any-filled, all-filled, apart-filled}
+use Rattle.laws.specs.Slots.{taken, taken-le, taken-zeros, taken-set, gap, empty-inside, empty-empty, moved-length, moved-taken}
+use Rattle.laws.specs.Probe.{probe-grown, probe-set, put-found}
+use Rattle.laws.specs.Entries.{Distinct, known, distinct-known, entries, entries-taken, entries-zeros, entries-grown, any-filled, all-filled, distinct-filled}
 
 -- ---- a table
 
 -- its entries are distinct short strings of these calls, and each is found by its probe
 pub record Table (calls strings : List (List ℕ)) (t : List ℕ) : Type 0 where
   pub below : Below (length strings) t
-  pub apart : Apart (entries strings t)
+  pub distinct : Distinct (entries strings t)
   pub known : all (known calls) (entries strings t) ≡ true
   pub finds : (s : List ℕ) → any (same s) (entries strings t) ≡ true → probe (length t) strings t s (fxHash s % length t) 0 .slot ≡ 0 → ⊥
 
 -- so it has at most m
 pub entries-few : (calls strings : List (List ℕ)) (t : List ℕ) → Table calls strings t → taken t ≤ distinctShort calls
-entries-few calls strings t k = let e = entries-taken strings t in let r = apart-few calls (entries strings t) (k .apart) (k .known) in omega (arith, e, r)
+entries-few calls strings t k = let e = entries-taken strings t in let r = distinct-known calls (entries strings t) (k .distinct) (k .known) in omega (arith, e, r)
 
 table-zeros : (calls strings : List (List ℕ)) (n : ℕ) → Table calls strings (replicate n 0)
 table-zeros calls strings n =
     let z = entries-zeros strings n in
     record {
       below = below-zeros (length strings) n;
-      apart = subst Apart (sym z) tt;
+      distinct = subst Distinct (sym z) tt;
       known = ap (all (known calls)) z;
       finds = λ s e. absurd (false≢true (sym (ap (any (same s)) z) ∙ e));
     }
-
-holds-grown : (strings more : List (List ℕ)) (slot : ℕ) (s : List ℕ) → slot ≤ length strings → holds (strings ++ more) slot s ≡ holds strings slot s
-unfolding holds
-holds-grown strings more zero s h = refl
-holds-grown strings more (suc i) s h = ap (λ (x : List ℕ). same x s) (List·getD-append strings more [] i (omega arith))
 
 -- strings that come behind
 pub table-grown : (calls strings more : List (List ℕ)) (t : List ℕ) → Table calls strings t → Table calls (strings ++ more) t
@@ -56,12 +51,11 @@ table-grown calls strings more t k =
     let slot-le : (i : ℕ) → getD t i 0 ≤ length strings = λ i. leb-true (getD t i 0) (length strings) (all-get (λ x. leb x (length strings)) t i 0 (k .below) (le-leb 0 (length strings) zero-le)) in
     record {
       below = below-more (length strings) (length (strings ++ more)) t (omega arith) (k .below);
-      apart = subst Apart (sym e) (k .apart);
+      distinct = subst Distinct (sym e) (k .distinct);
       known = ap (all (known calls)) e ∙ k .known;
       finds = λ s f z.
           let there = k .finds s (sym (ap (any (same s)) e) ∙ f) in
-          there (sym (ap (λ (p : Probe). p .slot)
-          (probe-keeps (length t) strings (strings ++ more) t t s refl (λ i ne. refl) (λ i ne. holds-grown strings more (getD t i 0) s (slot-le i)) (fxHash s % length t) 0 there)) ∙ z);
+          there (sym (ap (λ (p : Probe). p .slot) (probe-grown (length t) strings more t s (λ i ne. slot-le i) (fxHash s % length t) 0 there)) ∙ z);
     }
 
 -- a string that is not there yet, put at the first empty slot of its way
@@ -91,7 +85,7 @@ module _ (calls strings : List (List ℕ)) (t : List ℕ) (i : ℕ) (k : Table c
   pub entered : known calls own ≡ true → any (same own) (entries strings t) ≡ false → Table calls strings (set t slot (suc i))
   entered kn new = record {
     below = all-set (λ x. leb x (length strings)) t slot (suc i) (k .below) (le-leb (suc i) (length strings) (omega arith));
-    apart = apart-filled strings i t slot slot-lt slot-empty (k .apart) new;
+    distinct = distinct-filled strings i t slot slot-lt slot-empty (k .distinct) new;
     known = all-filled strings i (known calls) t slot (k .known) kn;
     finds = λ s f. rw (length-set t slot (suc i)) (go s (either (any (same s) (entries strings t)) (same s own) (sym (any-filled strings i (same s) t slot slot-lt slot-empty) ∙ f)));
   }
@@ -99,8 +93,7 @@ module _ (calls strings : List (List ℕ)) (t : List ℕ) (i : ℕ) (k : Table c
       go : (s : List ℕ) → ((any (same s) (entries strings t) ≡ true) ⊎ (same s own ≡ true)) → probe (length t) strings (set t slot (suc i)) s (fxHash s % length t) 0 .slot ≡ 0 → ⊥
       go s (inl e) z =
           let there = k .finds s e in
-          there (sym (ap (λ (p : Probe). p .slot)
-          (probe-keeps (length t) strings strings t (set t slot (suc i)) s (length-set t slot (suc i)) (set-keeps t slot (suc i) slot-empty) (λ j ne. refl) (fxHash s % length t) 0 there)) ∙ z)
+          there (sym (ap (λ (p : Probe). p .slot) (probe-set (length t) strings t s slot (suc i) slot-empty (fxHash s % length t) 0 there)) ∙ z)
       go s (inr e) z =
           put-found strings t own (suc i) (λ n. omega (arith, n)) holds-own start 0 start-lt (gap t start room start-lt)
           (ap (λ (r : List ℕ). probe (length t) strings (set t slot (suc i)) r (fxHash r % length t) 0 .slot) (sym (same-eq s own e)) ∙ z)
@@ -110,7 +103,7 @@ module _ (calls strings : List (List ℕ)) (t : List ℕ) (i : ℕ) (k : Table c
 -- what is to be moved: distinct, known, and none of it in the new table
 record Moving (calls strings : List (List ℕ)) (old new : List ℕ) : Type 0 where
   below : Below (length strings) old
-  apart : Apart (entries strings old)
+  distinct : Distinct (entries strings old)
   known : all (known calls) (entries strings old) ≡ true
   others : all (λ s. not (any (same s) (entries strings new))) (entries strings old) ≡ true
   room : taken new + taken old ≤ length new
@@ -134,7 +127,7 @@ unfolding moveSlots entries taken
 moved calls strings [] new k m = k
 moved calls strings (zero ∷ old) new k m =
     moved calls strings old new k
-    (record { below = both (leb 0 (length strings)) (all (λ y. leb y (length strings)) old) (m .below) .1; apart = m .apart; known = m .known; others = m .others; room = m .room })
+    (record { below = both (leb 0 (length strings)) (all (λ y. leb y (length strings)) old) (m .below) .1; distinct = m .distinct; known = m .known; others = m .others; room = m .room })
 moved calls strings (suc i ∷ old) new k m =
     let b = both (leb (suc i) (length strings)) (all (λ y. leb y (length strings)) old) (m .below) in
     let x = getD strings i [] in
@@ -151,9 +144,9 @@ moved calls strings (suc i ∷ old) new k m =
     moved calls strings old (set new p (suc i)) (entered calls strings new i k room inside (q .0) (not-true (any (same x) (entries strings new)) (o .0)))
     (record {
       below = b .1;
-      apart = m .apart .1;
+      distinct = m .distinct .1;
       known = q .1;
-      others = others-more strings i new p (empty-inside new at lt) e (entries strings old) (m .apart .0) (o .1);
+      others = others-more strings i new p (empty-inside new at lt) e (entries strings old) (m .distinct .0) (o .1);
       room = omega (arith, m .room, c, n);
     })
 
@@ -210,7 +203,7 @@ ready calls t k = pick (isEmpty (t .table)) refl (leb (length (t .table) * loadF
     made : Table calls S grown
     made =
         moved calls S T zeros (table-zeros calls S (length T * 2))
-        (record { below = k .table .below; apart = k .table .apart; known = k .table .known; others = all-others S (length T * 2) (entries S T); room = room })
+        (record { below = k .table .below; distinct = k .table .distinct; known = k .table .known; others = all-others S (length T * 2) (entries S T); room = room })
 
     pick : (x : Bool) → isEmpty T ≡ x → (y : Bool) → leb (length T * loadFactorNumerator) (t .occupied * loadFactorDenominator) ≡ y
         → Ready calls t (cond x (replicate initialCapacity 0) (cond (not x && y) grown T))
