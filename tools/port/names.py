@@ -185,6 +185,9 @@ def main(argv):
     for p in files(root):
         text = open(p, encoding="utf-8").read()
         new = turned(text, table, outside[p], p.endswith(".rt"))
+        # another name that a file gives to what it imports
+        for n in sorted(set(re.findall(r" as ([a-z]+[A-Z][A-Za-z]*)", new))):
+            new = re.sub(r"(?<![\w.])" + n + r"(?![\w-])", low(n), new)
         if new != text:
             open(p, "w", encoding="utf-8").write(new)
     print(len(table), "names turned")

@@ -2,7 +2,7 @@
 // an end, the length of its replacement; then those four parts. Every place is taken: what the input does not hold of a case is
 // left out of it, and the next one begins at the input's end.
 ghost use Rattle.std.specs.Prelude.{◌≡◌};
-ghost use Rattle.cases.specs.Stream.{behind as placeBehind, case_at};
+ghost use Rattle.cases.specs.Stream.{behind as place_behind, case_at};
 
 const HEAD: u32 = 24;
 
@@ -19,7 +19,7 @@ pub struct Case {
 }
 
 fn behind(input: &[u8], at: usize, len: u32) -> usize
-    ensures { result ≡ placeBehind input.now at len }
+    ensures { result ≡ place_behind input.now at len }
 {
     if input.len() <= at {
         return input.len();

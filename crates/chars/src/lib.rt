@@ -2,11 +2,11 @@
 // has. specs/Chars.antt: from `between` a whole character leads back to `between`, and what is none to a state that never comes back.
 // specs/Leads.antt: what each first byte asks for.
 ghost use Rattle.std.specs.Prelude.{◌≡◌, cond, ◌+◌, ◌≤◌, ◌<◌, length, get_or, drop};
-ghost use Rattle.model.specs.Utf8.{utf8_first, utf8_step, within as isWithin, tail1, tail2, bad};
+ghost use Rattle.model.specs.Utf8.{utf8_first, utf8_step, within as is_within, tail1, tail2, bad};
 ghost use Rattle.chars.specs.Chars.{char_len};
 
 pub fn within(lo: u8, hi: u8, b: u8) -> bool
-    ensures { result ≡ isWithin lo hi b }
+    ensures { result ≡ is_within lo hi b }
 {
     if b < lo {
         return false;

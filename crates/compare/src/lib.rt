@@ -1,8 +1,8 @@
 // Two slices of bytes compared, sixteen at a time: whether they are the same, and which comes first.
 ghost use Rattle.std.specs.Prelude.{◌≡◌, ◌+◌, ◌-◌, ◌≤◌, ◌<◌, length, drop};
-ghost use Rattle.model.specs.Lists.{same as sameBytes};
+ghost use Rattle.model.specs.Lists.{same as same_bytes};
 ghost use Rattle.compare.specs.Compare.{same4, same16};
-ghost use Rattle.compare.specs.Order.{precedes as precedesIn};
+ghost use Rattle.compare.specs.Order.{precedes as precedes_in};
 
 // A single `&` and no branches, so that LLVM compares the bytes together.
 fn same_4(a: &[u8], b: &[u8], at: usize) -> bool
@@ -24,7 +24,7 @@ pub fn same_16(a: &[u8], b: &[u8], at: usize) -> bool
 
 fn same_from(a: &[u8], b: &[u8], from: usize) -> bool
     requires { (from ≤ length a.now) × (length a.now ≡ length b.now) }
-    ensures { result ≡ sameBytes (drop from a.now) (drop from b.now) }
+    ensures { result ≡ same_bytes (drop from a.now) (drop from b.now) }
 {
     let mut i = from;
     while i < a.len() {
@@ -37,7 +37,7 @@ fn same_from(a: &[u8], b: &[u8], from: usize) -> bool
 }
 
 pub fn same(a: &[u8], b: &[u8]) -> bool
-    ensures { result ≡ sameBytes a.now b.now }
+    ensures { result ≡ same_bytes a.now b.now }
 {
     if a.len() != b.len() {
         return false;
@@ -55,7 +55,7 @@ pub fn same(a: &[u8], b: &[u8]) -> bool
 // Lexicographic order of the bytes from a place on, byte by byte.
 fn precedes_from(a: &[u8], b: &[u8], from: usize) -> bool
     requires { (from ≤ length a.now) × (from ≤ length b.now) }
-    ensures { result ≡ precedesIn (drop from a.now) (drop from b.now) }
+    ensures { result ≡ precedes_in (drop from a.now) (drop from b.now) }
 {
     let mut i = from;
     while i < a.len() {
@@ -72,7 +72,7 @@ fn precedes_from(a: &[u8], b: &[u8], from: usize) -> bool
 
 // Lexicographic order of bytes. What is the same in both is passed sixteen at a time: it may be long.
 pub fn precedes(a: &[u8], b: &[u8]) -> bool
-    ensures { result ≡ precedesIn a.now b.now }
+    ensures { result ≡ precedes_in a.now b.now }
 {
     let mut at = 0;
     while 16 <= a.len() - at {

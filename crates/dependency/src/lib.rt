@@ -8,7 +8,7 @@
 // specs/Noted.antt what the filter says, specs/Rows.antt what the row says, specs/Named.antt and specs/Later.antt what nodes that name
 // one id share; crate `ruby_formats` has what is asked of one node and what number 4 has shown of it.
 ghost use Rattle.std.specs.Prelude.{◌≡◌, ◌+◌, ◌*◌, ◌<◌, ◌≤◌, min, ◌&&◌, [], ◌++◌, length, nat_lt};
-ghost use Rattle.model.specs.Lists.{any, same as sameBytes};
+ghost use Rattle.model.specs.Lists.{any, same as same_bytes};
 ghost use Rattle.model.specs.Tape.{record_at, records_at, node_codec};
 ghost use Rattle.model.specs.Store.{resolve_str};
 ghost use Rattle.model.specs.Region.{depends_from};
@@ -39,7 +39,7 @@ fn is_string<'a>(
 ) -> bool
     requires resolvable { Resolvable tape.now st words.now old.now new.now }
     requires id_lt_strings { id < st.totals.strings }
-    ensures { result ≡ sameBytes s.now (resolve_str (store_in tape.now (old.now ++ new.now)) id) }
+    ensures { result ≡ same_bytes s.now (resolve_str (store_in tape.now (old.now ++ new.now)) id) }
 {
     if strings::string_length(tape, st, id) != s.len() {
         return false;

@@ -2,7 +2,7 @@
 // length is a sum, and it equals the old text exactly if the replacement is as long as what it replaces and has the same bytes.
 ghost use Rattle.std.specs.Prelude.{◌≡◌, ◌≤◌, length};
 ghost use Rattle.model.specs.Limits.{max_text};
-ghost use Rattle.model.specs.Lists.{same as sameBytes};
+ghost use Rattle.model.specs.Lists.{same as same_bytes};
 ghost use Rattle.model.specs.Region.{edited, edit_of};
 ghost use Rattle.edit.specs.Numbers.{within, length_fits, edit_number};
 
@@ -38,7 +38,7 @@ fn length_fits(size: usize, start: u32, end: u32, added: usize) -> bool
 // Number 9. The new text equals the old.
 pub fn unchanged(text: &[u8], start: u32, end: u32, replacement: &[u8]) -> bool
     requires { (start ≤ end) × (end ≤ length text.now) }
-    ensures { result ≡ sameBytes (edited text.now (edit_of start end replacement.now)) text.now }
+    ensures { result ≡ same_bytes (edited text.now (edit_of start end replacement.now)) text.now }
 {
     let from = start as usize;
     let to = end as usize;

@@ -1,7 +1,7 @@
 // Numbers 1 to 17 of a merge, in their order, document 01 section 7: what the merge and its estimate (wish 2) have in common. Each stage takes
 // what the stages before it have shown. The lent words may be any number, also none; they are not cleared.
 ghost use Rattle.std.specs.Prelude.{◌≡◌, ◌+◌, ◌*◌, ◌≤◌, ◌<◌, ◌^◌, length};
-ghost use Rattle.model.specs.Tape.{records_at, node_codec, places as placesIn, book_at};
+ghost use Rattle.model.specs.Tape.{records_at, node_codec, places as places_in, book_at};
 ghost use Rattle.model.specs.Region.{Edit, edit_of};
 ghost use Rattle.model.specs.Merge.{normalized_offset};
 ghost use Rattle.bounds.specs.Search.{InOrder};
@@ -204,8 +204,8 @@ fn cut_refusal(
     requires held { Held tape.now bytes.now f.p f.st × Held readingtape.now readingbytes.now f.q f.own }
     requires nstart_value { (f.w.nstart ≡ normalized_offset (records_at node_codec tape.now f.p.nodes.at f.p.nodes.count) f.w.start)
         × (f.w.nend ≡ normalized_offset (records_at node_codec tape.now f.p.nodes.at f.p.nodes.count) f.w.end) }
-    ensures { (e : Edit) → result ≡ cut_number (book_at tape.now (placesIn tape.now) bytes.now) e (region_of f.w.start f.w.end)
-        (book_at readingtape.now (placesIn readingtape.now) readingbytes.now) }
+    ensures { (e : Edit) → result ≡ cut_number (book_at tape.now (places_in tape.now) bytes.now) e (region_of f.w.start f.w.end)
+        (book_at readingtape.now (places_in readingtape.now) readingbytes.now) }
 {
     let p = f.p;
     let q = f.q;
@@ -251,8 +251,8 @@ fn reading_refusal(
     requires read { Read tape.now bytes.now f.p f.st (edit_of start end replacement.now) (region_of f.w.start f.w.end) readingtape.now readingbytes.now f.q f.own }
     requires nstart_value { (f.w.nstart ≡ normalized_offset (records_at node_codec tape.now f.p.nodes.at f.p.nodes.count) f.w.start)
         × (f.w.nend ≡ normalized_offset (records_at node_codec tape.now f.p.nodes.at f.p.nodes.count) f.w.end) }
-    ensures { result ≡ reading_number (book_at tape.now (placesIn tape.now) bytes.now) (edit_of start end replacement.now) (region_of f.w.start f.w.end)
-        (book_at readingtape.now (placesIn readingtape.now) readingbytes.now) }
+    ensures { result ≡ reading_number (book_at tape.now (places_in tape.now) bytes.now) (edit_of start end replacement.now) (region_of f.w.start f.w.end)
+        (book_at readingtape.now (places_in readingtape.now) readingbytes.now) }
 {
     let p = f.p;
     let q = f.q;

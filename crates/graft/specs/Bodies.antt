@@ -23,7 +23,7 @@ use Rattle.store.specs.declared.Store.{Store}
 use Rattle.records.specs.Uses.{word_use}
 use Rattle.ids.specs.Tests.{contents_in, segments_in, used_well}
 use Rattle.sizes.specs.Order.{field_word, place_field, place_fields, fields_in_order}
-use Rattle.sizes.specs.Order.{field_from as fieldAtWord}
+use Rattle.sizes.specs.Order.{field_from as field_at_word}
 use Rattle.sizes.specs.InPlace.{field_words}
 use Rattle.sizes.specs.Trees.{length_segments, length_contents}
 use Rattle.sizes.specs.Shown.{show_inner, segments_shown, contents_shown}
@@ -95,9 +95,9 @@ module _ (l : ℕ) (t d : List ℕ) (st : Store) (source : Source t d st) where
     field_of u = record { usage = u; first = word_of b i; second = word_of b (i + 1) }
 
     word_from : (u : ℕ) → used_well st u (word_of b i) (word_of b (i + 1)) ≡ true
-        → graft_fields (show_fields (show_inner l (source_store t d)) (source_store t d) b (fieldAtWord u i)) ws f
+        → graft_fields (show_fields (show_inner l (source_store t d)) (source_store t d) b (field_at_word u i)) ws f
         ≡ (words_with ws i (field_of u) (field_from l t d (field_of u) f).0, (field_from l t d (field_of u) f).1)
-    unfolding fieldAtWord show_fields graft_fields words_with field_from id_from used_well content_run_from segment_run_from
+    unfolding field_at_word show_fields graft_fields words_with field_from id_from used_well content_run_from segment_run_from
     word_from u h =
         by_bool (eqb u 1) (λ e. let q : u ≡ 1 = eqb-true u 1 e in rw q refl)
         (λ e. by_bool (eqb u 2)

@@ -2,7 +2,7 @@
 // counts. The state is crate `interner`'s.
 ghost use Rattle.std.specs.Prelude.{◌≡◌, true, List, ℕ, ◌+◌, ◌*◌, ◌^◌, ◌<◌, ◌≤◌, length, get_or};
 ghost use Rattle.model.specs.Limits.{max_new_strings};
-ghost use Rattle.model.specs.Intern.{holds, table_alloc, bypass as bypassOfModel, intern as internOfModel};
+ghost use Rattle.model.specs.Intern.{holds, table_alloc, bypass as bypass_of_model, intern as intern_of_model};
 ghost use Rattle.stats.specs.Counts.{Counted};
 ghost use Rattle.table.specs.Layout.{probe_of, table_of};
 ghost use Rattle.interner.specs.State.{state_of, Good};
@@ -50,7 +50,7 @@ fn known(st: StrInterner, slot: u32, stats: InternStats) -> Answer
 fn bypass(work: &mut [u32], strs: &mut [u8], st: StrInterner, s: &[u8]) -> Answer
     requires good { Good work.old strs.old st }
     requires calls_bound { st.stats.calls < 2 ^ 32 }
-    ensures { Told work.old strs.old st work.new strs.new result (bypassOfModel (state_of work.old strs.old st) s.now) }
+    ensures { Told work.old strs.old st work.new strs.new result (bypass_of_model (state_of work.old strs.old st) s.now) }
 {
     let count = st.count;
     let c = st.stats;
@@ -166,7 +166,7 @@ fn table_call(work: &mut [u32], strs: &mut [u8], st: StrInterner, s: &[u8], resi
 pub fn intern_last(st: StrInterner) -> Answer
     requires last_nonzero { (0 < st.last) × (st.last ≤ max_new_strings) }
     requires counted { Counted st.stats × (st.stats.calls < 2 ^ 32) }
-    ensures { (work strs s : List ℕ) → Good work strs st → holds (state_of work strs st).strings st.last s ≡ true → Told work strs st work strs result (internOfModel (state_of work strs st) s) }
+    ensures { (work strs s : List ℕ) → Good work strs st → holds (state_of work strs st).strings st.last s ≡ true → Told work strs st work strs result (intern_of_model (state_of work strs st) s) }
 {
     let c = st.stats;
     known(st, st.last as u32, stats::cache_hit(c))
@@ -177,7 +177,7 @@ pub fn intern_last(st: StrInterner) -> Answer
 pub fn intern(work: &mut [u32], strs: &mut [u8], st: StrInterner, s: &[u8]) -> Answer
     requires good { Good work.old strs.old st }
     requires calls_bound { st.stats.calls < 2 ^ 32 }
-    ensures { Told work.old strs.old st work.new strs.new result (internOfModel (state_of work.old strs.old st) s.now) }
+    ensures { Told work.old strs.old st work.new strs.new result (intern_of_model (state_of work.old strs.old st) s.now) }
 {
     if interner::is_last(work, strs, st, s) {
         return intern_last(st);

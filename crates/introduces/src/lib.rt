@@ -7,7 +7,7 @@
 // of its own.
 ghost use Rattle.std.specs.Prelude.{◌≡◌, ◌++◌, ◌+◌, ◌*◌, ◌≤◌, min, length};
 ghost use Rattle.model.specs.Lists.{any, keep};
-ghost use Rattle.model.specs.Tape.{record_at, records_at, node_codec, places as placesIn, book_at};
+ghost use Rattle.model.specs.Tape.{record_at, records_at, node_codec, places as places_in, book_at};
 ghost use Rattle.model.specs.Store.{store_of};
 ghost use Rattle.model.specs.Region.{is_referenced_format};
 ghost use Rattle.model.specs.Merge.{introduces_ruby_format_dependency};
@@ -724,7 +724,7 @@ fn refers_before(
     requires base_bound { (base + 2 ≤ middle) × (middle ≤ length words.old) }
     requires ready { Ready tape.now bytes.now p st (first_words base (first_words middle words.old)) }
     requires ready_2 { Ready reading.now letters.now q own (last_words middle words.old) }
-    ensures { result ≡ any (refers_to (store_of (book_at tape.now (placesIn tape.now) bytes.now).layers) (keep (ends_by start) (book_at tape.now (placesIn tape.now) bytes.now).source_nodes) (store_of (book_at reading.now (placesIn reading.now) letters.now).layers)) (book_at reading.now (placesIn reading.now) letters.now).source_nodes }
+    ensures { result ≡ any (refers_to (store_of (book_at tape.now (places_in tape.now) bytes.now).layers) (keep (ends_by start) (book_at tape.now (places_in tape.now) bytes.now).source_nodes) (store_of (book_at reading.now (places_in reading.now) letters.now).layers)) (book_at reading.now (places_in reading.now) letters.now).source_nodes }
 {
     let n = reading::nodes_until(tape, p.nodes.at, p.nodes.count, start);
     let first = p.text as usize + p.normalized as usize;
@@ -766,7 +766,7 @@ fn refers_by_words(
     requires held { Held tape.now bytes.now p st }
     requires held_2 { Held reading.now letters.now q own }
     requires in_bounds { 6 ≤ length words.old }
-    ensures { result ≡ any (refers_to (store_of (book_at tape.now (placesIn tape.now) bytes.now).layers) (keep (ends_by start) (book_at tape.now (placesIn tape.now) bytes.now).source_nodes) (store_of (book_at reading.now (placesIn reading.now) letters.now).layers)) (book_at reading.now (placesIn reading.now) letters.now).source_nodes }
+    ensures { result ≡ any (refers_to (store_of (book_at tape.now (places_in tape.now) bytes.now).layers) (keep (ends_by start) (book_at tape.now (places_in tape.now) bytes.now).source_nodes) (store_of (book_at reading.now (places_in reading.now) letters.now).layers)) (book_at reading.now (places_in reading.now) letters.now).source_nodes }
 {
     let base = words.len() / 8;
     let middle = words.len() - base;
@@ -800,7 +800,7 @@ fn refers_by_own(
 ) -> bool
     requires held { Held tape.now bytes.now p st }
     requires held_2 { Held reading.now letters.now q own }
-    ensures { result ≡ any (refers_to (store_of (book_at tape.now (placesIn tape.now) bytes.now).layers) (keep (ends_by start) (book_at tape.now (placesIn tape.now) bytes.now).source_nodes) (store_of (book_at reading.now (placesIn reading.now) letters.now).layers)) (book_at reading.now (placesIn reading.now) letters.now).source_nodes }
+    ensures { result ≡ any (refers_to (store_of (book_at tape.now (places_in tape.now) bytes.now).layers) (keep (ends_by start) (book_at tape.now (places_in tape.now) bytes.now).source_nodes) (store_of (book_at reading.now (places_in reading.now) letters.now).layers)) (book_at reading.now (places_in reading.now) letters.now).source_nodes }
 {
     let mut words = [0u32; 65536];
     refers_by_words(
@@ -833,7 +833,7 @@ pub fn introduces_ruby_format_dependency(
 ) -> bool
     requires held { Held tape.now bytes.now p st }
     requires held_2 { Held reading.now letters.now q own }
-    ensures { result ≡ introduces_ruby_format_dependency (book_at tape.now (placesIn tape.now) bytes.now) (book_at reading.now (placesIn reading.now) letters.now) (span_of start end) }
+    ensures { result ≡ introduces_ruby_format_dependency (book_at tape.now (places_in tape.now) bytes.now) (book_at reading.now (places_in reading.now) letters.now) (span_of start end) }
 {
     if ruby_for_later(
         tape,

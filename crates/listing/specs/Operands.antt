@@ -3,7 +3,7 @@
 use Rattle.std.specs.Prelude.{◌≡◌, refl, ℕ, ◌+◌, ◌*◌, get_or, drop}
 use mathlib.Core.List.{List, [], ◌∷◌, map, flatten}
 use Rattle.model.specs.Tape.{Operand, Operand.byte, Operand.word, operand_size, record_size, string_codec, content_codec, segment_codec, node_codec, pair_codec, container_codec, diagnostic_codec}
-use Rattle.listing.specs.Table.{Shows, Shows.label_only, Shows.ordinal, Shows.own_string, Shows.byte as oneByte, Shows.word as one_word, Shows.name, Shows.string_id, Shows.body_word, Shows.region_start, Shows.region_end, Shows.text_part, Field, rows, sizes}
+use Rattle.listing.specs.Table.{Shows, Shows.label_only, Shows.ordinal, Shows.own_string, Shows.byte as one_byte, Shows.word as one_word, Shows.name, Shows.string_id, Shows.body_word, Shows.region_start, Shows.region_end, Shows.text_part, Field, rows, sizes}
 
 pub record Place : Type 0 where
   pub operand : Operand
@@ -22,7 +22,7 @@ unfoldable pub read_by : Shows → List Place
 read_by label_only = []
 read_by ordinal = []
 read_by own_string = []
-read_by (oneByte k) = place byte k ∷ []
+read_by (one_byte k) = place byte k ∷ []
 read_by (one_word k) = place word k ∷ []
 read_by (name first k) = place byte k ∷ []
 read_by (string_id k) = place word k ∷ []

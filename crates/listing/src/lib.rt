@@ -5,7 +5,7 @@ mod tables;
 ghost use Rattle.std.specs.Prelude.{◌≡◌, [], ◌++◌, ℕ, ◌+◌, ◌-◌, ◌*◌, ◌≤◌, ◌<◌, length, take, get_or};
 ghost use Rattle.std.proofs.Math.Option.{some};
 ghost use Rattle.model.specs.Bytes.{byte_at, word_at, part};
-ghost use Rattle.model.specs.Tape.{places as placesIn, book_at};
+ghost use Rattle.model.specs.Tape.{places as places_in, book_at};
 ghost use Rattle.model.specs.Lookup.{lookup_str};
 ghost use Rattle.records.specs.Uses.{word_use};
 ghost use Rattle.listing.specs.Table.{labels, word_labels};
@@ -300,7 +300,7 @@ fn put_label(out: &mut [u8], at: usize, text: &[u8], i: u16) -> usize
 fn string_bytes<'a>(tape: &[u8], bytes: &'a [u8], st: store::Store, id: u32) -> &'a [u8]
     requires printable { Printable tape.now bytes.now st }
     requires id_lt_strings { id < st.totals.strings }
-    ensures { (length result.now ≤ 65536) × (lookup_str (book_at tape.now (placesIn tape.now) bytes.now) id ≡ some result.now) }
+    ensures { (length result.now ≤ 65536) × (lookup_str (book_at tape.now (places_in tape.now) bytes.now) id ≡ some result.now) }
 {
     let from = wide(wire::u32_or_zero(tape, 1)) + wide(wire::u32_or_zero(tape, 5));
     let start = from + strings::start_from(tape, st, bytes.len(), 0, id, 0);
@@ -319,7 +319,7 @@ fn put_string(
 ) -> usize
     requires at_in_bounds { at + 262167 ≤ length out.old }
     requires printable { Printable tape.now bytes.now st }
-    ensures { (result ≤ at + 262167) × (take result out.new ≡ take at out.old ++ string_bytes id (lookup_str (book_at tape.now (placesIn tape.now) bytes.now) id)) }
+    ensures { (result ≤ at + 262167) × (take result out.new ≡ take at out.old ++ string_bytes id (lookup_str (book_at tape.now (places_in tape.now) bytes.now) id)) }
 {
     if wide(st.totals.strings) <= id {
         return lines::put_text(out, at, b"none");
@@ -340,7 +340,7 @@ fn put_value(
 ) -> usize
     requires at_in_bounds { at + 262167 ≤ length out.old }
     requires printable { Printable tape.now bytes.now st }
-    ensures { (result ≤ at + 262167) × (take result out.new ≡ take at out.old ++ value_bytes (book_at tape.now (placesIn tape.now) bytes.now) bytes.now (value_of x.kind x.a x.b)) }
+    ensures { (result ≤ at + 262167) × (take result out.new ≡ take at out.old ++ value_bytes (book_at tape.now (places_in tape.now) bytes.now) bytes.now (value_of x.kind x.a x.b)) }
 {
     if x.kind == 1 {
         return lines::put_number(out, at, b"", x.a as u64);
@@ -366,7 +366,7 @@ fn put_piece(
     requires at_in_bounds { at + 262191 ≤ length out.old }
     requires text_value { text.now ≡ label_bytes }
     requires printable { Printable tape.now bytes.now st }
-    ensures { (result ≤ at + 262191) × (take result out.new ≡ take at out.old ++ item_bytes (book_at tape.now (placesIn tape.now) bytes.now) bytes.now (piece_item x)) }
+    ensures { (result ≤ at + 262191) × (take result out.new ≡ take at out.old ++ item_bytes (book_at tape.now (places_in tape.now) bytes.now) bytes.now (piece_item x)) }
 {
     let behind = put_label(out, at, text, x.label);
     put_value(out, behind, tape, bytes, st, x)

@@ -2,7 +2,7 @@
 // character (16), and a layer is free for its nodes (17). The new text is never built: the region of it is the passage with the edit made in it,
 // compared part by part.
 ghost use Rattle.std.specs.Prelude.{◌≡◌, ◌≤◌, length};
-ghost use Rattle.model.specs.Lists.{same as sameBytes};
+ghost use Rattle.model.specs.Lists.{same as same_bytes};
 ghost use Rattle.model.specs.Region.{edited, edit_of};
 ghost use Rattle.passage.specs.Window.{ends_on_boundaries};
 ghost use Rattle.passage.specs.Layers.{missing_of};
@@ -16,7 +16,7 @@ pub fn is_region_text(
     reading: &[u8],
 ) -> bool
     requires { (start ≤ end) × (end ≤ length passage.now) }
-    ensures { result ≡ sameBytes reading.now (edited passage.now (edit_of start end replacement.now)) }
+    ensures { result ≡ same_bytes reading.now (edited passage.now (edit_of start end replacement.now)) }
 {
     let behind = passage.len() - end;
     if reading.len() < start + behind {

@@ -5,7 +5,7 @@
 ghost use Rattle.std.specs.Prelude.{◌≡◌, List, ℕ, ◌+◌, length};
 ghost use Rattle.model.specs.Bytes.{zeros};
 ghost use Rattle.model.specs.Types.{LexOutput};
-ghost use Rattle.model.specs.Tape.{places as placesIn, book_at};
+ghost use Rattle.model.specs.Tape.{places as places_in, book_at};
 ghost use Rattle.model.specs.Region.{chosen_region, choose_region, has_ruby_format_dependency, region_text, edit_of};
 ghost use Rattle.strings.specs.Starts.{start_in};
 ghost use Rattle.strings.specs.Shown.{old_strings};
@@ -49,7 +49,7 @@ fn depends(
     from: u32,
 ) -> bool
     requires { Held tape.now bytes.now p st }
-    ensures { (end : ℕ) (replacement : List ℕ) → result ≡ has_ruby_format_dependency (book_at tape.now (placesIn tape.now) bytes.now) (edit_of from end replacement) }
+    ensures { (end : ℕ) (replacement : List ℕ) → result ≡ has_ruby_format_dependency (book_at tape.now (places_in tape.now) bytes.now) (edit_of from end replacement) }
 {
     let first = p.text as usize + p.normalized as usize;
     let cut = last_strings_at(tape, bytes, p, st);
@@ -77,7 +77,7 @@ pub fn chosen_region(
     replacement: &[u8],
 ) -> Chosen
     requires { Held tape.now bytes.now p st }
-    ensures { result ≡ chosen_of (chosen_region (book_at tape.now (placesIn tape.now) bytes.now) (edit_of start end replacement.now)) }
+    ensures { result ≡ chosen_of (chosen_region (book_at tape.now (places_in tape.now) bytes.now) (edit_of start end replacement.now)) }
 {
     let text = &bytes[0..p.text as usize];
     let n = edit::edit_refusal(text, start, end, replacement);

@@ -5,7 +5,7 @@
 // starts stand from 8192 on, one more than there are strings, two words each: a byte buffer may be longer than 32 bits count.
 // The words from 15360 on are free for others, and crate `interner` has those below 8192 that the table leaves free.
 ghost use Rattle.std.specs.Prelude.{◌≡◌, cond, ◌++◌, [], ◌+◌, ◌*◌, ◌-◌, ◌%◌, ◌<◌, ◌≤◌, length, get_or, take, drop, set, replicate};
-ghost use Rattle.model.specs.Intern.{empty_slot, move_slots, probe as probeOfModel};
+ghost use Rattle.model.specs.Intern.{empty_slot, move_slots, probe as probe_of_model};
 ghost use Rattle.table.specs.Layout.{probe_of, wide_at, wide_words, with_start, strings_of, Starts, Entries, Work, table_of, starts_of, slot_for};
 ghost use Rattle.table.specs.Sizes.{is_due};
 
@@ -101,7 +101,7 @@ pub fn probe(
     requires from_in_bounds { from < length table.now }
     requires starts { Starts (wide_words starts.now) (length strs.now) }
     requires entries { Entries table.now (length (wide_words starts.now)) }
-    ensures { probe_of result ≡ probeOfModel most (strings_of (wide_words starts.now) strs.now) table.now s.now from 0 }
+    ensures { probe_of result ≡ probe_of_model most (strings_of (wide_words starts.now) strs.now) table.now s.now from 0 }
 {
     let n = table.len();
     let mut at = from;

@@ -5,7 +5,7 @@
 ghost use Rattle.std.specs.Prelude.{◌≡◌, true, ◌+◌, ◌*◌, ◌≤◌, length, take, drop};
 ghost use Rattle.model.specs.Lists.{all, sum};
 ghost use Rattle.model.specs.Utf8.{utf8};
-ghost use Rattle.model.specs.Tape.{records_at, string_codec, places as placesIn, layers_at, book_at};
+ghost use Rattle.model.specs.Tape.{records_at, string_codec, places as places_in, layers_at, book_at};
 ghost use Rattle.model.specs.WellFormed.{texts_are_utf8};
 ghost use Rattle.places.specs.Found.{holds, found};
 ghost use Rattle.texts.specs.Limits.{few_enough};
@@ -68,7 +68,7 @@ fn strings_end(tape: &[u8], at: usize, count: usize, bytes: &[u8], from: usize) 
 // Number 2, all layers: the first stands at 9, the bytes of their strings at `from`, from where on all is UTF-8.
 fn layers_utf8(tape: &[u8], bytes: &[u8], layers: usize, from: usize) -> bool
     requires { LayersFit tape.now bytes.now layers from × (utf8 (drop from bytes.now) ≡ true) }
-    ensures { result ≡ all layer_utf8 (layers_at tape.now (placesIn tape.now).layers (drop from bytes.now)) }
+    ensures { result ≡ all layer_utf8 (layers_at tape.now (places_in tape.now).layers (drop from bytes.now)) }
 {
     let mut at = 9;
     let mut place = from;
@@ -89,7 +89,7 @@ fn layers_utf8(tape: &[u8], bytes: &[u8], layers: usize, from: usize) -> bool
 // Number 2. The text, the normalized text, and each string by itself.
 pub fn texts_utf8(tape: &[u8], bytes: &[u8], p: places::Places) -> bool
     requires { (p ≡ found tape.now) × (holds tape.now bytes.now ≡ true) }
-    ensures { result ≡ texts_are_utf8 (book_at tape.now (placesIn tape.now) bytes.now) }
+    ensures { result ≡ texts_are_utf8 (book_at tape.now (places_in tape.now) bytes.now) }
 {
     let text = p.text as usize;
     let normalized = p.normalized as usize;
