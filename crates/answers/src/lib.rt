@@ -4,7 +4,7 @@ ghost use Rattle.std.specs.Prelude.{◌≡◌};
 ghost use Rattle.answers.specs.Answers.{allowed_answer, node_answer, range_answer, str_answer, copy_answer, region_answer, output_read, orders_read};
 
 #[repr(C)]
-#[derive(Drop)]
+#[derive(Clone, Copy)]
 pub struct AllowedAnswer {
     pub number: u32,
     pub allowed: bool,
@@ -12,7 +12,7 @@ pub struct AllowedAnswer {
 
 // The node's place in the list, where one is found.
 #[repr(C)]
-#[derive(Drop)]
+#[derive(Clone, Copy)]
 pub struct NodeAnswer {
     pub number: u32,
     pub found: bool,
@@ -21,7 +21,7 @@ pub struct NodeAnswer {
 
 // Where the first record of a range stands in the tape, and how many they are.
 #[repr(C)]
-#[derive(Drop)]
+#[derive(Clone, Copy)]
 pub struct RangeAnswer {
     pub number: u32,
     pub found: bool,
@@ -31,7 +31,7 @@ pub struct RangeAnswer {
 
 // Where a string starts and ends in the byte buffer.
 #[repr(C)]
-#[derive(Drop)]
+#[derive(Clone, Copy)]
 pub struct StrAnswer {
     pub number: u32,
     pub found: bool,
@@ -41,7 +41,7 @@ pub struct StrAnswer {
 
 // How many bytes of the two result buffers the copy takes.
 #[repr(C)]
-#[derive(Drop)]
+#[derive(Clone, Copy)]
 pub struct CopyAnswer {
     pub number: u32,
     pub tape: usize,
@@ -50,7 +50,7 @@ pub struct CopyAnswer {
 
 // The region in offsets of the old text.
 #[repr(C)]
-#[derive(Drop)]
+#[derive(Clone, Copy)]
 pub struct RegionAnswer {
     pub number: u32,
     pub start: u32,
@@ -60,7 +60,7 @@ pub struct RegionAnswer {
 // What a merge answers: the region in offsets of the old text, old nodes kept, the reading's nodes, the seven counts, and how many bytes of
 // the two result buffers the book takes.
 #[repr(C)]
-#[derive(Drop)]
+#[derive(Clone, Copy)]
 pub struct MergeAnswer {
     pub number: u32,
     pub start: u32,
@@ -80,7 +80,7 @@ pub struct MergeAnswer {
 
 // What the four merges answer.
 #[repr(C)]
-#[derive(Drop)]
+#[derive(Clone, Copy)]
 pub struct OrdersAnswer {
     pub earlierfirst: MergeAnswer,
     pub latersecond: MergeAnswer,

@@ -168,7 +168,7 @@ fn warichu_before(tape: &[u8], at: usize, depth: usize) -> usize
 
 // What a number of nodes leave: both depths, and how many there are up to and with the last that closes at depth 0. Behind that
 // one every close has its open.
-#[derive(Drop)]
+#[derive(Clone, Copy)]
 pub struct Depths {
     pub count: usize,
     pub blocks: usize,
@@ -485,7 +485,7 @@ pub fn region_start(
 }
 
 // Offsets of the old text.
-#[derive(Drop)]
+#[derive(Clone, Copy)]
 pub struct Region {
     pub start: usize,
     pub end: usize,

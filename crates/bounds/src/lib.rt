@@ -203,7 +203,7 @@ fn node_placed(tape: &[u8], at: usize, size: usize, from: u32, images: u64, span
 }
 
 // What the walk over the nodes answers: number 6 fails, or the sums of images and of span lengths that number 7 compares.
-#[derive(Drop)]
+#[derive(Clone, Copy)]
 pub enum Drift {
     Misplaced,
     Placed(u64, u64),
@@ -230,7 +230,7 @@ pub fn nodes_placed(tape: &[u8], at: usize, count: usize, size: usize) -> Drift
     Drift::Placed(images, spans)
 }
 
-#[derive(Drop)]
+#[derive(Clone, Copy)]
 pub enum Found {
     At(usize),
     Nothing,

@@ -7,7 +7,7 @@ ghost use Rattle.cases.specs.Stream.{behind as place_behind, case_at};
 const HEAD: u32 = 24;
 
 // Where the label, the tape, the bytes, the replacement and the next case begin, and the two offsets.
-#[derive(Drop)]
+#[derive(Clone, Copy)]
 pub struct Case {
     pub label: usize,
     pub tape: usize,

@@ -6,7 +6,7 @@ ghost use Rattle.model.specs.Lookup.{copied_tape, copied_bytes, copy_into};
 ghost use Rattle.copy.specs.Copying.{copied_of};
 
 // How many bytes of the two result buffers the copy takes.
-#[derive(Drop)]
+#[derive(Clone, Copy)]
 pub enum Copied {
     Refused(u32),
     Copied(usize, usize),

@@ -17,7 +17,7 @@ const OVER: u32 = 1048576;
 // A number, or 0 and what the merge would make: the reading's nodes, calls of `intern`, contents and segments added, and the length of the
 // byte buffer without the new layer's strings. The three are 1048576 where one of them is above 1048575. All is 0 beside a number. C has it as it is.
 #[repr(C)]
-#[derive(Drop)]
+#[derive(Clone, Copy)]
 pub struct Price {
     pub number: u32,
     pub reread: u32,

@@ -16,7 +16,7 @@ use span::{NormalizedOffset, SourceOffset};
 use splice::Window;
 
 // What an edit aims at: a number 1 to 11, or 0, where the old book's records stand, its store, and the region.
-#[derive(Drop)]
+#[derive(Clone, Copy)]
 struct Target {
     number: u32,
     p: places::Places,
@@ -26,7 +26,7 @@ struct Target {
 }
 
 // A number 1 to 17, or 0 and what is known then: where the records of the book and of the reading stand, their stores, the merge's window.
-#[derive(Drop)]
+#[derive(Clone, Copy)]
 pub struct Fitting {
     pub number: u32,
     pub p: places::Places,

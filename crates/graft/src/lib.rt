@@ -21,7 +21,7 @@ ghost use Rattle.representatives.specs.Pairs.{Pairs};
 ghost use Rattle.graft.specs.Walk.{Source, index_words, string_from, shown_contents, shown_segments, StartTold, id_from, str_start, WordsTold, ContentsTold, SegmentsTold};
 
 // Where the new layer's numbers begin, and where its contents and segments are written.
-#[derive(Drop)]
+#[derive(Clone, Copy)]
 pub struct Plan {
     pub strings: u32,
     pub contents: u32,
@@ -32,7 +32,7 @@ pub struct Plan {
 
 // How far the walk is: contents and segments pushed, and the interner; not ok where a string had no room. `answered`: the representative of
 // the last answer's string plus 1, or 0 where none is known.
-#[derive(Drop)]
+#[derive(Clone, Copy)]
 pub struct Mark {
     pub ok: bool,
     pub contents: u32,
@@ -42,20 +42,20 @@ pub struct Mark {
 }
 
 // A string's id, or where a run starts.
-#[derive(Drop)]
+#[derive(Clone, Copy)]
 pub struct Start {
     pub mark: Mark,
     pub at: u32,
 }
 
 // Six words.
-#[derive(Drop)]
+#[derive(Clone, Copy)]
 pub struct Six {
     pub words: [u32; 6],
 }
 
 // The words of a grafted body.
-#[derive(Drop)]
+#[derive(Clone, Copy)]
 pub struct Words {
     pub mark: Mark,
     pub words: [u32; 6],

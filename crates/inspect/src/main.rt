@@ -14,7 +14,7 @@ use libc::{STDIN_FILENO, STDOUT_FILENO};
 const MAX_PART: u32 = 65536;
 
 // A number of the refusal, or 0 and the region that is marked.
-#[derive(Drop)]
+#[derive(Clone, Copy)]
 pub struct Outcome {
     pub number: u32,
     pub mark: listing::Mark,

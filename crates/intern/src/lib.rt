@@ -19,7 +19,7 @@ const INTERN_LENGTH_LIMIT: usize = 64;
 const NEAR: usize = 16;
 
 // What a call answers: the string's id and the new state; or, not ok, that a new string has no room.
-#[derive(Drop)]
+#[derive(Clone, Copy)]
 pub struct Answer {
     pub ok: bool,
     pub id: u32,

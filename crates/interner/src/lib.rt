@@ -30,7 +30,7 @@ const PLACES: usize = 4096;
 
 // `StrInterner`, beside the words and bytes: slots of the table (0 before its first use) and how many are taken; how many strings
 // there are, where in the buffer they begin and end; one more than the last answer's id (0: none).
-#[derive(Drop)]
+#[derive(Clone, Copy)]
 pub struct StrInterner {
     pub slots: usize,
     pub occupied: usize,

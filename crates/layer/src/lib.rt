@@ -23,7 +23,7 @@ use table::STARTS;
 const MAX_POOL: usize = 1048575;
 
 // Where the new layer's numbers begin: the counts of the layers below it.
-#[derive(Drop)]
+#[derive(Clone, Copy)]
 pub struct Offsets {
     pub strings: u32,
     pub contents: u32,
@@ -32,7 +32,7 @@ pub struct Offsets {
 
 // The layer that was written: the bytes of its records, its command with them, how many items it has, and its interner. Not ok where
 // there is no room: the numbers are then 0.
-#[derive(Drop)]
+#[derive(Clone, Copy)]
 pub struct Layer {
     pub ok: bool,
     pub len: usize,

@@ -21,7 +21,7 @@ use tables::{
 };
 
 // The region of an edit, where there is one.
-#[derive(Drop)]
+#[derive(Clone, Copy)]
 pub struct Mark {
     pub edit: bool,
     pub start: u32,
@@ -29,7 +29,7 @@ pub struct Mark {
 }
 
 // Where a record stands, and how many records of each command stand before it.
-#[derive(Drop)]
+#[derive(Clone, Copy)]
 pub struct Cursor {
     pub at: usize,
     pub seen: [usize; 11],
@@ -62,7 +62,7 @@ fn wide(x: u32) -> usize
 // ---- what a field shows
 
 // A label by its number, and behind it: 0 nothing, 1 the number a, 2 the string of id a, 3 the bytes of the buffer from a up to b.
-#[derive(Drop)]
+#[derive(Clone, Copy)]
 pub struct Piece {
     pub label: u16,
     pub kind: u8,

@@ -11,7 +11,7 @@ ghost use Rattle.lookup.specs.Ranges.{range_if, range_at_of, range_shown};
 ghost use Rattle.strings.specs.Starts.{lengths_in, Readable};
 ghost use Rattle.lookup.specs.Strings.{str_if, str_at_of, str_shown, span_from};
 
-#[derive(Drop)]
+#[derive(Clone, Copy)]
 pub enum Allowed {
     Refused(u32),
     Yes,
@@ -19,7 +19,7 @@ pub enum Allowed {
 }
 
 // The node's place in the list.
-#[derive(Drop)]
+#[derive(Clone, Copy)]
 pub enum NodeAt {
     Refused(u32),
     Node(usize),
@@ -27,7 +27,7 @@ pub enum NodeAt {
 }
 
 // Where the first record of a range stands in the tape, and how many they are.
-#[derive(Drop)]
+#[derive(Clone, Copy)]
 pub enum RangeAt {
     Refused(u32),
     At(usize, u32),
@@ -35,7 +35,7 @@ pub enum RangeAt {
 }
 
 // Where a string starts and ends in the byte buffer.
-#[derive(Drop)]
+#[derive(Clone, Copy)]
 pub enum StrAt {
     Refused(u32),
     At(usize, usize),

@@ -21,13 +21,13 @@ const MAX_LIST: usize = 262143;
 const MIN_WORK_WORDS: usize = 16384;
 
 // How many old elements of a list are kept before the region, and behind it.
-#[derive(Drop)]
+#[derive(Clone, Copy)]
 pub struct Sides {
     pub before: usize,
     pub behind: usize,
 }
 
-#[derive(Drop)]
+#[derive(Clone, Copy)]
 pub struct Kept {
     pub nodes: Sides,
     pub pairs: Sides,
@@ -36,7 +36,7 @@ pub struct Kept {
 }
 
 // The lengths of both new texts, and where the new layer's strings begin: behind them and the old strings.
-#[derive(Drop)]
+#[derive(Clone, Copy)]
 pub struct Lengths {
     pub text: usize,
     pub normalized: usize,

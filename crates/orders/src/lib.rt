@@ -37,7 +37,7 @@ fn moved(offset: u32, start: u32, end: u32, replacement: &[u8]) -> u32
 }
 
 // What two calls answer, the second on the result of the first.
-#[derive(Drop)]
+#[derive(Clone, Copy)]
 struct InOrder {
     pub first: output::IncrementalOutput,
     pub second: output::IncrementalOutput,

@@ -6,7 +6,7 @@ ghost use Rattle.output.specs.Answer.{refused_output};
 
 // Section 7. What is returned: a number, or 0 and the region, old nodes kept, the reading's nodes, the seven counts, and how many bytes
 // of the two result buffers the book takes. All is 0 beside a number.
-#[derive(Drop)]
+#[derive(Clone, Copy)]
 pub struct IncrementalOutput {
     pub number: u32,
     pub start: u32,
@@ -19,7 +19,7 @@ pub struct IncrementalOutput {
 }
 
 // What four merges answer, of two corrections in both orders. The earlier correction is the one that lies before the other.
-#[derive(Drop)]
+#[derive(Clone, Copy)]
 pub struct BothOrders {
     pub earlierfirst: IncrementalOutput,
     pub latersecond: IncrementalOutput,

@@ -10,13 +10,13 @@ ghost use Rattle.places.specs.Runs.{eight_at, Counted, capped};
 ghost use Rattle.places.specs.Found.{layer_runs, add_layer, Small, tallied, list_runs, frame_holds, no_places, found_by, places_of};
 
 // A run of records of one kind: where the first stands, and how many they are.
-#[derive(Drop)]
+#[derive(Clone, Copy)]
 pub struct Run {
     pub at: usize,
     pub count: usize,
 }
 
-#[derive(Drop)]
+#[derive(Clone, Copy)]
 pub struct LayerRuns {
     pub strings: Run,
     pub contents: Run,
@@ -24,7 +24,7 @@ pub struct LayerRuns {
     pub end: usize,
 }
 
-#[derive(Drop)]
+#[derive(Clone, Copy)]
 pub struct ListRuns {
     pub nodes: Run,
     pub pairs: Run,
@@ -34,7 +34,7 @@ pub struct ListRuns {
 }
 
 // The layers passed so far: how many, what they hold, the bytes of their strings, where the next one begins.
-#[derive(Drop)]
+#[derive(Clone, Copy)]
 pub struct Tally {
     pub count: usize,
     pub strings: usize,
@@ -44,7 +44,7 @@ pub struct Tally {
     pub end: usize,
 }
 
-#[derive(Drop)]
+#[derive(Clone, Copy)]
 pub struct Places {
     pub fault: bool,
     pub text: u32,

@@ -14,7 +14,7 @@ ghost use Rattle.records.specs.Uses.{format_uses, mencode_uses, image_uses, uses
 ghost use Rattle.records.specs.Shapes.{segment_head, node_head};
 
 // Section 4. A body: what a `Node` or a text holds.
-#[derive(Drop)]
+#[derive(Clone, Copy)]
 pub struct Body {
     pub kind: u8,
     pub tag: u8,
@@ -23,21 +23,21 @@ pub struct Body {
     pub words: [u32; 6],
 }
 
-#[derive(Drop)]
+#[derive(Clone, Copy)]
 pub struct Content {
     pub tag: u8,
     pub first: u32,
     pub second: u32,
 }
 
-#[derive(Drop)]
+#[derive(Clone, Copy)]
 pub struct Segment {
     pub tag: u8,
     pub level: u8,
     pub body: Body,
 }
 
-#[derive(Drop)]
+#[derive(Clone, Copy)]
 pub struct SourceNode {
     pub class: u8,
     pub inline: u8,
@@ -47,7 +47,7 @@ pub struct SourceNode {
     pub body: Body,
 }
 
-#[derive(Drop)]
+#[derive(Clone, Copy)]
 pub struct PairLink {
     pub kind: u8,
     pub openstart: u32,
@@ -56,14 +56,14 @@ pub struct PairLink {
     pub closeend: u32,
 }
 
-#[derive(Drop)]
+#[derive(Clone, Copy)]
 pub struct ContainerPair {
     pub plain: u32,
     pub opening: u32,
     pub closing: u32,
 }
 
-#[derive(Drop)]
+#[derive(Clone, Copy)]
 pub struct Diagnostic {
     pub kind: u8,
     pub rank: u32,

@@ -13,7 +13,7 @@ ghost use Rattle.region.specs.Chosen.{chosen_of, whole_text};
 ghost use Rattle.region.specs.Held.{Held};
 
 // The region in offsets of the old text, or a number up to 11.
-#[derive(Drop)]
+#[derive(Clone, Copy)]
 pub enum Chosen {
     Refused(u32),
     Region(u32, u32),

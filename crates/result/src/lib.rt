@@ -51,7 +51,7 @@ fn put_new_texts(
 }
 
 // What grafting wrote: the bytes of the new layer's records and of its strings, and the counts. Not ok where there is no room.
-#[derive(Drop)]
+#[derive(Clone, Copy)]
 pub struct Graft {
     pub ok: bool,
     pub len: usize,

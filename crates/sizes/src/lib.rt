@@ -27,14 +27,14 @@ ghost use Rattle.sizes.specs.InPlace.{content_count, segment_count, field_words,
 ghost use Rattle.sizes.specs.InPlace.{content_adds, contents_add, content_run_adds, segments_add, segment_run_adds, node_adds, nodes_add};
 
 // How many contents and segments may still be added.
-#[derive(Drop)]
+#[derive(Clone, Copy)]
 pub struct Room {
     pub contents: u32,
     pub segments: u32,
 }
 
 // What grafting adds; if `over`, more than there is room for, and the numbers are 0. Calls stop at 4294967295.
-#[derive(Drop)]
+#[derive(Clone, Copy)]
 pub struct Sizes {
     pub contents: u32,
     pub segments: u32,
@@ -43,7 +43,7 @@ pub struct Sizes {
 }
 
 // The use of a field, the word at which it begins, and the word behind that.
-#[derive(Drop)]
+#[derive(Clone, Copy)]
 pub struct FieldWords {
     pub usage: u8,
     pub first: u32,

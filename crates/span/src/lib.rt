@@ -7,15 +7,15 @@ ghost use Rattle.model.specs.Offset as model;
 ghost use Rattle.span.specs.Values.{span_of, value_of, option_of, kind_number};
 
 // An offset in the bytes of a source text.
-#[derive(Drop)]
+#[derive(Clone, Copy)]
 pub struct SourceOffset(pub u32);
 
 // An offset in the bytes of a normalized text.
-#[derive(Drop)]
+#[derive(Clone, Copy)]
 pub struct NormalizedOffset(pub u32);
 
 // The number of a string of a store.
-#[derive(Drop)]
+#[derive(Clone, Copy)]
 pub struct StrId(pub u32);
 
 impl SourceOffset {
@@ -61,14 +61,14 @@ impl StrId {
 }
 
 // A signed amount: Forward(n) is n, Back(n) is -(n + 1).
-#[derive(Drop)]
+#[derive(Clone, Copy)]
 pub enum Amount {
     Forward(u64),
     Back(u64),
 }
 
 // `Option<u32>`.
-#[derive(Drop)]
+#[derive(Clone, Copy)]
 pub enum OptionU32 {
     Some(u32),
     None,
@@ -147,7 +147,7 @@ pub fn shift_u32(value: u32, delta: i64) -> OptionU32
     shift_by(value, amount_of(delta))
 }
 
-#[derive(Drop)]
+#[derive(Clone, Copy)]
 pub struct Span {
     pub start: u32,
     pub end: u32,
@@ -194,7 +194,7 @@ impl Span {
 }
 
 // The family of two delimiters.
-#[derive(Drop)]
+#[derive(Clone, Copy)]
 pub enum PairKind {
     Bracket,
     Ruby,
@@ -237,7 +237,7 @@ impl PairKind {
 }
 
 // `open` and `close` in the Rust; `open` is a word of antt.
-#[derive(Drop)]
+#[derive(Clone, Copy)]
 pub struct PairLink {
     pub kind: PairKind,
     pub opening: Span,

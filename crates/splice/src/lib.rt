@@ -11,7 +11,7 @@ ghost use Rattle.splice.specs.Window.{window_value, source_in, normalized_in};
 ghost use Rattle.splice.specs.Counted.{row_in, places_from};
 
 // The region in both texts, and how far what lies behind it moves in each: `MergeWindow`.
-#[derive(Drop)]
+#[derive(Clone, Copy)]
 pub struct Window {
     pub start: u32,
     pub end: u32,
@@ -22,7 +22,7 @@ pub struct Window {
 }
 
 // The parts of a merged list: the old one up to the region, the reading's, the old rest.
-#[derive(Drop)]
+#[derive(Clone, Copy)]
 pub enum Part {
     Before,
     Reading,

@@ -8,7 +8,7 @@ ghost use Rattle.store.specs.Stored.{StoreFits, add_runs, store_at};
 ghost use Rattle.store.specs.Standing.{string_place, content_place, segment_place};
 
 // How many strings, contents and segments all layers hold.
-#[derive(Drop)]
+#[derive(Clone, Copy)]
 pub struct Totals {
     pub strings: u32,
     pub contents: u32,
@@ -16,7 +16,7 @@ pub struct Totals {
 }
 
 // `NodeStore`: where each layer begins in each pool; 0 past the last layer.
-#[derive(Drop)]
+#[derive(Clone, Copy)]
 pub struct Store {
     pub layers: usize,
     pub strings: [u32; 32],

@@ -12,7 +12,7 @@ ghost use Rattle.strings.specs.PlainContent.{plain_of};
 ghost use Rattle.strings.specs.Shown.{old_strings, shown_in, Resolvable, Lies, part_of};
 
 // The id of a Plain content's string.
-#[derive(Drop)]
+#[derive(Clone, Copy)]
 pub enum Plain {
     Id(u32),
     Nothing,

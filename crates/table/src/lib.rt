@@ -22,7 +22,7 @@ pub const STARTS: usize = 8192;
 const HIGH: usize = 4294967296;
 
 // Where a probe ended: the slot's place and content, and how many slots were inspected.
-#[derive(Drop)]
+#[derive(Clone, Copy)]
 pub struct Probed {
     pub at: usize,
     pub slot: u32,

@@ -123,7 +123,7 @@ pub fn book_refusal(tape: &[u8], bytes: &[u8], p: places::Places) -> u32
 }
 
 // A book's number 1 to 7, or 0 and where its records stand: whoever goes on with the book need not look for them again.
-#[derive(Drop)]
+#[derive(Clone, Copy)]
 pub struct CheckedBook {
     pub number: u32,
     pub p: places::Places,
