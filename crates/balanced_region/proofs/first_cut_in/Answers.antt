@@ -1,0 +1,57 @@
+use Rattle.cuts.specs.Window.{Window}
+use Rattle.cuts.specs.Pairs.{pairs_of}
+use Rattle.balanced_region.specs.EndSearch.{Tried, text_pairs_allow, tried_start, tried_found, try_rises, tried_more, tried_none}
+use mathlib.Core.Path.{◌≡◌, refl, ◌∙◌}
+use Prim.Native.Nat.{◌-◌}
+use native.Mathlib.Omega.{arith}
+use lib.ListN.{length}
+use Rattle.balanced_region.proofs.first_cut_in.Goals as goal
+
+pub loop-c-init : goal.loop-c-init
+loop-c-init c =
+    (tried_start _ _, c.requires.window, refl)
+
+pub next_try-next-requires : goal.next_try-next-requires
+next_try-next-requires c =
+    let start = c.before.before.before.before.before.before in
+record {
+        count_in_bounds = (start.requires.0.0, omega (arith, start.requires.0.1));
+        window = c.loop-c.invariant.1
+    }
+
+pub shape_of-words-then-next-c : goal.shape_of-words-then-next-c
+shape_of-words-then-next-c c =
+    let at-next-try = c.before.before.before in
+    let turn = at-next-try.before.before.before in
+    at-next-try.next-try.auto.1.1.1.1.0 ∙ turn.loop.invariant.2
+
+pub returns-then-next-c : goal.returns-then-next-c
+returns-then-next-c c =
+    let at-next-try = c.before.before.before in
+let at-loop-test = at-next-try.before.before in
+let turn = at-loop-test.before in
+record {
+        value = tried_found _ _ turn.loop.invariant.0 _ at-next-try.next-try.ensures.0 _ at-loop-test.loop-test.true c.if-next-c.true;
+        window_2 = at-next-try.next-try.ensures.1
+    }
+
+pub loop-c-smaller : goal.loop-c-smaller
+loop-c-smaller c =
+    omega (arith, try_rises _ _ _ _ c.next_try-next.ensures.value c.if-next-c.false)
+
+pub loop-c-preserved : goal.loop-c-preserved
+loop-c-preserved c =
+    let at-next-try = c.before.before.before in
+    let turn = at-next-try.before.before.before in
+    (tried_more _ _ turn.loop.invariant.0 _ at-next-try.next-try.ensures.0, at-next-try.next-try.ensures.1, at-next-try.next-try.auto.1.1.1.1.0 ∙ turn.loop.invariant.2)
+
+pub shape_of-words : goal.shape_of-words
+shape_of-words c =
+    c.loop-c.invariant.2
+
+pub returns : goal.returns
+returns c =
+    record {
+        value = tried_none c.loop-c.invariant.0 _ c.loop-c-test.false;
+        window_2 = c.loop-c.invariant.1
+    }

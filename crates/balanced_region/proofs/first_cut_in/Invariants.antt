@@ -1,0 +1,14 @@
+use Rattle.cuts.specs.Window.{Window}
+use Rattle.cuts.specs.Pairs.{pairs_of}
+use Rattle.balanced_region.specs.EndSearch.{Tried, text_pairs_allow, tried_start, tried_found, try_rises, tried_more, tried_none}
+use mathlib.Core.Path.{◌≡◌, refl, ◌∙◌}
+use Prim.Native.Nat.{◌-◌}
+use native.Mathlib.Omega.{arith}
+use lib.ListN.{length}
+use Rattle.balanced_region.proofs.first_cut_in.Given as goal
+
+abbrev pub invariant-loop-c : goal.invariant-loop-c
+invariant-loop-c l = Tried (text_pairs_allow l.text (pairs_of l.tape l.pairs)) l.lo l.c × Window (pairs_of l.tape l.pairs) l.words × (length l.words ≡ length l.initial.words)
+
+abbrev pub decreases-loop-c : goal.decreases-loop-c
+decreases-loop-c l = l.hi - l.c

@@ -1,0 +1,134 @@
+use Rattle.cuts.specs.Window.{Window}
+use Rattle.cuts.specs.Pairs.{pairs_of}
+use Rattle.balanced_region.specs.Walks.{LastWalk, last_walk_none, last_walk_stop, last_walk_more, last_walk_done}
+use mathlib.Core.Path.{◌≡◌, refl, ◌∙◌}
+use Prim.Native.Nat.{◌-◌}
+use native.Mathlib.Omega.{arith}
+use lib.ListN.{length}
+use Rattle.balanced_region.proofs.last_cut_before.Goals as goal
+
+pub loop-i-init : goal.loop-i-init
+loop-i-init c =
+    (last_walk_none _ _ _ _ _ c.requires.in_order, c.requires.window, refl)
+
+pub overflow_mul-p : goal.overflow_mul-p
+overflow_mul-p c =
+    omega arith
+
+pub overflow_add-p : goal.overflow_add-p
+overflow_add-p c =
+    omega arith
+
+pub node_start-start-requires : goal.node_start-start-requires
+node_start-start-requires c =
+    omega arith
+
+pub overflow_cast-start : goal.overflow_cast-start
+overflow_cast-start c =
+    omega arith
+
+pub overflow_add-bound : goal.overflow_add-bound
+overflow_add-bound c =
+    omega arith
+
+pub gap_last-requires : goal.gap_last-requires
+gap_last-requires c =
+    let turn = c.before.before.before.before.before.before in
+let start = turn.before.before.before.before in
+record {
+        count_in_bounds = (start.requires.0.1, omega (arith, start.requires.0.2));
+        window = turn.loop.invariant.1
+    }
+
+pub shape_of-words-then-bound-start : goal.shape_of-words-then-bound-start
+shape_of-words-then-bound-start c =
+    let turn = c.before.before.before.before.before.before.before.before.before in
+    c.gap_last.auto.words ∙ turn.loop.invariant.2
+
+pub returns-then-bound-start : goal.returns-then-bound-start
+returns-then-bound-start c =
+    let at-if2 = c.before.before.before.before in
+    let at-node-start = at-if2.before in
+    let at-if1 = at-node-start.before.before in
+    let turn = at-if1.before.before in (
+      last_walk_stop turn.loop.invariant.0 at-if1.if1.true _ at-node-start.node-start.ensures at-if2.if2.true _ c.gap_last.ensures.value,
+      c.gap_last.ensures.window_2,
+    )
+-- LEFT: wants record { value = ..; window_2 = .. }
+
+pub overflow_add-start : goal.overflow_add-start
+overflow_add-start c =
+    omega arith
+
+pub gap_last-last-requires : goal.gap_last-last-requires
+gap_last-last-requires c =
+    let turn = c.before.before.before.before.before.before in
+let start = turn.before.before.before.before in
+record {
+        count_in_bounds = (start.requires.0.1, omega (arith, start.requires.0.2, c.if-bound-start.false));
+        window = turn.loop.invariant.1
+    }
+
+pub node_end-from-requires : goal.node_end-from-requires
+node_end-from-requires c =
+    omega arith
+
+pub overflow_cast-from : goal.overflow_cast-from
+overflow_cast-from c =
+    omega arith
+
+pub block_depth-blocks-requires : goal.block_depth-blocks-requires
+block_depth-blocks-requires c =
+    omega arith
+
+pub warichu_depth-warichu-requires : goal.warichu_depth-warichu-requires
+warichu_depth-warichu-requires c =
+    omega arith
+
+pub overflow_add-i : goal.overflow_add-i
+overflow_add-i c =
+    omega arith
+
+pub loop-i-smaller : goal.loop-i-smaller
+loop-i-smaller c =
+    omega arith
+
+pub loop-i-preserved : goal.loop-i-preserved
+loop-i-preserved c =
+    let at-gap-last2 = c.before.before.before.before.before in
+    let at-if2 = at-gap-last2.before.before in
+    let at-node-start = at-if2.before in
+    let at-if1 = at-node-start.before.before in
+    let turn = at-if1.before.before in (
+      last_walk_more turn.loop.invariant.0 at-if1.if1.true _ at-node-start.node-start.ensures at-if2.if2.false _ at-gap-last2.gap-last2.ensures.0 _
+          c.node_end-from.ensures _ _ c.block_depth-blocks.ensures c.warichu_depth-warichu.ensures,
+      at-gap-last2.gap-last2.ensures.1,
+      at-gap-last2.gap-last2.auto.1.1.1.1.1.1.1.1.0 ∙ turn.loop.invariant.2,
+    )
+
+pub overflow_add-bound-2 : goal.overflow_add-bound-2
+overflow_add-bound-2 c =
+    omega arith
+
+pub gap_last-requires-2 : goal.gap_last-requires-2
+gap_last-requires-2 c =
+    let turn = c.before.before.before in
+let start = turn.before.before.before.before in
+record {
+        count_in_bounds = (start.requires.0.1, omega (arith, start.requires.0.2));
+        window = turn.loop.invariant.1
+    }
+
+pub shape_of-words : goal.shape_of-words
+shape_of-words c =
+    let turn = c.before.before.before.before.before.before in
+    c.gap_last-2.auto.words ∙ turn.loop.invariant.2
+
+pub returns : goal.returns
+returns c =
+    let at-if1 = c.before.before.before.before in
+let turn = at-if1.before.before in
+record {
+        value = last_walk_done turn.loop.invariant.0 at-if1.if1.false _ c.gap_last-2.ensures.value;
+        window_2 = c.gap_last-2.ensures.window_2
+    }

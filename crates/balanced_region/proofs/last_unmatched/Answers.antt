@@ -1,0 +1,11 @@
+use Rattle.balanced_region.specs.Unmatched.{unmatched_here, unmatched_before}
+use borrow.Author.Rules.{rules}
+use Rattle.balanced_region.proofs.last_unmatched.Goals as goal
+
+pub returns-then-is_unmatched : goal.returns-then-is_unmatched
+returns-then-is_unmatched c =
+    unmatched_here _ _ _ c.is_unmatched.ensures c.if-is_unmatched.true
+
+pub returns : goal.returns
+returns c =
+    unmatched_before _ _ _ c.is_unmatched.ensures c.if-is_unmatched.false

@@ -1,0 +1,22 @@
+use borrow.Author.Tests.{not-true, not-false}
+use Rattle.balanced_region.specs.EndSearch.{try_no_line, try_pair}
+use borrow.Author.Rules.{rules}
+use Rattle.balanced_region.proofs.next_try.Goals as goal
+
+pub returns-then-not-blank_line_before : goal.returns-then-not-blank_line_before
+returns-then-not-blank_line_before c =
+    let start = c.before.before.before.before.before in
+record {
+        value = try_no_line _ _ _ _ c.blank_line_before.ensures c.if-not-blank_line_before.true;
+        window_2 = start.requires.1
+    }
+
+pub returns : goal.returns
+returns c =
+    let at-reach-at = c.before.before.before in
+    let at-if1 = at-reach-at.before.before in
+    let at-blank-line-before = at-if1.before in (
+      try_pair _ _ _ _ at-blank-line-before.blank-line-before.ensures (not-false _ at-if1.if1.false) _ at-reach-at.reach-at.ensures.0 _ c.later.ensures,
+      at-reach-at.reach-at.ensures.1,
+    )
+-- LEFT: wants record { value = ..; window_2 = .. }

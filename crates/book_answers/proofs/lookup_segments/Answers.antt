@@ -1,0 +1,9 @@
+use Rattle.model.specs.Tape.{segment_codec}
+use Rattle.lookup.specs.Ranges.{range_shown}
+use Rattle.answers.specs.Answers.{range_told}
+use borrow.Author.Rules.{rules}
+use Rattle.book_answers.proofs.lookup_segments.Goals as goal
+
+pub returns : goal.returns
+returns c =
+    range_told _ _ _ _ _ c.range_answer.ensures (range_shown segment_codec _) c.lookup_segments.ensures

@@ -1,0 +1,8 @@
+use Rattle.model.specs.WellFormed.{container_ok}
+use mathlib.Core.Path.{ap, ◌∙◌}
+use borrow.Author.Rules.{rules}
+use Rattle.bounds.proofs.container_placed.Goals as goal
+
+pub returns : goal.returns
+returns c =
+    c.container_ok.ensures ∙ ap (container_ok c.args.size) c.container_at.ensures

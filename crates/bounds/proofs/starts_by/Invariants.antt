@@ -1,0 +1,11 @@
+use Rattle.bounds.specs.Search.{start_of, Split, split_start, split_up, split_down, in_order_sorted}
+use mathlib.Core.Path.{◌≡◌}
+use Prim.Native.Nat.{◌-◌}
+use native.Mathlib.Omega.{arith}
+use Rattle.bounds.proofs.starts_by.Given as goal
+
+abbrev pub invariant-loop-lo : goal.invariant-loop-lo
+invariant-loop-lo l = Split (start_of l.tape l.at) l.count l.offset l.lo l.hi
+
+abbrev pub decreases-loop-lo : goal.decreases-loop-lo
+decreases-loop-lo l = l.hi - l.lo

@@ -1,0 +1,16 @@
+use Rattle.cuts.specs.Window.{window_filled}
+use mathlib.Core.Path.{refl, ◌∙◌}
+use native.Mathlib.Omega.{arith}
+use lib.ListN.{length-take, length-drop}
+use borrow.Author.Rules.{rules}
+use Rattle.cuts.proofs.fill.Goals as goal
+
+pub returns : goal.returns
+returns c =
+    let at-put-bounds = c.before.before.before.before.before.before in
+    let start = at-put-bounds.before.before.before.before in
+    window_filled _ start.args.words.now _ _ _ _ (omega (arith, start.requires)) (c.fill_slots.auto.slots ∙ simp (length-take, length-drop) (omega (
+      arith,
+      at-put-bounds.put-bounds.auto.0,
+      start.requires,
+    ))) c.fill_slots.ensures _ _ at-put-bounds.put-bounds.ensures refl

@@ -1,0 +1,8 @@
+use Rattle.cuts.specs.Window.{reaches_of}
+use borrow.Author.Rules.{rules}
+use Rattle.cuts.proofs.fill_slots.Goals as goal
+
+pub returns : goal.returns
+returns c =
+    let at-note-pairs = c.before.before.before.before.before.before in
+    reaches_of _ _ _ at-note-pairs.note-pairs.ensures _ c.run_up.ensures

@@ -1,0 +1,64 @@
+use Rattle.cuts.specs.Window.{Noted, noted_start, noted_pairs, noted_all}
+use Rattle.cuts.specs.Pairs.{pairs_from}
+use mathlib.Core.Path.{◌≡◌, refl, ◌∙◌}
+use Prim.Native.Nat.{◌≤◌}
+use native.Mathlib.Omega.{arith}
+use lib.ListN.{length}
+use Rattle.cuts.proofs.note_pairs.Goals as goal
+
+pub zero_words-requires : goal.zero_words-requires
+zero_words-requires c =
+    omega arith
+
+pub loop-i-init : goal.loop-i-init
+loop-i-init c =
+    let start = c.before.before.before.before.before.before in
+    (omega arith, refl, noted_start _ _ _ (length start.args.slots.now) _ c.zero_words.ensures)
+
+pub overflow_sub-i : goal.overflow_sub-i
+overflow_sub-i c =
+    omega arith
+
+pub overflow_mul-p : goal.overflow_mul-p
+overflow_mul-p c =
+    omega arith
+
+pub overflow_add-p : goal.overflow_add-p
+overflow_add-p c =
+    omega arith
+
+pub pair_start-requires : goal.pair_start-requires
+pair_start-requires c =
+    omega arith
+
+pub pair_end-requires : goal.pair_end-requires
+pair_end-requires c =
+    omega arith
+
+pub note-requires : goal.note-requires
+note-requires c =
+    omega arith
+
+pub loop-i-smaller : goal.loop-i-smaller
+loop-i-smaller c =
+    omega arith
+
+pub loop-i-preserved : goal.loop-i-preserved
+loop-i-preserved c =
+    let at-pair-end = c.before.before.before in
+    let at-pair-start = at-pair-end.before in
+    let at-loop-test = at-pair-start.before.before.before in
+    let turn = at-loop-test.before in (
+      omega arith,
+      omega (arith, c.note.auto.slots, turn.loop.invariant.1),
+      noted_pairs _ _ _ _ _ _ turn.loop.invariant.2 turn.loop.invariant.0 _ refl
+          at-loop-test.loop-test.true _ _ at-pair-start.pair-start.ensures at-pair-end.pair-end.ensures c.note.ensures,
+    )
+
+pub shape_of-slots : goal.shape_of-slots
+shape_of-slots c =
+    c.loop-i.invariant.1 ∙ c.zero_words.auto.out
+
+pub returns : goal.returns
+returns c =
+    noted_all _ _ _ _ _ (omega arith) c.loop-i.invariant.2

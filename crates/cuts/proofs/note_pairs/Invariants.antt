@@ -1,0 +1,13 @@
+use Rattle.cuts.specs.Window.{Noted, noted_start, noted_pairs, noted_all}
+use Rattle.cuts.specs.Pairs.{pairs_from}
+use mathlib.Core.Path.{◌≡◌, refl, ◌∙◌}
+use Prim.Native.Nat.{◌≤◌}
+use native.Mathlib.Omega.{arith}
+use lib.ListN.{length}
+use Rattle.cuts.proofs.note_pairs.Given as goal
+
+abbrev pub invariant-loop-i : goal.invariant-loop-i
+invariant-loop-i l = (l.i ≤ l.pairs.count) × (length l.slots ≡ length l.initial.slots) × Noted (pairs_from l.tape l.pairs l.i) l.from l.slots
+
+abbrev pub decreases-loop-i : goal.decreases-loop-i
+decreases-loop-i l = l.i

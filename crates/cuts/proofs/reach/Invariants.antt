@@ -1,0 +1,11 @@
+use Rattle.cuts.specs.Pairs.{reach, pairs_from, reach_all, reach_none, reach_more}
+use mathlib.Core.Path.{◌≡◌, refl}
+use Prim.Native.Nat.{◌≤◌}
+use native.Mathlib.Omega.{arith}
+use Rattle.cuts.proofs.reach.Given as goal
+
+abbrev pub invariant-loop-i : goal.invariant-loop-i
+invariant-loop-i l = (l.i ≤ l.pairs.count) × (l.far ≡ reach (pairs_from l.tape l.pairs l.i) l.o)
+
+abbrev pub decreases-loop-i : goal.decreases-loop-i
+decreases-loop-i l = l.i

@@ -1,0 +1,18 @@
+use Rattle.dependency.specs.Compared.{plain_some, plain_none}
+use Rattle.std.proofs.Common.{rules}
+use Rattle.dependency.proofs.is_plain.Goals as goal
+
+pub is_string-requires : goal.is_string-requires
+is_string-requires c =
+    record {
+        resolvable = c.requires.resolvable;
+        id_lt_strings = c.requires.plain_in.inside _ c.p-1.given.1
+    }
+
+pub returns-in-Id : goal.returns-in-Id
+returns-in-Id c =
+    plain_some _ _ _ _ c.p-1.given.1 c.is_string.ensures
+
+pub returns-in-Nothing : goal.returns-in-Nothing
+returns-in-Nothing c =
+    plain_none _ _ _ c.enum_told-1.given.1

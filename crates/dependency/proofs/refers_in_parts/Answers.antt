@@ -1,0 +1,107 @@
+use Rattle.dependency.specs.Noted.{first_words}
+use Rattle.ruby_formats.specs.Sound.{sound_index}
+use Rattle.dependency.specs.Pieces.{sound_piece}
+use Rattle.dependency.specs.Parts.{refers_among, parts_none, parts_more, parts_found, parts_all}
+use Rattle.strings.specs.Starts.{store_in}
+use Rattle.wire.specs.Loops.{Missed}
+use Rattle.std.proofs.Common.{◌≡◌, ◌+◌, ◌-◌, ◌≤◌, ◌++◌, length, refl, ◌∙◌, arith}
+use Rattle.dependency.proofs.refers_in_parts.Goals as goal
+
+pub overflow_sub-size : goal.overflow_sub-size
+overflow_sub-size c =
+    omega arith
+
+pub overflow_add-size : goal.overflow_add-size
+overflow_add-size c =
+    omega (arith, c.requires.sound.inside)
+
+pub loop-i-init : goal.loop-i-init
+loop-i-init c =
+    let start = c.before.before.before.before in (
+      omega arith,
+      refl,
+      refl,
+      parts_none (store_in start.args.tape.now (start.args.old.now ++ start.args.new.now)) start.args.from start.args.tape.now start.args.at start.args.count,
+      omega (arith, start.requires.1),
+    )
+
+pub overflow_sub-count : goal.overflow_sub-count
+overflow_sub-count c =
+    omega arith
+
+pub smaller-n-requires : goal.smaller-n-requires
+smaller-n-requires c =
+    tt
+
+pub overflow_mul-i : goal.overflow_mul-i
+overflow_mul-i c =
+    omega (arith, c.requires.sound.inside)
+
+pub overflow_add-at : goal.overflow_add-at
+overflow_add-at c =
+    omega (arith, c.requires.sound.inside)
+
+pub overflow_sub-count-in-loop-i : goal.overflow_sub-count-in-loop-i
+overflow_sub-count-in-loop-i c =
+    omega arith
+
+pub refers_to_part-requires : goal.refers_to_part-requires
+refers_to_part-requires c =
+    let turn = c.before.before.before in
+    let start = turn.before.before.before.before.before in (
+      sound_piece (sound_index turn.loop.invariant.2 start.requires.0) turn.loop.i _ (omega (arith, c.loop-i-test.true)),
+      (omega (arith, c.smaller-n.ensures), omega (arith, c.smaller-n.ensures, turn.loop.invariant.4, turn.loop.invariant.1)),
+    )
+-- LEFT: wants record { sound = ..; n_le_count = .. }
+
+pub shape_of-words-then-refers_to_part : goal.shape_of-words-then-refers_to_part
+shape_of-words-then-refers_to_part c =
+    let at-refers-to-part = c.before.before.before in
+    let turn = at-refers-to-part.before.before.before.before in
+    at-refers-to-part.refers-to-part.auto.1.1.0 ∙ turn.loop.invariant.1
+
+pub returns-then-refers_to_part : goal.returns-then-refers_to_part
+returns-then-refers_to_part c =
+    let at-refers-to-part = c.before.before.before in
+    let turn = at-refers-to-part.before.before.before.before in
+    let start = turn.before.before.before.before.before in
+    parts_found (store_in start.args.tape.now (start.args.old.now ++ start.args.new.now)) start.args.from start.args.tape.now
+    start.args.at start.args.count turn.loop.i _ turn.loop.invariant.0 at-refers-to-part.refers-to-part.ensures.0 c.if-refers_to_part.true
+
+pub overflow_add-i : goal.overflow_add-i
+overflow_add-i c =
+    let at-smaller = c.before.before.before.before.before in
+    let at-loop-test = at-smaller.before in
+    let turn = at-loop-test.before in
+    let start = turn.before.before.before.before.before in
+    omega (arith, at-smaller.smaller.ensures, turn.loop.invariant.0, at-loop-test.loop-test.true, start.requires.0.inside)
+
+pub loop-i-smaller : goal.loop-i-smaller
+loop-i-smaller c =
+    let at-smaller = c.before.before.before.before.before in
+    let at-loop-test = at-smaller.before in
+    omega (arith, at-smaller.smaller.ensures, at-loop-test.loop-test.true)
+
+pub loop-i-preserved : goal.loop-i-preserved
+loop-i-preserved c =
+    let at-refers-to-part = c.before.before.before in
+    let at-smaller = at-refers-to-part.before.before in
+    let turn = at-smaller.before.before in
+    let start = turn.before.before.before.before.before in (
+      omega (arith, at-smaller.smaller.ensures, turn.loop.invariant.0),
+      at-refers-to-part.refers-to-part.auto.1.1.0 ∙ turn.loop.invariant.1,
+      at-refers-to-part.refers-to-part.ensures.1 ∙ turn.loop.invariant.2,
+      parts_more (store_in start.args.tape.now (start.args.old.now ++ start.args.new.now)) start.args.from start.args.tape.now
+          start.args.at start.args.count turn.loop.i _ turn.loop.invariant.0 at-refers-to-part.refers-to-part.ensures.0 turn.loop.invariant.3 c.if-refers_to_part.false,
+      turn.loop.invariant.4,
+    )
+
+pub shape_of-words : goal.shape_of-words
+shape_of-words c =
+    c.loop-i.invariant.1
+
+pub returns : goal.returns
+returns c =
+    let start = c.before.before.before.before.before.before in
+    parts_all (store_in start.args.tape.now (start.args.old.now ++ start.args.new.now)) start.args.from start.args.tape.now
+    start.args.at start.args.count c.loop-i.i (omega (arith, c.loop-i.invariant.0, c.loop-i-test.false)) c.loop-i.invariant.3

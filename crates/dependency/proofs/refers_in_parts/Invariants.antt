@@ -1,0 +1,18 @@
+use Rattle.dependency.specs.Noted.{first_words}
+use Rattle.ruby_formats.specs.Sound.{sound_index}
+use Rattle.dependency.specs.Pieces.{sound_piece}
+use Rattle.dependency.specs.Parts.{refers_among, parts_none, parts_more, parts_found, parts_all}
+use Rattle.strings.specs.Starts.{store_in}
+use Rattle.wire.specs.Loops.{Missed}
+use Rattle.std.proofs.Common.{◌≡◌, ◌+◌, ◌-◌, ◌≤◌, ◌++◌, length, refl, ◌∙◌, arith}
+use Rattle.dependency.proofs.refers_in_parts.Given as goal
+
+abbrev pub invariant-loop-i : goal.invariant-loop-i
+invariant-loop-i l = (l.i ≤ l.count)
+    × (length l.words ≡ length l.initial.words)
+    × (first_words l.base l.words ≡ first_words l.base l.initial.words)
+    × Missed (refers_among (store_in l.tape (l.old ++ l.new)) l.from l.tape l.at l.i) l.count
+    × (l.base + l.size ≤ length l.initial.words)
+
+abbrev pub decreases-loop-i : goal.decreases-loop-i
+decreases-loop-i l = l.count - l.i

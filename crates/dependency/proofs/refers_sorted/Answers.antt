@@ -1,0 +1,11 @@
+use Rattle.ruby_formats.specs.Named.{sound_namings, namings_before}
+use Rattle.std.proofs.Common.{rules}
+use Rattle.dependency.proofs.refers_sorted.Goals as goal
+
+pub first_bases-a-requires : goal.first_bases-a-requires
+first_bases-a-requires c =
+    namings_before (sound_namings c.requires.sound) c.requires.n_le_count
+
+pub last_targets-z-requires : goal.last_targets-z-requires
+last_targets-z-requires c =
+    sound_namings c.requires.sound

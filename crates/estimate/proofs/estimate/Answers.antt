@@ -1,0 +1,9 @@
+use mathlib.Core.Path.{ap, ◌∙◌}
+use Rattle.model.specs.Bytes.{zeros}
+use borrow.Author.Rules.{rules}
+use Rattle.estimate.proofs.estimate.Goals as goal
+
+pub returns : goal.returns
+returns c =
+    let at-estimate-checked = c.before.before.before.before.before.before in
+    (at-estimate-checked.estimate-checked.ensures, c.zero_words.ensures ∙ ap zeros at-estimate-checked.estimate-checked.auto.1.1.1.1.1.1.1.0)

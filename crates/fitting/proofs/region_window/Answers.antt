@@ -1,0 +1,34 @@
+use lib.ListN.{length}
+use mathlib.Core.Path.{refl}
+use Rattle.model.specs.Region.{edit_of}
+use Rattle.fitting.specs.Window.{window_cuts, given_inside, start_small, end_small, normal_order}
+use Rattle.fitting.specs.Reading.{held_nodes, held_order}
+use Rattle.fitting.proofs.region_window.Goals as goal
+
+pub normalized_cut-nstart-requires : goal.normalized_cut-nstart-requires
+normalized_cut-nstart-requires c =
+    let start = c.before.before.before.before in
+record {
+        count_in_bounds = (held_nodes start.requires.held, held_order start.requires.held);
+        cut_bound = start_small start.requires refl
+    }
+
+pub normalized_cut-nend-requires : goal.normalized_cut-nend-requires
+normalized_cut-nend-requires c =
+    let start = c.before.before.before.before.before in
+record {
+        count_in_bounds = (held_nodes start.requires.held, held_order start.requires.held);
+        cut_bound = end_small start.requires refl
+    }
+
+pub window-requires : goal.window-requires
+unfolding edit_of
+window-requires c =
+    let start = c.before.before.before.before.before.before in
+    ((given_inside start.requires).edit, normal_order start.requires c.normalized_cut-nstart.ensures c.normalized_cut-nend.ensures)
+
+pub returns : goal.returns
+returns c =
+    let start = c.before.before.before.before.before.before.before in
+    window_cuts _ _ (length start.args.replacement.now) start.args.start start.args.end start.args.normalized c.window.ensures c.normalized_cut-nstart.ensures
+    c.normalized_cut-nend.ensures

@@ -1,0 +1,35 @@
+use Rattle.region.specs.Entry.{choose_store, choose_held}
+use Rattle.fitting.specs.Stages.{book_refused, edit_refused, edit_found}
+use borrow.Author.Rules.{rules}
+use Rattle.fitting.proofs.target_of.Goals as goal
+
+pub returns-then-b-ne0 : goal.returns-then-b-ne0
+returns-then-b-ne0 c =
+    book_refused _ _ c.checked_book-b.ensures.0 c.if-b-ne0.true _ c.no_target.ensures
+
+pub store_of-st-requires : goal.store_of-st-requires
+store_of-st-requires c =
+    let at-if1 = c.before in
+    let book = at-if1.before.before.checked_book.ensures in
+    choose_store _ _ book.0 at-if1.if1.false (book.1 at-if1.if1.false)
+
+pub chosen_region-found-requires : goal.chosen_region-found-requires
+chosen_region-found-requires c =
+    let at-if1 = c.before.before.before in
+    let book = at-if1.before.before.checked_book.ensures in
+    choose_held _ _ book.0 at-if1.if1.false (book.1 at-if1.if1.false) c.store_of-st.ensures
+
+pub returns-in-Refused : goal.returns-in-Refused
+returns-in-Refused c =
+    let at-chosen-region = c.before.before.before.before.before.before in
+    let at-if1 = at-chosen-region.before.before.before.before in
+    let book = at-if1.before.before.checked_book.ensures in
+    edit_refused _ _ book.0 at-if1.if1.false _ at-chosen-region.chosen_region_lem.ensures c.found-1.given.1 c.no_target-in-Refused.ensures
+
+pub returns-in-Region : goal.returns-in-Region
+returns-in-Region c =
+    let at-chosen-region = c.before.before.before.before.before in
+    let at-store-of = at-chosen-region.before.before in
+    let at-if1 = at-store-of.before.before in
+    let book = at-if1.before.before.checked_book.ensures in
+    edit_found _ _ book.0 at-if1.if1.false _ at-chosen-region.chosen_region_lem.ensures c.found-in-Region-1.given.1 (book.1 at-if1.if1.false) at-store-of.store_of_lem.ensures

@@ -1,0 +1,16 @@
+use Rattle.graft.specs.Inner.{wide_room, segments_exact}
+use Rattle.sizes.specs.Capped.{kept_none}
+use Rattle.sizes.specs.InPlace.{inner_adds, segments_add}
+use Rattle.graft.proofs.inner_segments.Goals as goal
+
+pub segments_sizes-inner-requires : goal.segments_sizes-inner-requires
+segments_sizes-inner-requires c =
+    record {
+        of_tape = c.requires.of_tape;
+        kept = kept_none wide_room;
+        count_in_bounds = c.requires.count_in_bounds
+    }
+
+pub returns : goal.returns
+returns c =
+    segments_exact (segments_add (inner_adds c.args.level c.args.tape.now c.args.st) c.args.tape.now c.args.at c.args.count) c.requires.count_bound c.requires.count_bound.1 c.segments_sizes-inner.result c.segments_sizes-inner.ensures

@@ -1,0 +1,30 @@
+use Rattle.strings.specs.Starts.{lengths_in}
+use Rattle.strings.specs.Shown.{span_of_start}
+use Rattle.graft.specs.Strings.{header_inside, from_small_lem, source_readable}
+use native.Mathlib.Omega.{arith}
+use borrow.Author.Rules.{rules}
+use Rattle.graft.proofs.string_from.Goals as goal
+
+pub string_start-start-requires : goal.string_start-start-requires
+string_start-start-requires c =
+    record {
+        readable = source_readable c.args.tape.now c.args.bytes.now c.args.st c.requires.source (omega arith);
+        indexed = c.requires.indexed;
+        id_lt_strings = c.requires.id_lt_strings
+    }
+
+pub u32_at-text-requires : goal.u32_at-text-requires
+u32_at-text-requires c =
+    omega (arith, header_inside c.args.tape.now c.args.bytes.now c.args.st c.requires.source)
+
+pub u32_at-normalized-requires : goal.u32_at-normalized-requires
+u32_at-normalized-requires c =
+    omega (arith, header_inside c.args.tape.now c.args.bytes.now c.args.st c.requires.source)
+
+pub overflow_add-result-2 : goal.overflow_add-result-2
+overflow_add-result-2 c =
+    omega (arith, c.u32_at-text.ensures, c.u32_at-normalized.ensures, span_of_start (lengths_in c.args.tape.now) c.args.id c.string_start-start.ensures, from_small_lem c.args.tape.now c.args.bytes.now c.args.st c.requires.source c.args.id c.requires.id_lt_strings)
+
+pub returns : goal.returns
+returns c =
+    omega (arith, c.u32_at-text.ensures, c.u32_at-normalized.ensures, span_of_start (lengths_in c.args.tape.now) c.args.id c.string_start-start.ensures)

@@ -1,0 +1,15 @@
+use Rattle.model.specs.Tape.{content_codec}
+use Rattle.wire.specs.Loops.{Passed, passed_none}
+use Rattle.records.specs.Runs.{test_at, run_more, run_failed, run_passed}
+use Rattle.ids.specs.Tests.{content_in, shown_content}
+use borrow.Author.Tests.{not-true, not-false}
+use mathlib.Core.Path.{refl, ◌∙◌}
+use native.Mathlib.Omega.{arith}
+use Prim.Native.Nat.{◌-◌, ◌≤◌}
+use Rattle.ids.proofs.contents_ids_ok.Given as goal
+
+abbrev pub invariant-loop-i : goal.invariant-loop-i
+invariant-loop-i l = (l.i ≤ l.count) × Passed (test_at content_codec (content_in l.st) l.tape l.at) l.i
+
+abbrev pub decreases-loop-i : goal.decreases-loop-i
+decreases-loop-i l = l.count - l.i

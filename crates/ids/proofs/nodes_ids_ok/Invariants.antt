@@ -1,0 +1,15 @@
+use Rattle.model.specs.Tape.{node_codec}
+use Rattle.wire.specs.Loops.{Passed, passed_none}
+use Rattle.records.specs.Runs.{test_at, run_more, run_failed, run_passed}
+use Rattle.ids.specs.Tests.{node_in, shown_node_lem}
+use borrow.Author.Tests.{not-true, not-false}
+use mathlib.Core.Path.{refl, ◌∙◌}
+use native.Mathlib.Omega.{arith}
+use Prim.Native.Nat.{◌-◌, ◌≤◌}
+use Rattle.ids.proofs.nodes_ids_ok.Given as goal
+
+abbrev pub invariant-loop-i : goal.invariant-loop-i
+invariant-loop-i l = (l.i ≤ l.count) × Passed (test_at node_codec (node_in l.st) l.tape l.at) l.i
+
+abbrev pub decreases-loop-i : goal.decreases-loop-i
+decreases-loop-i l = l.count - l.i

@@ -1,0 +1,13 @@
+use Rattle.ids.specs.Tests.{runs_failed, runs_passed}
+use borrow.Author.Tests.{not-true, not-false}
+use borrow.Author.Rules.{rules}
+use Rattle.ids.proofs.two_runs_ok.Goals as goal
+
+pub returns-then-not-range_ok : goal.returns-then-not-range_ok
+returns-then-not-range_ok c =
+    runs_failed _ _ _ _ c.body_word-base.ensures c.body_word-size.ensures c.range_ok.ensures c.if-not-range_ok.true
+
+pub returns : goal.returns
+returns c =
+    let first = c.before.before.before.before in
+    runs_passed _ _ _ _ first.before.before.body-word.ensures first.before.body-word2.ensures first.range-ok.ensures c.if-not-range_ok.false c.body_word-reading.ensures c.body_word-len.ensures c.range_ok-2.ensures

@@ -1,0 +1,6 @@
+use borrow.Author.Rules.{rules}
+use Rattle.ids.proofs.word_ok.Goals as goal
+
+pub returns : goal.returns
+returns c =
+    cc

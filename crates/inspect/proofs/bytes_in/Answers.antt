@@ -1,0 +1,10 @@
+use Rattle.inspect.specs.Answers.{bytes_part}
+use mathlib.Core.Path.{◌∙◌}
+use borrow.Author.Rules.{rules}
+use Rattle.inspect.proofs.bytes_in.Goals as goal
+
+pub returns : goal.returns
+returns c =
+    let at_wide = c.before.before.before in
+    let at-u32-or-zero = at_wide.before in
+    bytes_part _ (at_wide.wide.ensures ∙ at-u32-or-zero.u32-or-zero.ensures) (c.wide.ensures ∙ c.u32_or_zero-2.ensures) c.between.ensures

@@ -1,0 +1,8 @@
+use Rattle.inspect.specs.Answers.{tape_part}
+use mathlib.Core.Path.{◌∙◌}
+use borrow.Author.Rules.{rules}
+use Rattle.inspect.proofs.tape_in.Goals as goal
+
+pub returns : goal.returns
+returns c =
+    tape_part _ (c.wide.ensures ∙ c.u32_or_zero.ensures) c.between.ensures

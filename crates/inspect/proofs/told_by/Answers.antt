@@ -1,0 +1,14 @@
+use Rattle.inspect.specs.Answers.{told}
+use mathlib.Core.Path.{refl, ◌∙◌}
+use borrow.Author.Rules.{rules}
+use Rattle.inspect.proofs.told_by.Goals as goal
+
+pub returns-in-Refused : goal.returns-in-Refused
+unfolding told
+returns-in-Refused c =
+    c.refused.ensures ∙ rw c.x-1.given.1 refl
+
+pub returns-in-Region : goal.returns-in-Region
+unfolding told
+returns-in-Region c =
+    c.marked.ensures ∙ rw c.x-in-Region-1.given.1 refl

@@ -1,0 +1,12 @@
+use Rattle.interner.specs.Added.{alloced}
+use mathlib.Core.Path.{◌≡◌, refl, sym, ap, ◌∙◌}
+use mathlib.Core.List.{List, [], ◌∷◌, ◌++◌}
+use Prim.Native.Nat.{ℕ, zero, suc, ◌+◌, ◌-◌, ◌*◌, ◌%◌, ◌/◌, ◌^◌, ◌≤◌, ◌<◌}
+use native.Mathlib.Omega.{arith}
+use lib.ListN.{length, get_or, take, drop, set, replicate, length-set, length-take, length-drop, length-append, length-replicate}
+use borrow.Author.Rules.{rules}
+use Rattle.interner.proofs.alloc.Goals as goal
+
+pub returns : goal.returns
+returns c =
+    alloced c.args.work.now c.args.strs.now c.args.s.now c.args.st c.requires.good c.requires.count_bound.0 c.requires.count_bound.1 _ c.copy_at.ensures c.args.stats c.requires.counted c.put_start.ensures

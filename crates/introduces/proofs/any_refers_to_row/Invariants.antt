@@ -1,0 +1,18 @@
+use Rattle.records.specs.Runs.{test_at, run_missed, run_found, run_nowhere}
+use Rattle.wire.specs.Loops.{Missed, missed_none}
+use Rattle.ruby_formats.specs.Sound.{sound_before}
+use Rattle.model.specs.Tape.{node_codec}
+use Rattle.strings.specs.Starts.{store_in}
+use Rattle.introduces.specs.Rows.{refers_to_row}
+use mathlib.Core.Path.{refl}
+use mathlib.Core.List.{◌++◌}
+use Prim.Native.Nat.{◌-◌, ◌≤◌}
+use native.Mathlib.Omega.{arith}
+use Rattle.introduces.proofs.any_refers_to_row.Given as goal
+
+abbrev pub invariant-loop-i : goal.invariant-loop-i
+invariant-loop-i l = (l.i ≤ l.nodes)
+    × Missed (test_at node_codec (refers_to_row (store_in l.tape (l.old ++ l.new)) l.words l.base l.m (store_in l.reading (l.front ++ l.back))) l.reading l.place) l.i
+
+abbrev pub decreases-loop-i : goal.decreases-loop-i
+decreases-loop-i l = l.nodes - l.i

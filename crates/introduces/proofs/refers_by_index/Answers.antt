@@ -1,0 +1,101 @@
+use Rattle.introduces.specs.Words.{KeptIndexes, kept_none, kept_more}
+use Rattle.dependency.specs.Pieces.{sound_piece}
+use Rattle.introduces.specs.Pieces.{Unreferred, unreferred_none, unreferred_more, unreferred_all, referred_here}
+use Rattle.ruby_formats.specs.Sound.{sound_index}
+use Rattle.strings.specs.Starts.{store_in}
+use Rattle.model.specs.Tape.{records_at, node_codec}
+use mathlib.Core.Path.{◌∙◌}
+use mathlib.Core.List.{◌++◌}
+use Prim.Native.Nat.{◌+◌, ◌≤◌, ◌-◌}
+use native.Mathlib.Omega.{arith}
+use Rattle.introduces.proofs.refers_by_index.Goals as goal
+
+pub overflow_sub-size : goal.overflow_sub-size
+overflow_sub-size c =
+    omega (arith, c.requires.base_bound)
+
+pub overflow_add-size : goal.overflow_add-size
+overflow_add-size c =
+    let start = c.before.before.before.before.before.before.before in
+    omega (arith, start.requires.0, start.well_formed_lem)
+
+pub loop-i-init : goal.loop-i-init
+loop-i-init c =
+    let start = c.before.before.before.before.before.before.before in
+    (omega arith, kept_none _ _ _, unreferred_none _ _ _ _ _, omega (arith, start.requires.0))
+
+pub overflow_sub-count : goal.overflow_sub-count
+overflow_sub-count c =
+    omega (arith, c.loop-i-test.true)
+
+pub fewer-n-requires : goal.fewer-n-requires
+fewer-n-requires c =
+    tt
+
+pub overflow_mul-i : goal.overflow_mul-i
+overflow_mul-i c =
+    let start = c.before.before.before.before.before.before.before.before.before.before.before in
+    omega (arith, start.requires.1.0.inside, c.loop-i-test.true)
+
+pub overflow_add-at : goal.overflow_add-at
+overflow_add-at c =
+    let start = c.before.before.before.before.before.before.before.before.before.before.before in
+    omega (arith, start.requires.1.0.inside, c.loop-i-test.true)
+
+pub refers_to_some-requires : goal.refers_to_some-requires
+refers_to_some-requires c =
+    let turn = c.before.before.before in
+    let start = turn.before.before.before.before.before.before.before.before in record {
+        count_bound = (omega (arith, c.fewer-n.ensures, turn.loop.invariant.3), omega (arith, turn.loop.invariant.1.size, start.requires.0.1));
+        sound = (
+        sound_piece (sound_index turn.loop.invariant.1.first start.requires.1.0) _ _ (omega
+            (arith, c.fewer-n.ensures, turn.loop.invariant.0)),
+        sound_index turn.loop.invariant.1.last start.requires.1.1,
+      );
+        sound_2 = 
+    }
+
+pub shape_of-words-then-refers_to_some : goal.shape_of-words-then-refers_to_some
+shape_of-words-then-refers_to_some c =
+    let at-refers-to-some = c.before.before.before in
+    let turn = at-refers-to-some.before.before.before.before in
+    at-refers-to-some.refers-to-some.ensures.1.size ∙ turn.loop.invariant.1.size
+
+pub returns-then-refers_to_some : goal.returns-then-refers_to_some
+returns-then-refers_to_some c =
+    let at-refers-to-some = c.before.before.before in
+    let at-fewer = at-refers-to-some.before.before in
+    let turn = at-fewer.before.before in
+    referred_here turn.loop.invariant.2 _ at-refers-to-some.refers-to-some.ensures.0 c.if-refers_to_some.true _ (omega (arith, at-fewer.fewer.ensures, turn.loop.invariant.0))
+
+pub overflow_add-i : goal.overflow_add-i
+overflow_add-i c =
+    let at-fewer = c.before.before.before.before.before in
+    let turn = at-fewer.before.before in
+    let start = turn.before.before.before.before.before.before.before.before in
+    omega (arith, at-fewer.fewer.ensures, turn.loop.invariant.0, start.requires.1.0.inside)
+
+pub loop-i-smaller : goal.loop-i-smaller
+loop-i-smaller c =
+    let at-fewer = c.before.before.before.before.before in
+    let at-loop-test = at-fewer.before in
+    omega (arith, at-fewer.fewer.ensures, at-loop-test.loop-test.true)
+
+pub loop-i-preserved : goal.loop-i-preserved
+loop-i-preserved c =
+    let at-refers-to-some = c.before.before.before in
+    let at-fewer = at-refers-to-some.before.before in
+    let turn = at-fewer.before.before in (
+      omega (arith, at-fewer.fewer.ensures, turn.loop.invariant.0),
+      kept_more turn.loop.invariant.1 at-refers-to-some.refers-to-some.ensures.1,
+      unreferred_more turn.loop.invariant.2 _ at-refers-to-some.refers-to-some.ensures.0 c.if-refers_to_some.false,
+      turn.loop.invariant.3,
+    )
+
+pub shape_of-words : goal.shape_of-words
+shape_of-words c =
+    c.loop-i.invariant.1.size
+
+pub returns : goal.returns
+returns c =
+    unreferred_all c.loop-i.invariant.2 _ (omega (arith, c.loop-i.invariant.0, c.loop-i-test.false))

@@ -1,0 +1,36 @@
+use borrow.Author.Tests.{not-true, not-false}
+use Rattle.ruby_formats.specs.Sound.{target_first, plain_inside}
+use Rattle.introduces.specs.Rows.{row_other, row_target}
+use borrow.Author.Rules.{rules}
+use Rattle.introduces.proofs.refers_to_row.Goals as goal
+
+pub returns-then-not-is_referenced_format : goal.returns-then-not-is_referenced_format
+returns-then-not-is_referenced_format c =
+    let start = c.before.before.before.before.before.before.before.before.before.before in
+    row_other _ _ _ _ start.requires.1.1 c.is_referenced_format.ensures c.if-not-is_referenced_format.true
+
+pub first_plain-p-requires : goal.first_plain-p-requires
+first_plain-p-requires c =
+    let start = c.before.before.before.before.before.before.before.before.before.before in
+record {
+        of_tape = start.requires.1.1.strings.sides.store;
+        at_in_bounds = start.requires.1.1.inside;
+        first_range = target_first start.requires.1.1 c.is_referenced_format.ensures c.if-not-is_referenced_format.false
+    }
+
+pub is_in_row-requires : goal.is_in_row-requires
+is_in_row-requires c =
+    let start = c.before.before.before.before.before.before.before.before.before.before.before in
+record {
+        resolvable = start.requires.0;
+        row = start.requires.1.0;
+        resolvable_2 = start.requires.1.1.strings;
+        plain_in = plain_inside start.requires.1.1 c.first_plain-p.ensures
+    }
+
+pub returns : goal.returns
+returns c =
+    let at-is-referenced-format = c.before.before.before in
+    let start = at-is-referenced-format.before.before.before.before.before.before.before.before.before in
+    row_target _ _ _ _ start.requires.1.1 at-is-referenced-format.is-referenced-format.ensures
+    c.if-not-is_referenced_format.false c.first_plain-p.ensures c.is_in_row.ensures

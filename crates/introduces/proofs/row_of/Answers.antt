@@ -1,0 +1,52 @@
+use Rattle.ruby_formats.specs.Sound.{sound_before, sound_index}
+use Rattle.model.specs.Tape.{records_at, node_codec}
+use Rattle.strings.specs.Starts.{store_in}
+use Rattle.sorted_ids.specs.Row.{first_words}
+use Rattle.dependency.specs.Rows.{Rowed, rowed_start}
+use mathlib.Core.Path.{◌≡◌, refl, ◌∙◌}
+use mathlib.Core.List.{◌++◌}
+use Prim.Native.Nat.{◌-◌, ◌≤◌, min}
+use lib.ListN.{length}
+use native.Mathlib.Omega.{arith}
+use Rattle.introduces.proofs.row_of.Goals as goal
+
+pub loop-i-init : goal.loop-i-init
+loop-i-init c =
+    (omega arith, refl, refl, omega arith, rowed_start _ _ _ _ _ _ _ (omega (arith, c.requires.count_in_bounds)))
+
+pub insert_first-m-requires : goal.insert_first-m-requires
+insert_first-m-requires c =
+    let turn = c.before.before in
+    let start = turn.before.before.before.before.before.before in record {
+        sound = sound_before (sound_index turn.loop.invariant.2 start.requires.0) (omega (arith, c.loop-i-test.true));
+        rowed = (turn.loop.invariant.4, (turn.loop.invariant.3, omega (arith, start.requires.1, turn.loop.invariant.1)));
+        m_le_i = 
+    }
+
+pub overflow_add-i : goal.overflow_add-i
+overflow_add-i c =
+    omega arith
+
+pub loop-i-smaller : goal.loop-i-smaller
+loop-i-smaller c =
+    omega arith
+
+pub loop-i-preserved : goal.loop-i-preserved
+loop-i-preserved c =
+    (
+  omega arith,
+  c.insert_first-m.auto.words ∙ c.loop-i.invariant.1,
+  c.insert_first-m.ensures.0 ∙ c.loop-i.invariant.2,
+  c.insert_first-m.ensures.1,
+  c.insert_first-m.ensures.2,
+)
+
+pub shape_of-words : goal.shape_of-words
+shape_of-words c =
+    c.loop-i.invariant.1
+
+pub returns : goal.returns
+returns c =
+    let start = c.before.before.before.before.before.before.before in
+    let e : min start.args.count c.loop-i.i ≡ start.args.count = omega arith in
+    (c.loop-i.invariant.2, rw e at c.loop-i.invariant.4)

@@ -1,0 +1,47 @@
+use Rattle.layer.specs.Answers.{tape_refused, walk_room, walk_refused, finish_room, layer_told}
+use Rattle.layer.specs.Walked.{WalkRoom, walked_by, source_sizes}
+use Rattle.layer.specs.Layered.{source_adds}
+use Rattle.layer.specs.Source.{source_few}
+use Rattle.graft.specs.declared.Plan.{Plan}
+use mathlib.Core.Path.{subst}
+use borrow.Author.Tests.{not-true, not-false}
+use mathlib.Core.Path.{◌≡◌, refl, sym, ap, ◌∙◌}
+use mathlib.Core.List.{List, [], ◌∷◌, ◌++◌}
+use Prim.Native.Nat.{ℕ, zero, suc, ◌+◌, ◌-◌, ◌*◌, ◌%◌, ◌/◌, ◌^◌, ◌≤◌, ◌<◌}
+use native.Mathlib.Omega.{arith}
+use lib.ListN.{length, get_or, take, drop, set, replicate, length-set, length-take, length-drop, length-append, length-replicate}
+use borrow.Author.Rules.{rules}
+use Rattle.layer.proofs.graft_by.Goals as goal
+
+pub nodes_length-rest-requires : goal.nodes_length-rest-requires
+nodes_length-rest-requires c =
+    source_few c.requires.source_fits.0
+
+pub overflow_add-len : goal.overflow_add-len
+overflow_add-len c =
+    omega (arith, c.layer_length-len.ensures, c.nodes_length-rest.ensures, source_few c.requires.source_fits.0, c.requires.source_fits.2.contents, c.requires.source_fits.2.segments, c.requires.source_fits.2.contents_fit, c.requires.source_fits.2.segments_fit)
+
+pub returns-then-out-at : goal.returns-then-out-at
+returns-then-out-at c =
+    tape_refused c.args.out.now c.args.strs.now c.args.at c.args.base c.args.o c.requires.source_fits.1 _ (source_sizes c.requires.source_fits.0 c.args.o) c.requires.source_fits.2 c.layer_length-len.result c.nodes_length-rest.result c.layer_length-len.ensures c.nodes_length-rest.ensures c.if-out-at.true c.refused.ensures
+
+pub walk-m-requires : goal.walk-m-requires
+walk-m-requires c =
+    record {
+        source_fits = c.requires.source_fits.0;
+        walk_room = subst (λ (v : Plan). WalkRoom v (c.args.at + c.layer_length-len.result) c.args.p.nodes.count (length c.args.out.now) (source_adds c.args.tape.now c.args.bytes.now)) (sym c.plan_of-plan.ensures) (walk_room c.args.out.now c.args.strs.now c.args.at c.args.base c.args.o c.requires.source_fits.1 _ (source_sizes c.requires.source_fits.0 c.args.o) c.requires.source_fits.2 c.layer_length-len.result c.nodes_length-rest.result c.layer_length-len.ensures c.nodes_length-rest.ensures (omega (arith, c.if-out-at.false, c.requires.min_work_words_in_bounds.2)) (omega (arith, c.well_formed.1.1.1.1.1.1.1.1.1.1.0)));
+        min_work_words_in_bounds = (c.requires.min_work_words_in_bounds, c.requires.min_work_words_in_bounds.1, c.requires.min_work_words_in_bounds.3)
+    }
+
+pub returns-then-not-m : goal.returns-then-not-m
+returns-then-not-m c =
+    let w = walked_by c.args.tape.now c.args.bytes.now c.args.o c.args.at c.args.s.contents c.plan_of-plan.ensures c.walk-m.ensures in walk_refused c.args.out.now c.args.strs.now c.args.at c.args.base c.args.o c.requires.source_fits.1 _ (source_sizes c.requires.source_fits.0 c.args.o) w.ok c.if-not-m.true c.refused-then-not-m.ensures
+
+pub finish-requires : goal.finish-requires
+finish-requires c =
+    let w = walked_by c.args.tape.now c.args.bytes.now c.args.o c.args.at c.args.s.contents c.plan_of-plan.ensures c.walk-m.ensures in finish_room c.args.out.now c.args.strs.now c.args.at c.args.base c.args.o c.requires.source_fits.1 _ (source_sizes c.requires.source_fits.0 c.args.o) c.requires.source_fits.2 c.layer_length-len.result c.nodes_length-rest.result c.layer_length-len.ensures c.nodes_length-rest.ensures (omega (arith, c.if-out-at.false, c.requires.min_work_words_in_bounds.2)) (w.made c.if-not-m.false) c.walk-m.auto.out
+-- LEFT: wants record { rising = ..; below_le_max_pool = .. }
+
+pub returns : goal.returns
+returns c =
+    let w = walked_by c.args.tape.now c.args.bytes.now c.args.o c.args.at c.args.s.contents c.plan_of-plan.ensures c.walk-m.ensures in layer_told c.args.out.now c.args.strs.now c.args.at c.args.base c.args.o c.requires.source_fits.1 _ (source_sizes c.requires.source_fits.0 c.args.o) c.requires.source_fits.2 c.layer_length-len.result c.nodes_length-rest.result c.layer_length-len.ensures c.nodes_length-rest.ensures (omega (arith, c.if-out-at.false, c.requires.min_work_words_in_bounds.2)) (w.made c.if-not-m.false) c.walk-m.auto.out c.finish.ensures (sym w.ok ∙ c.if-not-m.false)

@@ -1,0 +1,17 @@
+use Rattle.layer.specs.Paired.{before_length, unpaired}
+use native.Mathlib.Omega.{arith}
+use Rattle.layer.specs.Source.{source_of}
+use borrow.Author.Rules.{rules}
+use Rattle.layer.proofs.graft_sized.Goals as goal
+
+pub any_long-requires : goal.any_long-requires
+any_long-requires c =
+    (source_of c.requires.source_fits.0).fit
+
+pub graft_by-requires : goal.graft_by-requires
+graft_by-requires c =
+    let s = c.before.before.before.before.before.before.before.before.before.before.before in
+record {
+        source_fits = s.requires.0;
+        min_work_words_in_bounds = (omega (arith, before_length s.args.work.now s.requires.1.0), s.requires.1.1, s.requires.1.2, unpaired s.args.work.now s.requires.1.0)
+    }

@@ -1,0 +1,11 @@
+use Rattle.layout.specs.Shaped.{Shaping, shaping_none, shaping_inside, shaping_runs, shaping_failed, shaping_more, shaping_all}
+use borrow.Author.Tests.{not-true, not-false}
+use Prim.Native.Nat.{◌-◌, ◌≤◌}
+use native.Mathlib.Omega.{arith}
+use Rattle.layout.proofs.layers_shaped.Given as goal
+
+abbrev pub invariant-loop-i : goal.invariant-loop-i
+invariant-loop-i l = (l.i ≤ l.layers) × Shaping l.tape l.i l.at
+
+abbrev pub decreases-loop-i : goal.decreases-loop-i
+decreases-loop-i l = l.layers - l.i

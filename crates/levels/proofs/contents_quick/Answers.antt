@@ -1,0 +1,58 @@
+use mathlib.Core.Path.{sym}
+use mathlib.Core.Bool.{true, false, false≢true}
+use borrow.Author.Tests.{not-false}
+use Rattle.levels.specs.Below.{contents_none, contents_read, contents_fit_lem}
+use Rattle.levels.proofs.contents_quick.Goals as goal
+
+pub returns-then-len-gt16 : goal.returns-then-len-gt16
+returns-then-len-gt16 c =
+    λ e. absurd (false≢true e)
+
+pub contents_in-requires : goal.contents_in-requires
+contents_in-requires c =
+    c.requires.few
+
+pub returns-then-not-contents_in : goal.returns-then-not-contents_in
+returns-then-not-contents_in c =
+    λ e. absurd (false≢true e)
+
+pub returns-then-len-eq0 : goal.returns-then-len-eq0
+returns-then-len-eq0 c =
+    let start = c.before.before.before.before.before in
+    let contents-in = c.contents_in in
+    let t = start.args.tape.now in
+    let st = start.args.st in
+    let level = start.args.level in
+    let from = start.args.start in
+    let len = start.args.len in
+    λ e. sym (contents_none t st level from len contents-in.ensures c.if-not-contents_in.false c.if-len-eq0.true)
+
+pub content_place-at-requires : goal.content_place-at-requires
+content_place-at-requires c =
+    c.requires.few
+
+pub run_quick-requires : goal.run_quick-requires
+run_quick-requires c =
+    let start = c.before.before.before.before.before.before in
+let contents-in = c.contents_in in
+let t = start.args.tape.now in
+let st = start.args.st in
+let level = start.args.level in
+let from = start.args.start in
+let len = start.args.len in
+record {
+        of_tape = start.requires;
+        count_in_bounds = contents_fit_lem t st level from len start.requires contents-in.ensures c.if-not-contents_in.false c.if-len-eq0.false _ c.content_place-at.ensures
+    }
+
+pub returns : goal.returns
+returns c =
+    let start = c.before.before.before.before.before.before.before in
+    let contents-in = c.contents_in in
+    let if2 = c.if-not-contents_in in
+    let t = start.args.tape.now in
+    let st = start.args.st in
+    let level = start.args.level in
+    let from = start.args.start in
+    let len = start.args.len in
+    λ e. sym (contents_read t st level from len contents-in.ensures (not-false _ if2.false) _ c.content_place-at.ensures (sym (c.run_quick.ensures e)))

@@ -1,0 +1,59 @@
+use Rattle.levels.specs.Whole.{no_segments, walked_none, walked_inside, walked_fits, walked_more, walked_all}
+use mathlib.Core.Path.{refl, sym}
+use native.Mathlib.Omega.{arith}
+use borrow.Author.Tests.{not-false}
+use Rattle.levels.proofs.levels_ok.Goals as goal
+
+pub returns-then-st-eq0 : goal.returns-then-st-eq0
+returns-then-st-eq0 c =
+    no_segments c.requires.of_tape c.if-st-eq0.true
+
+pub returns-then-layers-eq0 : goal.returns-then-layers-eq0
+returns-then-layers-eq0 c =
+    walked_all (walked_none _ _) c.requires.layers_value (omega (arith, c.if-layers-eq0.true))
+
+pub next_layer-l-requires : goal.next_layer-l-requires
+next_layer-l-requires c =
+    walked_inside (walked_none _ c.args.st) c.requires.layers_value (omega (arith, c.if-layers-eq0.false))
+
+pub run_levels_quick-requires : goal.run_levels_quick-requires
+run_levels_quick-requires c =
+    let start = c.before.before.before.before.before in
+record {
+        of_tape = start.requires.0;
+        count_in_bounds = walked_fits (walked_none _ _) start.requires.1 (omega (arith, c.if-layers-eq0.false)) c.next_layer-l.ensures start.requires.0
+    }
+
+pub levels_tabled-requires : goal.levels_tabled-requires
+levels_tabled-requires c =
+    c.requires
+-- LEFT: wants record { of_tape = ..; layers_value = .. }
+
+pub returns-then-not-run_levels_quick : goal.returns-then-not-run_levels_quick
+returns-then-not-run_levels_quick c =
+    c.levels_tabled.ensures
+
+pub levels_quick-requires : goal.levels_quick-requires
+levels_quick-requires c =
+    let start = c.before.before.before.before.before.before.before in
+let if2 = c.if-layers-eq0 in
+let passed = c.run_levels_quick.ensures c.if-not-run_levels_quick.false in
+let first = walked_more (walked_none _ _) start.requires.1 (omega (arith, if2.false)) c.next_layer-l.ensures (sym passed) refl in
+record {
+        of_tape = start.requires.0;
+        layers_value = start.requires.1;
+        le_layers = (omega (arith, if2.false), first)
+    }
+
+pub returns-then-levels_quick : goal.returns-then-levels_quick
+returns-then-levels_quick c =
+    sym (c.levels_quick.ensures c.if-levels_quick.true)
+
+pub levels_tabled-requires-2 : goal.levels_tabled-requires-2
+levels_tabled-requires-2 c =
+    c.requires
+-- LEFT: wants record { of_tape = ..; layers_value = .. }
+
+pub returns : goal.returns
+returns c =
+    c.levels_tabled-2.ensures

@@ -1,0 +1,16 @@
+use mathlib.Core.Path.{refl, sym}
+use mathlib.Core.Bool.{true, false, false≢true}
+use Prim.Native.Nat.{◌-◌, ◌≤◌}
+use native.Mathlib.Omega.{arith}
+use borrow.Author.Tests.{not-false}
+use Rattle.levels.specs.Below.{level_in}
+use Rattle.wire.specs.Loops.{Passed, passed_none}
+use Rattle.records.specs.Runs.{test_at, run_more, run_passed}
+use Rattle.model.specs.Tape.{segment_codec}
+use Rattle.levels.proofs.run_levels_quick.Given as goal
+
+abbrev pub invariant-loop-i : goal.invariant-loop-i
+invariant-loop-i l = (l.i ≤ l.count) × Passed (test_at segment_codec (level_in l.tape l.st) l.tape l.at) l.i
+
+abbrev pub decreases-loop-i : goal.decreases-loop-i
+decreases-loop-i l = l.count - l.i

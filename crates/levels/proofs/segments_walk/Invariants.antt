@@ -1,0 +1,15 @@
+use mathlib.Core.Path.{refl}
+use Prim.Native.Nat.{◌-◌, ◌≤◌}
+use native.Mathlib.Omega.{arith}
+use Rattle.levels.specs.Table.{walk_more}
+use Rattle.level_blocks.specs.Level.{below}
+use Rattle.wire.specs.Loops.{Passed, passed_none}
+use Rattle.records.specs.Runs.{test_at, run_failed, run_passed}
+use Rattle.model.specs.Tape.{segment_codec}
+use Rattle.levels.proofs.segments_walk.Given as goal
+
+abbrev pub invariant-loop-k : goal.invariant-loop-k
+invariant-loop-k l = (l.k ≤ l.len) × Passed (test_at segment_codec (below l.level) l.tape l.at) l.k
+
+abbrev pub decreases-loop-k : goal.decreases-loop-k
+decreases-loop-k l = l.len - l.k

@@ -1,0 +1,11 @@
+use mathlib.Core.Path.{◌≡◌}
+use Prim.Native.Nat.{◌+◌, ◌-◌, ◌*◌, ◌≤◌}
+use native.Mathlib.Omega.{arith}
+use Rattle.levels.specs.Table.{Block, segment_test, block_none, block_more, block_end}
+use Rattle.levels.proofs.top_of.Given as goal
+
+abbrev pub invariant-loop-i : goal.invariant-loop-i
+invariant-loop-i l = (16 * l.k ≤ l.i) × (l.i ≤ 16 * l.k + 16) × Block (segment_test l.tape l.st) l.st.totals.segments (16 * l.k) l.i l.m
+
+abbrev pub decreases-loop-i : goal.decreases-loop-i
+decreases-loop-i l = 16 * l.k + 16 - l.i

@@ -1,0 +1,7 @@
+use mathlib.Core.Path.{refl, ◌∙◌}
+use borrow.Author.Rules.{rules}
+use Rattle.listing.proofs.row_of.Goals as goal
+
+pub returns : goal.returns
+returns c =
+    c.row_for.ensures ∙ rw (c.byte_at.ensures, c.byte_at-2.ensures) refl

@@ -1,0 +1,9 @@
+use mathlib.Core.Path.{refl}
+use Rattle.lookup.specs.Asked.{node_found}
+use borrow.Author.Rules.{rules}
+use Rattle.lookup.proofs.node_found.Goals as goal
+
+pub returns-in-At : goal.returns-in-At
+unfolding node_found
+returns-in-At c =
+    rw c.f-1.given.1 refl

@@ -1,0 +1,10 @@
+use Rattle.merged_lists.specs.Sizes.{lists_end}
+use Prim.Native.Nat.{◌-◌}
+use native.Mathlib.Omega.{arith}
+use borrow.Author.Rules.{rules}
+use Rattle.merged_lists.proofs.lists_end.Goals as goal
+
+pub returns : goal.returns
+unfolding lists_end
+returns c =
+    omega (arith, c.total-nodes.ensures, c.total-pairs.ensures, c.total-containers.ensures, c.total-diagnostics.ensures)

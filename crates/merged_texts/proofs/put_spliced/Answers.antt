@@ -1,0 +1,8 @@
+use Rattle.merged_texts.specs.Writing.{splice_wrote}
+use Prim.Native.Nat.{◌-◌}
+use borrow.Author.Rules.{rules}
+use Rattle.merged_texts.proofs.put_spliced.Goals as goal
+
+pub returns : goal.returns
+returns c =
+    splice_wrote _ _ _ _ c.args.new.now c.args.old.now c.requires.start_le_end.0 c.requires.start_le_end.1 c.requires.end_in_bounds c.copy_at.ensures c.copy_at-2.ensures c.copy_at-3.ensures

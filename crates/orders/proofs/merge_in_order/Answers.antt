@@ -1,0 +1,16 @@
+use mathlib.Core.Path.{refl}
+use Rattle.orders.specs.Orders.{tape_head, bytes_head, in_order}
+use borrow.Author.Rules.{rules}
+use Rattle.orders.proofs.merge_in_order.Goals as goal
+
+pub slice_bounds-merge-end : goal.slice_bounds-merge-end
+slice_bounds-merge-end c =
+    (tape_head c.merge-first.ensures).0
+
+pub slice_bounds-merge-end-2 : goal.slice_bounds-merge-end-2
+slice_bounds-merge-end-2 c =
+    (bytes_head c.merge-first.ensures).0
+
+pub returns : goal.returns
+returns c =
+    in_order refl c.merge-first.ensures c.merge-second.ensures

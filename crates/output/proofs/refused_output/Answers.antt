@@ -1,0 +1,7 @@
+use mathlib.Core.Path.{refl}
+use borrow.Author.Rules.{rules}
+use Rattle.output.proofs.refused_output.Goals as goal
+
+pub returns : goal.returns
+returns c =
+    rw c.none.ensures refl

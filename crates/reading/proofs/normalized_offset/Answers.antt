@@ -1,0 +1,57 @@
+use Rattle.reading.specs.Until.{Summed, summed_none, summed_image, summed_span, summed_more, summed_sums, summed_offset}
+use Prim.Native.Nat.{◌-◌}
+use native.Mathlib.Omega.{arith}
+use Rattle.reading.proofs.normalized_offset.Goals as goal
+
+pub nodes_until-n-requires : goal.nodes_until-n-requires
+nodes_until-n-requires c =
+    c.requires
+-- LEFT: wants record { count_in_bounds = ..; in_order = .. }
+
+pub loop-i-init : goal.loop-i-init
+loop-i-init c =
+    summed_none _ _ _
+
+pub overflow_mul-p : goal.overflow_mul-p
+overflow_mul-p c =
+    omega (arith, c.nodes_until-n.ensures.within, c.requires.count_in_bounds, c.loop-i-test.true)
+
+pub overflow_add-p : goal.overflow_add-p
+overflow_add-p c =
+    omega (arith, c.nodes_until-n.ensures.within, c.requires.count_in_bounds, c.loop-i-test.true)
+
+pub image_length-images-requires : goal.image_length-images-requires
+image_length-images-requires c =
+    omega (arith, c.nodes_until-n.ensures.within, c.requires.count_in_bounds, c.loop-i-test.true)
+
+pub overflow_add-images : goal.overflow_add-images
+overflow_add-images c =
+    omega (arith, summed_image c.loop-i.invariant c.loop-i-test.true c.image_length-images.ensures, c.nodes_until-n.ensures.within, c.requires.count_in_bounds)
+
+pub span_length-spans-requires : goal.span_length-spans-requires
+span_length-spans-requires c =
+    omega (arith, c.nodes_until-n.ensures.within, c.requires.count_in_bounds, c.loop-i-test.true)
+
+pub overflow_add-spans : goal.overflow_add-spans
+overflow_add-spans c =
+    omega (arith, summed_span c.loop-i.invariant c.loop-i-test.true c.image_length-images.ensures c.span_length-spans.ensures c.requires.in_order c.nodes_until-n.ensures)
+
+pub overflow_add-i : goal.overflow_add-i
+overflow_add-i c =
+    omega arith
+
+pub loop-i-smaller : goal.loop-i-smaller
+loop-i-smaller c =
+    omega arith
+
+pub loop-i-preserved : goal.loop-i-preserved
+loop-i-preserved c =
+    summed_more c.loop-i.invariant c.loop-i-test.true c.image_length-images.ensures c.span_length-spans.ensures
+
+pub drifted-requires : goal.drifted-requires
+drifted-requires c =
+    let s = summed_sums c.loop-i.invariant (omega (arith, c.loop-i.invariant.within)) c.requires.in_order c.nodes_until-n.ensures in (omega (arith, s.0, c.nodes_until-n.ensures.within, c.requires.count_in_bounds), omega (arith, s.1))
+
+pub returns : goal.returns
+returns c =
+    summed_offset c.loop-i.invariant (omega (arith, c.loop-i.invariant.within)) c.nodes_until-n.ensures c.drifted.ensures

@@ -1,0 +1,10 @@
+use Rattle.reading.specs.Until.{Summed, summed_none, summed_image, summed_span, summed_more, summed_sums, summed_offset}
+use Prim.Native.Nat.{◌-◌}
+use native.Mathlib.Omega.{arith}
+use Rattle.reading.proofs.normalized_offset.Given as goal
+
+abbrev pub invariant-loop-i : goal.invariant-loop-i
+invariant-loop-i l = Summed l.tape l.at l.n l.i l.images l.spans
+
+abbrev pub decreases-loop-i : goal.decreases-loop-i
+decreases-loop-i l = l.n - l.i

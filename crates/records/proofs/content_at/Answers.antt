@@ -1,0 +1,9 @@
+use mathlib.Core.Path.{refl}
+use Rattle.model.specs.Tape.{record_at, operands_at, content_codec}
+use borrow.Author.Rules.{rules}
+use Rattle.records.proofs.content_at.Goals as goal
+
+pub returns : goal.returns
+unfolding record_at operands_at content_codec
+returns c =
+    rw (c.u32_at.ensures, c.u32_at-2.ensures) refl

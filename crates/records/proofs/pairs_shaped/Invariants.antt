@@ -1,0 +1,14 @@
+use Rattle.model.specs.Tape.{pair_shape, pair_codec}
+use Rattle.wire.specs.Loops.{Passed, passed_none}
+use Rattle.records.specs.Runs.{test_at, run_more, run_failed, run_passed}
+use borrow.Author.Tests.{not-true, not-false}
+use mathlib.Core.Path.{refl}
+use Prim.Native.Nat.{◌-◌, ◌≤◌}
+use native.Mathlib.Omega.{arith}
+use Rattle.records.proofs.pairs_shaped.Given as goal
+
+abbrev pub invariant-loop-i : goal.invariant-loop-i
+invariant-loop-i l = (l.i ≤ l.count) × Passed (test_at pair_codec pair_shape l.tape l.at) l.i
+
+abbrev pub decreases-loop-i : goal.decreases-loop-i
+decreases-loop-i l = l.count - l.i

@@ -1,0 +1,9 @@
+use Rattle.records.specs.Uses.{use_among, uses_right}
+use mathlib.Core.Path.{ap, ◌∙◌}
+use Prim.Native.Nat.{ℕ}
+use borrow.Author.Rules.{rules}
+use Rattle.records.proofs.word_use.Goals as goal
+
+pub returns : goal.returns
+returns c =
+    c.use_in.ensures ∙ ap (λ (u : ℕ). use_among u c.args.i) c.uses_of.ensures ∙ uses_right c.args.kind c.args.tag c.args.i c.requires

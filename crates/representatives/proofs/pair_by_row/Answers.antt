@@ -1,0 +1,31 @@
+use mathlib.Core.Path.{◌∙◌}
+use lib.ListN.{length}
+use native.Mathlib.Omega.{arith}
+use Rattle.sorted_ids.specs.Words.{first_length, resolvable_own}
+use Rattle.representatives.specs.Pairs.{pairs_zeros}
+use Rattle.representatives.specs.Ordered.{ordered_none}
+use borrow.Author.Rules.{rules}
+use Rattle.representatives.proofs.pair_by_row.Goals as goal
+
+pub pair_all-requires : goal.pair_all-requires
+pair_all-requires c =
+    let at-zero-words = c.before.before.before.before.before in
+    let at-index-strings = at-zero-words.before.before.before.before in
+    let start = at-index-strings.before.before.before.before.before.before.before in
+    let index = at-index-strings.index-strings in
+    let row = start.args.row.now in
+    let room = c.lesser-room.ensures in (
+      resolvable_own row 1024 (omega (arith, start.requires.1)) index.new.1.1.1.0 index.auto.1.1.1.0 start.requires.0 index.ensures,
+      (
+        (
+          first_length row 1024 (omega (arith, start.requires.1)) index.new.1.1.1.0 index.auto.1.1.1.0 ∙ start.requires.1.0,
+          omega (arith, room),
+          omega (arith, room, at-zero-words.zero-words.auto.0),
+        ),
+        (
+          rw at-zero-words.zero-words.ensures (pairs_zeros _ (length start.args.words.now)),
+          ordered_none (length start.args.words.now) at-zero-words.zero-words.ensures (omega (arith, start.requires.1)) 0,
+        ),
+      ),
+    )
+-- LEFT: wants record { resolvable = ..; row_len = ..; pairs = ..; ordered = .. }

@@ -1,0 +1,27 @@
+use Rattle.result.specs.Stages.{texts_sliced, texts_asked}
+use mathlib.Core.Path.{refl}
+use Prim.Native.Nat.{◌+◌, ◌/◌}
+use native.Mathlib.Omega.{arith}
+use borrow.Author.Rules.{rules}
+use Rattle.result.proofs.put_new_texts.Goals as goal
+
+pub slice_bounds-put_texts-end-3 : goal.slice_bounds-put_texts-end-3
+slice_bounds-put_texts-end-3 c =
+    omega (arith, c.requires.normalized_in_bounds.1)
+
+pub slice_bounds-put_texts-count-4 : goal.slice_bounds-put_texts-count-4
+slice_bounds-put_texts-count-4 c =
+    omega (arith, c.requires.normalized_in_bounds.0)
+
+pub slice_bounds-put_texts-start-4 : goal.slice_bounds-put_texts-start-4
+slice_bounds-put_texts-start-4 c =
+    omega (arith, c.requires.normalized_in_bounds.0)
+
+pub put_texts-requires : goal.put_texts-requires
+put_texts-requires c =
+    texts_asked c.args.p c.args.q c.args.start c.args.end c.args.replacement.now c.args.w.nstart c.args.w.nend c.args.bytes.now c.args.readingbytes.now _ c.requires.start_le_end c.requires.normalized_in_bounds.0 c.requires.normalized_in_bounds.1 c.requires.bytes_in_bounds
+-- LEFT: wants record { start_le_end = ..; strings_in_bounds = .. }
+
+pub returns : goal.returns
+returns c =
+    texts_sliced c.args.p c.args.q c.args.start c.args.end c.args.replacement.now c.args.w.nstart c.args.w.nend c.args.bytes.now c.args.readingbytes.now c.args.out.now c.args.p.text (c.args.p.text + c.args.p.normalized) c.args.q.text refl refl refl c.requires.normalized_in_bounds.0 c.put_texts.ensures

@@ -1,0 +1,47 @@
+use Rattle.ruby_formats.specs.Asks.{asks_at, count_to_last, last_here, last_before, last_none}
+use mathlib.Core.Path.{◌≡◌, refl, sym, ap, ◌∙◌}
+use native.Mathlib.Omega.{arith}
+use Prim.Native.Nat.{◌≤◌}
+use Rattle.ruby_formats.proofs.asked_nodes.Goals as goal
+
+pub loop-n-init : goal.loop-n-init
+loop-n-init c =
+    (omega arith, refl)
+
+pub overflow_sub-n : goal.overflow_sub-n
+overflow_sub-n c =
+    omega arith
+
+pub overflow_mul-n : goal.overflow_mul-n
+overflow_mul-n c =
+    omega arith
+
+pub overflow_add-at : goal.overflow_add-at
+overflow_add-at c =
+    omega arith
+
+pub asks_target-requires : goal.asks_target-requires
+asks_target-requires c =
+    omega arith
+
+pub returns-then-asks_target : goal.returns-then-asks_target
+unfolding asks_at
+returns-then-asks_target c =
+    last_here (asks_at c.args.from c.args.tape.now c.args.at) c.loop-n.n c.loop-n-test.true (sym c.asks_target.ensures ∙ c.if-asks_target.true) ∙ c.loop-n.invariant.1
+
+pub overflow_sub-n-in-loop-n : goal.overflow_sub-n-in-loop-n
+overflow_sub-n-in-loop-n c =
+    omega arith
+
+pub loop-n-smaller : goal.loop-n-smaller
+loop-n-smaller c =
+    omega arith
+
+pub loop-n-preserved : goal.loop-n-preserved
+unfolding asks_at
+loop-n-preserved c =
+    (omega arith, last_before (asks_at c.args.from c.args.tape.now c.args.at) c.loop-n.n c.loop-n-test.true (sym c.asks_target.ensures ∙ c.if-asks_target.false) ∙ c.loop-n.invariant.1)
+
+pub returns : goal.returns
+returns c =
+    let e : c.loop-n.n ≡ 0 = omega arith in last_none (asks_at c.args.from c.args.tape.now c.args.at) ∙ sym (ap (λ m. count_to_last m (asks_at c.args.from c.args.tape.now c.args.at)) e) ∙ c.loop-n.invariant.1

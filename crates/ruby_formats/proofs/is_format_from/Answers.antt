@@ -1,0 +1,12 @@
+use Rattle.ruby_formats.specs.Asks.{format_other, format_start}
+use borrow.Author.Tests.{not-true, not-false}
+use borrow.Author.Rules.{rules}
+use Rattle.ruby_formats.proofs.is_format_from.Goals as goal
+
+pub returns-then-not-is_referenced_format : goal.returns-then-not-is_referenced_format
+returns-then-not-is_referenced_format c =
+    format_other _ _ c.is_referenced_format.ensures c.if-not-is_referenced_format.true
+
+pub returns : goal.returns
+returns c =
+    format_start _ _ c.is_referenced_format.ensures c.if-not-is_referenced_format.false c.node_start.ensures

@@ -1,0 +1,7 @@
+use Rattle.sizes.specs.Plain.{plain_tag}
+use borrow.Author.Rules.{rules}
+use Rattle.sizes.proofs.is_plain.Goals as goal
+
+pub returns : goal.returns
+returns c =
+    plain_tag c.args.tape.now c.args.at

@@ -1,0 +1,20 @@
+use mathlib.Core.Path.{refl}
+use Rattle.sizes.specs.Known.{note_far, note_cut, note_put}
+use borrow.Author.Rules.{rules}
+use Rattle.sizes.proofs.note.Goals as goal
+
+pub returns-then-at-gt4294967295 : goal.returns-then-at-gt4294967295
+returns-then-at-gt4294967295 c =
+    note_far c.args.memo.now c.args.e c.args.at c.args.level c.args.before c.args.after c.if-at-gt4294967295.true
+
+pub returns-then-after-eq4294967295 : goal.returns-then-after-eq4294967295
+returns-then-after-eq4294967295 c =
+    let start = c.before.before.before.before in
+    note_cut start.args.memo.now start.args.e start.args.at start.args.level start.args.before start.args.after c.if-at-gt4294967295.false c.if-after-eq4294967295.true
+
+pub returns : goal.returns
+returns c =
+    let at-if2 = c.before.before.before.before.before.before.before.before.before.before in
+    let at-if1 = at-if2.before.before in
+    let start = at-if1.before.before in
+    note_put start.args.memo.now start.args.e start.args.at start.args.level start.args.before start.args.after at-if1.if1.false at-if2.if2.false _ refl c.put.ensures

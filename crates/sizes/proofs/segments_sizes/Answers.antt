@@ -1,0 +1,8 @@
+use Rattle.sizes.specs.Known.{known_none}
+use borrow.Author.Rules.{rules}
+use Rattle.sizes.proofs.segments_sizes.Goals as goal
+
+pub segments_walk-requires : goal.segments_walk-requires
+segments_walk-requires c =
+    ((c.requires.of_tape, known_none c.args.tape.now c.args.st 1), c.requires.1)
+-- LEFT: wants record { of_tape = ..; kept = ..; count_in_bounds = .. }

@@ -1,0 +1,8 @@
+use Rattle.memo.specs.Memo.{entry_in}
+use borrow.Author.Rules.{rules}
+use Rattle.sizes.proofs.with_entry.Goals as goal
+
+pub returns : goal.returns
+unfolding entry_in
+returns c =
+    c.with_added.ensures

@@ -1,0 +1,12 @@
+use Rattle.splice.specs.Parts.{part_before}
+use Rattle.model.specs.Merge.{container_located}
+use Rattle.model.specs.Tape.{records_at, container_codec}
+use Rattle.splice.specs.Window.{window_value}
+use mathlib.Core.Path.{ap, ◌∙◌}
+use lib.ListN.{length}
+use borrow.Author.Rules.{rules}
+use Rattle.splice.proofs.kept_before_containers.Goals as goal
+
+pub returns : goal.returns
+returns c =
+    c.count_containers.ensures ∙ ap length (part_before container_located (window_value c.args.w) (records_at container_codec c.args.tape.now c.args.at c.args.count))

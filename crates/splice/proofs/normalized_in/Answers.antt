@@ -1,0 +1,19 @@
+use Rattle.splice.specs.Window.{normalized_in}
+use mathlib.Core.Path.{refl}
+use borrow.Author.Rules.{rules}
+use Rattle.splice.proofs.normalized_in.Goals as goal
+
+pub returns-in-Before : goal.returns-in-Before
+unfolding normalized_in
+returns-in-Before c =
+    rw c.enum_told-1.given.1 refl
+
+pub returns-in-Reading : goal.returns-in-Reading
+unfolding normalized_in
+returns-in-Reading c =
+    rw c.enum_told-in-Reading-1.given.1 c.plus.ensures
+
+pub returns-in-Behind : goal.returns-in-Behind
+unfolding normalized_in
+returns-in-Behind c =
+    rw c.enum_told-in-Behind-1.given.1 c.moved_offset.ensures

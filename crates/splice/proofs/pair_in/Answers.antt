@@ -1,0 +1,9 @@
+use Rattle.splice.specs.Kinds.{pair_in}
+use Rattle.splice.specs.Window.{window_value}
+use mathlib.Core.Path.{sym, ◌∙◌}
+use borrow.Author.Rules.{rules}
+use Rattle.splice.proofs.pair_in.Goals as goal
+
+pub returns : goal.returns
+returns c =
+    c.row_in.ensures ∙ sym (pair_in (window_value c.args.w) c.args.part c.args.tape.now c.args.at)

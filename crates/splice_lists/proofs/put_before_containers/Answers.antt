@@ -1,0 +1,22 @@
+use Rattle.wire.specs.Overwrite.{overwrite}
+use Rattle.splice.specs.Counted.{before_room}
+use Rattle.splice.specs.Parts.{part_before}
+use Rattle.model.specs.Types.{ContainerPair}
+use Rattle.model.specs.Merge.{container_located}
+use Rattle.model.specs.Tape.{records_at, records_bytes, container_codec}
+use Rattle.splice.specs.Window.{window_value}
+use mathlib.Core.Path.{ap, ◌∙◌}
+use mathlib.Core.List.{List}
+use borrow.Author.Rules.{rules}
+use Rattle.splice_lists.proofs.put_before_containers.Goals as goal
+
+pub put_containers-requires : goal.put_containers-requires
+put_containers-requires c =
+    record {
+        count_in_bounds = c.requires.count_in_bounds;
+        count_in_bounds_2 = before_room container_located (window_value c.args.w) (records_at container_codec c.args.tape.now c.args.at c.args.count) c.args.to 13 _ c.requires.count_in_bounds_2
+    }
+
+pub returns : goal.returns
+returns c =
+    c.put_containers.ensures ∙ ap (λ (x : List ContainerPair). overwrite c.args.out.now c.args.to (records_bytes container_codec x)) (part_before container_located (window_value c.args.w) (records_at container_codec c.args.tape.now c.args.at c.args.count))

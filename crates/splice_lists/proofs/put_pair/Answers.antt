@@ -1,0 +1,9 @@
+use Rattle.splice.specs.Written.{pair_bytes_lem}
+use Rattle.wire.specs.Overwrite.{overwrite}
+use mathlib.Core.Path.{ap, ◌∙◌}
+use borrow.Author.Rules.{rules}
+use Rattle.splice_lists.proofs.put_pair.Goals as goal
+
+pub returns : goal.returns
+returns c =
+    c.put_four.ensures ∙ ap (overwrite c.args.out.now c.args.at) (pair_bytes_lem c.args.p.kind c.args.p.openstart c.args.p.openend c.args.p.closestart c.args.p.closeend)

@@ -1,0 +1,15 @@
+use Rattle.splice.specs.Kinds.{pair_kind}
+use Rattle.splice.specs.Parts.{PutUpTo, put_first, put_last, put_room, put_more}
+use Rattle.model.specs.Merge.{pair_located}
+use Rattle.model.specs.Tape.{pair_codec}
+use Rattle.splice.specs.Window.{window_value}
+use mathlib.Core.Path.{refl}
+use Prim.Native.Nat.{◌+◌, ◌-◌, ◌*◌, ◌≤◌}
+use native.Mathlib.Omega.{arith}
+use Rattle.splice_lists.proofs.put_pairs.Given as goal
+
+abbrev pub invariant-loop-i : goal.invariant-loop-i
+invariant-loop-i l = (l.i ≤ l.count) × PutUpTo pair_codec pair_located (window_value l.w) l.part l.tape l.at l.initial.out l.to l.i l.next l.out
+
+abbrev pub decreases-loop-i : goal.decreases-loop-i
+decreases-loop-i l = l.count - l.i

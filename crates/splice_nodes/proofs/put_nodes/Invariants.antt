@@ -1,0 +1,15 @@
+use Rattle.splice.specs.Kinds.{node_kind}
+use Rattle.splice.specs.Parts.{PutUpTo, put_first, put_last, put_room, put_more}
+use Rattle.model.specs.Merge.{node_located}
+use Rattle.model.specs.Tape.{node_codec}
+use Rattle.splice.specs.Window.{window_value}
+use mathlib.Core.Path.{refl}
+use Prim.Native.Nat.{◌+◌, ◌-◌, ◌*◌, ◌≤◌}
+use native.Mathlib.Omega.{arith}
+use Rattle.splice_nodes.proofs.put_nodes.Given as goal
+
+abbrev pub invariant-loop-i : goal.invariant-loop-i
+invariant-loop-i l = (l.i ≤ l.count) × PutUpTo node_codec node_located (window_value l.w) l.part l.tape l.at l.initial.out l.to l.i l.next l.out
+
+abbrev pub decreases-loop-i : goal.decreases-loop-i
+decreases-loop-i l = l.count - l.i

@@ -1,0 +1,56 @@
+use Rattle.store.specs.Stored.{Filling, filling_none, filling_inside, filling_fits, filling_more, filling_all}
+use Prim.Native.Nat.{◌-◌, ◌≤◌}
+use native.Mathlib.Omega.{arith}
+use Rattle.store.proofs.store_of.Goals as goal
+
+pub loop-i-init : goal.loop-i-init
+loop-i-init c =
+    (omega arith, filling_none _)
+
+pub next_layer-l-requires : goal.next_layer-l-requires
+next_layer-l-requires c =
+    filling_inside c.loop-i.invariant.1 c.requires c.loop-i-test.true
+
+pub offset_bounds-strings-i : goal.offset_bounds-strings-i
+offset_bounds-strings-i c =
+    omega (arith, c.requires.few)
+
+pub bounds-strings-i : goal.bounds-strings-i
+bounds-strings-i c =
+    omega (arith, c.requires.few)
+
+pub offset_bounds-contents-i : goal.offset_bounds-contents-i
+offset_bounds-contents-i c =
+    omega (arith, c.requires.few)
+
+pub bounds-contents-i : goal.bounds-contents-i
+bounds-contents-i c =
+    omega (arith, c.requires.few)
+
+pub offset_bounds-segments-i : goal.offset_bounds-segments-i
+offset_bounds-segments-i c =
+    omega (arith, c.requires.few)
+
+pub bounds-segments-i : goal.bounds-segments-i
+bounds-segments-i c =
+    omega (arith, c.requires.few)
+
+pub with_layer-totals-requires : goal.with_layer-totals-requires
+with_layer-totals-requires c =
+    filling_fits c.loop-i.invariant.1 c.requires c.loop-i-test.true c.next_layer-l.ensures
+
+pub overflow_add-i : goal.overflow_add-i
+overflow_add-i c =
+    omega arith
+
+pub loop-i-smaller : goal.loop-i-smaller
+loop-i-smaller c =
+    omega arith
+
+pub loop-i-preserved : goal.loop-i-preserved
+loop-i-preserved c =
+    (omega arith, filling_more c.loop-i.invariant.1 c.requires c.loop-i-test.true c.next_layer-l.ensures c.with_layer-totals.ensures)
+
+pub returns : goal.returns
+returns c =
+    filling_all c.loop-i.invariant.1 c.requires (omega arith)

@@ -1,0 +1,25 @@
+use Rattle.table.specs.Slots.{empty_first, empty_here, empty_on, empty_none}
+use Rattle.model.specs.Intern.{empty_slot}
+use mathlib.Core.Path.{◌≡◌, refl, sym, ap, ◌∙◌}
+use mathlib.Core.List.{List, [], ◌∷◌, ◌++◌}
+use Prim.Native.Nat.{ℕ, zero, suc, ◌+◌, ◌-◌, ◌*◌, ◌%◌, ◌/◌, ◌^◌, ◌≤◌, ◌<◌}
+use native.Mathlib.Omega.{arith}
+use borrow.Author.Rules.{rules}
+use lib.ListN.{length, get_or, take, drop, set, replicate, length-set, length-take, length-drop, length-append, length-replicate}
+use Rattle.table.proofs.empty_slot.Goals as goal
+
+pub loop-k-init : goal.loop-k-init
+loop-k-init c =
+    (omega arith, refl, c.requires, empty_first c.args.table.now _ _)
+
+pub returns-then-table-at-eq0 : goal.returns-then-table-at-eq0
+returns-then-table-at-eq0 c =
+    (sym (empty_here c.args.table.now _ _ _ c.loop-k-test.true c.if-table-at-eq0.true) ∙ c.loop-k.invariant.3, c.loop-k.invariant.2)
+
+pub loop-k-preserved : goal.loop-k-preserved
+loop-k-preserved c =
+    (omega arith, c.loop-k.invariant.1, c.next_slot-at.ensures.1, empty_on c.args.table.now _ _ _ c.loop-k-test.true c.next_slot-at.ensures.0 c.if-table-at-eq0.false ∙ c.loop-k.invariant.3)
+
+pub returns : goal.returns
+returns c =
+    (sym (empty_none c.args.table.now _ _ _ c.loop-k-test.false) ∙ c.loop-k.invariant.3, c.loop-k.invariant.2)

@@ -1,0 +1,38 @@
+use Rattle.table.specs.Slots.{turn_first, turn_empty, turn_hit, turn_on, turn_none}
+use Rattle.table.specs.Layout.{wide_words, strings_of}
+use Rattle.model.specs.Intern.{Probe, probe}
+use Rattle.model.specs.Lists.{same}
+use mathlib.Core.Path.{◌≡◌, refl, sym, ap, ◌∙◌}
+use mathlib.Core.List.{List, [], ◌∷◌, ◌++◌}
+use Prim.Native.Nat.{ℕ, zero, suc, ◌+◌, ◌-◌, ◌*◌, ◌%◌, ◌/◌, ◌^◌, ◌≤◌, ◌<◌}
+use native.Mathlib.Omega.{arith}
+use borrow.Author.Rules.{rules}
+use lib.ListN.{length, get_or, take, drop, set, replicate, length-set, length-take, length-drop, length-append, length-replicate}
+use Rattle.table.proofs.probe.Goals as goal
+
+pub loop-steps-init : goal.loop-steps-init
+loop-steps-init c =
+    (omega arith, refl, c.requires.from_in_bounds, turn_first (strings_of (wide_words c.args.starts.now) c.args.strs.now) c.args.s.now c.args.table.now _ _)
+
+pub returns-then-e-eq0 : goal.returns-then-e-eq0
+returns-then-e-eq0 c =
+    sym (turn_empty (strings_of (wide_words c.args.starts.now) c.args.strs.now) c.args.s.now c.args.table.now _ _ _ c.loop-steps-test.true c.if-e-eq0.true) ∙ c.loop-steps.invariant.3
+
+pub string_at-requires : goal.string_at-requires
+string_at-requires c =
+    record {
+        starts = c.requires.starts;
+        id_in_bounds = omega (arith, c.requires.entries c.loop-steps.at (omega arith))
+    }
+
+pub returns-then-same : goal.returns-then-same
+returns-then-same c =
+    sym (turn_hit (strings_of (wide_words c.args.starts.now) c.args.strs.now) c.args.s.now c.args.table.now _ _ _ c.loop-steps-test.true c.if-e-eq0.false (ap (λ (l : List ℕ). same l c.args.s.now) (sym c.string_at.ensures) ∙ sym c.same.ensures ∙ c.if-same.true)) ∙ c.loop-steps.invariant.3
+
+pub loop-steps-preserved : goal.loop-steps-preserved
+loop-steps-preserved c =
+    (omega arith, c.loop-steps.invariant.1, c.next_slot-at.ensures.1, turn_on (strings_of (wide_words c.args.starts.now) c.args.strs.now) c.args.s.now c.args.table.now _ _ _ c.loop-steps-test.true c.next_slot-at.ensures.0 c.if-e-eq0.false (ap (λ (l : List ℕ). same l c.args.s.now) (sym c.string_at.ensures) ∙ sym c.same.ensures ∙ c.if-same.false) ∙ c.loop-steps.invariant.3)
+
+pub returns : goal.returns
+returns c =
+    sym (turn_none (strings_of (wide_words c.args.starts.now) c.args.strs.now) c.args.s.now c.args.table.now _ _ _ c.loop-steps-test.false) ∙ c.loop-steps.invariant.3

@@ -1,0 +1,16 @@
+use Rattle.tape.specs.Placed.{fit_nodes, places_six, places_drift}
+use borrow.Author.Tests.{not-true, not-false}
+use borrow.Author.Rules.{rules}
+use Rattle.tape.proofs.places_refusal.Goals as goal
+
+pub returns-then-not-lists_placed : goal.returns-then-not-lists_placed
+returns-then-not-lists_placed c =
+    λ d f. places_six _ d f c.requires.is c.lists_placed.ensures c.if-not-lists_placed.true
+
+pub nodes_placed-d-requires : goal.nodes_placed-d-requires
+nodes_placed-d-requires c =
+    fit_nodes c.requires
+
+pub returns : goal.returns
+returns c =
+    λ d f. places_drift _ d f c.requires.is c.lists_placed.ensures c.if-not-lists_placed.false _ c.nodes_placed-d.ensures c.drift_refusal.ensures

@@ -1,0 +1,8 @@
+use Rattle.laws.specs.Utf8.{part_utf8}
+use mathlib.Core.Path.{◌∙◌}
+use borrow.Author.Rules.{rules}
+use Rattle.texts.proofs.part_utf8.Goals as goal
+
+pub returns : goal.returns
+returns c =
+    c.is_char_boundary.ensures ∙ part_utf8 _ _ _ c.requires.0 c.requires.1

@@ -1,0 +1,11 @@
+use Rattle.texts.specs.Strings.{StringsLeft, strings_none, strings_fit_lem, strings_bad, strings_more, strings_all}
+use Prim.Native.Nat.{◌-◌, ◌≤◌}
+use native.Mathlib.Omega.{arith}
+use borrow.Author.Tests.{not-true, not-false}
+use Rattle.texts.proofs.strings_end.Given as goal
+
+abbrev pub invariant-loop-i : goal.invariant-loop-i
+invariant-loop-i l = (l.i ≤ l.count) × StringsLeft l.tape l.at l.count l.bytes l.from l.i l.place
+
+abbrev pub decreases-loop-i : goal.decreases-loop-i
+decreases-loop-i l = l.count - l.i

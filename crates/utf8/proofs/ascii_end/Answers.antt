@@ -1,0 +1,39 @@
+use borrow.Author.Tests.{not-false}
+use Rattle.utf8.specs.Skips.{Skipped, skipped_none, skipped_more, skip_ascii, eight_ascii}
+use mathlib.Core.Path.{sym, ◌∙◌}
+use Prim.Native.Nat.{◌-◌}
+use native.Mathlib.Omega.{arith}
+use lib.ListN.{length}
+use Rattle.utf8.proofs.ascii_end.Goals as goal
+
+pub loop-i-init : goal.loop-i-init
+loop-i-init c =
+    skipped_none _ _ c.requires
+
+pub overflow_sub-s : goal.overflow_sub-s
+overflow_sub-s c =
+    c.loop-i.invariant.fits
+
+pub eight_ascii-requires : goal.eight_ascii-requires
+eight_ascii-requires c =
+    omega (arith, c.loop-i.invariant.fits, c.loop-i-test.true)
+
+pub returns-then-not-eight_ascii : goal.returns-then-not-eight_ascii
+returns-then-not-eight_ascii c =
+    c.loop-i.invariant
+
+pub overflow_add-i : goal.overflow_add-i
+overflow_add-i c =
+    omega (arith, c.loop-i.invariant.fits, c.loop-i-test.true)
+
+pub loop-i-smaller : goal.loop-i-smaller
+loop-i-smaller c =
+    omega (arith, c.loop-i.invariant.fits, c.loop-i-test.true)
+
+pub loop-i-preserved : goal.loop-i-preserved
+loop-i-preserved c =
+    skipped_more c.loop-i.invariant (skip_ascii _ _ 8 (omega (arith, c.loop-i.invariant.fits, c.loop-i-test.true)) (sym c.eight_ascii.ensures ∙ c.if-not-eight_ascii.false))
+
+pub returns : goal.returns
+returns c =
+    c.loop-i.invariant

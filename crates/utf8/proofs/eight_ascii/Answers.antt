@@ -1,0 +1,7 @@
+use Rattle.utf8.specs.Skips.{eight_ascii}
+use borrow.Author.Rules.{rules}
+use Rattle.utf8.proofs.eight_ascii.Goals as goal
+
+pub returns : goal.returns
+returns c =
+    eight_ascii _ _ _ _ c.four_ascii.ensures c.four_ascii-2.ensures

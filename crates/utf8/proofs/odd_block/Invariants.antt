@@ -1,0 +1,12 @@
+use Rattle.wire.specs.Loops.{any_up_to}
+use Rattle.utf8.specs.Blocks.{odd_at, any_more}
+use mathlib.Core.Path.{◌≡◌, refl}
+use Prim.Native.Nat.{◌-◌, ◌≤◌}
+use native.Mathlib.Omega.{arith}
+use Rattle.utf8.proofs.odd_block.Given as goal
+
+abbrev pub invariant-loop-i : goal.invariant-loop-i
+invariant-loop-i l = (l.i ≤ 64) × (l.bad ≡ any_up_to l.i (odd_at l.s l.from))
+
+abbrev pub decreases-loop-i : goal.decreases-loop-i
+decreases-loop-i l = 64 - l.i
