@@ -207,6 +207,16 @@ class Fn:
             place = p[1]
         return None
 
+    def arm(self, place, field, rest):
+        """What a `match` gave, by its arm."""
+        while place in self.places:
+            a = self.arms.get(place)
+            for new, old, path in a[2] if a else []:
+                if path and norm(old) == norm(field) and rest[:len(path)] == path:
+                    return [a[0], new] + rest[len(path):]
+            place = self.places[place][1]
+        return None
+
     def path(self, var, place, words):
         """var.before.before.F.rest in today's words; place is where var stands."""
         k = 0
@@ -234,6 +244,9 @@ class Fn:
             return ".".join([var, "requires"] + rest)
         if f in ("ranges", "lifetimes", "well_formed", "well-formed", "type_inv"):
             return ".".join([var, f.replace("-", "_")] + rest)
+        arm = self.arm(place, f, rest)
+        if arm:
+            return ".".join([var] + arm)
         found = at and self.step(at, f) or self.step(place, f)
         if not found:
             self.left.append(f"{self.key}: no step {f} at {at}")
@@ -268,6 +281,10 @@ class Fn:
 
     def body(self, text, env):
         """Paths from the variables of env, a map to places."""
+        env = dict(env)
+        for m in re.finditer(r"\blet ([^\s:]+) = ([^\s(){}.]+)((?:\.before)+) in\b", text):
+            if m.group(2) in env:
+                env[m.group(1)] = self.up(env[m.group(2)], m.group(3).count("before"))
         names = "|".join(sorted(map(re.escape, env), key=len, reverse=True))
         rx = re.compile(r"(?<![\w.'-])(" + names + r")((?:\.[^\s(){}\[\],;.]+)+)")
 
@@ -452,12 +469,12 @@ def turn(root, names, commit, crate):
     with open(os.path.join(names, "crates", crate, "names.json")) as f:
         table = json.load(f)
     pdir = os.path.join(root, "crates", crate, "proofs")
-    for folder in sorted(os.listdir(pdir)):
+    found = sorted(os.path.relpath(d, pdir) for d, _, fs in os.walk(pdir) if "Proof.antt" in fs)
+    for folder in found:
         path = os.path.join(pdir, folder, "Proof.antt")
-        if not os.path.isfile(path):
-            continue
+        dotted = folder.replace("/", ".")
         text = open(path, encoding="utf-8").read()
-        keys = [k for k in table if re.match(r"^Rattle-" + re.escape(crate) + r"-proofs\." + re.escape(folder) + r"\.Lts", k)]
+        keys = [k for k in table if re.match(r"^Rattle-" + re.escape(crate) + r"-proofs\." + re.escape(dotted) + r"\.Lts", k)]
         if not keys:
             left.append(f"{crate}/{folder}: no names")
             continue
@@ -470,7 +487,7 @@ def turn(root, names, commit, crate):
             if m:
                 need_of[d.name] = m.group(1)
         out = {"inv": [], "ans": [], "records": set(), "cycle": [], "cycle_fields": {}}
-        goalmod = f"Rattle.{crate}.proofs.{folder}"
+        goalmod = f"Rattle.{crate}.proofs.{dotted}"
         if folder.startswith("+") and len(keys) > 0 and any(".Lts-" in k for k in keys):
             fns = {k.split(".Lts-")[1]: Fn(crate, k, table[k], left) for k in keys}
             out["cycle"] = list(fns)
