@@ -282,9 +282,12 @@ class Fn:
     def body(self, text, env):
         """Paths from the variables of env, a map to places."""
         env = dict(env)
-        for m in re.finditer(r"\blet ([^\s:]+) = ([^\s(){}.]+)((?:\.before)+) in\b", text):
+        for m in list(re.finditer(r"\blet ([^\s:]+) = ([^\s(){}.]+)((?:\.before)+) in\b", text)):
             if m.group(2) in env:
-                env[m.group(1)] = self.up(env[m.group(2)], m.group(3).count("before"))
+                x = m.group(1)
+                env[x] = env[m.group(2)]
+                if not re.search(r"(?<![\w.'-])" + re.escape(x) + r"(?![\w'.-])", text[m.end():]):
+                    text = text.replace(m.group(0), f"let {x} = {m.group(2)} in")
         names = "|".join(sorted(map(re.escape, env), key=len, reverse=True))
         rx = re.compile(r"(?<![\w.'-])(" + names + r")((?:\.[^\s(){}\[\],;.]+)+)")
 

@@ -6,9 +6,9 @@ use Rattle.answers.proofs.copy_answer.Goals as goal
 pub returns-in-Refused : goal.returns-in-Refused
 unfolding copy_answer
 returns-in-Refused c =
-    rw c.a-1.given.1 refl
+    rw c.in-Refused.is refl
 
 pub returns-in-Copied : goal.returns-in-Copied
 unfolding copy_answer
 returns-in-Copied c =
-    rw c.a-in-Copied-1.given.1 refl
+    rw c.in-Copied.is refl

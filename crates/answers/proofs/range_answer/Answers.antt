@@ -6,14 +6,14 @@ use Rattle.answers.proofs.range_answer.Goals as goal
 pub returns-in-Refused : goal.returns-in-Refused
 unfolding range_answer
 returns-in-Refused c =
-    rw c.a-1.given.1 refl
+    rw c.in-Refused.is refl
 
 pub returns-in-At : goal.returns-in-At
 unfolding range_answer
 returns-in-At c =
-    rw c.a-in-At-1.given.1 refl
+    rw c.in-At.is refl
 
 pub returns-in-Nothing : goal.returns-in-Nothing
 unfolding range_answer
 returns-in-Nothing c =
-    rw c.enum_told-1.given.1 refl
+    rw c.in-Nothing.is refl

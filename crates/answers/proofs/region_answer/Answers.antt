@@ -6,9 +6,9 @@ use Rattle.answers.proofs.region_answer.Goals as goal
 pub returns-in-Refused : goal.returns-in-Refused
 unfolding region_answer
 returns-in-Refused c =
-    rw c.a-1.given.1 refl
+    rw c.in-Refused.is refl
 
 pub returns-in-Region : goal.returns-in-Region
 unfolding region_answer
 returns-in-Region c =
-    rw c.a-in-Region-1.given.1 refl
+    rw c.in-Region.is refl

@@ -8,8 +8,8 @@ use Rattle.balanced_region.proofs.last_cut.Goals as goal
 
 pub loop-i-init : goal.loop-i-init
 loop-i-init c =
-    let start = c.before.before.before in
-    (down_none start.requires.1.0 start.requires.1.1.0, start.requires.1.1.1, refl)
+    let start = c in
+    (down_none start.requires.in_order start.requires.front, start.requires.window, refl)
 
 pub gap_from-lo-requires : goal.gap_from-lo-requires
 gap_from-lo-requires c =
@@ -21,9 +21,9 @@ overflow_add-hi c =
 
 pub overflow_sub-lo : goal.overflow_sub-lo
 overflow_sub-lo c =
-    let turn = c.before.before.before in
-    let start = turn.before.before.before.before in
-    down_positive start.requires.1.0 start.requires.1.1.0 turn.loop.invariant.0 _ c.gap_from-lo.ensures
+    let turn = c in
+    let start = turn in
+    down_positive start.requires.in_order start.requires.front turn.loop-i.invariant.0 _ c.gap_from-lo.ensures
 
 pub earlier-requires : goal.earlier-requires
 earlier-requires c =
@@ -31,29 +31,29 @@ earlier-requires c =
 
 pub gap_last-c-requires : goal.gap_last-c-requires
 gap_last-c-requires c =
-    let turn = c.before.before.before.before.before in
-let start = turn.before.before.before.before in
+    let turn = c in
+let start = turn in
 record {
-        count_in_bounds = (start.requires.0.1, omega arith);
-        window = turn.loop.invariant.1
+        count_in_bounds = (start.requires.count_in_bounds.1, omega arith);
+        window = turn.loop-i.invariant.1
     }
 
 pub shape_of-words-then-lo-c : goal.shape_of-words-then-lo-c
 shape_of-words-then-lo-c c =
-    let at-gap-last = c.before.before.before in
-    let turn = at-gap-last.before.before.before.before.before.before in
-    at-gap-last.gap-last.auto.1.1.1.1.1.1.1.1.0 ∙ turn.loop.invariant.2
+    let at-gap-last = c in
+    let turn = at-gap-last in
+    at-gap-last.gap_last-c.auto.words ∙ turn.loop-i.invariant.2
 
 pub returns-then-lo-c : goal.returns-then-lo-c
 returns-then-lo-c c =
-    let at-gap-last = c.before.before.before in
-    let at-earlier = at-gap-last.before.before in
-    let at-gap-from = at-earlier.before in
-    let turn = at-gap-from.before.before.before in
-    let start = turn.before.before.before.before in (
-      down_found start.requires.1.0 start.requires.1.1.0 turn.loop.invariant.0 _ at-gap-from.gap_from.ensures _ at-earlier.earlier.ensures _ at-gap-last.gap-last.ensures.0
+    let at-gap-last = c in
+    let at-earlier = at-gap-last in
+    let at-gap-from = at-earlier in
+    let turn = at-gap-from in
+    let start = turn in (
+      down_found start.requires.in_order start.requires.front turn.loop-i.invariant.0 _ at-gap-from.gap_from-lo.ensures _ at-earlier.earlier.ensures _ at-gap-last.gap_last-c.ensures.value
           c.if-lo-c.true,
-      at-gap-last.gap-last.ensures.1,
+      at-gap-last.gap_last-c.ensures.window_2,
     )
 -- LEFT: wants record { value = ..; window_2 = .. }
 
@@ -87,10 +87,10 @@ block_before-blocks-requires c =
 
 pub warichu_before-warichu-requires : goal.warichu_before-warichu-requires
 warichu_before-warichu-requires c =
-    let at-if1 = c.before.before.before.before.before.before.before.before.before.before.before in
-    let turn = at-if1.before.before in
-    let start = turn.before.before.before.before in
-    omega (arith, start.requires.0.0, turn.loop.invariant.0.upto, start.requires.1.1.0.within, at-if1.if1.true, turn.loop.invariant.0.warichu_small)
+    let at-if1 = c in
+    let turn = at-if1 in
+    let start = turn in
+    omega (arith, start.requires.count_in_bounds.0, turn.loop-i.invariant.0.upto, start.requires.front.within, at-if1.loop-i-test.true, turn.loop-i.invariant.0.warichu_small)
 
 pub loop-i-smaller : goal.loop-i-smaller
 loop-i-smaller c =
@@ -98,19 +98,19 @@ loop-i-smaller c =
 
 pub loop-i-preserved : goal.loop-i-preserved
 loop-i-preserved c =
-    let at-node-start = c.before.before.before in
-    let at-if2 = at-node-start.before.before in
-    let at-gap-last = at-if2.before.before.before in
-    let at-earlier = at-gap-last.before.before in
-    let at-gap-from = at-earlier.before in
-    let at-if1 = at-gap-from.before in
-    let turn = at-if1.before.before in
-    let start = turn.before.before.before.before in (
-      down_more start.requires.1.0 start.requires.1.1.0 turn.loop.invariant.0 _ at-gap-from.gap_from.ensures _ at-earlier.earlier.ensures _ at-gap-last.gap-last.ensures.0
-          at-if2.if2.false _ refl at-if1.if1.true _ at-node-start.node-start.ensures _ c.earlier-hi.ensures _ _ c.block_before-blocks.ensures
+    let at-node-start = c in
+    let at-if2 = at-node-start in
+    let at-gap-last = at-if2 in
+    let at-earlier = at-gap-last in
+    let at-gap-from = at-earlier in
+    let at-if1 = at-gap-from in
+    let turn = at-if1 in
+    let start = turn in (
+      down_more start.requires.in_order start.requires.front turn.loop-i.invariant.0 _ at-gap-from.gap_from-lo.ensures _ at-earlier.earlier.ensures _ at-gap-last.gap_last-c.ensures.value
+          at-if2.if-lo-c.false _ refl at-if1.loop-i-test.true _ at-node-start.node_start.ensures _ c.earlier-hi.ensures _ _ c.block_before-blocks.ensures
           c.warichu_before-warichu.ensures,
-      at-gap-last.gap-last.ensures.1,
-      at-gap-last.gap-last.auto.1.1.1.1.1.1.1.1.0 ∙ turn.loop.invariant.2,
+      at-gap-last.gap_last-c.ensures.window_2,
+      at-gap-last.gap_last-c.auto.words ∙ turn.loop-i.invariant.2,
     )
 
 pub gap_from-lo-requires-2 : goal.gap_from-lo-requires-2
@@ -123,9 +123,9 @@ overflow_add-hi-2 c =
 
 pub overflow_sub-lo-2 : goal.overflow_sub-lo-2
 overflow_sub-lo-2 c =
-    let turn = c.before.before.before in
-    let start = turn.before.before.before.before in
-    down_positive start.requires.1.0 start.requires.1.1.0 turn.loop.invariant.0 _ c.gap_from-lo-2.ensures
+    let turn = c in
+    let start = turn in
+    down_positive start.requires.in_order start.requires.front turn.loop-i.invariant.0 _ c.gap_from-lo-2.ensures
 
 pub earlier-requires-2 : goal.earlier-requires-2
 earlier-requires-2 c =
@@ -133,48 +133,48 @@ earlier-requires-2 c =
 
 pub gap_last-c-requires-2 : goal.gap_last-c-requires-2
 gap_last-c-requires-2 c =
-    let turn = c.before.before.before.before.before in
-let start = turn.before.before.before.before in
+    let turn = c in
+let start = turn in
 record {
-        count_in_bounds = (start.requires.0.1, omega arith);
-        window = turn.loop.invariant.1
+        count_in_bounds = (start.requires.count_in_bounds.1, omega arith);
+        window = turn.loop-i.invariant.1
     }
 
 pub shape_of-words-then-lo-c-2 : goal.shape_of-words-then-lo-c-2
 shape_of-words-then-lo-c-2 c =
-    let at-gap-last2 = c.before.before.before in
-    let turn = at-gap-last2.before.before.before.before.before.before in
-    at-gap-last2.gap-last2.auto.1.1.1.1.1.1.1.1.0 ∙ turn.loop.invariant.2
+    let at-gap-last2 = c in
+    let turn = at-gap-last2 in
+    at-gap-last2.gap_last-c-2.auto.words ∙ turn.loop-i.invariant.2
 
 pub returns-then-lo-c-2 : goal.returns-then-lo-c-2
 returns-then-lo-c-2 c =
-    let at-gap-last2 = c.before.before.before in
-    let at-earlier3 = at-gap-last2.before.before in
-    let at-gap-from2 = at-earlier3.before in
-    let turn = at-gap-from2.before.before.before in
-    let start = turn.before.before.before.before in (
-      down_found start.requires.1.0 start.requires.1.1.0 turn.loop.invariant.0 _ at-gap-from2.gap-from2.ensures _ at-earlier3.earlier3.ensures _ at-gap-last2.gap-last2.ensures.0
+    let at-gap-last2 = c in
+    let at-earlier3 = at-gap-last2 in
+    let at-gap-from2 = at-earlier3 in
+    let turn = at-gap-from2 in
+    let start = turn in (
+      down_found start.requires.in_order start.requires.front turn.loop-i.invariant.0 _ at-gap-from2.gap_from-lo-2.ensures _ at-earlier3.earlier-2.ensures _ at-gap-last2.gap_last-c-2.ensures.value
           c.if-lo-c-2.true,
-      at-gap-last2.gap-last2.ensures.1,
+      at-gap-last2.gap_last-c-2.ensures.window_2,
     )
 -- LEFT: wants record { value = ..; window_2 = .. }
 
 pub shape_of-words : goal.shape_of-words
 shape_of-words c =
-    let at-gap-last2 = c.before.before.before in
-    let turn = at-gap-last2.before.before.before.before.before.before in
-    at-gap-last2.gap-last2.auto.1.1.1.1.1.1.1.1.0 ∙ turn.loop.invariant.2
+    let at-gap-last2 = c in
+    let turn = at-gap-last2 in
+    at-gap-last2.gap_last-c-2.auto.words ∙ turn.loop-i.invariant.2
 
 pub returns : goal.returns
 returns c =
-    let at-gap-last2 = c.before.before.before in
-    let at-earlier3 = at-gap-last2.before.before in
-    let at-gap-from2 = at-earlier3.before in
-    let at-if1 = at-gap-from2.before in
-    let turn = at-if1.before.before in
-    let start = turn.before.before.before.before in (
-      down_done start.requires.1.0 start.requires.1.1.0 turn.loop.invariant.0 _ at-gap-from2.gap-from2.ensures _ at-earlier3.earlier3.ensures _ at-gap-last2.gap-last2.ensures.0
-          at-if1.if1.false c.if-lo-c-2.false,
-      at-gap-last2.gap-last2.ensures.1,
+    let at-gap-last2 = c in
+    let at-earlier3 = at-gap-last2 in
+    let at-gap-from2 = at-earlier3 in
+    let at-if1 = at-gap-from2 in
+    let turn = at-if1 in
+    let start = turn in (
+      down_done start.requires.in_order start.requires.front turn.loop-i.invariant.0 _ at-gap-from2.gap_from-lo-2.ensures _ at-earlier3.earlier-2.ensures _ at-gap-last2.gap_last-c-2.ensures.value
+          at-if1.loop-i-test.false c.if-lo-c-2.false,
+      at-gap-last2.gap_last-c-2.ensures.window_2,
     )
 -- LEFT: wants record { value = ..; window_2 = .. }

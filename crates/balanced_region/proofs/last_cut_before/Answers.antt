@@ -33,25 +33,25 @@ overflow_add-bound c =
 
 pub gap_last-requires : goal.gap_last-requires
 gap_last-requires c =
-    let turn = c.before.before.before.before.before.before in
-let start = turn.before.before.before.before in
+    let turn = c in
+let start = turn in
 record {
-        count_in_bounds = (start.requires.0.1, omega (arith, start.requires.0.2));
-        window = turn.loop.invariant.1
+        count_in_bounds = (start.requires.count_in_bounds.1, omega (arith, start.requires.count_in_bounds.2));
+        window = turn.loop-i.invariant.1
     }
 
 pub shape_of-words-then-bound-start : goal.shape_of-words-then-bound-start
 shape_of-words-then-bound-start c =
-    let turn = c.before.before.before.before.before.before.before.before.before in
-    c.gap_last.auto.words ∙ turn.loop.invariant.2
+    let turn = c in
+    c.gap_last.auto.words ∙ turn.loop-i.invariant.2
 
 pub returns-then-bound-start : goal.returns-then-bound-start
 returns-then-bound-start c =
-    let at-if2 = c.before.before.before.before in
-    let at-node-start = at-if2.before in
-    let at-if1 = at-node-start.before.before in
-    let turn = at-if1.before.before in (
-      last_walk_stop turn.loop.invariant.0 at-if1.if1.true _ at-node-start.node-start.ensures at-if2.if2.true _ c.gap_last.ensures.value,
+    let at-if2 = c in
+    let at-node-start = at-if2 in
+    let at-if1 = at-node-start in
+    let turn = at-if1 in (
+      last_walk_stop turn.loop-i.invariant.0 at-if1.loop-i-test.true _ at-node-start.node_start-start.ensures at-if2.if-bound-start.true _ c.gap_last.ensures.value,
       c.gap_last.ensures.window_2,
     )
 -- LEFT: wants record { value = ..; window_2 = .. }
@@ -62,11 +62,11 @@ overflow_add-start c =
 
 pub gap_last-last-requires : goal.gap_last-last-requires
 gap_last-last-requires c =
-    let turn = c.before.before.before.before.before.before in
-let start = turn.before.before.before.before in
+    let turn = c in
+let start = turn in
 record {
-        count_in_bounds = (start.requires.0.1, omega (arith, start.requires.0.2, c.if-bound-start.false));
-        window = turn.loop.invariant.1
+        count_in_bounds = (start.requires.count_in_bounds.1, omega (arith, start.requires.count_in_bounds.2, c.if-bound-start.false));
+        window = turn.loop-i.invariant.1
     }
 
 pub node_end-from-requires : goal.node_end-from-requires
@@ -95,15 +95,15 @@ loop-i-smaller c =
 
 pub loop-i-preserved : goal.loop-i-preserved
 loop-i-preserved c =
-    let at-gap-last2 = c.before.before.before.before.before in
-    let at-if2 = at-gap-last2.before.before in
-    let at-node-start = at-if2.before in
-    let at-if1 = at-node-start.before.before in
-    let turn = at-if1.before.before in (
-      last_walk_more turn.loop.invariant.0 at-if1.if1.true _ at-node-start.node-start.ensures at-if2.if2.false _ at-gap-last2.gap-last2.ensures.0 _
+    let at-gap-last2 = c in
+    let at-if2 = at-gap-last2 in
+    let at-node-start = at-if2 in
+    let at-if1 = at-node-start in
+    let turn = at-if1 in (
+      last_walk_more turn.loop-i.invariant.0 at-if1.loop-i-test.true _ at-node-start.node_start-start.ensures at-if2.if-bound-start.false _ at-gap-last2.gap_last-last.ensures.value _
           c.node_end-from.ensures _ _ c.block_depth-blocks.ensures c.warichu_depth-warichu.ensures,
-      at-gap-last2.gap-last2.ensures.1,
-      at-gap-last2.gap-last2.auto.1.1.1.1.1.1.1.1.0 ∙ turn.loop.invariant.2,
+      at-gap-last2.gap_last-last.ensures.window_2,
+      at-gap-last2.gap_last-last.auto.words ∙ turn.loop-i.invariant.2,
     )
 
 pub overflow_add-bound-2 : goal.overflow_add-bound-2
@@ -112,23 +112,23 @@ overflow_add-bound-2 c =
 
 pub gap_last-requires-2 : goal.gap_last-requires-2
 gap_last-requires-2 c =
-    let turn = c.before.before.before in
-let start = turn.before.before.before.before in
+    let turn = c in
+let start = turn in
 record {
-        count_in_bounds = (start.requires.0.1, omega (arith, start.requires.0.2));
-        window = turn.loop.invariant.1
+        count_in_bounds = (start.requires.count_in_bounds.1, omega (arith, start.requires.count_in_bounds.2));
+        window = turn.loop-i.invariant.1
     }
 
 pub shape_of-words : goal.shape_of-words
 shape_of-words c =
-    let turn = c.before.before.before.before.before.before in
-    c.gap_last-2.auto.words ∙ turn.loop.invariant.2
+    let turn = c in
+    c.gap_last-2.auto.words ∙ turn.loop-i.invariant.2
 
 pub returns : goal.returns
 returns c =
-    let at-if1 = c.before.before.before.before in
-let turn = at-if1.before.before in
+    let at-if1 = c in
+let turn = at-if1 in
 record {
-        value = last_walk_done turn.loop.invariant.0 at-if1.if1.false _ c.gap_last-2.ensures.value;
+        value = last_walk_done turn.loop-i.invariant.0 at-if1.loop-i-test.false _ c.gap_last-2.ensures.value;
         window_2 = c.gap_last-2.ensures.window_2
     }

@@ -18,9 +18,9 @@ overflow_sub-c c =
 
 pub text_pairs_allow-requires : goal.text_pairs_allow-requires
 text_pairs_allow-requires c =
-    let start = c.before.before.before.before.before.before in
+    let start = c in
 record {
-        count_in_bounds = (start.requires.0.0, omega (arith, start.requires.0.1, c.loop-c.invariant.0));
+        count_in_bounds = (start.requires.count_in_bounds.0, omega (arith, start.requires.count_in_bounds.1, c.loop-c.invariant.0));
         window = c.loop-c.invariant.2
     }
 
@@ -30,17 +30,17 @@ overflow_sub-result c =
 
 pub shape_of-words-then-text_pairs_allow : goal.shape_of-words-then-text_pairs_allow
 shape_of-words-then-text_pairs_allow c =
-    let at-text-pairs-allow = c.before.before.before in
-    let turn = at-text-pairs-allow.before.before.before in
-    at-text-pairs-allow.text-pairs-allow.auto.1.1.1.1.0 ∙ turn.loop.invariant.3
+    let at-text-pairs-allow = c in
+    let turn = at-text-pairs-allow in
+    at-text-pairs-allow.text_pairs_allow.auto.words ∙ turn.loop-c.invariant.3
 
 pub returns-then-text_pairs_allow : goal.returns-then-text_pairs_allow
 returns-then-text_pairs_allow c =
-    let at-text-pairs-allow = c.before.before.before in
-    let at-loop-test = at-text-pairs-allow.before.before in
-    let turn = at-loop-test.before in (
-      sym (last_stop _ _ _ _ at-loop-test.loop-test.true (sym at-text-pairs-allow.text-pairs-allow.ensures.0 ∙ c.if-text_pairs_allow.true)) ∙ turn.loop.invariant.1,
-      at-text-pairs-allow.text-pairs-allow.ensures.1,
+    let at-text-pairs-allow = c in
+    let at-loop-test = at-text-pairs-allow in
+    let turn = at-loop-test in (
+      sym (last_stop _ _ _ _ at-loop-test.loop-c-test.true (sym at-text-pairs-allow.text_pairs_allow.ensures.value ∙ c.if-text_pairs_allow.true)) ∙ turn.loop-c.invariant.1,
+      at-text-pairs-allow.text_pairs_allow.ensures.window_2,
     )
 -- LEFT: wants record { value = ..; window_2 = .. }
 
@@ -54,13 +54,13 @@ loop-c-smaller c =
 
 pub loop-c-preserved : goal.loop-c-preserved
 loop-c-preserved c =
-    let at-text-pairs-allow = c.before.before.before in
-    let at-loop-test = at-text-pairs-allow.before.before in
-    let turn = at-loop-test.before in (
+    let at-text-pairs-allow = c in
+    let at-loop-test = at-text-pairs-allow in
+    let turn = at-loop-test in (
       omega arith,
-      sym (last_turn _ _ _ _ at-loop-test.loop-test.true (sym at-text-pairs-allow.text-pairs-allow.ensures.0 ∙ c.if-text_pairs_allow.false)) ∙ turn.loop.invariant.1,
-      at-text-pairs-allow.text-pairs-allow.ensures.1,
-      at-text-pairs-allow.text-pairs-allow.auto.1.1.1.1.0 ∙ turn.loop.invariant.3,
+      sym (last_turn _ _ _ _ at-loop-test.loop-c-test.true (sym at-text-pairs-allow.text_pairs_allow.ensures.value ∙ c.if-text_pairs_allow.false)) ∙ turn.loop-c.invariant.1,
+      at-text-pairs-allow.text_pairs_allow.ensures.window_2,
+      at-text-pairs-allow.text_pairs_allow.auto.words ∙ turn.loop-c.invariant.3,
     )
 
 pub shape_of-words : goal.shape_of-words

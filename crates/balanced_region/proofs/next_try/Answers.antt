@@ -5,18 +5,18 @@ use Rattle.balanced_region.proofs.next_try.Goals as goal
 
 pub returns-then-not-blank_line_before : goal.returns-then-not-blank_line_before
 returns-then-not-blank_line_before c =
-    let start = c.before.before.before.before.before in
+    let start = c in
 record {
         value = try_no_line _ _ _ _ c.blank_line_before.ensures c.if-not-blank_line_before.true;
-        window_2 = start.requires.1
+        window_2 = start.requires.window
     }
 
 pub returns : goal.returns
 returns c =
-    let at-reach-at = c.before.before.before in
-    let at-if1 = at-reach-at.before.before in
-    let at-blank-line-before = at-if1.before in (
-      try_pair _ _ _ _ at-blank-line-before.blank-line-before.ensures (not-false _ at-if1.if1.false) _ at-reach-at.reach-at.ensures.0 _ c.later.ensures,
-      at-reach-at.reach-at.ensures.1,
+    let at-reach-at = c in
+    let at-if1 = at-reach-at in
+    let at-blank-line-before = at-if1 in (
+      try_pair _ _ _ _ at-blank-line-before.blank_line_before.ensures at-if1.if-not-blank_line_before.false _ at-reach-at.reach_at.ensures.value _ c.later.ensures,
+      at-reach-at.reach_at.ensures.window_2,
     )
 -- LEFT: wants record { value = ..; window_2 = .. }

@@ -33,29 +33,29 @@ overflow_add-start c =
 
 pub gap_first-c-requires : goal.gap_first-c-requires
 gap_first-c-requires c =
-    let at-if1 = c.before.before.before in
-let turn = at-if1.before.before in
-let start = turn.before.before.before.before in
+    let at-if1 = c in
+let turn = at-if1 in
+let start = turn in
 record {
-        count_in_bounds = (start.requires.0.1, end_walk_inside turn.loop.invariant.0 at-if1.if1.true _ c.node_start-start.ensures, start.requires.0.2);
-        window = turn.loop.invariant.1
+        count_in_bounds = (start.requires.count_in_bounds.1, end_walk_inside turn.loop-i.invariant.0 at-if1.loop-i-test.true _ c.node_start-start.ensures, start.requires.count_in_bounds.2);
+        window = turn.loop-i.invariant.1
     }
 
 pub shape_of-words-then-c-start : goal.shape_of-words-then-c-start
 shape_of-words-then-c-start c =
-    let at-gap-first = c.before.before.before in
-    let turn = at-gap-first.before.before.before.before.before.before in
-    at-gap-first.gap-first.auto.1.1.1.1.1.1.1.1.0 ∙ turn.loop.invariant.2
+    let at-gap-first = c in
+    let turn = at-gap-first in
+    at-gap-first.gap_first-c.auto.words ∙ turn.loop-i.invariant.2
 
 pub returns-then-c-start : goal.returns-then-c-start
 returns-then-c-start c =
-    let at-gap-first = c.before.before.before in
-    let at-node-start = at-gap-first.before.before in
-    let at-if1 = at-node-start.before.before in
-    let turn = at-if1.before.before in
-    let start = turn.before.before.before.before in (
-      end_walk_found turn.loop.invariant.0 at-if1.if1.true _ at-node-start.node-start.ensures _ at-gap-first.gap-first.ensures.0 start.requires.0.2 c.if-c-start.true,
-      at-gap-first.gap-first.ensures.1,
+    let at-gap-first = c in
+    let at-node-start = at-gap-first in
+    let at-if1 = at-node-start in
+    let turn = at-if1 in
+    let start = turn in (
+      end_walk_found turn.loop-i.invariant.0 at-if1.loop-i-test.true _ at-node-start.node_start-start.ensures _ at-gap-first.gap_first-c.ensures.value start.requires.count_in_bounds.2 c.if-c-start.true,
+      at-gap-first.gap_first-c.ensures.window_2,
     )
 -- LEFT: wants record { value = ..; window_2 = .. }
 
@@ -85,37 +85,37 @@ loop-i-smaller c =
 
 pub loop-i-preserved : goal.loop-i-preserved
 loop-i-preserved c =
-    let at-if2 = c.before.before.before in
-    let at-gap-first = at-if2.before.before.before in
-    let at-node-start = at-gap-first.before.before in
-    let at-if1 = at-node-start.before.before in
-    let turn = at-if1.before.before in (
-      end_walk_more turn.loop.invariant.0 at-if1.if1.true _ at-node-start.node-start.ensures _ at-gap-first.gap-first.ensures.0 at-if2.if2.false _
+    let at-if2 = c in
+    let at-gap-first = at-if2 in
+    let at-node-start = at-gap-first in
+    let at-if1 = at-node-start in
+    let turn = at-if1 in (
+      end_walk_more turn.loop-i.invariant.0 at-if1.loop-i-test.true _ at-node-start.node_start-start.ensures _ at-gap-first.gap_first-c.ensures.value at-if2.if-c-start.false _
           c.node_end-from.ensures _ _ c.block_depth-blocks.ensures c.warichu_depth-warichu.ensures,
-      at-gap-first.gap-first.ensures.1,
-      at-gap-first.gap-first.auto.1.1.1.1.1.1.1.1.0 ∙ turn.loop.invariant.2,
+      at-gap-first.gap_first-c.ensures.window_2,
+      at-gap-first.gap_first-c.auto.words ∙ turn.loop-i.invariant.2,
     )
 
 pub gap_first-requires : goal.gap_first-requires
 gap_first-requires c =
-    let turn = c.before.before.before in
-let start = turn.before.before.before.before in
+    let turn = c in
+let start = turn in
 record {
-        count_in_bounds = (start.requires.0.1, omega arith, start.requires.0.2);
-        window = turn.loop.invariant.1
+        count_in_bounds = (start.requires.count_in_bounds.1, omega arith, start.requires.count_in_bounds.2);
+        window = turn.loop-i.invariant.1
     }
 
 pub shape_of-words : goal.shape_of-words
 shape_of-words c =
-    let turn = c.before.before.before.before.before.before in
-    c.gap_first.auto.words ∙ turn.loop.invariant.2
+    let turn = c in
+    c.gap_first.auto.words ∙ turn.loop-i.invariant.2
 
 pub returns : goal.returns
 returns c =
-    let at-if1 = c.before.before.before.before in
-let turn = at-if1.before.before in
-let start = turn.before.before.before.before in
+    let at-if1 = c in
+let turn = at-if1 in
+let start = turn in
 record {
-        value = end_walk_done turn.loop.invariant.0 at-if1.if1.false start.requires.0.2 _ c.gap_first.ensures.value;
+        value = end_walk_done turn.loop-i.invariant.0 at-if1.loop-i-test.false start.requires.count_in_bounds.2 _ c.gap_first.ensures.value;
         window_2 = c.gap_first.ensures.window_2
     }

@@ -48,9 +48,9 @@ loop-at-smaller c =
 
 pub loop-at-preserved : goal.loop-at-preserved
 loop-at-preserved c =
-    let turn = c.before.before.before.before in
-    let a = turn.before.before.before.args in
-    (omega arith, omega arith, turn.loop.invariant.2 ∙ order_sixteen a.a.now a.b.now turn.loop.at (omega arith) (omega arith) c.same_16.ensures c.if-not-same_16.false)
+    let turn = c in
+    let a = turn.args in
+    (omega arith, omega arith, turn.loop-at.invariant.2 ∙ order_sixteen a.a.now a.b.now turn.loop-at.at (omega arith) (omega arith) c.same_16.ensures c.if-not-same_16.false)
 
 pub precedes_from-requires-2 : goal.precedes_from-requires-2
 precedes_from-requires-2 c =

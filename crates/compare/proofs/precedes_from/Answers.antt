@@ -31,9 +31,9 @@ bounds-b-i-then-a-i c =
 
 pub returns-then-a-i : goal.returns-then-a-i
 returns-then-a-i c =
-    let at-loop-test = c.before.before.before.before.before.before in
-    let turn = at-loop-test.before in
-    order_here _ _ _ at-loop-test.loop-test.true (omega arith) c.if-a-i.true ∙ sym turn.loop.invariant.2
+    let at-loop-test = c in
+    let turn = at-loop-test in
+    order_here _ _ _ at-loop-test.loop-i-test.true (omega arith) c.if-a-i.true ∙ sym turn.loop-i.invariant.2
 
 pub overflow_add-i : goal.overflow_add-i
 overflow_add-i c =
@@ -45,9 +45,9 @@ loop-i-smaller c =
 
 pub loop-i-preserved : goal.loop-i-preserved
 loop-i-preserved c =
-    let at-loop-test = c.before.before.before.before in
-    let turn = at-loop-test.before in
-    (omega arith, omega arith, turn.loop.invariant.2 ∙ order_next _ _ _ at-loop-test.loop-test.true (omega arith) c.if-a-i.false)
+    let at-loop-test = c in
+    let turn = at-loop-test in
+    (omega arith, omega arith, turn.loop-i.invariant.2 ∙ order_next _ _ _ at-loop-test.loop-i-test.true (omega arith) c.if-a-i.false)
 
 pub returns : goal.returns
 returns c =

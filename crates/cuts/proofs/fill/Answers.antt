@@ -7,10 +7,10 @@ use Rattle.cuts.proofs.fill.Goals as goal
 
 pub returns : goal.returns
 returns c =
-    let at-put-bounds = c.before.before.before.before.before.before in
-    let start = at-put-bounds.before.before.before.before in
+    let at-put-bounds = c in
+    let start = at-put-bounds in
     window_filled _ start.args.words.now _ _ _ _ (omega (arith, start.requires)) (c.fill_slots.auto.slots ∙ simp (length-take, length-drop) (omega (
       arith,
-      at-put-bounds.put-bounds.auto.0,
+      at-put-bounds.put_bounds.auto.words,
       start.requires,
-    ))) c.fill_slots.ensures _ _ at-put-bounds.put-bounds.ensures refl
+    ))) c.fill_slots.ensures _ _ at-put-bounds.put_bounds.ensures refl

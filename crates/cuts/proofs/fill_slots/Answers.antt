@@ -4,5 +4,5 @@ use Rattle.cuts.proofs.fill_slots.Goals as goal
 
 pub returns : goal.returns
 returns c =
-    let at-note-pairs = c.before.before.before.before.before.before in
-    reaches_of _ _ _ at-note-pairs.note-pairs.ensures _ c.run_up.ensures
+    let at-note-pairs = c in
+    reaches_of _ _ _ at-note-pairs.note_pairs.ensures _ c.run_up.ensures

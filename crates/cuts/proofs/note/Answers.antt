@@ -8,5 +8,5 @@ returns-then-slots-k c =
 
 pub returns : goal.returns
 returns c =
-    let at-slot-of = c.before.before.before in
-    noted_there _ _ _ _ _ at-slot-of.slot_of.ensures c.if-slots-k.false _ c.greatest.ensures
+    let at-slot-of = c in
+    noted_there _ _ _ _ _ at-slot-of.slot_of-k.ensures c.if-slots-k.false _ c.greatest.ensures

@@ -12,7 +12,7 @@ zero_words-requires c =
 
 pub loop-i-init : goal.loop-i-init
 loop-i-init c =
-    let start = c.before.before.before.before.before.before in
+    let start = c in
     (omega arith, refl, noted_start _ _ _ (length start.args.slots.now) _ c.zero_words.ensures)
 
 pub overflow_sub-i : goal.overflow_sub-i
@@ -45,14 +45,14 @@ loop-i-smaller c =
 
 pub loop-i-preserved : goal.loop-i-preserved
 loop-i-preserved c =
-    let at-pair-end = c.before.before.before in
-    let at-pair-start = at-pair-end.before in
-    let at-loop-test = at-pair-start.before.before.before in
-    let turn = at-loop-test.before in (
+    let at-pair-end = c in
+    let at-pair-start = at-pair-end in
+    let at-loop-test = at-pair-start in
+    let turn = at-loop-test in (
       omega arith,
-      omega (arith, c.note.auto.slots, turn.loop.invariant.1),
-      noted_pairs _ _ _ _ _ _ turn.loop.invariant.2 turn.loop.invariant.0 _ refl
-          at-loop-test.loop-test.true _ _ at-pair-start.pair-start.ensures at-pair-end.pair-end.ensures c.note.ensures,
+      omega (arith, c.note.auto.slots, turn.loop-i.invariant.1),
+      noted_pairs _ _ _ _ _ _ turn.loop-i.invariant.2 turn.loop-i.invariant.0 _ refl
+          at-loop-test.loop-i-test.true _ _ at-pair-start.pair_start.ensures at-pair-end.pair_end.ensures c.note.ensures,
     )
 
 pub shape_of-slots : goal.shape_of-slots

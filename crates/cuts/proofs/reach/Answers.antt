@@ -42,11 +42,11 @@ loop-i-smaller c =
 
 pub loop-i-preserved : goal.loop-i-preserved
 loop-i-preserved c =
-    let at-pair-start = c.before.before.before in
-    let at-loop-test = at-pair-start.before.before in
-    let turn = at-loop-test.before in (
+    let at-pair-start = c in
+    let at-loop-test = at-pair-start in
+    let turn = at-loop-test in (
       omega arith,
-      reach_more _ _ _ _ _ turn.loop.invariant.1 turn.loop.invariant.0 _ refl at-loop-test.loop-test.true _ _ at-pair-start.pair-start.ensures
+      reach_more _ _ _ _ _ turn.loop-i.invariant.1 turn.loop-i.invariant.0 _ refl at-loop-test.loop-i-test.true _ _ at-pair-start.pair_start.ensures
           c.pair_end.ensures _ c.reach_of.ensures _ c.greatest-far.ensures,
     )
 

@@ -38,8 +38,8 @@ loop-k-smaller c =
 
 pub loop-k-preserved : goal.loop-k-preserved
 loop-k-preserved c =
-    let turn = c.before.before.before in
-    rising_more turn.loop.invariant (omega (arith, turn.loop.invariant.same)) _ c.greatest-far.ensures
+    let turn = c in
+    rising_more turn.loop-k.invariant (omega (arith, turn.loop-k.invariant.same)) _ c.greatest-far.ensures
 
 pub shape_of-slots : goal.shape_of-slots
 shape_of-slots c =

@@ -15,10 +15,10 @@ loop-i-init c =
 
 pub refers_among-r-requires : goal.refers_among-r-requires
 refers_among-r-requires c =
-    let turn = c.before.before in
-    let start = turn.before.before.before.before.before in record {
-        sound = sound_before (sound_index turn.loop.invariant.2 start.requires.0) (omega (arith, c.loop-i-test.true));
-        base_in_bounds = (omega (arith, start.requires.1, turn.loop.invariant.1), turn.loop.invariant.3);
+    let turn = c in
+    let start = turn in record {
+        sound = sound_before (sound_index turn.loop-i.invariant.2 start.requires.sound) (omega (arith, c.loop-i-test.true));
+        base_in_bounds = (omega (arith, start.requires.base_in_bounds, turn.loop-i.invariant.1), turn.loop-i.invariant.3);
         noted = 
     }
 
@@ -28,13 +28,13 @@ shape_of-words-then-r-eq1 c =
 
 pub returns-then-r-eq1 : goal.returns-then-r-eq1
 returns-then-r-eq1 c =
-    let at-loop-test = c.before.before.before in
-    let turn = at-loop-test.before in
-    let start = turn.before.before.before.before.before in
+    let at-loop-test = c in
+    let turn = at-loop-test in
+    let start = turn in
     let a = start.args in (
-      told_yes (any_found (refers_among (store_in a.tape.now (a.old.now ++ a.new.now)) a.from a.tape.now a.at a.n) _ turn.loop.i
-          at-loop-test.loop-test.true (sym (c.refers_among-r.ensures.told (λ e. omega (arith, e, c.if-r-eq1.true))) ∙ eq-eqb _ 1 c.if-r-eq1.true)),
-      turn.loop.invariant.2,
+      told_yes (any_found (refers_among (store_in a.tape.now (a.old.now ++ a.new.now)) a.from a.tape.now a.at a.n) _ turn.loop-i.i
+          at-loop-test.loop-i-test.true (sym (c.refers_among-r.ensures.told (λ e. omega (arith, e, c.if-r-eq1.true))) ∙ eq-eqb _ 1 c.if-r-eq1.true)),
+      turn.loop-i.invariant.2,
     )
 
 pub shape_of-words-then-r-eq2 : goal.shape_of-words-then-r-eq2
@@ -59,11 +59,11 @@ returns-then-vain-gt128 c =
 
 pub note_first-requires : goal.note_first-requires
 note_first-requires c =
-    let at-loop-test = c.before.before.before.before.before.before.before in
-    let turn = at-loop-test.before in
-    let start = turn.before.before.before.before.before in record {
-        sound_node = sound_node (sound_index turn.loop.invariant.2 start.requires.0) at-loop-test.loop-test.true;
-        base_in_bounds = (omega (arith, start.requires.1, turn.loop.invariant.1), turn.loop.invariant.3);
+    let at-loop-test = c in
+    let turn = at-loop-test in
+    let start = turn in record {
+        sound_node = sound_node (sound_index turn.loop-i.invariant.2 start.requires.sound) at-loop-test.loop-i-test.true;
+        base_in_bounds = (omega (arith, start.requires.base_in_bounds, turn.loop-i.invariant.1), turn.loop-i.invariant.3);
         noted = 
     }
 
@@ -77,21 +77,21 @@ loop-i-smaller c =
 
 pub loop-i-preserved : goal.loop-i-preserved
 loop-i-preserved c =
-    let at-note-first = c.before.before in
-    let at-if3 = at-note-first.before.before in
-    let at-if2 = at-if3.before.before in
-    let at-if1 = at-if2.before in
-    let at-refers-among = at-if1.before in
-    let turn = at-refers-among.before.before.before in
-    let start = turn.before.before.before.before.before in
+    let at-note-first = c in
+    let at-if3 = at-note-first in
+    let at-if2 = at-if3 in
+    let at-if1 = at-if2 in
+    let at-refers-among = at-if1 in
+    let turn = at-refers-among in
+    let start = turn in
     let a = start.args in (
       omega arith,
-      at-note-first.note-first.auto.1.1.0 ∙ turn.loop.invariant.1,
-      at-note-first.note-first.ensures.0 ∙ turn.loop.invariant.2,
-      at-note-first.note-first.ensures.1,
-      missed_more (refers_among (store_in a.tape.now (a.old.now ++ a.new.now)) a.from a.tape.now a.at a.n) turn.loop.i turn.loop.invariant.4 (sym
-          (at-refers-among.refers-among.ensures.told at-if2.if2.false) ∙ ne_eqb _ 1 at-if1.if1.false),
-      at-if3.if3.false,
+      at-note-first.note_first.auto.words ∙ turn.loop-i.invariant.1,
+      at-note-first.note_first.ensures.0 ∙ turn.loop-i.invariant.2,
+      at-note-first.note_first.ensures.1,
+      missed_more (refers_among (store_in a.tape.now (a.old.now ++ a.new.now)) a.from a.tape.now a.at a.n) turn.loop-i.i turn.loop-i.invariant.4 (sym
+          (at-refers-among.refers_among-r.ensures.told at-if2.if-r-eq2.false) ∙ ne_eqb _ 1 at-if1.if-r-eq1.false),
+      at-if3.if-vain-gt128.false,
     )
 
 pub shape_of-words : goal.shape_of-words
@@ -100,7 +100,7 @@ shape_of-words c =
 
 pub returns : goal.returns
 returns c =
-    let start = c.before.before.before.before.before.before in
+    let start = c in
     let a = start.args in
     let e : a.count ≡ c.loop-i.i = omega arith in (
       told_no (ap (λ (k : ℕ). any_up_to k (refers_among (store_in a.tape.now (a.old.now ++ a.new.now)) a.from a.tape.now a.at a.n)) e ∙ any_missed (refers_among

@@ -11,15 +11,15 @@ use Rattle.dependency.proofs.any_refers_sorted.Goals as goal
 
 pub loop-i-init : goal.loop-i-init
 loop-i-init c =
-    let start = c.before.before.before.before.before.before in
-    (omega arith, refl, refl, omega arith, rowed_start _ _ _ _ _ _ _ (omega (arith, start.requires.1)), left_none _ _)
+    let start = c in
+    (omega arith, refl, refl, omega arith, rowed_start _ _ _ _ _ _ _ (omega (arith, start.requires.n_in_bounds)), left_none _ _)
 
 pub refers_or_later-requires : goal.refers_or_later-requires
 refers_or_later-requires c =
-    let turn = c.before.before in
-    let start = turn.before.before.before.before.before.before.before in record {
-        sound = sound_index turn.loop.invariant.2 start.requires.0;
-        i_lt_count = ((c.loop-i-test.true, omega (arith, start.requires.1, turn.loop.invariant.1)), turn.loop.invariant.4);
+    let turn = c in
+    let start = turn in record {
+        sound = sound_index turn.loop-i.invariant.2 start.requires.sound;
+        i_lt_count = ((c.loop-i-test.true, omega (arith, start.requires.n_in_bounds, turn.loop-i.invariant.1)), turn.loop-i.invariant.4);
         rowed = 
     }
 
@@ -29,22 +29,22 @@ shape_of-words-then-refers_or_later c =
 
 pub returns-then-refers_or_later : goal.returns-then-refers_or_later
 returns-then-refers_or_later c =
-    let at-loop-test = c.before.before.before in
-    let turn = at-loop-test.before in
-    let start = turn.before.before.before.before.before.before.before in
+    let at-loop-test = c in
+    let turn = at-loop-test in
+    let start = turn in
     let a = start.args in (
-      sym (any_found (refers_among (store_in a.tape.now (a.old.now ++ a.new.now)) a.from a.tape.now a.at a.n) _ turn.loop.i at-loop-test.loop-test.true
+      sym (any_found (refers_among (store_in a.tape.now (a.old.now ++ a.new.now)) a.from a.tape.now a.at a.n) _ turn.loop-i.i at-loop-test.loop-i-test.true
           (c.refers_or_later.ensures.yes c.if-refers_or_later.true)),
-      turn.loop.invariant.2,
+      turn.loop-i.invariant.2,
     )
 
 pub insert_first-m-requires : goal.insert_first-m-requires
 insert_first-m-requires c =
-    let at-loop-test = c.before.before.before.before in
-    let turn = at-loop-test.before in
-    let start = turn.before.before.before.before.before.before.before in record {
-        sound = sound_before (sound_index turn.loop.invariant.2 start.requires.0) (omega (arith, at-loop-test.loop-test.true));
-        rowed = (turn.loop.invariant.4, (turn.loop.invariant.3, omega (arith, start.requires.1, turn.loop.invariant.1)));
+    let at-loop-test = c in
+    let turn = at-loop-test in
+    let start = turn in record {
+        sound = sound_before (sound_index turn.loop-i.invariant.2 start.requires.sound) (omega (arith, at-loop-test.loop-i-test.true));
+        rowed = (turn.loop-i.invariant.4, (turn.loop-i.invariant.3, omega (arith, start.requires.n_in_bounds, turn.loop-i.invariant.1)));
         m_le_i = 
     }
 
@@ -58,19 +58,19 @@ loop-i-smaller c =
 
 pub loop-i-preserved : goal.loop-i-preserved
 loop-i-preserved c =
-    let at-insert-first = c.before.before in
-    let at-if1 = at-insert-first.before.before in
-    let at-refers-or-later = at-if1.before in
-    let turn = at-refers-or-later.before.before.before in
-    let start = turn.before.before.before.before.before.before.before in
+    let at-insert-first = c in
+    let at-if1 = at-insert-first in
+    let at-refers-or-later = at-if1 in
+    let turn = at-refers-or-later in
+    let start = turn in
     let a = start.args in (
       omega arith,
-      at-insert-first.insert-first.auto.1.1.0 ∙ turn.loop.invariant.1,
-      at-insert-first.insert-first.ensures.0 ∙ turn.loop.invariant.2,
-      at-insert-first.insert-first.ensures.1,
-      at-insert-first.insert-first.ensures.2,
-      left_more (refers_among (store_in a.tape.now (a.old.now ++ a.new.now)) a.from a.tape.now a.at a.n) _ turn.loop.invariant.5
-          at-refers-or-later.refers-or-later.ensures at-if1.if1.false,
+      at-insert-first.insert_first-m.auto.words ∙ turn.loop-i.invariant.1,
+      at-insert-first.insert_first-m.ensures.0 ∙ turn.loop-i.invariant.2,
+      at-insert-first.insert_first-m.ensures.1,
+      at-insert-first.insert_first-m.ensures.2,
+      left_more (refers_among (store_in a.tape.now (a.old.now ++ a.new.now)) a.from a.tape.now a.at a.n) _ turn.loop-i.invariant.5
+          at-refers-or-later.refers_or_later.ensures at-if1.if-refers_or_later.false,
     )
 
 pub shape_of-words : goal.shape_of-words
@@ -79,7 +79,7 @@ shape_of-words c =
 
 pub returns : goal.returns
 returns c =
-    let start = c.before.before.before.before.before.before.before.before in
+    let start = c in
     let a = start.args in
     let e : c.loop-i.i ≡ a.count = omega arith in (
       sym (left_all (refers_among (store_in a.tape.now (a.old.now ++ a.new.now)) a.from a.tape.now a.at a.n) _ (rw e at c.loop-i.invariant.5)),

@@ -8,7 +8,7 @@ returns-then-n-le-LONG_STRING c =
 
 pub returns : goal.returns
 returns c =
-    let at-between2 = c.before.before.before in
-    let at-between = at-between2.before.before in
-    key_long _ (omega (arith, at-between.before.if1.false)) at-between.between.ensures at-between2.before.fx-hash2.ensures at-between2.between2.ensures c.fx_hash-back.ensures
+    let at-between2 = c in
+    let at-between = at-between2 in
+    key_long _ (omega (arith, at-between.if-n-le-LONG_STRING.false)) at-between.between.ensures at-between2.fx_hash-front.ensures at-between2.between-2.ensures c.fx_hash-back.ensures
     c.wrapping_add_u64.ensures c.wrapping_add_u64-2.ensures

@@ -11,11 +11,11 @@ overflow_sub-n c =
 
 pub note_target_place-m-requires : goal.note_target_place-m-requires
 note_target_place-m-requires c =
-    let turn = c.before.before in
-let start = turn.before.before.before in
+    let turn = c in
+let start = turn in
 record {
-        naming = start.requires.node (turn.loop.n - 1) (omega (arith, turn.loop.invariant, c.loop-n-test.true));
-        m_in_bounds = omega (arith, turn.loop.invariant)
+        naming = start.requires.node (turn.loop-n.n - 1) (omega (arith, turn.loop-n.invariant, c.loop-n-test.true));
+        m_in_bounds = omega (arith, turn.loop-n.invariant)
     }
 
 pub overflow_sub-n-in-loop-n : goal.overflow_sub-n-in-loop-n
@@ -28,9 +28,9 @@ loop-n-smaller c =
 
 pub loop-n-preserved : goal.loop-n-preserved
 loop-n-preserved c =
-    let at-note-target-place = c.before.before in
-    let turn = at-note-target-place.before.before.before in
-    (omega arith, omega arith, omega (arith, at-note-target-place.note-target-place.ensures, turn.loop.invariant))
+    let at-note-target-place = c in
+    let turn = at-note-target-place in
+    (omega arith, omega arith, omega (arith, at-note-target-place.note_target_place-m.ensures, turn.loop-n.invariant))
 
 pub shape_of-places : goal.shape_of-places
 shape_of-places c =

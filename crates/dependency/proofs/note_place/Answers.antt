@@ -5,5 +5,5 @@ pub string_length-requires : goal.string_length-requires
 string_length-requires c =
     record {
         of_tape = c.requires.naming.store;
-        id_lt_strings = c.named-p.ensures.1.inside _ c.p-1.given.1
+        id_lt_strings = c.named-p.ensures.1.inside _ c.in-Id.is
     }

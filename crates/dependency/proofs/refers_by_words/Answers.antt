@@ -10,16 +10,16 @@ index_strings-requires c =
 
 pub refers_in_parts-requires : goal.refers_in_parts-requires
 refers_in_parts-requires c =
-    let at-index-strings = c.before.before.before in
-    let start = c.before.before.before.before.before.before.before.before.before in
+    let at-index-strings = c in
+    let start = c in
     let base = length start.args.words.now / 4 in (
-      sound_own start.requires.0 start.args.words.now base (omega arith) at-index-strings.index-strings.new.1.1.1.0
-          at-index-strings.index-strings.auto.1.1.1.0 at-index-strings.index-strings.ensures,
+      sound_own start.requires.sound start.args.words.now base (omega arith) at-index-strings.index_strings.new.words
+          at-index-strings.index_strings.auto.words at-index-strings.index_strings.ensures,
       omega (
         arith,
         first_length start.args.words.now base (omega arith)
-            at-index-strings.index-strings.new.1.1.1.0 at-index-strings.index-strings.auto.1.1.1.0,
-        start.requires.1,
+            at-index-strings.index_strings.new.words at-index-strings.index_strings.auto.words,
+        start.requires.in_bounds,
       ),
     )
 -- LEFT: wants record { sound = ..; base_in_bounds = .. }

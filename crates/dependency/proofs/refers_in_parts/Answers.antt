@@ -17,12 +17,12 @@ overflow_add-size c =
 
 pub loop-i-init : goal.loop-i-init
 loop-i-init c =
-    let start = c.before.before.before.before in (
+    let start = c in (
       omega arith,
       refl,
       refl,
       parts_none (store_in start.args.tape.now (start.args.old.now ++ start.args.new.now)) start.args.from start.args.tape.now start.args.at start.args.count,
-      omega (arith, start.requires.1),
+      omega (arith, start.requires.base_in_bounds),
     )
 
 pub overflow_sub-count : goal.overflow_sub-count
@@ -47,53 +47,53 @@ overflow_sub-count-in-loop-i c =
 
 pub refers_to_part-requires : goal.refers_to_part-requires
 refers_to_part-requires c =
-    let turn = c.before.before.before in
-    let start = turn.before.before.before.before.before in (
-      sound_piece (sound_index turn.loop.invariant.2 start.requires.0) turn.loop.i _ (omega (arith, c.loop-i-test.true)),
-      (omega (arith, c.smaller-n.ensures), omega (arith, c.smaller-n.ensures, turn.loop.invariant.4, turn.loop.invariant.1)),
+    let turn = c in
+    let start = turn in (
+      sound_piece (sound_index turn.loop-i.invariant.2 start.requires.sound) turn.loop-i.i _ (omega (arith, c.loop-i-test.true)),
+      (omega (arith, c.smaller-n.ensures), omega (arith, c.smaller-n.ensures, turn.loop-i.invariant.4, turn.loop-i.invariant.1)),
     )
 -- LEFT: wants record { sound = ..; n_le_count = .. }
 
 pub shape_of-words-then-refers_to_part : goal.shape_of-words-then-refers_to_part
 shape_of-words-then-refers_to_part c =
-    let at-refers-to-part = c.before.before.before in
-    let turn = at-refers-to-part.before.before.before.before in
-    at-refers-to-part.refers-to-part.auto.1.1.0 ∙ turn.loop.invariant.1
+    let at-refers-to-part = c in
+    let turn = at-refers-to-part in
+    at-refers-to-part.refers_to_part.auto.words ∙ turn.loop-i.invariant.1
 
 pub returns-then-refers_to_part : goal.returns-then-refers_to_part
 returns-then-refers_to_part c =
-    let at-refers-to-part = c.before.before.before in
-    let turn = at-refers-to-part.before.before.before.before in
-    let start = turn.before.before.before.before.before in
+    let at-refers-to-part = c in
+    let turn = at-refers-to-part in
+    let start = turn in
     parts_found (store_in start.args.tape.now (start.args.old.now ++ start.args.new.now)) start.args.from start.args.tape.now
-    start.args.at start.args.count turn.loop.i _ turn.loop.invariant.0 at-refers-to-part.refers-to-part.ensures.0 c.if-refers_to_part.true
+    start.args.at start.args.count turn.loop-i.i _ turn.loop-i.invariant.0 at-refers-to-part.refers_to_part.ensures.0 c.if-refers_to_part.true
 
 pub overflow_add-i : goal.overflow_add-i
 overflow_add-i c =
-    let at-smaller = c.before.before.before.before.before in
-    let at-loop-test = at-smaller.before in
-    let turn = at-loop-test.before in
-    let start = turn.before.before.before.before.before in
-    omega (arith, at-smaller.smaller.ensures, turn.loop.invariant.0, at-loop-test.loop-test.true, start.requires.0.inside)
+    let at-smaller = c in
+    let at-loop-test = at-smaller in
+    let turn = at-loop-test in
+    let start = turn in
+    omega (arith, at-smaller.smaller-n.ensures, turn.loop-i.invariant.0, at-loop-test.loop-i-test.true, start.requires.sound.inside)
 
 pub loop-i-smaller : goal.loop-i-smaller
 loop-i-smaller c =
-    let at-smaller = c.before.before.before.before.before in
-    let at-loop-test = at-smaller.before in
-    omega (arith, at-smaller.smaller.ensures, at-loop-test.loop-test.true)
+    let at-smaller = c in
+    let at-loop-test = at-smaller in
+    omega (arith, at-smaller.smaller-n.ensures, at-loop-test.loop-i-test.true)
 
 pub loop-i-preserved : goal.loop-i-preserved
 loop-i-preserved c =
-    let at-refers-to-part = c.before.before.before in
-    let at-smaller = at-refers-to-part.before.before in
-    let turn = at-smaller.before.before in
-    let start = turn.before.before.before.before.before in (
-      omega (arith, at-smaller.smaller.ensures, turn.loop.invariant.0),
-      at-refers-to-part.refers-to-part.auto.1.1.0 ∙ turn.loop.invariant.1,
-      at-refers-to-part.refers-to-part.ensures.1 ∙ turn.loop.invariant.2,
+    let at-refers-to-part = c in
+    let at-smaller = at-refers-to-part in
+    let turn = at-smaller in
+    let start = turn in (
+      omega (arith, at-smaller.smaller-n.ensures, turn.loop-i.invariant.0),
+      at-refers-to-part.refers_to_part.auto.words ∙ turn.loop-i.invariant.1,
+      at-refers-to-part.refers_to_part.ensures.1 ∙ turn.loop-i.invariant.2,
       parts_more (store_in start.args.tape.now (start.args.old.now ++ start.args.new.now)) start.args.from start.args.tape.now
-          start.args.at start.args.count turn.loop.i _ turn.loop.invariant.0 at-refers-to-part.refers-to-part.ensures.0 turn.loop.invariant.3 c.if-refers_to_part.false,
-      turn.loop.invariant.4,
+          start.args.at start.args.count turn.loop-i.i _ turn.loop-i.invariant.0 at-refers-to-part.refers_to_part.ensures.0 turn.loop-i.invariant.3 c.if-refers_to_part.false,
+      turn.loop-i.invariant.4,
     )
 
 pub shape_of-words : goal.shape_of-words
@@ -102,6 +102,6 @@ shape_of-words c =
 
 pub returns : goal.returns
 returns c =
-    let start = c.before.before.before.before.before.before in
+    let start = c in
     parts_all (store_in start.args.tape.now (start.args.old.now ++ start.args.new.now)) start.args.from start.args.tape.now
     start.args.at start.args.count c.loop-i.i (omega (arith, c.loop-i.invariant.0, c.loop-i-test.false)) c.loop-i.invariant.3

@@ -9,34 +9,34 @@ use Rattle.dependency.proofs.refers_or_later.Goals as goal
 
 pub noted_place-v-requires : goal.noted_place-v-requires
 noted_place-v-requires c =
-    let start = c.before.before.before.before.before in
-    sound_naming (sound_node start.requires.0 start.requires.1.0.0)
+    let start = c in
+    sound_naming (sound_node start.requires.sound start.requires.i_lt_count.0)
 
 pub asks_again-requires : goal.asks_again-requires
 asks_again-requires c =
-    let start = c.before.before.before.before.before.before in
+    let start = c in
 record {
-        namings = sound_namings start.requires.0;
-        i_lt_count = start.requires.1.0.0
+        namings = sound_namings start.requires.sound;
+        i_lt_count = start.requires.i_lt_count.0
     }
 
 pub returns-then-asks_again : goal.returns-then-asks_again
 returns-then-asks_again c =
-    let start = c.before.before.before.before.before.before.before.before in
+    let start = c in
     settled_later start.args.tape.now start.args.old.now start.args.new.now _ _ _ _ _ _ c.asks_again.ensures c.if-asks_again.true
 
 pub refers_to_row-requires : goal.refers_to_row-requires
 refers_to_row-requires c =
-    let start = c.before.before.before.before.before.before.before.before in
+    let start = c in
 record {
-        sound_node = sound_node start.requires.0 start.requires.1.0.0;
-        base_in_bounds = start.requires.1.0.1;
-        row = start.requires.1.1.row
+        sound_node = sound_node start.requires.sound start.requires.i_lt_count.0;
+        base_in_bounds = start.requires.i_lt_count.1;
+        row = start.requires.rowed.row
     }
 
 pub returns : goal.returns
 returns c =
-    let start = c.before.before.before.before.before.before.before.before.before in
+    let start = c in
     let a = start.args in
-    settled_here (refers_among (store_in a.tape.now (a.old.now ++ a.new.now)) a.from a.tape.now a.at a.n) _ _ (rowed_refers _ _ _ _ _ start.requires.1.1
+    settled_here (refers_among (store_in a.tape.now (a.old.now ++ a.new.now)) a.from a.tape.now a.at a.n) _ _ (rowed_refers _ _ _ _ _ start.requires.rowed
     c.refers_to_row.ensures)

@@ -5,5 +5,5 @@ use Rattle.estimate.proofs.estimate.Goals as goal
 
 pub returns : goal.returns
 returns c =
-    let at-estimate-checked = c.before.before.before.before.before.before in
-    (at-estimate-checked.estimate-checked.ensures, c.zero_words.ensures ∙ ap zeros at-estimate-checked.estimate-checked.auto.1.1.1.1.1.1.1.0)
+    let at-estimate-checked = c in
+    (at-estimate-checked.estimate_checked-r.ensures, c.zero_words.ensures ∙ ap zeros at-estimate-checked.estimate_checked-r.auto.work)

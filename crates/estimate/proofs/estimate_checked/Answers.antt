@@ -4,8 +4,8 @@ use Rattle.estimate.proofs.estimate_checked.Goals as goal
 
 pub returns-then-f-ne0 : goal.returns-then-f-ne0
 returns-then-f-ne0 c =
-    let at-fitted = c.before.before.before.before.before in
-    estimate_none at-fitted.fitted.ensures c.if-f-ne0.true c.refused.ensures
+    let at-fitted = c in
+    estimate_none at-fitted.fitted-f.ensures c.if-f-ne0.true c.refused.ensures
 
 pub price_fitted-requires : goal.price_fitted-requires
 price_fitted-requires c =
@@ -13,5 +13,5 @@ price_fitted-requires c =
 
 pub returns : goal.returns
 returns c =
-    let at-fitted = c.before.before.before.before.before in
-    estimate_some at-fitted.fitted.ensures c.if-f-ne0.false c.price_fitted.ensures
+    let at-fitted = c in
+    estimate_some at-fitted.fitted-f.ensures c.if-f-ne0.false c.price_fitted.ensures

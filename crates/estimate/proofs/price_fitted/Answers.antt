@@ -9,7 +9,7 @@ use Rattle.estimate.proofs.price_fitted.Goals as goal
 pub new_lengths-l-requires : goal.new_lengths-l-requires
 unfolding edit_of
 new_lengths-l-requires c =
-    let start = c.before.before.before.before.before.before.before in
+    let start = c in
     let i = inside start.requires in record {
         end_le_text = (i.ends, i.normal_ends, i.limit);
         normalized_bound = ((texts_inside start.requires).0, omega arith)
@@ -29,6 +29,6 @@ overflow_cast-q c =
 pub returns : goal.returns
 unfolding edit_of
 returns c =
-    let at-new-lengths = c.before.before.before in
-    let start = at-new-lengths.before.before.before.before.before.before.before.before in
-    priced start.requires c.reading_sizes-s.ensures at-new-lengths.new-lengths.ensures c.price_by.ensures
+    let at-new-lengths = c in
+    let start = at-new-lengths in
+    priced start.requires c.reading_sizes-s.ensures at-new-lengths.new_lengths-l.ensures c.price_by.ensures

@@ -7,7 +7,7 @@ use Rattle.fitting.proofs.region_window.Goals as goal
 
 pub normalized_cut-nstart-requires : goal.normalized_cut-nstart-requires
 normalized_cut-nstart-requires c =
-    let start = c.before.before.before.before in
+    let start = c in
 record {
         count_in_bounds = (held_nodes start.requires.held, held_order start.requires.held);
         cut_bound = start_small start.requires refl
@@ -15,7 +15,7 @@ record {
 
 pub normalized_cut-nend-requires : goal.normalized_cut-nend-requires
 normalized_cut-nend-requires c =
-    let start = c.before.before.before.before.before in
+    let start = c in
 record {
         count_in_bounds = (held_nodes start.requires.held, held_order start.requires.held);
         cut_bound = end_small start.requires refl
@@ -24,11 +24,11 @@ record {
 pub window-requires : goal.window-requires
 unfolding edit_of
 window-requires c =
-    let start = c.before.before.before.before.before.before in
+    let start = c in
     ((given_inside start.requires).edit, normal_order start.requires c.normalized_cut-nstart.ensures c.normalized_cut-nend.ensures)
 
 pub returns : goal.returns
 returns c =
-    let start = c.before.before.before.before.before.before.before in
+    let start = c in
     window_cuts _ _ (length start.args.replacement.now) start.args.start start.args.end start.args.normalized c.window.ensures c.normalized_cut-nstart.ensures
     c.normalized_cut-nend.ensures

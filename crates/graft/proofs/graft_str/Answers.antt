@@ -17,52 +17,52 @@ slice_bounds-representative-start c =
 
 pub intern_last-requires : goal.intern_last-requires
 intern_last-requires c =
-    let s = c.before.before.before.before.before.before.before.before.before.before in
+    let s = c in
 let t = s.args.tape.now in
 let d = s.args.bytes.now in
 let work = s.args.work.now in
-let g = s.requires.1.1.0.0 in
-let shows = shows_by t d work g.words.room s.requires.1.0.1 c.representative-known.ensures.by_index in
-let e = is_answered t d work s.args.strs.now s.args.m s.requires.1.1.0.1 c.representative-known.result s.args.id shows (sym c.is_answered.ensures ∙ c.if-is_answered.true) in
+let g = s.requires.good.0 in
+let shows = shows_by t d work g.words.room s.requires.indexed.1 c.representative-known.ensures.by_index in
+let e = is_answered t d work s.args.strs.now s.args.m s.requires.good.1 c.representative-known.result s.args.id shows (sym c.is_answered.ensures ∙ c.if-is_answered.true) in
 record {
         last_nonzero = (last_there work s.args.strs.now s.args.m.state g (resolve_str (source_store t d) s.args.id) e, omega (arith, g.known, g.words.few));
-        counted = (g.counts, s.requires.1.1.1.1)
+        counted = (g.counts, s.requires.id_lt_strings.1)
     }
 
 pub start_of-requires : goal.start_of-requires
 start_of-requires c =
-    let s = c.before.before.before.before.before.before.before.before.before.before.before in
+    let s = c in
     let t = s.args.tape.now in
     let d = s.args.bytes.now in
     let work = s.args.work.now in
-    let g = s.requires.1.1.0.0 in
-    let shows = shows_by t d work g.words.room s.requires.1.0.1 c.representative-known.ensures.by_index in
-    let e = is_answered t d work s.args.strs.now s.args.m s.requires.1.1.0.1 c.representative-known.result s.args.id shows (sym c.is_answered.ensures ∙ c.if-is_answered.true) in
+    let g = s.requires.good.0 in
+    let shows = shows_by t d work g.words.room s.requires.indexed.1 c.representative-known.ensures.by_index in
+    let e = is_answered t d work s.args.strs.now s.args.m s.requires.good.1 c.representative-known.result s.args.id shows (sym c.is_answered.ensures ∙ c.if-is_answered.true) in
     let told = c.intern_last.ensures work s.args.strs.now (resolve_str (source_store t d) s.args.id) g e in
-    omega (arith, id_small s.args.p s.args.m work s.args.strs.now work s.args.strs.now (resolve_str (source_store t d) s.args.id) c.intern_last.result told, s.requires.1.1.1.2)
+    omega (arith, id_small s.args.p s.args.m work s.args.strs.now work s.args.strs.now (resolve_str (source_store t d) s.args.id) c.intern_last.result told, s.requires.id_lt_strings.2)
 
 pub returns-then-is_answered : goal.returns-then-is_answered
 returns-then-is_answered c =
     λ out.
-    (let s = c.before.before.before.before.before.before.before.before.before.before.before.before in
+    (let s = c in
     let t = s.args.tape.now in
     let d = s.args.bytes.now in
     let work = s.args.work.now in
-    let g = s.requires.1.1.0.0 in
-    let shows = shows_by t d work g.words.room s.requires.1.0.1 c.representative-known.ensures.by_index in
-    let e = is_answered t d work s.args.strs.now s.args.m s.requires.1.1.0.1 c.representative-known.result s.args.id shows (sym c.is_answered.ensures ∙ c.if-is_answered.true) in
+    let g = s.requires.good.0 in
+    let shows = shows_by t d work g.words.room s.requires.indexed.1 c.representative-known.ensures.by_index in
+    let e = is_answered t d work s.args.strs.now s.args.m s.requires.good.1 c.representative-known.result s.args.id shows (sym c.is_answered.ensures ∙ c.if-is_answered.true) in
     let told = c.intern_last.ensures work s.args.strs.now (resolve_str (source_store t d) s.args.id) g e in
     str_answer_lem s.args.p s.args.m work s.args.strs.now work s.args.strs.now (resolve_str (source_store t d) s.args.id) c.intern_last.result told g refl t d out
     c.representative-known.result s.args.id shows _ c.start_of.ensures refl)
 
 pub intern_str-requires : goal.intern_str-requires
 intern_str-requires c =
-    let s = c.before.before.before.before.before.before.before.before.before.before.before in
-let g = s.requires.1.1.0.0 in
+    let s = c in
+let g = s.requires.good.0 in
 record {
-        source = s.requires.0;
-        indexed = s.requires.1.0.0;
+        source = s.requires.source;
+        indexed = s.requires.indexed.0;
         good = g;
-        id_lt_strings = s.requires.1.1.1;
-        shows_as = shows_by s.args.tape.now s.args.bytes.now s.args.work.now g.words.room s.requires.1.0.1 c.representative-known.ensures.by_index
+        id_lt_strings = s.requires.id_lt_strings;
+        shows_as = shows_by s.args.tape.now s.args.bytes.now s.args.work.now g.words.room s.requires.indexed.1 c.representative-known.ensures.by_index
     }

@@ -49,12 +49,12 @@ returns-then-usage-eq0 c =
 
 pub word_ok-requires : goal.word_ok-requires
 word_ok-requires c =
-    let start = c.before.before.before.before.before.before.before.before.before.before in
+    let start = c in
     (start.requires.0, c.loop-i-test.true, start.requires.1)
 
 pub returns-then-not-word_ok : goal.returns-then-not-word_ok
 returns-then-not-word_ok c =
-    let start = c.before.before.before.before.before.before.before.before.before.before.before.before in
+    let start = c in
     let read = word_read (shown start.args.contents.now start.args.segments.now start.args.layers start.args.totals) start.args.tape.now start.args.at c.loop-i.i c.uses_of-uses.ensures c.use_in-usage.ensures c.loop-i-test.true c.word_ok.ensures in
     body_failed _ _ c.loop-i.i c.loop-i-test.true (read ∙ c.if-not-word_ok.true)
 
@@ -68,7 +68,7 @@ loop-i-smaller c =
 
 pub loop-i-preserved : goal.loop-i-preserved
 loop-i-preserved c =
-    let start = c.before.before.before.before.before.before.before.before.before.before.before.before in
+    let start = c in
     let read = word_read (shown start.args.contents.now start.args.segments.now start.args.layers start.args.totals) start.args.tape.now start.args.at c.loop-i.i c.uses_of-uses.ensures c.use_in-usage.ensures c.loop-i-test.true c.word_ok.ensures in
     (omega arith, passed_more _ _ c.loop-i.invariant.1 (read ∙ c.if-not-word_ok.false))
 

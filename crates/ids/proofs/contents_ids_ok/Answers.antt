@@ -27,7 +27,7 @@ content_ids_ok-requires c =
 pub returns-then-not-content_ids_ok : goal.returns-then-not-content_ids_ok
 unfolding content_codec
 returns-then-not-content_ids_ok c =
-    let start = c.before.before.before.before.before.before.before in
+    let start = c in
     run_failed content_codec (content_in start.args.st) start.args.tape.now start.args.at c.loop-i.i _ refl _ (c.content_ids_ok.ensures ∙ shown_content start.args.st _) _ c.loop-i-test.true c.if-not-content_ids_ok.true
 
 pub overflow_add-i : goal.overflow_add-i
@@ -41,10 +41,10 @@ loop-i-smaller c =
 pub loop-i-preserved : goal.loop-i-preserved
 unfolding content_codec
 loop-i-preserved c =
-    let start = c.before.before.before.before.before.before.before in
+    let start = c in
     (omega arith, run_more content_codec (content_in start.args.st) start.args.tape.now start.args.at c.loop-i.i _ refl _ (c.content_ids_ok.ensures ∙ shown_content start.args.st _) c.if-not-content_ids_ok.false c.loop-i.invariant.1)
 
 pub returns : goal.returns
 returns c =
-    let start = c.before.before.before.before in
+    let start = c in
     run_passed content_codec (content_in start.args.st) start.args.tape.now start.args.at _ c.loop-i.i (omega arith) c.loop-i.invariant.1

@@ -27,7 +27,7 @@ node_ids_ok-requires c =
 pub returns-then-not-node_ids_ok : goal.returns-then-not-node_ids_ok
 unfolding node_codec
 returns-then-not-node_ids_ok c =
-    let start = c.before.before.before.before.before.before.before.before.before in
+    let start = c in
     run_failed node_codec (node_in start.args.st) start.args.tape.now start.args.at c.loop-i.i _ refl _ (c.node_ids_ok.ensures ∙ shown_node_lem start.args.st _) _ c.loop-i-test.true c.if-not-node_ids_ok.true
 
 pub overflow_add-i : goal.overflow_add-i
@@ -41,10 +41,10 @@ loop-i-smaller c =
 pub loop-i-preserved : goal.loop-i-preserved
 unfolding node_codec
 loop-i-preserved c =
-    let start = c.before.before.before.before.before.before.before.before.before in
+    let start = c in
     (omega arith, run_more node_codec (node_in start.args.st) start.args.tape.now start.args.at c.loop-i.i _ refl _ (c.node_ids_ok.ensures ∙ shown_node_lem start.args.st _) c.if-not-node_ids_ok.false c.loop-i.invariant.1)
 
 pub returns : goal.returns
 returns c =
-    let start = c.before.before.before.before.before in
+    let start = c in
     run_passed node_codec (node_in start.args.st) start.args.tape.now start.args.at _ c.loop-i.i (omega arith) c.loop-i.invariant.1

@@ -27,7 +27,7 @@ segment_ids_ok-requires c =
 pub returns-then-not-segment_ids_ok : goal.returns-then-not-segment_ids_ok
 unfolding segment_codec
 returns-then-not-segment_ids_ok c =
-    let start = c.before.before.before.before.before.before.before.before.before in
+    let start = c in
     run_failed segment_codec (segment_in start.args.st) start.args.tape.now start.args.at c.loop-i.i _ refl _ (c.segment_ids_ok.ensures ∙ shown_segment start.args.st _) _ c.loop-i-test.true c.if-not-segment_ids_ok.true
 
 pub overflow_add-i : goal.overflow_add-i
@@ -41,10 +41,10 @@ loop-i-smaller c =
 pub loop-i-preserved : goal.loop-i-preserved
 unfolding segment_codec
 loop-i-preserved c =
-    let start = c.before.before.before.before.before.before.before.before.before in
+    let start = c in
     (omega arith, run_more segment_codec (segment_in start.args.st) start.args.tape.now start.args.at c.loop-i.i _ refl _ (c.segment_ids_ok.ensures ∙ shown_segment start.args.st _) c.if-not-segment_ids_ok.false c.loop-i.invariant.1)
 
 pub returns : goal.returns
 returns c =
-    let start = c.before.before.before.before.before in
+    let start = c in
     run_passed segment_codec (segment_in start.args.st) start.args.tape.now start.args.at _ c.loop-i.i (omega arith) c.loop-i.invariant.1

@@ -9,5 +9,5 @@ returns-then-not-range_ok c =
 
 pub returns : goal.returns
 returns c =
-    let first = c.before.before.before.before in
-    runs_passed _ _ _ _ first.before.before.body-word.ensures first.before.body-word2.ensures first.range-ok.ensures c.if-not-range_ok.false c.body_word-reading.ensures c.body_word-len.ensures c.range_ok-2.ensures
+    let first = c in
+    runs_passed _ _ _ _ first.body_word-base.ensures first.body_word-size.ensures first.range_ok.ensures c.if-not-range_ok.false c.body_word-reading.ensures c.body_word-len.ensures c.range_ok-2.ensures

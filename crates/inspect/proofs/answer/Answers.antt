@@ -9,48 +9,48 @@ returns-then-n-ne0 c =
 
 pub returns-then-input-at : goal.returns-then-input-at
 returns-then-input-at c =
-    let at-bytes-in = c.before.before.before in
-    let at-tape-in = at-bytes-in.before in
-    let at-if1 = at-tape-in.before in
-    let at-head-refusal = at-if1.before in
-    answer_book _ at-head-refusal.head-refusal.ensures at-if1.if1.false at-tape-in.tape-in.ensures at-bytes-in.bytes_in_lem.ensures
+    let at-bytes-in = c in
+    let at-tape-in = at-bytes-in in
+    let at-if1 = at-tape-in in
+    let at-head-refusal = at-if1 in
+    answer_book _ at-head-refusal.head_refusal-n.ensures at-if1.if-n-ne0.false at-tape-in.tape_in-tape.ensures at-bytes-in.bytes_in-bytes.ensures
     c.behind-at.ensures c.if-input-at.true c.book_answer.ensures
 
 pub edit_refusal-k-requires : goal.edit_refusal-k-requires
 edit_refusal-k-requires c =
-    let at-if1 = c.before.before.before.before in
-    let at-head-refusal = at-if1.before in
-    omega (arith, c.behind-at.ensures, behind_few (headed _ at-head-refusal.head-refusal.ensures at-if1.if1.false))
+    let at-if1 = c in
+    let at-head-refusal = at-if1 in
+    omega (arith, c.behind-at.ensures, behind_few (headed _ at-head-refusal.head_refusal-n.ensures at-if1.if-n-ne0.false))
 
 pub returns-then-k-ne0 : goal.returns-then-k-ne0
 returns-then-k-ne0 c =
-    let at-if2 = c.before.before.before in
-    let at-behind = at-if2.before in
-    let at-bytes-in = at-behind.before in
-    let at-tape-in = at-bytes-in.before in
-    let at-if1 = at-tape-in.before in
-    let at-head-refusal = at-if1.before in
-    answer_edit _ at-head-refusal.head-refusal.ensures at-if1.if1.false at-tape-in.tape-in.ensures at-bytes-in.bytes_in_lem.ensures
-    at-behind.behind.ensures at-if2.if2.false c.edit_refusal-k.ensures c.if-k-ne0.true c.refused-then-k-ne0.ensures
+    let at-if2 = c in
+    let at-behind = at-if2 in
+    let at-bytes-in = at-behind in
+    let at-tape-in = at-bytes-in in
+    let at-if1 = at-tape-in in
+    let at-head-refusal = at-if1 in
+    answer_edit _ at-head-refusal.head_refusal-n.ensures at-if1.if-n-ne0.false at-tape-in.tape_in-tape.ensures at-bytes-in.bytes_in-bytes.ensures
+    at-behind.behind-at.ensures at-if2.if-input-at.false c.edit_refusal-k.ensures c.if-k-ne0.true c.refused-then-k-ne0.ensures
 
 pub edit_answer-requires : goal.edit_answer-requires
 edit_answer-requires c =
-    let at-behind = c.before.before.before.before in
-    let at-if1 = at-behind.before.before.before in
-    let at-head-refusal = at-if1.before in (
-      omega (arith, at-behind.behind.ensures, behind_few (headed _ at-head-refusal.head-refusal.ensures at-if1.if1.false)),
+    let at-behind = c in
+    let at-if1 = at-behind in
+    let at-head-refusal = at-if1 in (
+      omega (arith, at-behind.behind-at.ensures, behind_few (headed _ at-head-refusal.head_refusal-n.ensures at-if1.if-n-ne0.false)),
       (edit_there _ _ c.edit_refusal-k.ensures c.if-k-ne0.false).0,
     )
 
 pub returns : goal.returns
 returns c =
-    let at-if3 = c.before.before.before.before in
-    let at-edit-refusal = at-if3.before in
-    let at-if2 = at-edit-refusal.before in
-    let at-behind = at-if2.before in
-    let at-bytes-in = at-behind.before in
-    let at-tape-in = at-bytes-in.before in
-    let at-if1 = at-tape-in.before in
-    let at-head-refusal = at-if1.before in
-    answer_region _ at-head-refusal.head-refusal.ensures at-if1.if1.false at-tape-in.tape-in.ensures at-bytes-in.bytes_in_lem.ensures
-    at-behind.behind.ensures at-if2.if2.false at-edit-refusal.edit-refusal.ensures at-if3.if3.false c.edit_answer.ensures
+    let at-if3 = c in
+    let at-edit-refusal = at-if3 in
+    let at-if2 = at-edit-refusal in
+    let at-behind = at-if2 in
+    let at-bytes-in = at-behind in
+    let at-tape-in = at-bytes-in in
+    let at-if1 = at-tape-in in
+    let at-head-refusal = at-if1 in
+    answer_region _ at-head-refusal.head_refusal-n.ensures at-if1.if-n-ne0.false at-tape-in.tape_in-tape.ensures at-bytes-in.bytes_in-bytes.ensures
+    at-behind.behind-at.ensures at-if2.if-input-at.false at-edit-refusal.edit_refusal-k.ensures at-if3.if-k-ne0.false c.edit_answer.ensures

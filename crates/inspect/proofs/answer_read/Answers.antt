@@ -11,5 +11,5 @@ slice_bounds-answer-end c =
 
 pub returns : goal.returns
 returns c =
-    let start = c.before.before.before.before.before.before.before in
+    let start = c in
     λ s e. c.answer.ensures ∙ ap outcome_of (read_asked start.args.input.now start.requires.0 start.args.n s e)

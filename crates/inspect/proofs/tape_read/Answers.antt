@@ -13,5 +13,5 @@ slice_bounds-tape_in-end c =
 
 pub returns : goal.returns
 returns c =
-    let start = c.before.before.before in
-    λ s e. c.tape_in.ensures ∙ ap (λ (x : List ℕ). tape_in x) (read_stream start.args.input.now start.requires.0.0 start.args.n s e start.requires.1)
+    let start = c in
+    λ s e. c.tape_in.ensures ∙ ap (λ (x : List ℕ). tape_in x) (read_stream start.args.input.now start.requires.input_len.0 start.args.n s e start.requires.input_value)

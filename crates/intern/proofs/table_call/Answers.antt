@@ -12,48 +12,48 @@ use Rattle.intern.proofs.table_call.Goals as goal
 
 pub table_hit-requires : goal.table_hit-requires
 table_hit-requires c =
-    let start = c.before.before.before.before.before.before.before.before in
+    let start = c in
     let lookup = c.lookup-p in
     let stops : (probe_of lookup.result).slot ≡ 0 → lookup.result.steps < 16 = λ e. absurd (c.if-slot-ne0.true e) in
     let p = probe_of lookup.result in
-    let first = near_first start.args.work.now start.args.strs.now start.args.st start.requires.0 start.args.s.now start.requires.1.0.0 16 (lit≤ tt) p lookup.ensures stops in
-    let in_table = probe_in start.args.work.now start.args.strs.now start.args.st start.requires.0 start.args.s.now start.requires.1.0.0 start.requires.1.0.1 p first in
-    (start.requires.0.counts, start.requires.1.1.0, start.requires.1.1.1, in_table.2)
+    let first = near_first start.args.work.now start.args.strs.now start.args.st start.requires.good start.args.s.now start.requires.slots_nonzero.0 16 (lit≤ tt) p lookup.ensures stops in
+    let in_table = probe_in start.args.work.now start.args.strs.now start.args.st start.requires.good start.args.s.now start.requires.slots_nonzero.0 start.requires.slots_nonzero.1 p first in
+    (start.requires.good.counts, start.requires.calls_bound, start.requires.calls_bound.1, in_table.2)
 
 pub returns-then-slot-ne0 : goal.returns-then-slot-ne0
 returns-then-slot-ne0 c =
-    let start = c.before.before.before.before.before.before.before.before.before.before in
+    let start = c in
     let lookup = c.lookup-p in
     let ne = c.if-slot-ne0.true in
     let stops : (probe_of lookup.result).slot ≡ 0 → lookup.result.steps < 16 = λ e. absurd (ne e) in
     let p = probe_of lookup.result in
-    let first = near_first start.args.work.now start.args.strs.now start.args.st start.requires.0 start.args.s.now start.requires.1.0.0 16 (lit≤ tt) p lookup.ensures stops in
-    let in_table = probe_in start.args.work.now start.args.strs.now start.args.st start.requires.0 start.args.s.now start.requires.1.0.0 start.requires.1.0.1 p first in
-    let adds = adds_table_hit _ _ start.requires.0.counts _ _ start.requires.1.1.1 in_table.2 c.table_hit.ensures in
-    hit_told start.args.work.now start.args.strs.now start.args.st start.requires.0 start.args.s.now start.args.resized p first _ adds _ ne in_table.1 c.known.ensures
+    let first = near_first start.args.work.now start.args.strs.now start.args.st start.requires.good start.args.s.now start.requires.slots_nonzero.0 16 (lit≤ tt) p lookup.ensures stops in
+    let in_table = probe_in start.args.work.now start.args.strs.now start.args.st start.requires.good start.args.s.now start.requires.slots_nonzero.0 start.requires.slots_nonzero.1 p first in
+    let adds = adds_table_hit _ _ start.requires.good.counts _ _ start.requires.calls_bound.1 in_table.2 c.table_hit.ensures in
+    hit_told start.args.work.now start.args.strs.now start.args.st start.requires.good start.args.s.now start.args.resized p first _ adds _ ne in_table.1 c.known.ensures
 
 pub table_alloc-requires : goal.table_alloc-requires
 table_alloc-requires c =
-    let start = c.before.before.before.before.before.before.before.before.before.before.before.before in
+    let start = c in
 let lookup = c.lookup-p in
 let stops : (probe_of lookup.result).slot ≡ 0 → lookup.result.steps < 16 = λ e. c.if-p.true in
 let p = probe_of lookup.result in
-let first = near_first start.args.work.now start.args.strs.now start.args.st start.requires.0 start.args.s.now start.requires.1.0.0 16 (lit≤ tt) p lookup.ensures stops in
-let in_table = probe_in start.args.work.now start.args.strs.now start.args.st start.requires.0 start.args.s.now start.requires.1.0.0 start.requires.1.0.1 p first in
+let first = near_first start.args.work.now start.args.strs.now start.args.st start.requires.good start.args.s.now start.requires.slots_nonzero.0 16 (lit≤ tt) p lookup.ensures stops in
+let in_table = probe_in start.args.work.now start.args.strs.now start.args.st start.requires.good start.args.s.now start.requires.slots_nonzero.0 start.requires.slots_nonzero.1 p first in
 record {
-        good = start.requires.0;
-        slots_nonzero = (start.requires.1.0.0, start.requires.1.1.0, start.requires.1.1.1);
+        good = start.requires.good;
+        slots_nonzero = (start.requires.slots_nonzero.0, start.requires.calls_bound, start.requires.calls_bound.1);
         at_lt_slots = (in_table.0, in_table.2, in_table.3 ∙ c.if-slot-ne0.false)
     }
 
 pub returns-then-p : goal.returns-then-p
 returns-then-p c =
-    let start = c.before.before.before.before.before.before.before.before.before.before.before.before.before.before.before.before.before in
+    let start = c in
     let lookup = c.lookup-p in
     let table-alloc = c.table_alloc in
     let stops : (probe_of lookup.result).slot ≡ 0 → lookup.result.steps < 16 = λ e. c.if-p.true in
     let p = probe_of lookup.result in
-    let first = near_first start.args.work.now start.args.strs.now start.args.st start.requires.0 start.args.s.now start.requires.1.0.0 16 (lit≤ tt) p lookup.ensures stops in
-    let told = call_alloc start.args.work.now start.args.strs.now start.args.st start.requires.0 start.args.s.now start.args.resized p first c.if-slot-ne0.false in
+    let first = near_first start.args.work.now start.args.strs.now start.args.st start.requires.good start.args.s.now start.requires.slots_nonzero.0 16 (lit≤ tt) p lookup.ensures stops in
+    let told = call_alloc start.args.work.now start.args.strs.now start.args.st start.requires.good start.args.s.now start.args.resized p first c.if-slot-ne0.false in
     subst (λ (a : Interned). Told start.args.work.now start.args.strs.now start.args.st table-alloc.new.0 table-alloc.new.1.0 table-alloc.result a)
     told table-alloc.ensures

@@ -22,10 +22,10 @@ overflow_add-mid c =
 
 pub far_string-requires : goal.far_string-requires
 far_string-requires c =
-    let start = c.before.before.before.before.before.before.before in
+    let start = c in
 record {
-        good = start.requires.0;
-        slots_nonzero = (start.requires.1, omega arith)
+        good = start.requires.good;
+        slots_nonzero = (start.requires.slots_nonzero, omega arith)
     }
 
 pub overflow_add-lo : goal.overflow_add-lo

@@ -6,23 +6,23 @@ use Rattle.interner.proofs.far_string.Goals as goal
 
 pub overflow_sub-p : goal.overflow_sub-p
 overflow_sub-p c =
-    let start = c.before.before.before.before in
+    let start = c in
     let far-probe = c.far_probe-p in
-    let named = far_named start.args.work.now start.args.strs.now start.args.st start.requires.0 start.args.j start.requires.1 (probe_of far-probe.result) far-probe.ensures in
+    let named = far_named start.args.work.now start.args.strs.now start.args.st start.requires.good start.args.j start.requires.slots_nonzero (probe_of far-probe.result) far-probe.ensures in
     omega (arith, named)
 
 pub resolve-requires : goal.resolve-requires
 resolve-requires c =
-    let start = c.before.before.before.before in
+    let start = c in
 let far-probe = c.far_probe-p in
-let named = far_named start.args.work.now start.args.strs.now start.args.st start.requires.0 start.args.j start.requires.1 (probe_of far-probe.result) far-probe.ensures in
+let named = far_named start.args.work.now start.args.strs.now start.args.st start.requires.good start.args.j start.requires.slots_nonzero (probe_of far-probe.result) far-probe.ensures in
 record {
-        good = start.requires.0;
+        good = start.requires.good;
         id_lt_count = named.1
     }
 
 pub returns : goal.returns
 returns c =
-    let start = c.before.before.before.before.before in
+    let start = c in
     let far-probe = c.far_probe-p in
-    far_bytes start.args.work.now start.args.strs.now start.args.st start.requires.0 start.args.j start.requires.1 (probe_of far-probe.result) far-probe.ensures _ c.resolve.ensures
+    far_bytes start.args.work.now start.args.strs.now start.args.st start.requires.good start.args.j start.requires.slots_nonzero (probe_of far-probe.result) far-probe.ensures _ c.resolve.ensures

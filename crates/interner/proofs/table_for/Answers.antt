@@ -7,7 +7,7 @@ use Rattle.interner.proofs.table_for.Goals as goal
 
 pub returns-then-slots-eq0 : goal.returns-then-slots-eq0
 returns-then-slots-eq0 c =
-    let start = c.before.before.before.before.before.before.before.before.before.before.before.before in
+    let start = c in
     let clear-part = c.clear_part in
     first_ready start.args.work.now start.args.strs.now start.args.st start.requires _ _ clear-part.ensures
     c.if-slots-eq0.true c.with_slots.ensures _ c.forget.ensures
@@ -18,7 +18,7 @@ due-requires c =
 
 pub grow-requires : goal.grow-requires
 grow-requires c =
-    let start = c.before.before.before.before.before.before in
+    let start = c in
 let ne = c.if-slots-eq0.false in
 let due = sym c.due.ensures ∙ c.if-due.true in
 let lo = grows_lo start.args.work.now start.args.strs.now start.args.st start.requires ne due in
@@ -31,7 +31,7 @@ record {
 
 pub overflow_mul-slots : goal.overflow_mul-slots
 overflow_mul-slots c =
-    let start = c.before.before.before.before.before.before.before.before.before.before.before.before.before in
+    let start = c in
     let ne = c.if-slots-eq0.false in
     let due = sym c.due.ensures ∙ c.if-due.true in
     let hi = grows_hi start.args.work.now start.args.strs.now start.args.st start.requires ne due in
@@ -39,7 +39,7 @@ overflow_mul-slots c =
 
 pub returns-then-due : goal.returns-then-due
 returns-then-due c =
-    let start = c.before.before.before.before.before.before.before.before.before.before.before.before.before.before in
+    let start = c in
     let grow = c.grow in
     let ne = c.if-slots-eq0.false in
     let due = sym c.due.ensures ∙ c.if-due.true in
@@ -48,6 +48,6 @@ returns-then-due c =
 
 pub returns : goal.returns
 returns c =
-    let start = c.before.before.before.before.before.before in
+    let start = c in
     let ne = c.if-slots-eq0.false in
     stay_ready start.args.work.now start.args.strs.now start.args.st start.requires ne _ (sym c.due.ensures ∙ c.if-due.false) c.with_slots-2.ensures

@@ -26,24 +26,24 @@ overflow_add-place c =
 
 pub refers_to-r-requires : goal.refers_to-r-requires
 refers_to-r-requires c =
-    let start = c.before.before.before.before.before.before.before.before.before.before in
+    let start = c in
 record {
-        sound = start.requires.0;
-        base_in_bounds = start.requires.1.0;
-        noted = start.requires.1.1.0;
-        sound_node = sound_node start.requires.1.1.1 c.loop-i-test.true
+        sound = start.requires.sound;
+        base_in_bounds = start.requires.base_in_bounds;
+        noted = start.requires.noted;
+        sound_node = sound_node start.requires.sound_2 c.loop-i-test.true
     }
 
 pub returns-then-r-eq1 : goal.returns-then-r-eq1
 unfolding node_codec
 returns-then-r-eq1 c =
-    let at-loop-test = c.before.before in
-    let turn = at-loop-test.before in
-    let start = turn.before.before.before.before.before.before.before.before.before in
+    let at-loop-test = c in
+    let turn = at-loop-test in
+    let start = turn in
     let a = start.args in
     told_yes (sym (run_found node_codec (refers_to (store_in a.tape.now (a.old.now ++ a.new.now)) (records_at node_codec a.tape.now a.at a.count) (store_in
-    a.reading.now (a.front.now ++ a.back.now))) a.reading.now a.place turn.loop.i _ refl _ (c.refers_to-r.ensures.told (λ e. omega
-    (arith, e, c.if-r-eq1.true))) _ at-loop-test.loop-test.true (eq-eqb _ 1 c.if-r-eq1.true)))
+    a.reading.now (a.front.now ++ a.back.now))) a.reading.now a.place turn.loop-i.i _ refl _ (c.refers_to-r.ensures.told (λ e. omega
+    (arith, e, c.if-r-eq1.true))) _ at-loop-test.loop-i-test.true (eq-eqb _ 1 c.if-r-eq1.true)))
 
 pub returns-then-r-eq2 : goal.returns-then-r-eq2
 returns-then-r-eq2 c =
@@ -68,22 +68,22 @@ loop-i-smaller c =
 pub loop-i-preserved : goal.loop-i-preserved
 unfolding node_codec
 loop-i-preserved c =
-    let at-if2 = c.before.before in
-    let at-if1 = at-if2.before in
-    let at-refers-to = at-if1.before in
-    let turn = at-refers-to.before.before in
-    let start = turn.before.before.before.before.before.before.before.before.before in
+    let at-if2 = c in
+    let at-if1 = at-if2 in
+    let at-refers-to = at-if1 in
+    let turn = at-refers-to in
+    let start = turn in
     let a = start.args in (
       omega arith,
       run_missed node_codec (refers_to (store_in a.tape.now (a.old.now ++ a.new.now)) (records_at node_codec a.tape.now a.at a.count) (store_in a.reading.now
-          (a.front.now ++ a.back.now))) a.reading.now a.place turn.loop.i _ refl _ (at-refers-to.refers_to.ensures.told at-if2.if2.false) (ne_eqb _ 1
-          at-if1.if1.false) turn.loop.invariant.1,
+          (a.front.now ++ a.back.now))) a.reading.now a.place turn.loop-i.i _ refl _ (at-refers-to.refers_to-r.ensures.told at-if2.if-r-eq2.false) (ne_eqb _ 1
+          at-if1.if-r-eq1.false) turn.loop-i.invariant.1,
       c.if-vain-gt128.false,
     )
 
 pub returns : goal.returns
 returns c =
-    let start = c.before.before.before.before.before.before.before.before.before.before in
+    let start = c in
     let a = start.args in
     told_no (sym (run_nowhere node_codec (refers_to (store_in a.tape.now (a.old.now ++ a.new.now)) (records_at node_codec a.tape.now a.at a.count) (store_in
     a.reading.now (a.front.now ++ a.back.now))) a.reading.now a.place _ c.loop-i.i (omega arith) c.loop-i.invariant.1))

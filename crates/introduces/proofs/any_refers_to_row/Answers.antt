@@ -16,23 +16,23 @@ loop-i-init c =
 
 pub refers_first_to_row-requires : goal.refers_first_to_row-requires
 refers_first_to_row-requires c =
-    let start = c.before.before.before.before.before.before.before.before.before.before.before in
+    let start = c in
 record {
-        resolvable = start.requires.0;
-        row = start.requires.1.0;
-        sound = sound_before start.requires.1.1 (omega (arith, c.loop-i-test.true));
+        resolvable = start.requires.resolvable;
+        row = start.requires.row;
+        sound = sound_before start.requires.sound (omega (arith, c.loop-i-test.true));
         missed = c.loop-i.invariant.1
     }
 
 pub returns-then-refers_first_to_row : goal.returns-then-refers_first_to_row
 unfolding node_codec
 returns-then-refers_first_to_row c =
-    let at-loop-test = c.before.before in
-    let turn = at-loop-test.before in
-    let start = turn.before.before.before.before.before.before.before.before.before.before in
+    let at-loop-test = c in
+    let turn = at-loop-test in
+    let start = turn in
     let a = start.args in
     run_found node_codec (refers_to_row (store_in a.tape.now (a.old.now ++ a.new.now)) a.words.now a.base a.m (store_in a.reading.now
-    (a.front.now ++ a.back.now))) a.reading.now a.place turn.loop.i _ refl _ c.refers_first_to_row.ensures _ at-loop-test.loop-test.true c.if-refers_first_to_row.true
+    (a.front.now ++ a.back.now))) a.reading.now a.place turn.loop-i.i _ refl _ c.refers_first_to_row.ensures _ at-loop-test.loop-i-test.true c.if-refers_first_to_row.true
 
 pub overflow_add-i : goal.overflow_add-i
 overflow_add-i c =
@@ -45,17 +45,17 @@ loop-i-smaller c =
 pub loop-i-preserved : goal.loop-i-preserved
 unfolding node_codec
 loop-i-preserved c =
-    let turn = c.before.before.before in
-    let start = turn.before.before.before.before.before.before.before.before.before.before in
+    let turn = c in
+    let start = turn in
     let a = start.args in (
       omega arith,
       run_missed node_codec (refers_to_row (store_in a.tape.now (a.old.now ++ a.new.now)) a.words.now a.base a.m (store_in a.reading.now
-          (a.front.now ++ a.back.now))) a.reading.now a.place turn.loop.i _ refl _ c.refers_first_to_row.ensures c.if-refers_first_to_row.false turn.loop.invariant.1,
+          (a.front.now ++ a.back.now))) a.reading.now a.place turn.loop-i.i _ refl _ c.refers_first_to_row.ensures c.if-refers_first_to_row.false turn.loop-i.invariant.1,
     )
 
 pub returns : goal.returns
 returns c =
-    let start = c.before.before.before.before.before.before.before.before.before.before.before in
+    let start = c in
     let a = start.args in
     run_nowhere node_codec (refers_to_row (store_in a.tape.now (a.old.now ++ a.new.now)) a.words.now a.base a.m (store_in a.reading.now
     (a.front.now ++ a.back.now))) a.reading.now a.place _ c.loop-i.i (omega arith) c.loop-i.invariant.1

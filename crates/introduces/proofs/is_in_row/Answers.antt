@@ -6,18 +6,18 @@ use Rattle.introduces.proofs.is_in_row.Goals as goal
 
 pub resolve_str-s-requires : goal.resolve_str-s-requires
 resolve_str-s-requires c =
-    let start = c.before.before.before.before.before.before.before.before.before.before.before in
+    let start = c in
 record {
-        resolvable = start.requires.1.1.0;
-        id_lt_strings = (start.requires.1.1.1.inside _ c.p-1.given.1)
+        resolvable = start.requires.resolvable_2;
+        id_lt_strings = (start.requires.plain_in.inside _ c.in-Id.is)
     }
 
 pub returns-in-Id : goal.returns-in-Id
 returns-in-Id c =
-    let at_p = c.before.before.before in
-    let start = at_p.before.before.before.before.before.before.before.before.before.before in
-    among_some _ _ _ _ _ _ at_p.p.given.1 (c.resolve_str-s.ensures ∙ shown_str start.requires.1.1.0.sides _ (start.requires.1.1.1.inside _ at_p.p.given.1)) c.contains.ensures
+    let at_p = c in
+    let start = at_p in
+    among_some _ _ _ _ _ _ at_p.in-Id.is (c.resolve_str-s.ensures ∙ shown_str start.requires.resolvable_2.sides _ (start.requires.plain_in.inside _ at_p.in-Id.is)) c.contains.ensures
 
 pub returns-in-Nothing : goal.returns-in-Nothing
 returns-in-Nothing c =
-    among_nothing _ _ _ _ _ c.enum_told-1.given.1
+    among_nothing _ _ _ _ _ c.in-Nothing.is

@@ -6,18 +6,18 @@ use Rattle.introduces.proofs.refers_by_filter.Goals as goal
 
 pub any_refers_to-requires : goal.any_refers_to-requires
 any_refers_to-requires c =
-    let at-note-bases = c.before.before.before.before.before in
-    let start = at-note-bases.before.before.before.before.before.before.before.before.before in (
-      sound_index (first_kept start.args.words.now start.args.middle start.requires.0.1 at-note-bases.note-bases.new.1.1.0
-          at-note-bases.note-bases.auto.1.1.0 start.args.base at-note-bases.note-bases.ensures.0).first start.requires.1.0,
+    let at-note-bases = c in
+    let start = at-note-bases in (
+      sound_index (first_kept start.args.words.now start.args.middle start.requires.base_le_middle.1 at-note-bases.note_bases.new.words
+          at-note-bases.note_bases.auto.words start.args.base at-note-bases.note_bases.ensures.0).first start.requires.sound,
       (
-        first_inside start.args.words.now start.args.middle start.requires.0.1 at-note-bases.note-bases.new.1.1.0 at-note-bases.note-bases.auto.1.1.0
-            start.requires.0.0,
+        first_inside start.args.words.now start.args.middle start.requires.base_le_middle.1 at-note-bases.note_bases.new.words at-note-bases.note_bases.auto.words
+            start.requires.base_le_middle.0,
         (
-          noted_words (first_front start.args.words.now start.args.middle start.requires.0.1 at-note-bases.note-bases.new.1.1.0
-              at-note-bases.note-bases.auto.1.1.0) at-note-bases.note-bases.ensures.1,
+          noted_words (first_front start.args.words.now start.args.middle start.requires.base_le_middle.1 at-note-bases.note_bases.new.words
+              at-note-bases.note_bases.auto.words) at-note-bases.note_bases.ensures.1,
           sound_index (first_last start.args.words.now
-              start.args.middle start.requires.0.1 at-note-bases.note-bases.new.1.1.0 at-note-bases.note-bases.auto.1.1.0) start.requires.1.1,
+              start.args.middle start.requires.base_le_middle.1 at-note-bases.note_bases.new.words at-note-bases.note_bases.auto.words) start.requires.sound_2,
         ),
       ),
     )
@@ -25,9 +25,9 @@ any_refers_to-requires c =
 
 pub returns : goal.returns
 returns c =
-    let at-note-bases = c.before.before.before.before.before.before in
-    let start = at-note-bases.before.before.before.before.before.before.before.before.before in (
+    let at-note-bases = c in
+    let start = at-note-bases in (
       c.any_refers_to.ensures,
-      first_kept start.args.words.now start.args.middle start.requires.0.1 at-note-bases.note-bases.new.1.1.0
-          at-note-bases.note-bases.auto.1.1.0 _ at-note-bases.note-bases.ensures.0,
+      first_kept start.args.words.now start.args.middle start.requires.base_le_middle.1 at-note-bases.note_bases.new.words
+          at-note-bases.note_bases.auto.words _ at-note-bases.note_bases.ensures.0,
     )

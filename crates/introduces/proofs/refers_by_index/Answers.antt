@@ -16,13 +16,13 @@ overflow_sub-size c =
 
 pub overflow_add-size : goal.overflow_add-size
 overflow_add-size c =
-    let start = c.before.before.before.before.before.before.before in
-    omega (arith, start.requires.0, start.well_formed_lem)
+    let start = c in
+    omega (arith, start.requires.base_bound, start.well_formed)
 
 pub loop-i-init : goal.loop-i-init
 loop-i-init c =
-    let start = c.before.before.before.before.before.before.before in
-    (omega arith, kept_none _ _ _, unreferred_none _ _ _ _ _, omega (arith, start.requires.0))
+    let start = c in
+    (omega arith, kept_none _ _ _, unreferred_none _ _ _ _ _, omega (arith, start.requires.base_bound))
 
 pub overflow_sub-count : goal.overflow_sub-count
 overflow_sub-count c =
@@ -34,62 +34,62 @@ fewer-n-requires c =
 
 pub overflow_mul-i : goal.overflow_mul-i
 overflow_mul-i c =
-    let start = c.before.before.before.before.before.before.before.before.before.before.before in
-    omega (arith, start.requires.1.0.inside, c.loop-i-test.true)
+    let start = c in
+    omega (arith, start.requires.sound.inside, c.loop-i-test.true)
 
 pub overflow_add-at : goal.overflow_add-at
 overflow_add-at c =
-    let start = c.before.before.before.before.before.before.before.before.before.before.before in
-    omega (arith, start.requires.1.0.inside, c.loop-i-test.true)
+    let start = c in
+    omega (arith, start.requires.sound.inside, c.loop-i-test.true)
 
 pub refers_to_some-requires : goal.refers_to_some-requires
 refers_to_some-requires c =
-    let turn = c.before.before.before in
-    let start = turn.before.before.before.before.before.before.before.before in record {
-        count_bound = (omega (arith, c.fewer-n.ensures, turn.loop.invariant.3), omega (arith, turn.loop.invariant.1.size, start.requires.0.1));
+    let turn = c in
+    let start = turn in record {
+        count_bound = (omega (arith, c.fewer-n.ensures, turn.loop-i.invariant.3), omega (arith, turn.loop-i.invariant.1.size, start.requires.base_bound.1));
         sound = (
-        sound_piece (sound_index turn.loop.invariant.1.first start.requires.1.0) _ _ (omega
-            (arith, c.fewer-n.ensures, turn.loop.invariant.0)),
-        sound_index turn.loop.invariant.1.last start.requires.1.1,
+        sound_piece (sound_index turn.loop-i.invariant.1.first start.requires.sound) _ _ (omega
+            (arith, c.fewer-n.ensures, turn.loop-i.invariant.0)),
+        sound_index turn.loop-i.invariant.1.last start.requires.sound_2,
       );
         sound_2 = 
     }
 
 pub shape_of-words-then-refers_to_some : goal.shape_of-words-then-refers_to_some
 shape_of-words-then-refers_to_some c =
-    let at-refers-to-some = c.before.before.before in
-    let turn = at-refers-to-some.before.before.before.before in
-    at-refers-to-some.refers-to-some.ensures.1.size ∙ turn.loop.invariant.1.size
+    let at-refers-to-some = c in
+    let turn = at-refers-to-some in
+    at-refers-to-some.refers_to_some.ensures.1.size ∙ turn.loop-i.invariant.1.size
 
 pub returns-then-refers_to_some : goal.returns-then-refers_to_some
 returns-then-refers_to_some c =
-    let at-refers-to-some = c.before.before.before in
-    let at-fewer = at-refers-to-some.before.before in
-    let turn = at-fewer.before.before in
-    referred_here turn.loop.invariant.2 _ at-refers-to-some.refers-to-some.ensures.0 c.if-refers_to_some.true _ (omega (arith, at-fewer.fewer.ensures, turn.loop.invariant.0))
+    let at-refers-to-some = c in
+    let at-fewer = at-refers-to-some in
+    let turn = at-fewer in
+    referred_here turn.loop-i.invariant.2 _ at-refers-to-some.refers_to_some.ensures.0 c.if-refers_to_some.true _ (omega (arith, at-fewer.fewer-n.ensures, turn.loop-i.invariant.0))
 
 pub overflow_add-i : goal.overflow_add-i
 overflow_add-i c =
-    let at-fewer = c.before.before.before.before.before in
-    let turn = at-fewer.before.before in
-    let start = turn.before.before.before.before.before.before.before.before in
-    omega (arith, at-fewer.fewer.ensures, turn.loop.invariant.0, start.requires.1.0.inside)
+    let at-fewer = c in
+    let turn = at-fewer in
+    let start = turn in
+    omega (arith, at-fewer.fewer-n.ensures, turn.loop-i.invariant.0, start.requires.sound.inside)
 
 pub loop-i-smaller : goal.loop-i-smaller
 loop-i-smaller c =
-    let at-fewer = c.before.before.before.before.before in
-    let at-loop-test = at-fewer.before in
-    omega (arith, at-fewer.fewer.ensures, at-loop-test.loop-test.true)
+    let at-fewer = c in
+    let at-loop-test = at-fewer in
+    omega (arith, at-fewer.fewer-n.ensures, at-loop-test.loop-i-test.true)
 
 pub loop-i-preserved : goal.loop-i-preserved
 loop-i-preserved c =
-    let at-refers-to-some = c.before.before.before in
-    let at-fewer = at-refers-to-some.before.before in
-    let turn = at-fewer.before.before in (
-      omega (arith, at-fewer.fewer.ensures, turn.loop.invariant.0),
-      kept_more turn.loop.invariant.1 at-refers-to-some.refers-to-some.ensures.1,
-      unreferred_more turn.loop.invariant.2 _ at-refers-to-some.refers-to-some.ensures.0 c.if-refers_to_some.false,
-      turn.loop.invariant.3,
+    let at-refers-to-some = c in
+    let at-fewer = at-refers-to-some in
+    let turn = at-fewer in (
+      omega (arith, at-fewer.fewer-n.ensures, turn.loop-i.invariant.0),
+      kept_more turn.loop-i.invariant.1 at-refers-to-some.refers_to_some.ensures.1,
+      unreferred_more turn.loop-i.invariant.2 _ at-refers-to-some.refers_to_some.ensures.0 c.if-refers_to_some.false,
+      turn.loop-i.invariant.3,
     )
 
 pub shape_of-words : goal.shape_of-words

@@ -10,27 +10,27 @@ use Rattle.introduces.proofs.refers_by_places.Goals as goal
 
 pub any_refers_to_row-requires : goal.any_refers_to_row-requires
 any_refers_to_row-requires c =
-    let at-row-of = c.before.before.before.before.before in
-    let start = at-row-of.before.before.before.before.before.before.before.before.before.before.before in
+    let at-row-of = c in
+    let start = at-row-of in
     let a = start.args in record {
-        resolvable = (sound_index (first_kept a.words.now a.middle start.requires.0.1 at-row-of.row_of.new.1.1.0 at-row-of.row_of.auto.1.1.0 a.base
-          at-row-of.row_of.ensures.0).first start.requires.1.0).strings;
+        resolvable = (sound_index (first_kept a.words.now a.middle start.requires.count_bound.1 at-row-of.row_of-m.new.words at-row-of.row_of-m.auto.words a.base
+          at-row-of.row_of-m.ensures.0).first start.requires.sound).strings;
         row = (
-        (rowed_words (first_front a.words.now a.middle start.requires.0.1 at-row-of.row_of.new.1.1.0 at-row-of.row_of.auto.1.1.0)
-            at-row-of.row_of.ensures.1).row,
-        sound_index (first_last a.words.now a.middle start.requires.0.1 at-row-of.row_of.new.1.1.0
-            at-row-of.row_of.auto.1.1.0) start.requires.1.1,
+        (rowed_words (first_front a.words.now a.middle start.requires.count_bound.1 at-row-of.row_of-m.new.words at-row-of.row_of-m.auto.words)
+            at-row-of.row_of-m.ensures.1).row,
+        sound_index (first_last a.words.now a.middle start.requires.count_bound.1 at-row-of.row_of-m.new.words
+            at-row-of.row_of-m.auto.words) start.requires.sound_2,
       );
         sound = 
     }
 
 pub returns : goal.returns
 returns c =
-    let at-row-of = c.before.before.before.before.before.before in
-    let start = at-row-of.before.before.before.before.before.before.before.before.before.before.before in
+    let at-row-of = c in
+    let start = at-row-of in
     let a = start.args in (
-      rowed_any (rowed_words (first_front a.words.now a.middle start.requires.0.1 at-row-of.row_of.new.1.1.0 at-row-of.row_of.auto.1.1.0)
-          at-row-of.row_of.ensures.1) (store_in a.reading.now (a.front.now ++ a.back.now)) (records_at node_codec a.reading.now a.place a.nodes)
+      rowed_any (rowed_words (first_front a.words.now a.middle start.requires.count_bound.1 at-row-of.row_of-m.new.words at-row-of.row_of-m.auto.words)
+          at-row-of.row_of-m.ensures.1) (store_in a.reading.now (a.front.now ++ a.back.now)) (records_at node_codec a.reading.now a.place a.nodes)
           c.any_refers_to_row.ensures,
-      first_kept a.words.now a.middle start.requires.0.1 at-row-of.row_of.new.1.1.0 at-row-of.row_of.auto.1.1.0 _ at-row-of.row_of.ensures.0,
+      first_kept a.words.now a.middle start.requires.count_bound.1 at-row-of.row_of-m.new.words at-row-of.row_of-m.auto.words _ at-row-of.row_of-m.ensures.0,
     )

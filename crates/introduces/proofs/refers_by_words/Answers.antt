@@ -9,19 +9,19 @@ overflow_sub-middle c =
 
 pub index_both-requires : goal.index_both-requires
 index_both-requires c =
-    let start = c.before.before.before.before.before.before in
+    let start = c in
 record {
-        readable = held_readable start.requires.0 (omega arith);
-        readable_2 = held_readable start.requires.1.0 (omega arith);
+        readable = held_readable start.requires.held (omega arith);
+        readable_2 = held_readable start.requires.held_2 (omega arith);
         base_le_middle = (omega arith, omega arith)
     }
 
 pub refers_before-requires : goal.refers_before-requires
 refers_before-requires c =
-    let at-index-both = c.before.before.before in
-    let start = at-index-both.before.before.before.before.before.before.before in record {
-        base_bound = (omega (arith, start.requires.1.1), omega (arith, at-index-both.index-both.auto.1.1.1.1.1.1.0));
-        ready = (held_ready start.requires.0 at-index-both.index-both.ensures.first, held_ready start.requires.1.0 at-index-both.index-both.ensures.last);
+    let at-index-both = c in
+    let start = at-index-both in record {
+        base_bound = (omega (arith, start.requires.in_bounds), omega (arith, at-index-both.index_both.auto.words));
+        ready = (held_ready start.requires.held at-index-both.index_both.ensures.first, held_ready start.requires.held_2 at-index-both.index_both.ensures.last);
         ready_2 = 
     }
 

@@ -6,8 +6,8 @@ use Rattle.introduces.proofs.refers_first_to_row.Goals as goal
 
 pub noted_place-v-requires : goal.noted_place-v-requires
 noted_place-v-requires c =
-    let start = c.before.before.before.before.before.before.before.before.before in
-    sound_naming (sound_last start.args.i start.requires.1.1.0)
+    let start = c in
+    sound_naming (sound_last start.args.i start.requires.sound)
 
 pub is_target_again-requires : goal.is_target_again-requires
 is_target_again-requires c =
@@ -15,14 +15,14 @@ is_target_again-requires c =
 
 pub returns-then-is_target_again : goal.returns-then-is_target_again
 returns-then-is_target_again c =
-    let start = c.before.before.before.before.before.before.before.before.before.before.before.before in
-    target_again_lem _ _ _ _ start.args.reading.now start.args.front.now start.args.back.now _ _ _ c.is_target_again.ensures c.if-is_target_again.true start.requires.1.1.1
+    let start = c in
+    target_again_lem _ _ _ _ start.args.reading.now start.args.front.now start.args.back.now _ _ _ c.is_target_again.ensures c.if-is_target_again.true start.requires.missed
 
 pub refers_to_row-requires : goal.refers_to_row-requires
 refers_to_row-requires c =
-    let start = c.before.before.before.before.before.before.before.before.before.before.before.before in
+    let start = c in
 record {
-        resolvable = start.requires.0;
-        row = start.requires.1.0;
-        sound_node = sound_last start.args.i start.requires.1.1.0
+        resolvable = start.requires.resolvable;
+        row = start.requires.row;
+        sound_node = sound_last start.args.i start.requires.sound
     }

@@ -16,10 +16,10 @@ loop-i-init c =
 
 pub insert_first-m-requires : goal.insert_first-m-requires
 insert_first-m-requires c =
-    let turn = c.before.before in
-    let start = turn.before.before.before.before.before.before in record {
-        sound = sound_before (sound_index turn.loop.invariant.2 start.requires.0) (omega (arith, c.loop-i-test.true));
-        rowed = (turn.loop.invariant.4, (turn.loop.invariant.3, omega (arith, start.requires.1, turn.loop.invariant.1)));
+    let turn = c in
+    let start = turn in record {
+        sound = sound_before (sound_index turn.loop-i.invariant.2 start.requires.sound) (omega (arith, c.loop-i-test.true));
+        rowed = (turn.loop-i.invariant.4, (turn.loop-i.invariant.3, omega (arith, start.requires.count_in_bounds, turn.loop-i.invariant.1)));
         m_le_i = 
     }
 
@@ -47,6 +47,6 @@ shape_of-words c =
 
 pub returns : goal.returns
 returns c =
-    let start = c.before.before.before.before.before.before.before in
+    let start = c in
     let e : min start.args.count c.loop-i.i ≡ start.args.count = omega arith in
     (c.loop-i.invariant.2, rw e at c.loop-i.invariant.4)

@@ -10,8 +10,8 @@ any_long-requires c =
 
 pub graft_by-requires : goal.graft_by-requires
 graft_by-requires c =
-    let s = c.before.before.before.before.before.before.before.before.before.before.before in
+    let s = c in
 record {
-        source_fits = s.requires.0;
-        min_work_words_in_bounds = (omega (arith, before_length s.args.work.now s.requires.1.0), s.requires.1.1, s.requires.1.2, unpaired s.args.work.now s.requires.1.0)
+        source_fits = s.requires.source_fits;
+        min_work_words_in_bounds = (omega (arith, before_length s.args.work.now s.requires.min_work_words_in_bounds), s.requires.min_work_words_in_bounds.1, s.requires.min_work_words_in_bounds.2, unpaired s.args.work.now s.requires.min_work_words_in_bounds)
     }

@@ -36,7 +36,7 @@ overflow_add-result c =
 
 pub returns-then-level-table-2 : goal.returns-then-level-table-2
 returns-then-level-table-2 c =
-    let start = c.before.before.before.before.before.before in
+    let start = c in
     let if1 = c.if-level-gt254 in
     let if2 = c.if-i-gt1048575 in
     skips_16 start.requires start.args.level start.args.i if1.false if2.false c.if-level-table.false
@@ -59,7 +59,7 @@ overflow_add-result-then-level-table-3 c =
 
 pub returns-then-level-table-3 : goal.returns-then-level-table-3
 returns-then-level-table-3 c =
-    let start = c.before.before.before.before.before.before.before.before in
+    let start = c in
     let if1 = c.if-level-gt254 in
     let if2 = c.if-i-gt1048575 in
     skips_256 start.requires start.args.level start.args.i if1.false if2.false c.if-level-table-2.false
@@ -82,7 +82,7 @@ overflow_add-result-then-level-table-4 c =
 
 pub returns-then-level-table-4 : goal.returns-then-level-table-4
 returns-then-level-table-4 c =
-    let start = c.before.before.before.before.before.before.before.before.before.before in
+    let start = c in
     let if1 = c.if-level-gt254 in
     let if2 = c.if-i-gt1048575 in
     skips_4096 start.requires start.args.level start.args.i if1.false if2.false c.if-level-table-3.false
@@ -97,7 +97,7 @@ overflow_add-result-2 c =
 
 pub returns : goal.returns
 returns c =
-    let start = c.before.before.before.before.before.before.before.before.before.before in
+    let start = c in
     let if1 = c.if-level-gt254 in
     let if2 = c.if-i-gt1048575 in
     skips_65536 start.requires start.args.level start.args.i if1.false if2.false c.if-level-table-4.false

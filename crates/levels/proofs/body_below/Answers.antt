@@ -33,7 +33,7 @@ use_in-usage-requires c =
 
 pub returns-then-usage-eq0 : goal.returns-then-usage-eq0
 returns-then-usage-eq0 c =
-    let start = c.before.before.before.before.before.before.before.before.before.before in
+    let start = c in
     let loop = c.loop-i in
     let uses-of = c.uses_of-uses in
     let loop-test = c.loop-i-test in
@@ -45,16 +45,16 @@ returns-then-usage-eq0 c =
 
 pub word_below-requires : goal.word_below-requires
 word_below-requires c =
-    let start = c.before.before.before.before.before.before.before.before.before.before in
+    let start = c in
 let loop-test = c.loop-i-test in
 record {
-        tables = start.requires.0;
-        at_in_bounds = (start.requires.1, loop-test.true)
+        tables = start.requires.tables;
+        at_in_bounds = (start.requires.at_in_bounds, loop-test.true)
     }
 
 pub returns-then-not-word_below : goal.returns-then-not-word_below
 returns-then-not-word_below c =
-    let start = c.before.before.before.before.before.before.before.before.before.before.before.before in
+    let start = c in
     let loop = c.loop-i in
     let uses-of = c.uses_of-uses in
     let use-in = c.use_in-usage in
@@ -76,7 +76,7 @@ loop-i-smaller c =
 
 pub loop-i-preserved : goal.loop-i-preserved
 loop-i-preserved c =
-    let start = c.before.before.before.before.before.before.before.before.before.before.before.before in
+    let start = c in
     let loop = c.loop-i in
     let uses-of = c.uses_of-uses in
     let use-in = c.use_in-usage in
@@ -89,7 +89,7 @@ loop-i-preserved c =
 
 pub returns : goal.returns
 returns c =
-    let start = c.before.before.before.before.before.before.before.before in
+    let start = c in
     let t = start.args.tape.now in
     let st = start.args.st in
     let level = start.args.level in

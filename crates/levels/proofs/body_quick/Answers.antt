@@ -34,7 +34,7 @@ use_in-usage-requires c =
 
 pub returns-then-usage-eq0 : goal.returns-then-usage-eq0
 returns-then-usage-eq0 c =
-    let start = c.before.before.before.before.before.before.before.before in
+    let start = c in
     let loop = c.loop-i in
     let uses-of = c.uses_of-uses in
     let loop-test = c.loop-i-test in
@@ -46,11 +46,11 @@ returns-then-usage-eq0 c =
 
 pub word_quick-requires : goal.word_quick-requires
 word_quick-requires c =
-    let start = c.before.before.before.before.before.before.before.before in
+    let start = c in
 let loop-test = c.loop-i-test in
 record {
-        of_tape = start.requires.0;
-        at_in_bounds = (start.requires.1, loop-test.true)
+        of_tape = start.requires.of_tape;
+        at_in_bounds = (start.requires.at_in_bounds, loop-test.true)
     }
 
 pub returns-then-not-word_quick : goal.returns-then-not-word_quick
@@ -67,7 +67,7 @@ loop-i-smaller c =
 
 pub loop-i-preserved : goal.loop-i-preserved
 loop-i-preserved c =
-    let start = c.before.before.before.before.before.before.before.before.before.before in
+    let start = c in
     let loop = c.loop-i in
     let uses-of = c.uses_of-uses in
     let use-in = c.use_in-usage in
@@ -80,7 +80,7 @@ loop-i-preserved c =
 
 pub returns : goal.returns
 returns c =
-    let start = c.before.before.before.before.before.before in
+    let start = c in
     let t = start.args.tape.now in
     let st = start.args.st in
     let level = start.args.level in

@@ -6,7 +6,7 @@ use Rattle.levels.proofs.content_below.Goals as goal
 
 pub returns-then-c-eq0 : goal.returns-then-c-eq0
 returns-then-c-eq0 c =
-    let start = c.before.before.before.before.before in
+    let start = c in
     let content_at_lem = c.content_at-c in
     let t = start.args.tape.now in
     let st = start.args.st in
@@ -20,7 +20,7 @@ segments_below-requires c =
 
 pub returns : goal.returns
 returns c =
-    let start = c.before.before.before.before.before.before in
+    let start = c in
     let content_at_lem = c.content_at-c in
     let t = start.args.tape.now in
     let st = start.args.st in

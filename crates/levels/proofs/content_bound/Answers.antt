@@ -13,18 +13,18 @@ loop-r-init c =
 
 pub content_below-requires : goal.content_below-requires
 content_below-requires c =
-    let start = c.before.before.before.before.before in
+    let start = c in
 let content-place = c.content_place-at in
 let t = start.args.tape.now in
 let st = start.args.st in
 record {
-        tops = start.requires.0;
-        at_in_bounds = content_fits t st start.args.i _ start.requires.0.fit start.requires.1 content-place.ensures
+        tops = start.requires.tops;
+        at_in_bounds = content_fits t st start.args.i _ start.requires.tops.fit start.requires.i_lt_contents content-place.ensures
     }
 
 pub returns-then-content_below : goal.returns-then-content_below
 returns-then-content_below c =
-    let start = c.before.before.before.before.before.before.before in
+    let start = c in
     let content-place = c.content_place-at in
     let loop = c.loop-r in
     let t = start.args.tape.now in

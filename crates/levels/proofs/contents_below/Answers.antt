@@ -10,7 +10,7 @@ contents_in-requires c =
 
 pub returns-then-not-contents_in : goal.returns-then-not-contents_in
 returns-then-not-contents_in c =
-    let start = c.before.before.before.before.before in
+    let start = c in
     let t = start.args.tape.now in
     let st = start.args.st in
     let level = start.args.level in
@@ -20,7 +20,7 @@ returns-then-not-contents_in c =
 
 pub returns-then-len-eq0 : goal.returns-then-len-eq0
 returns-then-len-eq0 c =
-    let start = c.before.before.before.before.before.before in
+    let start = c in
     let contents-in = c.contents_in in
     let t = start.args.tape.now in
     let st = start.args.st in
@@ -35,7 +35,7 @@ content_place-at-requires c =
 
 pub contents_walk-requires : goal.contents_walk-requires
 contents_walk-requires c =
-    let start = c.before.before.before.before.before.before.before in
+    let start = c in
 let contents-in = c.contents_in in
 let t = start.args.tape.now in
 let st = start.args.st in
@@ -52,7 +52,7 @@ record {
 
 pub returns : goal.returns
 returns c =
-    let start = c.before.before.before.before.before.before.before.before in
+    let start = c in
     let contents-in = c.contents_in in
     let if1 = c.if-not-contents_in in
     let t = start.args.tape.now in

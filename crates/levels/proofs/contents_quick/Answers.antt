@@ -18,7 +18,7 @@ returns-then-not-contents_in c =
 
 pub returns-then-len-eq0 : goal.returns-then-len-eq0
 returns-then-len-eq0 c =
-    let start = c.before.before.before.before.before in
+    let start = c in
     let contents-in = c.contents_in in
     let t = start.args.tape.now in
     let st = start.args.st in
@@ -33,7 +33,7 @@ content_place-at-requires c =
 
 pub run_quick-requires : goal.run_quick-requires
 run_quick-requires c =
-    let start = c.before.before.before.before.before.before in
+    let start = c in
 let contents-in = c.contents_in in
 let t = start.args.tape.now in
 let st = start.args.st in
@@ -47,7 +47,7 @@ record {
 
 pub returns : goal.returns
 returns c =
-    let start = c.before.before.before.before.before.before.before in
+    let start = c in
     let contents-in = c.contents_in in
     let if2 = c.if-not-contents_in in
     let t = start.args.tape.now in

@@ -42,7 +42,7 @@ overflow_add-start-in-loop-k-2 c =
 pub returns-then-r-start : goal.returns-then-r-start
 unfolding content_codec
 returns-then-r-start c =
-    let start = c.before.before.before.before.before.before.before in
+    let start = c in
     let loop = c.loop-k in
     let loop-test = c.loop-k-test in
     let t = start.args.tape.now in
@@ -64,18 +64,18 @@ loop-k-smaller c =
 pub loop-k-preserved : goal.loop-k-preserved
 unfolding test_at content_codec
 loop-k-preserved c =
-    let start = c.before.before.before.before.before.before.before in
+    let start = c in
     let loop = c.loop-k in
     let t = start.args.tape.now in
     let st = start.args.st in
     let level = start.args.level in
     let at = start.args.at in
     let s = c.content_step-r.ensures in
-    (omega (arith, s.on, s.far), walk_more (test_at content_codec (content_below t st level) t at) s start.requires.1.1 refl loop.invariant.1)
+    (omega (arith, s.on, s.far), walk_more (test_at content_codec (content_below t st level) t at) s start.requires.said refl loop.invariant.1)
 
 pub returns : goal.returns
 returns c =
-    let start = c.before.before.before.before.before in
+    let start = c in
     let t = start.args.tape.now in
     let st = start.args.st in
     let level = start.args.level in

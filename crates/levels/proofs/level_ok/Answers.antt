@@ -21,7 +21,7 @@ bounds-tape-at-2 c =
 
 pub returns-then-tape-at-lt3 : goal.returns-then-tape-at-lt3
 returns-then-tape-at-lt3 c =
-    let start = c.before.before.before.before.before.before in
+    let start = c in
     let t = start.args.tape.now in
     let st = start.args.st in
     let at = start.args.at in
@@ -33,7 +33,7 @@ level_in_range-requires c =
 
 pub returns-then-not-level_in_range : goal.returns-then-not-level_in_range
 returns-then-not-level_in_range c =
-    let start = c.before.before.before.before.before.before.before.before in
+    let start = c in
     let level-in-range = c.level_in_range in
     let t = start.args.tape.now in
     let st = start.args.st in
@@ -53,7 +53,7 @@ body_below-requires c =
 
 pub returns : goal.returns
 returns c =
-    let start = c.before.before.before.before.before.before.before.before.before in
+    let start = c in
     let if1 = c.if-tape-at-lt3 in
     let level-in-range = c.level_in_range in
     let t = start.args.tape.now in

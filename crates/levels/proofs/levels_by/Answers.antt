@@ -14,19 +14,19 @@ next_layer-l-requires c =
 
 pub run_levels_ok-requires : goal.run_levels_ok-requires
 run_levels_ok-requires c =
-    let start = c.before.before.before.before.before.before in
+    let start = c in
 record {
-        tables = start.requires.0;
-        count_in_bounds = walked_fits c.loop-i.invariant.1 start.requires.1 c.loop-i-test.true c.next_layer-l.ensures start.requires.0.segments.fit
+        tables = start.requires.tables;
+        count_in_bounds = walked_fits c.loop-i.invariant.1 start.requires.layers_value c.loop-i-test.true c.next_layer-l.ensures start.requires.tables.segments.fit
     }
 
 pub returns-then-not-run_levels_ok : goal.returns-then-not-run_levels_ok
 returns-then-not-run_levels_ok c =
-    let start = c.before.before.before.before.before.before.before.before in
+    let start = c in
     let loop = c.loop-i in
     let loop-test = c.loop-i-test in
     let next_layer = c.next_layer-l in
-    walked_failed loop.invariant.1 start.requires.1 loop-test.true next_layer.ensures c.run_levels_ok.ensures c.if-not-run_levels_ok.true
+    walked_failed loop.invariant.1 start.requires.layers_value loop-test.true next_layer.ensures c.run_levels_ok.ensures c.if-not-run_levels_ok.true
 
 pub overflow_add-i : goal.overflow_add-i
 overflow_add-i c =
@@ -38,11 +38,11 @@ loop-i-smaller c =
 
 pub loop-i-preserved : goal.loop-i-preserved
 loop-i-preserved c =
-    let start = c.before.before.before.before.before.before.before.before in
+    let start = c in
     let loop = c.loop-i in
     let loop-test = c.loop-i-test in
     let next_layer = c.next_layer-l in
-    (omega arith, walked_more loop.invariant.1 start.requires.1 loop-test.true next_layer.ensures c.run_levels_ok.ensures c.if-not-run_levels_ok.false)
+    (omega arith, walked_more loop.invariant.1 start.requires.layers_value loop-test.true next_layer.ensures c.run_levels_ok.ensures c.if-not-run_levels_ok.false)
 
 pub returns : goal.returns
 returns c =

@@ -16,10 +16,10 @@ next_layer-l-requires c =
 
 pub run_levels_quick-requires : goal.run_levels_quick-requires
 run_levels_quick-requires c =
-    let start = c.before.before.before.before in
+    let start = c in
 record {
-        of_tape = start.requires.0;
-        count_in_bounds = walked_fits c.loop-i.invariant.1 start.requires.1.0 c.loop-i-test.true c.next_layer-l.ensures start.requires.0
+        of_tape = start.requires.of_tape;
+        count_in_bounds = walked_fits c.loop-i.invariant.1 start.requires.layers_value c.loop-i-test.true c.next_layer-l.ensures start.requires.of_tape
     }
 
 pub returns-then-not-run_levels_quick : goal.returns-then-not-run_levels_quick
@@ -36,12 +36,12 @@ loop-i-smaller c =
 
 pub loop-i-preserved : goal.loop-i-preserved
 loop-i-preserved c =
-    let start = c.before.before.before.before.before.before in
+    let start = c in
     let loop = c.loop-i in
     let loop-test = c.loop-i-test in
     let next_layer = c.next_layer-l in
     let run-levels-quick = c.run_levels_quick in
-    (omega arith, walked_more loop.invariant.1 start.requires.1.0 loop-test.true next_layer.ensures (sym (run-levels-quick.ensures c.if-not-run_levels_quick.false)) refl)
+    (omega arith, walked_more loop.invariant.1 start.requires.layers_value loop-test.true next_layer.ensures (sym (run-levels-quick.ensures c.if-not-run_levels_quick.false)) refl)
 
 pub returns : goal.returns
 returns c =

@@ -30,7 +30,7 @@ level_ok-requires c =
 pub returns-then-not-level_ok : goal.returns-then-not-level_ok
 unfolding segment_codec
 returns-then-not-level_ok c =
-    let start = c.before.before.before.before.before.before.before in
+    let start = c in
     let loop = c.loop-i in
     let loop-test = c.loop-i-test in
     let t = start.args.tape.now in
@@ -49,7 +49,7 @@ loop-i-smaller c =
 pub loop-i-preserved : goal.loop-i-preserved
 unfolding segment_codec
 loop-i-preserved c =
-    let start = c.before.before.before.before.before.before.before in
+    let start = c in
     let loop = c.loop-i in
     let t = start.args.tape.now in
     let st = start.args.st in
@@ -58,7 +58,7 @@ loop-i-preserved c =
 
 pub returns : goal.returns
 returns c =
-    let start = c.before.before.before.before.before in
+    let start = c in
     let t = start.args.tape.now in
     let st = start.args.st in
     let at = start.args.at in

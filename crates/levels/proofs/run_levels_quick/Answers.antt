@@ -43,7 +43,7 @@ loop-i-smaller c =
 pub loop-i-preserved : goal.loop-i-preserved
 unfolding segment_codec
 loop-i-preserved c =
-    let start = c.before.before.before.before.before in
+    let start = c in
     let loop = c.loop-i in
     let t = start.args.tape.now in
     let st = start.args.st in
@@ -52,7 +52,7 @@ loop-i-preserved c =
 
 pub returns : goal.returns
 returns c =
-    let start = c.before.before.before in
+    let start = c in
     let t = start.args.tape.now in
     let st = start.args.st in
     let at = start.args.at in

@@ -43,7 +43,7 @@ loop-i-smaller c =
 pub loop-i-preserved : goal.loop-i-preserved
 unfolding content_codec
 loop-i-preserved c =
-    let start = c.before.before.before.before.before in
+    let start = c in
     let loop = c.loop-i in
     let t = start.args.tape.now in
     let st = start.args.st in
@@ -53,7 +53,7 @@ loop-i-preserved c =
 
 pub returns : goal.returns
 returns c =
-    let start = c.before.before.before in
+    let start = c in
     let t = start.args.tape.now in
     let st = start.args.st in
     let level = start.args.level in

@@ -8,23 +8,23 @@ segment_place-at-requires c =
 
 pub overflow_add-v : goal.overflow_add-v
 overflow_add-v c =
-    let start = c.before.before in
+    let start = c in
     let t = start.args.tape.now in
     let st = start.args.st in
-    let fits = segment_fits t st start.args.i c.segment_place-at.result start.requires.0 start.requires.1 c.segment_place-at.ensures in
+    let fits = segment_fits t st start.args.i c.segment_place-at.result start.requires.of_tape start.requires.i_lt_segments c.segment_place-at.ensures in
     omega (arith, fits)
 
 pub bounds-tape-at : goal.bounds-tape-at
 bounds-tape-at c =
-    let start = c.before.before.before in
+    let start = c in
     let t = start.args.tape.now in
     let st = start.args.st in
-    let fits = segment_fits t st start.args.i c.segment_place-at.result start.requires.0 start.requires.1 c.segment_place-at.ensures in
+    let fits = segment_fits t st start.args.i c.segment_place-at.result start.requires.of_tape start.requires.i_lt_segments c.segment_place-at.ensures in
     omega (arith, fits)
 
 pub returns-then-v-m : goal.returns-then-v-m
 returns-then-v-m c =
-    let start = c.before.before.before.before in
+    let start = c in
     let segment-place = c.segment_place-at in
     let t = start.args.tape.now in
     let st = start.args.st in
@@ -40,7 +40,7 @@ overflow_add-result c =
 
 pub returns : goal.returns
 returns c =
-    let start = c.before.before.before.before.before in
+    let start = c in
     let segment-place = c.segment_place-at in
     let t = start.args.tape.now in
     let st = start.args.st in

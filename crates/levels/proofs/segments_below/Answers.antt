@@ -10,7 +10,7 @@ segments_in-requires c =
 
 pub returns-then-not-segments_in : goal.returns-then-not-segments_in
 returns-then-not-segments_in c =
-    let start = c.before.before.before.before in
+    let start = c in
     let t = start.args.tape.now in
     let st = start.args.st in
     let level = start.args.level in
@@ -20,7 +20,7 @@ returns-then-not-segments_in c =
 
 pub returns-then-len-eq0 : goal.returns-then-len-eq0
 returns-then-len-eq0 c =
-    let start = c.before.before.before.before.before in
+    let start = c in
     let segments-in = c.segments_in in
     let t = start.args.tape.now in
     let st = start.args.st in
@@ -35,7 +35,7 @@ segment_place-at-requires c =
 
 pub segments_walk-requires : goal.segments_walk-requires
 segments_walk-requires c =
-    let start = c.before.before.before.before.before.before in
+    let start = c in
 let segments-in = c.segments_in in
 let t = start.args.tape.now in
 let st = start.args.st in
@@ -52,7 +52,7 @@ record {
 
 pub returns : goal.returns
 returns c =
-    let start = c.before.before.before.before.before.before.before in
+    let start = c in
     let segments-in = c.segments_in in
     let if1 = c.if-not-segments_in in
     let t = start.args.tape.now in

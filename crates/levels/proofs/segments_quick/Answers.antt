@@ -18,7 +18,7 @@ returns-then-not-segments_in c =
 
 pub returns-then-len-eq0 : goal.returns-then-len-eq0
 returns-then-len-eq0 c =
-    let start = c.before.before.before.before.before in
+    let start = c in
     let segments-in = c.segments_in in
     let t = start.args.tape.now in
     let st = start.args.st in
@@ -33,7 +33,7 @@ segment_place-at-requires c =
 
 pub levels_below-requires : goal.levels_below-requires
 levels_below-requires c =
-    let start = c.before.before.before.before.before.before in
+    let start = c in
     let segments-in = c.segments_in in
     let t = start.args.tape.now in
     let st = start.args.st in
@@ -44,7 +44,7 @@ levels_below-requires c =
 
 pub returns : goal.returns
 returns c =
-    let start = c.before.before.before.before.before.before.before in
+    let start = c in
     let segments-in = c.segments_in in
     let if2 = c.if-not-segments_in in
     let t = start.args.tape.now in

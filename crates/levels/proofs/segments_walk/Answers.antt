@@ -42,7 +42,7 @@ overflow_add-start-in-loop-k-2 c =
 pub returns-then-r-start : goal.returns-then-r-start
 unfolding segment_codec
 returns-then-r-start c =
-    let start = c.before.before.before.before.before.before in
+    let start = c in
     let loop = c.loop-k in
     let loop-test = c.loop-k-test in
     let t = start.args.tape.now in
@@ -63,17 +63,17 @@ loop-k-smaller c =
 pub loop-k-preserved : goal.loop-k-preserved
 unfolding test_at segment_codec
 loop-k-preserved c =
-    let start = c.before.before.before.before.before.before in
+    let start = c in
     let loop = c.loop-k in
     let t = start.args.tape.now in
     let level = start.args.level in
     let at = start.args.at in
     let s = c.segment_step-r.ensures in
-    (omega (arith, s.on, s.far), walk_more (test_at segment_codec (below level) t at) s start.requires.1.1 refl loop.invariant.1)
+    (omega (arith, s.on, s.far), walk_more (test_at segment_codec (below level) t at) s start.requires.said refl loop.invariant.1)
 
 pub returns : goal.returns
 returns c =
-    let start = c.before.before.before.before in
+    let start = c in
     let t = start.args.tape.now in
     let level = start.args.level in
     let at = start.args.at in

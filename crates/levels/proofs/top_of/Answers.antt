@@ -53,6 +53,6 @@ loop-i-preserved c =
 
 pub returns : goal.returns
 returns c =
-    let start = c.before.before.before.before in
+    let start = c in
     let e : c.loop-i.i ≡ 16 * start.args.k + 16 = omega arith in
     rw e at c.loop-i.invariant.2

@@ -8,7 +8,7 @@ contents_below-requires c =
 
 pub returns-then-usage-eq3 : goal.returns-then-usage-eq3
 returns-then-usage-eq3 c =
-    let start = c.before.before.before.before.before in
+    let start = c in
     let t = start.args.tape.now in
     let st = start.args.st in
     let level = start.args.level in
@@ -23,7 +23,7 @@ segments_below-requires c =
 
 pub returns-then-usage-eq5 : goal.returns-then-usage-eq5
 returns-then-usage-eq5 c =
-    let start = c.before.before.before.before.before.before in
+    let start = c in
     let t = start.args.tape.now in
     let st = start.args.st in
     let level = start.args.level in
@@ -34,7 +34,7 @@ returns-then-usage-eq5 c =
 
 pub returns : goal.returns
 returns c =
-    let start = c.before.before.before.before.before in
+    let start = c in
     let t = start.args.tape.now in
     let st = start.args.st in
     let level = start.args.level in

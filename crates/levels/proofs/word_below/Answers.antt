@@ -10,7 +10,7 @@ used_below-requires c =
 
 pub returns : goal.returns
 returns c =
-    let start = c.before.before.before.before.before.before in
+    let start = c in
     let body-word = c.body_word-w in
     let t = start.args.tape.now in
     let st = start.args.st in

@@ -6,4 +6,4 @@ use Rattle.lookup.proofs.node_found.Goals as goal
 pub returns-in-At : goal.returns-in-At
 unfolding node_found
 returns-in-At c =
-    rw c.f-1.given.1 refl
+    rw c.in-At.is refl

@@ -9,12 +9,12 @@ returns-then-memo-e c =
 
 pub returns-then-wide-place : goal.returns-then-wide-place
 returns-then-wide-place c =
-    let at-if1 = c.before.before.before in
-    let start = at-if1.before.before in
-    is_elsewhere start.args.memo.now start.args.e start.args.place start.args.level at-if1.if1.false (λ q. c.if-wide-place.true (c.wide.ensures ∙ q))
+    let at-if1 = c in
+    let start = at-if1 in
+    is_elsewhere start.args.memo.now start.args.e start.args.place start.args.level at-if1.if-memo-e.false (λ q. c.if-wide-place.true (c.wide.ensures ∙ q))
 
 pub returns : goal.returns
 returns c =
-    let at-if1 = c.before.before.before.before in
-    let start = at-if1.before.before in
-    is_told start.args.memo.now start.args.e start.args.place start.args.level at-if1.if1.false (sym c.wide.ensures ∙ c.if-wide-place.false) refl
+    let at-if1 = c in
+    let start = at-if1 in
+    is_told start.args.memo.now start.args.e start.args.place start.args.level at-if1.if-memo-e.false (sym c.wide.ensures ∙ c.if-wide-place.false) refl

@@ -15,10 +15,10 @@ slice_bounds-run-end c =
 pub returns : goal.returns
 returns c =
     let run = c.run in
-    let start = c.before.before.before.before.before.before.before.before.before.before.before.before.before.before.before.before.before.before.before in (
+    let start = c in (
       run.ensures.0,
       λ s e.
           run.ensures.1
-          ∙ ap (λ (l : List ℕ). line (program l)) (sym e ∙ ap (λ (k : ℕ). take k s) start.requires.0.0)
+          ∙ ap (λ (l : List ℕ). line (program l)) (sym e ∙ ap (λ (k : ℕ). take k s) start.requires.input_len.0)
           ∙ ap line (program_cut s),
     )

@@ -7,34 +7,34 @@ use Rattle.passage.proofs.is_region_text.Goals as goal
 
 pub returns-then-reading-start : goal.returns-then-reading-start
 returns-then-reading-start c =
-    let start = c.before.before.before.before in
+    let start = c in
     text_length_lem start.args.passage.now _ _ start.args.replacement.now start.requires start.args.reading.now (λ e. omega (arith, e, start.requires, c.if-reading-start.true))
 
 pub returns-then-there-start : goal.returns-then-there-start
 returns-then-there-start c =
-    let start = c.before.before.before.before.before in
+    let start = c in
     text_length_lem start.args.passage.now _ _ start.args.replacement.now start.requires start.args.reading.now
     (λ e. omega (arith, e, start.requires, c.if-reading-start.false, c.if-there-start.true))
 
 pub returns-then-not-same : goal.returns-then-not-same
 returns-then-not-same c =
-    let sized = c.before.before.before.before in
-    let start = sized.before.before.before.before.before in
-    text_first _ _ _ _ start.requires _ (omega (arith, start.requires, sized.before.if1.false, sized.if2.false)) _ refl c.same.ensures c.if-not-same.true
+    let sized = c in
+    let start = sized in
+    text_first _ _ _ _ start.requires _ (omega (arith, start.requires, sized.if-reading-start.false, sized.if-there-start.false)) _ refl c.same.ensures c.if-not-same.true
 
 pub returns-then-not-same-2 : goal.returns-then-not-same-2
 returns-then-not-same-2 c =
-    let passed = c.before.before.before in
-    let sized = passed.before.before.before.before in
-    let start = sized.before.before.before.before.before in
-    text_second _ _ _ _ start.requires _ (omega (arith, start.requires, sized.before.if1.false, sized.if2.false)) _ refl passed.before.same.ensures (not-false _ passed.if3.false)
+    let passed = c in
+    let sized = passed in
+    let start = sized in
+    text_second _ _ _ _ start.requires _ (omega (arith, start.requires, sized.if-reading-start.false, sized.if-there-start.false)) _ refl passed.same.ensures passed.if-not-same.false
     c.same-2.ensures c.if-not-same-2.true
 
 pub returns : goal.returns
 returns c =
-    let passed2 = c.before.before.before in
-    let passed = passed2.before.before.before in
-    let sized = passed.before.before.before.before in
-    let start = sized.before.before.before.before.before in
-    text_third _ _ _ _ start.requires _ (omega (arith, start.requires, sized.before.if1.false, sized.if2.false)) _ refl passed.before.same.ensures (not-false _ passed.if3.false)
-    passed2.before.same2.ensures (not-false _ passed2.if4.false) c.same-3.ensures
+    let passed2 = c in
+    let passed = passed2 in
+    let sized = passed in
+    let start = sized in
+    text_third _ _ _ _ start.requires _ (omega (arith, start.requires, sized.if-reading-start.false, sized.if-there-start.false)) _ refl passed.same.ensures passed.if-not-same.false
+    passed2.same-2.ensures passed2.if-not-same-2.false c.same-3.ensures

@@ -9,18 +9,18 @@ returns-then-b-ne0 c =
 
 pub store_of-st-requires : goal.store_of-st-requires
 store_of-st-requires c =
-    let at-if1 = c.before in
-    let book = at-if1.before.before.checked_book.ensures in
-    choose_store _ _ book.0 at-if1.if1.false (book.1 at-if1.if1.false)
+    let at-if1 = c in
+    let book = at-if1.checked_book-b.ensures in
+    choose_store _ _ book.0 at-if1.if-b-ne0.false (book.1 at-if1.if-b-ne0.false)
 
 pub chosen_region-requires : goal.chosen_region-requires
 chosen_region-requires c =
-    let at-if1 = c.before.before.before in
-    let book = at-if1.before.before.checked_book.ensures in
-    choose_held _ _ book.0 at-if1.if1.false (book.1 at-if1.if1.false) c.store_of-st.ensures
+    let at-if1 = c in
+    let book = at-if1.checked_book-b.ensures in
+    choose_held _ _ book.0 at-if1.if-b-ne0.false (book.1 at-if1.if-b-ne0.false) c.store_of-st.ensures
 
 pub returns : goal.returns
 returns c =
-    let at-chosen-region = c.before.before in
-    let at-if1 = at-chosen-region.before.before.before.before in
-    (choose_accepted _ _ at-if1.before.before.checked_book.ensures.0 at-if1.if1.false _ at-chosen-region.chosen_region_lem.ensures, at-chosen-region.chosen_region_lem.auto.1.1.1.1.0)
+    let at-chosen-region = c in
+    let at-if1 = at-chosen-region in
+    (choose_accepted _ _ at-if1.checked_book-b.ensures.0 at-if1.if-b-ne0.false _ at-chosen-region.chosen_region.ensures, at-chosen-region.chosen_region.auto.words)

@@ -17,8 +17,8 @@ string_length-requires c =
 
 pub returns-then-least-string_length : goal.returns-then-least-string_length
 returns-then-least-string_length c =
-    let turn = c.before.before.before.before in
-    long_here _ _ turn.loop.invariant.2 c.string_length.ensures turn.loop.invariant.0 (omega arith) (omega arith)
+    let turn = c in
+    long_here _ _ turn.loop-i.invariant.2 c.string_length.ensures turn.loop-i.invariant.0 (omega arith) (omega arith)
 
 pub overflow_add-i : goal.overflow_add-i
 overflow_add-i c =
@@ -30,8 +30,8 @@ loop-i-smaller c =
 
 pub loop-i-preserved : goal.loop-i-preserved
 loop-i-preserved c =
-    let turn = c.before.before.before.before in
-    (omega arith, omega arith, short_more _ _ turn.loop.invariant.2 c.string_length.ensures (omega arith))
+    let turn = c in
+    (omega arith, omega arith, short_more _ _ turn.loop-i.invariant.2 c.string_length.ensures (omega arith))
 
 pub returns : goal.returns
 returns c =

@@ -17,9 +17,9 @@ next_long-i-requires c =
 
 pub loop-i-init : goal.loop-i-init
 loop-i-init c =
-    let start = c.before.before.before.before.before.before in
+    let start = c in
     let next = c.next_long-i.ensures.place in
-    (refl, refl, next.1, omega arith, paired_none start.requires.1.1.0 (omega (arith, start.requires.1.0.0)), ordered_later start.requires.1.1.1 next.0)
+    (refl, refl, next.1, omega arith, paired_none start.requires.pairs (omega (arith, start.requires.row_len.0)), ordered_later start.requires.ordered next.0)
 
 pub shape_of-row-then-room-n : goal.shape_of-row-then-room-n
 shape_of-row-then-room-n c =
@@ -38,12 +38,12 @@ returns-then-room-n c =
 
 pub pair_string-m-requires : goal.pair_string-m-requires
 pair_string-m-requires c =
-    let turn = c.before.before.before.before.before in
-    let start = turn.before.before.before.before.before.before.before in
-    let inv = turn.loop.invariant in
+    let turn = c in
+    let start = turn in
+    let inv = turn.loop-i.invariant in
     let paired = inv.4 in
-    let few = start.requires.1.0 in (
-      paired_index paired start.requires.0,
+    let few = start.requires.row_len in (
+      paired_index paired start.requires.resolvable,
       (paired.rising, ((omega (arith, inv.0, few, paired.few), omega arith), ((omega (arith, few), omega (arith, few, inv.1)), (paired.pairs, inv.5)))),
     )
 -- LEFT: wants record { resolvable = ..; row = ..; m_in_bounds = ..; n_bound = ..; pairs = ..; ordered = .. }
@@ -58,9 +58,9 @@ overflow_add-i c =
 
 pub next_long-i-requires-in-loop-i : goal.next_long-i-requires-in-loop-i
 next_long-i-requires-in-loop-i c =
-    let start = c.before.before.before.before.before.before.before.before.before.before.before.before.before.before.before.before.before in
+    let start = c in
 record {
-        of_tape = start.requires.0.sides.store;
+        of_tape = start.requires.resolvable.sides.store;
         from_le_strings = omega arith
     }
 
@@ -70,10 +70,10 @@ loop-i-smaller c =
 
 pub loop-i-preserved : goal.loop-i-preserved
 loop-i-preserved c =
-    let at-pair-string = c.before.before.before.before.before in
-    let turn = at-pair-string.before.before.before.before.before.before in
-    let inv = turn.loop.invariant in
-    let paired = at-pair-string.pair-string in
+    let at-pair-string = c in
+    let turn = at-pair-string in
+    let inv = turn.loop-i.invariant in
+    let paired = at-pair-string.pair_string-m in
     let next = c.next_long-i-in-loop-i.ensures.place in (
       paired.auto.1.1.0 ∙ inv.0,
       paired.auto.1.1.1.1.1.1.0 ∙ inv.1,

@@ -9,22 +9,22 @@ use Rattle.representatives.proofs.pair_by_row.Goals as goal
 
 pub pair_all-requires : goal.pair_all-requires
 pair_all-requires c =
-    let at-zero-words = c.before.before.before.before.before in
-    let at-index-strings = at-zero-words.before.before.before.before in
-    let start = at-index-strings.before.before.before.before.before.before.before in
-    let index = at-index-strings.index-strings in
+    let at-zero-words = c in
+    let at-index-strings = at-zero-words in
+    let start = at-index-strings in
+    let index = at-index-strings.index_strings in
     let row = start.args.row.now in
     let room = c.lesser-room.ensures in (
-      resolvable_own row 1024 (omega (arith, start.requires.1)) index.new.1.1.1.0 index.auto.1.1.1.0 start.requires.0 index.ensures,
+      resolvable_own row 1024 (omega (arith, start.requires.row_len)) index.new.1.1.1.0 index.auto.1.1.1.0 start.requires.resolvable index.ensures,
       (
         (
-          first_length row 1024 (omega (arith, start.requires.1)) index.new.1.1.1.0 index.auto.1.1.1.0 ∙ start.requires.1.0,
+          first_length row 1024 (omega (arith, start.requires.row_len)) index.new.1.1.1.0 index.auto.1.1.1.0 ∙ start.requires.row_len,
           omega (arith, room),
-          omega (arith, room, at-zero-words.zero-words.auto.0),
+          omega (arith, room, at-zero-words.zero_words.auto.out),
         ),
         (
-          rw at-zero-words.zero-words.ensures (pairs_zeros _ (length start.args.words.now)),
-          ordered_none (length start.args.words.now) at-zero-words.zero-words.ensures (omega (arith, start.requires.1)) 0,
+          rw at-zero-words.zero_words.ensures (pairs_zeros _ (length start.args.words.now)),
+          ordered_none (length start.args.words.now) at-zero-words.zero_words.ensures (omega (arith, start.requires.row_len)) 0,
         ),
       ),
     )

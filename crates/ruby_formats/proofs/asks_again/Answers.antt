@@ -25,19 +25,19 @@ asks_target-requires c =
 
 pub returns-then-not-asks_target : goal.returns-then-not-asks_target
 returns-then-not-asks_target c =
-    let at-if2 = c.before.before in
-    let at-if1 = at-if2.before in
-    again_other _ _ _ _ _ _ at-if1.if1.false at-if2.if2.false c.asks_target.ensures c.if-not-asks_target.true
+    let at-if2 = c in
+    let at-if1 = at-if2 in
+    again_other _ _ _ _ _ _ at-if1.if-v-i.false at-if2.if-count-v.false c.asks_target.ensures c.if-not-asks_target.true
 
 pub overflow_mul-i : goal.overflow_mul-i
 overflow_mul-i c =
-    let start = c.before.before.before.before.before in
-    omega (arith, (start.requires.0.node _ start.requires.1).inside)
+    let start = c in
+    omega (arith, (start.requires.namings.node _ start.requires.i_lt_count).inside)
 
 pub overflow_add-at-2 : goal.overflow_add-at-2
 overflow_add-at-2 c =
-    let start = c.before.before.before.before.before in
-    omega (arith, (start.requires.0.node _ start.requires.1).inside)
+    let start = c in
+    omega (arith, (start.requires.namings.node _ start.requires.i_lt_count).inside)
 
 pub overflow_mul-v-2 : goal.overflow_mul-v-2
 overflow_mul-v-2 c =
@@ -49,16 +49,16 @@ overflow_add-at-3 c =
 
 pub same_named-requires : goal.same_named-requires
 same_named-requires c =
-    let at-if2 = c.before.before in
-let start = at-if2.before.before.before in
+    let at-if2 = c in
+let start = at-if2 in
 record {
-        naming = (start.requires.0.node _ start.requires.1);
-        naming_2 = (start.requires.0.node _ at-if2.if2.false)
+        naming = (start.requires.namings.node _ start.requires.i_lt_count);
+        naming_2 = (start.requires.namings.node _ at-if2.if-count-v.false)
     }
 
 pub returns : goal.returns
 returns c =
-    let at-asks-target = c.before.before in
-    let at-if2 = at-asks-target.before in
-    let at-if1 = at-if2.before in
-    again_same _ _ _ _ _ _ at-if1.if1.false at-if2.if2.false at-asks-target.asks-target.ensures c.if-not-asks_target.false c.same_named.ensures
+    let at-asks-target = c in
+    let at-if2 = at-asks-target in
+    let at-if1 = at-if2 in
+    again_same _ _ _ _ _ _ at-if1.if-v-i.false at-if2.if-count-v.false at-asks-target.asks_target.ensures c.if-not-asks_target.false c.same_named.ensures

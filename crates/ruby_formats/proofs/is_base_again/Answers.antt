@@ -33,27 +33,27 @@ overflow_add-at-2 c =
 
 pub overflow_mul-v-2 : goal.overflow_mul-v-2
 overflow_mul-v-2 c =
-    let at-if1 = c.before.before in
-    let start = at-if1.before.before in
-    omega (arith, (start.requires.node start.args.v (omega (arith, at-if1.if1.false))).inside)
+    let at-if1 = c in
+    let start = at-if1 in
+    omega (arith, (start.requires.node start.args.v (omega (arith, at-if1.if-i-v.false))).inside)
 
 pub overflow_add-at-3 : goal.overflow_add-at-3
 overflow_add-at-3 c =
-    let at-if1 = c.before.before in
-    let start = at-if1.before.before in
-    omega (arith, (start.requires.node start.args.v (omega (arith, at-if1.if1.false))).inside)
+    let at-if1 = c in
+    let start = at-if1 in
+    omega (arith, (start.requires.node start.args.v (omega (arith, at-if1.if-i-v.false))).inside)
 
 pub same_named-requires : goal.same_named-requires
 same_named-requires c =
-    let at-if1 = c.before.before in
-let start = at-if1.before.before in
+    let at-if1 = c in
+let start = at-if1 in
 record {
         naming = (start.requires.node start.args.i (omega arith));
-        naming_2 = (start.requires.node start.args.v (omega (arith, at-if1.if1.false)))
+        naming_2 = (start.requires.node start.args.v (omega (arith, at-if1.if-i-v.false)))
     }
 
 pub returns : goal.returns
 returns c =
-    let at-is-ruby = c.before.before in
-    let at-if1 = at-is-ruby.before in
-    base_same _ _ _ _ at-if1.if1.false at-is-ruby.is-ruby.ensures c.if-not-is_ruby.false c.same_named.ensures
+    let at-is-ruby = c in
+    let at-if1 = at-is-ruby in
+    base_same _ _ _ _ at-if1.if-i-v.false at-is-ruby.is_ruby.ensures c.if-not-is_ruby.false c.same_named.ensures

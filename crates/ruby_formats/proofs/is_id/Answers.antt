@@ -4,8 +4,8 @@ use Rattle.ruby_formats.proofs.is_id.Goals as goal
 
 pub returns-in-Id : goal.returns-in-Id
 returns-in-Id c =
-    id_some _ c.p-1.given.1
+    id_some _ c.in-Id.is
 
 pub returns-in-Nothing : goal.returns-in-Nothing
 returns-in-Nothing c =
-    id_none _ c.enum_told-1.given.1
+    id_none _ c.in-Nothing.is

@@ -5,7 +5,7 @@ use Rattle.ruby_formats.proofs.named.Goals as goal
 
 pub first_plain-requires : goal.first_plain-requires
 first_plain-requires c =
-    let start = c.before.before.before in
+    let start = c in
 record {
         of_tape = start.requires.store;
         at_in_bounds = start.requires.inside;
@@ -14,13 +14,13 @@ record {
 
 pub returns-then-is_ruby : goal.returns-then-is_ruby
 returns-then-is_ruby c =
-    let at-is-ruby = c.before.before in
-    let start = at-is-ruby.before.before in
-    (named_ruby _ _ at-is-ruby.is-ruby.ensures c.if-is_ruby.true c.first_plain.ensures, start.requires.plain c.first_plain.ensures)
+    let at-is-ruby = c in
+    let start = at-is-ruby in
+    (named_ruby _ _ at-is-ruby.is_ruby.ensures c.if-is_ruby.true c.first_plain.ensures, start.requires.plain c.first_plain.ensures)
 
 pub first_plain-requires-then-is_referenced_format : goal.first_plain-requires-then-is_referenced_format
 first_plain-requires-then-is_referenced_format c =
-    let start = c.before.before.before.before.before in
+    let start = c in
 record {
         of_tape = start.requires.store;
         at_in_bounds = start.requires.inside;
@@ -29,16 +29,16 @@ record {
 
 pub returns-then-is_referenced_format : goal.returns-then-is_referenced_format
 returns-then-is_referenced_format c =
-    let at-is-referenced-format = c.before.before in
-    let at-if1 = at-is-referenced-format.before in
-    let at-is-ruby = at-if1.before in
-    let start = at-is-ruby.before.before in (
-      named_format _ _ at-is-ruby.is-ruby.ensures at-if1.if1.false at-is-referenced-format.is-referenced-format.ensures c.if-is_referenced_format.true c.first_plain-then-is_referenced_format.ensures,
+    let at-is-referenced-format = c in
+    let at-if1 = at-is-referenced-format in
+    let at-is-ruby = at-if1 in
+    let start = at-is-ruby in (
+      named_format _ _ at-is-ruby.is_ruby.ensures at-if1.if-is_ruby.false at-is-referenced-format.is_referenced_format.ensures c.if-is_referenced_format.true c.first_plain-then-is_referenced_format.ensures,
       start.requires.plain c.first_plain-then-is_referenced_format.ensures,
     )
 
 pub returns : goal.returns
 returns c =
-    let at-if1 = c.before.before in
-    let at-is-ruby = at-if1.before in
-    (named_none _ _ at-is-ruby.is-ruby.ensures at-if1.if1.false c.is_referenced_format.ensures c.if-is_referenced_format.false, nothing_in)
+    let at-if1 = c in
+    let at-is-ruby = at-if1 in
+    (named_none _ _ at-is-ruby.is_ruby.ensures at-if1.if-is_ruby.false c.is_referenced_format.ensures c.if-is_referenced_format.false, nothing_in)

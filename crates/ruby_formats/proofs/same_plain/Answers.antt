@@ -4,8 +4,8 @@ use Rattle.ruby_formats.proofs.same_plain.Goals as goal
 
 pub returns-in-Id : goal.returns-in-Id
 returns-in-Id c =
-    same_some _ c.q-1.given.1 c.is_id.ensures
+    same_some _ c.in-Id.is c.is_id.ensures
 
 pub returns-in-Nothing : goal.returns-in-Nothing
 returns-in-Nothing c =
-    same_none _ c.enum_told-1.given.1
+    same_none _ c.in-Nothing.is

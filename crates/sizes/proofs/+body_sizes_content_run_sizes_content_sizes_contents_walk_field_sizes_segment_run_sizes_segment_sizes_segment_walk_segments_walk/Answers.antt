@@ -28,21 +28,21 @@ body_sizes-field_at-f-requires t c =
 
 pub body_sizes-field_sizes-u-requires : goal.body_sizes-field_sizes-u-requires
 body_sizes-field_sizes-u-requires t c =
-    let turn = c.before.before.before in
-let start = turn.before.before.before in
+    let turn = c in
+let start = turn in
 (omega arith, record {
-        of_tape = (start.requires.1.0.0, turn.loop.invariant.1);
-        kept = turn.loop.invariant.0.kept
+        of_tape = (start.requires.of_tape.0, turn.loop-j.invariant.1);
+        kept = turn.loop-j.invariant.0.kept
     })
 
 pub body_sizes-returns-then-u : goal.body_sizes-returns-then-u
 body_sizes-returns-then-u t c =
-    let at-field-sizes = c.before.before.before in
-    let at-field-at = at-field-sizes.before.before in
-    let at-loop-test = at-field-at.before in
-    let turn = at-loop-test.before in
-    let start = turn.before.before.before in
-    (adding_over turn.loop.invariant.0 at-loop-test.loop-test.true (place_read start.args.room turn.loop.u (inner_adds start.args.level start.args.tape.now start.args.st) start.args.tape.now start.args.st (body_at start.args.tape.now start.args.at) turn.loop.j at-field-at.field_at.result at-field-at.field_at.ensures at-field-sizes.field-sizes.ensures.0) c.if-u.true ∙ ap (plus start.args.room start.args.t) (body_sum start.args.level start.args.tape.now start.args.st (body_at start.args.tape.now start.args.at)), at-field-sizes.field-sizes.ensures.1)
+    let at-field-sizes = c in
+    let at-field-at = at-field-sizes in
+    let at-loop-test = at-field-at in
+    let turn = at-loop-test in
+    let start = turn in
+    (adding_over turn.loop-j.invariant.0 at-loop-test.loop-j-test.true (place_read start.args.room turn.loop-j.u (inner_adds start.args.level start.args.tape.now start.args.st) start.args.tape.now start.args.st (body_at start.args.tape.now start.args.at) turn.loop-j.j at-field-at.field_at-f.result at-field-at.field_at-f.ensures at-field-sizes.field_sizes-u.ensures.0) c.if-u.true ∙ ap (plus start.args.room start.args.t) (body_sum start.args.level start.args.tape.now start.args.st (body_at start.args.tape.now start.args.at)), at-field-sizes.field_sizes-u.ensures.1)
 
 pub body_sizes-overflow_add-j : goal.body_sizes-overflow_add-j
 body_sizes-overflow_add-j t c =
@@ -54,16 +54,16 @@ body_sizes-loop-j-smaller t c =
 
 pub body_sizes-loop-j-preserved : goal.body_sizes-loop-j-preserved
 body_sizes-loop-j-preserved t c =
-    let at-field-sizes = c.before.before.before in
-    let at-field-at = at-field-sizes.before.before in
-    let at-loop-test = at-field-at.before in
-    let turn = at-loop-test.before in
-    let start = turn.before.before.before in
-    (adding_more turn.loop.invariant.0 at-loop-test.loop-test.true (place_read start.args.room turn.loop.u (inner_adds start.args.level start.args.tape.now start.args.st) start.args.tape.now start.args.st (body_at start.args.tape.now start.args.at) turn.loop.j at-field-at.field_at.result at-field-at.field_at.ensures at-field-sizes.field-sizes.ensures.0), at-field-sizes.field-sizes.ensures.1, at-field-sizes.field-sizes.auto.1.1.0 ∙ turn.loop.invariant.2)
+    let at-field-sizes = c in
+    let at-field-at = at-field-sizes in
+    let at-loop-test = at-field-at in
+    let turn = at-loop-test in
+    let start = turn in
+    (adding_more turn.loop-j.invariant.0 at-loop-test.loop-j-test.true (place_read start.args.room turn.loop-j.u (inner_adds start.args.level start.args.tape.now start.args.st) start.args.tape.now start.args.st (body_at start.args.tape.now start.args.at) turn.loop-j.j at-field-at.field_at-f.result at-field-at.field_at-f.ensures at-field-sizes.field_sizes-u.ensures.0), at-field-sizes.field_sizes-u.ensures.1, at-field-sizes.field_sizes-u.auto.memo ∙ turn.loop-j.invariant.2)
 
 pub body_sizes-returns : goal.body_sizes-returns
 body_sizes-returns t c =
-    let start = c.before.before.before.before in
+    let start = c in
     (adding_all c.loop-j.invariant.0 c.loop-j-test.false ∙ ap (plus start.args.room start.args.t) (body_sum start.args.level start.args.tape.now start.args.st (body_at start.args.tape.now start.args.at)), c.loop-j.invariant.1)
 
 pub content_run_sizes-content_count-n-requires : goal.content_run_sizes-content_count-n-requires
@@ -72,14 +72,14 @@ content_run_sizes-content_count-n-requires t c =
 
 pub content_run_sizes-returns-then-u : goal.content_run_sizes-returns-then-u
 content_run_sizes-returns-then-u t c =
-    let start = c.before.before.before.before.before in
-    (contents_over start.args.room start.args.t (inner_adds start.args.level start.args.tape.now start.args.st) start.args.tape.now start.args.st start.args.start start.args.len c.content_count-n.result c.content_count-n.ensures c.with_added-u.ensures c.if-u.true, start.requires.1.0.1)
+    let start = c in
+    (contents_over start.args.room start.args.t (inner_adds start.args.level start.args.tape.now start.args.st) start.args.tape.now start.args.st start.args.start start.args.len c.content_count-n.result c.content_count-n.ensures c.with_added-u.ensures c.if-u.true, start.requires.of_tape.1)
 
 pub content_run_sizes-returns-then-n-eq0 : goal.content_run_sizes-returns-then-n-eq0
 content_run_sizes-returns-then-n-eq0 t c =
-    let at-content-count = c.before.before.before in
-    let start = at-content-count.before.before.before in
-    (contents_empty start.args.room start.args.t (inner_adds start.args.level start.args.tape.now start.args.st) start.args.tape.now start.args.st start.args.start start.args.len at-content-count.content_count_lem.result at-content-count.content_count_lem.ensures c.with_added-u.ensures c.if-n-eq0.true, start.requires.1.0.1)
+    let at-content-count = c in
+    let start = at-content-count in
+    (contents_empty start.args.room start.args.t (inner_adds start.args.level start.args.tape.now start.args.st) start.args.tape.now start.args.st start.args.start start.args.len at-content-count.content_count-n.result at-content-count.content_count-n.ensures c.with_added-u.ensures c.if-n-eq0.true, start.requires.of_tape.1)
 
 pub content_run_sizes-content_place-at-requires : goal.content_run_sizes-content_place-at-requires
 content_run_sizes-content_place-at-requires t c =
@@ -87,22 +87,22 @@ content_run_sizes-content_place-at-requires t c =
 
 pub content_run_sizes-contents_walk-requires : goal.content_run_sizes-contents_walk-requires
 content_run_sizes-contents_walk-requires t c =
-    let at-with-added = c.before.before.before.before in
-let at-content-count = at-with-added.before in
-let start = at-content-count.before.before.before in
+    let at-with-added = c in
+let at-content-count = at-with-added in
+let start = at-content-count in
 (omega arith, record {
-        of_tape = (start.requires.1.0.0, start.requires.1.0.1);
-        kept = kept_plus start.args.t (new_contents at-content-count.content_count_lem.result) at-with-added.with-added.ensures;
-        count_in_bounds = contents_inside start.args.tape.now start.args.st start.requires.1.0.0 start.args.start start.args.len _ _ c.if-n-eq0.false at-content-count.content_count_lem.ensures c.content_place-at.ensures
+        of_tape = (start.requires.of_tape.0, start.requires.of_tape.1);
+        kept = kept_plus start.args.t (new_contents at-content-count.content_count-n.result) at-with-added.with_added-u.ensures;
+        count_in_bounds = contents_inside start.args.tape.now start.args.st start.requires.of_tape.0 start.args.start start.args.len _ _ c.if-n-eq0.false at-content-count.content_count-n.ensures c.content_place-at.ensures
     })
 
 pub content_run_sizes-returns : goal.content_run_sizes-returns
 content_run_sizes-returns t c =
-    let at-content-place = c.before.before.before.before in
-    let at-with-added = at-content-place.before.before.before in
-    let at-content-count = at-with-added.before in
-    let start = at-content-count.before.before.before in
-    (contents_then start.args.room start.args.t (inner_adds start.args.level start.args.tape.now start.args.st) start.args.tape.now start.args.st start.args.start start.args.len at-content-count.content_count_lem.result at-content-count.content_count_lem.ensures at-with-added.with-added.ensures _ at-content-place.content-place.ensures c.contents_walk.ensures.0, c.contents_walk.ensures.1)
+    let at-content-place = c in
+    let at-with-added = at-content-place in
+    let at-content-count = at-with-added in
+    let start = at-content-count in
+    (contents_then start.args.room start.args.t (inner_adds start.args.level start.args.tape.now start.args.st) start.args.tape.now start.args.st start.args.start start.args.len at-content-count.content_count-n.result at-content-count.content_count-n.ensures at-with-added.with_added-u.ensures _ at-content-place.content_place-at.ensures c.contents_walk.ensures.0, c.contents_walk.ensures.1)
 
 pub content_sizes-content_at-c-requires : goal.content_sizes-content_at-c-requires
 content_sizes-content_at-c-requires t c =
@@ -110,72 +110,72 @@ content_sizes-content_at-c-requires t c =
 
 pub content_sizes-returns-then-c-eq0 : goal.content_sizes-returns-then-c-eq0
 content_sizes-returns-then-c-eq0 t c =
-    let at-content-at = c.before.before.before in
-    let start = at-content-at.before.before.before in
-    (content_plain start.args.room start.args.t (inner_adds start.args.level start.args.tape.now start.args.st) start.args.tape.now start.args.st (content_of at-content-at.content_at_lem.result) at-content-at.content_at_lem.ensures c.if-c-eq0.true c.with_added.ensures, start.requires.1.0.1)
+    let at-content-at = c in
+    let start = at-content-at in
+    (content_plain start.args.room start.args.t (inner_adds start.args.level start.args.tape.now start.args.st) start.args.tape.now start.args.st (content_of at-content-at.content_at-c.result) at-content-at.content_at-c.ensures c.if-c-eq0.true c.with_added.ensures, start.requires.of_tape.1)
 
 pub content_sizes-segment_run_sizes-requires : goal.content_sizes-segment_run_sizes-requires
 content_sizes-segment_run_sizes-requires t c =
-    let start = c.before.before.before.before.before.before.before.before in
+    let start = c in
 (omega arith, record {
-        of_tape = (start.requires.1.0.0, start.requires.1.0.1);
-        kept = start.requires.1.1.0
+        of_tape = (start.requires.of_tape.0, start.requires.of_tape.1);
+        kept = start.requires.kept
     })
 
 pub content_sizes-returns-then-c-ne1 : goal.content_sizes-returns-then-c-ne1
 content_sizes-returns-then-c-ne1 t c =
-    let at-if1 = c.before.before.before.before.before.before in
-    let at-content-at = at-if1.before.before in
-    let start = at-content-at.before.before.before in
-    (content_segments_lem start.args.room start.args.t (inner_adds start.args.level start.args.tape.now start.args.st) start.args.tape.now start.args.st (content_of at-content-at.content_at_lem.result) at-content-at.content_at_lem.ensures at-if1.if1.false c.segment_run_sizes.ensures.0, c.segment_run_sizes.ensures.1)
+    let at-if1 = c in
+    let at-content-at = at-if1 in
+    let start = at-content-at in
+    (content_segments_lem start.args.room start.args.t (inner_adds start.args.level start.args.tape.now start.args.st) start.args.tape.now start.args.st (content_of at-content-at.content_at-c.result) at-content-at.content_at-c.ensures at-if1.if-c-eq0.false c.segment_run_sizes.ensures.0, c.segment_run_sizes.ensures.1)
 
 pub content_sizes-segment_run_sizes-requires-then-place-eq0 : goal.content_sizes-segment_run_sizes-requires-then-place-eq0
 content_sizes-segment_run_sizes-requires-then-place-eq0 t c =
-    let start = c.before.before.before.before.before.before.before.before.before.before in
+    let start = c in
 (omega arith, record {
-        of_tape = (start.requires.1.0.0, start.requires.1.0.1);
-        kept = start.requires.1.1.0
+        of_tape = (start.requires.of_tape.0, start.requires.of_tape.1);
+        kept = start.requires.kept
     })
 
 pub content_sizes-returns-then-place-eq0 : goal.content_sizes-returns-then-place-eq0
 content_sizes-returns-then-place-eq0 t c =
-    let at-if1 = c.before.before.before.before.before.before.before.before in
-    let at-content-at = at-if1.before.before in
-    let start = at-content-at.before.before.before in
-    (content_segments_lem start.args.room start.args.t (inner_adds start.args.level start.args.tape.now start.args.st) start.args.tape.now start.args.st (content_of at-content-at.content_at_lem.result) at-content-at.content_at_lem.ensures at-if1.if1.false c.segment_run_sizes-then-place-eq0.ensures.0, c.segment_run_sizes-then-place-eq0.ensures.1)
+    let at-if1 = c in
+    let at-content-at = at-if1 in
+    let start = at-content-at in
+    (content_segments_lem start.args.room start.args.t (inner_adds start.args.level start.args.tape.now start.args.st) start.args.tape.now start.args.st (content_of at-content-at.content_at-c.result) at-content-at.content_at-c.ensures at-if1.if-c-eq0.false c.segment_run_sizes-then-place-eq0.ensures.0, c.segment_run_sizes-then-place-eq0.ensures.1)
 
 pub content_sizes-returns-then-u : goal.content_sizes-returns-then-u
 content_sizes-returns-then-u t c =
-    let at-lone-place = c.before.before.before in
-    let at-if2 = at-lone-place.before in
-    let at-if1 = at-if2.before.before in
-    let at-content-at = at-if1.before.before in
-    let start = at-content-at.before.before.before in
-    (content_segments_lem start.args.room start.args.t (inner_adds start.args.level start.args.tape.now start.args.st) start.args.tape.now start.args.st (content_of at-content-at.content_at_lem.result) at-content-at.content_at_lem.ensures at-if1.if1.false (lone_over start.args.room start.args.t (inner_adds start.args.level start.args.tape.now start.args.st) start.args.tape.now start.args.st at-content-at.content_at_lem.result.first at-content-at.content_at_lem.result.second at-lone-place.lone-place.result at-if2.if2.false at-lone-place.lone-place.ensures c.if-place-eq0.false c.with_added-u.ensures c.if-u.true), start.requires.1.0.1)
+    let at-lone-place = c in
+    let at-if2 = at-lone-place in
+    let at-if1 = at-if2 in
+    let at-content-at = at-if1 in
+    let start = at-content-at in
+    (content_segments_lem start.args.room start.args.t (inner_adds start.args.level start.args.tape.now start.args.st) start.args.tape.now start.args.st (content_of at-content-at.content_at-c.result) at-content-at.content_at-c.ensures at-if1.if-c-eq0.false (lone_over start.args.room start.args.t (inner_adds start.args.level start.args.tape.now start.args.st) start.args.tape.now start.args.st at-content-at.content_at-c.result.first at-content-at.content_at-c.result.second at-lone-place.lone_place-place.result at-if2.if-c-ne1.false at-lone-place.lone_place-place.ensures c.if-place-eq0.false c.with_added-u.ensures c.if-u.true), start.requires.of_tape.1)
 
 pub content_sizes-segment_sizes-requires : goal.content_sizes-segment_sizes-requires
 content_sizes-segment_sizes-requires t c =
-    let at-if3 = c.before.before.before in
-let at-lone-place = at-if3.before in
-let at-if2 = at-lone-place.before in
-let at-content-at = at-if2.before.before.before.before in
-let start = at-content-at.before.before.before in
+    let at-if3 = c in
+let at-lone-place = at-if3 in
+let at-if2 = at-lone-place in
+let at-content-at = at-if2 in
+let start = at-content-at in
 (omega arith, record {
-        of_tape = (start.requires.1.0.0, start.requires.1.0.1);
+        of_tape = (start.requires.of_tape.0, start.requires.of_tape.1);
         kept = kept_plus start.args.t (new_segments 1) c.with_added-u.ensures;
-        at_in_bounds = lone_inside start.args.room start.args.t (inner_adds start.args.level start.args.tape.now start.args.st) start.args.tape.now start.args.st at-content-at.content_at_lem.result.first at-content-at.content_at_lem.result.second at-lone-place.lone-place.result at-if2.if2.false at-lone-place.lone-place.ensures at-if3.if3.false start.requires.1.0.0
+        at_in_bounds = lone_inside start.args.room start.args.t (inner_adds start.args.level start.args.tape.now start.args.st) start.args.tape.now start.args.st at-content-at.content_at-c.result.first at-content-at.content_at-c.result.second at-lone-place.lone_place-place.result at-if2.if-c-ne1.false at-lone-place.lone_place-place.ensures at-if3.if-place-eq0.false start.requires.of_tape.0
     })
 
 pub content_sizes-returns : goal.content_sizes-returns
 content_sizes-returns t c =
-    let at-with-added2 = c.before.before.before.before.before in
-    let at-if3 = at-with-added2.before in
-    let at-lone-place = at-if3.before in
-    let at-if2 = at-lone-place.before in
-    let at-if1 = at-if2.before.before in
-    let at-content-at = at-if1.before.before in
-    let start = at-content-at.before.before.before in
-    (content_segments_lem start.args.room start.args.t (inner_adds start.args.level start.args.tape.now start.args.st) start.args.tape.now start.args.st (content_of at-content-at.content_at_lem.result) at-content-at.content_at_lem.ensures at-if1.if1.false (lone_then start.args.room start.args.t (inner_adds start.args.level start.args.tape.now start.args.st) start.args.tape.now start.args.st at-content-at.content_at_lem.result.first at-content-at.content_at_lem.result.second at-lone-place.lone-place.result at-if2.if2.false at-lone-place.lone-place.ensures at-if3.if3.false at-with-added2.with-added2.ensures c.segment_sizes.ensures.0), c.segment_sizes.ensures.1)
+    let at-with-added2 = c in
+    let at-if3 = at-with-added2 in
+    let at-lone-place = at-if3 in
+    let at-if2 = at-lone-place in
+    let at-if1 = at-if2 in
+    let at-content-at = at-if1 in
+    let start = at-content-at in
+    (content_segments_lem start.args.room start.args.t (inner_adds start.args.level start.args.tape.now start.args.st) start.args.tape.now start.args.st (content_of at-content-at.content_at-c.result) at-content-at.content_at-c.ensures at-if1.if-c-eq0.false (lone_then start.args.room start.args.t (inner_adds start.args.level start.args.tape.now start.args.st) start.args.tape.now start.args.st at-content-at.content_at-c.result.first at-content-at.content_at-c.result.second at-lone-place.lone_place-place.result at-if2.if-c-ne1.false at-lone-place.lone_place-place.ensures at-if3.if-place-eq0.false at-with-added2.with_added-u.ensures c.segment_sizes.ensures.0), c.segment_sizes.ensures.1)
 
 pub contents_walk-loop-i-init : goal.contents_walk-loop-i-init
 contents_walk-loop-i-init t c =
@@ -191,33 +191,33 @@ contents_walk-overflow_add-at t c =
 
 pub contents_walk-content_sizes-next-requires : goal.contents_walk-content_sizes-next-requires
 contents_walk-content_sizes-next-requires t c =
-    let start = c.before.before.before.before.before in
+    let start = c in
 (omega arith, record {
-        of_tape = (start.requires.1.0.0, c.loop-i.invariant.1);
+        of_tape = (start.requires.of_tape.0, c.loop-i.invariant.1);
         kept = c.loop-i.invariant.0.kept;
-        at_in_bounds = omega (arith, start.requires.1.1.1)
+        at_in_bounds = omega (arith, start.requires.count_in_bounds)
     })
 
 pub contents_walk-returns-then-next : goal.contents_walk-returns-then-next
 unfolding content_from
 contents_walk-returns-then-next t c =
-    let at-content-sizes = c.before.before.before in
-    let at-loop-test = at-content-sizes.before.before in
-    let turn = at-loop-test.before in
-    let start = turn.before.before.before in
-    (adding_over turn.loop.invariant.0 at-loop-test.loop-test.true at-content-sizes.content-sizes.ensures.0 c.if-next.true ∙ ap (plus start.args.room start.args.t) (contents_from start.args.tape.now start.args.at start.args.count (inner_adds start.args.level start.args.tape.now start.args.st) start.args.st), at-content-sizes.content-sizes.ensures.1)
+    let at-content-sizes = c in
+    let at-loop-test = at-content-sizes in
+    let turn = at-loop-test in
+    let start = turn in
+    (adding_over turn.loop-i.invariant.0 at-loop-test.loop-i-test.true at-content-sizes.content_sizes-next.ensures.0 c.if-next.true ∙ ap (plus start.args.room start.args.t) (contents_from start.args.tape.now start.args.at start.args.count (inner_adds start.args.level start.args.tape.now start.args.st) start.args.st), at-content-sizes.content_sizes-next.ensures.1)
 
 pub contents_walk-overflow_mul-i-in-loop-i : goal.contents_walk-overflow_mul-i-in-loop-i
 contents_walk-overflow_mul-i-in-loop-i t c =
-    let at-loop-test = c.before.before.before.before.before in
-    let start = at-loop-test.before.before.before.before in
-    omega (arith, start.requires.1.1.1, at-loop-test.loop-test.true)
+    let at-loop-test = c in
+    let start = at-loop-test in
+    omega (arith, start.requires.count_in_bounds, at-loop-test.loop-i-test.true)
 
 pub contents_walk-overflow_add-at-in-loop-i : goal.contents_walk-overflow_add-at-in-loop-i
 contents_walk-overflow_add-at-in-loop-i t c =
-    let at-loop-test = c.before.before.before.before.before in
-    let start = at-loop-test.before.before.before.before in
-    omega (arith, start.requires.1.1.1, at-loop-test.loop-test.true)
+    let at-loop-test = c in
+    let start = at-loop-test in
+    omega (arith, start.requires.count_in_bounds, at-loop-test.loop-i-test.true)
 
 pub contents_walk-overflow_sub-count : goal.contents_walk-overflow_sub-count
 contents_walk-overflow_sub-count t c =
@@ -229,9 +229,9 @@ contents_walk-overflow_sub-count-in-loop-i t c =
 
 pub contents_walk-contents_alike-k-requires : goal.contents_walk-contents_alike-k-requires
 contents_walk-contents_alike-k-requires t c =
-    let at-loop-test = c.before.before.before.before.before in
-    let start = at-loop-test.before.before.before.before in
-    omega (arith, start.requires.1.1.1, at-loop-test.loop-test.true)
+    let at-loop-test = c in
+    let start = at-loop-test in
+    omega (arith, start.requires.count_in_bounds, at-loop-test.loop-i-test.true)
 
 pub contents_walk-again-u-requires : goal.contents_walk-again-u-requires
 contents_walk-again-u-requires t c =
@@ -246,23 +246,23 @@ record {
 pub contents_walk-returns-then-u : goal.contents_walk-returns-then-u
 unfolding content_from
 contents_walk-returns-then-u t c =
-    let at-content-sizes = c.before.before.before.before.before.before in
-    let at-loop-test = at-content-sizes.before.before in
-    let turn = at-loop-test.before in
-    let start = turn.before.before.before in
-    (again_over (adding_more turn.loop.invariant.0 at-loop-test.loop-test.true at-content-sizes.content-sizes.ensures.0) c.contents_alike-k.result (omega (arith, c.contents_alike-k.ensures.few, at-loop-test.loop-test.true)) (contents_same (inner_adds start.args.level start.args.tape.now start.args.st) start.args.tape.now start.args.st start.args.at turn.loop.i c.contents_alike-k.ensures) (c.again-u.ensures _ at-content-sizes.content-sizes.ensures.0) c.if-u.true ∙ ap (plus start.args.room start.args.t) (contents_from start.args.tape.now start.args.at start.args.count (inner_adds start.args.level start.args.tape.now start.args.st) start.args.st), at-content-sizes.content-sizes.ensures.1)
+    let at-content-sizes = c in
+    let at-loop-test = at-content-sizes in
+    let turn = at-loop-test in
+    let start = turn in
+    (again_over (adding_more turn.loop-i.invariant.0 at-loop-test.loop-i-test.true at-content-sizes.content_sizes-next.ensures.0) c.contents_alike-k.result (omega (arith, c.contents_alike-k.ensures.few, at-loop-test.loop-i-test.true)) (contents_same (inner_adds start.args.level start.args.tape.now start.args.st) start.args.tape.now start.args.st start.args.at turn.loop-i.i c.contents_alike-k.ensures) (c.again-u.ensures _ at-content-sizes.content_sizes-next.ensures.0) c.if-u.true ∙ ap (plus start.args.room start.args.t) (contents_from start.args.tape.now start.args.at start.args.count (inner_adds start.args.level start.args.tape.now start.args.st) start.args.st), at-content-sizes.content_sizes-next.ensures.1)
 
 pub contents_walk-overflow_add-i : goal.contents_walk-overflow_add-i
 contents_walk-overflow_add-i t c =
-    let at-loop-test = c.before.before.before.before.before.before.before.before in
-    let start = at-loop-test.before.before.before.before in
-    omega (arith, c.contents_alike-k.ensures.few, at-loop-test.loop-test.true, start.requires.1.1.1)
+    let at-loop-test = c in
+    let start = at-loop-test in
+    omega (arith, c.contents_alike-k.ensures.few, at-loop-test.loop-i-test.true, start.requires.count_in_bounds)
 
 pub contents_walk-overflow_add-i-in-loop-i : goal.contents_walk-overflow_add-i-in-loop-i
 contents_walk-overflow_add-i-in-loop-i t c =
-    let at-loop-test = c.before.before.before.before.before.before.before.before in
-    let start = at-loop-test.before.before.before.before in
-    omega (arith, c.contents_alike-k.ensures.few, at-loop-test.loop-test.true, start.requires.1.1.1)
+    let at-loop-test = c in
+    let start = at-loop-test in
+    omega (arith, c.contents_alike-k.ensures.few, at-loop-test.loop-i-test.true, start.requires.count_in_bounds)
 
 pub contents_walk-loop-i-smaller : goal.contents_walk-loop-i-smaller
 contents_walk-loop-i-smaller t c =
@@ -271,45 +271,45 @@ contents_walk-loop-i-smaller t c =
 pub contents_walk-loop-i-preserved : goal.contents_walk-loop-i-preserved
 unfolding content_from
 contents_walk-loop-i-preserved t c =
-    let at-content-sizes = c.before.before.before.before.before.before in
-    let at-loop-test = at-content-sizes.before.before in
-    let turn = at-loop-test.before in
-    let start = turn.before.before.before in
-    (adding_again (adding_more turn.loop.invariant.0 at-loop-test.loop-test.true at-content-sizes.content-sizes.ensures.0) c.contents_alike-k.result (omega (arith, c.contents_alike-k.ensures.few, at-loop-test.loop-test.true)) (contents_same (inner_adds start.args.level start.args.tape.now start.args.st) start.args.tape.now start.args.st start.args.at turn.loop.i c.contents_alike-k.ensures) (c.again-u.ensures _ at-content-sizes.content-sizes.ensures.0), at-content-sizes.content-sizes.ensures.1, at-content-sizes.content-sizes.auto.1.1.0 ∙ turn.loop.invariant.2)
+    let at-content-sizes = c in
+    let at-loop-test = at-content-sizes in
+    let turn = at-loop-test in
+    let start = turn in
+    (adding_again (adding_more turn.loop-i.invariant.0 at-loop-test.loop-i-test.true at-content-sizes.content_sizes-next.ensures.0) c.contents_alike-k.result (omega (arith, c.contents_alike-k.ensures.few, at-loop-test.loop-i-test.true)) (contents_same (inner_adds start.args.level start.args.tape.now start.args.st) start.args.tape.now start.args.st start.args.at turn.loop-i.i c.contents_alike-k.ensures) (c.again-u.ensures _ at-content-sizes.content_sizes-next.ensures.0), at-content-sizes.content_sizes-next.ensures.1, at-content-sizes.content_sizes-next.auto.memo ∙ turn.loop-i.invariant.2)
 
 pub contents_walk-returns : goal.contents_walk-returns
 contents_walk-returns t c =
-    let start = c.before.before.before.before in
+    let start = c in
     (adding_all c.loop-i.invariant.0 c.loop-i-test.false ∙ ap (plus start.args.room start.args.t) (contents_from start.args.tape.now start.args.at start.args.count (inner_adds start.args.level start.args.tape.now start.args.st) start.args.st), c.loop-i.invariant.1)
 
 pub field_sizes-content_run_sizes-requires : goal.field_sizes-content_run_sizes-requires
 field_sizes-content_run_sizes-requires t c =
-    let start = c.before.before.before.before.before in
+    let start = c in
 (omega arith, record {
-        of_tape = (start.requires.1.0.0, start.requires.1.0.1);
-        kept = start.requires.1.1
+        of_tape = (start.requires.of_tape.0, start.requires.of_tape.1);
+        kept = start.requires.kept
     })
 
 pub field_sizes-returns-then-f-eq3 : goal.field_sizes-returns-then-f-eq3
 field_sizes-returns-then-f-eq3 t c =
-    let at-if1 = c.before.before.before.before in
-    let start = at-if1.before.before.before.before in
-    (used_contents start.args.room start.args.t (inner_adds start.args.level start.args.tape.now start.args.st) start.args.tape.now start.args.st start.args.f at-if1.if1.true c.content_run_sizes.ensures.0, c.content_run_sizes.ensures.1)
+    let at-if1 = c in
+    let start = at-if1 in
+    (used_contents start.args.room start.args.t (inner_adds start.args.level start.args.tape.now start.args.st) start.args.tape.now start.args.st start.args.f at-if1.if-f-eq3.true c.content_run_sizes.ensures.0, c.content_run_sizes.ensures.1)
 
 pub field_sizes-segment_run_sizes-requires : goal.field_sizes-segment_run_sizes-requires
 field_sizes-segment_run_sizes-requires t c =
-    let start = c.before.before.before.before.before.before.before in
+    let start = c in
 (omega arith, record {
-        of_tape = (start.requires.1.0.0, start.requires.1.0.1);
-        kept = start.requires.1.1
+        of_tape = (start.requires.of_tape.0, start.requires.of_tape.1);
+        kept = start.requires.kept
     })
 
 pub field_sizes-returns-then-f-eq5 : goal.field_sizes-returns-then-f-eq5
 field_sizes-returns-then-f-eq5 t c =
-    let at-if2 = c.before.before.before.before in
-    let at-if1 = at-if2.before.before in
-    let start = at-if1.before.before.before.before in
-    (used_segments start.args.room start.args.t (inner_adds start.args.level start.args.tape.now start.args.st) start.args.tape.now start.args.st start.args.f at-if1.if1.false at-if2.if2.true c.segment_run_sizes.ensures.0, c.segment_run_sizes.ensures.1)
+    let at-if2 = c in
+    let at-if1 = at-if2 in
+    let start = at-if1 in
+    (used_segments start.args.room start.args.t (inner_adds start.args.level start.args.tape.now start.args.st) start.args.tape.now start.args.st start.args.f at-if1.if-f-eq3.false at-if2.if-f-eq5.true c.segment_run_sizes.ensures.0, c.segment_run_sizes.ensures.1)
 
 pub field_sizes-string_sizes-requires : goal.field_sizes-string_sizes-requires
 field_sizes-string_sizes-requires t c =
@@ -317,9 +317,9 @@ field_sizes-string_sizes-requires t c =
 
 pub field_sizes-returns : goal.field_sizes-returns
 field_sizes-returns t c =
-    let at-if1 = c.before.before.before in
-    let start = at-if1.before.before.before.before in
-    (used_string start.args.room start.args.t (inner_adds start.args.level start.args.tape.now start.args.st) start.args.tape.now start.args.st start.args.f at-if1.if1.false c.if-f-eq5.false c.string_sizes.ensures, start.requires.1.0.1)
+    let at-if1 = c in
+    let start = at-if1 in
+    (used_string start.args.room start.args.t (inner_adds start.args.level start.args.tape.now start.args.st) start.args.tape.now start.args.st start.args.f at-if1.if-f-eq3.false c.if-f-eq5.false c.string_sizes.ensures, start.requires.of_tape.1)
 
 pub segment_run_sizes-segment_count-n-requires : goal.segment_run_sizes-segment_count-n-requires
 segment_run_sizes-segment_count-n-requires t c =
@@ -327,14 +327,14 @@ segment_run_sizes-segment_count-n-requires t c =
 
 pub segment_run_sizes-returns-then-u : goal.segment_run_sizes-returns-then-u
 segment_run_sizes-returns-then-u t c =
-    let start = c.before.before.before.before.before in
-    (segments_over start.args.room start.args.t (inner_adds start.args.level start.args.tape.now start.args.st) start.args.tape.now start.args.st start.args.start start.args.len c.segment_count-n.result c.segment_count-n.ensures c.with_added-u.ensures c.if-u.true, start.requires.1.0.1)
+    let start = c in
+    (segments_over start.args.room start.args.t (inner_adds start.args.level start.args.tape.now start.args.st) start.args.tape.now start.args.st start.args.start start.args.len c.segment_count-n.result c.segment_count-n.ensures c.with_added-u.ensures c.if-u.true, start.requires.of_tape.1)
 
 pub segment_run_sizes-returns-then-n-eq0 : goal.segment_run_sizes-returns-then-n-eq0
 segment_run_sizes-returns-then-n-eq0 t c =
-    let at-segment-count = c.before.before.before in
-    let start = at-segment-count.before.before.before in
-    (segments_empty start.args.room start.args.t (inner_adds start.args.level start.args.tape.now start.args.st) start.args.tape.now start.args.st start.args.start start.args.len at-segment-count.segment_count_lem.result at-segment-count.segment_count_lem.ensures c.with_added-u.ensures c.if-n-eq0.true, start.requires.1.0.1)
+    let at-segment-count = c in
+    let start = at-segment-count in
+    (segments_empty start.args.room start.args.t (inner_adds start.args.level start.args.tape.now start.args.st) start.args.tape.now start.args.st start.args.start start.args.len at-segment-count.segment_count-n.result at-segment-count.segment_count-n.ensures c.with_added-u.ensures c.if-n-eq0.true, start.requires.of_tape.1)
 
 pub segment_run_sizes-segment_place-at-requires : goal.segment_run_sizes-segment_place-at-requires
 segment_run_sizes-segment_place-at-requires t c =
@@ -342,27 +342,27 @@ segment_run_sizes-segment_place-at-requires t c =
 
 pub segment_run_sizes-segments_walk-requires : goal.segment_run_sizes-segments_walk-requires
 segment_run_sizes-segments_walk-requires t c =
-    let at-with-added = c.before.before.before.before in
-let at-segment-count = at-with-added.before in
-let start = at-segment-count.before.before.before in
+    let at-with-added = c in
+let at-segment-count = at-with-added in
+let start = at-segment-count in
 (omega arith, record {
-        of_tape = (start.requires.1.0.0, start.requires.1.0.1);
-        kept = kept_plus start.args.t (new_segments at-segment-count.segment_count_lem.result) at-with-added.with-added.ensures;
-        count_in_bounds = segments_inside start.args.tape.now start.args.st start.requires.1.0.0 start.args.start start.args.len _ _ c.if-n-eq0.false at-segment-count.segment_count_lem.ensures c.segment_place-at.ensures
+        of_tape = (start.requires.of_tape.0, start.requires.of_tape.1);
+        kept = kept_plus start.args.t (new_segments at-segment-count.segment_count-n.result) at-with-added.with_added-u.ensures;
+        count_in_bounds = segments_inside start.args.tape.now start.args.st start.requires.of_tape.0 start.args.start start.args.len _ _ c.if-n-eq0.false at-segment-count.segment_count-n.ensures c.segment_place-at.ensures
     })
 
 pub segment_run_sizes-returns : goal.segment_run_sizes-returns
 segment_run_sizes-returns t c =
-    let at-segment-place = c.before.before.before.before in
-    let at-with-added = at-segment-place.before.before.before in
-    let at-segment-count = at-with-added.before in
-    let start = at-segment-count.before.before.before in
-    (segments_then start.args.room start.args.t (inner_adds start.args.level start.args.tape.now start.args.st) start.args.tape.now start.args.st start.args.start start.args.len at-segment-count.segment_count_lem.result at-segment-count.segment_count_lem.ensures at-with-added.with-added.ensures _ at-segment-place.segment-place.ensures c.segments_walk.ensures.0, c.segments_walk.ensures.1)
+    let at-segment-place = c in
+    let at-with-added = at-segment-place in
+    let at-segment-count = at-with-added in
+    let start = at-segment-count in
+    (segments_then start.args.room start.args.t (inner_adds start.args.level start.args.tape.now start.args.st) start.args.tape.now start.args.st start.args.start start.args.len at-segment-count.segment_count-n.result at-segment-count.segment_count-n.ensures at-with-added.with_added-u.ensures _ at-segment-place.segment_place-at.ensures c.segments_walk.ensures.0, c.segments_walk.ensures.1)
 
 pub segment_sizes-returns-then-level-eq0 : goal.segment_sizes-returns-then-level-eq0
 segment_sizes-returns-then-level-eq0 t c =
-    let start = c.before.before.before in
-    (segment_last start.args.room start.args.t start.args.tape.now start.args.st start.args.at start.args.level start.requires.1.1.0 c.if-level-eq0.true, start.requires.1.0.1)
+    let start = c in
+    (segment_last start.args.room start.args.t start.args.tape.now start.args.st start.args.at start.args.level start.requires.kept c.if-level-eq0.true, start.requires.of_tape.1)
 
 pub segment_sizes-overflow_add-at : goal.segment_sizes-overflow_add-at
 segment_sizes-overflow_add-at t c =
@@ -374,9 +374,9 @@ segment_sizes-bounds-tape-at t c =
 
 pub segment_sizes-returns-then-tape-at-eq0 : goal.segment_sizes-returns-then-tape-at-eq0
 segment_sizes-returns-then-tape-at-eq0 t c =
-    let at-if1 = c.before.before.before in
-    let start = at-if1.before.before.before in
-    (text_adds start.args.room start.args.t start.args.tape.now start.args.st start.args.at start.args.level at-if1.if1.false c.if-tape-at-eq0.true c.with_added.ensures, start.requires.1.0.1)
+    let at-if1 = c in
+    let start = at-if1 in
+    (text_adds start.args.room start.args.t start.args.tape.now start.args.st start.args.at start.args.level at-if1.if-level-eq0.false c.if-tape-at-eq0.true c.with_added.ensures, start.requires.of_tape.1)
 
 pub segment_sizes-is_of-requires : goal.segment_sizes-is_of-requires
 segment_sizes-is_of-requires t c =
@@ -384,27 +384,27 @@ segment_sizes-is_of-requires t c =
 
 pub segment_sizes-with_entry-requires : goal.segment_sizes-with_entry-requires
 segment_sizes-with_entry-requires t c =
-    let at-entry-of = c.before.before.before.before in
-    let start = at-entry-of.before.before.before.before.before.before in
-    is_there start.args.memo.now at-entry-of.entry_of.result start.args.at start.args.level (sym c.is_of.ensures ∙ c.if-is_of.true)
+    let at-entry-of = c in
+    let start = at-entry-of in
+    is_there start.args.memo.now at-entry-of.entry_of-e.result start.args.at start.args.level (sym c.is_of.ensures ∙ c.if-is_of.true)
 
 pub segment_sizes-returns-then-is_of : goal.segment_sizes-returns-then-is_of
 segment_sizes-returns-then-is_of t c =
-    let at-is-of = c.before.before.before in
-    let at-entry-of = at-is-of.before.before in
-    let at-if1 = at-entry-of.before.before.before in
-    let start = at-if1.before.before.before in
-    (c.with_entry.ensures ∙ ap (plus start.args.room start.args.t) (known_adds start.args.memo.now start.requires.1.0.1 at-entry-of.entry_of.result start.args.at start.args.level (sym at-is-of.is-of.ensures ∙ c.if-is_of.true) at-if1.if1.false), start.requires.1.0.1)
+    let at-is-of = c in
+    let at-entry-of = at-is-of in
+    let at-if1 = at-entry-of in
+    let start = at-if1 in
+    (c.with_entry.ensures ∙ ap (plus start.args.room start.args.t) (known_adds start.args.memo.now start.requires.of_tape.1 at-entry-of.entry_of-e.result start.args.at start.args.level (sym at-is-of.is_of.ensures ∙ c.if-is_of.true) at-if1.if-level-eq0.false), start.requires.of_tape.1)
 
 pub segment_sizes-segment_walk-requires : goal.segment_sizes-segment_walk-requires
 segment_sizes-segment_walk-requires t c =
-    let at-entry-of = c.before.before.before.before in
-let at-if1 = at-entry-of.before.before.before in
-let start = at-if1.before.before.before in
+    let at-entry-of = c in
+let at-if1 = at-entry-of in
+let start = at-if1 in
 (omega arith, record {
-        of_tape = (start.requires.1.0.0, start.requires.1.0.1);
-        kept = start.requires.1.1.0;
-        at_in_bounds = (start.requires.1.1.1, omega (arith, at-if1.if1.false), at-entry-of.entry_of.ensures)
+        of_tape = (start.requires.of_tape.0, start.requires.of_tape.1);
+        kept = start.requires.kept;
+        at_in_bounds = (start.requires.at_in_bounds, omega (arith, at-if1.if-level-eq0.false), at-entry-of.entry_of-e.ensures)
     })
 
 pub segment_sizes-returns : goal.segment_sizes-returns
@@ -421,18 +421,18 @@ segment_walk-overflow_sub-level t c =
 
 pub segment_walk-body_sizes-r-requires : goal.segment_walk-body_sizes-r-requires
 segment_walk-body_sizes-r-requires t c =
-    let start = c.before.before.before in
-(omega (arith, start.requires.1.1.1.1), record {
-        of_tape = (start.requires.1.0.0, start.requires.1.0.1);
-        kept = start.requires.1.1.0;
-        at_in_bounds = omega (arith, start.requires.1.1.1.0)
+    let start = c in
+(omega (arith, start.requires.at_in_bounds.1), record {
+        of_tape = (start.requires.of_tape.0, start.requires.of_tape.1);
+        kept = start.requires.kept;
+        at_in_bounds = omega (arith, start.requires.at_in_bounds)
     })
 
 pub segment_walk-returns-then-r : goal.segment_walk-returns-then-r
 segment_walk-returns-then-r t c =
-    let at-body-sizes = c.before.before.before in
-    let start = at-body-sizes.before.before.before.before in
-    (segment_below start.args.room start.args.t start.args.tape.now start.args.st start.args.at start.args.level (λ q. absurd (omega (arith, start.requires.1.1.1.1, q))) at-body-sizes.body-sizes.ensures.0, at-body-sizes.body-sizes.ensures.1)
+    let at-body-sizes = c in
+    let start = at-body-sizes in
+    (segment_below start.args.room start.args.t start.args.tape.now start.args.st start.args.at start.args.level (λ q. absurd (omega (arith, start.requires.at_in_bounds.1, q))) at-body-sizes.body_sizes-r.ensures.0, at-body-sizes.body_sizes-r.ensures.1)
 
 pub segment_walk-note-requires : goal.segment_walk-note-requires
 segment_walk-note-requires t c =
@@ -465,33 +465,33 @@ segments_walk-overflow_add-at t c =
 
 pub segments_walk-segment_sizes-next-requires : goal.segments_walk-segment_sizes-next-requires
 segments_walk-segment_sizes-next-requires t c =
-    let start = c.before.before.before.before.before in
+    let start = c in
 (omega arith, record {
-        of_tape = (start.requires.1.0.0, c.loop-i.invariant.1);
+        of_tape = (start.requires.of_tape.0, c.loop-i.invariant.1);
         kept = c.loop-i.invariant.0.kept;
-        at_in_bounds = omega (arith, start.requires.1.1.1)
+        at_in_bounds = omega (arith, start.requires.count_in_bounds)
     })
 
 pub segments_walk-returns-then-next : goal.segments_walk-returns-then-next
 unfolding segment_from
 segments_walk-returns-then-next t c =
-    let at-segment-sizes = c.before.before.before in
-    let at-loop-test = at-segment-sizes.before.before in
-    let turn = at-loop-test.before in
-    let start = turn.before.before.before in
-    (adding_over turn.loop.invariant.0 at-loop-test.loop-test.true at-segment-sizes.segment-sizes.ensures.0 c.if-next.true ∙ ap (plus start.args.room start.args.t) (segments_from start.args.tape.now start.args.at start.args.count (inner_adds start.args.level start.args.tape.now start.args.st)), at-segment-sizes.segment-sizes.ensures.1)
+    let at-segment-sizes = c in
+    let at-loop-test = at-segment-sizes in
+    let turn = at-loop-test in
+    let start = turn in
+    (adding_over turn.loop-i.invariant.0 at-loop-test.loop-i-test.true at-segment-sizes.segment_sizes-next.ensures.0 c.if-next.true ∙ ap (plus start.args.room start.args.t) (segments_from start.args.tape.now start.args.at start.args.count (inner_adds start.args.level start.args.tape.now start.args.st)), at-segment-sizes.segment_sizes-next.ensures.1)
 
 pub segments_walk-overflow_mul-i-in-loop-i : goal.segments_walk-overflow_mul-i-in-loop-i
 segments_walk-overflow_mul-i-in-loop-i t c =
-    let at-loop-test = c.before.before.before.before.before in
-    let start = at-loop-test.before.before.before.before in
-    omega (arith, start.requires.1.1.1, at-loop-test.loop-test.true)
+    let at-loop-test = c in
+    let start = at-loop-test in
+    omega (arith, start.requires.count_in_bounds, at-loop-test.loop-i-test.true)
 
 pub segments_walk-overflow_add-at-in-loop-i : goal.segments_walk-overflow_add-at-in-loop-i
 segments_walk-overflow_add-at-in-loop-i t c =
-    let at-loop-test = c.before.before.before.before.before in
-    let start = at-loop-test.before.before.before.before in
-    omega (arith, start.requires.1.1.1, at-loop-test.loop-test.true)
+    let at-loop-test = c in
+    let start = at-loop-test in
+    omega (arith, start.requires.count_in_bounds, at-loop-test.loop-i-test.true)
 
 pub segments_walk-overflow_sub-count : goal.segments_walk-overflow_sub-count
 segments_walk-overflow_sub-count t c =
@@ -503,9 +503,9 @@ segments_walk-overflow_sub-count-in-loop-i t c =
 
 pub segments_walk-segments_alike-k-requires : goal.segments_walk-segments_alike-k-requires
 segments_walk-segments_alike-k-requires t c =
-    let at-loop-test = c.before.before.before.before.before in
-    let start = at-loop-test.before.before.before.before in
-    omega (arith, start.requires.1.1.1, at-loop-test.loop-test.true)
+    let at-loop-test = c in
+    let start = at-loop-test in
+    omega (arith, start.requires.count_in_bounds, at-loop-test.loop-i-test.true)
 
 pub segments_walk-again-u-requires : goal.segments_walk-again-u-requires
 segments_walk-again-u-requires t c =
@@ -520,23 +520,23 @@ record {
 pub segments_walk-returns-then-u : goal.segments_walk-returns-then-u
 unfolding segment_from
 segments_walk-returns-then-u t c =
-    let at-segment-sizes = c.before.before.before.before.before.before in
-    let at-loop-test = at-segment-sizes.before.before in
-    let turn = at-loop-test.before in
-    let start = turn.before.before.before in
-    (again_over (adding_more turn.loop.invariant.0 at-loop-test.loop-test.true at-segment-sizes.segment-sizes.ensures.0) c.segments_alike-k.result (omega (arith, c.segments_alike-k.ensures.few, at-loop-test.loop-test.true)) (segments_same (inner_adds start.args.level start.args.tape.now start.args.st) start.args.tape.now start.args.at turn.loop.i c.segments_alike-k.ensures) (c.again-u.ensures _ at-segment-sizes.segment-sizes.ensures.0) c.if-u.true ∙ ap (plus start.args.room start.args.t) (segments_from start.args.tape.now start.args.at start.args.count (inner_adds start.args.level start.args.tape.now start.args.st)), at-segment-sizes.segment-sizes.ensures.1)
+    let at-segment-sizes = c in
+    let at-loop-test = at-segment-sizes in
+    let turn = at-loop-test in
+    let start = turn in
+    (again_over (adding_more turn.loop-i.invariant.0 at-loop-test.loop-i-test.true at-segment-sizes.segment_sizes-next.ensures.0) c.segments_alike-k.result (omega (arith, c.segments_alike-k.ensures.few, at-loop-test.loop-i-test.true)) (segments_same (inner_adds start.args.level start.args.tape.now start.args.st) start.args.tape.now start.args.at turn.loop-i.i c.segments_alike-k.ensures) (c.again-u.ensures _ at-segment-sizes.segment_sizes-next.ensures.0) c.if-u.true ∙ ap (plus start.args.room start.args.t) (segments_from start.args.tape.now start.args.at start.args.count (inner_adds start.args.level start.args.tape.now start.args.st)), at-segment-sizes.segment_sizes-next.ensures.1)
 
 pub segments_walk-overflow_add-i : goal.segments_walk-overflow_add-i
 segments_walk-overflow_add-i t c =
-    let at-loop-test = c.before.before.before.before.before.before.before.before in
-    let start = at-loop-test.before.before.before.before in
-    omega (arith, c.segments_alike-k.ensures.few, at-loop-test.loop-test.true, start.requires.1.1.1)
+    let at-loop-test = c in
+    let start = at-loop-test in
+    omega (arith, c.segments_alike-k.ensures.few, at-loop-test.loop-i-test.true, start.requires.count_in_bounds)
 
 pub segments_walk-overflow_add-i-in-loop-i : goal.segments_walk-overflow_add-i-in-loop-i
 segments_walk-overflow_add-i-in-loop-i t c =
-    let at-loop-test = c.before.before.before.before.before.before.before.before in
-    let start = at-loop-test.before.before.before.before in
-    omega (arith, c.segments_alike-k.ensures.few, at-loop-test.loop-test.true, start.requires.1.1.1)
+    let at-loop-test = c in
+    let start = at-loop-test in
+    omega (arith, c.segments_alike-k.ensures.few, at-loop-test.loop-i-test.true, start.requires.count_in_bounds)
 
 pub segments_walk-loop-i-smaller : goal.segments_walk-loop-i-smaller
 segments_walk-loop-i-smaller t c =
@@ -545,13 +545,13 @@ segments_walk-loop-i-smaller t c =
 pub segments_walk-loop-i-preserved : goal.segments_walk-loop-i-preserved
 unfolding segment_from
 segments_walk-loop-i-preserved t c =
-    let at-segment-sizes = c.before.before.before.before.before.before in
-    let at-loop-test = at-segment-sizes.before.before in
-    let turn = at-loop-test.before in
-    let start = turn.before.before.before in
-    (adding_again (adding_more turn.loop.invariant.0 at-loop-test.loop-test.true at-segment-sizes.segment-sizes.ensures.0) c.segments_alike-k.result (omega (arith, c.segments_alike-k.ensures.few, at-loop-test.loop-test.true)) (segments_same (inner_adds start.args.level start.args.tape.now start.args.st) start.args.tape.now start.args.at turn.loop.i c.segments_alike-k.ensures) (c.again-u.ensures _ at-segment-sizes.segment-sizes.ensures.0), at-segment-sizes.segment-sizes.ensures.1, at-segment-sizes.segment-sizes.auto.1.1.0 ∙ turn.loop.invariant.2)
+    let at-segment-sizes = c in
+    let at-loop-test = at-segment-sizes in
+    let turn = at-loop-test in
+    let start = turn in
+    (adding_again (adding_more turn.loop-i.invariant.0 at-loop-test.loop-i-test.true at-segment-sizes.segment_sizes-next.ensures.0) c.segments_alike-k.result (omega (arith, c.segments_alike-k.ensures.few, at-loop-test.loop-i-test.true)) (segments_same (inner_adds start.args.level start.args.tape.now start.args.st) start.args.tape.now start.args.at turn.loop-i.i c.segments_alike-k.ensures) (c.again-u.ensures _ at-segment-sizes.segment_sizes-next.ensures.0), at-segment-sizes.segment_sizes-next.ensures.1, at-segment-sizes.segment_sizes-next.auto.memo ∙ turn.loop-i.invariant.2)
 
 pub segments_walk-returns : goal.segments_walk-returns
 segments_walk-returns t c =
-    let start = c.before.before.before.before in
+    let start = c in
     (adding_all c.loop-i.invariant.0 c.loop-i-test.false ∙ ap (plus start.args.room start.args.t) (segments_from start.args.tape.now start.args.at start.args.count (inner_adds start.args.level start.args.tape.now start.args.st)), c.loop-i.invariant.1)

@@ -15,8 +15,8 @@ only_contents-own-requires c =
 
 pub loop-i-init : goal.loop-i-init
 loop-i-init c =
-    let start = c.before.before.before.before in
-    (rw c.none-u.ensures (adding_none (node_from start.args.tape.now start.args.st start.args.at) start.args.count (kept_none start.args.room)), start.requires.0.1, refl)
+    let start = c in
+    (rw c.none-u.ensures (adding_none (node_from start.args.tape.now start.args.st start.args.at) start.args.count (kept_none start.args.room)), start.requires.of_tape.1, refl)
 
 pub overflow_mul-i : goal.overflow_mul-i
 overflow_mul-i c =
@@ -28,34 +28,34 @@ overflow_add-at c =
 
 pub node_sizes-u-requires : goal.node_sizes-u-requires
 node_sizes-u-requires c =
-    let at-only-contents = c.before.before.before.before in
-let start = at-only-contents.before.before.before in
+    let at-only-contents = c in
+let start = at-only-contents in
 record {
-        of_tape = (start.requires.0.0, c.loop-i.invariant.1, at-only-contents.only-contents.ensures, whole_inside start.args.tape.now start.args.st start.requires.0.0 at-only-contents.only-contents.result at-only-contents.only-contents.ensures);
+        of_tape = (start.requires.of_tape.0, c.loop-i.invariant.1, at-only-contents.only_contents-own.ensures, whole_inside start.args.tape.now start.args.st start.requires.of_tape.0 at-only-contents.only_contents-own.result at-only-contents.only_contents-own.ensures);
         kept = c.loop-i.invariant.0.kept;
-        at_in_bounds = omega (arith, start.requires.1, c.loop-i-test.true)
+        at_in_bounds = omega (arith, start.requires.count_in_bounds, c.loop-i-test.true)
     }
 
 pub shape_of-memo-then-u : goal.shape_of-memo-then-u
 shape_of-memo-then-u c =
-    let at-node-sizes = c.before.before.before in
-    let turn = at-node-sizes.before.before.before in
-    at-node-sizes.node-sizes.auto.1.1.1.0 ∙ turn.loop.invariant.2
+    let at-node-sizes = c in
+    let turn = at-node-sizes in
+    at-node-sizes.node_sizes-u.auto.memo ∙ turn.loop-i.invariant.2
 
 pub returns-then-u : goal.returns-then-u
 unfolding node_from
 returns-then-u c =
-    let at-node-sizes = c.before.before.before in
-    let at-loop-test = at-node-sizes.before.before in
-    let turn = at-loop-test.before in
-    let start = turn.before.before.before.before.before in
-    adding_over turn.loop.invariant.0 at-loop-test.loop-test.true at-node-sizes.node-sizes.ensures.0 c.if-u.true ∙ plus_none start.args.room _ ∙ ap (capped start.args.room) (nodes_from_lem start.args.tape.now start.args.at start.args.count start.args.st)
+    let at-node-sizes = c in
+    let at-loop-test = at-node-sizes in
+    let turn = at-loop-test in
+    let start = turn in
+    adding_over turn.loop-i.invariant.0 at-loop-test.loop-i-test.true at-node-sizes.node_sizes-u.ensures.0 c.if-u.true ∙ plus_none start.args.room _ ∙ ap (capped start.args.room) (nodes_from_lem start.args.tape.now start.args.at start.args.count start.args.st)
 
 pub overflow_add-i : goal.overflow_add-i
 overflow_add-i c =
-    let at-loop-test = c.before.before.before.before.before in
-    let start = at-loop-test.before.before.before.before.before.before in
-    omega (arith, start.requires.1, at-loop-test.loop-test.true)
+    let at-loop-test = c in
+    let start = at-loop-test in
+    omega (arith, start.requires.count_in_bounds, at-loop-test.loop-i-test.true)
 
 pub loop-i-smaller : goal.loop-i-smaller
 loop-i-smaller c =
@@ -64,10 +64,10 @@ loop-i-smaller c =
 pub loop-i-preserved : goal.loop-i-preserved
 unfolding node_from
 loop-i-preserved c =
-    let at-node-sizes = c.before.before.before in
-    let at-loop-test = at-node-sizes.before.before in
-    let turn = at-loop-test.before in
-    (adding_more turn.loop.invariant.0 at-loop-test.loop-test.true at-node-sizes.node-sizes.ensures.0, at-node-sizes.node-sizes.ensures.1, at-node-sizes.node-sizes.auto.1.1.1.0 ∙ turn.loop.invariant.2)
+    let at-node-sizes = c in
+    let at-loop-test = at-node-sizes in
+    let turn = at-loop-test in
+    (adding_more turn.loop-i.invariant.0 at-loop-test.loop-i-test.true at-node-sizes.node_sizes-u.ensures.0, at-node-sizes.node_sizes-u.ensures.1, at-node-sizes.node_sizes-u.auto.memo ∙ turn.loop-i.invariant.2)
 
 pub shape_of-memo : goal.shape_of-memo
 shape_of-memo c =
@@ -75,5 +75,5 @@ shape_of-memo c =
 
 pub returns : goal.returns
 returns c =
-    let start = c.before.before.before.before.before.before in
+    let start = c in
     adding_all c.loop-i.invariant.0 c.loop-i-test.false ∙ plus_none start.args.room _ ∙ ap (capped start.args.room) (nodes_from_lem start.args.tape.now start.args.at start.args.count start.args.st)

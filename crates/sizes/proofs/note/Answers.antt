@@ -9,12 +9,12 @@ returns-then-at-gt4294967295 c =
 
 pub returns-then-after-eq4294967295 : goal.returns-then-after-eq4294967295
 returns-then-after-eq4294967295 c =
-    let start = c.before.before.before.before in
+    let start = c in
     note_cut start.args.memo.now start.args.e start.args.at start.args.level start.args.before start.args.after c.if-at-gt4294967295.false c.if-after-eq4294967295.true
 
 pub returns : goal.returns
 returns c =
-    let at-if2 = c.before.before.before.before.before.before.before.before.before.before in
-    let at-if1 = at-if2.before.before in
-    let start = at-if1.before.before in
-    note_put start.args.memo.now start.args.e start.args.at start.args.level start.args.before start.args.after at-if1.if1.false at-if2.if2.false _ refl c.put.ensures
+    let at-if2 = c in
+    let at-if1 = at-if2 in
+    let start = at-if1 in
+    note_put start.args.memo.now start.args.e start.args.at start.args.level start.args.before start.args.after at-if1.if-at-gt4294967295.false at-if2.if-after-eq4294967295.false _ refl c.put.ensures

@@ -27,9 +27,9 @@ is_plain-requires c =
 pub returns-then-not-is_plain : goal.returns-then-not-is_plain
 unfolding content_codec
 returns-then-not-is_plain c =
-    let turn = c.before.before.before in
-    let start = turn.before.before in
-    run_failed content_codec is_plain start.args.tape.now start.args.at turn.loop.i _ refl _ c.is_plain.ensures _ c.loop-i-test.true c.if-not-is_plain.true
+    let turn = c in
+    let start = turn in
+    run_failed content_codec is_plain start.args.tape.now start.args.at turn.loop-i.i _ refl _ c.is_plain.ensures _ c.loop-i-test.true c.if-not-is_plain.true
 
 pub overflow_add-i : goal.overflow_add-i
 overflow_add-i c =
@@ -42,11 +42,11 @@ loop-i-smaller c =
 pub loop-i-preserved : goal.loop-i-preserved
 unfolding content_codec
 loop-i-preserved c =
-    let turn = c.before.before.before in
-    let start = turn.before.before in
-    (omega arith, run_more content_codec is_plain start.args.tape.now start.args.at turn.loop.i _ refl _ c.is_plain.ensures c.if-not-is_plain.false turn.loop.invariant.1)
+    let turn = c in
+    let start = turn in
+    (omega arith, run_more content_codec is_plain start.args.tape.now start.args.at turn.loop-i.i _ refl _ c.is_plain.ensures c.if-not-is_plain.false turn.loop-i.invariant.1)
 
 pub returns : goal.returns
 returns c =
-    let start = c.before.before.before in
+    let start = c in
     run_passed content_codec is_plain start.args.tape.now start.args.at _ c.loop-i.i (omega arith) c.loop-i.invariant.1

@@ -11,8 +11,8 @@ nodes_bare-requires c =
 
 pub returns-then-st-eq0 : goal.returns-then-st-eq0
 returns-then-st-eq0 c =
-    let start = c.before.before.before.before in
-    reading_answer start.requires.0 start.args.room start.requires.1.0 start.requires.1.1 c.nodes_bare.ensures
+    let start = c in
+    reading_answer start.requires.ids_fit start.args.room start.requires.st_value start.requires.limited c.nodes_bare.ensures
 
 pub nodes_noted-requires : goal.nodes_noted-requires
 nodes_noted-requires c =
@@ -23,5 +23,5 @@ nodes_noted-requires c =
 
 pub returns : goal.returns
 returns c =
-    let start = c.before.before.before.before in
-    reading_answer start.requires.0 start.args.room start.requires.1.0 start.requires.1.1 c.nodes_noted.ensures
+    let start = c in
+    reading_answer start.requires.ids_fit start.args.room start.requires.st_value start.requires.limited c.nodes_noted.ensures

@@ -4,6 +4,6 @@ use Rattle.sizes.proofs.ruby_sizes.Goals as goal
 
 pub returns : goal.returns
 returns c =
-    let at-body-word = c.before.before.before in
-    let start = at-body-word.before.before in
-    ruby_read start.args.room start.args.t at-body-word.body-word.result c.body_word-reading.result at-body-word.body-word.ensures c.body_word-reading.ensures c.with_added-u.ensures c.with_added.ensures
+    let at-body-word = c in
+    let start = at-body-word in
+    ruby_read start.args.room start.args.t at-body-word.body_word-base.result c.body_word-reading.result at-body-word.body_word-base.ensures c.body_word-reading.ensures c.with_added-u.ensures c.with_added.ensures

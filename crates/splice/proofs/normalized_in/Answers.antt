@@ -6,14 +6,14 @@ use Rattle.splice.proofs.normalized_in.Goals as goal
 pub returns-in-Before : goal.returns-in-Before
 unfolding normalized_in
 returns-in-Before c =
-    rw c.enum_told-1.given.1 refl
+    rw c.in-Before.is refl
 
 pub returns-in-Reading : goal.returns-in-Reading
 unfolding normalized_in
 returns-in-Reading c =
-    rw c.enum_told-in-Reading-1.given.1 c.plus.ensures
+    rw c.in-Reading.is c.plus.ensures
 
 pub returns-in-Behind : goal.returns-in-Behind
 unfolding normalized_in
 returns-in-Behind c =
-    rw c.enum_told-in-Behind-1.given.1 c.moved_offset.ensures
+    rw c.in-Behind.is c.moved_offset.ensures

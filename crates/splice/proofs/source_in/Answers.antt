@@ -6,14 +6,14 @@ use Rattle.splice.proofs.source_in.Goals as goal
 pub returns-in-Before : goal.returns-in-Before
 unfolding source_in
 returns-in-Before c =
-    rw c.enum_told-1.given.1 refl
+    rw c.in-Before.is refl
 
 pub returns-in-Reading : goal.returns-in-Reading
 unfolding source_in
 returns-in-Reading c =
-    rw c.enum_told-in-Reading-1.given.1 c.shift_clamp.ensures
+    rw c.in-Reading.is c.shift_clamp.ensures
 
 pub returns-in-Behind : goal.returns-in-Behind
 unfolding source_in
 returns-in-Behind c =
-    rw c.enum_told-in-Behind-1.given.1 c.shift_clamp-in-Behind.ensures
+    rw c.in-Behind.is c.shift_clamp-in-Behind.ensures

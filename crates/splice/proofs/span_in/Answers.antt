@@ -6,14 +6,14 @@ use Rattle.splice.proofs.span_in.Goals as goal
 pub returns-in-Before : goal.returns-in-Before
 unfolding span_in
 returns-in-Before c =
-    rw c.enum_told-1.given.1 refl
+    rw c.in-Before.is refl
 
 pub returns-in-Reading : goal.returns-in-Reading
 unfolding span_in
 returns-in-Reading c =
-    rw c.enum_told-in-Reading-1.given.1 refl
+    rw c.in-Reading.is refl
 
 pub returns-in-Behind : goal.returns-in-Behind
 unfolding span_in
 returns-in-Behind c =
-    rw c.enum_told-in-Behind-1.given.1 refl
+    rw c.in-Behind.is refl

@@ -4,8 +4,8 @@ use Rattle.tape.proofs.drift_refusal.Goals as goal
 
 pub returns-then-lengths_agree : goal.returns-then-lengths_agree
 returns-then-lengths_agree c =
-    drift_none _ _ _ c.d-1.given.1 c.lengths_agree.ensures c.if-lengths_agree.true
+    drift_none _ _ _ c.in-Placed.is c.lengths_agree.ensures c.if-lengths_agree.true
 
 pub returns-in-Placed : goal.returns-in-Placed
 returns-in-Placed c =
-    drift_seven _ _ _ c.d-1.given.1 c.lengths_agree.ensures c.if-lengths_agree.false
+    drift_seven _ _ _ c.in-Placed.is c.lengths_agree.ensures c.if-lengths_agree.false
