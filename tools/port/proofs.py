@@ -116,7 +116,7 @@ def parts_of(s, n):
     inner = stripped(s)
     if inner is None:
         return None
-    two = split_top(inner, ",")
+    two = [x for x in split_top(inner, ",") if x.strip()]
     if len(two) == 2:
         rest = parts_of(two[1], n - 1)
         return None if rest is None else [two[0].strip()] + rest
@@ -137,7 +137,7 @@ def with_fields(body, fields, cycle_call):
             nl = split_top(tail, " in\n")
             if len(nl) < 2:
                 return None
-            head += nl[0] + " in\n"
+            head += nl[0] + " in\n    "
             tail = " in\n".join(nl[1:]).strip()
             continue
         head += pieces[0] + " in "
@@ -191,7 +191,7 @@ class Fn:
         k = 0
         while k < len(rest) and rest[k] == "1" and k < len(names) - 1:
             k += 1
-        if k < len(names) and k < len(rest) and rest[k] == "0":
+        if k < len(names) - 1 and k < len(rest) and rest[k] == "0":
             return [names[k]] + rest[k + 1:]
         if k == len(names) - 1:
             return [names[k]] + rest[k:]
@@ -296,8 +296,12 @@ class Fn:
 
         text = rx.sub(one, text)
         # what `not` was is said by the test itself now
-        text = re.sub(r"\(not-(?:true|false) _ (" + names + r")(\.if-not-[^\s()]+)\)", r"\1\2", text)
-        text = re.sub(r"\bnot-(?:true|false) _ (" + names + r")(\.if-not-[^\s()]+)", r"\1\2", text)
+        test = r"((?:" + names + r")\.if-not-[^\s(),]+)"
+        text = re.sub(r"\(not-(?:true|false) (?:_|[\w.'-]+|\([^()]*\)) " + test + r"\)", r"\1", text)
+        text = re.sub(r"\bnot-(?:true|false) (?:_|[\w.'-]+|\([^()]*\)) " + test, r"\1", text)
+        for m in list(re.finditer(r"\blet ([^\s:]+) = (?:" + names + r")\.args in\b", text)):
+            for old, new in self.argmap.items():
+                text = re.sub(r"(?<![\w.'-])" + re.escape(m.group(1)) + r"\." + re.escape(old) + r"(?![\w'-])", m.group(1) + "." + new, text)
         return text
 
 

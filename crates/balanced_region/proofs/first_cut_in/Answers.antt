@@ -14,7 +14,7 @@ loop-c-init c =
 pub next_try-next-requires : goal.next_try-next-requires
 next_try-next-requires c =
     let start = c in
-record {
+    record {
         count_in_bounds = (start.requires.count_in_bounds.0, omega (arith, start.requires.count_in_bounds.1));
         window = c.loop-c.invariant.1
     }
@@ -28,9 +28,9 @@ shape_of-words-then-next-c c =
 pub returns-then-next-c : goal.returns-then-next-c
 returns-then-next-c c =
     let at-next-try = c in
-let at-loop-test = at-next-try in
-let turn = at-loop-test in
-record {
+    let at-loop-test = at-next-try in
+    let turn = at-loop-test in
+    record {
         value = tried_found _ _ turn.loop-c.invariant.0 _ at-next-try.next_try-next.ensures.value _ at-loop-test.loop-c-test.true c.if-next-c.true;
         window_2 = at-next-try.next_try-next.ensures.window_2
     }

@@ -32,8 +32,8 @@ earlier-requires c =
 pub gap_last-c-requires : goal.gap_last-c-requires
 gap_last-c-requires c =
     let turn = c in
-let start = turn in
-record {
+    let start = turn in
+    record {
         count_in_bounds = (start.requires.count_in_bounds.1, omega arith);
         window = turn.loop-i.invariant.1
     }
@@ -50,12 +50,11 @@ returns-then-lo-c c =
     let at-earlier = at-gap-last in
     let at-gap-from = at-earlier in
     let turn = at-gap-from in
-    let start = turn in (
-      down_found start.requires.in_order start.requires.front turn.loop-i.invariant.0 _ at-gap-from.gap_from-lo.ensures _ at-earlier.earlier.ensures _ at-gap-last.gap_last-c.ensures.value
-          c.if-lo-c.true,
-      at-gap-last.gap_last-c.ensures.window_2,
-    )
--- LEFT: wants record { value = ..; window_2 = .. }
+    let start = turn in record {
+        value = down_found start.requires.in_order start.requires.front turn.loop-i.invariant.0 _ at-gap-from.gap_from-lo.ensures _ at-earlier.earlier.ensures _ at-gap-last.gap_last-c.ensures.value
+          c.if-lo-c.true;
+        window_2 = at-gap-last.gap_last-c.ensures.window_2
+    }
 
 pub overflow_sub-i : goal.overflow_sub-i
 overflow_sub-i c =
@@ -134,8 +133,8 @@ earlier-requires-2 c =
 pub gap_last-c-requires-2 : goal.gap_last-c-requires-2
 gap_last-c-requires-2 c =
     let turn = c in
-let start = turn in
-record {
+    let start = turn in
+    record {
         count_in_bounds = (start.requires.count_in_bounds.1, omega arith);
         window = turn.loop-i.invariant.1
     }
@@ -152,12 +151,11 @@ returns-then-lo-c-2 c =
     let at-earlier3 = at-gap-last2 in
     let at-gap-from2 = at-earlier3 in
     let turn = at-gap-from2 in
-    let start = turn in (
-      down_found start.requires.in_order start.requires.front turn.loop-i.invariant.0 _ at-gap-from2.gap_from-lo-2.ensures _ at-earlier3.earlier-2.ensures _ at-gap-last2.gap_last-c-2.ensures.value
-          c.if-lo-c-2.true,
-      at-gap-last2.gap_last-c-2.ensures.window_2,
-    )
--- LEFT: wants record { value = ..; window_2 = .. }
+    let start = turn in record {
+        value = down_found start.requires.in_order start.requires.front turn.loop-i.invariant.0 _ at-gap-from2.gap_from-lo-2.ensures _ at-earlier3.earlier-2.ensures _ at-gap-last2.gap_last-c-2.ensures.value
+          c.if-lo-c-2.true;
+        window_2 = at-gap-last2.gap_last-c-2.ensures.window_2
+    }
 
 pub shape_of-words : goal.shape_of-words
 shape_of-words c =
@@ -172,9 +170,8 @@ returns c =
     let at-gap-from2 = at-earlier3 in
     let at-if1 = at-gap-from2 in
     let turn = at-if1 in
-    let start = turn in (
-      down_done start.requires.in_order start.requires.front turn.loop-i.invariant.0 _ at-gap-from2.gap_from-lo-2.ensures _ at-earlier3.earlier-2.ensures _ at-gap-last2.gap_last-c-2.ensures.value
-          at-if1.loop-i-test.false c.if-lo-c-2.false,
-      at-gap-last2.gap_last-c-2.ensures.window_2,
-    )
--- LEFT: wants record { value = ..; window_2 = .. }
+    let start = turn in record {
+        value = down_done start.requires.in_order start.requires.front turn.loop-i.invariant.0 _ at-gap-from2.gap_from-lo-2.ensures _ at-earlier3.earlier-2.ensures _ at-gap-last2.gap_last-c-2.ensures.value
+          at-if1.loop-i-test.false c.if-lo-c-2.false;
+        window_2 = at-gap-last2.gap_last-c-2.ensures.window_2
+    }

@@ -34,8 +34,8 @@ overflow_add-bound c =
 pub gap_last-requires : goal.gap_last-requires
 gap_last-requires c =
     let turn = c in
-let start = turn in
-record {
+    let start = turn in
+    record {
         count_in_bounds = (start.requires.count_in_bounds.1, omega (arith, start.requires.count_in_bounds.2));
         window = turn.loop-i.invariant.1
     }
@@ -50,11 +50,10 @@ returns-then-bound-start c =
     let at-if2 = c in
     let at-node-start = at-if2 in
     let at-if1 = at-node-start in
-    let turn = at-if1 in (
-      last_walk_stop turn.loop-i.invariant.0 at-if1.loop-i-test.true _ at-node-start.node_start-start.ensures at-if2.if-bound-start.true _ c.gap_last.ensures.value,
-      c.gap_last.ensures.window_2,
-    )
--- LEFT: wants record { value = ..; window_2 = .. }
+    let turn = at-if1 in record {
+        value = last_walk_stop turn.loop-i.invariant.0 at-if1.loop-i-test.true _ at-node-start.node_start-start.ensures at-if2.if-bound-start.true _ c.gap_last.ensures.value;
+        window_2 = c.gap_last.ensures.window_2
+    }
 
 pub overflow_add-start : goal.overflow_add-start
 overflow_add-start c =
@@ -63,8 +62,8 @@ overflow_add-start c =
 pub gap_last-last-requires : goal.gap_last-last-requires
 gap_last-last-requires c =
     let turn = c in
-let start = turn in
-record {
+    let start = turn in
+    record {
         count_in_bounds = (start.requires.count_in_bounds.1, omega (arith, start.requires.count_in_bounds.2, c.if-bound-start.false));
         window = turn.loop-i.invariant.1
     }
@@ -113,8 +112,8 @@ overflow_add-bound-2 c =
 pub gap_last-requires-2 : goal.gap_last-requires-2
 gap_last-requires-2 c =
     let turn = c in
-let start = turn in
-record {
+    let start = turn in
+    record {
         count_in_bounds = (start.requires.count_in_bounds.1, omega (arith, start.requires.count_in_bounds.2));
         window = turn.loop-i.invariant.1
     }
@@ -127,8 +126,8 @@ shape_of-words c =
 pub returns : goal.returns
 returns c =
     let at-if1 = c in
-let turn = at-if1 in
-record {
+    let turn = at-if1 in
+    record {
         value = last_walk_done turn.loop-i.invariant.0 at-if1.loop-i-test.false _ c.gap_last-2.ensures.value;
         window_2 = c.gap_last-2.ensures.window_2
     }

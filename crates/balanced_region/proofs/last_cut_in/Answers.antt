@@ -19,7 +19,7 @@ overflow_sub-c c =
 pub text_pairs_allow-requires : goal.text_pairs_allow-requires
 text_pairs_allow-requires c =
     let start = c in
-record {
+    record {
         count_in_bounds = (start.requires.count_in_bounds.0, omega (arith, start.requires.count_in_bounds.1, c.loop-c.invariant.0));
         window = c.loop-c.invariant.2
     }
@@ -38,11 +38,10 @@ pub returns-then-text_pairs_allow : goal.returns-then-text_pairs_allow
 returns-then-text_pairs_allow c =
     let at-text-pairs-allow = c in
     let at-loop-test = at-text-pairs-allow in
-    let turn = at-loop-test in (
-      sym (last_stop _ _ _ _ at-loop-test.loop-c-test.true (sym at-text-pairs-allow.text_pairs_allow.ensures.value ∙ c.if-text_pairs_allow.true)) ∙ turn.loop-c.invariant.1,
-      at-text-pairs-allow.text_pairs_allow.ensures.window_2,
-    )
--- LEFT: wants record { value = ..; window_2 = .. }
+    let turn = at-loop-test in record {
+        value = sym (last_stop _ _ _ _ at-loop-test.loop-c-test.true (sym at-text-pairs-allow.text_pairs_allow.ensures.value ∙ c.if-text_pairs_allow.true)) ∙ turn.loop-c.invariant.1;
+        window_2 = at-text-pairs-allow.text_pairs_allow.ensures.window_2
+    }
 
 pub overflow_sub-c-in-loop-c : goal.overflow_sub-c-in-loop-c
 overflow_sub-c-in-loop-c c =

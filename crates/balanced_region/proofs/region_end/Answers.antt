@@ -34,9 +34,9 @@ overflow_add-start c =
 pub gap_first-c-requires : goal.gap_first-c-requires
 gap_first-c-requires c =
     let at-if1 = c in
-let turn = at-if1 in
-let start = turn in
-record {
+    let turn = at-if1 in
+    let start = turn in
+    record {
         count_in_bounds = (start.requires.count_in_bounds.1, end_walk_inside turn.loop-i.invariant.0 at-if1.loop-i-test.true _ c.node_start-start.ensures, start.requires.count_in_bounds.2);
         window = turn.loop-i.invariant.1
     }
@@ -53,11 +53,10 @@ returns-then-c-start c =
     let at-node-start = at-gap-first in
     let at-if1 = at-node-start in
     let turn = at-if1 in
-    let start = turn in (
-      end_walk_found turn.loop-i.invariant.0 at-if1.loop-i-test.true _ at-node-start.node_start-start.ensures _ at-gap-first.gap_first-c.ensures.value start.requires.count_in_bounds.2 c.if-c-start.true,
-      at-gap-first.gap_first-c.ensures.window_2,
-    )
--- LEFT: wants record { value = ..; window_2 = .. }
+    let start = turn in record {
+        value = end_walk_found turn.loop-i.invariant.0 at-if1.loop-i-test.true _ at-node-start.node_start-start.ensures _ at-gap-first.gap_first-c.ensures.value start.requires.count_in_bounds.2 c.if-c-start.true;
+        window_2 = at-gap-first.gap_first-c.ensures.window_2
+    }
 
 pub node_end-from-requires : goal.node_end-from-requires
 node_end-from-requires c =
@@ -99,8 +98,8 @@ loop-i-preserved c =
 pub gap_first-requires : goal.gap_first-requires
 gap_first-requires c =
     let turn = c in
-let start = turn in
-record {
+    let start = turn in
+    record {
         count_in_bounds = (start.requires.count_in_bounds.1, omega arith, start.requires.count_in_bounds.2);
         window = turn.loop-i.invariant.1
     }
@@ -113,9 +112,9 @@ shape_of-words c =
 pub returns : goal.returns
 returns c =
     let at-if1 = c in
-let turn = at-if1 in
-let start = turn in
-record {
+    let turn = at-if1 in
+    let start = turn in
+    record {
         value = end_walk_done turn.loop-i.invariant.0 at-if1.loop-i-test.false start.requires.count_in_bounds.2 _ c.gap_first.ensures.value;
         window_2 = c.gap_first.ensures.window_2
     }

@@ -6,9 +6,9 @@ use Rattle.cuts.proofs.closes_nothing.Goals as goal
 pub returns-then-not-closes : goal.returns-then-not-closes
 unfolding closes_nothing
 returns-then-not-closes c =
-    rw (not-true c.args.closes c.if-not-closes.true) refl
+    rw c.if-not-closes.true refl
 
 pub returns : goal.returns
 unfolding closes_nothing
 returns c =
-    rw (not-false c.args.closes c.if-not-closes.false) refl
+    rw c.if-not-closes.false refl

@@ -10,12 +10,12 @@ returns-then-opens c =
 
 pub returns-then-not-closes : goal.returns-then-not-closes
 returns-then-not-closes c =
-    let e = not-true c.args.closes c.if-not-closes.true in rw (c.if-opens.false, e) refl
+    let e = c.if-not-closes.true in rw (c.if-opens.false, e) refl
 
 pub returns-then-depth-eq0 : goal.returns-then-depth-eq0
 returns-then-depth-eq0 c =
-    let e = not-false c.args.closes c.if-not-closes.false in rw (c.if-opens.false, e) (omega arith)
+    let e = c.if-not-closes.false in rw (c.if-opens.false, e) (omega arith)
 
 pub returns : goal.returns
 returns c =
-    let e = not-false c.args.closes c.if-not-closes.false in rw (c.if-opens.false, e) refl
+    let e = c.if-not-closes.false in rw (c.if-opens.false, e) refl

@@ -16,7 +16,7 @@ bounds-words-k c =
 pub returns-then-k-gt0 : goal.returns-then-k-gt0
 returns-then-k-gt0 c =
     let start = c in
-record {
+    record {
         value = (window_word start.requires.window _ _ c.word_of-k.ensures c.if-k-gt0.true).1;
         window_2 = start.requires.window
     }

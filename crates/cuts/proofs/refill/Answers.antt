@@ -55,9 +55,8 @@ returns c =
     let at-room-in = at-next-size in
     let start = at-room-in in
     let f = window_fits _ _ _ _ start.args.o start.requires.2 at-room-in.room_in.ensures
-    at-next-size.next_size-n.ensures in let o = start.args.o in let n = at-next-size.next_size-n.result in (
-      (window_here at_fill_lem.fill.ensures.0 o (o - o % n) n (o % n)
-          at_fill_lem.fill.ensures.1 at_fill_lem.fill.ensures.2 f.3 (omega (arith, f.4))).1,
-      at_fill_lem.fill.ensures.0,
-    )
--- LEFT: wants record { value = ..; window = .. }
+    at-next-size.next_size-n.ensures in let o = start.args.o in let n = at-next-size.next_size-n.result in record {
+        value = (window_here at_fill_lem.fill.ensures.0 o (o - o % n) n (o % n)
+          at_fill_lem.fill.ensures.1 at_fill_lem.fill.ensures.2 f.3 (omega (arith, f.4))).1;
+        window = at_fill_lem.fill.ensures.0
+    }

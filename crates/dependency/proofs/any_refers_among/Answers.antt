@@ -18,8 +18,8 @@ refers_among-r-requires c =
     let turn = c in
     let start = turn in record {
         sound = sound_before (sound_index turn.loop-i.invariant.2 start.requires.sound) (omega (arith, c.loop-i-test.true));
-        base_in_bounds = (omega (arith, start.requires.base_in_bounds, turn.loop-i.invariant.1), turn.loop-i.invariant.3);
-        noted = 
+        base_in_bounds = omega (arith, start.requires.base_in_bounds, turn.loop-i.invariant.1);
+        noted = turn.loop-i.invariant.3
     }
 
 pub shape_of-words-then-r-eq1 : goal.shape_of-words-then-r-eq1
@@ -63,8 +63,8 @@ note_first-requires c =
     let turn = at-loop-test in
     let start = turn in record {
         sound_node = sound_node (sound_index turn.loop-i.invariant.2 start.requires.sound) at-loop-test.loop-i-test.true;
-        base_in_bounds = (omega (arith, start.requires.base_in_bounds, turn.loop-i.invariant.1), turn.loop-i.invariant.3);
-        noted = 
+        base_in_bounds = omega (arith, start.requires.base_in_bounds, turn.loop-i.invariant.1);
+        noted = turn.loop-i.invariant.3
     }
 
 pub overflow_add-i : goal.overflow_add-i

@@ -19,8 +19,8 @@ refers_or_later-requires c =
     let turn = c in
     let start = turn in record {
         sound = sound_index turn.loop-i.invariant.2 start.requires.sound;
-        i_lt_count = ((c.loop-i-test.true, omega (arith, start.requires.n_in_bounds, turn.loop-i.invariant.1)), turn.loop-i.invariant.4);
-        rowed = 
+        i_lt_count = (c.loop-i-test.true, omega (arith, start.requires.n_in_bounds, turn.loop-i.invariant.1));
+        rowed = turn.loop-i.invariant.4
     }
 
 pub shape_of-words-then-refers_or_later : goal.shape_of-words-then-refers_or_later
@@ -44,8 +44,8 @@ insert_first-m-requires c =
     let turn = at-loop-test in
     let start = turn in record {
         sound = sound_before (sound_index turn.loop-i.invariant.2 start.requires.sound) (omega (arith, at-loop-test.loop-i-test.true));
-        rowed = (turn.loop-i.invariant.4, (turn.loop-i.invariant.3, omega (arith, start.requires.n_in_bounds, turn.loop-i.invariant.1)));
-        m_le_i = 
+        rowed = turn.loop-i.invariant.4;
+        m_le_i = (turn.loop-i.invariant.3, omega (arith, start.requires.n_in_bounds, turn.loop-i.invariant.1))
     }
 
 pub overflow_add-i : goal.overflow_add-i

@@ -23,7 +23,7 @@ returns-then-in_many_parts c =
 pub refers_by_words-requires : goal.refers_by_words-requires
 refers_by_words-requires c =
     let enough = lent_enough (length c.args.words.now) (c.asked_nodes-n.result + 1) c.in_many_parts.ensures c.if-in_many_parts.false in
-record {
+    record {
         sound = sound_before c.requires (asked_inside _ _ _ _ c.asked_nodes-n.ensures);
         in_bounds = omega (arith, enough, c.if-n-eq0.false)
     }

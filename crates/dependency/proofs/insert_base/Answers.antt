@@ -12,7 +12,7 @@ returns-then-not-is_ruby c =
 pub first_plain-p-requires : goal.first_plain-p-requires
 first_plain-p-requires c =
     let start = c in
-record {
+    record {
         of_tape = start.requires.sound_node.strings.sides.store;
         at_in_bounds = start.requires.sound_node.inside;
         first_range = ruby_first start.requires.sound_node c.is_ruby.ensures c.if-not-is_ruby.false
@@ -21,7 +21,7 @@ record {
 pub insert_id-requires : goal.insert_id-requires
 insert_id-requires c =
     let start = c in
-record {
+    record {
         resolvable = start.requires.sound_node.strings;
         row = start.requires.row;
         m_in_bounds = start.requires.m_in_bounds;

@@ -31,8 +31,8 @@ returns-then-is_base_again c =
 pub insert_base-requires : goal.insert_base-requires
 insert_base-requires c =
     let at-if1 = c in
-let start = at-if1 in
-record {
+    let start = at-if1 in
+    record {
         sound_node = sound_last start.args.i start.requires.sound;
         row = start.requires.rowed.row;
         m_in_bounds = omega (arith, start.requires.m_le_i, at-if1.if-n-i.false)

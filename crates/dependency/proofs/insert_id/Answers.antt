@@ -5,7 +5,7 @@ use Rattle.dependency.proofs.insert_id.Goals as goal
 pub insert-requires : goal.insert-requires
 insert-requires c =
     let start = c in
-record {
+    record {
         resolvable = start.requires.resolvable;
         row = start.requires.row;
         m_in_bounds = start.requires.m_in_bounds;

@@ -6,7 +6,7 @@ use Rattle.dependency.proofs.is_plain_in_row.Goals as goal
 pub resolve_str-s-requires : goal.resolve_str-s-requires
 resolve_str-s-requires c =
     let start = c in
-record {
+    record {
         resolvable = start.requires.resolvable;
         id_lt_strings = (start.requires.plain_in.inside _ c.in-Id.is)
     }

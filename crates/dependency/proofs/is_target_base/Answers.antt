@@ -7,8 +7,8 @@ use Rattle.dependency.proofs.is_target_base.Goals as goal
 pub resolve_str-s-requires : goal.resolve_str-s-requires
 resolve_str-s-requires c =
     let at_p = c in
-let start = at_p in
-record {
+    let start = at_p in
+    record {
         resolvable = start.requires.sound.strings;
         id_lt_strings = (start.requires.plain_in.inside _ at_p.in-Id.is)
     }

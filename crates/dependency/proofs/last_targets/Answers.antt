@@ -12,8 +12,8 @@ overflow_sub-n c =
 pub note_target_place-m-requires : goal.note_target_place-m-requires
 note_target_place-m-requires c =
     let turn = c in
-let start = turn in
-record {
+    let start = turn in
+    record {
         naming = start.requires.node (turn.loop-n.n - 1) (omega (arith, turn.loop-n.invariant, c.loop-n-test.true));
         m_in_bounds = omega (arith, turn.loop-n.invariant)
     }

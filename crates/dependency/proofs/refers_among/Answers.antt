@@ -14,17 +14,18 @@ pub first_plain-p-requires : goal.first_plain-p-requires
 first_plain-p-requires c =
     let start = c in record {
         of_tape = start.requires.sound.strings.sides.store;
-        at_in_bounds = ((sound_last start.args.i start.requires.sound).inside, format_first (sound_last start.args.i start.requires.sound) _ c.asks_target.ensures c.if-not-asks_target.false);
-        first_range = 
+        at_in_bounds = (sound_last start.args.i start.requires.sound).inside;
+        first_range = format_first (sound_last start.args.i start.requires.sound) _ c.asks_target.ensures c.if-not-asks_target.false
     }
 
 pub is_target_base-requires : goal.is_target_base-requires
 is_target_base-requires c =
-    let start = c in (
-      sound_before start.requires.sound (omega (arith, c.smaller-k.ensures)),
-      (start.requires.base_in_bounds, (noted_few _ _ _ _ _ _ _ start.requires.noted _ c.smaller-k.ensures, plain_inside (sound_last start.args.i start.requires.sound) c.first_plain-p.ensures)),
-    )
--- LEFT: wants record { sound = ..; base_in_bounds = ..; noted = ..; plain_in = .. }
+    let start = c in record {
+        sound = sound_before start.requires.sound (omega (arith, c.smaller-k.ensures));
+        base_in_bounds = start.requires.base_in_bounds;
+        noted = noted_few _ _ _ _ _ _ _ start.requires.noted _ c.smaller-k.ensures;
+        plain_in = plain_inside (sound_last start.args.i start.requires.sound) c.first_plain-p.ensures
+    }
 
 pub returns : goal.returns
 returns c =

@@ -12,14 +12,13 @@ pub refers_in_parts-requires : goal.refers_in_parts-requires
 refers_in_parts-requires c =
     let at-index-strings = c in
     let start = c in
-    let base = length start.args.words.now / 4 in (
-      sound_own start.requires.sound start.args.words.now base (omega arith) at-index-strings.index_strings.new.words
-          at-index-strings.index_strings.auto.words at-index-strings.index_strings.ensures,
-      omega (
+    let base = length start.args.words.now / 4 in record {
+        sound = sound_own start.requires.sound start.args.words.now base (omega arith) at-index-strings.index_strings.new.words
+          at-index-strings.index_strings.auto.words at-index-strings.index_strings.ensures;
+        base_in_bounds = omega (
         arith,
         first_length start.args.words.now base (omega arith)
             at-index-strings.index_strings.new.words at-index-strings.index_strings.auto.words,
         start.requires.in_bounds,
-      ),
-    )
--- LEFT: wants record { sound = ..; base_in_bounds = .. }
+      )
+    }

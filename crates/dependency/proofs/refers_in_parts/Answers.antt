@@ -48,11 +48,10 @@ overflow_sub-count-in-loop-i c =
 pub refers_to_part-requires : goal.refers_to_part-requires
 refers_to_part-requires c =
     let turn = c in
-    let start = turn in (
-      sound_piece (sound_index turn.loop-i.invariant.2 start.requires.sound) turn.loop-i.i _ (omega (arith, c.loop-i-test.true)),
-      (omega (arith, c.smaller-n.ensures), omega (arith, c.smaller-n.ensures, turn.loop-i.invariant.4, turn.loop-i.invariant.1)),
-    )
--- LEFT: wants record { sound = ..; n_le_count = .. }
+    let start = turn in record {
+        sound = sound_piece (sound_index turn.loop-i.invariant.2 start.requires.sound) turn.loop-i.i _ (omega (arith, c.loop-i-test.true));
+        n_le_count = (omega (arith, c.smaller-n.ensures), omega (arith, c.smaller-n.ensures, turn.loop-i.invariant.4, turn.loop-i.invariant.1))
+    }
 
 pub shape_of-words-then-refers_to_part : goal.shape_of-words-then-refers_to_part
 shape_of-words-then-refers_to_part c =

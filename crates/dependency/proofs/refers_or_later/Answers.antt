@@ -15,7 +15,7 @@ noted_place-v-requires c =
 pub asks_again-requires : goal.asks_again-requires
 asks_again-requires c =
     let start = c in
-record {
+    record {
         namings = sound_namings start.requires.sound;
         i_lt_count = start.requires.i_lt_count.0
     }
@@ -28,7 +28,7 @@ returns-then-asks_again c =
 pub refers_to_row-requires : goal.refers_to_row-requires
 refers_to_row-requires c =
     let start = c in
-record {
+    record {
         sound_node = sound_node start.requires.sound start.requires.i_lt_count.0;
         base_in_bounds = start.requires.i_lt_count.1;
         row = start.requires.rowed.row

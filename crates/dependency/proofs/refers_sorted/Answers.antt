@@ -4,7 +4,7 @@ use Rattle.dependency.proofs.refers_sorted.Goals as goal
 
 pub first_bases-a-requires : goal.first_bases-a-requires
 first_bases-a-requires c =
-    namings_before (sound_namings c.requires.sound) c.requires.n_le_count
+    namings_before (sound_namings c.requires.sound) c.requires.n_le_count.0
 
 pub last_targets-z-requires : goal.last_targets-z-requires
 last_targets-z-requires c =

@@ -12,7 +12,7 @@ returns-then-not-asks_target c =
 pub first_plain-p-requires : goal.first_plain-p-requires
 first_plain-p-requires c =
     let start = c in
-record {
+    record {
         of_tape = start.requires.sound_node.strings.sides.store;
         at_in_bounds = start.requires.sound_node.inside;
         first_range = format_first start.requires.sound_node _ c.asks_target.ensures c.if-not-asks_target.false
@@ -21,7 +21,7 @@ record {
 pub is_plain_in_row-requires : goal.is_plain_in_row-requires
 is_plain_in_row-requires c =
     let start = c in
-record {
+    record {
         resolvable = start.requires.sound_node.strings;
         base_in_bounds = start.requires.base_in_bounds;
         row = start.requires.row;

@@ -21,7 +21,7 @@ returns-then-not-cuts_ok c =
     let at-if1 = c in
     let at-introduces-ruby-format-dependency = at-if1 in
     let start = at-introduces-ruby-format-dependency in
-    λ e. refused_16 start.requires.held.0 start.requires.held.1 e _ at-introduces-ruby-format-dependency.introduces_ruby_format_dependency.ensures at-if1.if-introduces_ruby_format_dependency.false start.requires.nstart_value start.requires.nstart_value.1 refl refl
+    λ e. refused_16 start.requires.held.0 start.requires.held.1 e _ at-introduces-ruby-format-dependency.introduces_ruby_format_dependency.ensures at-if1.if-introduces_ruby_format_dependency.false start.requires.nstart_value.0 start.requires.nstart_value.1 refl refl
     c.cuts_ok.ensures c.if-not-cuts_ok.true
 
 pub returns-then-layer_missing : goal.returns-then-layer_missing
@@ -30,7 +30,7 @@ returns-then-layer_missing c =
     let at-if1 = at-cuts-ok in
     let at-introduces-ruby-format-dependency = at-if1 in
     let start = at-introduces-ruby-format-dependency in
-    λ e. refused_17 start.requires.held.0 start.requires.held.1 e _ at-introduces-ruby-format-dependency.introduces_ruby_format_dependency.ensures at-if1.if-introduces_ruby_format_dependency.false start.requires.nstart_value start.requires.nstart_value.1 refl refl
+    λ e. refused_17 start.requires.held.0 start.requires.held.1 e _ at-introduces-ruby-format-dependency.introduces_ruby_format_dependency.ensures at-if1.if-introduces_ruby_format_dependency.false start.requires.nstart_value.0 start.requires.nstart_value.1 refl refl
     at-cuts-ok.cuts_ok.ensures c.if-not-cuts_ok.false c.layer_missing.ensures c.if-layer_missing.true
 
 pub returns : goal.returns
@@ -39,5 +39,5 @@ returns c =
     let at-if1 = at-cuts-ok in
     let at-introduces-ruby-format-dependency = at-if1 in
     let start = at-introduces-ruby-format-dependency in
-    λ e. refused_none start.requires.held.0 start.requires.held.1 e _ at-introduces-ruby-format-dependency.introduces_ruby_format_dependency.ensures at-if1.if-introduces_ruby_format_dependency.false start.requires.nstart_value start.requires.nstart_value.1 refl refl
+    λ e. refused_none start.requires.held.0 start.requires.held.1 e _ at-introduces-ruby-format-dependency.introduces_ruby_format_dependency.ensures at-if1.if-introduces_ruby_format_dependency.false start.requires.nstart_value.0 start.requires.nstart_value.1 refl refl
     at-cuts-ok.cuts_ok.ensures c.if-not-cuts_ok.false c.layer_missing.ensures c.if-layer_missing.false

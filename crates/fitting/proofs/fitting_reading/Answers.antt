@@ -23,13 +23,13 @@ pub reading_refusal-k-requires : goal.reading_refusal-k-requires
 unfolding edit_of
 reading_refusal-k-requires c =
     let at-region-window = c in
-let at-store-of = at-region-window in
-let at-places-of = at-store-of in
-let at-if1 = at-places-of in
-let at-check-reading = at-if1 in
-let start = at-check-reading in
-let read = reading_read start.requires _ _ at-check-reading.check_reading-n.ensures at-if1.if-n-ne0.false at-places-of.places_of-q.ensures at-store-of.store_of-own.ensures in
-record {
+    let at-store-of = at-region-window in
+    let at-places-of = at-store-of in
+    let at-if1 = at-places-of in
+    let at-check-reading = at-if1 in
+    let start = at-check-reading in
+    let read = reading_read start.requires _ _ at-check-reading.check_reading-n.ensures at-if1.if-n-ne0.false at-places-of.places_of-q.ensures at-store-of.store_of-own.ensures in
+    record {
         read = window_read read at-region-window.region_window-w.result at-region-window.region_window-w.ensures;
         nstart_value = window_offsets read at-region-window.region_window-w.result at-region-window.region_window-w.ensures
     }

@@ -79,7 +79,7 @@ returns-then-has_unclosed c =
 pub cut_refusal-requires : goal.cut_refusal-requires
 cut_refusal-requires c =
     let start = c in
-record {
+    record {
         held = (start.requires.read.given.held, start.requires.read.held);
         nstart_value = start.requires.nstart_value
     }

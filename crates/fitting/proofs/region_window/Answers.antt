@@ -8,7 +8,7 @@ use Rattle.fitting.proofs.region_window.Goals as goal
 pub normalized_cut-nstart-requires : goal.normalized_cut-nstart-requires
 normalized_cut-nstart-requires c =
     let start = c in
-record {
+    record {
         count_in_bounds = (held_nodes start.requires.held, held_order start.requires.held);
         cut_bound = start_small start.requires refl
     }
@@ -16,7 +16,7 @@ record {
 pub normalized_cut-nend-requires : goal.normalized_cut-nend-requires
 normalized_cut-nend-requires c =
     let start = c in
-record {
+    record {
         count_in_bounds = (held_nodes start.requires.held, held_order start.requires.held);
         cut_bound = end_small start.requires refl
     }

@@ -30,7 +30,7 @@ pub graft_body-graft_place-u-requires : goal.graft_body-graft_place-u-requires
 graft_body-graft_place-u-requires t c =
     (omega arith, record {
         ready = body_ready c.args.level c.args.tape.now c.args.bytes.now c.args.st c.args.p c.args.m (body_at c.args.tape.now c.args.at) c.args.out.now c.args.work.now c.args.strs.now c.requires.ready c.requires.at_in_bounds.1 c.loop-j.invariant.1 c.loop-j-test.true;
-        at_in_bounds = (c.requires.at_in_bounds, c.requires.at_in_bounds.1, c.loop-j-test.true)
+        at_in_bounds = (c.requires.at_in_bounds.0, c.requires.at_in_bounds.1, c.loop-j-test.true)
     })
 
 pub graft_body-shape_of-out-then-not-k : goal.graft_body-shape_of-out-then-not-k
@@ -250,7 +250,7 @@ graft_contents-graft_content-u-requires t c =
     (omega arith, record {
         ready = item_ready (content_grafts c.requires.ready.source c.args.level) c.args.at c.args.count (c.args.p.contentsat + 10 * c.args.to) c.requires.ready c.requires.count_in_bounds.1 c.loop-i.invariant.1 c.loop-i-test.true;
         at_in_bounds = (omega (arith, c.requires.count_in_bounds.0, c.loop-i-test.true), item_known (content_grafts c.requires.ready.source c.args.level) c.args.at c.args.count (c.args.p.contentsat + 10 * c.args.to) c.requires.ready c.requires.count_in_bounds.1 c.loop-i.i c.loop-i-test.true);
-        at_bound = (omega (arith, (item_low (content_grafts c.requires.ready.source c.args.level) c.args.at c.args.count (c.args.p.contentsat + 10 * c.args.to) c.requires.ready c.requires.count_in_bounds.1 c.loop-i.invariant.1 c.loop-i-test.true).0, c.requires.count_bound), omega (arith, c.requires.count_bound.1, c.loop-i-test.true))
+        at_bound = (omega (arith, (item_low (content_grafts c.requires.ready.source c.args.level) c.args.at c.args.count (c.args.p.contentsat + 10 * c.args.to) c.requires.ready c.requires.count_in_bounds.1 c.loop-i.invariant.1 c.loop-i-test.true).0, c.requires.count_bound.0), omega (arith, c.requires.count_bound.1, c.loop-i-test.true))
     })
 
 pub graft_contents-shape_of-out-then-not-u : goal.graft_contents-shape_of-out-then-not-u
@@ -267,7 +267,7 @@ graft_contents-shape_of-strs-then-not-u t c =
 
 pub graft_contents-returns-then-not-u : goal.graft_contents-returns-then-not-u
 graft_contents-returns-then-not-u t c =
-    items_refused (content_grafts c.requires.ready.source c.args.level) c.args.at c.args.count (c.args.p.contentsat + 10 * c.args.to) c.requires.ready c.requires.count_in_bounds.1 (c.loop-i.i + 1) (omega (arith, c.loop-i-test.true)) (item_turn (content_grafts c.requires.ready.source c.args.level) c.args.at c.args.count (c.args.p.contentsat + 10 * c.args.to) c.requires.ready c.requires.count_in_bounds.1 c.loop-i.invariant.1 c.loop-i-test.true (between (omega (arith, c.requires.count_bound)) (omega (arith, c.requires.count_bound.1))) (c.args.p.contentsat + 10 * (c.args.to + c.loop-i.i)) (omega arith) c.graft_content-u.ensures) c.if-not-u.true
+    items_refused (content_grafts c.requires.ready.source c.args.level) c.args.at c.args.count (c.args.p.contentsat + 10 * c.args.to) c.requires.ready c.requires.count_in_bounds.1 (c.loop-i.i + 1) (omega (arith, c.loop-i-test.true)) (item_turn (content_grafts c.requires.ready.source c.args.level) c.args.at c.args.count (c.args.p.contentsat + 10 * c.args.to) c.requires.ready c.requires.count_in_bounds.1 c.loop-i.invariant.1 c.loop-i-test.true (between (omega (arith, c.requires.count_bound.0)) (omega (arith, c.requires.count_bound.1))) (c.args.p.contentsat + 10 * (c.args.to + c.loop-i.i)) (omega arith) c.graft_content-u.ensures) c.if-not-u.true
 
 pub graft_contents-overflow_add-i : goal.graft_contents-overflow_add-i
 graft_contents-overflow_add-i t c =
@@ -279,7 +279,7 @@ graft_contents-loop-i-smaller t c =
 
 pub graft_contents-loop-i-preserved : goal.graft_contents-loop-i-preserved
 graft_contents-loop-i-preserved t c =
-    (omega (arith, c.loop-i-test.true), items_more (content_grafts c.requires.ready.source c.args.level) c.args.at c.args.count (c.args.p.contentsat + 10 * c.args.to) c.requires.ready c.requires.count_in_bounds.1 c.loop-i.invariant.1 c.loop-i-test.true (between (omega (arith, c.requires.count_bound)) (omega (arith, c.requires.count_bound.1))) (c.args.p.contentsat + 10 * (c.args.to + c.loop-i.i)) (omega arith) c.graft_content-u.ensures c.graft_content-u.auto.out c.if-not-u.false, c.graft_content-u.auto.work ∙ c.loop-i.invariant.2, c.graft_content-u.auto.strs ∙ c.loop-i.invariant.3)
+    (omega (arith, c.loop-i-test.true), items_more (content_grafts c.requires.ready.source c.args.level) c.args.at c.args.count (c.args.p.contentsat + 10 * c.args.to) c.requires.ready c.requires.count_in_bounds.1 c.loop-i.invariant.1 c.loop-i-test.true (between (omega (arith, c.requires.count_bound.0)) (omega (arith, c.requires.count_bound.1))) (c.args.p.contentsat + 10 * (c.args.to + c.loop-i.i)) (omega arith) c.graft_content-u.ensures c.graft_content-u.auto.out c.if-not-u.false, c.graft_content-u.auto.work ∙ c.loop-i.invariant.2, c.graft_content-u.auto.strs ∙ c.loop-i.invariant.3)
 
 pub graft_contents-shape_of-out : goal.graft_contents-shape_of-out
 graft_contents-shape_of-out t c =
@@ -367,7 +367,7 @@ graft_field-returns t c =
 
 pub graft_place-bounds-tape-at : goal.graft_place-bounds-tape-at
 graft_place-bounds-tape-at t c =
-    omega (arith, c.requires.at_in_bounds)
+    omega (arith, c.requires.at_in_bounds.0)
 
 pub graft_place-field_word-i-requires : goal.graft_place-field_word-i-requires
 graft_place-field_word-i-requires t c =
@@ -375,7 +375,7 @@ graft_place-field_word-i-requires t c =
 
 pub graft_place-field_at-f-requires : goal.graft_place-field_at-f-requires
 graft_place-field_at-f-requires t c =
-    (c.requires.at_in_bounds, c.requires.at_in_bounds.2)
+    (c.requires.at_in_bounds.0, c.requires.at_in_bounds.2)
 
 pub graft_place-graft_field-s-requires : goal.graft_place-graft_field-s-requires
 graft_place-graft_field-s-requires t c =
@@ -596,7 +596,7 @@ graft_segments-graft_segment-u-requires t c =
     (omega arith, record {
         ready = item_ready (segment_grafts c.requires.ready.source c.args.level) c.args.at c.args.count (c.args.p.segmentsat + 37 * c.args.to) c.requires.ready c.requires.count_in_bounds.1 c.loop-i.invariant.1 c.loop-i-test.true;
         at_in_bounds = (omega (arith, c.requires.count_in_bounds.0, c.loop-i-test.true), item_known (segment_grafts c.requires.ready.source c.args.level) c.args.at c.args.count (c.args.p.segmentsat + 37 * c.args.to) c.requires.ready c.requires.count_in_bounds.1 c.loop-i.i c.loop-i-test.true);
-        at_bound = (omega (arith, (item_low (segment_grafts c.requires.ready.source c.args.level) c.args.at c.args.count (c.args.p.segmentsat + 37 * c.args.to) c.requires.ready c.requires.count_in_bounds.1 c.loop-i.invariant.1 c.loop-i-test.true).1, c.requires.count_bound), omega (arith, c.requires.count_bound.1, c.loop-i-test.true))
+        at_bound = (omega (arith, (item_low (segment_grafts c.requires.ready.source c.args.level) c.args.at c.args.count (c.args.p.segmentsat + 37 * c.args.to) c.requires.ready c.requires.count_in_bounds.1 c.loop-i.invariant.1 c.loop-i-test.true).1, c.requires.count_bound.0), omega (arith, c.requires.count_bound.1, c.loop-i-test.true))
     })
 
 pub graft_segments-shape_of-out-then-not-u : goal.graft_segments-shape_of-out-then-not-u
@@ -613,7 +613,7 @@ graft_segments-shape_of-strs-then-not-u t c =
 
 pub graft_segments-returns-then-not-u : goal.graft_segments-returns-then-not-u
 graft_segments-returns-then-not-u t c =
-    items_refused (segment_grafts c.requires.ready.source c.args.level) c.args.at c.args.count (c.args.p.segmentsat + 37 * c.args.to) c.requires.ready c.requires.count_in_bounds.1 (c.loop-i.i + 1) (omega (arith, c.loop-i-test.true)) (item_turn (segment_grafts c.requires.ready.source c.args.level) c.args.at c.args.count (c.args.p.segmentsat + 37 * c.args.to) c.requires.ready c.requires.count_in_bounds.1 c.loop-i.invariant.1 c.loop-i-test.true (beyond (omega (arith, c.requires.count_bound)) (omega (arith, c.requires.count_bound.1))) (c.args.p.segmentsat + 37 * (c.args.to + c.loop-i.i)) (omega arith) c.graft_segment-u.ensures) c.if-not-u.true
+    items_refused (segment_grafts c.requires.ready.source c.args.level) c.args.at c.args.count (c.args.p.segmentsat + 37 * c.args.to) c.requires.ready c.requires.count_in_bounds.1 (c.loop-i.i + 1) (omega (arith, c.loop-i-test.true)) (item_turn (segment_grafts c.requires.ready.source c.args.level) c.args.at c.args.count (c.args.p.segmentsat + 37 * c.args.to) c.requires.ready c.requires.count_in_bounds.1 c.loop-i.invariant.1 c.loop-i-test.true (beyond (omega (arith, c.requires.count_bound.0)) (omega (arith, c.requires.count_bound.1))) (c.args.p.segmentsat + 37 * (c.args.to + c.loop-i.i)) (omega arith) c.graft_segment-u.ensures) c.if-not-u.true
 
 pub graft_segments-overflow_add-i : goal.graft_segments-overflow_add-i
 graft_segments-overflow_add-i t c =
@@ -625,7 +625,7 @@ graft_segments-loop-i-smaller t c =
 
 pub graft_segments-loop-i-preserved : goal.graft_segments-loop-i-preserved
 graft_segments-loop-i-preserved t c =
-    (omega (arith, c.loop-i-test.true), items_more (segment_grafts c.requires.ready.source c.args.level) c.args.at c.args.count (c.args.p.segmentsat + 37 * c.args.to) c.requires.ready c.requires.count_in_bounds.1 c.loop-i.invariant.1 c.loop-i-test.true (beyond (omega (arith, c.requires.count_bound)) (omega (arith, c.requires.count_bound.1))) (c.args.p.segmentsat + 37 * (c.args.to + c.loop-i.i)) (omega arith) c.graft_segment-u.ensures c.graft_segment-u.auto.out c.if-not-u.false, c.graft_segment-u.auto.work ∙ c.loop-i.invariant.2, c.graft_segment-u.auto.strs ∙ c.loop-i.invariant.3)
+    (omega (arith, c.loop-i-test.true), items_more (segment_grafts c.requires.ready.source c.args.level) c.args.at c.args.count (c.args.p.segmentsat + 37 * c.args.to) c.requires.ready c.requires.count_in_bounds.1 c.loop-i.invariant.1 c.loop-i-test.true (beyond (omega (arith, c.requires.count_bound.0)) (omega (arith, c.requires.count_bound.1))) (c.args.p.segmentsat + 37 * (c.args.to + c.loop-i.i)) (omega arith) c.graft_segment-u.ensures c.graft_segment-u.auto.out c.if-not-u.false, c.graft_segment-u.auto.work ∙ c.loop-i.invariant.2, c.graft_segment-u.auto.strs ∙ c.loop-i.invariant.3)
 
 pub graft_segments-shape_of-out : goal.graft_segments-shape_of-out
 graft_segments-shape_of-out t c =

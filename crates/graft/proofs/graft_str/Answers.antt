@@ -18,13 +18,13 @@ slice_bounds-representative-start c =
 pub intern_last-requires : goal.intern_last-requires
 intern_last-requires c =
     let s = c in
-let t = s.args.tape.now in
-let d = s.args.bytes.now in
-let work = s.args.work.now in
-let g = s.requires.good.0 in
-let shows = shows_by t d work g.words.room s.requires.indexed.1 c.representative-known.ensures.by_index in
-let e = is_answered t d work s.args.strs.now s.args.m s.requires.good.1 c.representative-known.result s.args.id shows (sym c.is_answered.ensures ∙ c.if-is_answered.true) in
-record {
+    let t = s.args.tape.now in
+    let d = s.args.bytes.now in
+    let work = s.args.work.now in
+    let g = s.requires.good.0 in
+    let shows = shows_by t d work g.words.room s.requires.indexed.1 c.representative-known.ensures.by_index in
+    let e = is_answered t d work s.args.strs.now s.args.m s.requires.good.1 c.representative-known.result s.args.id shows (sym c.is_answered.ensures ∙ c.if-is_answered.true) in
+    record {
         last_nonzero = (last_there work s.args.strs.now s.args.m.state g (resolve_str (source_store t d) s.args.id) e, omega (arith, g.known, g.words.few));
         counted = (g.counts, s.requires.id_lt_strings.1)
     }
@@ -58,8 +58,8 @@ returns-then-is_answered c =
 pub intern_str-requires : goal.intern_str-requires
 intern_str-requires c =
     let s = c in
-let g = s.requires.good.0 in
-record {
+    let g = s.requires.good.0 in
+    record {
         source = s.requires.source;
         indexed = s.requires.indexed.0;
         good = g;

@@ -9,7 +9,7 @@ graft_str-requires c =
         source = c.requires.source;
         indexed = c.requires.indexed;
         good = c.requires.good;
-        id_lt_strings = (string_known c.args.st c.args.usage c.args.id 0 c.requires.id_value c.if-usage-eq1.true, c.requires.id_value.1, c.requires.id_value.2)
+        id_lt_strings = (string_known c.args.st c.args.usage c.args.id 0 c.requires.id_value.0 c.if-usage-eq1.true, c.requires.id_value.1, c.requires.id_value.2)
     }
 
 pub returns-then-usage-eq1 : goal.returns-then-usage-eq1
@@ -26,7 +26,7 @@ graft_str-requires-then-usage-eq2 c =
         source = c.requires.source;
         indexed = c.requires.indexed;
         good = c.requires.good;
-        id_lt_strings = (optional_known c.args.st c.args.usage c.args.id 0 c.requires.id_value c.if-usage-eq2.true c.if-id-eq4294967295.false, c.requires.id_value.1, c.requires.id_value.2)
+        id_lt_strings = (optional_known c.args.st c.args.usage c.args.id 0 c.requires.id_value.0 c.if-usage-eq2.true c.if-id-eq4294967295.false, c.requires.id_value.1, c.requires.id_value.2)
     }
 
 pub returns-then-usage-eq2 : goal.returns-then-usage-eq2

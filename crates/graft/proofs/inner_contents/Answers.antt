@@ -13,4 +13,4 @@ contents_sizes-inner-requires c =
 
 pub returns : goal.returns
 returns c =
-    contents_exact (contents_add (inner_adds c.args.level c.args.tape.now c.args.st) c.args.tape.now c.args.st c.args.at c.args.count) c.requires.count_bound c.requires.count_bound.1 c.contents_sizes-inner.result c.contents_sizes-inner.ensures
+    contents_exact (contents_add (inner_adds c.args.level c.args.tape.now c.args.st) c.args.tape.now c.args.st c.args.at c.args.count) c.requires.count_bound.0 c.requires.count_bound.1 c.contents_sizes-inner.result c.contents_sizes-inner.ensures

@@ -13,4 +13,4 @@ segments_sizes-inner-requires c =
 
 pub returns : goal.returns
 returns c =
-    segments_exact (segments_add (inner_adds c.args.level c.args.tape.now c.args.st) c.args.tape.now c.args.at c.args.count) c.requires.count_bound c.requires.count_bound.1 c.segments_sizes-inner.result c.segments_sizes-inner.ensures
+    segments_exact (segments_add (inner_adds c.args.level c.args.tape.now c.args.st) c.args.tape.now c.args.at c.args.count) c.requires.count_bound.0 c.requires.count_bound.1 c.segments_sizes-inner.result c.segments_sizes-inner.ensures

@@ -11,7 +11,7 @@ pub graft_body-requires : goal.graft_body-requires
 graft_body-requires c =
     record {
         ready = node_ready c.args.tape.now c.args.bytes.now c.args.st c.args.at c.requires.ready (omega (arith, c.if-tape-at-ge2.false));
-        at_in_bounds = (omega (arith, c.requires.at_in_bounds), node_known c.args.tape.now c.args.bytes.now c.args.st c.args.at c.requires.ready (omega (arith, c.if-tape-at-ge2.false)) c.requires.at_in_bounds.1)
+        at_in_bounds = (omega (arith, c.requires.at_in_bounds.0), node_known c.args.tape.now c.args.bytes.now c.args.st c.args.at c.requires.ready (omega (arith, c.if-tape-at-ge2.false)) c.requires.at_in_bounds.1)
     }
 
 pub returns : goal.returns

@@ -12,7 +12,7 @@ table_hit-requires c =
     let p = probe_of recall.result in
     let first = recall.ensures c.if-slot-eq0.false in
     let in_table = probe_in start.args.work.now start.args.strs.now start.args.st start.requires.good start.args.s.now start.requires.slots_nonzero.0 start.requires.slots_nonzero.1 p first in
-    (start.requires.good.counts, start.requires.calls_bound, start.requires.calls_bound.1, in_table.2)
+    (start.requires.good.counts, start.requires.calls_bound.0, start.requires.calls_bound.1, in_table.2)
 
 pub returns : goal.returns
 returns c =

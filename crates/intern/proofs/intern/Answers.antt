@@ -16,11 +16,10 @@ use Rattle.intern.proofs.intern.Goals as goal
 
 pub intern_last-requires : goal.intern_last-requires
 intern_last-requires c =
-    (
-  (last_there c.args.work.now c.args.strs.now c.args.st c.requires.good c.args.s.now (sym c.is_last.ensures ∙ c.if-is_last.true), omega (arith, c.requires.good.known, c.requires.good.words.few)),
-  (c.requires.good.counts, c.requires.calls_bound),
-)
--- LEFT: wants record { last_nonzero = ..; counted = .. }
+    record {
+        last_nonzero = (last_there c.args.work.now c.args.strs.now c.args.st c.requires.good c.args.s.now (sym c.is_last.ensures ∙ c.if-is_last.true), omega (arith, c.requires.good.known, c.requires.good.words.few));
+        counted = (c.requires.good.counts, c.requires.calls_bound)
+    }
 
 pub returns-then-is_last : goal.returns-then-is_last
 returns-then-is_last c =
@@ -37,7 +36,7 @@ resizes-resized-requires c =
 pub table_call-requires : goal.table_call-requires
 table_call-requires c =
     let y = c.table_for-t.ensures in
-record {
+    record {
         good = y.good;
         slots_nonzero = (y.some, y.roomy);
         calls_bound = (omega (arith, ap (λ (x : Interner). x.stats.calls) y.is, c.requires.calls_bound), omega (arith, c.resizes-resized.ensures, one_or_none (is_due c.args.st.slots c.args.st.occupied)))

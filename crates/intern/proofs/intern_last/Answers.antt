@@ -6,4 +6,4 @@ use Rattle.intern.proofs.intern_last.Goals as goal
 
 pub returns : goal.returns
 returns c =
-    λ work strs s g e. intern_cached work strs c.args.st g s _ (sym e) _ (adds_cache_hit _ _ c.requires.counted c.cache_hit.ensures) _ refl c.known.ensures
+    λ work strs s g e. intern_cached work strs c.args.st g s _ (sym e) _ (adds_cache_hit _ _ c.requires.counted.0 c.cache_hit.ensures) _ refl c.known.ensures

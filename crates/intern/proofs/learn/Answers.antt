@@ -12,13 +12,13 @@ use Rattle.intern.proofs.learn.Goals as goal
 pub table_alloc-requires : goal.table_alloc-requires
 table_alloc-requires c =
     let start = c in
-let lookup = c.lookup-p in
-let p = probe_of lookup.result in
-let first = all_first start.args.work.now start.args.strs.now start.args.st start.requires.good start.args.s.now start.requires.slots_nonzero.0 p lookup.ensures in
-let in_table = probe_in start.args.work.now start.args.strs.now start.args.st start.requires.good start.args.s.now start.requires.slots_nonzero.0 start.requires.slots_nonzero.1 p first in
-record {
+    let lookup = c.lookup-p in
+    let p = probe_of lookup.result in
+    let first = all_first start.args.work.now start.args.strs.now start.args.st start.requires.good start.args.s.now start.requires.slots_nonzero.0 p lookup.ensures in
+    let in_table = probe_in start.args.work.now start.args.strs.now start.args.st start.requires.good start.args.s.now start.requires.slots_nonzero.0 start.requires.slots_nonzero.1 p first in
+    record {
         good = start.requires.good;
-        slots_nonzero = (start.requires.slots_nonzero.0, start.requires.calls_bound, start.requires.calls_bound.1);
+        slots_nonzero = (start.requires.slots_nonzero.0, start.requires.calls_bound.0, start.requires.calls_bound.1);
         at_lt_slots = (in_table.0, in_table.2, in_table.3 ∙ c.if-slot-eq0.true)
     }
 
@@ -36,12 +36,12 @@ returns-then-slot-eq0 c =
 pub remember-requires : goal.remember-requires
 remember-requires c =
     let start = c in
-let lookup = c.lookup-p in
-let p = probe_of lookup.result in
-let first = all_first start.args.work.now start.args.strs.now start.args.st start.requires.good start.args.s.now start.requires.slots_nonzero.0 p lookup.ensures in
-let ne = c.if-slot-eq0.false in
-let own = first_own start.args.work.now start.args.strs.now start.args.st start.requires.good start.args.s.now start.requires.slots_nonzero.0 p ne first in
-record {
+    let lookup = c.lookup-p in
+    let p = probe_of lookup.result in
+    let first = all_first start.args.work.now start.args.strs.now start.args.st start.requires.good start.args.s.now start.requires.slots_nonzero.0 p lookup.ensures in
+    let ne = c.if-slot-eq0.false in
+    let own = first_own start.args.work.now start.args.strs.now start.args.st start.requires.good start.args.s.now start.requires.slots_nonzero.0 p ne first in
+    record {
         good = start.requires.good;
         slots_nonzero = (start.requires.slots_nonzero.0, omega (arith, ne), start.requires.calls_bound.2);
         p_value = own
@@ -54,7 +54,7 @@ table_hit-requires c =
     let p = probe_of lookup.result in
     let first = all_first start.args.work.now start.args.strs.now start.args.st start.requires.good start.args.s.now start.requires.slots_nonzero.0 p lookup.ensures in
     let in_table = probe_in start.args.work.now start.args.strs.now start.args.st start.requires.good start.args.s.now start.requires.slots_nonzero.0 start.requires.slots_nonzero.1 p first in
-    (start.requires.good.counts, start.requires.calls_bound, start.requires.calls_bound.1, in_table.2)
+    (start.requires.good.counts, start.requires.calls_bound.0, start.requires.calls_bound.1, in_table.2)
 
 pub returns : goal.returns
 returns c =

@@ -20,13 +20,13 @@ alloc-t-requires c =
 pub enter-u-requires : goal.enter-u-requires
 enter-u-requires c =
     record {
-        le_slots = enter_asks c.args.work.now c.args.strs.now c.args.st c.requires.good c.args.s.now _ c.has_room.ensures c.if-has_room.true _ _ _ _ (adds_table_alloc _ _ c.requires.good.counts _ _ c.requires.slots_nonzero.2 c.requires.at_lt_slots.1 c.table_alloc.ensures) _ c.alloc-t.ensures c.requires.slots_nonzero.0 _ c.requires.at_lt_slots;
+        le_slots = enter_asks c.args.work.now c.args.strs.now c.args.st c.requires.good c.args.s.now _ c.has_room.ensures c.if-has_room.true _ _ _ _ (adds_table_alloc _ _ c.requires.good.counts _ _ c.requires.slots_nonzero.2 c.requires.at_lt_slots.1 c.table_alloc.ensures) _ c.alloc-t.ensures c.requires.slots_nonzero.0 _ c.requires.at_lt_slots.0;
         min_work_words_in_bounds = c.alloc-t.ensures.good.words.room
     }
 
 pub returns-then-has_room : goal.returns-then-has_room
 returns-then-has_room c =
-    alloc_told c.args.work.now c.args.strs.now c.args.st c.requires.good c.args.s.now _ c.has_room.ensures c.if-has_room.true _ _ _ _ (adds_table_alloc _ _ c.requires.good.counts _ _ c.requires.slots_nonzero.2 c.requires.at_lt_slots.1 c.table_alloc.ensures) _ c.alloc-t.ensures _ c.requires.at_lt_slots c.requires.at_lt_slots.2 _ _ _ _ refl refl c.enter-u.ensures.work_after refl refl c.enter-u.ensures.value
+    alloc_told c.args.work.now c.args.strs.now c.args.st c.requires.good c.args.s.now _ c.has_room.ensures c.if-has_room.true _ _ _ _ (adds_table_alloc _ _ c.requires.good.counts _ _ c.requires.slots_nonzero.2 c.requires.at_lt_slots.1 c.table_alloc.ensures) _ c.alloc-t.ensures _ c.requires.at_lt_slots.0 c.requires.at_lt_slots.2 _ _ _ _ refl refl c.enter-u.ensures.work_after refl refl c.enter-u.ensures.value
 
 pub returns : goal.returns
 returns c =

@@ -18,7 +18,7 @@ table_hit-requires c =
     let p = probe_of lookup.result in
     let first = near_first start.args.work.now start.args.strs.now start.args.st start.requires.good start.args.s.now start.requires.slots_nonzero.0 16 (lit≤ tt) p lookup.ensures stops in
     let in_table = probe_in start.args.work.now start.args.strs.now start.args.st start.requires.good start.args.s.now start.requires.slots_nonzero.0 start.requires.slots_nonzero.1 p first in
-    (start.requires.good.counts, start.requires.calls_bound, start.requires.calls_bound.1, in_table.2)
+    (start.requires.good.counts, start.requires.calls_bound.0, start.requires.calls_bound.1, in_table.2)
 
 pub returns-then-slot-ne0 : goal.returns-then-slot-ne0
 returns-then-slot-ne0 c =
@@ -35,14 +35,14 @@ returns-then-slot-ne0 c =
 pub table_alloc-requires : goal.table_alloc-requires
 table_alloc-requires c =
     let start = c in
-let lookup = c.lookup-p in
-let stops : (probe_of lookup.result).slot ≡ 0 → lookup.result.steps < 16 = λ e. c.if-p.true in
-let p = probe_of lookup.result in
-let first = near_first start.args.work.now start.args.strs.now start.args.st start.requires.good start.args.s.now start.requires.slots_nonzero.0 16 (lit≤ tt) p lookup.ensures stops in
-let in_table = probe_in start.args.work.now start.args.strs.now start.args.st start.requires.good start.args.s.now start.requires.slots_nonzero.0 start.requires.slots_nonzero.1 p first in
-record {
+    let lookup = c.lookup-p in
+    let stops : (probe_of lookup.result).slot ≡ 0 → lookup.result.steps < 16 = λ e. c.if-p.true in
+    let p = probe_of lookup.result in
+    let first = near_first start.args.work.now start.args.strs.now start.args.st start.requires.good start.args.s.now start.requires.slots_nonzero.0 16 (lit≤ tt) p lookup.ensures stops in
+    let in_table = probe_in start.args.work.now start.args.strs.now start.args.st start.requires.good start.args.s.now start.requires.slots_nonzero.0 start.requires.slots_nonzero.1 p first in
+    record {
         good = start.requires.good;
-        slots_nonzero = (start.requires.slots_nonzero.0, start.requires.calls_bound, start.requires.calls_bound.1);
+        slots_nonzero = (start.requires.slots_nonzero.0, start.requires.calls_bound.0, start.requires.calls_bound.1);
         at_lt_slots = (in_table.0, in_table.2, in_table.3 ∙ c.if-slot-ne0.false)
     }
 

@@ -23,7 +23,7 @@ overflow_add-mid c =
 pub far_string-requires : goal.far_string-requires
 far_string-requires c =
     let start = c in
-record {
+    record {
         good = start.requires.good;
         slots_nonzero = (start.requires.slots_nonzero, omega arith)
     }

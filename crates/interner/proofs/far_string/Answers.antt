@@ -14,9 +14,9 @@ overflow_sub-p c =
 pub resolve-requires : goal.resolve-requires
 resolve-requires c =
     let start = c in
-let far-probe = c.far_probe-p in
-let named = far_named start.args.work.now start.args.strs.now start.args.st start.requires.good start.args.j start.requires.slots_nonzero (probe_of far-probe.result) far-probe.ensures in
-record {
+    let far-probe = c.far_probe-p in
+    let named = far_named start.args.work.now start.args.strs.now start.args.st start.requires.good start.args.j start.requires.slots_nonzero (probe_of far-probe.result) far-probe.ensures in
+    record {
         good = start.requires.good;
         id_lt_count = named.1
     }

@@ -29,8 +29,8 @@ slice_bounds-probe-end c =
 pub probe-requires : goal.probe-requires
 probe-requires c =
     let len = size_length c.args.work.now c.requires.good.size c.requires.good.words.room in
-let starts = starts_length c.args.work.now (length c.args.strs.now) c.args.st.count c.requires.good.words in
-record {
+    let starts = starts_length c.args.work.now (length c.args.strs.now) c.args.st.count c.requires.good.words in
+    record {
         from_in_bounds = subst (λ (m : ℕ). c.slot_of-from.result < m) (sym len) c.slot_of-from.ensures.1;
         starts = c.requires.good.words.starts;
         entries = subst (λ (m : ℕ). Entries (table_of c.args.st.slots c.args.work.now) m) (sym starts) c.requires.good.entries

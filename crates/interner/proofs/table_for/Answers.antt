@@ -19,11 +19,11 @@ due-requires c =
 pub grow-requires : goal.grow-requires
 grow-requires c =
     let start = c in
-let ne = c.if-slots-eq0.false in
-let due = sym c.due.ensures ∙ c.if-due.true in
-let lo = grows_lo start.args.work.now start.args.strs.now start.args.st start.requires ne due in
-let hi = grows_hi start.args.work.now start.args.strs.now start.args.st start.requires ne due in
-record {
+    let ne = c.if-slots-eq0.false in
+    let due = sym c.due.ensures ∙ c.if-due.true in
+    let lo = grows_lo start.args.work.now start.args.strs.now start.args.st start.requires ne due in
+    let hi = grows_hi start.args.work.now start.args.strs.now start.args.st start.requires ne due in
+    record {
         work = start.requires.words;
         le_n = (lo, hi);
         entries = start.requires.entries

@@ -27,7 +27,7 @@ overflow_add-place c =
 pub refers_to-r-requires : goal.refers_to-r-requires
 refers_to-r-requires c =
     let start = c in
-record {
+    record {
         sound = start.requires.sound;
         base_in_bounds = start.requires.base_in_bounds;
         noted = start.requires.noted;

@@ -17,7 +17,7 @@ loop-i-init c =
 pub refers_first_to_row-requires : goal.refers_first_to_row-requires
 refers_first_to_row-requires c =
     let start = c in
-record {
+    record {
         resolvable = start.requires.resolvable;
         row = start.requires.row;
         sound = sound_before start.requires.sound (omega (arith, c.loop-i-test.true));

@@ -44,8 +44,8 @@ returns-then-in_many_parts c =
 pub refers_by_words-requires : goal.refers_by_words-requires
 refers_by_words-requires c =
     let start = c in
-let enough = lent_enough (length start.args.words.now) (2 * start.args.p.nodes.count + 6) c.in_many_parts.ensures c.if-in_many_parts.false in
-record {
+    let enough = lent_enough (length start.args.words.now) (2 * start.args.p.nodes.count + 6) c.in_many_parts.ensures c.if-in_many_parts.false in
+    record {
         held = start.requires.held;
         held_2 = start.requires.held_2;
         in_bounds = omega (arith, enough)

@@ -8,7 +8,7 @@ use Rattle.introduces.proofs.is_base_of.Goals as goal
 pub resolve_str-s-requires : goal.resolve_str-s-requires
 resolve_str-s-requires c =
     let start = c in
-record {
+    record {
         resolvable = start.requires.resolvable;
         id_lt_strings = start.requires.plain_in.inside _ c.in-Id.is
     }

@@ -7,7 +7,7 @@ use Rattle.introduces.proofs.is_in_row.Goals as goal
 pub resolve_str-s-requires : goal.resolve_str-s-requires
 resolve_str-s-requires c =
     let start = c in
-record {
+    record {
         resolvable = start.requires.resolvable_2;
         id_lt_strings = (start.requires.plain_in.inside _ c.in-Id.is)
     }

@@ -47,12 +47,9 @@ refers_to_some-requires c =
     let turn = c in
     let start = turn in record {
         count_bound = (omega (arith, c.fewer-n.ensures, turn.loop-i.invariant.3), omega (arith, turn.loop-i.invariant.1.size, start.requires.base_bound.1));
-        sound = (
-        sound_piece (sound_index turn.loop-i.invariant.1.first start.requires.sound) _ _ (omega
-            (arith, c.fewer-n.ensures, turn.loop-i.invariant.0)),
-        sound_index turn.loop-i.invariant.1.last start.requires.sound_2,
-      );
-        sound_2 = 
+        sound = sound_piece (sound_index turn.loop-i.invariant.1.first start.requires.sound) _ _ (omega
+            (arith, c.fewer-n.ensures, turn.loop-i.invariant.0));
+        sound_2 = sound_index turn.loop-i.invariant.1.last start.requires.sound_2
     }
 
 pub shape_of-words-then-refers_to_some : goal.shape_of-words-then-refers_to_some

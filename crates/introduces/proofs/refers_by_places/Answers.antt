@@ -15,13 +15,10 @@ any_refers_to_row-requires c =
     let a = start.args in record {
         resolvable = (sound_index (first_kept a.words.now a.middle start.requires.count_bound.1 at-row-of.row_of-m.new.words at-row-of.row_of-m.auto.words a.base
           at-row-of.row_of-m.ensures.0).first start.requires.sound).strings;
-        row = (
-        (rowed_words (first_front a.words.now a.middle start.requires.count_bound.1 at-row-of.row_of-m.new.words at-row-of.row_of-m.auto.words)
-            at-row-of.row_of-m.ensures.1).row,
-        sound_index (first_last a.words.now a.middle start.requires.count_bound.1 at-row-of.row_of-m.new.words
-            at-row-of.row_of-m.auto.words) start.requires.sound_2,
-      );
-        sound = 
+        row = (rowed_words (first_front a.words.now a.middle start.requires.count_bound.1 at-row-of.row_of-m.new.words at-row-of.row_of-m.auto.words)
+            at-row-of.row_of-m.ensures.1).row;
+        sound = sound_index (first_last a.words.now a.middle start.requires.count_bound.1 at-row-of.row_of-m.new.words
+            at-row-of.row_of-m.auto.words) start.requires.sound_2
     }
 
 pub returns : goal.returns

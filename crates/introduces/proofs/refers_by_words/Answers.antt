@@ -10,7 +10,7 @@ overflow_sub-middle c =
 pub index_both-requires : goal.index_both-requires
 index_both-requires c =
     let start = c in
-record {
+    record {
         readable = held_readable start.requires.held (omega arith);
         readable_2 = held_readable start.requires.held_2 (omega arith);
         base_le_middle = (omega arith, omega arith)
@@ -21,8 +21,8 @@ refers_before-requires c =
     let at-index-both = c in
     let start = at-index-both in record {
         base_bound = (omega (arith, start.requires.in_bounds), omega (arith, at-index-both.index_both.auto.words));
-        ready = (held_ready start.requires.held at-index-both.index_both.ensures.first, held_ready start.requires.held_2 at-index-both.index_both.ensures.last);
-        ready_2 = 
+        ready = held_ready start.requires.held at-index-both.index_both.ensures.first;
+        ready_2 = held_ready start.requires.held_2 at-index-both.index_both.ensures.last
     }
 
 pub returns : goal.returns

@@ -21,7 +21,7 @@ returns-then-is_target_again c =
 pub refers_to_row-requires : goal.refers_to_row-requires
 refers_to_row-requires c =
     let start = c in
-record {
+    record {
         resolvable = start.requires.resolvable;
         row = start.requires.row;
         sound_node = sound_last start.args.i start.requires.sound

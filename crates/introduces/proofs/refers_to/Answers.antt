@@ -18,17 +18,19 @@ pub first_plain-p-requires : goal.first_plain-p-requires
 first_plain-p-requires c =
     let start = c in record {
         of_tape = start.requires.sound_node.strings.sides.store;
-        at_in_bounds = (start.requires.sound_node.inside, target_first start.requires.sound_node c.is_referenced_format.ensures c.if-not-is_referenced_format.false);
-        first_range = 
+        at_in_bounds = start.requires.sound_node.inside;
+        first_range = target_first start.requires.sound_node c.is_referenced_format.ensures c.if-not-is_referenced_format.false
     }
 
 pub is_base_of-requires : goal.is_base_of-requires
 is_base_of-requires c =
-    let start = c in (
-      start.requires.sound,
-      (start.requires.base_in_bounds, (start.requires.noted, (start.requires.sound_node.strings, plain_inside start.requires.sound_node c.first_plain-p.ensures))),
-    )
--- LEFT: wants record { sound = ..; base_in_bounds = ..; noted = ..; resolvable = ..; plain_in = .. }
+    let start = c in record {
+        sound = start.requires.sound;
+        base_in_bounds = start.requires.base_in_bounds;
+        noted = start.requires.noted;
+        resolvable = start.requires.sound_node.strings;
+        plain_in = plain_inside start.requires.sound_node c.first_plain-p.ensures
+    }
 
 pub returns : goal.returns
 returns c =

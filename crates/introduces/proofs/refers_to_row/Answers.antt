@@ -12,7 +12,7 @@ returns-then-not-is_referenced_format c =
 pub first_plain-p-requires : goal.first_plain-p-requires
 first_plain-p-requires c =
     let start = c in
-record {
+    record {
         of_tape = start.requires.sound_node.strings.sides.store;
         at_in_bounds = start.requires.sound_node.inside;
         first_range = target_first start.requires.sound_node c.is_referenced_format.ensures c.if-not-is_referenced_format.false
@@ -21,7 +21,7 @@ record {
 pub is_in_row-requires : goal.is_in_row-requires
 is_in_row-requires c =
     let start = c in
-record {
+    record {
         resolvable = start.requires.resolvable;
         row = start.requires.row;
         resolvable_2 = start.requires.sound_node.strings;

@@ -19,8 +19,8 @@ insert_first-m-requires c =
     let turn = c in
     let start = turn in record {
         sound = sound_before (sound_index turn.loop-i.invariant.2 start.requires.sound) (omega (arith, c.loop-i-test.true));
-        rowed = (turn.loop-i.invariant.4, (turn.loop-i.invariant.3, omega (arith, start.requires.count_in_bounds, turn.loop-i.invariant.1)));
-        m_le_i = 
+        rowed = turn.loop-i.invariant.4;
+        m_le_i = (turn.loop-i.invariant.3, omega (arith, start.requires.count_in_bounds, turn.loop-i.invariant.1))
     }
 
 pub overflow_add-i : goal.overflow_add-i

@@ -30,7 +30,7 @@ walk-m-requires c =
     record {
         source_fits = c.requires.source_fits.0;
         walk_room = subst (λ (v : Plan). WalkRoom v (c.args.at + c.layer_length-len.result) c.args.p.nodes.count (length c.args.out.now) (source_adds c.args.tape.now c.args.bytes.now)) (sym c.plan_of-plan.ensures) (walk_room c.args.out.now c.args.strs.now c.args.at c.args.base c.args.o c.requires.source_fits.1 _ (source_sizes c.requires.source_fits.0 c.args.o) c.requires.source_fits.2 c.layer_length-len.result c.nodes_length-rest.result c.layer_length-len.ensures c.nodes_length-rest.ensures (omega (arith, c.if-out-at.false, c.requires.min_work_words_in_bounds.2)) (omega (arith, c.well_formed.1.1.1.1.1.1.1.1.1.1.0)));
-        min_work_words_in_bounds = (c.requires.min_work_words_in_bounds, c.requires.min_work_words_in_bounds.1, c.requires.min_work_words_in_bounds.3)
+        min_work_words_in_bounds = (c.requires.min_work_words_in_bounds.0, c.requires.min_work_words_in_bounds.1, c.requires.min_work_words_in_bounds.3)
     }
 
 pub returns-then-not-m : goal.returns-then-not-m

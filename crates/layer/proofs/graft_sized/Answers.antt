@@ -11,7 +11,7 @@ any_long-requires c =
 pub graft_by-requires : goal.graft_by-requires
 graft_by-requires c =
     let s = c in
-record {
+    record {
         source_fits = s.requires.source_fits;
-        min_work_words_in_bounds = (omega (arith, before_length s.args.work.now s.requires.min_work_words_in_bounds), s.requires.min_work_words_in_bounds.1, s.requires.min_work_words_in_bounds.2, unpaired s.args.work.now s.requires.min_work_words_in_bounds)
+        min_work_words_in_bounds = (omega (arith, before_length s.args.work.now s.requires.min_work_words_in_bounds.0), s.requires.min_work_words_in_bounds.1, s.requires.min_work_words_in_bounds.2, unpaired s.args.work.now s.requires.min_work_words_in_bounds.0)
     }

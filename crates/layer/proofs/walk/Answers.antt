@@ -12,7 +12,7 @@ pub index_words-requires : goal.index_words-requires
 index_words-requires c =
     record {
         readable = source_readable c.requires.source_fits (omega (arith, c.well_formed));
-        min_work_words_in_bounds = c.requires.min_work_words_in_bounds
+        min_work_words_in_bounds = c.requires.min_work_words_in_bounds.0
     }
 
 pub graft_nodes-requires : goal.graft_nodes-requires

@@ -46,8 +46,8 @@ returns-then-usage-eq0 c =
 pub word_below-requires : goal.word_below-requires
 word_below-requires c =
     let start = c in
-let loop-test = c.loop-i-test in
-record {
+    let loop-test = c.loop-i-test in
+    record {
         tables = start.requires.tables;
         at_in_bounds = (start.requires.at_in_bounds, loop-test.true)
     }

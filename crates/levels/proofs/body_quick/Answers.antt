@@ -47,8 +47,8 @@ returns-then-usage-eq0 c =
 pub word_quick-requires : goal.word_quick-requires
 word_quick-requires c =
     let start = c in
-let loop-test = c.loop-i-test in
-record {
+    let loop-test = c.loop-i-test in
+    record {
         of_tape = start.requires.of_tape;
         at_in_bounds = (start.requires.at_in_bounds, loop-test.true)
     }

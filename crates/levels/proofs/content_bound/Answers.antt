@@ -14,10 +14,10 @@ loop-r-init c =
 pub content_below-requires : goal.content_below-requires
 content_below-requires c =
     let start = c in
-let content-place = c.content_place-at in
-let t = start.args.tape.now in
-let st = start.args.st in
-record {
+    let content-place = c.content_place-at in
+    let t = start.args.tape.now in
+    let st = start.args.st in
+    record {
         tops = start.requires.tops;
         at_in_bounds = content_fits t st start.args.i _ start.requires.tops.fit start.requires.i_lt_contents content-place.ensures
     }

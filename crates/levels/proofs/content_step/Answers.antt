@@ -19,7 +19,7 @@ pub content_below-requires : goal.content_below-requires
 content_below-requires c =
     record {
         tops = c.requires.tables.segments;
-        at_in_bounds = c.requires.at_in_bounds
+        at_in_bounds = c.requires.at_in_bounds.0
     }
 
 pub overflow_add-result : goal.overflow_add-result

@@ -36,15 +36,15 @@ content_place-at-requires c =
 pub contents_walk-requires : goal.contents_walk-requires
 contents_walk-requires c =
     let start = c in
-let contents-in = c.contents_in in
-let t = start.args.tape.now in
-let st = start.args.st in
-let level = start.args.level in
-let from = start.args.start in
-let len = start.args.len in
-let fits = contents_fit_lem t st level from len start.requires.segments.fit contents-in.ensures c.if-not-contents_in.false c.if-len-eq0.false _ c.content_place-at.ensures in
-let said = contents_said t st level from len _ start.requires contents-in.ensures c.if-not-contents_in.false c.content_place-at.ensures in
-record {
+    let contents-in = c.contents_in in
+    let t = start.args.tape.now in
+    let st = start.args.st in
+    let level = start.args.level in
+    let from = start.args.start in
+    let len = start.args.len in
+    let fits = contents_fit_lem t st level from len start.requires.segments.fit contents-in.ensures c.if-not-contents_in.false c.if-len-eq0.false _ c.content_place-at.ensures in
+    let said = contents_said t st level from len _ start.requires contents-in.ensures c.if-not-contents_in.false c.content_place-at.ensures in
+    record {
         tables = start.requires;
         len_in_bounds = (fits, omega arith);
         said = said

@@ -34,13 +34,13 @@ content_place-at-requires c =
 pub run_quick-requires : goal.run_quick-requires
 run_quick-requires c =
     let start = c in
-let contents-in = c.contents_in in
-let t = start.args.tape.now in
-let st = start.args.st in
-let level = start.args.level in
-let from = start.args.start in
-let len = start.args.len in
-record {
+    let contents-in = c.contents_in in
+    let t = start.args.tape.now in
+    let st = start.args.st in
+    let level = start.args.level in
+    let from = start.args.start in
+    let len = start.args.len in
+    record {
         of_tape = start.requires;
         count_in_bounds = contents_fit_lem t st level from len start.requires contents-in.ensures c.if-not-contents_in.false c.if-len-eq0.false _ c.content_place-at.ensures
     }

@@ -15,7 +15,7 @@ next_layer-l-requires c =
 pub run_levels_ok-requires : goal.run_levels_ok-requires
 run_levels_ok-requires c =
     let start = c in
-record {
+    record {
         tables = start.requires.tables;
         count_in_bounds = walked_fits c.loop-i.invariant.1 start.requires.layers_value c.loop-i-test.true c.next_layer-l.ensures start.requires.tables.segments.fit
     }

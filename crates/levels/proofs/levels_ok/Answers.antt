@@ -19,7 +19,7 @@ next_layer-l-requires c =
 pub run_levels_quick-requires : goal.run_levels_quick-requires
 run_levels_quick-requires c =
     let start = c in
-record {
+    record {
         of_tape = start.requires.of_tape;
         count_in_bounds = walked_fits (walked_none _ _) start.requires.layers_value (omega (arith, c.if-layers-eq0.false)) c.next_layer-l.ensures start.requires.of_tape
     }
@@ -36,10 +36,10 @@ returns-then-not-run_levels_quick c =
 pub levels_quick-requires : goal.levels_quick-requires
 levels_quick-requires c =
     let start = c in
-let if2 = c.if-layers-eq0 in
-let passed = c.run_levels_quick.ensures c.if-not-run_levels_quick.false in
-let first = walked_more (walked_none _ _) start.requires.layers_value (omega (arith, if2.false)) c.next_layer-l.ensures (sym passed) refl in
-record {
+    let if2 = c.if-layers-eq0 in
+    let passed = c.run_levels_quick.ensures c.if-not-run_levels_quick.false in
+    let first = walked_more (walked_none _ _) start.requires.layers_value (omega (arith, if2.false)) c.next_layer-l.ensures (sym passed) refl in
+    record {
         of_tape = start.requires.of_tape;
         layers_value = start.requires.layers_value;
         le_layers = (omega (arith, if2.false), first)

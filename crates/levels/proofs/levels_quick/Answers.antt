@@ -8,7 +8,7 @@ use Rattle.levels.proofs.levels_quick.Goals as goal
 
 pub loop-i-init : goal.loop-i-init
 loop-i-init c =
-    (c.requires.le_layers, c.requires.le_layers.1)
+    (c.requires.le_layers.0, c.requires.le_layers.1)
 
 pub next_layer-l-requires : goal.next_layer-l-requires
 next_layer-l-requires c =
@@ -17,7 +17,7 @@ next_layer-l-requires c =
 pub run_levels_quick-requires : goal.run_levels_quick-requires
 run_levels_quick-requires c =
     let start = c in
-record {
+    record {
         of_tape = start.requires.of_tape;
         count_in_bounds = walked_fits c.loop-i.invariant.1 start.requires.layers_value c.loop-i-test.true c.next_layer-l.ensures start.requires.of_tape
     }

@@ -17,7 +17,7 @@ returns-then-i-r c =
 
 pub level_below-requires : goal.level_below-requires
 level_below-requires c =
-    c.requires.at_in_bounds
+    c.requires.at_in_bounds.0
 
 pub overflow_add-result : goal.overflow_add-result
 overflow_add-result c =

@@ -36,15 +36,15 @@ segment_place-at-requires c =
 pub segments_walk-requires : goal.segments_walk-requires
 segments_walk-requires c =
     let start = c in
-let segments-in = c.segments_in in
-let t = start.args.tape.now in
-let st = start.args.st in
-let level = start.args.level in
-let from = start.args.start in
-let len = start.args.len in
-let fits = segments_fit_lem t st level from len start.requires.fit segments-in.ensures c.if-not-segments_in.false c.if-len-eq0.false _ c.segment_place-at.ensures in
-let said = segments_said t st level from len _ start.requires segments-in.ensures c.if-not-segments_in.false c.segment_place-at.ensures in
-record {
+    let segments-in = c.segments_in in
+    let t = start.args.tape.now in
+    let st = start.args.st in
+    let level = start.args.level in
+    let from = start.args.start in
+    let len = start.args.len in
+    let fits = segments_fit_lem t st level from len start.requires.fit segments-in.ensures c.if-not-segments_in.false c.if-len-eq0.false _ c.segment_place-at.ensures in
+    let said = segments_said t st level from len _ start.requires segments-in.ensures c.if-not-segments_in.false c.segment_place-at.ensures in
+    record {
         risen = start.requires.risen;
         len_in_bounds = (fits, omega arith);
         said = said

@@ -5,19 +5,19 @@ use Rattle.places.proofs.with_layer.Goals as goal
 
 pub strings_length-bytes-requires : goal.strings_length-bytes-requires
 strings_length-bytes-requires c =
-    let l = layer_small c.args.tape.now c.args.s.end c.next_layer-l.result c.next_layer-l.ensures c.requires.end_in_bounds in (omega (arith, l.strings), c.requires.end_in_bounds.1)
+    let l = layer_small c.args.tape.now c.args.s.end c.next_layer-l.result c.next_layer-l.ensures c.requires.end_in_bounds.0 in (omega (arith, l.strings), c.requires.end_in_bounds.1)
 
 pub overflow_add-result-2 : goal.overflow_add-result-2
 overflow_add-result-2 c =
-    let l = layer_small c.args.tape.now c.args.s.end c.next_layer-l.result c.next_layer-l.ensures c.requires.end_in_bounds in omega (arith, l.counts, l.near, c.requires.small.counts)
+    let l = layer_small c.args.tape.now c.args.s.end c.next_layer-l.result c.next_layer-l.ensures c.requires.end_in_bounds.0 in omega (arith, l.counts, l.near, c.requires.small.counts)
 
 pub overflow_add-result-3 : goal.overflow_add-result-3
 overflow_add-result-3 c =
-    let l = layer_small c.args.tape.now c.args.s.end c.next_layer-l.result c.next_layer-l.ensures c.requires.end_in_bounds in omega (arith, l.counts, l.near, c.requires.small.counts)
+    let l = layer_small c.args.tape.now c.args.s.end c.next_layer-l.result c.next_layer-l.ensures c.requires.end_in_bounds.0 in omega (arith, l.counts, l.near, c.requires.small.counts)
 
 pub overflow_add-result-4 : goal.overflow_add-result-4
 overflow_add-result-4 c =
-    let l = layer_small c.args.tape.now c.args.s.end c.next_layer-l.result c.next_layer-l.ensures c.requires.end_in_bounds in omega (arith, l.counts, l.near, c.requires.small.counts)
+    let l = layer_small c.args.tape.now c.args.s.end c.next_layer-l.result c.next_layer-l.ensures c.requires.end_in_bounds.0 in omega (arith, l.counts, l.near, c.requires.small.counts)
 
 pub capped_sum-requires : goal.capped_sum-requires
 capped_sum-requires c =

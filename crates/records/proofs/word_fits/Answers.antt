@@ -11,9 +11,9 @@ returns-then-w-eq0 c =
 pub returns-then-not-used : goal.returns-then-not-used
 unfolding uses_fit
 returns-then-not-used c =
-    simp (ne_eqb _ _ c.if-w-eq0.false, not-true c.args.used c.if-not-used.true)
+    simp (ne_eqb _ _ c.if-w-eq0.false, c.if-not-used.true)
 
 pub returns : goal.returns
 unfolding uses_fit
 returns c =
-    simp (ne_eqb _ _ c.if-w-eq0.false, not-false c.args.used c.if-not-used.false, c.use_in.ensures)
+    simp (ne_eqb _ _ c.if-w-eq0.false, c.if-not-used.false, c.use_in.ensures)

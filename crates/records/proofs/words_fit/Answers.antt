@@ -32,7 +32,7 @@ pub returns-then-not-word_fits : goal.returns-then-not-word_fits
 returns-then-not-word_fits c =
     let a = c.args in
     let read = fits_read a.used a.kind a.tag c.loop-i.i _ c.loop-i-test.true c.uses_of-uses.ensures c.word_fits.ensures in
-    sym (fits_fails (fields_for a.used a.kind a.tag) a.t4 c.loop-i.i (omega arith) (read ∙ c.if-not-word_fits.true)) ∙ c.loop-i.invariant.2
+    sym (fits_fails (fields_for a.used a.kind a.tag) a.words c.loop-i.i (omega arith) (read ∙ c.if-not-word_fits.true)) ∙ c.loop-i.invariant.2
 
 pub overflow_add-i : goal.overflow_add-i
 overflow_add-i c =
@@ -46,9 +46,9 @@ pub loop-i-preserved : goal.loop-i-preserved
 loop-i-preserved c =
     let a = c.args in
     let read = fits_read a.used a.kind a.tag c.loop-i.i _ c.loop-i-test.true c.uses_of-uses.ensures c.word_fits.ensures in
-    (omega arith, c.loop-i.invariant.1, sym (fits_turn (fields_for a.used a.kind a.tag) a.t4 c.loop-i.i (omega arith) (read ∙ c.if-not-word_fits.false)) ∙ c.loop-i.invariant.2)
+    (omega arith, c.loop-i.invariant.1, sym (fits_turn (fields_for a.used a.kind a.tag) a.words c.loop-i.i (omega arith) (read ∙ c.if-not-word_fits.false)) ∙ c.loop-i.invariant.2)
 
 pub returns : goal.returns
 returns c =
     let a = c.args in
-    sym (fits_done (fields_for a.used a.kind a.tag) a.t4 c.loop-i.i (omega arith)) ∙ c.loop-i.invariant.2
+    sym (fits_done (fields_for a.used a.kind a.tag) a.words c.loop-i.i (omega arith)) ∙ c.loop-i.invariant.2

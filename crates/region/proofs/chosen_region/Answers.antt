@@ -33,12 +33,9 @@ balanced_region-r-requires c =
     let at-edit-refusal = at-if1 in
     let start = at-edit-refusal in record {
         count_in_bounds = ready_runs (held_without start.requires);
-        start_in_bounds = (
-        stage_region (held_without start.requires) _ _ _ at-edit-refusal.edit_refusal-n.ensures at-if1.if-n-ne0.false at-depends.depends.ensures,
-        stage_nodes
-            (held_without start.requires) _ _ _ at-edit-refusal.edit_refusal-n.ensures at-if1.if-n-ne0.false at-depends.depends.ensures,
-      );
-        nodes_in = 
+        start_in_bounds = stage_region (held_without start.requires) _ _ _ at-edit-refusal.edit_refusal-n.ensures at-if1.if-n-ne0.false at-depends.depends.ensures;
+        nodes_in = stage_nodes
+            (held_without start.requires) _ _ _ at-edit-refusal.edit_refusal-n.ensures at-if1.if-n-ne0.false at-depends.depends.ensures
     }
 
 pub returns-then-is_whole : goal.returns-then-is_whole

@@ -42,11 +42,14 @@ pair_string-m-requires c =
     let start = turn in
     let inv = turn.loop-i.invariant in
     let paired = inv.4 in
-    let few = start.requires.row_len in (
-      paired_index paired start.requires.resolvable,
-      (paired.rising, ((omega (arith, inv.0, few, paired.few), omega arith), ((omega (arith, few), omega (arith, few, inv.1)), (paired.pairs, inv.5)))),
-    )
--- LEFT: wants record { resolvable = ..; row = ..; m_in_bounds = ..; n_bound = ..; pairs = ..; ordered = .. }
+    let few = start.requires.row_len in record {
+        resolvable = paired_index paired start.requires.resolvable;
+        row = paired.rising;
+        m_in_bounds = (omega (arith, inv.0, few, paired.few), omega arith);
+        n_bound = (omega (arith, few), omega (arith, few, inv.1));
+        pairs = paired.pairs;
+        ordered = inv.5
+    }
 
 pub overflow_add-n : goal.overflow_add-n
 overflow_add-n c =
@@ -59,7 +62,7 @@ overflow_add-i c =
 pub next_long-i-requires-in-loop-i : goal.next_long-i-requires-in-loop-i
 next_long-i-requires-in-loop-i c =
     let start = c in
-record {
+    record {
         of_tape = start.requires.resolvable.sides.store;
         from_le_strings = omega arith
     }

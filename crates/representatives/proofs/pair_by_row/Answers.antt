@@ -14,18 +14,13 @@ pair_all-requires c =
     let start = at-index-strings in
     let index = at-index-strings.index_strings in
     let row = start.args.row.now in
-    let room = c.lesser-room.ensures in (
-      resolvable_own row 1024 (omega (arith, start.requires.row_len)) index.new.1.1.1.0 index.auto.1.1.1.0 start.requires.resolvable index.ensures,
-      (
-        (
-          first_length row 1024 (omega (arith, start.requires.row_len)) index.new.1.1.1.0 index.auto.1.1.1.0 ∙ start.requires.row_len,
+    let room = c.lesser-room.ensures in record {
+        resolvable = resolvable_own row 1024 (omega (arith, start.requires.row_len)) index.new.1.1.1.0 index.auto.1.1.1.0 start.requires.resolvable index.ensures;
+        row_len = (
+          first_length row 1024 (omega (arith, start.requires.row_len)) index.new.1.1.1.0 index.auto.1.1.1.0 ∙ start.requires.row_len.0,
           omega (arith, room),
           omega (arith, room, at-zero-words.zero_words.auto.out),
-        ),
-        (
-          rw at-zero-words.zero_words.ensures (pairs_zeros _ (length start.args.words.now)),
-          ordered_none (length start.args.words.now) at-zero-words.zero_words.ensures (omega (arith, start.requires.row_len)) 0,
-        ),
-      ),
-    )
--- LEFT: wants record { resolvable = ..; row_len = ..; pairs = ..; ordered = .. }
+        );
+        pairs = rw at-zero-words.zero_words.ensures (pairs_zeros _ (length start.args.words.now));
+        ordered = ordered_none (length start.args.words.now) at-zero-words.zero_words.ensures (omega (arith, start.requires.row_len)) 0
+    }

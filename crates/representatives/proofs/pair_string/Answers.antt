@@ -15,16 +15,15 @@ returns-then-k-ne0 c =
     let own = at-resolve-str.resolve_str-s.ensures ∙ shown_str start.requires.resolvable.sides _ start.requires.m_in_bounds.1 in
     let found = at-find.find-k.ensures.1 at-if1.if-k-ne0.true in
     let put = c.put_pair.ensures in
-    let room = start.requires.n_bound.1 in (
-      paired_known (pairs_put _ _ _ _ room start.requires.pairs (sym own ∙ sym found) put) start.requires.row,
-      ordered_put _ _ _ _ room start.requires.ordered put,
-    )
--- LEFT: wants record { paired = ..; ordered_2 = .. }
+    let room = start.requires.n_bound.1 in record {
+        paired = paired_known (pairs_put _ _ _ _ room start.requires.pairs (sym own ∙ sym found) put) start.requires.row;
+        ordered_2 = ordered_put _ _ _ _ room start.requires.ordered put
+    }
 
 pub put_pair-requires-2 : goal.put_pair-requires-2
 put_pair-requires-2 c =
     let start = c in
-record {
+    record {
         n_bound = start.requires.n_bound;
         representative_bound = omega (arith, start.requires.m_in_bounds.1, start.well_formed, start.ranges)
     }
@@ -34,8 +33,7 @@ returns c =
     let at-put-pair2 = c in
     let start = at-put-pair2 in
     let put = at-put-pair2.put_pair-2.ensures in
-    let room = start.requires.n_bound.1 in (
-      paired_new (pairs_put _ _ _ _ room start.requires.pairs refl put) c.insert.ensures,
-      ordered_put _ _ _ _ room start.requires.ordered put,
-    )
--- LEFT: wants record { paired = ..; ordered_2 = .. }
+    let room = start.requires.n_bound.1 in record {
+        paired = paired_new (pairs_put _ _ _ _ room start.requires.pairs refl put) c.insert.ensures;
+        ordered_2 = ordered_put _ _ _ _ room start.requires.ordered put
+    }

@@ -22,8 +22,8 @@ returns-then-words-p c =
 pub returns : goal.returns
 returns c =
     let rank = c.rank_of-p in
-let count = c.pairs_in-m.ensures in
-record {
+    let count = c.pairs_in-m.ensures in
+    record {
         by_index = λ K p d. pair_found p rank.result _ (omega (arith, rank.ensures.few)) c.if-words-p.false d;
         known = known_here count rank.ensures
     }

@@ -13,8 +13,8 @@ pub put_new_texts-requires : goal.put_new_texts-requires
 unfolding edit_of
 put_new_texts-requires c =
     let i = inside c.requires.books in
-let x = ap (λ (y : Lengths). y.base) c.requires.l_value in
-record {
+    let x = ap (λ (y : Lengths). y.base) c.requires.l_value in
+    record {
         start_le_end = (i.rising, i.ends, i.normal_rising, i.normal_ends);
         normalized_in_bounds = texts_inside c.requires.books;
         bytes_in_bounds = omega (arith, x, c.requires.min_work_words_in_bounds.2)
@@ -34,7 +34,7 @@ graft_reading-requires c =
     record {
         source_fits = source_fits c.requires.books;
         strings_le_max_pool = pools_fit c.requires.books;
-        min_work_words_in_bounds = (omega (arith, c.requires.min_work_words_in_bounds), omega (arith, c.requires.min_work_words_in_bounds.2, c.put_new_texts.auto.out), omega (arith, c.requires.min_work_words_in_bounds.3, c.put_head.auto.out))
+        min_work_words_in_bounds = (omega (arith, c.requires.min_work_words_in_bounds.0), omega (arith, c.requires.min_work_words_in_bounds.2, c.put_new_texts.auto.out), omega (arith, c.requires.min_work_words_in_bounds.3, c.put_head.auto.out))
     }
 
 pub returns : goal.returns

@@ -50,8 +50,8 @@ overflow_add-at-3 c =
 pub same_named-requires : goal.same_named-requires
 same_named-requires c =
     let at-if2 = c in
-let start = at-if2 in
-record {
+    let start = at-if2 in
+    record {
         naming = (start.requires.namings.node _ start.requires.i_lt_count);
         naming_2 = (start.requires.namings.node _ at-if2.if-count-v.false)
     }

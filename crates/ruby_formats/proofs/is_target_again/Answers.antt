@@ -46,8 +46,8 @@ overflow_add-at-3 c =
 pub same_named-requires : goal.same_named-requires
 same_named-requires c =
     let at-if1 = c in
-let start = at-if1 in
-record {
+    let start = at-if1 in
+    record {
         naming = (start.requires.node start.args.i (omega arith));
         naming_2 = (start.requires.node start.args.v (omega (arith, at-if1.if-v-i.false)))
     }

@@ -6,7 +6,7 @@ use Rattle.ruby_formats.proofs.named.Goals as goal
 pub first_plain-requires : goal.first_plain-requires
 first_plain-requires c =
     let start = c in
-record {
+    record {
         of_tape = start.requires.store;
         at_in_bounds = start.requires.inside;
         first_range = start.requires.ruby (sym c.is_ruby.ensures ∙ c.if-is_ruby.true)
@@ -21,7 +21,7 @@ returns-then-is_ruby c =
 pub first_plain-requires-then-is_referenced_format : goal.first_plain-requires-then-is_referenced_format
 first_plain-requires-then-is_referenced_format c =
     let start = c in
-record {
+    record {
         of_tape = start.requires.store;
         at_in_bounds = start.requires.inside;
         first_range = start.requires.format (sym c.is_referenced_format.ensures ∙ c.if-is_referenced_format.true)

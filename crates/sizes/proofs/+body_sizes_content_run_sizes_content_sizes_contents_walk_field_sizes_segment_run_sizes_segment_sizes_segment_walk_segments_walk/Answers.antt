@@ -29,8 +29,8 @@ body_sizes-field_at-f-requires t c =
 pub body_sizes-field_sizes-u-requires : goal.body_sizes-field_sizes-u-requires
 body_sizes-field_sizes-u-requires t c =
     let turn = c in
-let start = turn in
-(omega arith, record {
+    let start = turn in
+    (omega arith, record {
         of_tape = (start.requires.of_tape.0, turn.loop-j.invariant.1);
         kept = turn.loop-j.invariant.0.kept
     })
@@ -88,9 +88,9 @@ content_run_sizes-content_place-at-requires t c =
 pub content_run_sizes-contents_walk-requires : goal.content_run_sizes-contents_walk-requires
 content_run_sizes-contents_walk-requires t c =
     let at-with-added = c in
-let at-content-count = at-with-added in
-let start = at-content-count in
-(omega arith, record {
+    let at-content-count = at-with-added in
+    let start = at-content-count in
+    (omega arith, record {
         of_tape = (start.requires.of_tape.0, start.requires.of_tape.1);
         kept = kept_plus start.args.t (new_contents at-content-count.content_count-n.result) at-with-added.with_added-u.ensures;
         count_in_bounds = contents_inside start.args.tape.now start.args.st start.requires.of_tape.0 start.args.start start.args.len _ _ c.if-n-eq0.false at-content-count.content_count-n.ensures c.content_place-at.ensures
@@ -117,7 +117,7 @@ content_sizes-returns-then-c-eq0 t c =
 pub content_sizes-segment_run_sizes-requires : goal.content_sizes-segment_run_sizes-requires
 content_sizes-segment_run_sizes-requires t c =
     let start = c in
-(omega arith, record {
+    (omega arith, record {
         of_tape = (start.requires.of_tape.0, start.requires.of_tape.1);
         kept = start.requires.kept
     })
@@ -132,7 +132,7 @@ content_sizes-returns-then-c-ne1 t c =
 pub content_sizes-segment_run_sizes-requires-then-place-eq0 : goal.content_sizes-segment_run_sizes-requires-then-place-eq0
 content_sizes-segment_run_sizes-requires-then-place-eq0 t c =
     let start = c in
-(omega arith, record {
+    (omega arith, record {
         of_tape = (start.requires.of_tape.0, start.requires.of_tape.1);
         kept = start.requires.kept
     })
@@ -156,11 +156,11 @@ content_sizes-returns-then-u t c =
 pub content_sizes-segment_sizes-requires : goal.content_sizes-segment_sizes-requires
 content_sizes-segment_sizes-requires t c =
     let at-if3 = c in
-let at-lone-place = at-if3 in
-let at-if2 = at-lone-place in
-let at-content-at = at-if2 in
-let start = at-content-at in
-(omega arith, record {
+    let at-lone-place = at-if3 in
+    let at-if2 = at-lone-place in
+    let at-content-at = at-if2 in
+    let start = at-content-at in
+    (omega arith, record {
         of_tape = (start.requires.of_tape.0, start.requires.of_tape.1);
         kept = kept_plus start.args.t (new_segments 1) c.with_added-u.ensures;
         at_in_bounds = lone_inside start.args.room start.args.t (inner_adds start.args.level start.args.tape.now start.args.st) start.args.tape.now start.args.st at-content-at.content_at-c.result.first at-content-at.content_at-c.result.second at-lone-place.lone_place-place.result at-if2.if-c-ne1.false at-lone-place.lone_place-place.ensures at-if3.if-place-eq0.false start.requires.of_tape.0
@@ -192,7 +192,7 @@ contents_walk-overflow_add-at t c =
 pub contents_walk-content_sizes-next-requires : goal.contents_walk-content_sizes-next-requires
 contents_walk-content_sizes-next-requires t c =
     let start = c in
-(omega arith, record {
+    (omega arith, record {
         of_tape = (start.requires.of_tape.0, c.loop-i.invariant.1);
         kept = c.loop-i.invariant.0.kept;
         at_in_bounds = omega (arith, start.requires.count_in_bounds)
@@ -236,9 +236,9 @@ contents_walk-contents_alike-k-requires t c =
 pub contents_walk-again-u-requires : goal.contents_walk-again-u-requires
 contents_walk-again-u-requires t c =
     let on = c.if-next.false in
-let e = c.content_sizes-next.ensures.0 in
-let going = going_before c.args.room c.loop-i.u _ e on in
-record {
+    let e = c.content_sizes-next.ensures.0 in
+    let going = going_before c.args.room c.loop-i.u _ e on in
+    record {
         over_value = (going, on, kept_plus c.loop-i.u _ e);
         contents_le_contents = grown c.args.room c.loop-i.u c.content_sizes-next.result _ going on e (kept_high c.loop-i.invariant.0.kept going)
     }
@@ -285,7 +285,7 @@ contents_walk-returns t c =
 pub field_sizes-content_run_sizes-requires : goal.field_sizes-content_run_sizes-requires
 field_sizes-content_run_sizes-requires t c =
     let start = c in
-(omega arith, record {
+    (omega arith, record {
         of_tape = (start.requires.of_tape.0, start.requires.of_tape.1);
         kept = start.requires.kept
     })
@@ -299,7 +299,7 @@ field_sizes-returns-then-f-eq3 t c =
 pub field_sizes-segment_run_sizes-requires : goal.field_sizes-segment_run_sizes-requires
 field_sizes-segment_run_sizes-requires t c =
     let start = c in
-(omega arith, record {
+    (omega arith, record {
         of_tape = (start.requires.of_tape.0, start.requires.of_tape.1);
         kept = start.requires.kept
     })
@@ -343,9 +343,9 @@ segment_run_sizes-segment_place-at-requires t c =
 pub segment_run_sizes-segments_walk-requires : goal.segment_run_sizes-segments_walk-requires
 segment_run_sizes-segments_walk-requires t c =
     let at-with-added = c in
-let at-segment-count = at-with-added in
-let start = at-segment-count in
-(omega arith, record {
+    let at-segment-count = at-with-added in
+    let start = at-segment-count in
+    (omega arith, record {
         of_tape = (start.requires.of_tape.0, start.requires.of_tape.1);
         kept = kept_plus start.args.t (new_segments at-segment-count.segment_count-n.result) at-with-added.with_added-u.ensures;
         count_in_bounds = segments_inside start.args.tape.now start.args.st start.requires.of_tape.0 start.args.start start.args.len _ _ c.if-n-eq0.false at-segment-count.segment_count-n.ensures c.segment_place-at.ensures
@@ -399,9 +399,9 @@ segment_sizes-returns-then-is_of t c =
 pub segment_sizes-segment_walk-requires : goal.segment_sizes-segment_walk-requires
 segment_sizes-segment_walk-requires t c =
     let at-entry-of = c in
-let at-if1 = at-entry-of in
-let start = at-if1 in
-(omega arith, record {
+    let at-if1 = at-entry-of in
+    let start = at-if1 in
+    (omega arith, record {
         of_tape = (start.requires.of_tape.0, start.requires.of_tape.1);
         kept = start.requires.kept;
         at_in_bounds = (start.requires.at_in_bounds, omega (arith, at-if1.if-level-eq0.false), at-entry-of.entry_of-e.ensures)
@@ -413,7 +413,7 @@ segment_sizes-returns t c =
 
 pub segment_walk-overflow_add-at : goal.segment_walk-overflow_add-at
 segment_walk-overflow_add-at t c =
-    omega (arith, c.requires.at_in_bounds)
+    omega (arith, c.requires.at_in_bounds.0)
 
 pub segment_walk-overflow_sub-level : goal.segment_walk-overflow_sub-level
 segment_walk-overflow_sub-level t c =
@@ -422,10 +422,10 @@ segment_walk-overflow_sub-level t c =
 pub segment_walk-body_sizes-r-requires : goal.segment_walk-body_sizes-r-requires
 segment_walk-body_sizes-r-requires t c =
     let start = c in
-(omega (arith, start.requires.at_in_bounds.1), record {
+    (omega (arith, start.requires.at_in_bounds.1), record {
         of_tape = (start.requires.of_tape.0, start.requires.of_tape.1);
         kept = start.requires.kept;
-        at_in_bounds = omega (arith, start.requires.at_in_bounds)
+        at_in_bounds = omega (arith, start.requires.at_in_bounds.0)
     })
 
 pub segment_walk-returns-then-r : goal.segment_walk-returns-then-r
@@ -437,9 +437,9 @@ segment_walk-returns-then-r t c =
 pub segment_walk-note-requires : goal.segment_walk-note-requires
 segment_walk-note-requires t c =
     let on = c.if-r.false in
-let e = segment_below c.args.room c.args.t c.args.tape.now c.args.st c.args.at c.args.level (λ q. absurd (omega (arith, c.requires.at_in_bounds.1, q))) c.body_sizes-r.ensures.0 in
-let going = going_before c.args.room c.args.t (inner_adds c.args.level c.args.tape.now c.args.st (record_at segment_codec c.args.tape.now c.args.at).body) e on in
-record {
+    let e = segment_below c.args.room c.args.t c.args.tape.now c.args.st c.args.at c.args.level (λ q. absurd (omega (arith, c.requires.at_in_bounds.1, q))) c.body_sizes-r.ensures.0 in
+    let going = going_before c.args.room c.args.t (inner_adds c.args.level c.args.tape.now c.args.st (record_at segment_codec c.args.tape.now c.args.at).body) e on in
+    record {
         e_bound = c.requires.at_in_bounds.2;
         contents_le_contents = grown c.args.room c.args.t c.body_sizes-r.result (inner_adds c.args.level c.args.tape.now c.args.st (record_at segment_codec c.args.tape.now c.args.at).body) going on e (kept_high c.requires.kept going)
     }
@@ -466,7 +466,7 @@ segments_walk-overflow_add-at t c =
 pub segments_walk-segment_sizes-next-requires : goal.segments_walk-segment_sizes-next-requires
 segments_walk-segment_sizes-next-requires t c =
     let start = c in
-(omega arith, record {
+    (omega arith, record {
         of_tape = (start.requires.of_tape.0, c.loop-i.invariant.1);
         kept = c.loop-i.invariant.0.kept;
         at_in_bounds = omega (arith, start.requires.count_in_bounds)
@@ -510,9 +510,9 @@ segments_walk-segments_alike-k-requires t c =
 pub segments_walk-again-u-requires : goal.segments_walk-again-u-requires
 segments_walk-again-u-requires t c =
     let on = c.if-next.false in
-let e = c.segment_sizes-next.ensures.0 in
-let going = going_before c.args.room c.loop-i.u _ e on in
-record {
+    let e = c.segment_sizes-next.ensures.0 in
+    let going = going_before c.args.room c.loop-i.u _ e on in
+    record {
         over_value = (going, on, kept_plus c.loop-i.u _ e);
         contents_le_contents = grown c.args.room c.loop-i.u c.segment_sizes-next.result _ going on e (kept_high c.loop-i.invariant.0.kept going)
     }

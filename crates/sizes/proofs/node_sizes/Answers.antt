@@ -18,7 +18,7 @@ returns-then-tape-at-ge2 c =
 pub body_sizes-requires : goal.body_sizes-requires
 body_sizes-requires c =
     let start = c in
-record {
+    record {
         of_tape = (start.requires.of_tape.0, start.requires.of_tape.1);
         kept = start.requires.kept;
         at_in_bounds = omega (arith, start.requires.at_in_bounds)

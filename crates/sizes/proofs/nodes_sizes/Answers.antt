@@ -29,8 +29,8 @@ overflow_add-at c =
 pub node_sizes-u-requires : goal.node_sizes-u-requires
 node_sizes-u-requires c =
     let at-only-contents = c in
-let start = at-only-contents in
-record {
+    let start = at-only-contents in
+    record {
         of_tape = (start.requires.of_tape.0, c.loop-i.invariant.1, at-only-contents.only_contents-own.ensures, whole_inside start.args.tape.now start.args.st start.requires.of_tape.0 at-only-contents.only_contents-own.result at-only-contents.only_contents-own.ensures);
         kept = c.loop-i.invariant.0.kept;
         at_in_bounds = omega (arith, start.requires.count_in_bounds, c.loop-i-test.true)

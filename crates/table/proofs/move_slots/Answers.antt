@@ -18,9 +18,9 @@ loop-i-init c =
 pub place-requires : goal.place-requires
 place-requires c =
     let old = c.requires.entries c.loop-i.i (in_old_lem c.args.strs.now c.args.work.now c.args.count c.args.n c.requires.le_n.0 c.requires.le_n.1 c.requires.work.room c.loop-i.work c.loop-i.i c.loop-i.invariant c.loop-i-test.true) in
-let same = entry c.args.strs.now c.args.work.now c.args.count c.args.n c.requires.le_n.0 c.requires.le_n.1 c.requires.work.room c.loop-i.work c.loop-i.i c.loop-i.invariant c.loop-i-test.true in
-let ne = c.if-e-ne0.true in
-record {
+    let same = entry c.args.strs.now c.args.work.now c.args.count c.args.n c.requires.le_n.0 c.requires.le_n.1 c.requires.work.room c.loop-i.work c.loop-i.i c.loop-i.invariant c.loop-i-test.true in
+    let ne = c.if-e-ne0.true in
+    record {
         work = moved_work c.args.strs.now c.args.work.now c.args.count c.args.n c.requires.le_n.0 c.requires.le_n.1 c.requires.work.room c.loop-i.work c.loop-i.i c.loop-i.invariant c.requires.work;
         le_n = omega arith;
         e_nonzero = omega (arith, old, same)

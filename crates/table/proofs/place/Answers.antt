@@ -21,8 +21,8 @@ string_at-requires c =
 pub returns : goal.returns
 returns c =
     let len = table_length c.args.n c.args.work.now c.requires.le_n.0 c.requires.le_n.1 c.requires.work.room in
-let at = slot_found (strings_of (starts_of c.args.count c.args.work.now) c.args.strs.now) (table_of c.args.n c.args.work.now) _ c.args.n (c.args.e - 1) _ c.empty_slot-p.result _ len c.string_at.ensures c.fx_hash.ensures c.slot_of-h.ensures.0 c.empty_slot-p.ensures.0 in
-record {
+    let at = slot_found (strings_of (starts_of c.args.count c.args.work.now) c.args.strs.now) (table_of c.args.n c.args.work.now) _ c.args.n (c.args.e - 1) _ c.empty_slot-p.result _ len c.string_at.ensures c.fx_hash.ensures c.slot_of-h.ensures.0 c.empty_slot-p.ensures.0 in
+    record {
         work_after = ap (λ (j : ℕ). set c.args.work.now (c.args.n - 256 + j) c.args.e) at;
         e_bound = subst (λ (j : ℕ). j < c.args.n) at (omega (arith, len, c.empty_slot-p.ensures.1))
     }

@@ -1,4 +1,0 @@
-mod Forms
-mod Steps
-mod Thin
-mod Ways
