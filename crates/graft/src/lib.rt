@@ -319,7 +319,7 @@ fn pushed_segments(p: Plan, r: Mark, to: u32, len: u32) -> Start
 // ---- the walk: nine functions that call each other, the level falling on each turn
 
 // Section 5. `graft_node`: the words of the body at `at`, whose runs are pushed.
-#[cycle(graft_body_graft_content_graft_content_run_graft_contents_graft_field_graft_place_graft_segment_graft_segment_run_graft_segments)]
+#[cycle(graft_tree)]
 pub fn graft_body(
     tape: &[u8],
     bytes: &[u8],
@@ -354,7 +354,7 @@ pub fn graft_body(
 }
 
 // The field at place j: its words set among those so far.
-#[cycle(graft_body_graft_content_graft_content_run_graft_contents_graft_field_graft_place_graft_segment_graft_segment_run_graft_segments)]
+#[cycle(graft_tree)]
 fn graft_place(
     tape: &[u8],
     bytes: &[u8],
@@ -383,7 +383,7 @@ fn graft_place(
 }
 
 // An id, no_string, or the start of a run.
-#[cycle(graft_body_graft_content_graft_content_run_graft_contents_graft_field_graft_place_graft_segment_graft_segment_run_graft_segments)]
+#[cycle(graft_tree)]
 fn graft_field(
     tape: &[u8],
     bytes: &[u8],
@@ -415,7 +415,7 @@ fn graft_field(
 }
 
 // Section 5. A run of contents, behind all that its items push: where it starts.
-#[cycle(graft_body_graft_content_graft_content_run_graft_contents_graft_field_graft_place_graft_segment_graft_segment_run_graft_segments)]
+#[cycle(graft_tree)]
 fn graft_content_run(
     tape: &[u8],
     bytes: &[u8],
@@ -461,7 +461,7 @@ fn graft_content_run(
 }
 
 // Section 5. The contents of a run, the first at number `to`.
-#[cycle(graft_body_graft_content_graft_content_run_graft_contents_graft_field_graft_place_graft_segment_graft_segment_run_graft_segments)]
+#[cycle(graft_tree)]
 fn graft_contents(
     tape: &[u8],
     bytes: &[u8],
@@ -507,7 +507,7 @@ fn graft_contents(
 }
 
 // Section 5. `graft_content`, written as content number `to`.
-#[cycle(graft_body_graft_content_graft_content_run_graft_contents_graft_field_graft_place_graft_segment_graft_segment_run_graft_segments)]
+#[cycle(graft_tree)]
 fn graft_content(
     tape: &[u8],
     bytes: &[u8],
@@ -550,7 +550,7 @@ fn graft_content(
 }
 
 // Section 5. A run of segments, behind all that its items push: where it starts.
-#[cycle(graft_body_graft_content_graft_content_run_graft_contents_graft_field_graft_place_graft_segment_graft_segment_run_graft_segments)]
+#[cycle(graft_tree)]
 fn graft_segment_run(
     tape: &[u8],
     bytes: &[u8],
@@ -596,7 +596,7 @@ fn graft_segment_run(
 }
 
 // Section 5. The segments of a run, the first at number `to`.
-#[cycle(graft_body_graft_content_graft_content_run_graft_contents_graft_field_graft_place_graft_segment_graft_segment_run_graft_segments)]
+#[cycle(graft_tree)]
 fn graft_segments(
     tape: &[u8],
     bytes: &[u8],
@@ -642,7 +642,7 @@ fn graft_segments(
 }
 
 // Section 5. `graft_segment`, written as segment number `to`; its own level is copied. Below level 0 of the walk a body is all zeros.
-#[cycle(graft_body_graft_content_graft_content_run_graft_contents_graft_field_graft_place_graft_segment_graft_segment_run_graft_segments)]
+#[cycle(graft_tree)]
 fn graft_segment(
     tape: &[u8],
     bytes: &[u8],

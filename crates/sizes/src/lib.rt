@@ -226,7 +226,7 @@ fn note(memo: &mut [u32], e: usize, at: usize, level: u8, before: Sizes, after: 
 }
 
 // Section 5. What a body of that level adds: its fields in order.
-#[cycle(body_sizes_content_run_sizes_content_sizes_contents_walk_field_sizes_segment_run_sizes_segment_sizes_segment_walk_segments_walk)]
+#[cycle(tree_sizes)]
 fn body_sizes(
     tape: &[u8],
     st: store::Store,
@@ -254,7 +254,7 @@ fn body_sizes(
     u
 }
 
-#[cycle(body_sizes_content_run_sizes_content_sizes_contents_walk_field_sizes_segment_run_sizes_segment_sizes_segment_walk_segments_walk)]
+#[cycle(tree_sizes)]
 fn field_sizes(
     tape: &[u8],
     st: store::Store,
@@ -278,7 +278,7 @@ fn field_sizes(
 }
 
 // Section 5. A run of contents that a body of that level names, with what is pushed before it.
-#[cycle(body_sizes_content_run_sizes_content_sizes_contents_walk_field_sizes_segment_run_sizes_segment_sizes_segment_walk_segments_walk)]
+#[cycle(tree_sizes)]
 fn content_run_sizes(
     tape: &[u8],
     st: store::Store,
@@ -306,7 +306,7 @@ fn content_run_sizes(
 }
 
 // Section 5. What is pushed before a run of contents.
-#[cycle(body_sizes_content_run_sizes_content_sizes_contents_walk_field_sizes_segment_run_sizes_segment_sizes_segment_walk_segments_walk)]
+#[cycle(tree_sizes)]
 fn contents_walk(
     tape: &[u8],
     st: store::Store,
@@ -356,7 +356,7 @@ fn lone_place(st: store::Store, i: u32) -> usize
 }
 
 // Section 5. Plain is a string, Segments a run; one of a single segment is that segment.
-#[cycle(body_sizes_content_run_sizes_content_sizes_contents_walk_field_sizes_segment_run_sizes_segment_sizes_segment_walk_segments_walk)]
+#[cycle(tree_sizes)]
 fn content_sizes(
     tape: &[u8],
     st: store::Store,
@@ -390,7 +390,7 @@ fn content_sizes(
 }
 
 // Section 5. A run of segments that a body of that level names, with what is pushed before it.
-#[cycle(body_sizes_content_run_sizes_content_sizes_contents_walk_field_sizes_segment_run_sizes_segment_sizes_segment_walk_segments_walk)]
+#[cycle(tree_sizes)]
 fn segment_run_sizes(
     tape: &[u8],
     st: store::Store,
@@ -418,7 +418,7 @@ fn segment_run_sizes(
 }
 
 // Section 5. What is pushed before a run of segments.
-#[cycle(body_sizes_content_run_sizes_content_sizes_contents_walk_field_sizes_segment_run_sizes_segment_sizes_segment_walk_segments_walk)]
+#[cycle(tree_sizes)]
 fn segments_walk(
     tape: &[u8],
     st: store::Store,
@@ -452,7 +452,7 @@ fn segments_walk(
 }
 
 // The body of a segment is of the level below; below level 0 there is none. A text is one call; what is in the memo is not walked again.
-#[cycle(body_sizes_content_run_sizes_content_sizes_contents_walk_field_sizes_segment_run_sizes_segment_sizes_segment_walk_segments_walk)]
+#[cycle(tree_sizes)]
 fn segment_sizes(
     tape: &[u8],
     st: store::Store,
@@ -481,7 +481,7 @@ fn segment_sizes(
 }
 
 // The same by a walk, which is put into the memo as entry e.
-#[cycle(body_sizes_content_run_sizes_content_sizes_contents_walk_field_sizes_segment_run_sizes_segment_sizes_segment_walk_segments_walk)]
+#[cycle(tree_sizes)]
 fn segment_walk(
     tape: &[u8],
     st: store::Store,

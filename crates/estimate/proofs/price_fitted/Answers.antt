@@ -18,8 +18,7 @@ new_lengths-l-requires c =
 pub reading_sizes-s-requires : goal.reading_sizes-s-requires
 unfolding edit_of
 reading_sizes-s-requires c =
-    sizes_ready c.requires
--- LEFT: wants record { ids_fit = ..; st_value = ..; limited = .. }
+    let s = sizes_ready c.requires in record { ids_fit = s.0; st_value = s.1.0; limited = s.1.1 }
 
 pub overflow_cast-q : goal.overflow_cast-q
 unfolding edit_of

@@ -39,8 +39,9 @@ returns-then-not-m c =
 
 pub finish-requires : goal.finish-requires
 finish-requires c =
-    let w = walked_by c.args.tape.now c.args.bytes.now c.args.o c.args.at c.args.s.contents c.plan_of-plan.ensures c.walk-m.ensures in finish_room c.args.out.now c.args.strs.now c.args.at c.args.base c.args.o c.requires.source_fits.1 _ (source_sizes c.requires.source_fits.0 c.args.o) c.requires.source_fits.2 c.layer_length-len.result c.nodes_length-rest.result c.layer_length-len.ensures c.nodes_length-rest.ensures (omega (arith, c.if-out-at.false, c.requires.min_work_words_in_bounds.2)) (w.made c.if-not-m.false) c.walk-m.auto.out
--- LEFT: wants record { rising = ..; below_le_max_pool = .. }
+    let w = walked_by c.args.tape.now c.args.bytes.now c.args.o c.args.at c.args.s.contents c.plan_of-plan.ensures c.walk-m.ensures in 
+    let r = finish_room c.args.out.now c.args.strs.now c.args.at c.args.base c.args.o c.requires.source_fits.1 _ (source_sizes c.requires.source_fits.0 c.args.o) c.requires.source_fits.2 c.layer_length-len.result c.nodes_length-rest.result c.layer_length-len.ensures c.nodes_length-rest.ensures (omega (arith, c.if-out-at.false, c.requires.min_work_words_in_bounds.2)) (w.made c.if-not-m.false) c.walk-m.auto.out in
+    record { rising = r.0; below_le_max_pool = r.1 }
 
 pub returns : goal.returns
 returns c =

@@ -26,8 +26,7 @@ run_levels_quick-requires c =
 
 pub levels_tabled-requires : goal.levels_tabled-requires
 levels_tabled-requires c =
-    c.requires
--- LEFT: wants record { of_tape = ..; layers_value = .. }
+    record { of_tape = c.requires.of_tape; layers_value = c.requires.layers_value }
 
 pub returns-then-not-run_levels_quick : goal.returns-then-not-run_levels_quick
 returns-then-not-run_levels_quick c =
@@ -51,8 +50,7 @@ returns-then-levels_quick c =
 
 pub levels_tabled-requires-2 : goal.levels_tabled-requires-2
 levels_tabled-requires-2 c =
-    c.requires
--- LEFT: wants record { of_tape = ..; layers_value = .. }
+    record { of_tape = c.requires.of_tape; layers_value = c.requires.layers_value }
 
 pub returns : goal.returns
 returns c =

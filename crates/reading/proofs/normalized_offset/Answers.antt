@@ -5,8 +5,7 @@ use Rattle.reading.proofs.normalized_offset.Goals as goal
 
 pub nodes_until-n-requires : goal.nodes_until-n-requires
 nodes_until-n-requires c =
-    c.requires
--- LEFT: wants record { count_in_bounds = ..; in_order = .. }
+    record { count_in_bounds = c.requires.count_in_bounds; in_order = c.requires.in_order }
 
 pub loop-i-init : goal.loop-i-init
 loop-i-init c =

@@ -19,8 +19,8 @@ slice_bounds-put_texts-start-4 c =
 
 pub put_texts-requires : goal.put_texts-requires
 put_texts-requires c =
-    texts_asked c.args.p c.args.q c.args.start c.args.end c.args.replacement.now c.args.w.nstart c.args.w.nend c.args.bytes.now c.args.readingbytes.now _ c.requires.start_le_end c.requires.normalized_in_bounds.0 c.requires.normalized_in_bounds.1 c.requires.bytes_in_bounds
--- LEFT: wants record { start_le_end = ..; strings_in_bounds = .. }
+    let r = texts_asked c.args.p c.args.q c.args.start c.args.end c.args.replacement.now c.args.w.nstart c.args.w.nend c.args.bytes.now c.args.readingbytes.now _ c.requires.start_le_end c.requires.normalized_in_bounds.0 c.requires.normalized_in_bounds.1 c.requires.bytes_in_bounds in
+    record { start_le_end = r.0; strings_in_bounds = r.1 }
 
 pub returns : goal.returns
 returns c =

@@ -10,6 +10,7 @@ use native.Mathlib.Omega.{arith}
 use borrow.Author.Rules.{rules}
 use lib.ListN.{length, get_or, take, drop, set, replicate, length-set, length-take, length-drop, length-append, length-replicate}
 use Rattle.table.proofs.move_slots.Goals as goal
+use Rattle.table.proofs.move_slots.Goals.{then-e-ne0, else-e-ne0}
 
 pub loop-i-init : goal.loop-i-init
 loop-i-init c =
@@ -28,12 +29,10 @@ place-requires c =
 
 pub loop-i-preserved : goal.loop-i-preserved
 loop-i-preserved c =
-    ⊎_elim
-    (λ w.
-    subst (λ (l : List ℕ). Moved c.args.strs.now c.args.work.now c.args.count c.args.n l (c.loop-i.i + 1)) (sym (w.5 ∙ w.2.ensures.0))
-    (moved_put c.args.strs.now c.args.work.now c.args.count c.args.n c.requires.le_n.0 c.requires.le_n.1 c.requires.work.room c.loop-i.work c.loop-i.i c.loop-i.invariant c.loop-i-test.true _ _ refl w.0.taken refl w.2.ensures.1))
-    (λ w. subst (λ (l : List ℕ). Moved c.args.strs.now c.args.work.now c.args.count c.args.n l (c.loop-i.i + 1)) (sym w.1) (moved_skip c.args.strs.now c.args.work.now c.args.count c.args.n c.requires.le_n.0 c.requires.le_n.1 c.requires.work.room c.loop-i.work c.loop-i.i c.loop-i.invariant c.loop-i-test.true w.0.left))
-    c.if-e-ne0.branch
+    elim c.if-e-ne0.branch [
+      then-e-ne0 w ↦ subst (λ (l : List ℕ). Moved c.args.strs.now c.args.work.now c.args.count c.args.n l (c.loop-i.i + 1)) (sym (w.work-is ∙ w.place.ensures.work_after)) (moved_put c.args.strs.now c.args.work.now c.args.count c.args.n c.requires.le_n.0 c.requires.le_n.1 c.requires.work.room c.loop-i.work c.loop-i.i c.loop-i.invariant c.loop-i-test.true _ _ refl w.if-e-ne0.true refl w.place.ensures.e_bound)
+    | else-e-ne0 w ↦ subst (λ (l : List ℕ). Moved c.args.strs.now c.args.work.now c.args.count c.args.n l (c.loop-i.i + 1)) (sym w.work-is) (moved_skip c.args.strs.now c.args.work.now c.args.count c.args.n c.requires.le_n.0 c.requires.le_n.1 c.requires.work.room c.loop-i.work c.loop-i.i c.loop-i.invariant c.loop-i-test.true w.if-e-ne0.false)
+    ]
 
 pub returns : goal.returns
 returns c =

@@ -20,10 +20,10 @@ use Rattle.graft.specs.Answers.{told_none, content_run_empty, segment_run_empty}
 use Prim.Native.Nat.{ℕ, ◌+◌, ◌-◌, ◌*◌, ◌≤◌, ◌<◌}
 use borrow.Fn.Kinds.{In}
 use borrow.Fn.PlainCycle.{Measures, is, falls, and}
-use Rattle.graft.proofs.+graft_body_graft_content_graft_content_run_graft_contents_graft_field_graft_place_graft_segment_graft_segment_run_graft_segments.Given as goal
+use Rattle.graft.proofs.+graft_tree.Given as goal
 
 abbrev pub decreases-graft_body : goal.decreases-graft_body
-decreases-graft_body l = l.ARG9 * 9 + 8
+decreases-graft_body l = l.level * 9 + 8
 
 abbrev pub invariant-graft_body-loop-j : goal.invariant-graft_body-loop-j
 invariant-graft_body-loop-j l = (l.j ≤ 6) × BodySoFar l.level l.tape l.bytes l.p l.initial.u.mark (body_at l.tape l.at) l.initial.out l.initial.work l.initial.strs l.out l.work l.strs l.u l.j × (length l.work ≡ length l.initial.work) × (length l.strs ≡ length l.initial.strs)
@@ -32,13 +32,13 @@ abbrev pub decreases-graft_body-loop-j : goal.decreases-graft_body-loop-j
 decreases-graft_body-loop-j l = 6 - l.j
 
 abbrev pub decreases-graft_content : goal.decreases-graft_content
-decreases-graft_content l = l.ARG10 * 9 + 3
+decreases-graft_content l = l.level * 9 + 3
 
 abbrev pub decreases-graft_content_run : goal.decreases-graft_content_run
-decreases-graft_content_run l = l.ARG10 * 9 + 5
+decreases-graft_content_run l = l.level * 9 + 5
 
 abbrev pub decreases-graft_contents : goal.decreases-graft_contents
-decreases-graft_contents l = l.ARG11 * 9 + 4
+decreases-graft_contents l = l.level * 9 + 4
 
 abbrev pub invariant-graft_contents-loop-i : goal.invariant-graft_contents-loop-i
 invariant-graft_contents-loop-i l = (l.i ≤ l.count) × ItemsUpTo l.tape l.bytes content_codec (shown_contents l.level l.tape l.bytes) l.p l.initial.u l.at (l.p.contentsat + 10 * l.to) l.initial.out l.initial.work l.initial.strs l.out l.work l.strs l.u l.i × (length l.work ≡ length l.initial.work) × (length l.strs ≡ length l.initial.strs)
@@ -47,19 +47,19 @@ abbrev pub decreases-graft_contents-loop-i : goal.decreases-graft_contents-loop-
 decreases-graft_contents-loop-i l = l.count - l.i
 
 abbrev pub decreases-graft_field : goal.decreases-graft_field
-decreases-graft_field l = l.ARG9 * 9 + 6
+decreases-graft_field l = l.level * 9 + 6
 
 abbrev pub decreases-graft_place : goal.decreases-graft_place
-decreases-graft_place l = l.ARG10 * 9 + 7
+decreases-graft_place l = l.level * 9 + 7
 
 abbrev pub decreases-graft_segment : goal.decreases-graft_segment
-decreases-graft_segment l = l.ARG10 * 9 + 0
+decreases-graft_segment l = l.level * 9 + 0
 
 abbrev pub decreases-graft_segment_run : goal.decreases-graft_segment_run
-decreases-graft_segment_run l = l.ARG10 * 9 + 2
+decreases-graft_segment_run l = l.level * 9 + 2
 
 abbrev pub decreases-graft_segments : goal.decreases-graft_segments
-decreases-graft_segments l = l.ARG11 * 9 + 1
+decreases-graft_segments l = l.level * 9 + 1
 
 abbrev pub invariant-graft_segments-loop-i : goal.invariant-graft_segments-loop-i
 invariant-graft_segments-loop-i l = (l.i ≤ l.count) × ItemsUpTo l.tape l.bytes segment_codec (shown_segments l.level l.tape l.bytes) l.p l.initial.u l.at (l.p.segmentsat + 37 * l.to) l.initial.out l.initial.work l.initial.strs l.out l.work l.strs l.u l.i × (length l.work ≡ length l.initial.work) × (length l.strs ≡ length l.initial.strs)

@@ -16,10 +16,10 @@ use native.Mathlib.Omega.{arith}
 use borrow.Author.Rules.{rules}
 use borrow.Fn.Kinds.{In}
 use borrow.Fn.PlainCycle.{Measures, is, falls, and}
-use Rattle.sizes.proofs.+body_sizes_content_run_sizes_content_sizes_contents_walk_field_sizes_segment_run_sizes_segment_sizes_segment_walk_segments_walk.Given as goal
+use Rattle.sizes.proofs.+tree_sizes.Given as goal
 
 abbrev pub decreases-body_sizes : goal.decreases-body_sizes
-decreases-body_sizes l = l.ARG6 * 9 + 8
+decreases-body_sizes l = l.level * 9 + 8
 
 abbrev pub invariant-body_sizes-loop-j : goal.invariant-body_sizes-loop-j
 invariant-body_sizes-loop-j l = Adding l.room l.initial.u (place_adds (inner_adds l.level l.tape l.st) l.tape l.st (body_at l.tape l.at)) 6 l.j l.u × Known l.tape l.st l.memo × (length l.memo ≡ length l.initial.memo)
@@ -28,13 +28,13 @@ abbrev pub decreases-body_sizes-loop-j : goal.decreases-body_sizes-loop-j
 decreases-body_sizes-loop-j l = 6 - l.j
 
 abbrev pub decreases-content_run_sizes : goal.decreases-content_run_sizes
-decreases-content_run_sizes l = l.ARG7 * 9 + 6
+decreases-content_run_sizes l = l.level * 9 + 6
 
 abbrev pub decreases-content_sizes : goal.decreases-content_sizes
-decreases-content_sizes l = l.ARG6 * 9 + 4
+decreases-content_sizes l = l.level * 9 + 4
 
 abbrev pub decreases-contents_walk : goal.decreases-contents_walk
-decreases-contents_walk l = l.ARG7 * 9 + 5
+decreases-contents_walk l = l.level * 9 + 5
 
 abbrev pub invariant-contents_walk-loop-i : goal.invariant-contents_walk-loop-i
 invariant-contents_walk-loop-i l = Adding l.room l.initial.u (content_from (inner_adds l.level l.tape l.st) l.tape l.st l.at) l.count l.i l.u × Known l.tape l.st l.memo × (length l.memo ≡ length l.initial.memo)
@@ -43,19 +43,19 @@ abbrev pub decreases-contents_walk-loop-i : goal.decreases-contents_walk-loop-i
 decreases-contents_walk-loop-i l = l.count - l.i
 
 abbrev pub decreases-field_sizes : goal.decreases-field_sizes
-decreases-field_sizes l = l.ARG6 * 9 + 7
+decreases-field_sizes l = l.level * 9 + 7
 
 abbrev pub decreases-segment_run_sizes : goal.decreases-segment_run_sizes
-decreases-segment_run_sizes l = l.ARG7 * 9 + 3
+decreases-segment_run_sizes l = l.level * 9 + 3
 
 abbrev pub decreases-segment_sizes : goal.decreases-segment_sizes
-decreases-segment_sizes l = l.ARG6 * 9 + 1
+decreases-segment_sizes l = l.level * 9 + 1
 
 abbrev pub decreases-segment_walk : goal.decreases-segment_walk
-decreases-segment_walk l = l.ARG6 * 9 + 0
+decreases-segment_walk l = l.level * 9 + 0
 
 abbrev pub decreases-segments_walk : goal.decreases-segments_walk
-decreases-segments_walk l = l.ARG7 * 9 + 2
+decreases-segments_walk l = l.level * 9 + 2
 
 abbrev pub invariant-segments_walk-loop-i : goal.invariant-segments_walk-loop-i
 invariant-segments_walk-loop-i l = Adding l.room l.initial.u (segment_from (inner_adds l.level l.tape l.st) l.tape l.at) l.count l.i l.u × Known l.tape l.st l.memo × (length l.memo ≡ length l.initial.memo)

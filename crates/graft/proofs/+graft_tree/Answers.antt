@@ -20,7 +20,7 @@ use Rattle.graft.specs.Answers.{told_none, content_run_empty, segment_run_empty}
 use Prim.Native.Nat.{ℕ, ◌+◌, ◌-◌, ◌*◌, ◌≤◌, ◌<◌}
 use borrow.Fn.Kinds.{In}
 use borrow.Fn.PlainCycle.{Measures, is, falls, and}
-use Rattle.graft.proofs.+graft_body_graft_content_graft_content_run_graft_contents_graft_field_graft_place_graft_segment_graft_segment_run_graft_segments.Goals as goal
+use Rattle.graft.proofs.+graft_tree.Goals as goal
 
 pub graft_body-loop-j-init : goal.graft_body-loop-j-init
 graft_body-loop-j-init t c =

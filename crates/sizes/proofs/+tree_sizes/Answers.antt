@@ -16,7 +16,7 @@ use native.Mathlib.Omega.{arith}
 use borrow.Author.Rules.{rules}
 use borrow.Fn.Kinds.{In}
 use borrow.Fn.PlainCycle.{Measures, is, falls, and}
-use Rattle.sizes.proofs.+body_sizes_content_run_sizes_content_sizes_contents_walk_field_sizes_segment_run_sizes_segment_sizes_segment_walk_segments_walk.Goals as goal
+use Rattle.sizes.proofs.+tree_sizes.Goals as goal
 
 pub body_sizes-loop-j-init : goal.body_sizes-loop-j-init
 body_sizes-loop-j-init t c =
