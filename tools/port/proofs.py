@@ -255,6 +255,10 @@ class Fn:
         for t, s in [x for x in self.typed.get(q, []) if isinstance(x, list) and len(x) == 2]:
             if norm(s) == norm(self.places[q][2][0]) and rest[:1] == ["given"]:
                 return ".".join([var, "type_inv", t] + rest[1:])
+        return ".".join([var, new] + self.fields(q, rest))
+
+    def fields(self, q, rest):
+        """What stands behind the step of a place."""
         callee = self.places[q][3]
         if callee and rest:
             names = self.params.get(callee)
@@ -266,7 +270,7 @@ class Fn:
                 c = self.clauses.get(q)
                 if c and len(c["fields"]) > 1 and rest[1:]:
                     rest = ["ensures"] + self.nested(rest[1:], c["fields"], "ensures of " + callee)
-        return ".".join([var, new] + rest)
+        return rest
 
     def nested_all(self, rest, names):
         k = 0
@@ -295,10 +299,22 @@ class Fn:
             return self.path(m.group(1), env[m.group(1)], m.group(2)[1:].split("."))
 
         text = rx.sub(one, text)
+        # a step that has a name of its own by a let
+        for m in list(re.finditer(r"\blet ([^\s:]+) = (?:" + names + r")\.([^\s(){}.]+) in\b", text)):
+            for q in self.order:
+                if self.places[q][2][1] == m.group(2) and self.places[q][3]:
+                    rx2 = re.compile(r"(?<![\w.'-])" + re.escape(m.group(1)) + r"((?:\.[^\s(){}\[\],;.]+)+)")
+                    text = rx2.sub(lambda k: ".".join([m.group(1)] + self.fields(q, k.group(1)[1:].split("."))), text)
+                    break
+            if m.group(2) == "requires" and self.pre and len(self.pre) > 1:
+                rx2 = re.compile(r"(?<![\w.'-])" + re.escape(m.group(1)) + r"((?:\.\d[^\s(){}\[\],;.]*)(?:\.[^\s(){}\[\],;.]+)*)")
+                text = rx2.sub(lambda k: ".".join([m.group(1)] + self.nested(k.group(1)[1:].split("."), self.pre, "requires")), text)
         # what `not` was is said by the test itself now
-        test = r"((?:" + names + r")\.if-not-[^\s(),]+)"
-        text = re.sub(r"\(not-(?:true|false) (?:_|[\w.'-]+|\([^()]*\)) " + test + r"\)", r"\1", text)
-        text = re.sub(r"\bnot-(?:true|false) (?:_|[\w.'-]+|\([^()]*\)) " + test, r"\1", text)
+        own = [m.group(1) for m in re.finditer(r"\blet ([^\s:]+) = (?:" + names + r")\.if-not-[^\s(){}.]+ in\b", text)]
+        alias = "".join("|" + re.escape(x) + r"\.(?:true|false)" for x in own)
+        test = r"((?:" + names + r")\.if-not-[^\s(),]+" + alias + ")"
+        text = re.sub(r"\(not-(?:true|false) (?:_|[\w.'-]+|\([^()]*\))\s+" + test + r"\)", r"\1", text)
+        text = re.sub(r"\bnot-(?:true|false) (?:_|[\w.'-]+|\([^()]*\))\s+" + test, r"\1", text)
         for m in list(re.finditer(r"\blet ([^\s:]+) = (?:" + names + r")\.args in\b", text)):
             for old, new in self.argmap.items():
                 text = re.sub(r"(?<![\w.'-])" + re.escape(m.group(1)) + r"\." + re.escape(old) + r"(?![\w'-])", m.group(1) + "." + new, text)

@@ -127,12 +127,12 @@ pub struct Lengths {
 ///
 /// # The ceiling on probing
 ///
-/// Proved for every merge (`merged-ceiling` in crates/incremental/specs/Ceiling.antt):
+/// Proved for every merge (`merged_ceiling` in crates/incremental/specs/Ceiling.antt):
 /// [`probe_steps`](Self::probe_steps) is at most [`calls`](Self::calls) × m, m being how many
 /// distinct strings of at most 64 bytes are among those that the reading's nodes name, and 0 if m
-/// is 0. m is at most 3583 (`merged-most`), so [`Estimate::calls`] × 3583 bounds the probes before
+/// is 0. m is at most 3583 (`merged_most`), so [`Estimate::calls`] × 3583 bounds the probes before
 /// the merge, where the estimate is not over. All seven counts hang on the reading alone
-/// (`merged-counts`).
+/// (`merged_counts`).
 #[derive(Debug, Clone, Copy, PartialEq, Eq, Hash, Default)]
 pub struct InternStats {
     /// How many strings the reading's nodes name, each as often as it is named.

@@ -11,4 +11,4 @@ returns c =
     let at-between2 = c in
     let at-between = at-between2 in
     key_long _ (omega (arith, at-between.if-n-le-LONG_STRING.false)) at-between.between.ensures at-between2.fx_hash-front.ensures at-between2.between-2.ensures c.fx_hash-back.ensures
-    c.wrapping_add_u64.ensures c.wrapping_add_u64-2.ensures
+    c.wrapping_add_u64.ensures.value c.wrapping_add_u64-2.ensures.value

@@ -33,5 +33,4 @@ returns c =
     let at-if1 = at-first-plain in
     let at-asks-target = at-if1 in
     let start = at-asks-target in
-    told_as c.is_target_base.ensures (refers_target _ _ _ _ refl (sound_last start.args.i start.requires.sound) at-asks-target.asks_target.ensures (not-false _
-    at-if1.if-not-asks_target.false) at-first-plain.first_plain-p.ensures c.smaller-k.ensures refl)
+    told_as c.is_target_base.ensures (refers_target _ _ _ _ refl (sound_last start.args.i start.requires.sound) at-asks-target.asks_target.ensures at-if1.if-not-asks_target.false at-first-plain.first_plain-p.ensures c.smaller-k.ensures refl)

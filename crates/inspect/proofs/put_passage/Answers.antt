@@ -17,7 +17,7 @@ put_quoted-last-requires c =
     let put_text = at-put-text.put_text-third in
     let put-number2 = at-put-number2.put_number-second in
     let put_number = at-put-number.put_number-first in
-    omega (arith, few, start.requires.0, put_number.ensures.0, put_number.auto.0, put-number2.ensures.0, put-number2.auto.0, put_text.ensures.0, put_text.auto.0)
+    omega (arith, few, start.requires.0, put_number.ensures.0, put_number.auto.out, put-number2.ensures.0, put-number2.auto.out, put_text.ensures.0, put_text.auto.out)
 
 pub put_text-requires : goal.put_text-requires
 put_text-requires c =
@@ -34,7 +34,7 @@ put_text-requires c =
     let put_text = at-put-text.put_text-third in
     let put-number2 = at-put-number2.put_number-second in
     let put_number = at-put-number.put_number-first in
-    omega (arith, few, start.requires.0, put_number.ensures.0, put_number.auto.0, put-number2.ensures.0, put-number2.auto.0, put_text.ensures.0, put_text.auto.0, put-quoted.ensures.0, put-quoted.auto.0)
+    omega (arith, few, start.requires.0, put_number.ensures.0, put_number.auto.out, put-number2.ensures.0, put-number2.auto.out, put_text.ensures.0, put_text.auto.out, put-quoted.ensures.0, put-quoted.auto.out)
 
 pub returns : goal.returns
 returns c =
@@ -53,7 +53,7 @@ returns c =
     let put_text = at-put-text.put_text-third in
     let put-number2 = at-put-number2.put_number-second in
     let put_number = at-put-number.put_number-first in
-    let kept = put-text2.auto.0 ∙ put-quoted.auto.0 ∙ put_text.auto.0 ∙ put-number2.auto.0 ∙ put_number.auto.0 in (
+    let kept = put-text2.auto.out ∙ put-quoted.auto.out ∙ put_text.auto.out ∙ put-number2.auto.out ∙ put_number.auto.out in (
       omega (arith, few, start.requires.0, put_number.ensures.0, put-number2.ensures.0, put_text.ensures.0, put-quoted.ensures.0, put-text2.ensures.0, kept),
       passage_whole _ _ text put_number.ensures.1 put-number2.ensures.1 put_text.ensures.1 put-quoted.ensures.1 put-text2.ensures.1,
     )

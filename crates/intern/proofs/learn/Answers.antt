@@ -30,7 +30,7 @@ returns-then-slot-eq0 c =
     let p = probe_of lookup.result in
     let first = all_first start.args.work.now start.args.strs.now start.args.st start.requires.good start.args.s.now start.requires.slots_nonzero.0 p lookup.ensures in
     let told = call_alloc start.args.work.now start.args.strs.now start.args.st start.requires.good start.args.s.now start.args.resized p first c.if-slot-eq0.true in
-    subst (λ (a : Interned). Told start.args.work.now start.args.strs.now start.args.st table-alloc.new.0 table-alloc.new.1.0 table-alloc.result a)
+    subst (λ (a : Interned). Told start.args.work.now start.args.strs.now start.args.st table-alloc.new.work table-alloc.new.strs table-alloc.result a)
     told table-alloc.ensures
 
 pub remember-requires : goal.remember-requires

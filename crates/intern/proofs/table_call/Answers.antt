@@ -55,5 +55,5 @@ returns-then-p c =
     let p = probe_of lookup.result in
     let first = near_first start.args.work.now start.args.strs.now start.args.st start.requires.good start.args.s.now start.requires.slots_nonzero.0 16 (lit≤ tt) p lookup.ensures stops in
     let told = call_alloc start.args.work.now start.args.strs.now start.args.st start.requires.good start.args.s.now start.args.resized p first c.if-slot-ne0.false in
-    subst (λ (a : Interned). Told start.args.work.now start.args.strs.now start.args.st table-alloc.new.0 table-alloc.new.1.0 table-alloc.result a)
+    subst (λ (a : Interned). Told start.args.work.now start.args.strs.now start.args.st table-alloc.new.work table-alloc.new.strs table-alloc.result a)
     told table-alloc.ensures

@@ -43,7 +43,7 @@ returns-then-due c =
     let grow = c.grow in
     let ne = c.if-slots-eq0.false in
     let due = sym c.due.ensures ∙ c.if-due.true in
-    grown_ready start.args.work.now start.args.strs.now start.args.st start.requires ne due _ _ grow.auto.0 grow.ensures.1 grow.ensures.0
+    grown_ready start.args.work.now start.args.strs.now start.args.st start.requires ne due _ _ grow.auto.work grow.ensures.work_unchanged grow.ensures.work_after
     c.with_slots-then-due.ensures _ c.forget-then-due.ensures
 
 pub returns : goal.returns

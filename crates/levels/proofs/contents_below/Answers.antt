@@ -60,4 +60,4 @@ returns c =
     let level = start.args.level in
     let from = start.args.start in
     let len = start.args.len in
-    contents_read t st level from len contents-in.ensures (not-false _ if1.false) _ c.content_place-at.ensures c.contents_walk.ensures
+    contents_read t st level from len contents-in.ensures if1.false _ c.content_place-at.ensures c.contents_walk.ensures

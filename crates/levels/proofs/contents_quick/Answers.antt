@@ -55,4 +55,4 @@ returns c =
     let level = start.args.level in
     let from = start.args.start in
     let len = start.args.len in
-    λ e. sym (contents_read t st level from len contents-in.ensures (not-false _ if2.false) _ c.content_place-at.ensures (sym (c.run_quick.ensures e)))
+    λ e. sym (contents_read t st level from len contents-in.ensures if2.false _ c.content_place-at.ensures (sym (c.run_quick.ensures e)))

@@ -60,4 +60,4 @@ returns c =
     let level = start.args.level in
     let from = start.args.start in
     let len = start.args.len in
-    segments_read t st level from len segments-in.ensures (not-false _ if1.false) _ c.segment_place-at.ensures c.segments_walk.ensures
+    segments_read t st level from len segments-in.ensures if1.false _ c.segment_place-at.ensures c.segments_walk.ensures

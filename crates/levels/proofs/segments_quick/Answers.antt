@@ -52,4 +52,4 @@ returns c =
     let level = start.args.level in
     let from = start.args.start in
     let len = start.args.len in
-    λ e. sym (segments_read t st level from len segments-in.ensures (not-false _ if2.false) _ c.segment_place-at.ensures c.levels_below.ensures) ∙ e
+    λ e. sym (segments_read t st level from len segments-in.ensures if2.false _ c.segment_place-at.ensures c.levels_below.ensures) ∙ e

@@ -78,12 +78,12 @@ loop-i-preserved c =
     let inv = turn.loop-i.invariant in
     let paired = at-pair-string.pair_string-m in
     let next = c.next_long-i-in-loop-i.ensures.place in (
-      paired.auto.1.1.0 ∙ inv.0,
-      paired.auto.1.1.1.1.1.1.0 ∙ inv.1,
+      paired.auto.row ∙ inv.0,
+      paired.auto.words ∙ inv.1,
       next.1,
       omega arith,
-      paired_next inv.4 paired.ensures.0,
-      ordered_later paired.ensures.1 next.0,
+      paired_next inv.4 paired.ensures.paired,
+      ordered_later paired.ensures.ordered_2 next.0,
     )
 
 pub shape_of-row : goal.shape_of-row

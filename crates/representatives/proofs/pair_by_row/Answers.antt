@@ -15,9 +15,9 @@ pair_all-requires c =
     let index = at-index-strings.index_strings in
     let row = start.args.row.now in
     let room = c.lesser-room.ensures in record {
-        resolvable = resolvable_own row 1024 (omega (arith, start.requires.row_len)) index.new.1.1.1.0 index.auto.1.1.1.0 start.requires.resolvable index.ensures;
+        resolvable = resolvable_own row 1024 (omega (arith, start.requires.row_len)) index.new.words index.auto.words start.requires.resolvable index.ensures;
         row_len = (
-          first_length row 1024 (omega (arith, start.requires.row_len)) index.new.1.1.1.0 index.auto.1.1.1.0 ∙ start.requires.row_len.0,
+          first_length row 1024 (omega (arith, start.requires.row_len)) index.new.words index.auto.words ∙ start.requires.row_len.0,
           omega (arith, room),
           omega (arith, room, at-zero-words.zero_words.auto.out),
         );
