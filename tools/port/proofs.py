@@ -375,6 +375,7 @@ def convert(fn, decls, lts, landed_needs, out):
             text = body.split("=", 1)[1].strip()
             table = dict(zip(ps, terms))
             text = re.sub(r"(?<![\w.'₀-])([^\s(){}\[\],;.:λ]+)", lambda m: table.get(m.group(1), m.group(1)), text)
+            text = re.sub(r"([{;]) l\.(\w+) = ", r"\1 \2 = ", text)
             kind = "invariant" if mi else "decreases"
             out["inv"].append(f"abbrev pub {kind}-{stem}{new} : goal.{kind}-{stem}{new}\n" + "".join(u + "\n" for u in d.unfold) + f"{kind}-{stem}{new} l = {text}\n")
             continue
@@ -412,7 +413,7 @@ def convert(fn, decls, lts, landed_needs, out):
                 continue
             ps = [p for p in ps if p != "κs"]
             term = re.split(r"=", body, maxsplit=1)[1].strip()
-            if term in ("search rules", "search needs"):
+            if term in ("search rules", "search needs") and not d.unfold:
                 continue
             c = ps[-1] if ps else "c"
             term = fn.body(term, {c: place})
