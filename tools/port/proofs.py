@@ -236,7 +236,7 @@ class Fn:
         if f in ("requires", "pre"):
             if self.cycle and rest and rest[0] == "0" and not rest[1:2] == ["x"]:
                 if rest == ["0"]:
-                    return ".".join([var, "MEASURE"])
+                    return ".".join([var, "decreases"])
             if self.cycle and rest and rest[0] == "1":
                 rest = rest[1:]
             if self.pre and len(self.pre) > 1:
@@ -423,9 +423,7 @@ def convert(fn, decls, lts, landed_needs, out):
             if fn.cycle and "-requires" in old:
                 callee = re.sub(r"-requires(-\d+)?$", "", old)
                 callee_in_cycle = any(norm(callee) == norm(k) for k in out["cycle"])
-            if callee_in_cycle and not fields:
-                fields = out["cycle_fields"].get(norm(re.sub(r"-requires(-\d+)?$", "", old)))
-            if fields and len(fields) > 1:
+            if fields and len(fields) > 1 and not callee_in_cycle:
                 rec = with_fields(term, fields, callee_in_cycle)
                 if rec is None:
                     fn.left.append(f"{fn.key}: {new} wants a record of {fields}")
