@@ -6,7 +6,9 @@ usage: edits.py batches OLD TO      OLD: a checkout of the tree before port.py. 
        edits.py turn TO/N           runs port.py and names.py there
        edits.py write OLD           writes the edits of the table NEW into this repository
        edits.py check OLD TO        of each edit here: old stands once, new is another, and the edited file has the text, layout aside,
-                                    that stands in TO/N at that place; of each line of TO/N: it is here too, or an edit explains it
+                                    that stands in TO/N at that place; and that nothing else differs from TO/N
+
+Run once, at the commit that names this script; later commits moved theorems of specs/ to proofs/, and some edits' files with them.
 """
 import collections
 import difflib
@@ -291,7 +293,7 @@ NEW = {
     "model/strings_of_older_layers": [
         (
             "  interner = fresh_interner;",
-            "  interner = record { strings = mathlib.Core.List.flatten (map (λ (l : Layer). l.strings) ls); table = []; occupied = 0; last = sum (string_counts ls); stats = fresh_interner.stats };",
+            "  interner = record { strings = mathlib.Core.List.flatten (mathlib.Core.List.map (λ (l : Layer). l.strings) ls); table = []; occupied = 0; last = sum (string_counts ls); stats = fresh_interner.stats };",
         ),
     ],
     "model/work_words_only_to_graft": [
@@ -328,7 +330,8 @@ def write(old, here):
 
 
 def bare(text):
-    """A text without its layout."""
+    """A text without its layout, and names by path as without it: a name that only an edit uses is written with its path."""
+    text = re.sub(r"(?m)^use (Rattle\.std\.specs\.Prelude|mathlib\.Core\.List)\..*\n", "", text).replace("mathlib.Core.List.", "")
     return re.sub(r",(?=[)}\]])", "", re.sub(r"\s+", "", text))
 
 
