@@ -17,7 +17,7 @@ use Rattle.laws.specs.Checks.{checked_book, checked_reading, merge_accepted, mer
 use Rattle.laws.specs.ReadFits.{read_fits_lem}
 use Rattle.commute.specs.Step.{step_of}
 use Rattle.commute.specs.Book.{output_again}
-use Rattle.commute.specs.Demand3.{demand3}
+use Rattle.commute.proofs.Demand3.{demand3}
 
 -- The output of an accepted merge is accepted as a book.
 pub merged_again : (s : Stored) (e : Edit) (rs : Stored) (room : Room) (m : IncrementalOutput) → StoredBytes s → StoredBytes rs → merge s e rs room ≡ accepted m

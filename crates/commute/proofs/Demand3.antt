@@ -15,10 +15,12 @@ use Rattle.model.specs.Demand3.{shown, KeptReferences, moved_behind, region_behi
 use Rattle.laws.specs.Lists.{same_refl}
 use Rattle.laws.specs.Checks.{checked_book, checked_reading, Chosen, chosen_facts, merge_accepted, merged_of}
 use Rattle.laws.specs.ReadFits.{read_fits_lem}
-use Rattle.laws.specs.Layers.{kept_references}
-use Rattle.commute.specs.Merged.{Fit, same_before, same_behind, length_sum}
+use Rattle.laws.proofs.Kept.{kept_references}
+use Rattle.commute.specs.Merged.{Fit, same_behind, length_sum}
 use Rattle.commute.specs.Passage.{region_again, region_moved}
-use Rattle.commute.specs.Orders.{FourMerges, texts_agree, normalized_agree, pairs_agree, containers_agree, diagnostics_agree, nodes_agree}
+use Rattle.commute.specs.Orders.{FourMerges}
+use Rattle.commute.proofs.Before.{same_before}
+use Rattle.commute.proofs.Orders.{texts_agree, normalized_agree, pairs_agree, containers_agree, diagnostics_agree, nodes_agree}
 use Rattle.commute.specs.Step.{Step, step_of, twelve, fit_of}
 use Rattle.commute.specs.Book.{merged_book_lem, output_again}
 

