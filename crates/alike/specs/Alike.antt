@@ -4,6 +4,7 @@ use Rattle.std.proofs.Math.Path.{sym}
 use Rattle.std.proofs.Common.{ap, ◌∙◌, arith, ltb-true, ltb-false}
 use mathlib.Core.List.{List, [], ◌∷◌}
 use Rattle.model.specs.Bytes.{byte_at, word_at}
+use Rattle.model.specs.Types.{Body}
 use Rattle.model.specs.Tape.{record_at, content_codec}
 use Rattle.records.specs.Values.{content_of, body_at}
 use Rattle.records.specs.declared.Content.{Content as ContentRead}

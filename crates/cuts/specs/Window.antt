@@ -1,5 +1,5 @@
 -- The reach at the offsets of a window: each pair's end is noted at the first of them behind its start; the greatest so far at each is the reach.
-use Rattle.std.specs.Prelude.{ℕ, zero, suc, ◌+◌, ◌-◌, ◌*◌, ◌/◌, ◌%◌, ◌≤◌, ◌<◌, min, max, ◌≡◌, cond, List, [], ◌∷◌, ◌++◌, length, get_or, set, take, ltb, leb, eqb}
+use Rattle.std.specs.Prelude.{ℕ, zero, suc, ◌+◌, ◌-◌, ◌*◌, ◌/◌, ◌%◌, ◌≤◌, ◌<◌, min, max, ◌≡◌, Bool, true, false, cond, List, [], ◌∷◌, ◌++◌, length, get_or, set, take, drop, ltb, leb, eqb}
 use native.Mathlib.Omega.{arith}
 use Rattle.std.proofs.Common.{mod-lt, mod-eq_of_lt, sym, ap, ◌∙◌, length-set, length-append, get_or-set_same, get_or-set_other}
 use Rattle.std.proofs.Math.Path.{refl}

@@ -1,12 +1,13 @@
 -- A string of the store compared with other bytes, lengths first; and each return of the code above it.
-use Rattle.std.specs.Prelude.{◌≡◌, ℕ, suc, ◌+◌, ◌<◌, Bool, true, false, List, ◌++◌, length, drop, ◌≢◌, slice_index}
+use Rattle.std.specs.Prelude.{◌≡◌, ℕ, suc, ◌+◌, ◌*◌, ◌<◌, Bool, true, false, ◌&&◌, List, ◌++◌, length, drop, ◌≢◌, slice_index}
 use Rattle.std.proofs.Math.Path.{refl, ap}
 use Rattle.std.proofs.Common.{sym, ◌∙◌, arith, length-append, length-drop, length-take-le}
+use Rattle.std.proofs.Math.Option.{none, some}
 use Rattle.model.specs.Lists.{any, same}
 use Rattle.model.specs.Types.{SourceNode}
 use Rattle.model.specs.Store.{NodeStore, resolve_str}
-use Rattle.model.specs.Tape.{record_at, node_codec, string_codec}
-use Rattle.model.specs.Region.{is_ruby}
+use Rattle.model.specs.Tape.{record_at, records_at, node_codec, string_codec}
+use Rattle.model.specs.Region.{is_ruby, first_plain}
 use Rattle.laws.specs.Lists.{same_eq}
 use Rattle.wire.specs.Loops.{by_bool}
 use Rattle.store.specs.declared.Store.{Store}
@@ -17,7 +18,8 @@ use Rattle.strings.specs.Shown.{TwoSides, Resolvable}
 use Rattle.strings.specs.PlainContent.{plain_of, plain_string}
 use Rattle.strings.specs.declared.Plain.{Plain}
 use Rattle.strings.specs.declared.Plain.TheVariants.{Id, Nothing}
-use Rattle.dependency.specs.Bases.{is_plain, has_base, among_bases}
+use Rattle.ruby_formats.specs.Asks.{asks_target}
+use Rattle.dependency.specs.Bases.{is_plain, has_base, among_bases, refers_back, refers_at}
 use Rattle.ruby_formats.specs.Sound.{SoundNode, first_contents, plain_first}
 
 -- ---- a string and bytes

@@ -1,15 +1,15 @@
 -- Number 4 by the starts that a store remembers: what the code computes for a field, a body and a record, word by word.
-use Rattle.std.specs.Prelude.{◌≡◌, ℕ, ◌+◌, ◌-◌, ◌≤◌, ◌<◌, Bool, true, false, cond, ◌&&◌, ◌||◌, List, [], ltb, eqb}
+use Rattle.std.specs.Prelude.{◌≡◌, ℕ, zero, suc, ◌+◌, ◌-◌, ◌≤◌, ◌<◌, Bool, true, false, cond, ◌&&◌, ◌||◌, List, [], ◌∷◌, length, get_or, leb, ltb, eqb}
 use Rattle.std.proofs.Math.Path.{refl, sym, ap}
 use Rattle.std.proofs.Common.{◌∙◌, arith}
 use Rattle.std.proofs.Math.Bool.{and-true}
 use borrow.Author.Tests.{eq-eqb, ne_eqb, lt-ltb, le-ltb, ltb-true, ltb-false}
 use Rattle.model.specs.Lists.{all}
-use Rattle.model.specs.Bytes.{byte_at}
+use Rattle.model.specs.Bytes.{byte_at, word_at}
 use Rattle.model.specs.Limits.{no_string}
 use Rattle.model.specs.Types.{Body, Content, Segment, SourceNode}
 use Rattle.model.specs.WellFormed.{word_of}
-use Rattle.model.specs.Tape.{Field, Field.str, Field.opt_str, Field.content_range, Field.seg_range, field_table, fields_of, node_fields, record_at, operands_at, segment_codec, node_codec}
+use Rattle.model.specs.Tape.{Field, Field.str, Field.opt_str, Field.content_range, Field.seg_range, field_table, fields_of, node_fields, record_at, operands_at, content_codec, segment_codec, node_codec}
 use Rattle.wire.specs.Loops.{all_up_to, Passed, all_passed, all_failed, by_bool}
 use Rattle.records.specs.Values.{body_at, segment_body, node_body}
 use Rattle.records.specs.Uses.{word_use, uses_of, use_among, uses_right, unused_from}

@@ -10,7 +10,7 @@ use Rattle.model.specs.Bytes.{word_at, part}
 use Rattle.model.specs.Offset.{Span}
 use Rattle.model.specs.Types.{LexOutput}
 use Rattle.model.specs.Tape.{places, book_at}
-use Rattle.model.specs.Refusal.{Checked, Checked.refused, Checked.accepted, refuse◌if◌}
+use Rattle.model.specs.Refusal.{Checked, Checked.refused, Checked.accepted, ◌>>=◌, refuse◌if◌}
 use Rattle.model.specs.WellFormed.{check_book}
 use Rattle.model.specs.Region.{Edit, region_text, choose_region}
 use Rattle.lines.specs.Text.{numbered, refused_line}

@@ -10,12 +10,13 @@ use Rattle.model.specs.Lists.{all, any, is_empty, same, sum}
 use Rattle.model.specs.Limits.{max_text, max_pool, max_list, max_layers, max_new_strings, min_work_words}
 use Rattle.model.specs.Utf8.{utf8, is_char_boundary}
 use Rattle.model.specs.Offset.{Span}
-use Rattle.model.specs.Types.{Layer, SourceNode, Diagnostic, LexOutput, RegionOutput}
+use Rattle.model.specs.Types.{Layer, SourceNode, PairLink, ContainerPair, Diagnostic, LexOutput, RegionOutput}
 use Rattle.model.specs.Refusal.{Checked, Checked.refused, Checked.accepted, ◌>>=◌, refuse◌if◌}
-use Rattle.model.specs.Store.{string_counts, content_counts, segment_counts}
+use Rattle.model.specs.Store.{store_of, string_counts, content_counts, segment_counts}
 use Rattle.model.specs.Tape.{parse}
-use Rattle.model.specs.WellFormed.{texts_are_utf8, within_limits, content_ok, segment_ok, node_ok, ids_ok, levels_ok, span_ok, ordered, offsets_ok, pair_ok, container_ok, places_ok, images, spans, normalized_length_ok, laid_out, well_formed, check_book, check_reading}
+use Rattle.model.specs.WellFormed.{texts_are_utf8, within_limits, content_ok, segment_ok, node_ok, ids_ok, level_ok, levels_ok, span_ok, ordered, offsets_ok, pair_ok, container_ok, places_ok, images, spans, normalized_length_ok, laid_out, well_formed, check_book, check_reading}
 use Rattle.model.specs.Region.{Edit, edited, edit_ok, balanced_region, is_whole, has_ruby_format_dependency, chosen_region}
+use Rattle.model.specs.Graft.{With}
 use Rattle.model.specs.Merge.{Stored, Room, IncrementalOutput, window_of, new_region_text, balanced_nodes, is_unclosed, introduces_ruby_format_dependency, cuts_ok, grafted, merged_book, answer, fits_room, result_ok, fitting, result_checked, merge_books, merge, MergeWindow}
 use Rattle.laws.specs.Lists.{both, same_eq}
 

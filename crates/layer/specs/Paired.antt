@@ -1,8 +1,8 @@
 -- The pairs of a source's long strings in the words of a walk: its strings are shown by two parts of its bytes.
 use Rattle.std.specs.Prelude.{◌≡◌, ℕ, ◌+◌, ◌-◌, ◌≤◌, ◌<◌, ◌^◌, List, [], ◌++◌, length, take, drop}
-use Rattle.std.proofs.Common.{ap, ◌∙◌, arith, append-nil, length-drop, drop_of_length-le, drop_at, drop-drop, length-take-le}
+use Rattle.std.proofs.Common.{sym, ap, ◌∙◌, arith, append-nil, length-drop, drop_of_length-le, drop_at, drop-drop, length-take-le}
 use Rattle.model.specs.Store.{resolve_str}
-use Rattle.model.specs.Tape.{book_at}
+use Rattle.model.specs.Tape.{places, book_at}
 use Rattle.wire.specs.Overwrite.{overwrite}
 use Rattle.places.specs.declared.Places.{Places}
 use Rattle.store.specs.declared.Store.{Store}

@@ -8,7 +8,7 @@ use Rattle.model.specs.Types.{LexOutput}
 use Rattle.model.specs.Refusal.{Checked, Checked.refused, Checked.accepted, number_of}
 use Rattle.model.specs.Bytes.{word_at}
 use Rattle.model.specs.Tape.{Codec, records_at, places, book_at, content_codec, segment_codec}
-use Rattle.model.specs.Store.{store_of, resolve_content_range, resolve_seg_range}
+use Rattle.model.specs.Store.{store_of, content_counts, segment_counts, range_ok, resolve_content_range, resolve_seg_range}
 use Rattle.model.specs.WellFormed.{check_book}
 use Rattle.model.specs.Lookup.{ask_book, lookup_contents, lookup_segments, contents_ok, segments_ok}
 use Rattle.wire.specs.Loops.{by_bool}

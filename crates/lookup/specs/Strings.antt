@@ -1,11 +1,11 @@
 -- Where the string of an id stands in the byte buffer, and that what stands there is the model's answer.
-use Rattle.std.specs.Prelude.{◌≡◌, ℕ, suc, ◌+◌, ◌-◌, ◌≤◌, ◌<◌, ◌^◌, cond, drop, ltb}
+use Rattle.std.specs.Prelude.{◌≡◌, ℕ, zero, suc, ◌+◌, ◌-◌, ◌≤◌, ◌<◌, ◌^◌, cond, drop, ltb}
 use Rattle.std.proofs.Math.Path.{refl, sym, ap, ap₂}
 use Rattle.std.proofs.Common.{◌∙◌, drop-drop}
 use native.Mathlib.Omega.{arith}
 use Rattle.std.proofs.Math.Option.{Option, none, some}
-use mathlib.Core.List.{List, [], map}
-use Rattle.std.proofs.Math.ListN.{length, get_or, take}
+use mathlib.Core.List.{List, [], ◌∷◌, map}
+use Rattle.std.proofs.Math.ListN.{length, get_or, get_elem?, take}
 use Rattle.std.proofs.lemmas.List.{length-map}
 use borrow.Author.Tests.{lt-ltb, le-ltb, ltb-true, ltb-false}
 use Rattle.model.specs.Lists.{sum}

@@ -3,7 +3,7 @@ use Rattle.std.specs.Prelude.{ℕ, ◌+◌, Bool, cond, ◌||◌, length, ltb}
 use mathlib.Core.List.{List, map, flatten}
 use Rattle.model.specs.Limits.{max_pool}
 use Rattle.model.specs.Types.{Layer, SourceNode, LexOutput, RegionOutput}
-use Rattle.model.specs.Refusal.{Checked, Checked.accepted}
+use Rattle.model.specs.Refusal.{Checked, Checked.accepted, ◌>>=◌}
 use Rattle.model.specs.Graft.{With}
 use Rattle.model.specs.Region.{Edit, edited}
 use Rattle.model.specs.Merge.{Stored, MergeWindow, merged_normalized, grafted, fitted}

@@ -1,7 +1,7 @@
 -- The worked examples P1 to P10 of document 01's 'Runs', proved together by computation. A replacement that is not named is "x".
-use Rattle.std.specs.Prelude.{◌≡◌, refl, ℕ, length, negsuc}
-use Rattle.std.proofs.Math.Option.{none}
-use mathlib.Core.List.{List, [], ◌∷◌, flatten}
+use Rattle.std.specs.Prelude.{◌≡◌, refl, ℕ, length, pos, negsuc}
+use Rattle.std.proofs.Math.Option.{Option, none, some}
+use mathlib.Core.List.{List, [], ◌∷◌, ◌++◌, flatten}
 use Rattle.model.specs.Lists.{ascii}
 use Rattle.model.specs.Bytes.{word_bytes}
 use Rattle.model.specs.Offset.{Span, shifted, shift_u32}

@@ -6,7 +6,7 @@ use Rattle.std.proofs.Math.ListN.{get_elem?}
 use Rattle.model.specs.Lists.{all, keep}
 use Rattle.model.specs.Offset.{Span}
 use Rattle.model.specs.Types.{Content, Segment, SourceNode, Diagnostic, LexOutput}
-use Rattle.model.specs.Refusal.{Checked, Checked.refused, Checked.accepted, refuse◌if◌}
+use Rattle.model.specs.Refusal.{Checked, Checked.refused, Checked.accepted, ◌>>=◌, refuse◌if◌}
 use Rattle.model.specs.Store.{store_of, content_counts, segment_counts, range_ok, resolve_content_range, resolve_seg_range, string_span}
 use Rattle.model.specs.WellFormed.{check_book}
 use Rattle.model.specs.Merge.{Stored, stored_of, Room, stored_book, fits_room, padded}

@@ -1,6 +1,6 @@
 -- Section 7, its first paragraph: the merge, tape to tape; numbers 12 to 18 of the table.
-use Rattle.std.specs.Prelude.{ℕ, suc, ◌+◌, ◌-◌, Bool, cond, not, ◌&&◌, ◌||◌, List, [], ◌∷◌, ◌++◌, map, length, take, drop, replicate, leb, ltb, eqb, ℤ, pos}
-use Rattle.std.proofs.Math.Option.{get_or}
+use Rattle.std.specs.Prelude.{ℕ, zero, suc, ◌+◌, ◌-◌, Bool, true, false, cond, not, ◌&&◌, ◌||◌, List, [], ◌∷◌, ◌++◌, map, length, take, drop, replicate, leb, ltb, eqb, ℤ, pos}
+use Rattle.std.proofs.Math.Option.{Option, none, some, get_or}
 use Rattle.std.proofs.Math.IntN.{sub_ℕ}
 use Rattle.model.specs.Lists.{any, keep, is_empty, same}
 use Rattle.model.specs.Limits.{max_layers, max_new_strings, min_work_words}
@@ -9,7 +9,7 @@ use Rattle.model.specs.Utf8.{is_char_boundary}
 use Rattle.model.specs.Offset.{Span, shifted, shift_u32}
 use Rattle.model.specs.Intern.{InternStats}
 use Rattle.model.specs.Types.{Layer, SourceNode, PairLink, ContainerPair, Diagnostic, LexOutput, RegionOutput}
-use Rattle.model.specs.Refusal.{Checked, Checked.refused, Checked.accepted, refuse◌if◌}
+use Rattle.model.specs.Refusal.{Checked, Checked.refused, Checked.accepted, ◌>>=◌, refuse◌if◌}
 use Rattle.model.specs.Store.{NodeStore, store_of}
 use Rattle.model.specs.Tape.{tape_of, bytes_of}
 use Rattle.model.specs.WellFormed.{images, spans, within_limits, check_book, check_reading}

@@ -1,6 +1,6 @@
 -- The traps of document 01, and the sentences that two readers could take differently (docs/DECISIONS.md): each a theorem by
 -- computation that tells the right answer from the wrong one. For each there is a must-fail edit of its definition.
-use Rattle.std.specs.Prelude.{◌≡◌, refl, ℕ, suc, true, false, List, [], ◌∷◌, ◌++◌, map, length, replicate}
+use Rattle.std.specs.Prelude.{◌≡◌, refl, ℕ, zero, suc, Bool, true, false, List, [], ◌∷◌, ◌++◌, map, length, replicate}
 use Rattle.std.proofs.Math.Option.{Option, none, some}
 use Rattle.model.specs.Lists.{tabulate, ascii}
 use Rattle.model.specs.Limits.{no_string}
@@ -12,8 +12,8 @@ use Rattle.model.specs.Tape.{parse, tape_of, bytes_of}
 use Rattle.model.specs.WellFormed.{check_book, check_reading}
 use Rattle.model.specs.Tree.{shown_nodes}
 use Rattle.model.specs.Graft.{NewLayer, layered, graft_node_refs, graft_calls}
-use Rattle.model.specs.Region.{choose_region}
-use Rattle.model.specs.Merge.{IncrementalOutput, stored_book, grafted, window_of, merge}
+use Rattle.model.specs.Region.{Edit, choose_region}
+use Rattle.model.specs.Merge.{Stored, Room, IncrementalOutput, stored_book, grafted, window_of, merge}
 use Rattle.model.specs.Estimate.{Estimate, is_over, price_of, estimate}
 use Rattle.model.specs.Ceiling.{distinct_short, reading_calls}
 use Rattle.model.specs.Runs.{program, program_room}

@@ -6,7 +6,7 @@ use Rattle.std.proofs.Math.Option.{Option, none, some}
 use Rattle.model.specs.Lists.{ascii}
 use Rattle.model.specs.Offset.{Span}
 use Rattle.model.specs.Types.{SourceNode, PairLink, ContainerPair, Diagnostic, LexOutput, RegionOutput}
-use Rattle.model.specs.Refusal.{Checked, Checked.accepted, number_of}
+use Rattle.model.specs.Refusal.{Checked, Checked.accepted, ◌>>=◌, number_of}
 use Rattle.model.specs.WellFormed.{check_book}
 use Rattle.model.specs.Tree.{Tree.tree, Fields.done, Fields.text, Fields.contents, Contents, Contents.no_content, Contents.plain, ShownNode}
 use Rattle.model.specs.Region.{Edit}

@@ -1,13 +1,13 @@
 -- Section 4 from 'Well formed' on, and numbers 1 to 7 of the table: what a book or a reading must be.
-use Rattle.std.specs.Prelude.{ℕ, ◌+◌, ◌-◌, ◌*◌, Bool, true, cond, not, ◌&&◌, ◌||◌, length, get_or, leb, ltb, eqb}
+use Rattle.std.specs.Prelude.{ℕ, zero, suc, ◌+◌, ◌-◌, ◌*◌, Bool, true, false, cond, not, ◌&&◌, ◌||◌, length, get_or, leb, ltb, eqb}
 use Rattle.std.proofs.Math.Option.{Option, none, some}
-use mathlib.Core.List.{List, [], ◌∷◌, map, flatten}
+use mathlib.Core.List.{List, [], ◌∷◌, ◌++◌, map, flatten}
 use Rattle.model.specs.Lists.{all, sum}
 use Rattle.model.specs.Limits.{no_string, max_level, sentinel_length, max_text, max_pool, max_list, max_layers}
 use Rattle.model.specs.Utf8.{utf8}
 use Rattle.model.specs.Offset.{Span}
 use Rattle.model.specs.Types.{Body, Content, Segment, Layer, SourceNode, PairLink, ContainerPair, Diagnostic, LexOutput, RegionOutput}
-use Rattle.model.specs.Refusal.{Checked, Checked.refused, Checked.accepted, refuse◌if◌}
+use Rattle.model.specs.Refusal.{Checked, Checked.refused, Checked.accepted, ◌>>=◌, refuse◌if◌}
 use Rattle.model.specs.Store.{NodeStore, store_of, string_counts, content_counts, segment_counts, range_ok, id_ok, resolve_content_range, resolve_seg_range}
 use Rattle.model.specs.Tape.{Field, Field.str, Field.opt_str, Field.content_range, Field.seg_range, fields_of, node_fields, parse}
 

@@ -7,7 +7,7 @@ use Rattle.std.proofs.Math.ListN.{length}
 use Rattle.std.proofs.Math.Dec.{eqb}
 use Rattle.model.specs.Limits.{max_text}
 use Rattle.model.specs.Offset.{Span}
-use Rattle.model.specs.Refusal.{Checked.accepted}
+use Rattle.model.specs.Refusal.{Checked.refused, Checked.accepted}
 use Rattle.model.specs.Tape.{records_at, node_codec, pair_codec, places, book_at}
 use Rattle.model.specs.Region.{balanced_region, is_whole, has_ruby_format_dependency, chosen_region, edit_of}
 use Rattle.places.specs.declared.Places.{Places}

@@ -1,11 +1,11 @@
 -- Rubies whose base and reading are plain contents of a store of one layer: each content is one call, and nothing lies below.
-use Rattle.std.specs.Prelude.{◌≡◌, ℕ, ◌+◌, ◌*◌, ◌≤◌, ◌<◌, Bool, true, false, ◌&&◌, List, [], ◌∷◌, length, get_or, leb, ltb, eqb}
+use Rattle.std.specs.Prelude.{◌≡◌, ℕ, zero, suc, ◌+◌, ◌*◌, ◌≤◌, ◌<◌, Bool, true, false, cond, ◌&&◌, List, [], ◌∷◌, length, get_or, leb, ltb, eqb}
 use Rattle.std.proofs.Math.Path.{refl}
 use Rattle.std.proofs.Common.{sym, ap, ap₂, ◌∙◌, arith}
-use borrow.Author.Tests.{le-leb, lt-leb, eq-eqb, ne_eqb, lt-ltb, le-ltb, leb-true, eqb-true, eqb-false}
+use borrow.Author.Tests.{le-leb, lt-leb, eq-eqb, ne_eqb, lt-ltb, le-ltb, leb-true, eqb-true, eqb-false, ltb-true, ltb-false}
 use Rattle.model.specs.Lists.{all}
 use Rattle.model.specs.Bytes.{byte_at}
-use Rattle.model.specs.Types.{Body, Content}
+use Rattle.model.specs.Types.{Body, Content, SourceNode}
 use Rattle.model.specs.WellFormed.{word_of}
 use Rattle.model.specs.Tape.{record_at, records_at, operands_at, content_codec, node_codec, fields_of, field_table, node_fields}
 use Rattle.laws.specs.Lists.{both}
@@ -17,7 +17,8 @@ use Rattle.store.specs.Standing.{content_place, length_records}
 use Rattle.store.specs.Stored.{OfTape}
 use Rattle.store.specs.declared.Store.{Store}
 use Rattle.ids.specs.Tests.{contents_in}
-use Rattle.sizes.specs.Added.{Added, nothing, add, add_all, add_nothing, same_added}
+use Rattle.sizes.specs.Added.{Added, nothing, one_call, new_contents, add, add_all, add_nothing, same_added}
+use Rattle.sizes.specs.Trees.{run_of_contents}
 use Rattle.sizes.specs.Capped.{plus, plus_plus}
 use Rattle.sizes.specs.InPlace.{content_count, content_adds, contents_add, content_run_adds, fields_add, field_adds, inner_adds, node_adds, contents_inside, content_count_in}
 use Rattle.sizes.specs.Answers.{above_zero, node_class}
