@@ -1,2 +1,0 @@
-pub mod Turns
-pub mod Lent
