@@ -102,7 +102,7 @@ typedef struct { uint32_t number, reread, calls, contents, segments; size_t byte
    buffers the book takes.
    calls is how many strings the reading's nodes name, each as often as it is named. probe_steps, how many slots of the interner's table were
    looked at, is at most calls × m, m being how many distinct strings of at most 64 bytes are among these, and 0 if m is 0: proved for every
-   merge (merged-ceiling and merged-most in crates/incremental/specs/Ceiling.antt). m is at most 3583. */
+   merge (merged_ceiling and merged_most in crates/incremental/specs/Ceiling.antt). m is at most 3583. */
 typedef struct {
     uint32_t number, start, end, reused, reread;
     uint64_t calls, cache_hits, table_hits, allocs, long_bypass, resizes, probe_steps;
