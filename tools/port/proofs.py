@@ -236,7 +236,7 @@ class Fn:
         if f in ("requires", "pre"):
             if self.cycle and rest and rest[0] == "0" and not rest[1:2] == ["x"]:
                 if rest == ["0"]:
-                    return ".".join([var, "MEASURE"])
+                    return ".".join([var, "decreases"])
             if self.cycle and rest and rest[0] == "1":
                 rest = rest[1:]
             if self.pre and len(self.pre) > 1:
@@ -375,6 +375,7 @@ def convert(fn, decls, lts, landed_needs, out):
             text = body.split("=", 1)[1].strip()
             table = dict(zip(ps, terms))
             text = re.sub(r"(?<![\w.'₀-])([^\s(){}\[\],;.:λ]+)", lambda m: table.get(m.group(1), m.group(1)), text)
+            text = re.sub(r"([{;]) l\.(\w+) = ", r"\1 \2 = ", text)
             kind = "invariant" if mi else "decreases"
             out["inv"].append(f"abbrev pub {kind}-{stem}{new} : goal.{kind}-{stem}{new}\n" + "".join(u + "\n" for u in d.unfold) + f"{kind}-{stem}{new} l = {text}\n")
             continue
@@ -412,7 +413,7 @@ def convert(fn, decls, lts, landed_needs, out):
                 continue
             ps = [p for p in ps if p != "κs"]
             term = re.split(r"=", body, maxsplit=1)[1].strip()
-            if term in ("search rules", "search needs"):
+            if term in ("search rules", "search needs") and not d.unfold:
                 continue
             c = ps[-1] if ps else "c"
             term = fn.body(term, {c: place})
@@ -422,9 +423,7 @@ def convert(fn, decls, lts, landed_needs, out):
             if fn.cycle and "-requires" in old:
                 callee = re.sub(r"-requires(-\d+)?$", "", old)
                 callee_in_cycle = any(norm(callee) == norm(k) for k in out["cycle"])
-            if callee_in_cycle and not fields:
-                fields = out["cycle_fields"].get(norm(re.sub(r"-requires(-\d+)?$", "", old)))
-            if fields and len(fields) > 1:
+            if fields and len(fields) > 1 and not callee_in_cycle:
                 rec = with_fields(term, fields, callee_in_cycle)
                 if rec is None:
                     fn.left.append(f"{fn.key}: {new} wants a record of {fields}")

@@ -1,4 +1,6 @@
 // How many records right behind one are like it: contents, and segments by their bodies. What is counted of one is then counted of all.
+#![tactic(auto)]
+
 ghost use Rattle.std.specs.Prelude.{◌≡◌, true, ℕ, ◌+◌, ◌*◌, ◌≤◌, length};
 ghost use Rattle.model.specs.Tape.{record_at, content_codec};
 ghost use Rattle.records.specs.Values.{body_at};

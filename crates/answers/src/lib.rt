@@ -1,5 +1,7 @@
 // The answers of the entries as C has them: an enum as a struct of numbers. In every answer `number` is 0 or the number of the refusal, and what an
 // answer does not have is 0. A caller in C or Rust declares these structs again.
+#![tactic(auto)]
+
 ghost use Rattle.std.specs.Prelude.{◌≡◌};
 ghost use Rattle.answers.specs.Answers.{allowed_answer, node_answer, range_answer, str_answer, copy_answer, region_answer, output_read, orders_read};
 

@@ -5,6 +5,8 @@
 // at the edit's end, or one byte on where the first cut would lose its blank line (wish 1). For the start one walk counts the depths and
 // one goes back from gap to gap; depths can be counted backwards only as far as the last close without an open. If there is no cut
 // behind it, one more walk, forwards, finds the last before it.
+#![tactic(auto)]
+
 ghost use Rattle.std.specs.Prelude.{◌≡◌, ◌+◌, ◌-◌, ◌*◌, ◌≤◌, ◌<◌, max, min, length};
 ghost use Rattle.model.specs.Tape.{record_at, node_codec};
 ghost use Rattle.model.specs.Region.{is_block_open, is_block_close, is_warichu_open, is_warichu_close, depth_behind};

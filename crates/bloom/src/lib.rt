@@ -1,5 +1,7 @@
 // A Bloom filter in lent words, from `base` on: a hash sets the same bits, at most four, of two words. What was inserted is always found, and
 // another hash seldom is. The words before `base` are left as they are; where there are none behind it, each hash counts as inserted.
+#![tactic(auto)]
+
 ghost use Rattle.std.specs.Prelude.{◌≡◌, ◌^◌, ◌<◌, min, length};
 ghost use Rattle.bloom.specs.Filter.{hash_place, hash_bits, has_bits, with_bits, may_contain, inserted};
 

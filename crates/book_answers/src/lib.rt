@@ -1,5 +1,7 @@
 // What is asked of a book alone, answered as C has it: an entry, its answer as crate `answers` tells it. The C functions of crate `exports` hand on to these, with
 // the same contracts word for word.
+#![tactic(auto)]
+
 ghost use Rattle.std.specs.Prelude.{◌≡◌, length};
 ghost use Rattle.model.specs.Refusal.{number_of};
 ghost use Rattle.model.specs.WellFormed.{check_book, check_reading};

@@ -2,6 +2,8 @@
 // pairs, containers and diagnostics, and two questions of a book that passed them.
 // The nodes are walked once: `nodes_placed` tests spans, order and normalized offsets and sums images and spans for number 7.
 // A `requires` says only that the run lies inside the tape; of the search, that its nodes are in order, as number 6 tells.
+#![tactic(auto)]
+
 ghost use Rattle.std.specs.Prelude.{◌≡◌, ◌+◌, ◌*◌, ◌≤◌, ◌<◌, length};
 ghost use Rattle.model.specs.Lists.{all};
 ghost use Rattle.model.specs.Tape.{record_at, records_at, node_codec, pair_codec, container_codec, diagnostic_codec};

@@ -1,6 +1,8 @@
 // One case after the other out of a stream of them. A case is six words: the lengths of its label, its tape and its bytes, a start,
 // an end, the length of its replacement; then those four parts. Every place is taken: what the input does not hold of a case is
 // left out of it, and the next one begins at the input's end.
+#![tactic(auto)]
+
 ghost use Rattle.std.specs.Prelude.{◌≡◌};
 ghost use Rattle.cases.specs.Stream.{behind as place_behind, case_at};
 

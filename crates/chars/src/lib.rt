@@ -1,6 +1,8 @@
 // One character of UTF-8 by RFC 3629. The model reads the bytes by a machine; this code asks how many bytes the character at a place
 // has. specs/Chars.antt: from `between` a whole character leads back to `between`, and what is none to a state that never comes back.
 // specs/Leads.antt: what each first byte asks for.
+#![tactic(auto)]
+
 ghost use Rattle.std.specs.Prelude.{◌≡◌, cond, ◌+◌, ◌≤◌, ◌<◌, length, get_or, drop};
 ghost use Rattle.model.specs.Utf8.{utf8_first, utf8_step, within as is_within, tail1, tail2, bad};
 ghost use Rattle.chars.specs.Chars.{char_len};

@@ -8,6 +8,4 @@ pub mod Grown
 pub mod Book
 pub mod Shown
 pub mod Orders
-pub mod Demand3
-pub mod Clauses
 pub mod Bytes

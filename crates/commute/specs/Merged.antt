@@ -25,7 +25,7 @@ use Rattle.laws.specs.Shift.{shift_up, shift_by, offset_by, shift_answers}
 use Rattle.laws.specs.Splice.{splice_length, byte_front, byte_rest}
 use Rattle.laws.specs.Located.{start_of, end_of, Carried, keep_front, keep_rest, across_front, across_rest}
 use Rattle.laws.specs.Nodes.{Sound, span_facts, pair_facts, container_facts, ends_by, starts_at, node_in, across_node, SafeCut, before_split, split, normal_rises, depth_append, depth_map}
-use Rattle.commute.specs.Cut.{SameBefore, SameBehind}
+use Rattle.commute.specs.Cut.{SameBehind}
 use Rattle.commute.specs.Outline.{GraftedNodes, grafted_nodes}
 
 pub record Fit (old : LexOutput) (e : Edit) (reading : RegionOutput) (r : Span) : Type 0 where
@@ -164,7 +164,7 @@ module _ {old : LexOutput} {e : Edit} {reading : RegionOutput} {r : Span} (f : F
 
   -- ---- up to the region's start
 
-  text_before : (i : ℕ) → i < r.start → get_or (edited old.sanitized e) i 0 ≡ get_or old.sanitized i 0
+  pub text_before : (i : ℕ) → i < r.start → get_or (edited old.sanitized e) i 0 ≡ get_or old.sanitized i 0
   unfolding edited
   text_before i h = byte_front e.start e.end e.replacement old.sanitized f.rising (omega arith) i (omega arith)
 
@@ -172,7 +172,7 @@ module _ {old : LexOutput} {e : Edit} {reading : RegionOutput} {r : Span} (f : F
   pub new_nodes : GraftedNodes old reading
   new_nodes = grafted_nodes old reading f.reading_sound f.balanced
 
-  nodes_before_lem : (o : ℕ) → o ≤ r.start → nodes_allow_cut (merged_of old e reading r).source_nodes o ≡ nodes_allow_cut old.source_nodes o
+  pub nodes_before_lem : (o : ℕ) → o ≤ r.start → nodes_allow_cut (merged_of old e reading r).source_nodes o ≡ nodes_allow_cut old.source_nodes o
   unfolding nodes_allow_cut nodes_before merged_book node_located window_of
   nodes_before_lem o h =
       let in_old = f.old_sound.places.source_spans in
@@ -190,14 +190,10 @@ module _ {old : LexOutput} {e : Edit} {reading : RegionOutput} {r : Span} (f : F
           let z : ltb r.start n.source_span.end ≡ false = rw (lt-ltb n.source_span.start r.start (omega arith)) at (not-true (across_node r.start n) k) in
           ltb-false r.start n.source_span.end z
 
-  pairs_before_lem : (o : ℕ) → o ≤ r.start → pairs_allow_cut (merged_of old e reading r).pairs o ≡ pairs_allow_cut old.pairs o
+  pub pairs_before_lem : (o : ℕ) → o ≤ r.start → pairs_allow_cut (merged_of old e reading r).pairs o ≡ pairs_allow_cut old.pairs o
   unfolding pairs_allow_cut merged_book pair_located window_of
   pairs_before_lem o h =
       ap not (across_front pairs_carried old.pairs reading.pairs f.old_sound.places.pairs f.reading_sound.places.pairs o h f.start_safe.pairs)
-
-  pub same_before : SameBefore r.start old (merged_of old e reading r)
-  unfolding merged_book
-  same_before = record { text = text_before; nodes = nodes_before_lem; pairs = pairs_before_lem }
 
   -- ---- behind its end
 

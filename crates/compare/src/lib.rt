@@ -1,4 +1,6 @@
 // Two slices of bytes compared, sixteen at a time: whether they are the same, and which comes first.
+#![tactic(auto)]
+
 ghost use Rattle.std.specs.Prelude.{◌≡◌, ◌+◌, ◌-◌, ◌≤◌, ◌<◌, length, drop};
 ghost use Rattle.model.specs.Lists.{same as same_bytes};
 ghost use Rattle.compare.specs.Compare.{same4, same16};

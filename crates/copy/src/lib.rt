@@ -1,4 +1,6 @@
 // Document 01: a book read and written again. The entry tests 1 to 7 first, then 18, and answers their number; it has no `requires`.
+#![tactic(auto)]
+
 ghost use Rattle.std.specs.Prelude.{◌≡◌, ◌≤◌, ◌<◌, length};
 ghost use Rattle.model.specs.Refusal.{number_of};
 ghost use Rattle.model.specs.Merge.{padded};

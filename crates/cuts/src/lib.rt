@@ -1,5 +1,7 @@
 // Safe cuts, document 01 section 6, over the text, the nodes and the pairs of a book's tape: what one offset is asked. `safe_cut`
 // answers by a walk over the nodes and one over the pairs.
+#![tactic(auto)]
+
 ghost use Rattle.std.specs.Prelude.{◌≡◌, cond, ◌+◌, ◌-◌, ◌*◌, ◌≤◌, ◌<◌, max, min, List, length, get_or, set};
 ghost use Rattle.model.specs.Types.{PairLink};
 ghost use Rattle.model.specs.Tape.{record_at, node_codec, pair_codec};

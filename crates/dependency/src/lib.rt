@@ -7,6 +7,8 @@
 // base goes in where a Ruby names it first, and a target is asked for where a Format names it last. specs/Bases.antt says what is asked,
 // specs/Noted.antt what the filter says, specs/Rows.antt what the row says, specs/Named.antt and specs/Later.antt what nodes that name
 // one id share; crate `ruby_formats` has what is asked of one node and what number 4 has shown of it.
+#![tactic(auto)]
+
 ghost use Rattle.std.specs.Prelude.{◌≡◌, ◌+◌, ◌*◌, ◌<◌, ◌≤◌, min, ◌&&◌, [], ◌++◌, length, nat_lt};
 ghost use Rattle.model.specs.Lists.{any, same as same_bytes};
 ghost use Rattle.model.specs.Tape.{record_at, records_at, node_codec};

@@ -1,5 +1,7 @@
 // The edit of a text, document 01 section 6 and the table of numbers: 8, 2, 3 and 9 in that order. The new text is never built: its
 // length is a sum, and it equals the old text exactly if the replacement is as long as what it replaces and has the same bytes.
+#![tactic(auto)]
+
 ghost use Rattle.std.specs.Prelude.{◌≡◌, ◌≤◌, length};
 ghost use Rattle.model.specs.Limits.{max_text};
 ghost use Rattle.model.specs.Lists.{same as same_bytes};

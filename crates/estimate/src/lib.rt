@@ -1,5 +1,7 @@
 // Wish 2: price before the merge. Numbers 1 to 17 as the merge gives them, and in place of the result what grafting would add and how long
 // the byte buffer gets. No result buffer is lent; the work words may be any number, also none, and are 0 at the end.
+#![tactic(auto)]
+
 ghost use Rattle.std.specs.Prelude.{◌≡◌, length};
 ghost use Rattle.model.specs.Bytes.{zeros};
 ghost use Rattle.model.specs.Refusal.{Checked.accepted};

@@ -2,32 +2,32 @@
 // lent words, none of which is zero before, are not zero. A case's replacement begins with three words: how many words are lent, the
 // lengths of the edit's replacement and of the reading's tape; these two follow, and the reading's bytes. tools/cases/make writes the
 // cases, and from documents 01 and 02 the output that is stored beside them.
+#![tactic(auto)]
+
 ghost use Rattle.std.specs.Prelude.{◌≤◌};
 
 use estimate::Price;
-use libc::{STDIN_FILENO, STDOUT_FILENO};
+use std::io;
 
 const HEAD: usize = 12;
 
-fn say(s: &[u8]) {
-    io::write_all(STDOUT_FILENO, s);
+fn say(rt: &impl Print, s: &[u8]) -> io::Result<()> {
+    rt.write_all(s)
 }
 
-fn put(label: &[u8], n: u64) {
-    say(label);
-    io::print_decimal(STDOUT_FILENO, n);
+fn put(rt: &impl Print, label: &str, n: u64) -> io::Result<()> {
+    print!(rt; "{label}{n}")
 }
 
-fn put_price(r: Price) {
+fn put_price(rt: &impl Print, r: Price) -> io::Result<()> {
     if r.number != 0 {
-        put(b"refused ", r.number as u64);
-    } else {
-        put(b"reread ", r.reread as u64);
-        put(b" calls ", r.calls as u64);
-        put(b" contents ", r.contents as u64);
-        put(b" segments ", r.segments as u64);
-        put(b" bytes ", r.bytes as u64);
+        return put(rt, "refused ", r.number as u64);
     }
+    put(rt, "reread ", r.reread as u64)?;
+    put(rt, " calls ", r.calls as u64)?;
+    put(rt, " contents ", r.contents as u64)?;
+    put(rt, " segments ", r.segments as u64)?;
+    put(rt, " bytes ", r.bytes as u64)
 }
 
 fn one_if(yes: bool) -> u64
@@ -49,10 +49,18 @@ fn words_not_zero(s: &[u32]) -> u64 {
     n
 }
 
-fn show_price(tape: &[u8], bytes: &[u8], start: u32, end: u32, rest: &[u8], work: &mut [u32]) {
+fn show_price(
+    rt: &impl Print,
+    tape: &[u8],
+    bytes: &[u8],
+    start: u32,
+    end: u32,
+    rest: &[u8],
+    work: &mut [u32],
+) -> io::Result<()> {
     let readingtape = HEAD + wire::u32_or_zero(rest, 4) as usize;
     let readingbytes = readingtape + wire::u32_or_zero(rest, 8) as usize;
-    put_price(estimate::estimate(
+    let price = estimate::estimate(
         tape,
         bytes,
         start,
@@ -61,8 +69,9 @@ fn show_price(tape: &[u8], bytes: &[u8], start: u32, end: u32, rest: &[u8], work
         wire::between(rest, readingtape, readingbytes),
         wire::between(rest, readingbytes, rest.len()),
         work,
-    ));
-    put(b", rest ", words_not_zero(work));
+    );
+    put_price(rt, price)?;
+    put(rt, ", rest ", words_not_zero(work))
 }
 
 // So much as is lent of the words.
@@ -75,37 +84,47 @@ fn lent(n: u32, room: usize) -> usize
     n as usize
 }
 
-fn show(label: &[u8], tape: &[u8], bytes: &[u8], start: u32, end: u32, rest: &[u8]) {
+fn show(
+    rt: &impl Print,
+    label: &[u8],
+    tape: &[u8],
+    bytes: &[u8],
+    start: u32,
+    end: u32,
+    rest: &[u8],
+) -> io::Result<()> {
     let mut work = [7u32; 16384];
     let n = lent(wire::u32_or_zero(rest, 0), 16384);
-    say(label);
-    say(b": ");
-    show_price(tape, bytes, start, end, rest, &mut work[0..n]);
-    say(b"\n");
+    say(rt, label)?;
+    print!(rt; ": ")?;
+    show_price(rt, tape, bytes, start, end, rest, &mut work[0..n])?;
+    println!(rt)
 }
 
-fn show_case(input: &[u8], c: cases::Case) {
+fn show_case(rt: &impl Print, input: &[u8], c: cases::Case) -> io::Result<()> {
     show(
+        rt,
         wire::between(input, c.label, c.tape),
         wire::between(input, c.tape, c.bytes),
         wire::between(input, c.bytes, c.replacement),
         c.start,
         c.end,
         wire::between(input, c.replacement, c.next),
-    );
+    )
 }
 
-fn show_all(input: &[u8]) {
+fn show_all(rt: &impl Print, input: &[u8]) -> io::Result<()> {
     let mut at = 0;
     while at < input.len() {
         let c = cases::case_at(input, at);
-        show_case(input, c);
+        show_case(rt, input, c)?;
         at = c.next;
     }
+    Ok(())
 }
 
-fn main() {
+fn main(rt: HostRuntime) -> io::Result<()> {
     let mut input = [0u8; 131072];
-    let n = io::read_full(STDIN_FILENO, &mut input);
-    show_all(&input[..n]);
+    let n = stream::read_full(&mut rt.stdin(), &mut input)?;
+    show_all(&rt, &input[..n])
 }

@@ -1,4 +1,6 @@
 // The entries for C and Rust: each as it stands in its crate, its answer as crate `answers` tells it. A slice goes as a pointer and a length.
+#![tactic(auto)]
+
 ghost use Rattle.std.specs.Prelude.{◌≡◌, length};
 ghost use Rattle.model.specs.Bytes.{zeros};
 ghost use Rattle.model.specs.Refusal.{number_of};

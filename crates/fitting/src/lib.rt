@@ -1,5 +1,7 @@
 // Numbers 1 to 17 of a merge, in their order, document 01 section 7: what the merge and its estimate (wish 2) have in common. Each stage takes
 // what the stages before it have shown. The lent words may be any number, also none; they are not cleared.
+#![tactic(auto)]
+
 ghost use Rattle.std.specs.Prelude.{◌≡◌, ◌+◌, ◌*◌, ◌≤◌, ◌<◌, ◌^◌, length};
 ghost use Rattle.model.specs.Tape.{records_at, node_codec, places as places_in, book_at};
 ghost use Rattle.model.specs.Region.{Edit, edit_of};

@@ -1,5 +1,7 @@
 // Document 01 section 5: the trees of the reading copied into one new layer of the result. Each string is interned; a run stands
 // behind all that its items push, and each item is written once, at its place. Crate `graft_nodes` does so for each node.
+#![tactic(auto)]
+
 ghost use Rattle.std.specs.Prelude.{◌≡◌, true, not, ◌&&◌, eqb, [], ◌∷◌, ℕ, ◌+◌, ◌*◌, ◌≤◌, ◌<◌, ◌^◌, length, set, List};
 ghost use Rattle.graft.specs.Walk.{words_with};
 ghost use Rattle.model.specs.Lists.{all};

@@ -1,4 +1,6 @@
 // Document 01 section 5: each node of the reading grafted, in their order: the trees of its body by crate `graft`, then its record.
+#![tactic(auto)]
+
 ghost use Rattle.std.specs.Prelude.{◌≡◌, true, [], ◌∷◌, ◌+◌, ◌*◌, ◌≤◌, ◌<◌, length};
 ghost use Rattle.model.specs.Lists.{all};
 ghost use Rattle.model.specs.Tape.{record_at, records_at, node_codec};

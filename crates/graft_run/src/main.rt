@@ -1,40 +1,41 @@
 // Reads cases from standard input and prints what grafting makes of a source's nodes: one new layer above pools of the given sizes, in
 // buffers of the given lengths; or the number of the refusal. A case's start and end are those lengths, its replacement the three sizes.
 // tools/cases/make writes the cases, and from document 01 the output that is stored beside them.
+#![tactic(auto)]
+
 ghost use Rattle.std.specs.Prelude.{◌≡◌, true, false, ◌+◌, ◌*◌, ◌≤◌, length};
 ghost use Rattle.tape.specs.Accepted.{Accepted};
 ghost use Rattle.layer.specs.Layered.{OffsetsFit};
 
-use libc::{STDIN_FILENO, STDOUT_FILENO};
+use std::io;
 
 const MAX_POOL: u32 = 1048575;
 
 const NODE: usize = 49;
 
-fn say(s: &[u8]) {
-    io::write_all(STDOUT_FILENO, s);
+fn say(rt: &impl Print, s: &[u8]) -> io::Result<()> {
+    rt.write_all(s)
 }
 
-fn put(label: &[u8], n: u64) {
-    say(label);
-    io::print_decimal(STDOUT_FILENO, n);
+fn put(rt: &impl Print, label: &str, n: u64) -> io::Result<()> {
+    print!(rt; "{label}{n}")
 }
 
-fn put_hash(label: &[u8], s: &[u8]) {
-    say(label);
-    io::print_hex(STDOUT_FILENO, hash::fx_hash(s), 16);
+fn put_hash(rt: &impl Print, label: &str, s: &[u8]) -> io::Result<()> {
+    let h = hash::fx_hash(s);
+    print!(rt; "{label}{h:016x}")
 }
 
-fn put_counts(r: layer::Layer) {
+fn put_counts(rt: &impl Print, r: layer::Layer) -> io::Result<()> {
     let state = r.state;
     let c = state.stats;
-    put(b", calls ", c.calls);
-    put(b" cache hits ", c.cachehits);
-    put(b" table hits ", c.tablehits);
-    put(b" allocs ", c.allocs);
-    put(b" long ", c.longbypass);
-    put(b" resizes ", c.resizes);
-    put(b" probes ", c.probesteps);
+    put(rt, ", calls ", c.calls)?;
+    put(rt, " cache hits ", c.cachehits)?;
+    put(rt, " table hits ", c.tablehits)?;
+    put(rt, " allocs ", c.allocs)?;
+    put(rt, " long ", c.longbypass)?;
+    put(rt, " resizes ", c.resizes)?;
+    put(rt, " probes ", c.probesteps)
 }
 
 // A layer's records, and those of the nodes behind them.
@@ -45,39 +46,52 @@ fn records<'a>(out: &'a [u8], len: usize, nodes: usize) -> &'a [u8]
 }
 
 // The strings' bytes begin at 0.
-fn put_layer(r: layer::Layer, nodes: usize, out: &[u8], strs: &[u8])
+fn put_layer(
+    rt: &impl Print,
+    r: layer::Layer,
+    nodes: usize,
+    out: &[u8],
+    strs: &[u8],
+) -> io::Result<()>
     requires { r.len + 49 * nodes ≤ length out.now }
 {
     let state = r.state;
-    put(b"strings ", r.strings as u64);
-    put(b" contents ", r.contents as u64);
-    put(b" segments ", r.segments as u64);
-    put(b" nodes ", nodes as u64);
-    put(b", layer ", r.len as u64);
-    say(b" bytes");
-    put_counts(r);
-    put_hash(b", tape ", records(out, r.len, nodes));
-    put_hash(b" strings ", wire::between(strs, 0, state.used));
+    put(rt, "strings ", r.strings as u64)?;
+    put(rt, " contents ", r.contents as u64)?;
+    put(rt, " segments ", r.segments as u64)?;
+    put(rt, " nodes ", nodes as u64)?;
+    put(rt, ", layer ", r.len as u64)?;
+    print!(rt; " bytes")?;
+    put_counts(rt, r)?;
+    put_hash(rt, ", tape ", records(out, r.len, nodes))?;
+    put_hash(rt, " strings ", wire::between(strs, 0, state.used))
 }
 
-fn put_answer(r: layer::Layer, nodes: usize, out: &[u8], strs: &[u8])
+fn put_answer(
+    rt: &impl Print,
+    r: layer::Layer,
+    nodes: usize,
+    out: &[u8],
+    strs: &[u8],
+) -> io::Result<()>
     requires { r.ok ≡ true → r.len + 49 * nodes ≤ length out.now }
 {
     if r.ok {
-        put_layer(r, nodes, out, strs);
+        put_layer(rt, r, nodes, out, strs)
     } else {
-        say(b"refused 18");
+        print!(rt; "refused 18")
     }
 }
 
 fn graft(
+    rt: &impl Print,
     tape: &[u8],
     bytes: &[u8],
     out: &mut [u8],
     work: &mut [u32],
     strs: &mut [u8],
     o: layer::Offsets,
-)
+) -> io::Result<()>
     requires accepted { Accepted tape.now bytes.now }
     requires offsets_fit { OffsetsFit o }
     requires in_bounds { 16384 ≤ length work.old }
@@ -86,7 +100,7 @@ fn graft(
     let st = store::store_of(tape, p.layers);
     let nodes = p.nodes.count;
     let r = layer::graft_layer(tape, bytes, p, st, out, work, strs, o, 0, 0);
-    put_answer(r, nodes, out, strs);
+    put_answer(rt, r, nodes, out, strs)
 }
 
 // Number 3. A pool below the new layer is over its limit.
@@ -111,25 +125,24 @@ fn offsets(below: &[u8]) -> layer::Offsets {
 }
 
 fn show_graft(
+    rt: &impl Print,
     tape: &[u8],
     bytes: &[u8],
     out: &mut [u8],
     work: &mut [u32],
     strs: &mut [u8],
     o: layer::Offsets,
-)
+) -> io::Result<()>
     requires { 16384 ≤ length work.old }
 {
     let n = tape::check_book(tape, bytes);
     if n != 0 {
-        put(b"refused ", n as u64);
-        return;
+        return put(rt, "refused ", n as u64);
     }
     if over(o) {
-        say(b"refused 18");
-        return;
+        return print!(rt; "refused 18");
     }
-    graft(tape, bytes, out, work, strs, o);
+    graft(rt, tape, bytes, out, work, strs, o)
 }
 
 // So many bytes as are lent of a buffer.
@@ -143,6 +156,7 @@ fn lent(n: u32, room: usize) -> usize
 }
 
 fn show_lent(
+    rt: &impl Print,
     tape: &[u8],
     bytes: &[u8],
     out: &mut [u8],
@@ -151,47 +165,59 @@ fn show_lent(
     start: u32,
     end: u32,
     o: layer::Offsets,
-)
+) -> io::Result<()>
     requires { 16384 ≤ length work.old }
 {
     let n = lent(start, out.len());
     let m = lent(end, strs.len());
-    show_graft(tape, bytes, &mut out[0..n], work, &mut strs[0..m], o);
+    show_graft(rt, tape, bytes, &mut out[0..n], work, &mut strs[0..m], o)
 }
 
-fn show(label: &[u8], tape: &[u8], bytes: &[u8], start: u32, end: u32, below: &[u8]) {
+fn show(
+    rt: &impl Print,
+    label: &[u8],
+    tape: &[u8],
+    bytes: &[u8],
+    start: u32,
+    end: u32,
+    below: &[u8],
+) -> io::Result<()> {
     let mut out = [7u8; 65536];
     let mut strs = [7u8; 262144];
     let mut work = [7u32; 16384];
     let o = offsets(below);
-    say(label);
-    say(b": ");
-    show_lent(tape, bytes, &mut out, &mut work, &mut strs, start, end, o);
-    say(b"\n");
+    say(rt, label)?;
+    print!(rt; ": ")?;
+    show_lent(
+        rt, tape, bytes, &mut out, &mut work, &mut strs, start, end, o,
+    )?;
+    println!(rt)
 }
 
-fn show_case(input: &[u8], c: cases::Case) {
+fn show_case(rt: &impl Print, input: &[u8], c: cases::Case) -> io::Result<()> {
     show(
+        rt,
         wire::between(input, c.label, c.tape),
         wire::between(input, c.tape, c.bytes),
         wire::between(input, c.bytes, c.replacement),
         c.start,
         c.end,
         wire::between(input, c.replacement, c.next),
-    );
+    )
 }
 
-fn show_all(input: &[u8]) {
+fn show_all(rt: &impl Print, input: &[u8]) -> io::Result<()> {
     let mut at = 0;
     while at < input.len() {
         let c = cases::case_at(input, at);
-        show_case(input, c);
+        show_case(rt, input, c)?;
         at = c.next;
     }
+    Ok(())
 }
 
-fn main() {
+fn main(rt: HostRuntime) -> io::Result<()> {
     let mut input = [0u8; 65536];
-    let n = io::read_full(STDIN_FILENO, &mut input);
-    show_all(&input[..n]);
+    let n = stream::read_full(&mut rt.stdin(), &mut input)?;
+    show_all(&rt, &input[..n])
 }

@@ -1,4 +1,6 @@
 // The hash of section 2 of document 01: FX over the bytes of a string, modulo 2 to the 64.
+#![tactic(auto)]
+
 ghost use Rattle.std.specs.Prelude.{◌≡◌, ◌+◌, ◌*◌, ◌%◌, ◌^◌, ◌<◌};
 ghost use Rattle.model.specs.Limits.{fx_prime, fx_rotate_bits};
 ghost use Rattle.model.specs.Intern.{rotate_left, fx_step, fx_hash};

@@ -2,6 +2,8 @@
 // at a word of a body is known by the word's use; a body is its six words, a record its body, a run its records, and the tape
 // its layers and its nodes, walked once. specs/Tests.antt says what is tested, by the starts that a store remembers, and
 // specs/Whole.antt that for the store of the tape it is the model's `ids_ok`.
+#![tactic(auto)]
+
 ghost use Rattle.std.specs.Prelude.{◌≡◌, ℕ, ◌+◌, ◌*◌, ◌≤◌, ◌<◌, length, List, []};
 ghost use Rattle.model.specs.WellFormed.{word_of, ids_ok};
 ghost use Rattle.records.specs.Values.{body_at};

@@ -9,7 +9,8 @@ use Rattle.model.specs.Merge.{Stored, Room, IncrementalOutput}
 use Rattle.model.specs.Demand3.{Correction, merge_of}
 use Rattle.model.specs.Ceiling.{Ceiling, reading_calls}
 use Rattle.laws.specs.Numbers.{merge_numbers}
-use Rattle.laws.specs.Ceiling.{merge_ceiling, merge_most}
+use Rattle.laws.proofs.Ceiling.{merge_ceiling}
+use Rattle.laws.proofs.Most.{merge_most}
 use Rattle.stats.specs.Counts.{stats_of}
 use Rattle.output.specs.declared.IncrementalOutput.{IncrementalOutput as Output}
 use Rattle.output.specs.Answer.{output_of, Merged}

@@ -1,5 +1,7 @@
 // Document 01 section 7: the entry `merge`, numbers 1 to 18 in their order: 1 to 17 (crate fitting), then 18 and the result. What is not
 // result is cleared at the end, so that a refusal leaves zeros everywhere.
+#![tactic(auto)]
+
 ghost use Rattle.std.specs.Prelude.{◌≡◌};
 ghost use Rattle.model.specs.Merge.{stored_of, room_of};
 ghost use Rattle.model.specs.Demand3.{correction_of, merge_of};

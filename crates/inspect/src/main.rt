@@ -1,6 +1,8 @@
 // Prints a tape and its bytes as lines, a line a record; with an edit, first the passage that it makes be read anew, which is marked in the
 // text too. specs/Inspect.antt says what is read and what is printed. All of a line is put into a buffer, by crate listing or here, and proved
 // to be the definition's; this program decides whether the book is shown, goes from record to record, and writes each line.
+#![tactic(auto)]
+
 ghost use Rattle.std.specs.Prelude.{◌≡◌, ℕ, ◌+◌, ◌≤◌, ◌<◌, List, length, take};
 ghost use Rattle.std.proofs.Math.Option.{some};
 ghost use Rattle.model.specs.Refusal.{Checked.refused, Checked.accepted, number_of};
@@ -9,7 +11,8 @@ ghost use Rattle.listing.specs.Strings.{Printable};
 ghost use Rattle.inspect.specs.Inspect.{tape_in, bytes_in, behind, edit_at, asked_book, asked_edit, asked, book_of, passage_line};
 ghost use Rattle.inspect.specs.Answers.{outcome_of, head_number, edit_number, told, Shown};
 
-use libc::{STDIN_FILENO, STDOUT_FILENO};
+use std::io;
+use std::io::Write;
 
 const MAX_PART: u32 = 65536;
 
@@ -200,10 +203,10 @@ fn bytes_read<'a>(input: &'a [u8], n: usize) -> &'a [u8]
 
 // ---- the output
 
-fn print_refused(n: u32) {
+fn print_refused<W: Write>(writer: &mut W, n: u32) -> io::Result<()> {
     let mut out = [0u8; 29];
     let k = lines::put_refused(&mut out, n);
-    io::write_all(STDOUT_FILENO, &out[..k]);
+    writer.write_all(&out[..k])
 }
 
 fn book_text<'a>(tape: &[u8], bytes: &'a [u8]) -> &'a [u8]
@@ -225,17 +228,24 @@ fn put_passage(out: &mut [u8], tape: &[u8], bytes: &[u8], m: listing::Mark) -> u
     lines::put_text(out, last, b"\n")
 }
 
-fn print_passage(out: &mut [u8], tape: &[u8], bytes: &[u8], m: listing::Mark)
+fn print_passage<W: Write>(
+    writer: &mut W,
+    out: &mut [u8],
+    tape: &[u8],
+    bytes: &[u8],
+    m: listing::Mark,
+) -> io::Result<()>
     requires { (262197 ≤ length out.old) × (length bytes.now ≤ 65536) }
 {
     if !m.edit {
-        return;
+        return Ok(());
     }
     let k = put_passage(out, tape, bytes, m);
-    io::write_all(STDOUT_FILENO, &out[..k]);
+    writer.write_all(&out[..k])
 }
 
-fn print_line(
+fn print_line<W: Write>(
+    writer: &mut W,
     out: &mut [u8],
     labels: &[u8],
     tape: &[u8],
@@ -243,64 +253,77 @@ fn print_line(
     st: store::Store,
     m: listing::Mark,
     c: listing::Cursor,
-)
+) -> io::Result<()>
     requires in_bounds { (3932866 ≤ length out.old) × (c.at < length tape.now) }
     requires labels_value { labels.now ≡ label_bytes }
     requires printable { Printable tape.now bytes.now st }
 {
     let k = listing::put_line(out, labels, tape, bytes, st, m, c);
-    io::write_all(STDOUT_FILENO, &out[..k]);
+    writer.write_all(&out[..k])
 }
 
-fn print_lines(
+fn print_lines<W: Write>(
+    writer: &mut W,
     out: &mut [u8],
     labels: &[u8],
     tape: &[u8],
     bytes: &[u8],
     st: store::Store,
     m: listing::Mark,
-)
+) -> io::Result<()>
     requires in_bounds { 3932866 ≤ length out.old }
     requires labels_value { labels.now ≡ label_bytes }
     requires printable { Printable tape.now bytes.now st }
 {
     let mut c = listing::first_line();
     while c.at < tape.len() {
-        print_line(out, labels, tape, bytes, st, m, c);
+        print_line(writer, out, labels, tape, bytes, st, m, c)?;
         c = listing::next_line(tape, c);
     }
+    Ok(())
 }
 
-fn print_book(out: &mut [u8], tape: &[u8], bytes: &[u8], m: listing::Mark)
+fn print_book<W: Write>(
+    writer: &mut W,
+    out: &mut [u8],
+    tape: &[u8],
+    bytes: &[u8],
+    m: listing::Mark,
+) -> io::Result<()>
     requires in_bounds { 3932866 ≤ length out.old }
     requires shown { Shown tape.now bytes.now }
 {
     let labels = listing::labels();
     let p = places::places_of(tape, bytes);
     let st = store::store_of(tape, p.layers);
-    print_lines(out, &labels, tape, bytes, st, m);
+    print_lines(writer, out, &labels, tape, bytes, st, m)
 }
 
-fn run_read(input: &[u8], n: usize, words: &mut [u32], out: &mut [u8])
+fn run_read<W: Write>(
+    writer: &mut W,
+    input: &[u8],
+    n: usize,
+    words: &mut [u32],
+    out: &mut [u8],
+) -> io::Result<()>
     requires input_len { (length input.now ≡ 196629) × (n ≤ length input.now) }
     requires in_bounds { 3932866 ≤ length out.old }
 {
     let a = answer_read(input, n, words);
     if a.number != 0 {
-        print_refused(a.number);
-        return;
+        return print_refused(writer, a.number);
     }
     let m = a.mark;
     let tape = tape_read(input, n);
     let bytes = bytes_read(input, n);
-    print_passage(out, tape, bytes, m);
-    print_book(out, tape, bytes, m);
+    print_passage(writer, out, tape, bytes, m)?;
+    print_book(writer, out, tape, bytes, m)
 }
 
-fn main() {
+fn main(rt: HostRuntime) -> io::Result<()> {
     let mut input = [0u8; 196629];
     let mut words = [0u32; 8192];
-    let mut out = [0u8; 3932866];
-    let n = io::read_full(STDIN_FILENO, &mut input);
-    run_read(&input, n, &mut words, &mut out);
+    let mut out = vec![in rt.alloc(); 0u8; 3932866]?;
+    let n = stream::read_full(&mut rt.stdin(), &mut input)?;
+    run_read(&mut rt.stdout(), &input, n, &mut words, &mut out)
 }

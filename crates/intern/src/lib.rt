@@ -1,5 +1,7 @@
 // A call of the interner, section 2 of document 01: each is proved equal to model's `intern`, id, strings, table, last answer and
 // counts. The state is crate `interner`'s.
+#![tactic(auto)]
+
 ghost use Rattle.std.specs.Prelude.{◌≡◌, true, List, ℕ, ◌+◌, ◌*◌, ◌^◌, ◌<◌, ◌≤◌, length, get_or};
 ghost use Rattle.model.specs.Limits.{max_new_strings};
 ghost use Rattle.model.specs.Intern.{holds, table_alloc, bypass as bypass_of_model, intern as intern_of_model};

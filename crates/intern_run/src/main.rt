@@ -2,44 +2,41 @@
 // string 3584; then those of document 02, wish 7, the ceiling on probing: calls that cost as much as it lets them, and calls that
 // cost nothing. The numbers in `stdout` are those of the Rust: intern.rs with main below it, rustc -O, the same calls; the Rust
 // has no limit of 3583 strings, so the numbers of the line 'one more' are those before that call.
+#![tactic(auto)]
+
 ghost use Rattle.std.specs.Prelude.{◌≡◌, true, ◌∷◌, [], ◌+◌, ◌/◌, ◌%◌, ◌≤◌, ◌<◌, length};
 ghost use Rattle.interner.specs.State.{Good};
 
 use intern::Answer;
 use interner::StrInterner;
-use libc::STDOUT_FILENO;
+use std::io;
 
-fn put(label: &[u8], n: u64) {
-    io::write_all(STDOUT_FILENO, label);
-    io::print_decimal(STDOUT_FILENO, n);
+fn put(rt: &impl Print, label: &str, n: u64) -> io::Result<()> {
+    print!(rt; "{label}{n}")
 }
 
-fn put_hash(bytes: &[u8]) {
-    io::print_hex(STDOUT_FILENO, hash::fx_hash(bytes), 16);
-    io::write_all(STDOUT_FILENO, b"\n");
+fn put_hash(rt: &impl Print, bytes: &[u8]) -> io::Result<()> {
+    let h = hash::fx_hash(bytes);
+    println!(rt; "{h:016x}")
 }
 
 // The state behind a call, or that the call was refused.
-fn show(label: &[u8], a: Answer) {
+fn show(rt: &impl Print, label: &str, a: Answer) -> io::Result<()> {
     let st = a.state;
     let c = st.stats;
-    io::write_all(STDOUT_FILENO, label);
-    if a.ok {
-        io::write_all(STDOUT_FILENO, b" ok");
-    } else {
-        io::write_all(STDOUT_FILENO, b" refused");
-    }
-    put(b" id ", a.id as u64);
-    put(b" slots ", st.slots as u64);
-    put(b" strings ", st.count as u64);
-    put(b" calls ", c.calls);
-    put(b" cache ", c.cachehits);
-    put(b" table ", c.tablehits);
-    put(b" allocs ", c.allocs);
-    put(b" long ", c.longbypass);
-    put(b" resizes ", c.resizes);
-    put(b" probes ", c.probesteps);
-    io::write_all(STDOUT_FILENO, b"\n");
+    let told = if a.ok { "ok" } else { "refused" };
+    print!(rt; "{label} {told}")?;
+    put(rt, " id ", a.id as u64)?;
+    put(rt, " slots ", st.slots as u64)?;
+    put(rt, " strings ", st.count as u64)?;
+    put(rt, " calls ", c.calls)?;
+    put(rt, " cache ", c.cachehits)?;
+    put(rt, " table ", c.tablehits)?;
+    put(rt, " allocs ", c.allocs)?;
+    put(rt, " long ", c.longbypass)?;
+    put(rt, " resizes ", c.resizes)?;
+    put(rt, " probes ", c.probesteps)?;
+    println!(rt)
 }
 
 fn begin(work: &mut [u32], strs: &mut [u8]) -> Answer
@@ -100,35 +97,35 @@ fn many(work: &mut [u32], strs: &mut [u8], a: Answer, n: u32) -> Answer
     b
 }
 
-fn hashes() {
-    put_hash(b"");
-    put_hash(b"\0");
-    put_hash(b"\x01");
-    put_hash(b"\x02");
+fn hashes(rt: &impl Print) -> io::Result<()> {
+    put_hash(rt, b"")?;
+    put_hash(rt, b"\0")?;
+    put_hash(rt, b"\x01")?;
+    put_hash(rt, b"\x02")
 }
 
-fn probes() {
+fn probes(rt: &impl Print) -> io::Result<()> {
     let mut work = [0u32; 16384];
     let mut strs = [0u8; 64];
     let a = begin(&mut work, &mut strs);
     let b = call(&mut work, &mut strs, a, b"");
     let c = call(&mut work, &mut strs, b, b"\0");
-    show(b"P2", c);
+    show(rt, "P2", c)
 }
 
 // 224 entries of 256 slots; then one that is there, older than the last.
-fn growth() {
+fn growth(rt: &impl Print) -> io::Result<()> {
     let mut work = [0u32; 16384];
     let mut strs = [0u8; 1024];
     let a = begin(&mut work, &mut strs);
     let b = many(&mut work, &mut strs, a, 224);
-    show(b"224 entries", b);
+    show(rt, "224 entries", b)?;
     let c = call(&mut work, &mut strs, b, b"0007");
-    show(b"an older one", c);
+    show(rt, "an older one", c)
 }
 
 // s, another, s, another.
-fn twice(label: &[u8], s: &[u8]) {
+fn twice(rt: &impl Print, label: &str, s: &[u8]) -> io::Result<()> {
     let mut work = [0u32; 16384];
     let mut strs = [0u8; 1024];
     let a = begin(&mut work, &mut strs);
@@ -136,28 +133,28 @@ fn twice(label: &[u8], s: &[u8]) {
     let c = call(&mut work, &mut strs, b, b"x");
     let d = call(&mut work, &mut strs, c, s);
     let e = call(&mut work, &mut strs, d, b"x");
-    show(label, e);
+    show(rt, label, e)
 }
 
-fn limit() {
+fn limit(rt: &impl Print) -> io::Result<()> {
     let mut work = [7u32; 16384];
     let mut strs = [0u8; 16384];
     let a = begin(&mut work, &mut strs);
     let b = many(&mut work, &mut strs, a, 3583);
-    show(b"3583 strings", b);
+    show(rt, "3583 strings", b)?;
     let c = call(&mut work, &mut strs, b, b"0007");
-    show(b"an older one", c);
+    show(rt, "an older one", c)?;
     let d = call(&mut work, &mut strs, c, b"3583");
-    show(b"one more", d);
+    show(rt, "one more", d)
 }
 
 // Wish 7. One call, one string: probes are calls × 1.
-fn one() {
+fn one(rt: &impl Print) -> io::Result<()> {
     let mut work = [0u32; 16384];
     let mut strs = [0u8; 64];
     let a = begin(&mut work, &mut strs);
     let b = call(&mut work, &mut strs, a, b"x");
-    show(b"one string", b);
+    show(rt, "one string", b)
 }
 
 // Calls for the three strings of four bytes in s.
@@ -183,7 +180,7 @@ fn nine(work: &mut [u32], strs: &mut [u8], a: Answer, s: &[u8]) -> Answer
 
 // Wish 7. Nine strings of four bytes that begin at one slot: the k-th costs k probes, when it is new and each time that it is found.
 // The ninth, behind a long one so that it is no cache hit, costs 9, the most that the ceiling lets a call cost.
-fn one_slot(label: &[u8], s: &[u8])
+fn one_slot(rt: &impl Print, label: &str, s: &[u8]) -> io::Result<()>
     requires { length s.now ≡ 36 }
 {
     let ninth = &s[32..36];
@@ -191,18 +188,18 @@ fn one_slot(label: &[u8], s: &[u8])
     let mut strs = [0u8; 128];
     let a = begin(&mut work, &mut strs);
     let b = nine(&mut work, &mut strs, a, s);
-    show(label, b);
+    show(rt, label, b)?;
     let c = nine(&mut work, &mut strs, b, s);
-    show(b"each again", c);
+    show(rt, "each again", c)?;
     let long = [97u8; 65];
     let d = call(&mut work, &mut strs, c, &long);
-    show(b"a long one", d);
+    show(rt, "a long one", d)?;
     let e = call(&mut work, &mut strs, d, ninth);
-    show(b"the ninth", e);
+    show(rt, "the ninth", e)
 }
 
 // Wish 7. No string of at most 64 bytes: no probes.
-fn only_long() {
+fn only_long(rt: &impl Print) -> io::Result<()> {
     let mut work = [0u32; 16384];
     let mut strs = [0u8; 1024];
     let s = [97u8; 65];
@@ -212,19 +209,27 @@ fn only_long() {
     let c = call(&mut work, &mut strs, b, &t);
     let d = call(&mut work, &mut strs, c, &s);
     let e = call(&mut work, &mut strs, d, &t);
-    show(b"long strings only", e);
+    show(rt, "long strings only", e)
 }
 
-fn main() {
-    hashes();
-    probes();
-    growth();
+fn main(rt: HostRuntime) -> io::Result<()> {
+    hashes(&rt)?;
+    probes(&rt)?;
+    growth(&rt)?;
     let s = [97u8; 65];
-    twice(b"64 bytes", &s[..64]);
-    twice(b"65 bytes", &s);
-    limit();
-    one();
-    one_slot(b"nine of slot 100", b"kigakoruhutuminimukuyawoyumegotapapa");
-    one_slot(b"nine of slot 250", b"kohusayosukisokenitahabihunuyugedasi");
-    only_long();
+    twice(&rt, "64 bytes", &s[..64])?;
+    twice(&rt, "65 bytes", &s)?;
+    limit(&rt)?;
+    one(&rt)?;
+    one_slot(
+        &rt,
+        "nine of slot 100",
+        b"kigakoruhutuminimukuyawoyumegotapapa",
+    )?;
+    one_slot(
+        &rt,
+        "nine of slot 250",
+        b"kohusayosukisokenitahabihunuyugedasi",
+    )?;
+    only_long(&rt)
 }

@@ -6,6 +6,8 @@
 // A far string is one that was found many slots behind its own. It is remembered with its place and steps, so that strings of one
 // slot cost a long probe once each and not at every call. The words of the far strings stand in a row in the order of their strings,
 // among the words that the table leaves free; no proof hangs on that order, since what is found there is compared.
+#![tactic(auto)]
+
 ghost use Rattle.std.specs.Prelude.{◌≡◌, ◌&&◌, [], ◌+◌, ◌-◌, ◌^◌, ◌<◌, ◌≤◌, leb, length, get_or, set};
 ghost use Rattle.model.specs.Limits.{max_new_strings, min_work_words};
 ghost use Rattle.model.specs.Intern.{holds};

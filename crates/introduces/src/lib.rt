@@ -5,6 +5,8 @@
 // a long string goes in, and is asked for, once for each id that names it. The words have three parts: an index of the old book's strings in
 // an eighth of them, the filter or the row, an index of the reading's strings in the last eighth. Where few are lent, number 15 has words
 // of its own.
+#![tactic(auto)]
+
 ghost use Rattle.std.specs.Prelude.{◌≡◌, ◌++◌, ◌+◌, ◌*◌, ◌≤◌, min, length};
 ghost use Rattle.model.specs.Lists.{any, keep};
 ghost use Rattle.model.specs.Tape.{record_at, records_at, node_codec, places as places_in, book_at};

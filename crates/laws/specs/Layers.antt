@@ -26,7 +26,7 @@ use Rattle.model.specs.Tree.{Tree, Tree.tree, Fields, Fields.done, Fields.text, 
 use Rattle.model.specs.Tree.{Contents, Contents.plain, Contents.segmented, Segments, Segments.segment}
 use Rattle.model.specs.Tree.{show_segments, show_contents, show_fields, show_with, show_body, show_node}
 use Rattle.model.specs.Lookup.{lookup_str, lookup_contents, lookup_segments}
-use Rattle.model.specs.Demand3.{KeptReferences, shown_contents, shown_segments}
+use Rattle.model.specs.Demand3.{shown_contents, shown_segments}
 use Rattle.model.specs.Graft.{NewLayer, layered, layer_of}
 use Rattle.laws.specs.Intern.{fresh_sound}
 use Rattle.laws.specs.Graft.{with_layer, Above, Numbered}
@@ -276,7 +276,7 @@ module _ (first later : LexOutput) (more : List Layer) (e : later.layers ≡ fir
   shown_body : (b : Body) → all (field_ok ls b) (fields_of b) ≡ true → show_body max_level st b ≡ show_body max_level (store_of ls) b
   shown_body b h = show_same ls st grown (ids_pools first ids).0 (ids_pools first ids).1 max_level b h
 
-  string_kept : (id : ℕ) → id < sum (string_counts ls) → lookup_str later id ≡ lookup_str first id
+  pub string_kept : (id : ℕ) → id < sum (string_counts ls) → lookup_str later id ≡ lookup_str first id
   unfolding lookup_str resolve_str id_ok
   string_kept id h =
       let n = string_count_lem ls in
@@ -286,7 +286,7 @@ module _ (first later : LexOutput) (more : List Layer) (e : later.layers ≡ fir
       ∙ ap (λ (s : List ℕ). some s) (str_same ls st grown id (lt-ltb id (sum (string_counts ls)) h))
       ∙ sym (item_in (store_of ls).strings id [] (omega (arith, h, n)))
 
-  contents_kept : (start len : ℕ) → range_ok (content_counts ls) start len ≡ true → shown_contents later start len ≡ shown_contents first start len
+  pub contents_kept : (start len : ℕ) → range_ok (content_counts ls) start len ≡ true → shown_contents later start len ≡ shown_contents first start len
   unfolding shown_contents lookup_contents
   contents_kept start len h =
       let k : range_ok (content_counts later.layers) start len ≡ true = ap (λ (l : List Layer). range_ok (content_counts l) start len) e ∙ contents_more ls more start len h in
@@ -297,7 +297,7 @@ module _ (first later : LexOutput) (more : List Layer) (e : later.layers ≡ fir
       ∙ show_contents_same ls st grown i.0 i.1 (λ x. show_body max_level st x) (λ x. show_body max_level (store_of ls) x) shown_body
       (resolve_content_range (store_of ls) start len) (run_contents_ok ls st grown i.0 i.1 start len)))
 
-  segments_kept : (start len : ℕ) → range_ok (segment_counts ls) start len ≡ true → shown_segments later start len ≡ shown_segments first start len
+  pub segments_kept : (start len : ℕ) → range_ok (segment_counts ls) start len ≡ true → shown_segments later start len ≡ shown_segments first start len
   unfolding shown_segments lookup_segments
   segments_kept start len h =
       let k : range_ok (segment_counts later.layers) start len ≡ true = ap (λ (l : List Layer). range_ok (segment_counts l) start len) e ∙ segments_more ls more start len h in
@@ -305,10 +305,6 @@ module _ (first later : LexOutput) (more : List Layer) (e : later.layers ≡ fir
       rw (h, k)
       (ap (λ (ss : Segments). some ss)
       (show_run_same ls st grown i.0 i.1 (λ x. show_body max_level st x) (λ x. show_body max_level (store_of ls) x) shown_body start len h))
-
-  -- A book whose layers go on from those of a book that passes number 4 has every id and range of it, and each shows what it showed.
-  pub kept_references : KeptReferences first later
-  kept_references = record { strings = string_kept; contents = contents_kept; segments = segments_kept }
 
 -- ---- a new layer above
 

@@ -23,7 +23,6 @@ pub mod Probe
 pub mod Entries
 pub mod Tables
 pub mod Calls
-pub mod Ceiling
 pub mod Graft
 pub mod Levels
 pub mod Layers

@@ -1,6 +1,8 @@
 // Document 01 section 5: one new layer of the result, with the trees of a source's nodes grafted into it and those nodes' records
 // behind it. The walk of crate `graft` writes as if the layer had no strings; its bytes are then moved up and the strings'
 // records written into the gap, so that each tree is walked once.
+#![tactic(auto)]
+
 ghost use Rattle.std.specs.Prelude.{◌≡◌, false, ◌&&◌, ◌∷◌, ◌++◌, ◌+◌, ◌-◌, ◌*◌, ◌%◌, ◌^◌, ◌≤◌, ◌<◌, leb, length, take, drop};
 ghost use Rattle.model.specs.Limits.{max_pool, max_list, max_new_strings, min_work_words};
 ghost use Rattle.model.specs.Tape.{record_bytes, records_bytes, string_codec};

@@ -2,6 +2,8 @@
 // where it finds none. The frame is `places_of`'s; here every record is asked for its shape where it stands: contents and
 // segments layer by layer, by one walk over the layers, then nodes, pairs and diagnostics (containers have no shape). No shape
 // depends on the byte buffer. specs/Shaped.antt says so, and that no tape is refused that is a book.
+#![tactic(auto)]
+
 ghost use Rattle.std.specs.Prelude.{◌≡◌};
 ghost use Rattle.model.specs.Tape.{places};
 ghost use Rattle.layout.specs.Shaped.{runs_shape, layers_shape, lists_shape, layout_of, RunsFit, LayersFit, ListsFit};

@@ -1,5 +1,7 @@
 // The levels of number 5: one segment's own, and tables of them. A table has for each block of 16 items a level that they are below, 255 where
 // none is known, and above these the greatest of each 16 entries (specs/Blocks.antt), up to blocks of 65536 items.
+#![tactic(auto)]
+
 ghost use Rattle.std.specs.Prelude.{◌≡◌, ◌&&◌, leb, ◌+◌, ◌*◌, ◌≤◌, length};
 ghost use Rattle.model.specs.Limits.{max_level};
 ghost use Rattle.model.specs.Lists.{all};

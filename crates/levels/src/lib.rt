@@ -6,6 +6,8 @@
 // A run may be named by every segment, and be as long as its pool. So a book is first tested with every range up to 16 read one by
 // one (`.._quick`, whose 'false' says nothing). Where that does not say yes, two tables are made (crate `level_blocks`), of the segments
 // and of the contents. A range is then walked from block to block, and an item is read only where its block is not below the level.
+#![tactic(auto)]
+
 ghost use Rattle.std.specs.Prelude.{◌≡◌, true, ◌+◌, ◌*◌, ◌^◌, ◌≤◌, ◌<◌, length};
 ghost use Rattle.model.specs.Lists.{all};
 ghost use Rattle.model.specs.Tape.{record_at, records_at, content_codec, segment_codec, places};

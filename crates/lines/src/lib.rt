@@ -1,5 +1,7 @@
 // A line in a lent buffer, for the programs that print one: each function puts bytes at a place and answers the place behind them. What
 // stands before the place is kept, so a line is put part by part; of what stands behind it nothing is said.
+#![tactic(auto)]
+
 ghost use Rattle.std.specs.Prelude.{◌≡◌, ◌++◌, ◌+◌, ◌*◌, ◌≤◌, ◌<◌, length, take};
 ghost use Rattle.io.specs.Digits.{hex_digit_ascii};
 ghost use Rattle.lines.specs.Text.{numbered, refused_line};

@@ -1,5 +1,7 @@
 // The lines of a book, as the program `inspect` prints them: a line a record, in tape order. What a line shows is a table of fields
 // (specs/Table.antt); the book has passed 1 to 7. `first_line` and `next_line` go from record to record, `put_line` puts a record's line.
+#![tactic(auto)]
+
 mod tables;
 
 ghost use Rattle.std.specs.Prelude.{◌≡◌, [], ◌++◌, ℕ, ◌+◌, ◌-◌, ◌*◌, ◌≤◌, ◌<◌, length, take, get_or};

@@ -1,5 +1,7 @@
 // Document 01 sections 3 and 7: what is asked of a book. Each entry tests 1 to 7 first and answers their number; a lookup
 // without an answer says none. No entry has a `requires`; specs/ says for each case of an answer which number and values it is.
+#![tactic(auto)]
+
 ghost use Rattle.std.specs.Prelude.{◌≡◌, ◌≤◌, ◌<◌, ◌^◌};
 ghost use Rattle.model.specs.Tape.{content_codec, segment_codec};
 ghost use Rattle.model.specs.Lookup.{ask_book, diagnostics_allow_incremental, node_at_source, lookup_contents, lookup_segments, lookup_str, lookup_str_span, contents_ok, segments_ok};

@@ -1,5 +1,7 @@
 // A memo in lent words: what was found at a place of a level, by entries of five words. Where an entry stands follows from its place and
 // level alone, and a later one takes its room. A memo may have any length, also none: what finds no room is not remembered.
+#![tactic(auto)]
+
 ghost use Rattle.std.specs.Prelude.{◌≡◌, ◌<◌};
 ghost use Rattle.memo.specs.Memo.{is_of, put_in};
 

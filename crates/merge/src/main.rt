@@ -1,11 +1,15 @@
 // The program of document 01's 'Runs': an input of seven words and five parts is merged, and the line of P5 is printed, or the number of
-// the refusal. `run_read` is all of it but reading and printing: the line that it leaves is the model's, of the stream that was read.
-ghost use Rattle.std.specs.Prelude.{◌≡◌, ℕ, ◌+◌, ◌≤◌, List, length, take};
+// the refusal. `answer_stream` is all of it: from a reader and to a writer whose bytes are known, it writes the model's line of what it reads.
+#![tactic(auto)]
+
+ghost use Rattle.std.specs.Prelude.{◌≡◌, ℕ, ◌+◌, ◌≤◌, List, length, take, OnOk, IfSome};
+ghost use Rattle.std.specs.Io.KnownBytes.{Appends};
 ghost use Rattle.model.specs.Runs.{asked, program, line};
 ghost use Rattle.output.specs.Answer.{output_of};
 ghost use Rattle.runs.specs.Input.{Whole};
 
-use libc::{STDIN_FILENO, STDOUT_FILENO};
+use std::io;
+use std::io::{Read, Write};
 
 // The merge that an input of the right length asks for.
 fn merge_parts(
@@ -84,13 +88,20 @@ fn run_read(
     run(&input[..n], outtape, outbytes, work, out)
 }
 
-fn main() {
+// The program: the line of the stream that the reader gives goes to the writer.
+fn answer_stream<R: Read, W: Write>(reader: &mut R, writer: &mut W) -> io::Result<()>
+    ensures { OnOk result (IfSome (R.remaining reader.old) (λ s. Appends (W.contents writer.old) (W.contents writer.new) (line (program s)))) }
+{
     let mut input = [0u8; 327709];
     let mut outtape = [0u8; 65536];
     let mut outbytes = [0u8; 65536];
     let mut work = [0u32; 16384];
     let mut out = [0u8; 160];
-    let n = io::read_full(STDIN_FILENO, &mut input);
+    let n = stream::read_full(reader, &mut input)?;
     let k = run_read(&input, n, &mut outtape, &mut outbytes, &mut work, &mut out);
-    io::write_all(STDOUT_FILENO, &out[..k]);
+    writer.write_all(&out[..k])
+}
+
+fn main(rt: HostRuntime) -> io::Result<()> {
+    answer_stream(&mut rt.stdin(), &mut rt.stdout())
 }

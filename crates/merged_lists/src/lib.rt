@@ -1,5 +1,7 @@
 // The four lists of the merged book, document 01 section 7: how many old elements are kept on either side of the region, how long the book
 // gets, number 18 as far as it is known before the graft, and the lists written one behind the other.
+#![tactic(auto)]
+
 ghost use Rattle.std.specs.Prelude.{◌≡◌, true, ◌+◌, ◌-◌, ◌*◌, ◌^◌, ◌≤◌, ◌<◌, length, leb};
 ghost use Rattle.laws.specs.Splice.{splice};
 ghost use Rattle.wire.specs.Overwrite.{overwrite};

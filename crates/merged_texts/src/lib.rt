@@ -1,5 +1,7 @@
 // The texts of the merged book and the head of its tape, document 01 section 7: both ends of a text stay, and so do the old layers and
 // the old strings.
+#![tactic(auto)]
+
 ghost use Rattle.std.specs.Prelude.{◌≡◌, ◌++◌, ◌+◌, ◌-◌, ◌≤◌, length};
 ghost use Rattle.model.specs.Bytes.{part};
 ghost use Rattle.laws.specs.Splice.{splice};

@@ -14,7 +14,7 @@ use Rattle.model.specs.Merge.{Stored, Room, IncrementalOutput, merge, padded, ta
 use Rattle.model.specs.Demand3.{Correction, StoredBytes, Separate, BothOrders, Commutes, Demand3, correction_of, merge_of, cut_behind, cut_moved}
 use Rattle.laws.specs.Checks.{chosen_facts}
 use Rattle.laws.specs.Numbers.{merge_numbers}
-use Rattle.commute.specs.Demand3.{demand3}
+use Rattle.commute.proofs.Demand3.{demand3}
 use Rattle.output.specs.Answer.{Merged, output_of}
 use Rattle.output.specs.declared.IncrementalOutput.{IncrementalOutput as Output}
 use Rattle.output.specs.declared.BothOrders.{BothOrders as Answers}

@@ -1,5 +1,7 @@
 // Document 01 section 7, its second paragraph, on running calls: two corrections of one book, merged in both orders. Where all four merges are
 // accepted and the regions are separate, the two books and the two charges are equal and each reference keeps its meaning.
+#![tactic(auto)]
+
 ghost use Rattle.std.specs.Prelude.{◌≡◌, min};
 ghost use Rattle.model.specs.Offset.{max_u32};
 ghost use Rattle.model.specs.Region.{edit_of};

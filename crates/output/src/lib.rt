@@ -1,4 +1,6 @@
 // What a merge answers, and what the lent buffers then hold, document 01 section 7.
+#![tactic(auto)]
+
 ghost use Rattle.std.specs.Prelude.{◌≡◌, ◌≤◌, length, take};
 ghost use Rattle.model.specs.Bytes.{zeros};
 ghost use Rattle.model.specs.Merge.{padded};

@@ -1,6 +1,8 @@
 // What a reading is asked of texts and counts alone, document 01 section 7: its text is the new region's (12), no cut falls inside a normalized
 // character (16), and a layer is free for its nodes (17). The new text is never built: the region of it is the passage with the edit made in it,
 // compared part by part.
+#![tactic(auto)]
+
 ghost use Rattle.std.specs.Prelude.{◌≡◌, ◌≤◌, length};
 ghost use Rattle.model.specs.Lists.{same as same_bytes};
 ghost use Rattle.model.specs.Region.{edited, edit_of};

@@ -3,6 +3,8 @@
 // it, a layer at least, and a byte buffer as long as the records say. No tape is refused by a `requires` and no sum overflows:
 // counts are at most the tape's bytes, and string bytes are known to be over once they pass the byte buffer. `next_layer` walks
 // the layers again. The shapes of the records are left to whoever reads them.
+#![tactic(auto)]
+
 ghost use Rattle.std.specs.Prelude.{◌≡◌, ◌+◌, ◌*◌, ◌^◌, ◌≤◌, ◌<◌, max, length, drop};
 ghost use Rattle.model.specs.Lists.{sum};
 ghost use Rattle.model.specs.Tape.{records_in, records_at, string_codec, layer_places};

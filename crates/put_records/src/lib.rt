@@ -1,4 +1,6 @@
 // A content, a segment and a node written as a record, document 01 section 4: command, operands, body.
+#![tactic(auto)]
+
 ghost use Rattle.std.specs.Prelude.{◌≡◌, [], ◌∷◌, ◌+◌, ◌≤◌, length};
 ghost use Rattle.model.specs.Tape.{content_codec, segment_codec, node_codec, record_bytes};
 ghost use Rattle.wire.specs.Overwrite.{overwrite};

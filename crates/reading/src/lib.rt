@@ -1,5 +1,7 @@
 // What a reading's records must be, document 01 section 7: what it opens it closes (13), no diagnostic of it tells of a bracket left open or a
 // close left over (14); and where a source offset stands in the normalized text. Numbers 12, 16 and 17 are crate `passage`, 15 is `introduces`.
+#![tactic(auto)]
+
 ghost use Rattle.std.specs.Prelude.{◌≡◌, ◌+◌, ◌-◌, ◌*◌, ◌≤◌, ◌<◌, length};
 ghost use Rattle.model.specs.Lists.{any};
 ghost use Rattle.model.specs.Tape.{record_at, records_at, node_codec, diagnostic_codec};

@@ -2,6 +2,8 @@
 // run of them. What each of a body's six words is for is one table, `word_use`.
 // A `requires` says only that the record, or the run, lies inside the tape. A result is an equation with the definition of
 // crate model, over the record that model reads at the place.
+#![tactic(auto)]
+
 ghost use Rattle.std.specs.Prelude.{◌≡◌, ◌+◌, ◌*◌, ◌≤◌, ◌<◌, length, get_or};
 ghost use Rattle.model.specs.Lists.{all};
 ghost use Rattle.model.specs.Tape.{record_at, records_at, tag_counts, unused_zero, body_shape};

@@ -2,6 +2,8 @@
 // passed 1 to 7; `choose_region` is the entry, on any tape and bytes; `region_text` hands the passage on as a part of the text.
 // Number 10 takes the lent words for an index of the strings and a filter of bases, if a Format asks at all: any number of words will do, also
 // none.
+#![tactic(auto)]
+
 ghost use Rattle.std.specs.Prelude.{◌≡◌, List, ℕ, ◌+◌, length};
 ghost use Rattle.model.specs.Bytes.{zeros};
 ghost use Rattle.model.specs.Types.{LexOutput};

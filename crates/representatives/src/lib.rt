@@ -1,6 +1,8 @@
 // Which long strings of a book are equal: for each of them a representative, the id of an equal string, the same for all that are equal.
 // Words: how many pairs there are, then the pairs in the rising order of their first, an id and its representative plus 1. A pair is found
 // by bisection and looked at before it is used: so it need not be there, and what it says is right wherever it stands (specs/Pairs.antt).
+#![tactic(auto)]
+
 ghost use Rattle.std.specs.Prelude.{◌≡◌, List, [], ◌++◌, ℕ, ◌+◌, ◌-◌, ◌*◌, ◌≤◌, ◌<◌, min, length, get_or, leb};
 ghost use Rattle.model.specs.Store.{resolve_str};
 ghost use Rattle.wire.specs.Loops.{any_up_to};

@@ -1,5 +1,7 @@
 // Document 01 section 7: the merged book written into lent buffers, and number 18. Sizes are counted before anything is written; the
 // strings of the new layer are known only once the trees are grafted, so number 18 is decided in two steps.
+#![tactic(auto)]
+
 ghost use Rattle.std.specs.Prelude.{◌≡◌, true, ◌+◌, ◌-◌, ◌^◌, ◌≤◌, ◌<◌, length};
 ghost use Rattle.laws.specs.Splice.{splice};
 ghost use Rattle.wire.specs.Overwrite.{overwrite};

@@ -1,5 +1,7 @@
 // What number 10 and number 15 ask of a node: is it a Ruby, a Format that refers, which string does it name, and does another node name it by the
 // same id.
+#![tactic(auto)]
+
 ghost use Rattle.std.specs.Prelude.{◌≡◌, List, ℕ, ◌+◌, ◌*◌, ◌≤◌, ◌<◌, length};
 ghost use Rattle.model.specs.Lists.{any};
 ghost use Rattle.model.specs.Tape.{record_at, records_at, node_codec};

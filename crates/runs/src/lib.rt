@@ -1,4 +1,6 @@
 // The input and the line of document 01's 'Runs': seven words and five parts, and the line of P5 or the number of the refusal.
+#![tactic(auto)]
+
 ghost use Rattle.std.specs.Prelude.{◌≡◌, [], ◌∷◌, ◌+◌, ◌≤◌, length, take};
 ghost use Rattle.model.specs.Runs.{line};
 ghost use Rattle.runs.specs.Input.{parts_fit, input_number};

@@ -5,6 +5,8 @@
 // that a shared one is walked once. specs/Trees.antt says what the graft of a tree adds, specs/InPlace.antt what is read, specs/Capped.antt
 // how it is summed, specs/Known.antt what the memo says, and specs/Shown.antt that for the store of the tape it is what the graft of the
 // shown trees adds.
+#![tactic(auto)]
+
 ghost use Rattle.std.specs.Prelude.{◌≡◌, ℕ, ◌+◌, ◌*◌, ◌≤◌, ◌<◌, min, true, false, List, length};
 ghost use Rattle.model.specs.Lists.{all};
 ghost use Rattle.model.specs.WellFormed.{word_of};

@@ -2,6 +2,8 @@
 // each is a type of its own and nothing here converts one to another. A span is two offsets. Spans and numbers are moved by a
 // signed 64-bit amount, on every input as the model's `shifted` and `shift_u32` say. A signed number is taken apart once, into
 // an `Amount`; all arithmetic below is unsigned. specs/Values.antt has the model's value of each type.
+#![tactic(auto)]
+
 ghost use Rattle.std.specs.Prelude.{◌≡◌, ◌-◌, ◌<◌, eqb, pos, ◌-ℤ◌};
 ghost use Rattle.model.specs.Offset as model;
 ghost use Rattle.span.specs.Values.{span_of, value_of, option_of, kind_number};

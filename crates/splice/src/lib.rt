@@ -1,6 +1,8 @@
 // Document 01 section 7: the lists of a merge. Each is three parts: the old list up to the region, the reading moved to the region,
 // the old rest moved; what straddles an edge of the region is in none. Here is which records are in a part, how many they are, and
 // where their offsets stand there; crate splice_lists writes pairs, containers and diagnostics, crate splice_nodes the nodes.
+#![tactic(auto)]
+
 ghost use Rattle.std.specs.Prelude.{◌≡◌, true, cond, ◌+◌, ◌*◌, ◌%◌, ◌≤◌, length};
 ghost use Rattle.model.specs.Lists.{keep};
 ghost use Rattle.model.specs.Tape.{record_at, records_at, pair_codec, container_codec, diagnostic_codec};

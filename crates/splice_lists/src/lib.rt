@@ -1,5 +1,7 @@
 // Document 01 section 7: pairs, containers and diagnostics of a merge written, part by part: `merge_pairs`, `merge_container_pairs`,
 // `merge_diagnostics`. Crate splice says which records are in a part and where their offsets stand there.
+#![tactic(auto)]
+
 ghost use Rattle.std.specs.Prelude.{◌≡◌, true, map, ◌+◌, ◌*◌, ◌≤◌, length};
 ghost use Rattle.model.specs.Tape.{record_at, records_at, record_bytes, records_bytes, pair_codec, container_codec, diagnostic_codec};
 ghost use Rattle.model.specs.Merge.{kept_before, kept_behind, pair_located, container_located, diagnostic_located};

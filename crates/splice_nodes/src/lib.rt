@@ -1,5 +1,7 @@
 // Document 01 section 7, `merge_source_nodes`: the nodes of a merge, in the three parts that crate splice has. The reading's nodes
 // stand in the result already, grafted, so they are moved in place.
+#![tactic(auto)]
+
 ghost use Rattle.std.specs.Prelude.{◌≡◌, true, map, ◌+◌, ◌*◌, ◌≤◌, length};
 ghost use Rattle.model.specs.Tape.{record_at, records_at, record_bytes, records_bytes, node_codec};
 ghost use Rattle.model.specs.Merge.{kept_before, kept_behind, node_located};

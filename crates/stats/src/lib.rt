@@ -1,6 +1,8 @@
 // `InternStats`, section 2 of document 01: the seven counts of the interner. Each thing that is counted has a function to which the record
 // is lent, and which changes its own counts and no other. A call of the interner ends in one of four ways; each is a function by value
 // that lends a local to these.
+#![tactic(auto)]
+
 ghost use Rattle.std.specs.Prelude.{◌≡◌, ◌+◌, ◌^◌, ◌<◌, ◌≤◌};
 ghost use Rattle.stats.specs.Counts.{no_stats, plus_call, plus_cache_hit, plus_bypass, plus_table_hit, plus_alloc, plus_resizes, plus_probes, Counted};
 

@@ -2,6 +2,8 @@
 // walk over the layers of a tape whose places are known; ids and ranges are then tests on one pool's starts, and the place of
 // any string, content or segment record in the tape is a sum of starts: layer k begins at 9 + k + 5 × strings before + 10 ×
 // contents before + 37 × segments before. specs/Pools.antt says what the tests mean, specs/Standing.antt what stands there.
+#![tactic(auto)]
+
 ghost use Rattle.std.specs.Prelude.{◌≡◌, ◌+◌, ◌^◌, ◌≤◌, ◌<◌, ltb};
 ghost use Rattle.store.specs.Pools.{start_or, in_layer, in_one, range_in, layer_of};
 ghost use Rattle.store.specs.Stored.{StoreFits, add_runs, store_at};

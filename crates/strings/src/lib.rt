@@ -1,6 +1,8 @@
 // Document 01 section 3: a resolved string is shown as a part of the old string bytes or of the new layer's. A tape says how
 // long its strings are and not where they begin, so `index_strings` writes every k-th start into lent words, k as small as the
 // words allow, and `string_start` walks from the last of them. specs/Starts.antt says what a start is.
+#![tactic(auto)]
+
 ghost use Rattle.std.specs.Prelude.{◌≡◌, true, List, ◌∷◌, [], ℕ, ◌≤◌, ◌<◌, ◌^◌, min, get_or};
 ghost use Rattle.model.specs.Store.{string_span, resolve_content_range};
 ghost use Rattle.records.specs.Values.{content_of};

@@ -4,6 +4,8 @@
 // Work words: a table of n slots stands at n - 256, so that the tables of 256 to 4096 slots lie side by side up to 7936; the
 // starts stand from 8192 on, one more than there are strings, two words each: a byte buffer may be longer than 32 bits count.
 // The words from 15360 on are free for others, and crate `interner` has those below 8192 that the table leaves free.
+#![tactic(auto)]
+
 ghost use Rattle.std.specs.Prelude.{◌≡◌, cond, ◌++◌, [], ◌+◌, ◌*◌, ◌-◌, ◌%◌, ◌<◌, ◌≤◌, length, get_or, take, drop, set, replicate};
 ghost use Rattle.model.specs.Intern.{empty_slot, move_slots, probe as probe_of_model};
 ghost use Rattle.table.specs.Layout.{probe_of, wide_at, wide_words, with_start, strings_of, Starts, Entries, Work, table_of, starts_of, slot_for};

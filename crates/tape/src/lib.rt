@@ -2,6 +2,8 @@
 // 0 where none does. Number 1 is `layout`'s; 2 and 3 are tested on the texts and counts, 4 and 5 by a store of the layers, which
 // number 3 has made small enough, 6 and 7 by one walk over each list. specs/Placed.antt says what 6 and 7 compute,
 // specs/Numbers.antt what each answer says of the model's chains.
+#![tactic(auto)]
+
 ghost use Rattle.std.specs.Prelude.{◌≡◌, List, ℕ};
 ghost use Rattle.model.specs.Tape.{places, book_at};
 ghost use Rattle.places.specs.Found.{found};

@@ -1,153 +1,168 @@
 // Reads cases from standard input and prints what the entries answer: numbers 1 to 7 of a case's tape and bytes, as a book and as a
 // reading, and of an accepted book its copy and the lookups. tools/cases/make writes the cases, and from document 01 the output that is
 // stored beside them.
-use libc::{STDIN_FILENO, STDOUT_FILENO};
+#![tactic(auto)]
 
-fn say(s: &[u8]) {
-    io::write_all(STDOUT_FILENO, s);
+use std::io;
+
+fn say(rt: &impl Print, s: &[u8]) -> io::Result<()> {
+    rt.write_all(s)
 }
 
-fn put(label: &[u8], n: u64) {
-    say(label);
-    io::print_decimal(STDOUT_FILENO, n);
+fn put(rt: &impl Print, label: &str, n: u64) -> io::Result<()> {
+    print!(rt; "{label}{n}")
 }
 
-fn put_byte(b: u8) {
-    io::print_hex(STDOUT_FILENO, b as u64, 2);
+fn put_byte(rt: &impl Print, b: u8) -> io::Result<()> {
+    print!(rt; "{b:02x}")
 }
 
-fn put_hex(s: &[u8]) {
-    let mut i = 0;
-    while i < s.len() {
-        put_byte(s[i]);
-        i += 1;
+fn put_hex(rt: &impl Print, s: &[u8]) -> io::Result<()> {
+    for b in s {
+        put_byte(rt, *b)?;
     }
+    Ok(())
 }
 
-fn put_copied(a: copy::Copied) {
+fn put_copied(rt: &impl Print, a: copy::Copied) -> io::Result<()> {
     match a {
-        copy::Copied::Refused(n) => {
-            put(b"refused ", n as u64);
-        }
-        copy::Copied::Copied(tape, bytes) => {
-            put(b"", tape as u64);
-            put(b" ", bytes as u64);
-        }
+        copy::Copied::Refused(n) => put(rt, "refused ", n as u64),
+        copy::Copied::Copied(tape, bytes) => print!(rt; "{tape} {bytes}"),
     }
 }
 
 // The lengths, and how the two buffers begin.
-fn copy(tape: &[u8], bytes: &[u8]) {
+fn copy(rt: &impl Print, tape: &[u8], bytes: &[u8]) -> io::Result<()> {
     let mut outtape = [7u8; 2048];
     let mut outbytes = [7u8; 64];
-    say(b"  copy: ");
-    put_copied(copy::copy_book(tape, bytes, &mut outtape, &mut outbytes));
-    say(b", ");
-    put_hex(wire::between(&outtape, 0, 16));
-    say(b" ");
-    put_hex(wire::between(&outbytes, 0, 16));
-    say(b"\n");
+    print!(rt; "  copy: ")?;
+    put_copied(
+        rt,
+        copy::copy_book(tape, bytes, &mut outtape, &mut outbytes),
+    )?;
+    print!(rt; ", ")?;
+    put_hex(rt, wire::between(&outtape, 0, 16))?;
+    print!(rt; " ")?;
+    put_hex(rt, wire::between(&outbytes, 0, 16))?;
+    println!(rt)
 }
 
-fn put_allowed(a: lookup::Allowed) {
+fn put_allowed(rt: &impl Print, a: lookup::Allowed) -> io::Result<()> {
     match a {
-        lookup::Allowed::Refused(n) => put(b"refused ", n as u64),
-        lookup::Allowed::Yes => say(b"yes"),
-        lookup::Allowed::No => say(b"no"),
+        lookup::Allowed::Refused(n) => put(rt, "refused ", n as u64),
+        lookup::Allowed::Yes => print!(rt; "yes"),
+        lookup::Allowed::No => print!(rt; "no"),
     }
 }
 
-fn put_node(a: lookup::NodeAt) {
+fn put_node(rt: &impl Print, a: lookup::NodeAt) -> io::Result<()> {
     match a {
-        lookup::NodeAt::Refused(n) => put(b"refused ", n as u64),
-        lookup::NodeAt::Node(i) => put(b"", i as u64),
-        lookup::NodeAt::Nothing => say(b"none"),
+        lookup::NodeAt::Refused(n) => put(rt, "refused ", n as u64),
+        lookup::NodeAt::Node(i) => print!(rt; "{i}"),
+        lookup::NodeAt::Nothing => print!(rt; "none"),
     }
 }
 
 // How many records, and where the first stands, if there is one.
-fn put_records(place: usize, n: u32) {
-    put(b"", n as u64);
+fn put_records(rt: &impl Print, place: usize, n: u32) -> io::Result<()> {
+    print!(rt; "{n}")?;
     if n != 0 {
-        put(b" at ", place as u64);
+        put(rt, " at ", place as u64)?;
     }
+    Ok(())
 }
 
 // A string with the bytes between two places of the byte buffer.
-fn put_string(bytes: &[u8], start: usize, end: usize) {
-    say(b"\"");
-    say(wire::between(bytes, start, end));
-    say(b"\"");
+fn put_string(rt: &impl Print, bytes: &[u8], start: usize, end: usize) -> io::Result<()> {
+    print!(rt; "\"")?;
+    say(rt, wire::between(bytes, start, end))?;
+    print!(rt; "\"")
 }
 
-fn put_str(bytes: &[u8], a: lookup::StrAt) {
+fn put_str(rt: &impl Print, bytes: &[u8], a: lookup::StrAt) -> io::Result<()> {
     match a {
-        lookup::StrAt::Refused(n) => put(b"refused ", n as u64),
-        lookup::StrAt::At(start, end) => put_string(bytes, start, end),
-        lookup::StrAt::Nothing => say(b"none"),
+        lookup::StrAt::Refused(n) => put(rt, "refused ", n as u64),
+        lookup::StrAt::At(start, end) => put_string(rt, bytes, start, end),
+        lookup::StrAt::Nothing => print!(rt; "none"),
     }
 }
 
-fn put_range(start: u32, end: u32, a: lookup::RangeAt) {
-    put(b"", start as u64);
-    put(b" ", end as u64);
-    say(b": ");
+fn put_range(rt: &impl Print, start: u32, end: u32, a: lookup::RangeAt) -> io::Result<()> {
+    print!(rt; "{start} {end}: ")?;
     match a {
-        lookup::RangeAt::Refused(n) => put(b"refused ", n as u64),
-        lookup::RangeAt::At(place, n) => put_records(place, n),
-        lookup::RangeAt::Nothing => say(b"none"),
+        lookup::RangeAt::Refused(n) => put(rt, "refused ", n as u64),
+        lookup::RangeAt::At(place, n) => put_records(rt, place, n),
+        lookup::RangeAt::Nothing => print!(rt; "none"),
     }
 }
 
-fn ask(tape: &[u8], bytes: &[u8], start: u32, end: u32) {
-    copy(tape, bytes);
-    say(b"  diagnostics: ");
-    put_allowed(lookup::diagnostics_allow_incremental(tape, bytes));
-    put(b"\n  node at ", start as u64);
-    say(b": ");
-    put_node(lookup::node_at_source(tape, bytes, start));
-    put(b"\n  string ", start as u64);
-    say(b": ");
-    put_str(bytes, lookup::lookup_str(tape, bytes, start));
-    say(b"\n  contents ");
-    put_range(start, end, lookup::lookup_contents(tape, bytes, start, end));
-    say(b"\n  segments ");
-    put_range(start, end, lookup::lookup_segments(tape, bytes, start, end));
-    say(b"\n");
+fn ask(rt: &impl Print, tape: &[u8], bytes: &[u8], start: u32, end: u32) -> io::Result<()> {
+    copy(rt, tape, bytes)?;
+    print!(rt; "  diagnostics: ")?;
+    put_allowed(rt, lookup::diagnostics_allow_incremental(tape, bytes))?;
+    print!(rt; "\n  node at {start}: ")?;
+    put_node(rt, lookup::node_at_source(tape, bytes, start))?;
+    print!(rt; "\n  string {start}: ")?;
+    put_str(rt, bytes, lookup::lookup_str(tape, bytes, start))?;
+    print!(rt; "\n  contents ")?;
+    put_range(
+        rt,
+        start,
+        end,
+        lookup::lookup_contents(tape, bytes, start, end),
+    )?;
+    print!(rt; "\n  segments ")?;
+    put_range(
+        rt,
+        start,
+        end,
+        lookup::lookup_segments(tape, bytes, start, end),
+    )?;
+    println!(rt)
 }
 
-fn show(label: &[u8], tape: &[u8], bytes: &[u8], start: u32, end: u32) {
+fn show(
+    rt: &impl Print,
+    label: &[u8],
+    tape: &[u8],
+    bytes: &[u8],
+    start: u32,
+    end: u32,
+) -> io::Result<()> {
     let n = tape::check_book(tape, bytes);
-    say(label);
-    put(b": check ", n as u64);
-    put(b", reading ", tape::check_reading(tape, bytes) as u64);
-    say(b"\n");
+    say(rt, label)?;
+    put(rt, ": check ", n as u64)?;
+    put(rt, ", reading ", tape::check_reading(tape, bytes) as u64)?;
+    println!(rt)?;
     if n == 0 {
-        ask(tape, bytes, start, end);
+        ask(rt, tape, bytes, start, end)?;
     }
+    Ok(())
 }
 
-fn show_case(input: &[u8], c: cases::Case) {
+fn show_case(rt: &impl Print, input: &[u8], c: cases::Case) -> io::Result<()> {
     show(
+        rt,
         wire::between(input, c.label, c.tape),
         wire::between(input, c.tape, c.bytes),
         wire::between(input, c.bytes, c.replacement),
         c.start,
         c.end,
-    );
+    )
 }
 
-fn show_all(input: &[u8]) {
+fn show_all(rt: &impl Print, input: &[u8]) -> io::Result<()> {
     let mut at = 0;
     while at < input.len() {
         let c = cases::case_at(input, at);
-        show_case(input, c);
+        show_case(rt, input, c)?;
         at = c.next;
     }
+    Ok(())
 }
 
-fn main() {
+fn main(rt: HostRuntime) -> io::Result<()> {
     let mut input = [0u8; 65536];
-    let n = io::read_full(STDIN_FILENO, &mut input);
-    show_all(&input[..n]);
+    let n = stream::read_full(&mut rt.stdin(), &mut input)?;
+    show_all(&rt, &input[..n])
 }

@@ -2,6 +2,8 @@
 // itself. All bytes are tested together, and then that no character lies across the end of a text or string; the strings are
 // walked layer by layer, as their bytes stand one behind the other. Number 3: no text, pool, list or number of layers is over
 // its limit, by the counts that `places_of` found.
+#![tactic(auto)]
+
 ghost use Rattle.std.specs.Prelude.{◌≡◌, true, ◌+◌, ◌*◌, ◌≤◌, length, take, drop};
 ghost use Rattle.model.specs.Lists.{all, sum};
 ghost use Rattle.model.specs.Utf8.{utf8};

@@ -1,6 +1,8 @@
 // UTF-8 by RFC 3629, for document 01's returned numbers 2 (a text is not UTF-8), 8 and 16 (a place inside a character): a walk by
 // characters. specs/Skips.antt: runs of ASCII, and of three bytes, are skipped together. specs/Blocks.antt: 64 bytes are
 // judged together by their neighbours.
+#![tactic(auto)]
+
 ghost use Rattle.std.specs.Prelude.{◌≡◌, ◌&&◌, ◌+◌, ◌≤◌, ◌<◌, length, get_or, ltb};
 ghost use Rattle.model.specs.Utf8.{utf8, is_char_boundary};
 ghost use Rattle.wire.specs.Loops.{all_up_to, any_up_to};

@@ -1,6 +1,8 @@
 // Bytes at a place, document 01 section 4: words little-endian read and written, a part, a copy, zeros to the end. `byte_at` and
 // `u32_or_zero` take any place and read 0 past the end: they are for a tape of which nothing is known yet. The others ask for their
 // place. A writer's contract is an equation with `overwrite`; specs/ has its laws, and those of loops, for every crate above.
+#![tactic(auto)]
+
 ghost use Rattle.std.specs.Prelude.{◌≡◌, ◌∷◌, [], ◌+◌, ◌-◌, ◌*◌, ◌≤◌, ◌<◌, length, take};
 ghost use Rattle.model.specs.Bytes.{byte_at, word_at, word_bytes, part, zeros};
 ghost use Rattle.wire.specs.Overwrite.{overwrite};

@@ -28,10 +28,7 @@ graft_body-loop-j-init t c =
 
 pub graft_body-graft_place-u-requires : goal.graft_body-graft_place-u-requires
 graft_body-graft_place-u-requires t c =
-    (omega arith, record {
-        ready = body_ready c.args.level c.args.tape.now c.args.bytes.now c.args.st c.args.p c.args.m (body_at c.args.tape.now c.args.at) c.args.out.now c.args.work.now c.args.strs.now c.requires.ready c.requires.at_in_bounds.1 c.loop-j.invariant.1 c.loop-j-test.true;
-        at_in_bounds = (c.requires.at_in_bounds.0, c.requires.at_in_bounds.1, c.loop-j-test.true)
-    })
+    (omega arith, (body_ready c.args.level c.args.tape.now c.args.bytes.now c.args.st c.args.p c.args.m (body_at c.args.tape.now c.args.at) c.args.out.now c.args.work.now c.args.strs.now c.requires.ready c.requires.at_in_bounds.1 c.loop-j.invariant.1 c.loop-j-test.true, (c.requires.at_in_bounds.0, c.requires.at_in_bounds.1, c.loop-j-test.true)))
 
 pub graft_body-shape_of-out-then-not-k : goal.graft_body-shape_of-out-then-not-k
 graft_body-shape_of-out-then-not-k t c =
@@ -132,10 +129,7 @@ graft_content-returns-then-c-eq0 t c =
 
 pub graft_content-graft_segment_run-s-requires : goal.graft_content-graft_segment_run-s-requires
 graft_content-graft_segment_run-s-requires t c =
-    (omega arith, record {
-        ready = run_ready c.args.tape.now c.args.st c.args.at c.content_at-c.result c.content_at-c.ensures (inner_adds c.args.level c.args.tape.now c.args.st) c.if-c-eq0.false c.requires.ready;
-        len_value = run_known c.args.tape.now c.args.st c.args.at c.content_at-c.result c.content_at-c.ensures c.requires.at_in_bounds.1 c.if-c-eq0.false
-    })
+    (omega arith, (run_ready c.args.tape.now c.args.st c.args.at c.content_at-c.result c.content_at-c.ensures (inner_adds c.args.level c.args.tape.now c.args.st) c.if-c-eq0.false c.requires.ready, run_known c.args.tape.now c.args.st c.args.at c.content_at-c.result c.content_at-c.ensures c.requires.at_in_bounds.1 c.if-c-eq0.false))
 
 pub graft_content-shape_of-out-then-not-k-2 : goal.graft_content-shape_of-out-then-not-k-2
 graft_content-shape_of-out-then-not-k-2 t c =
@@ -199,11 +193,7 @@ graft_content_run-overflow_add-to t c =
 
 pub graft_content_run-graft_contents-r-requires : goal.graft_content_run-graft_contents-r-requires
 graft_content_run-graft_contents-r-requires t c =
-    (omega arith, record {
-        ready = contents_ready c.args.level c.args.start c.args.len c.requires.len_value c.requires.ready c.content_place-at.result c.content_place-at.ensures;
-        count_in_bounds = (contents_within c.args.level c.args.start c.args.len c.requires.len_value c.requires.ready c.content_place-at.result c.content_place-at.ensures c.if-len-eq0.false, contents_known c.args.level c.args.start c.args.len c.requires.len_value c.requires.ready c.content_place-at.result c.content_place-at.ensures);
-        count_bound = (omega (arith, c.inner_contents-inner.ensures), omega (arith, contents_high c.args.level c.args.start c.args.len c.requires.len_value c.requires.ready c.content_place-at.result c.content_place-at.ensures, c.inner_contents-inner.ensures), omega (arith, contents_numbers c.args.level c.args.start c.args.len c.requires.len_value c.requires.ready c.content_place-at.result c.content_place-at.ensures, c.inner_contents-inner.ensures))
-    })
+    (omega arith, (contents_ready c.args.level c.args.start c.args.len c.requires.len_value c.requires.ready c.content_place-at.result c.content_place-at.ensures, ((contents_within c.args.level c.args.start c.args.len c.requires.len_value c.requires.ready c.content_place-at.result c.content_place-at.ensures c.if-len-eq0.false, contents_known c.args.level c.args.start c.args.len c.requires.len_value c.requires.ready c.content_place-at.result c.content_place-at.ensures), (omega (arith, c.inner_contents-inner.ensures), omega (arith, contents_high c.args.level c.args.start c.args.len c.requires.len_value c.requires.ready c.content_place-at.result c.content_place-at.ensures, c.inner_contents-inner.ensures), omega (arith, contents_numbers c.args.level c.args.start c.args.len c.requires.len_value c.requires.ready c.content_place-at.result c.content_place-at.ensures, c.inner_contents-inner.ensures)))))
 
 pub graft_content_run-pushed_contents-requires : goal.graft_content_run-pushed_contents-requires
 graft_content_run-pushed_contents-requires t c =
@@ -247,11 +237,7 @@ graft_contents-overflow_add-to t c =
 
 pub graft_contents-graft_content-u-requires : goal.graft_contents-graft_content-u-requires
 graft_contents-graft_content-u-requires t c =
-    (omega arith, record {
-        ready = item_ready (content_grafts c.requires.ready.source c.args.level) c.args.at c.args.count (c.args.p.contentsat + 10 * c.args.to) c.requires.ready c.requires.count_in_bounds.1 c.loop-i.invariant.1 c.loop-i-test.true;
-        at_in_bounds = (omega (arith, c.requires.count_in_bounds.0, c.loop-i-test.true), item_known (content_grafts c.requires.ready.source c.args.level) c.args.at c.args.count (c.args.p.contentsat + 10 * c.args.to) c.requires.ready c.requires.count_in_bounds.1 c.loop-i.i c.loop-i-test.true);
-        at_bound = (omega (arith, (item_low (content_grafts c.requires.ready.source c.args.level) c.args.at c.args.count (c.args.p.contentsat + 10 * c.args.to) c.requires.ready c.requires.count_in_bounds.1 c.loop-i.invariant.1 c.loop-i-test.true).0, c.requires.count_bound.0), omega (arith, c.requires.count_bound.1, c.loop-i-test.true))
-    })
+    (omega arith, (item_ready (content_grafts c.requires.ready.source c.args.level) c.args.at c.args.count (c.args.p.contentsat + 10 * c.args.to) c.requires.ready c.requires.count_in_bounds.1 c.loop-i.invariant.1 c.loop-i-test.true, ((omega (arith, c.requires.count_in_bounds.0, c.loop-i-test.true), item_known (content_grafts c.requires.ready.source c.args.level) c.args.at c.args.count (c.args.p.contentsat + 10 * c.args.to) c.requires.ready c.requires.count_in_bounds.1 c.loop-i.i c.loop-i-test.true), (omega (arith, (item_low (content_grafts c.requires.ready.source c.args.level) c.args.at c.args.count (c.args.p.contentsat + 10 * c.args.to) c.requires.ready c.requires.count_in_bounds.1 c.loop-i.invariant.1 c.loop-i-test.true).0, c.requires.count_bound.0), omega (arith, c.requires.count_bound.1, c.loop-i-test.true)))))
 
 pub graft_contents-shape_of-out-then-not-u : goal.graft_contents-shape_of-out-then-not-u
 graft_contents-shape_of-out-then-not-u t c =
@@ -299,10 +285,7 @@ graft_contents-returns t c =
 
 pub graft_field-graft_content_run-requires : goal.graft_field-graft_content_run-requires
 graft_field-graft_content_run-requires t c =
-    (omega arith, record {
-        ready = field_contents_ready c.args.level c.args.tape.now c.args.bytes.now c.args.p c.args.m c.args.out.now c.args.work.now c.args.strs.now c.args.f c.args.st (inner_adds c.args.level c.args.tape.now c.args.st) c.requires.ready c.if-f-eq3.true;
-        len_value = sym (used_contents c.args.st c.args.f.usage c.args.f.first c.args.f.second c.if-f-eq3.true) ∙ c.requires.second_value
-    })
+    (omega arith, (field_contents_ready c.args.level c.args.tape.now c.args.bytes.now c.args.p c.args.m c.args.out.now c.args.work.now c.args.strs.now c.args.f c.args.st (inner_adds c.args.level c.args.tape.now c.args.st) c.requires.ready c.if-f-eq3.true, sym (used_contents c.args.st c.args.f.usage c.args.f.first c.args.f.second c.if-f-eq3.true) ∙ c.requires.second_value))
 
 pub graft_field-shape_of-out-then-f-eq3 : goal.graft_field-shape_of-out-then-f-eq3
 graft_field-shape_of-out-then-f-eq3 t c =
@@ -322,10 +305,7 @@ graft_field-returns-then-f-eq3 t c =
 
 pub graft_field-graft_segment_run-requires : goal.graft_field-graft_segment_run-requires
 graft_field-graft_segment_run-requires t c =
-    (omega arith, record {
-        ready = field_segments_ready c.args.level c.args.tape.now c.args.bytes.now c.args.p c.args.m c.args.out.now c.args.work.now c.args.strs.now c.args.f c.args.st (inner_adds c.args.level c.args.tape.now c.args.st) c.requires.ready c.if-f-eq3.false c.if-f-eq5.true;
-        len_value = sym (used_segments c.args.st c.args.f.usage c.args.f.first c.args.f.second c.if-f-eq5.true) ∙ c.requires.second_value
-    })
+    (omega arith, (field_segments_ready c.args.level c.args.tape.now c.args.bytes.now c.args.p c.args.m c.args.out.now c.args.work.now c.args.strs.now c.args.f c.args.st (inner_adds c.args.level c.args.tape.now c.args.st) c.requires.ready c.if-f-eq3.false c.if-f-eq5.true, sym (used_segments c.args.st c.args.f.usage c.args.f.first c.args.f.second c.if-f-eq5.true) ∙ c.requires.second_value))
 
 pub graft_field-shape_of-out-then-f-eq5 : goal.graft_field-shape_of-out-then-f-eq5
 graft_field-shape_of-out-then-f-eq5 t c =
@@ -379,10 +359,7 @@ graft_place-field_at-f-requires t c =
 
 pub graft_place-graft_field-s-requires : goal.graft_place-graft_field-s-requires
 graft_place-graft_field-s-requires t c =
-    (omega arith, record {
-        ready = place_ready c.args.st (body_at c.args.tape.now c.args.at) c.args.j (inner_adds c.args.level c.args.tape.now c.args.st) c.field_at-f.result c.field_at-f.ensures c.requires.ready;
-        second_value = place_well c.args.st (body_at c.args.tape.now c.args.at) c.args.j c.requires.at_in_bounds.1 (word_small c.args.tape.now c.args.at c.args.j c.field_word-i.result c.field_word-i.ensures.0 c.field_word-i.ensures.1) c.field_at-f.result c.field_at-f.ensures
-    })
+    (omega arith, (place_ready c.args.st (body_at c.args.tape.now c.args.at) c.args.j (inner_adds c.args.level c.args.tape.now c.args.st) c.field_at-f.result c.field_at-f.ensures c.requires.ready, place_well c.args.st (body_at c.args.tape.now c.args.at) c.args.j c.requires.at_in_bounds.1 (word_small c.args.tape.now c.args.at c.args.j c.field_word-i.result c.field_word-i.ensures.0 c.field_word-i.ensures.1) c.field_at-f.result c.field_at-f.ensures))
 
 pub graft_place-with_words-requires : goal.graft_place-with_words-requires
 graft_place-with_words-requires t c =
@@ -446,10 +423,7 @@ graft_segment-overflow_add-at t c =
 
 pub graft_segment-graft_body-b-requires : goal.graft_segment-graft_body-b-requires
 graft_segment-graft_body-b-requires t c =
-    (omega (arith, c.if-level-eq0.false), record {
-        ready = below_ready c.args.level c.args.at c.if-level-eq0.false c.requires.ready;
-        at_in_bounds = (omega (arith, c.requires.at_in_bounds.0), body_known c.args.st c.args.tape.now c.args.at c.requires.at_in_bounds.1)
-    })
+    (omega (arith, c.if-level-eq0.false), (below_ready c.args.level c.args.at c.if-level-eq0.false c.requires.ready, (omega (arith, c.requires.at_in_bounds.0), body_known c.args.st c.args.tape.now c.args.at c.requires.at_in_bounds.1)))
 
 pub graft_segment-shape_of-out-then-not-k : goal.graft_segment-shape_of-out-then-not-k
 graft_segment-shape_of-out-then-not-k t c =
@@ -545,11 +519,7 @@ graft_segment_run-overflow_add-to t c =
 
 pub graft_segment_run-graft_segments-r-requires : goal.graft_segment_run-graft_segments-r-requires
 graft_segment_run-graft_segments-r-requires t c =
-    (omega arith, record {
-        ready = segments_ready c.args.level c.args.start c.args.len c.requires.len_value c.requires.ready c.segment_place-at.result c.segment_place-at.ensures;
-        count_in_bounds = (segments_within c.args.level c.args.start c.args.len c.requires.len_value c.requires.ready c.segment_place-at.result c.segment_place-at.ensures c.if-len-eq0.false, segments_known c.args.level c.args.start c.args.len c.requires.len_value c.requires.ready c.segment_place-at.result c.segment_place-at.ensures);
-        count_bound = (omega (arith, c.inner_segments-inner.ensures), omega (arith, segments_high c.args.level c.args.start c.args.len c.requires.len_value c.requires.ready c.segment_place-at.result c.segment_place-at.ensures, c.inner_segments-inner.ensures), omega (arith, segments_numbers c.args.level c.args.start c.args.len c.requires.len_value c.requires.ready c.segment_place-at.result c.segment_place-at.ensures, c.inner_segments-inner.ensures))
-    })
+    (omega arith, (segments_ready c.args.level c.args.start c.args.len c.requires.len_value c.requires.ready c.segment_place-at.result c.segment_place-at.ensures, ((segments_within c.args.level c.args.start c.args.len c.requires.len_value c.requires.ready c.segment_place-at.result c.segment_place-at.ensures c.if-len-eq0.false, segments_known c.args.level c.args.start c.args.len c.requires.len_value c.requires.ready c.segment_place-at.result c.segment_place-at.ensures), (omega (arith, c.inner_segments-inner.ensures), omega (arith, segments_high c.args.level c.args.start c.args.len c.requires.len_value c.requires.ready c.segment_place-at.result c.segment_place-at.ensures, c.inner_segments-inner.ensures), omega (arith, segments_numbers c.args.level c.args.start c.args.len c.requires.len_value c.requires.ready c.segment_place-at.result c.segment_place-at.ensures, c.inner_segments-inner.ensures)))))
 
 pub graft_segment_run-pushed_segments-requires : goal.graft_segment_run-pushed_segments-requires
 graft_segment_run-pushed_segments-requires t c =
@@ -593,11 +563,7 @@ graft_segments-overflow_add-to t c =
 
 pub graft_segments-graft_segment-u-requires : goal.graft_segments-graft_segment-u-requires
 graft_segments-graft_segment-u-requires t c =
-    (omega arith, record {
-        ready = item_ready (segment_grafts c.requires.ready.source c.args.level) c.args.at c.args.count (c.args.p.segmentsat + 37 * c.args.to) c.requires.ready c.requires.count_in_bounds.1 c.loop-i.invariant.1 c.loop-i-test.true;
-        at_in_bounds = (omega (arith, c.requires.count_in_bounds.0, c.loop-i-test.true), item_known (segment_grafts c.requires.ready.source c.args.level) c.args.at c.args.count (c.args.p.segmentsat + 37 * c.args.to) c.requires.ready c.requires.count_in_bounds.1 c.loop-i.i c.loop-i-test.true);
-        at_bound = (omega (arith, (item_low (segment_grafts c.requires.ready.source c.args.level) c.args.at c.args.count (c.args.p.segmentsat + 37 * c.args.to) c.requires.ready c.requires.count_in_bounds.1 c.loop-i.invariant.1 c.loop-i-test.true).1, c.requires.count_bound.0), omega (arith, c.requires.count_bound.1, c.loop-i-test.true))
-    })
+    (omega arith, (item_ready (segment_grafts c.requires.ready.source c.args.level) c.args.at c.args.count (c.args.p.segmentsat + 37 * c.args.to) c.requires.ready c.requires.count_in_bounds.1 c.loop-i.invariant.1 c.loop-i-test.true, ((omega (arith, c.requires.count_in_bounds.0, c.loop-i-test.true), item_known (segment_grafts c.requires.ready.source c.args.level) c.args.at c.args.count (c.args.p.segmentsat + 37 * c.args.to) c.requires.ready c.requires.count_in_bounds.1 c.loop-i.i c.loop-i-test.true), (omega (arith, (item_low (segment_grafts c.requires.ready.source c.args.level) c.args.at c.args.count (c.args.p.segmentsat + 37 * c.args.to) c.requires.ready c.requires.count_in_bounds.1 c.loop-i.invariant.1 c.loop-i-test.true).1, c.requires.count_bound.0), omega (arith, c.requires.count_bound.1, c.loop-i-test.true)))))
 
 pub graft_segments-shape_of-out-then-not-u : goal.graft_segments-shape_of-out-then-not-u
 graft_segments-shape_of-out-then-not-u t c =

@@ -10,8 +10,8 @@ use Rattle.intern_run.proofs.call.Goals as goal
 pub intern-requires : goal.intern-requires
 intern-requires c =
     record {
-        good = c.requires c.if-a.true;
-        calls_bound = c.if-c-lt4294967296.true
+      good = c.requires c.if-a.true;
+      calls_bound = c.if-c-lt4294967296.true;
     }
 
 pub returns-then-c-lt4294967296 : goal.returns-then-c-lt4294967296

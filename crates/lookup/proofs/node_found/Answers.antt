@@ -7,3 +7,8 @@ pub returns-in-At : goal.returns-in-At
 unfolding node_found
 returns-in-At c =
     rw c.in-At.is refl
+
+pub returns-in-Nothing : goal.returns-in-Nothing
+unfolding node_found
+returns-in-Nothing c =
+    search rules

@@ -11,8 +11,8 @@ returns-then-n-ne0 c =
 pub merge_parts-requires : goal.merge_parts-requires
 merge_parts-requires c =
     record {
-        whole = input_whole _ c.input_refusal-n.ensures c.if-n-ne0.false;
-        outtape_len = c.requires
+      whole = input_whole _ c.input_refusal-n.ensures c.if-n-ne0.false;
+      outtape_len = c.requires;
     }
 
 pub returns : goal.returns

@@ -30,10 +30,7 @@ pub body_sizes-field_sizes-u-requires : goal.body_sizes-field_sizes-u-requires
 body_sizes-field_sizes-u-requires t c =
     let turn = c in
     let start = turn in
-    (omega arith, record {
-        of_tape = (start.requires.of_tape.0, turn.loop-j.invariant.1);
-        kept = turn.loop-j.invariant.0.kept
-    })
+    (omega arith, ((start.requires.of_tape.0, turn.loop-j.invariant.1), turn.loop-j.invariant.0.kept))
 
 pub body_sizes-returns-then-u : goal.body_sizes-returns-then-u
 body_sizes-returns-then-u t c =
@@ -90,11 +87,7 @@ content_run_sizes-contents_walk-requires t c =
     let at-with-added = c in
     let at-content-count = at-with-added in
     let start = at-content-count in
-    (omega arith, record {
-        of_tape = (start.requires.of_tape.0, start.requires.of_tape.1);
-        kept = kept_plus start.args.t (new_contents at-content-count.content_count-n.result) at-with-added.with_added-u.ensures;
-        count_in_bounds = contents_inside start.args.tape.now start.args.st start.requires.of_tape.0 start.args.start start.args.len _ _ c.if-n-eq0.false at-content-count.content_count-n.ensures c.content_place-at.ensures
-    })
+    (omega arith, ((start.requires.of_tape.0, start.requires.of_tape.1), (kept_plus start.args.t (new_contents at-content-count.content_count-n.result) at-with-added.with_added-u.ensures, contents_inside start.args.tape.now start.args.st start.requires.of_tape.0 start.args.start start.args.len _ _ c.if-n-eq0.false at-content-count.content_count-n.ensures c.content_place-at.ensures)))
 
 pub content_run_sizes-returns : goal.content_run_sizes-returns
 content_run_sizes-returns t c =
@@ -117,10 +110,7 @@ content_sizes-returns-then-c-eq0 t c =
 pub content_sizes-segment_run_sizes-requires : goal.content_sizes-segment_run_sizes-requires
 content_sizes-segment_run_sizes-requires t c =
     let start = c in
-    (omega arith, record {
-        of_tape = (start.requires.of_tape.0, start.requires.of_tape.1);
-        kept = start.requires.kept
-    })
+    (omega arith, ((start.requires.of_tape.0, start.requires.of_tape.1), start.requires.kept))
 
 pub content_sizes-returns-then-c-ne1 : goal.content_sizes-returns-then-c-ne1
 content_sizes-returns-then-c-ne1 t c =
@@ -132,10 +122,7 @@ content_sizes-returns-then-c-ne1 t c =
 pub content_sizes-segment_run_sizes-requires-then-place-eq0 : goal.content_sizes-segment_run_sizes-requires-then-place-eq0
 content_sizes-segment_run_sizes-requires-then-place-eq0 t c =
     let start = c in
-    (omega arith, record {
-        of_tape = (start.requires.of_tape.0, start.requires.of_tape.1);
-        kept = start.requires.kept
-    })
+    (omega arith, ((start.requires.of_tape.0, start.requires.of_tape.1), start.requires.kept))
 
 pub content_sizes-returns-then-place-eq0 : goal.content_sizes-returns-then-place-eq0
 content_sizes-returns-then-place-eq0 t c =
@@ -160,11 +147,7 @@ content_sizes-segment_sizes-requires t c =
     let at-if2 = at-lone-place in
     let at-content-at = at-if2 in
     let start = at-content-at in
-    (omega arith, record {
-        of_tape = (start.requires.of_tape.0, start.requires.of_tape.1);
-        kept = kept_plus start.args.t (new_segments 1) c.with_added-u.ensures;
-        at_in_bounds = lone_inside start.args.room start.args.t (inner_adds start.args.level start.args.tape.now start.args.st) start.args.tape.now start.args.st at-content-at.content_at-c.result.first at-content-at.content_at-c.result.second at-lone-place.lone_place-place.result at-if2.if-c-ne1.false at-lone-place.lone_place-place.ensures at-if3.if-place-eq0.false start.requires.of_tape.0
-    })
+    (omega arith, ((start.requires.of_tape.0, start.requires.of_tape.1), (kept_plus start.args.t (new_segments 1) c.with_added-u.ensures, lone_inside start.args.room start.args.t (inner_adds start.args.level start.args.tape.now start.args.st) start.args.tape.now start.args.st at-content-at.content_at-c.result.first at-content-at.content_at-c.result.second at-lone-place.lone_place-place.result at-if2.if-c-ne1.false at-lone-place.lone_place-place.ensures at-if3.if-place-eq0.false start.requires.of_tape.0)))
 
 pub content_sizes-returns : goal.content_sizes-returns
 content_sizes-returns t c =
@@ -192,11 +175,7 @@ contents_walk-overflow_add-at t c =
 pub contents_walk-content_sizes-next-requires : goal.contents_walk-content_sizes-next-requires
 contents_walk-content_sizes-next-requires t c =
     let start = c in
-    (omega arith, record {
-        of_tape = (start.requires.of_tape.0, c.loop-i.invariant.1);
-        kept = c.loop-i.invariant.0.kept;
-        at_in_bounds = omega (arith, start.requires.count_in_bounds)
-    })
+    (omega arith, ((start.requires.of_tape.0, c.loop-i.invariant.1), (c.loop-i.invariant.0.kept, omega (arith, start.requires.count_in_bounds))))
 
 pub contents_walk-returns-then-next : goal.contents_walk-returns-then-next
 unfolding content_from
@@ -285,10 +264,7 @@ contents_walk-returns t c =
 pub field_sizes-content_run_sizes-requires : goal.field_sizes-content_run_sizes-requires
 field_sizes-content_run_sizes-requires t c =
     let start = c in
-    (omega arith, record {
-        of_tape = (start.requires.of_tape.0, start.requires.of_tape.1);
-        kept = start.requires.kept
-    })
+    (omega arith, ((start.requires.of_tape.0, start.requires.of_tape.1), start.requires.kept))
 
 pub field_sizes-returns-then-f-eq3 : goal.field_sizes-returns-then-f-eq3
 field_sizes-returns-then-f-eq3 t c =
@@ -299,10 +275,7 @@ field_sizes-returns-then-f-eq3 t c =
 pub field_sizes-segment_run_sizes-requires : goal.field_sizes-segment_run_sizes-requires
 field_sizes-segment_run_sizes-requires t c =
     let start = c in
-    (omega arith, record {
-        of_tape = (start.requires.of_tape.0, start.requires.of_tape.1);
-        kept = start.requires.kept
-    })
+    (omega arith, ((start.requires.of_tape.0, start.requires.of_tape.1), start.requires.kept))
 
 pub field_sizes-returns-then-f-eq5 : goal.field_sizes-returns-then-f-eq5
 field_sizes-returns-then-f-eq5 t c =
@@ -345,11 +318,7 @@ segment_run_sizes-segments_walk-requires t c =
     let at-with-added = c in
     let at-segment-count = at-with-added in
     let start = at-segment-count in
-    (omega arith, record {
-        of_tape = (start.requires.of_tape.0, start.requires.of_tape.1);
-        kept = kept_plus start.args.t (new_segments at-segment-count.segment_count-n.result) at-with-added.with_added-u.ensures;
-        count_in_bounds = segments_inside start.args.tape.now start.args.st start.requires.of_tape.0 start.args.start start.args.len _ _ c.if-n-eq0.false at-segment-count.segment_count-n.ensures c.segment_place-at.ensures
-    })
+    (omega arith, ((start.requires.of_tape.0, start.requires.of_tape.1), (kept_plus start.args.t (new_segments at-segment-count.segment_count-n.result) at-with-added.with_added-u.ensures, segments_inside start.args.tape.now start.args.st start.requires.of_tape.0 start.args.start start.args.len _ _ c.if-n-eq0.false at-segment-count.segment_count-n.ensures c.segment_place-at.ensures)))
 
 pub segment_run_sizes-returns : goal.segment_run_sizes-returns
 segment_run_sizes-returns t c =
@@ -401,11 +370,7 @@ segment_sizes-segment_walk-requires t c =
     let at-entry-of = c in
     let at-if1 = at-entry-of in
     let start = at-if1 in
-    (omega arith, record {
-        of_tape = (start.requires.of_tape.0, start.requires.of_tape.1);
-        kept = start.requires.kept;
-        at_in_bounds = (start.requires.at_in_bounds, omega (arith, at-if1.if-level-eq0.false), at-entry-of.entry_of-e.ensures)
-    })
+    (omega arith, ((start.requires.of_tape.0, start.requires.of_tape.1), (start.requires.kept, (start.requires.at_in_bounds, omega (arith, at-if1.if-level-eq0.false), at-entry-of.entry_of-e.ensures))))
 
 pub segment_sizes-returns : goal.segment_sizes-returns
 segment_sizes-returns t c =
@@ -422,11 +387,7 @@ segment_walk-overflow_sub-level t c =
 pub segment_walk-body_sizes-r-requires : goal.segment_walk-body_sizes-r-requires
 segment_walk-body_sizes-r-requires t c =
     let start = c in
-    (omega (arith, start.requires.at_in_bounds.1), record {
-        of_tape = (start.requires.of_tape.0, start.requires.of_tape.1);
-        kept = start.requires.kept;
-        at_in_bounds = omega (arith, start.requires.at_in_bounds.0)
-    })
+    (omega (arith, start.requires.at_in_bounds.1), ((start.requires.of_tape.0, start.requires.of_tape.1), (start.requires.kept, omega (arith, start.requires.at_in_bounds.0))))
 
 pub segment_walk-returns-then-r : goal.segment_walk-returns-then-r
 segment_walk-returns-then-r t c =
@@ -466,11 +427,7 @@ segments_walk-overflow_add-at t c =
 pub segments_walk-segment_sizes-next-requires : goal.segments_walk-segment_sizes-next-requires
 segments_walk-segment_sizes-next-requires t c =
     let start = c in
-    (omega arith, record {
-        of_tape = (start.requires.of_tape.0, c.loop-i.invariant.1);
-        kept = c.loop-i.invariant.0.kept;
-        at_in_bounds = omega (arith, start.requires.count_in_bounds)
-    })
+    (omega arith, ((start.requires.of_tape.0, c.loop-i.invariant.1), (c.loop-i.invariant.0.kept, omega (arith, start.requires.count_in_bounds))))
 
 pub segments_walk-returns-then-next : goal.segments_walk-returns-then-next
 unfolding segment_from

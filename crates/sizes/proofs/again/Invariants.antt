@@ -7,7 +7,7 @@ use Rattle.sizes.specs.Again.{times, times_none, times_more, times_end, again_is
 use Rattle.sizes.proofs.again.Given as goal
 
 abbrev pub invariant-loop-j : goal.invariant-loop-j
-invariant-loop-j l = (l.j ≤ l.k) × (l.u ≡ plus l.room l.initial.u (times (record { l.contents = l.contents; l.segments = l.segments; l.calls = l.calls }) l.j))
+invariant-loop-j l = (l.j ≤ l.k) × (l.u ≡ plus l.room l.initial.u (times (record { contents = l.contents; segments = l.segments; calls = l.calls }) l.j))
 
 abbrev pub decreases-loop-j : goal.decreases-loop-j
 decreases-loop-j l = l.k - l.j

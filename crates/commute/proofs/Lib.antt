@@ -1,0 +1,4 @@
+pub mod Before
+pub mod Orders
+pub mod Demand3
+pub mod Clauses

@@ -1,8 +1,0 @@
-use lib.Seq.{length-take-le}
-use mathlib.Core.Path.{sym}
-use borrow.Author.Rules.{rules}
-use Rattle.inspect.proofs.print_line.Goals as goal
-
-pub slice_bounds-write_all-end-2 : goal.slice_bounds-write_all-end-2
-slice_bounds-write_all-end-2 c =
-    sym (length-take-le _ _ c.put_line-k.ensures.0)

@@ -1,0 +1,3 @@
+pub mod Ceiling
+pub mod Most
+pub mod Kept
