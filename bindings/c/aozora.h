@@ -9,7 +9,7 @@
    The caller lends all memory but some stack: a thread that calls should have 1 MB. Nothing is allocated, and nothing is kept behind a call. A book or a reading is a tape and a byte buffer: docs/FORMAT.md.
    In every answer `number` is 0, or that of the refusal; what an answer does not have is 0.
 
-   Build: (cd crates/exports && rt lib) && cc main.c -I bindings/c -L crates/exports/out -lexports      (x86-64 Linux) */
+   Build: (cd crates/exports && rt lib) && cc main.c -I bindings/c -L crates/exports/out -lexports      (x86-64-v2 Linux) */
 #ifndef AOZORA_H
 #define AOZORA_H
 
