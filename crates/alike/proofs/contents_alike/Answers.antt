@@ -1,9 +1,6 @@
-use borrow.Author.Rules.{rules}
 use native.Mathlib.Omega.{arith}
-use Prim.Native.Nat.{ℕ, ◌+◌, ◌*◌, ◌-◌}
-use borrow.Author.Tests.{not-false}
-use Rattle.alike.specs.Alike.{Alike, alike_none, alike_more, content_next}
-use Rattle.model.specs.Tape.{record_at, content_codec}
+use Prim.Native.Nat.{◌-◌}
+use Rattle.alike.specs.Alike.{alike_none, alike_more, content_next}
 use Rattle.alike.proofs.contents_alike.Goals as goal
 
 pub loop-k-init : goal.loop-k-init

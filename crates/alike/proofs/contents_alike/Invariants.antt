@@ -1,8 +1,5 @@
-use borrow.Author.Rules.{rules}
-use native.Mathlib.Omega.{arith}
 use Prim.Native.Nat.{ℕ, ◌+◌, ◌*◌, ◌-◌}
-use borrow.Author.Tests.{not-false}
-use Rattle.alike.specs.Alike.{Alike, alike_none, alike_more, content_next}
+use Rattle.alike.specs.Alike.{Alike}
 use Rattle.model.specs.Tape.{record_at, content_codec}
 use Rattle.alike.proofs.contents_alike.Given as goal
 

@@ -1,7 +1,6 @@
 use mathlib.Core.Path.{sym}
 use mathlib.Core.Bool.{true≢false}
 use Rattle.alike.specs.Alike.{same_bodies}
-use borrow.Author.Rules.{rules}
 use Rattle.alike.proofs.same_body.Goals as goal
 
 pub returns-then-tape-a : goal.returns-then-tape-a

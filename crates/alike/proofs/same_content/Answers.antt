@@ -2,7 +2,6 @@ use mathlib.Core.Bool.{true≢false}
 use mathlib.Core.Path.{sym}
 use borrow.Author.Tests.{eqb-true}
 use Rattle.alike.specs.Alike.{same_read}
-use borrow.Author.Rules.{rules}
 use Rattle.alike.proofs.same_content.Goals as goal
 
 pub returns-then-x-y : goal.returns-then-x-y

@@ -2,8 +2,7 @@ use native.Mathlib.Omega.{arith}
 use Prim.Native.Nat.{◌-◌}
 use mathlib.Core.Path.{sym, ◌∙◌}
 use mathlib.Core.Bool.{true≢false}
-use borrow.Author.Rules.{rules}
-use Rattle.alike.specs.Alike.{SameWords, words_none, words_more, words_all}
+use Rattle.alike.specs.Alike.{words_none, words_more, words_all}
 use Rattle.alike.proofs.same_words.Goals as goal
 
 pub loop-i-init : goal.loop-i-init

@@ -1,9 +1,6 @@
 use native.Mathlib.Omega.{arith}
-use Prim.Native.Nat.{ℕ, ◌+◌, ◌*◌, ◌-◌}
-use borrow.Author.Tests.{not-false}
-use borrow.Author.Rules.{rules}
-use Rattle.records.specs.Values.{body_at}
-use Rattle.alike.specs.Alike.{Alike, alike_none, alike_more, body_next}
+use Prim.Native.Nat.{◌-◌}
+use Rattle.alike.specs.Alike.{alike_none, alike_more, body_next}
 use Rattle.alike.proofs.segments_alike.Goals as goal
 
 pub loop-k-init : goal.loop-k-init

@@ -1,9 +1,6 @@
-use native.Mathlib.Omega.{arith}
 use Prim.Native.Nat.{ℕ, ◌+◌, ◌*◌, ◌-◌}
-use borrow.Author.Tests.{not-false}
-use borrow.Author.Rules.{rules}
 use Rattle.records.specs.Values.{body_at}
-use Rattle.alike.specs.Alike.{Alike, alike_none, alike_more, body_next}
+use Rattle.alike.specs.Alike.{Alike}
 use Rattle.alike.proofs.segments_alike.Given as goal
 
 abbrev pub invariant-loop-k : goal.invariant-loop-k

@@ -1,6 +1,5 @@
 use mathlib.Core.Path.{refl}
 use Rattle.answers.specs.Answers.{allowed_answer}
-use borrow.Author.Rules.{rules}
 use Rattle.answers.proofs.allowed_answer.Goals as goal
 
 pub returns-in-Refused : goal.returns-in-Refused

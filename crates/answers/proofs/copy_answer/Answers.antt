@@ -1,6 +1,5 @@
 use mathlib.Core.Path.{refl}
 use Rattle.answers.specs.Answers.{copy_answer}
-use borrow.Author.Rules.{rules}
 use Rattle.answers.proofs.copy_answer.Goals as goal
 
 pub returns-in-Refused : goal.returns-in-Refused

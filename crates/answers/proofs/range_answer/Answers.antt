@@ -1,6 +1,5 @@
 use mathlib.Core.Path.{refl}
 use Rattle.answers.specs.Answers.{range_answer}
-use borrow.Author.Rules.{rules}
 use Rattle.answers.proofs.range_answer.Goals as goal
 
 pub returns-in-Refused : goal.returns-in-Refused

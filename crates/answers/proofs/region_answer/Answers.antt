@@ -1,6 +1,5 @@
 use mathlib.Core.Path.{refl}
 use Rattle.answers.specs.Answers.{region_answer}
-use borrow.Author.Rules.{rules}
 use Rattle.answers.proofs.region_answer.Goals as goal
 
 pub returns-in-Refused : goal.returns-in-Refused

@@ -1,6 +1,5 @@
 use mathlib.Core.Path.{refl}
 use Rattle.answers.specs.Answers.{str_answer}
-use borrow.Author.Rules.{rules}
 use Rattle.answers.proofs.str_answer.Goals as goal
 
 pub returns-in-Refused : goal.returns-in-Refused

@@ -1,6 +1,6 @@
 use Prim.Native.Nat.{◌-◌}
 use native.Mathlib.Omega.{arith}
-use Rattle.balanced_region.specs.Unmatched.{Passing, passing_none, passing_stop, passing_more, passing_done, past_count}
+use Rattle.balanced_region.specs.Unmatched.{passing_none, passing_stop, passing_more, passing_done, past_count}
 use Rattle.balanced_region.proofs.depths_before.Goals as goal
 
 pub loop-d-init : goal.loop-d-init

@@ -1,6 +1,5 @@
 use mathlib.Core.Path.{refl}
 use Rattle.balanced_region.specs.Unmatched.{depths_past}
-use borrow.Author.Rules.{rules}
 use Rattle.balanced_region.proofs.depths_past.Goals as goal
 
 pub returns : goal.returns

@@ -2,7 +2,6 @@ use mathlib.Core.Path.{refl}
 use mathlib.Core.Bool.{and-false}
 use borrow.Author.Tests.{le-leb, lt-leb, eq-eqb, ne_eqb}
 use Rattle.balanced_region.specs.StartSearch.{ends_behind_newline}
-use borrow.Author.Rules.{rules}
 use Rattle.balanced_region.proofs.ends_behind_newline.Goals as goal
 
 pub returns-then-o-text : goal.returns-then-o-text

@@ -1,10 +1,7 @@
-use Rattle.cuts.specs.Window.{Window}
-use Rattle.cuts.specs.Pairs.{pairs_of}
-use Rattle.balanced_region.specs.EndSearch.{Tried, text_pairs_allow, tried_start, tried_found, try_rises, tried_more, tried_none}
-use mathlib.Core.Path.{◌≡◌, refl, ◌∙◌}
+use Rattle.balanced_region.specs.EndSearch.{tried_start, tried_found, try_rises, tried_more, tried_none}
+use mathlib.Core.Path.{refl, ◌∙◌}
 use Prim.Native.Nat.{◌-◌}
 use native.Mathlib.Omega.{arith}
-use lib.ListN.{length}
 use Rattle.balanced_region.proofs.first_cut_in.Goals as goal
 
 pub loop-c-init : goal.loop-c-init
@@ -15,8 +12,8 @@ pub next_try-next-requires : goal.next_try-next-requires
 next_try-next-requires c =
     let start = c in
     record {
-        count_in_bounds = (start.requires.count_in_bounds.0, omega (arith, start.requires.count_in_bounds.1));
-        window = c.loop-c.invariant.1
+      count_in_bounds = (start.requires.count_in_bounds.0, omega (arith, start.requires.count_in_bounds.1));
+      window = c.loop-c.invariant.1;
     }
 
 pub shape_of-words-then-next-c : goal.shape_of-words-then-next-c
@@ -31,8 +28,8 @@ returns-then-next-c c =
     let at-loop-test = at-next-try in
     let turn = at-loop-test in
     record {
-        value = tried_found _ _ turn.loop-c.invariant.0 _ at-next-try.next_try-next.ensures.value _ at-loop-test.loop-c-test.true c.if-next-c.true;
-        window_2 = at-next-try.next_try-next.ensures.window_2
+      value = tried_found _ _ turn.loop-c.invariant.0 _ at-next-try.next_try-next.ensures.value _ at-loop-test.loop-c-test.true c.if-next-c.true;
+      window_2 = at-next-try.next_try-next.ensures.window_2;
     }
 
 pub loop-c-smaller : goal.loop-c-smaller
@@ -52,6 +49,6 @@ shape_of-words c =
 pub returns : goal.returns
 returns c =
     record {
-        value = tried_none c.loop-c.invariant.0 _ c.loop-c-test.false;
-        window_2 = c.loop-c.invariant.1
+      value = tried_none c.loop-c.invariant.0 _ c.loop-c-test.false;
+      window_2 = c.loop-c.invariant.1;
     }

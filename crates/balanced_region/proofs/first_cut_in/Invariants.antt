@@ -1,9 +1,8 @@
 use Rattle.cuts.specs.Window.{Window}
 use Rattle.cuts.specs.Pairs.{pairs_of}
-use Rattle.balanced_region.specs.EndSearch.{Tried, text_pairs_allow, tried_start, tried_found, try_rises, tried_more, tried_none}
-use mathlib.Core.Path.{◌≡◌, refl, ◌∙◌}
+use Rattle.balanced_region.specs.EndSearch.{Tried, text_pairs_allow}
+use mathlib.Core.Path.{◌≡◌}
 use Prim.Native.Nat.{◌-◌}
-use native.Mathlib.Omega.{arith}
 use lib.ListN.{length}
 use Rattle.balanced_region.proofs.first_cut_in.Given as goal
 

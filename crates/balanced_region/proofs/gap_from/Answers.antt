@@ -1,5 +1,4 @@
 use Rattle.balanced_region.specs.Unmatched.{gap_first_node, gap_behind}
-use borrow.Author.Rules.{rules}
 use Rattle.balanced_region.proofs.gap_from.Goals as goal
 
 pub returns-then-i-eq0 : goal.returns-then-i-eq0

@@ -1,5 +1,4 @@
 use Rattle.balanced_region.specs.Unmatched.{unmatched_block, unmatched_warichu}
-use borrow.Author.Rules.{rules}
 use Rattle.balanced_region.proofs.is_unmatched.Goals as goal
 
 pub returns-then-closes_nothing : goal.returns-then-closes_nothing

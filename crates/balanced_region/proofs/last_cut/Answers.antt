@@ -1,9 +1,6 @@
-use Rattle.cuts.specs.Window.{Window}
-use Rattle.cuts.specs.Pairs.{pairs_of}
-use Rattle.balanced_region.specs.Walks.{DownWalk, down_none, down_positive, down_found, down_more, down_done}
-use mathlib.Core.Path.{◌≡◌, refl, ◌∙◌}
+use Rattle.balanced_region.specs.Walks.{down_none, down_positive, down_found, down_more, down_done}
+use mathlib.Core.Path.{refl, ◌∙◌}
 use native.Mathlib.Omega.{arith}
-use lib.ListN.{length}
 use Rattle.balanced_region.proofs.last_cut.Goals as goal
 
 pub loop-i-init : goal.loop-i-init
@@ -34,8 +31,8 @@ gap_last-c-requires c =
     let turn = c in
     let start = turn in
     record {
-        count_in_bounds = (start.requires.count_in_bounds.1, omega arith);
-        window = turn.loop-i.invariant.1
+      count_in_bounds = (start.requires.count_in_bounds.1, omega arith);
+      window = turn.loop-i.invariant.1;
     }
 
 pub shape_of-words-then-lo-c : goal.shape_of-words-then-lo-c
@@ -51,9 +48,9 @@ returns-then-lo-c c =
     let at-gap-from = at-earlier in
     let turn = at-gap-from in
     let start = turn in record {
-        value = down_found start.requires.in_order start.requires.front turn.loop-i.invariant.0 _ at-gap-from.gap_from-lo.ensures _ at-earlier.earlier.ensures _ at-gap-last.gap_last-c.ensures.value
+      value = down_found start.requires.in_order start.requires.front turn.loop-i.invariant.0 _ at-gap-from.gap_from-lo.ensures _ at-earlier.earlier.ensures _ at-gap-last.gap_last-c.ensures.value
           c.if-lo-c.true;
-        window_2 = at-gap-last.gap_last-c.ensures.window_2
+      window_2 = at-gap-last.gap_last-c.ensures.window_2;
     }
 
 pub overflow_sub-i : goal.overflow_sub-i
@@ -135,8 +132,8 @@ gap_last-c-requires-2 c =
     let turn = c in
     let start = turn in
     record {
-        count_in_bounds = (start.requires.count_in_bounds.1, omega arith);
-        window = turn.loop-i.invariant.1
+      count_in_bounds = (start.requires.count_in_bounds.1, omega arith);
+      window = turn.loop-i.invariant.1;
     }
 
 pub shape_of-words-then-lo-c-2 : goal.shape_of-words-then-lo-c-2
@@ -152,9 +149,9 @@ returns-then-lo-c-2 c =
     let at-gap-from2 = at-earlier3 in
     let turn = at-gap-from2 in
     let start = turn in record {
-        value = down_found start.requires.in_order start.requires.front turn.loop-i.invariant.0 _ at-gap-from2.gap_from-lo-2.ensures _ at-earlier3.earlier-2.ensures _ at-gap-last2.gap_last-c-2.ensures.value
+      value = down_found start.requires.in_order start.requires.front turn.loop-i.invariant.0 _ at-gap-from2.gap_from-lo-2.ensures _ at-earlier3.earlier-2.ensures _ at-gap-last2.gap_last-c-2.ensures.value
           c.if-lo-c-2.true;
-        window_2 = at-gap-last2.gap_last-c-2.ensures.window_2
+      window_2 = at-gap-last2.gap_last-c-2.ensures.window_2;
     }
 
 pub shape_of-words : goal.shape_of-words
@@ -171,7 +168,7 @@ returns c =
     let at-if1 = at-gap-from2 in
     let turn = at-if1 in
     let start = turn in record {
-        value = down_done start.requires.in_order start.requires.front turn.loop-i.invariant.0 _ at-gap-from2.gap_from-lo-2.ensures _ at-earlier3.earlier-2.ensures _ at-gap-last2.gap_last-c-2.ensures.value
+      value = down_done start.requires.in_order start.requires.front turn.loop-i.invariant.0 _ at-gap-from2.gap_from-lo-2.ensures _ at-earlier3.earlier-2.ensures _ at-gap-last2.gap_last-c-2.ensures.value
           at-if1.loop-i-test.false c.if-lo-c-2.false;
-        window_2 = at-gap-last2.gap_last-c-2.ensures.window_2
+      window_2 = at-gap-last2.gap_last-c-2.ensures.window_2;
     }

@@ -1,8 +1,7 @@
 use Rattle.cuts.specs.Window.{Window}
 use Rattle.cuts.specs.Pairs.{pairs_of}
-use Rattle.balanced_region.specs.Walks.{DownWalk, down_none, down_positive, down_found, down_more, down_done}
-use mathlib.Core.Path.{◌≡◌, refl, ◌∙◌}
-use native.Mathlib.Omega.{arith}
+use Rattle.balanced_region.specs.Walks.{DownWalk}
+use mathlib.Core.Path.{◌≡◌}
 use lib.ListN.{length}
 use Rattle.balanced_region.proofs.last_cut.Given as goal
 

@@ -1,10 +1,7 @@
-use Rattle.cuts.specs.Window.{Window}
-use Rattle.cuts.specs.Pairs.{pairs_of}
-use Rattle.balanced_region.specs.Walks.{LastWalk, last_walk_none, last_walk_stop, last_walk_more, last_walk_done}
-use mathlib.Core.Path.{◌≡◌, refl, ◌∙◌}
+use Rattle.balanced_region.specs.Walks.{last_walk_none, last_walk_stop, last_walk_more, last_walk_done}
+use mathlib.Core.Path.{refl, ◌∙◌}
 use Prim.Native.Nat.{◌-◌}
 use native.Mathlib.Omega.{arith}
-use lib.ListN.{length}
 use Rattle.balanced_region.proofs.last_cut_before.Goals as goal
 
 pub loop-i-init : goal.loop-i-init
@@ -36,8 +33,8 @@ gap_last-requires c =
     let turn = c in
     let start = turn in
     record {
-        count_in_bounds = (start.requires.count_in_bounds.1, omega (arith, start.requires.count_in_bounds.2));
-        window = turn.loop-i.invariant.1
+      count_in_bounds = (start.requires.count_in_bounds.1, omega (arith, start.requires.count_in_bounds.2));
+      window = turn.loop-i.invariant.1;
     }
 
 pub shape_of-words-then-bound-start : goal.shape_of-words-then-bound-start
@@ -51,8 +48,8 @@ returns-then-bound-start c =
     let at-node-start = at-if2 in
     let at-if1 = at-node-start in
     let turn = at-if1 in record {
-        value = last_walk_stop turn.loop-i.invariant.0 at-if1.loop-i-test.true _ at-node-start.node_start-start.ensures at-if2.if-bound-start.true _ c.gap_last.ensures.value;
-        window_2 = c.gap_last.ensures.window_2
+      value = last_walk_stop turn.loop-i.invariant.0 at-if1.loop-i-test.true _ at-node-start.node_start-start.ensures at-if2.if-bound-start.true _ c.gap_last.ensures.value;
+      window_2 = c.gap_last.ensures.window_2;
     }
 
 pub overflow_add-start : goal.overflow_add-start
@@ -64,8 +61,8 @@ gap_last-last-requires c =
     let turn = c in
     let start = turn in
     record {
-        count_in_bounds = (start.requires.count_in_bounds.1, omega (arith, start.requires.count_in_bounds.2, c.if-bound-start.false));
-        window = turn.loop-i.invariant.1
+      count_in_bounds = (start.requires.count_in_bounds.1, omega (arith, start.requires.count_in_bounds.2, c.if-bound-start.false));
+      window = turn.loop-i.invariant.1;
     }
 
 pub node_end-from-requires : goal.node_end-from-requires
@@ -114,8 +111,8 @@ gap_last-requires-2 c =
     let turn = c in
     let start = turn in
     record {
-        count_in_bounds = (start.requires.count_in_bounds.1, omega (arith, start.requires.count_in_bounds.2));
-        window = turn.loop-i.invariant.1
+      count_in_bounds = (start.requires.count_in_bounds.1, omega (arith, start.requires.count_in_bounds.2));
+      window = turn.loop-i.invariant.1;
     }
 
 pub shape_of-words : goal.shape_of-words
@@ -128,6 +125,6 @@ returns c =
     let at-if1 = c in
     let turn = at-if1 in
     record {
-        value = last_walk_done turn.loop-i.invariant.0 at-if1.loop-i-test.false _ c.gap_last-2.ensures.value;
-        window_2 = c.gap_last-2.ensures.window_2
+      value = last_walk_done turn.loop-i.invariant.0 at-if1.loop-i-test.false _ c.gap_last-2.ensures.value;
+      window_2 = c.gap_last-2.ensures.window_2;
     }

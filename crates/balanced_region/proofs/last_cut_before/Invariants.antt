@@ -1,9 +1,8 @@
 use Rattle.cuts.specs.Window.{Window}
 use Rattle.cuts.specs.Pairs.{pairs_of}
-use Rattle.balanced_region.specs.Walks.{LastWalk, last_walk_none, last_walk_stop, last_walk_more, last_walk_done}
-use mathlib.Core.Path.{◌≡◌, refl, ◌∙◌}
+use Rattle.balanced_region.specs.Walks.{LastWalk}
+use mathlib.Core.Path.{◌≡◌}
 use Prim.Native.Nat.{◌-◌}
-use native.Mathlib.Omega.{arith}
 use lib.ListN.{length}
 use Rattle.balanced_region.proofs.last_cut_before.Given as goal
 

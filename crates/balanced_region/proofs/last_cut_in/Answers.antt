@@ -1,11 +1,8 @@
-use Rattle.cuts.specs.Window.{Window}
-use Rattle.cuts.specs.Pairs.{pairs_of}
-use Rattle.cuts.specs.Offsets.{last_from, last_stop, last_turn, last_done}
+use Rattle.cuts.specs.Offsets.{last_stop, last_turn, last_done}
 use Rattle.balanced_region.specs.EndSearch.{text_pairs_allow}
-use mathlib.Core.Path.{◌≡◌, refl, sym, ◌∙◌}
-use Prim.Native.Nat.{◌-◌, ◌≤◌}
+use mathlib.Core.Path.{refl, sym, ◌∙◌}
+use Prim.Native.Nat.{◌-◌}
 use native.Mathlib.Omega.{arith}
-use lib.ListN.{length}
 use Rattle.balanced_region.proofs.last_cut_in.Goals as goal
 
 pub loop-c-init : goal.loop-c-init
@@ -20,8 +17,8 @@ pub text_pairs_allow-requires : goal.text_pairs_allow-requires
 text_pairs_allow-requires c =
     let start = c in
     record {
-        count_in_bounds = (start.requires.count_in_bounds.0, omega (arith, start.requires.count_in_bounds.1, c.loop-c.invariant.0));
-        window = c.loop-c.invariant.2
+      count_in_bounds = (start.requires.count_in_bounds.0, omega (arith, start.requires.count_in_bounds.1, c.loop-c.invariant.0));
+      window = c.loop-c.invariant.2;
     }
 
 pub overflow_sub-result : goal.overflow_sub-result
@@ -39,8 +36,8 @@ returns-then-text_pairs_allow c =
     let at-text-pairs-allow = c in
     let at-loop-test = at-text-pairs-allow in
     let turn = at-loop-test in record {
-        value = sym (last_stop _ _ _ _ at-loop-test.loop-c-test.true (sym at-text-pairs-allow.text_pairs_allow.ensures.value ∙ c.if-text_pairs_allow.true)) ∙ turn.loop-c.invariant.1;
-        window_2 = at-text-pairs-allow.text_pairs_allow.ensures.window_2
+      value = sym (last_stop _ _ _ _ at-loop-test.loop-c-test.true (sym at-text-pairs-allow.text_pairs_allow.ensures.value ∙ c.if-text_pairs_allow.true)) ∙ turn.loop-c.invariant.1;
+      window_2 = at-text-pairs-allow.text_pairs_allow.ensures.window_2;
     }
 
 pub overflow_sub-c-in-loop-c : goal.overflow_sub-c-in-loop-c
@@ -69,6 +66,6 @@ shape_of-words c =
 pub returns : goal.returns
 returns c =
     record {
-        value = sym (last_done _ _ _ _ c.loop-c-test.false) ∙ c.loop-c.invariant.1;
-        window_2 = c.loop-c.invariant.2
+      value = sym (last_done _ _ _ _ c.loop-c-test.false) ∙ c.loop-c.invariant.1;
+      window_2 = c.loop-c.invariant.2;
     }

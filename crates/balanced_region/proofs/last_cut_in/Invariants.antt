@@ -1,10 +1,9 @@
 use Rattle.cuts.specs.Window.{Window}
 use Rattle.cuts.specs.Pairs.{pairs_of}
-use Rattle.cuts.specs.Offsets.{last_from, last_stop, last_turn, last_done}
+use Rattle.cuts.specs.Offsets.{last_from}
 use Rattle.balanced_region.specs.EndSearch.{text_pairs_allow}
-use mathlib.Core.Path.{◌≡◌, refl, sym, ◌∙◌}
+use mathlib.Core.Path.{◌≡◌}
 use Prim.Native.Nat.{◌-◌, ◌≤◌}
-use native.Mathlib.Omega.{arith}
 use lib.ListN.{length}
 use Rattle.balanced_region.proofs.last_cut_in.Given as goal
 

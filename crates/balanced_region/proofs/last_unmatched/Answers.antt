@@ -1,5 +1,4 @@
 use Rattle.balanced_region.specs.Unmatched.{unmatched_here, unmatched_before}
-use borrow.Author.Rules.{rules}
 use Rattle.balanced_region.proofs.last_unmatched.Goals as goal
 
 pub returns-then-is_unmatched : goal.returns-then-is_unmatched

@@ -2,7 +2,6 @@ use mathlib.Core.Path.{refl}
 use native.Mathlib.Omega.{arith}
 use borrow.Author.Tests.{lt-ltb, le-ltb}
 use Rattle.balanced_region.specs.Survives.{newline_kept}
-use borrow.Author.Rules.{rules}
 use Rattle.balanced_region.proofs.newline_kept.Goals as goal
 
 pub returns-then-n-gt0 : goal.returns-then-n-gt0

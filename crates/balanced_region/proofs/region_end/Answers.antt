@@ -1,10 +1,7 @@
-use Rattle.cuts.specs.Window.{Window}
-use Rattle.cuts.specs.Pairs.{pairs_of}
-use Rattle.balanced_region.specs.Walks.{EndWalk, end_walk_none, end_walk_inside, end_walk_found, end_walk_more, end_walk_done}
-use mathlib.Core.Path.{◌≡◌, refl, ◌∙◌}
+use Rattle.balanced_region.specs.Walks.{end_walk_none, end_walk_inside, end_walk_found, end_walk_more, end_walk_done}
+use mathlib.Core.Path.{refl, ◌∙◌}
 use Prim.Native.Nat.{◌-◌}
 use native.Mathlib.Omega.{arith}
-use lib.ListN.{length}
 use Rattle.balanced_region.proofs.region_end.Goals as goal
 
 pub loop-i-init : goal.loop-i-init
@@ -37,8 +34,8 @@ gap_first-c-requires c =
     let turn = at-if1 in
     let start = turn in
     record {
-        count_in_bounds = (start.requires.count_in_bounds.1, end_walk_inside turn.loop-i.invariant.0 at-if1.loop-i-test.true _ c.node_start-start.ensures, start.requires.count_in_bounds.2);
-        window = turn.loop-i.invariant.1
+      count_in_bounds = (start.requires.count_in_bounds.1, end_walk_inside turn.loop-i.invariant.0 at-if1.loop-i-test.true _ c.node_start-start.ensures, start.requires.count_in_bounds.2);
+      window = turn.loop-i.invariant.1;
     }
 
 pub shape_of-words-then-c-start : goal.shape_of-words-then-c-start
@@ -54,8 +51,8 @@ returns-then-c-start c =
     let at-if1 = at-node-start in
     let turn = at-if1 in
     let start = turn in record {
-        value = end_walk_found turn.loop-i.invariant.0 at-if1.loop-i-test.true _ at-node-start.node_start-start.ensures _ at-gap-first.gap_first-c.ensures.value start.requires.count_in_bounds.2 c.if-c-start.true;
-        window_2 = at-gap-first.gap_first-c.ensures.window_2
+      value = end_walk_found turn.loop-i.invariant.0 at-if1.loop-i-test.true _ at-node-start.node_start-start.ensures _ at-gap-first.gap_first-c.ensures.value start.requires.count_in_bounds.2 c.if-c-start.true;
+      window_2 = at-gap-first.gap_first-c.ensures.window_2;
     }
 
 pub node_end-from-requires : goal.node_end-from-requires
@@ -100,8 +97,8 @@ gap_first-requires c =
     let turn = c in
     let start = turn in
     record {
-        count_in_bounds = (start.requires.count_in_bounds.1, omega arith, start.requires.count_in_bounds.2);
-        window = turn.loop-i.invariant.1
+      count_in_bounds = (start.requires.count_in_bounds.1, omega arith, start.requires.count_in_bounds.2);
+      window = turn.loop-i.invariant.1;
     }
 
 pub shape_of-words : goal.shape_of-words
@@ -115,6 +112,6 @@ returns c =
     let turn = at-if1 in
     let start = turn in
     record {
-        value = end_walk_done turn.loop-i.invariant.0 at-if1.loop-i-test.false start.requires.count_in_bounds.2 _ c.gap_first.ensures.value;
-        window_2 = c.gap_first.ensures.window_2
+      value = end_walk_done turn.loop-i.invariant.0 at-if1.loop-i-test.false start.requires.count_in_bounds.2 _ c.gap_first.ensures.value;
+      window_2 = c.gap_first.ensures.window_2;
     }

@@ -1,9 +1,8 @@
 use Rattle.cuts.specs.Window.{Window}
 use Rattle.cuts.specs.Pairs.{pairs_of}
-use Rattle.balanced_region.specs.Walks.{EndWalk, end_walk_none, end_walk_inside, end_walk_found, end_walk_more, end_walk_done}
-use mathlib.Core.Path.{◌≡◌, refl, ◌∙◌}
+use Rattle.balanced_region.specs.Walks.{EndWalk}
+use mathlib.Core.Path.{◌≡◌}
 use Prim.Native.Nat.{◌-◌}
-use native.Mathlib.Omega.{arith}
 use lib.ListN.{length}
 use Rattle.balanced_region.proofs.region_end.Given as goal
 

@@ -1,7 +1,6 @@
 use mathlib.Core.Path.{refl}
 use borrow.Author.Tests.{eq-eqb, ne_eqb}
 use Rattle.balanced_region.specs.Survives.{search_from}
-use borrow.Author.Rules.{rules}
 use Rattle.balanced_region.proofs.search_from.Goals as goal
 
 pub returns-then-end-text : goal.returns-then-end-text

@@ -1,10 +1,9 @@
 use Rattle.balanced_region.specs.EndSearch.{try_same}
-use borrow.Author.Rules.{rules}
 use Rattle.balanced_region.proofs.text_pairs_allow.Goals as goal
 
 pub returns : goal.returns
 returns c =
     record {
-        value = try_same _ _ _ _ c.next_try.ensures.value;
-        window_2 = c.next_try.ensures.window_2
+      value = try_same _ _ _ _ c.next_try.ensures.value;
+      window_2 = c.next_try.ensures.window_2;
     }

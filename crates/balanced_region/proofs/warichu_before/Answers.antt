@@ -1,6 +1,5 @@
 use mathlib.Core.Path.{refl, ◌∙◌}
 use Rattle.model.specs.Region.{depth_behind}
-use borrow.Author.Rules.{rules}
 use Rattle.balanced_region.proofs.warichu_before.Goals as goal
 
 pub returns : goal.returns

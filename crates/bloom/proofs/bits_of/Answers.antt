@@ -1,6 +1,5 @@
 use mathlib.Core.Path.{refl}
 use Rattle.bloom.specs.Filter.{hash_bits}
-use borrow.Author.Rules.{rules}
 use Rattle.bloom.proofs.bits_of.Goals as goal
 
 pub returns : goal.returns

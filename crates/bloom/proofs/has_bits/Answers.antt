@@ -1,7 +1,6 @@
 use native.Mathlib.Omega.{arith}
 use lib.ListN.{length}
 use Rattle.bloom.specs.Filter.{place_inside, has_at}
-use borrow.Author.Rules.{rules}
 use Rattle.bloom.proofs.has_bits.Goals as goal
 
 pub offset_bounds-words-i : goal.offset_bounds-words-i

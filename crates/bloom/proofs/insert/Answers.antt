@@ -1,6 +1,5 @@
 use mathlib.Core.Path.{sym}
 use Rattle.bloom.specs.Filter.{inserted_none, inserted_both, with_inside, half_small}
-use borrow.Author.Rules.{rules}
 use Rattle.bloom.proofs.insert.Goals as goal
 
 pub returns-then-words-base : goal.returns-then-words-base

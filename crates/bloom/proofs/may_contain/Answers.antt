@@ -1,6 +1,5 @@
 use mathlib.Core.Path.{sym}
 use Rattle.bloom.specs.Filter.{found_none, found_not, found_both, half_small}
-use borrow.Author.Rules.{rules}
 use Rattle.bloom.proofs.may_contain.Goals as goal
 
 pub returns-then-words-base : goal.returns-then-words-base

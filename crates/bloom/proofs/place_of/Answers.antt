@@ -1,6 +1,5 @@
 use native.Mathlib.Omega.{arith}
 use Rattle.bloom.specs.Filter.{place_inside, place_at, share_fits}
-use borrow.Author.Rules.{rules}
 use Rattle.bloom.proofs.place_of.Goals as goal
 
 pub overflow_mul-result : goal.overflow_mul-result

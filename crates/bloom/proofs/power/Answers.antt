@@ -1,5 +1,4 @@
 use Rattle.bloom.specs.Filter.{power_fits}
-use borrow.Author.Rules.{rules}
 use Rattle.bloom.proofs.power.Goals as goal
 
 pub returns : goal.returns

@@ -1,7 +1,6 @@
 use native.Mathlib.Omega.{arith}
 use lib.ListN.{length}
 use Rattle.bloom.specs.Filter.{place_inside, with_at}
-use borrow.Author.Rules.{rules}
 use Rattle.bloom.proofs.set_bits.Goals as goal
 
 pub offset_bounds-words-i : goal.offset_bounds-words-i

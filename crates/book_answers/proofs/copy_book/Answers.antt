@@ -1,6 +1,5 @@
 use mathlib.Core.Path.{ap, ◌∙◌}
 use Rattle.answers.specs.Answers.{copy_answer}
-use borrow.Author.Rules.{rules}
 use Rattle.book_answers.proofs.copy_book.Goals as goal
 
 pub returns : goal.returns

@@ -1,6 +1,5 @@
 use mathlib.Core.Path.{ap, ◌∙◌}
 use Rattle.answers.specs.Answers.{allowed_answer}
-use borrow.Author.Rules.{rules}
 use Rattle.book_answers.proofs.diagnostics_allow_incremental.Goals as goal
 
 pub returns : goal.returns

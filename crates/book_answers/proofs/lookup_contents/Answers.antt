@@ -1,7 +1,6 @@
 use Rattle.model.specs.Tape.{content_codec}
 use Rattle.lookup.specs.Ranges.{range_shown}
 use Rattle.answers.specs.Answers.{range_told}
-use borrow.Author.Rules.{rules}
 use Rattle.book_answers.proofs.lookup_contents.Goals as goal
 
 pub returns : goal.returns

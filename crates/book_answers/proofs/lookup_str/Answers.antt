@@ -1,5 +1,4 @@
 use Rattle.answers.specs.Answers.{str_told}
-use borrow.Author.Rules.{rules}
 use Rattle.book_answers.proofs.lookup_str.Goals as goal
 
 pub returns : goal.returns

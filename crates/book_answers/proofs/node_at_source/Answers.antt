@@ -1,6 +1,5 @@
 use mathlib.Core.Path.{ap, ◌∙◌}
 use Rattle.answers.specs.Answers.{node_answer}
-use borrow.Author.Rules.{rules}
 use Rattle.book_answers.proofs.node_at_source.Goals as goal
 
 pub returns : goal.returns

@@ -1,5 +1,4 @@
 use Rattle.bounds.specs.Spans.{container_turned, container_goes_on}
-use borrow.Author.Rules.{rules}
 use Rattle.bounds.proofs.container_ok.Goals as goal
 
 pub returns-then-c : goal.returns-then-c

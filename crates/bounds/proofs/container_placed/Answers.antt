@@ -1,6 +1,5 @@
 use Rattle.model.specs.WellFormed.{container_ok}
 use mathlib.Core.Path.{ap, ◌∙◌}
-use borrow.Author.Rules.{rules}
 use Rattle.bounds.proofs.container_placed.Goals as goal
 
 pub returns : goal.returns

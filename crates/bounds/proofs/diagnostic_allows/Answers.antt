@@ -1,6 +1,5 @@
 use Rattle.model.specs.Tape.{record_at, operands_at, diagnostic_codec}
 use mathlib.Core.Path.{refl}
-use borrow.Author.Rules.{rules}
 use Rattle.bounds.proofs.diagnostic_allows.Goals as goal
 
 pub returns : goal.returns

@@ -3,7 +3,6 @@ use Rattle.bounds.specs.Walk.{padding_small, image_of}
 use Prim.Native.Nat.{◌+◌}
 use native.Mathlib.Omega.{arith}
 use lib.ListN.{get_or}
-use borrow.Author.Rules.{rules}
 use Rattle.bounds.proofs.image_length.Goals as goal
 
 pub overflow_mul-result : goal.overflow_mul-result

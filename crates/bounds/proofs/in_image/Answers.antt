@@ -1,6 +1,5 @@
 use Rattle.bounds.specs.Walk.{in_image}
 use borrow.Author.Tests.{le-leb, lt-leb}
-use borrow.Author.Rules.{rules}
 use Rattle.bounds.proofs.in_image.Goals as goal
 
 pub returns-then-place-begin : goal.returns-then-place-begin

@@ -1,7 +1,6 @@
 use Rattle.bounds.specs.Search.{node_none, node_there, node_past}
 use Prim.Native.Nat.{◌-◌}
 use native.Mathlib.Omega.{arith}
-use borrow.Author.Rules.{rules}
 use Rattle.bounds.proofs.node_at_source.Goals as goal
 
 pub returns-then-n-eq0 : goal.returns-then-n-eq0

@@ -1,7 +1,5 @@
 use Rattle.bounds.specs.Walk.{placed_before, placed_span, placed_image, image_small}
-use borrow.Author.Tests.{not-true, not-false}
 use mathlib.Core.Path.{◌∙◌}
-use borrow.Author.Rules.{rules}
 use Rattle.bounds.proofs.node_placed.Goals as goal
 
 pub returns-then-start-from : goal.returns-then-start-from

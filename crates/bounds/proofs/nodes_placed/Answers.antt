@@ -1,6 +1,5 @@
 use Rattle.model.specs.Tape.{record_at, node_codec}
-use Rattle.bounds.specs.Walk.{Walked, walked_none, walked_more, walked_fails, walked_done, image_small, placed_facts}
-use borrow.Author.Tests.{not-true, not-false}
+use Rattle.bounds.specs.Walk.{walked_none, walked_more, walked_fails, walked_done, image_small, placed_facts}
 use mathlib.Core.Path.{sym, ◌∙◌}
 use Prim.Native.Nat.{◌+◌, ◌-◌, ◌*◌}
 use native.Mathlib.Omega.{arith}

@@ -1,7 +1,5 @@
 use Rattle.bounds.specs.Spans.{pair_opening, pair_closing, pair_goes_on}
-use borrow.Author.Tests.{not-true, not-false}
 use mathlib.Core.Path.{sym, ◌∙◌}
-use borrow.Author.Rules.{rules}
 use Rattle.bounds.proofs.pair_ok.Goals as goal
 
 pub returns-then-not-span_ok : goal.returns-then-not-span_ok

@@ -1,10 +1,9 @@
 use Rattle.model.specs.WellFormed.{pair_ok}
 use Rattle.model.specs.Tape.{pair_codec}
-use Rattle.wire.specs.Loops.{Passed, passed_none}
-use Rattle.records.specs.Runs.{test_at, run_more, run_failed, run_passed}
-use borrow.Author.Tests.{not-true, not-false}
+use Rattle.wire.specs.Loops.{passed_none}
+use Rattle.records.specs.Runs.{run_more, run_failed, run_passed}
 use mathlib.Core.Path.{refl}
-use Prim.Native.Nat.{◌-◌, ◌≤◌}
+use Prim.Native.Nat.{◌-◌}
 use native.Mathlib.Omega.{arith}
 use Rattle.bounds.proofs.pairs_placed.Goals as goal
 

@@ -1,5 +1,4 @@
 use Rattle.bounds.specs.Walk.{span_length_lem, span_length_none}
-use borrow.Author.Rules.{rules}
 use Rattle.bounds.proofs.span_length.Goals as goal
 
 pub returns-then-end-start : goal.returns-then-end-start

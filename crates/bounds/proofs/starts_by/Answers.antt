@@ -1,4 +1,4 @@
-use Rattle.bounds.specs.Search.{start_of, Split, split_start, split_up, split_down, in_order_sorted}
+use Rattle.bounds.specs.Search.{start_of, split_start, split_up, split_down, in_order_sorted}
 use mathlib.Core.Path.{◌≡◌}
 use Prim.Native.Nat.{◌-◌}
 use native.Mathlib.Omega.{arith}

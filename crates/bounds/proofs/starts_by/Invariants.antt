@@ -1,7 +1,5 @@
-use Rattle.bounds.specs.Search.{start_of, Split, split_start, split_up, split_down, in_order_sorted}
-use mathlib.Core.Path.{◌≡◌}
+use Rattle.bounds.specs.Search.{start_of, Split}
 use Prim.Native.Nat.{◌-◌}
-use native.Mathlib.Omega.{arith}
 use Rattle.bounds.proofs.starts_by.Given as goal
 
 abbrev pub invariant-loop-lo : goal.invariant-loop-lo

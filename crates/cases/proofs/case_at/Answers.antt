@@ -1,4 +1,3 @@
-use borrow.Author.Rules.{rules}
 use Rattle.cases.specs.Stream.{case_at}
 use Rattle.cases.proofs.case_at.Goals as goal
 

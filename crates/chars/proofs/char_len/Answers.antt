@@ -1,6 +1,5 @@
 use Rattle.chars.specs.Leads.{lead_1, lead_low, lead_high}
 use Rattle.chars.specs.Chars.{len_1, len_bad}
-use borrow.Author.Rules.{rules}
 use Rattle.chars.proofs.char_len.Goals as goal
 
 pub returns-then-b-lt128 : goal.returns-then-b-lt128

@@ -1,11 +1,9 @@
 use Rattle.model.specs.Utf8.{utf8_first}
 use Rattle.chars.specs.Leads.{asks_4}
 use Rattle.chars.specs.Chars.{asks, len_short, four_second, four_third, four_fourth, four_whole}
-use borrow.Author.Tests.{not-true, not-false}
 use mathlib.Core.Path.{◌≡◌, sym, ◌∙◌}
 use native.Mathlib.Omega.{arith}
 use lib.ListN.{get_or}
-use borrow.Author.Rules.{rules}
 use Rattle.chars.proofs.four.Goals as goal
 
 pub returns-then-s-at-lt4 : goal.returns-then-s-at-lt4

@@ -1,7 +1,6 @@
 use Rattle.model.specs.Utf8.{utf8_step}
 use Rattle.chars.specs.Leads.{lead_4, lead_f0, lead_f4}
 use mathlib.Core.Path.{refl}
-use borrow.Author.Rules.{rules}
 use Rattle.chars.proofs.second_of_four.Goals as goal
 
 pub returns-then-a-eq240 : goal.returns-then-a-eq240

@@ -1,7 +1,6 @@
 use Rattle.model.specs.Utf8.{utf8_step}
 use Rattle.chars.specs.Leads.{lead_3, lead_e0, lead_ed}
 use mathlib.Core.Path.{refl}
-use borrow.Author.Rules.{rules}
 use Rattle.chars.proofs.second_of_three.Goals as goal
 
 pub returns-then-a-eq224 : goal.returns-then-a-eq224

@@ -1,11 +1,9 @@
 use Rattle.model.specs.Utf8.{utf8_first}
 use Rattle.chars.specs.Leads.{asks_3}
 use Rattle.chars.specs.Chars.{asks, len_short, three_second, three_third, three_whole}
-use borrow.Author.Tests.{not-true, not-false}
 use mathlib.Core.Path.{◌≡◌, sym, ◌∙◌}
 use native.Mathlib.Omega.{arith}
 use lib.ListN.{get_or}
-use borrow.Author.Rules.{rules}
 use Rattle.chars.proofs.three.Goals as goal
 
 pub returns-then-s-at-lt3 : goal.returns-then-s-at-lt3

@@ -1,11 +1,9 @@
 use Rattle.model.specs.Utf8.{utf8_first}
 use Rattle.chars.specs.Leads.{lead_2}
 use Rattle.chars.specs.Chars.{asks, len_short, two_whole, two_second}
-use borrow.Author.Tests.{not-true, not-false}
 use mathlib.Core.Path.{◌≡◌, sym, ap, ◌∙◌}
 use native.Mathlib.Omega.{arith}
 use lib.ListN.{get_or}
-use borrow.Author.Rules.{rules}
 use Rattle.chars.proofs.two.Goals as goal
 
 pub returns-then-s-at-lt2 : goal.returns-then-s-at-lt2

@@ -1,9 +1,7 @@
-use Rattle.compare.specs.Order.{precedes, order_sixteen}
-use borrow.Author.Tests.{not-false}
-use mathlib.Core.Path.{◌≡◌, refl, sym, ◌∙◌}
-use Prim.Native.Nat.{◌-◌, ◌≤◌}
+use Rattle.compare.specs.Order.{order_sixteen}
+use mathlib.Core.Path.{refl, sym, ◌∙◌}
+use Prim.Native.Nat.{◌-◌}
 use native.Mathlib.Omega.{arith}
-use lib.ListN.{length, drop}
 use Rattle.compare.proofs.precedes.Goals as goal
 
 pub loop-at-init : goal.loop-at-init

@@ -1,8 +1,6 @@
-use Rattle.compare.specs.Order.{precedes, order_sixteen}
-use borrow.Author.Tests.{not-false}
-use mathlib.Core.Path.{◌≡◌, refl, sym, ◌∙◌}
+use Rattle.compare.specs.Order.{precedes}
+use mathlib.Core.Path.{◌≡◌}
 use Prim.Native.Nat.{◌-◌, ◌≤◌}
-use native.Mathlib.Omega.{arith}
 use lib.ListN.{length, drop}
 use Rattle.compare.proofs.precedes.Given as goal
 

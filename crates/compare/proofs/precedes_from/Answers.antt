@@ -1,8 +1,7 @@
-use Rattle.compare.specs.Order.{precedes, order_past, order_end, order_here, order_next}
-use mathlib.Core.Path.{◌≡◌, refl, sym, ◌∙◌}
-use Prim.Native.Nat.{◌-◌, ◌≤◌}
+use Rattle.compare.specs.Order.{order_past, order_end, order_here, order_next}
+use mathlib.Core.Path.{refl, sym, ◌∙◌}
+use Prim.Native.Nat.{◌-◌}
 use native.Mathlib.Omega.{arith}
-use lib.ListN.{length, drop}
 use Rattle.compare.proofs.precedes_from.Goals as goal
 
 pub loop-i-init : goal.loop-i-init

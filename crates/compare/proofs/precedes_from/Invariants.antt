@@ -1,7 +1,6 @@
-use Rattle.compare.specs.Order.{precedes, order_past, order_end, order_here, order_next}
-use mathlib.Core.Path.{◌≡◌, refl, sym, ◌∙◌}
+use Rattle.compare.specs.Order.{precedes}
+use mathlib.Core.Path.{◌≡◌}
 use Prim.Native.Nat.{◌-◌, ◌≤◌}
-use native.Mathlib.Omega.{arith}
 use lib.ListN.{length, drop}
 use Rattle.compare.proofs.precedes_from.Given as goal
 

@@ -1,10 +1,7 @@
 use Rattle.compare.specs.Compare.{same_length, sixteen_turn, sixteen_differs}
-use borrow.Author.Tests.{not-true, not-false}
-use Rattle.model.specs.Lists.{same}
-use mathlib.Core.Path.{◌≡◌, refl, sym, ◌∙◌}
-use Prim.Native.Nat.{◌-◌, ◌≤◌}
+use mathlib.Core.Path.{refl, sym, ◌∙◌}
+use Prim.Native.Nat.{◌-◌}
 use native.Mathlib.Omega.{arith}
-use lib.ListN.{length, drop}
 use Rattle.compare.proofs.same.Goals as goal
 
 pub returns-then-a-b : goal.returns-then-a-b

@@ -1,9 +1,6 @@
-use Rattle.compare.specs.Compare.{same_length, sixteen_turn, sixteen_differs}
-use borrow.Author.Tests.{not-true, not-false}
 use Rattle.model.specs.Lists.{same}
-use mathlib.Core.Path.{◌≡◌, refl, sym, ◌∙◌}
+use mathlib.Core.Path.{◌≡◌}
 use Prim.Native.Nat.{◌-◌, ◌≤◌}
-use native.Mathlib.Omega.{arith}
 use lib.ListN.{length, drop}
 use Rattle.compare.proofs.same.Given as goal
 

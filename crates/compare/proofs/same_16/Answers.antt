@@ -1,6 +1,5 @@
 use Rattle.compare.specs.Compare.{same16}
 use mathlib.Core.Path.{refl}
-use borrow.Author.Rules.{rules}
 use Rattle.compare.proofs.same_16.Goals as goal
 
 pub returns : goal.returns

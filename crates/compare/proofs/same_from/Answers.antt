@@ -1,9 +1,7 @@
-use Rattle.model.specs.Lists.{same}
 use Rattle.compare.specs.Compare.{same_turn, same_differs, same_done}
-use mathlib.Core.Path.{◌≡◌, refl, sym, ◌∙◌}
-use Prim.Native.Nat.{◌-◌, ◌≤◌}
+use mathlib.Core.Path.{refl, sym, ◌∙◌}
+use Prim.Native.Nat.{◌-◌}
 use native.Mathlib.Omega.{arith}
-use lib.ListN.{length, drop}
 use Rattle.compare.proofs.same_from.Goals as goal
 
 pub loop-i-init : goal.loop-i-init

@@ -1,8 +1,6 @@
 use Rattle.model.specs.Lists.{same}
-use Rattle.compare.specs.Compare.{same_turn, same_differs, same_done}
-use mathlib.Core.Path.{◌≡◌, refl, sym, ◌∙◌}
+use mathlib.Core.Path.{◌≡◌}
 use Prim.Native.Nat.{◌-◌, ◌≤◌}
-use native.Mathlib.Omega.{arith}
 use lib.ListN.{length, drop}
 use Rattle.compare.proofs.same_from.Given as goal
 

@@ -1,6 +1,5 @@
 use native.Mathlib.Omega.{arith}
 use Rattle.copy.specs.Copying.{copies, copied_refused, copied_there}
-use borrow.Author.Rules.{rules}
 use Rattle.copy.proofs.copy_book.Goals as goal
 
 pub returns-then-n-ne0 : goal.returns-then-n-ne0

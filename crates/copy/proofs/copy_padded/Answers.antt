@@ -1,7 +1,6 @@
 use Rattle.model.specs.Merge.{padded}
 use mathlib.Core.Path.{refl}
 use Rattle.wire.specs.Overwrite.{wrote_padded}
-use borrow.Author.Rules.{rules}
 use Rattle.copy.proofs.copy_padded.Goals as goal
 
 pub returns : goal.returns

@@ -1,6 +1,5 @@
 use native.Mathlib.Omega.{arith}
 use Rattle.copy.specs.Copying.{number_book, number_no_tape, number_no_bytes, number_none}
-use borrow.Author.Rules.{rules}
 use Rattle.copy.proofs.copy_refusal.Goals as goal
 
 pub returns-then-n-ne0 : goal.returns-then-n-ne0

@@ -1,7 +1,6 @@
 use mathlib.Core.Path.{refl}
 use borrow.Author.Tests.{le-leb, lt-leb, eq-eqb, ne_eqb}
 use Rattle.model.specs.Region.{blank_line_before}
-use borrow.Author.Rules.{rules}
 use Rattle.cuts.proofs.blank_line_before.Goals as goal
 
 pub returns-then-o-lt2 : goal.returns-then-o-lt2

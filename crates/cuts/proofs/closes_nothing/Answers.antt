@@ -1,5 +1,4 @@
 use mathlib.Core.Path.{refl}
-use borrow.Author.Tests.{not-true, not-false}
 use Rattle.cuts.specs.Gaps.{closes_nothing}
 use Rattle.cuts.proofs.closes_nothing.Goals as goal
 

@@ -1,5 +1,4 @@
 use Rattle.cuts.specs.Window.{reaches_of}
-use borrow.Author.Rules.{rules}
 use Rattle.cuts.proofs.fill_slots.Goals as goal
 
 pub returns : goal.returns

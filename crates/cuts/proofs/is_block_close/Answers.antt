@@ -1,6 +1,5 @@
 use mathlib.Core.Path.{refl}
 use Rattle.model.specs.Tape.{record_at, operands_at, node_codec}
-use borrow.Author.Rules.{rules}
 use Rattle.cuts.proofs.is_block_close.Goals as goal
 
 pub returns : goal.returns

@@ -1,7 +1,6 @@
 use mathlib.Core.Path.{refl}
 use borrow.Author.Tests.{lt-ltb, le-ltb, eq-eqb, ne_eqb}
 use Rattle.model.specs.Tape.{record_at, operands_at, node_codec}
-use borrow.Author.Rules.{rules}
 use Rattle.cuts.proofs.is_directive.Goals as goal
 
 pub returns-then-tape-at-ge2 : goal.returns-then-tape-at-ge2

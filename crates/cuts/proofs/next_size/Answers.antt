@@ -1,5 +1,4 @@
 use Rattle.cuts.specs.Window.{size_all, size_grows}
-use borrow.Author.Rules.{rules}
 use Rattle.cuts.proofs.next_size.Goals as goal
 
 pub returns-then-room-size : goal.returns-then-room-size

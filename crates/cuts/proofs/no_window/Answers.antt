@@ -1,5 +1,4 @@
 use Rattle.cuts.specs.Window.{no_window, window_gone}
-use borrow.Author.Rules.{rules}
 use Rattle.cuts.proofs.no_window.Goals as goal
 
 pub returns-then-words-lt2 : goal.returns-then-words-lt2

@@ -1,6 +1,6 @@
 use Prim.Native.Nat.{◌-◌}
 use native.Mathlib.Omega.{arith}
-use Rattle.cuts.specs.Gaps.{Upto, upto_none, upto_gap, upto_across, upto_more, upto_rest}
+use Rattle.cuts.specs.Gaps.{upto_none, upto_gap, upto_across, upto_more, upto_rest}
 use Rattle.cuts.proofs.nodes_allow_cut.Goals as goal
 
 pub loop-i-init : goal.loop-i-init

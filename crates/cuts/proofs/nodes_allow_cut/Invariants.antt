@@ -1,6 +1,5 @@
 use Prim.Native.Nat.{◌-◌}
-use native.Mathlib.Omega.{arith}
-use Rattle.cuts.specs.Gaps.{Upto, upto_none, upto_gap, upto_across, upto_more, upto_rest}
+use Rattle.cuts.specs.Gaps.{Upto}
 use Rattle.cuts.proofs.nodes_allow_cut.Given as goal
 
 abbrev pub invariant-loop-i : goal.invariant-loop-i

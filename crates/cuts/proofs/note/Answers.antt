@@ -1,5 +1,4 @@
 use Rattle.cuts.specs.Window.{noted_past, noted_there}
-use borrow.Author.Rules.{rules}
 use Rattle.cuts.proofs.note.Goals as goal
 
 pub returns-then-slots-k : goal.returns-then-slots-k

@@ -1,7 +1,5 @@
-use Rattle.cuts.specs.Window.{Noted, noted_start, noted_pairs, noted_all}
-use Rattle.cuts.specs.Pairs.{pairs_from}
-use mathlib.Core.Path.{◌≡◌, refl, ◌∙◌}
-use Prim.Native.Nat.{◌≤◌}
+use Rattle.cuts.specs.Window.{noted_start, noted_pairs, noted_all}
+use mathlib.Core.Path.{refl, ◌∙◌}
 use native.Mathlib.Omega.{arith}
 use lib.ListN.{length}
 use Rattle.cuts.proofs.note_pairs.Goals as goal

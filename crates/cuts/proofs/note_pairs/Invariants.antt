@@ -1,8 +1,7 @@
-use Rattle.cuts.specs.Window.{Noted, noted_start, noted_pairs, noted_all}
+use Rattle.cuts.specs.Window.{Noted}
 use Rattle.cuts.specs.Pairs.{pairs_from}
-use mathlib.Core.Path.{◌≡◌, refl, ◌∙◌}
+use mathlib.Core.Path.{◌≡◌}
 use Prim.Native.Nat.{◌≤◌}
-use native.Mathlib.Omega.{arith}
 use lib.ListN.{length}
 use Rattle.cuts.proofs.note_pairs.Given as goal
 

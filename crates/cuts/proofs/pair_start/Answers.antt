@@ -1,5 +1,4 @@
 use Rattle.model.specs.Tape.{record_at, operands_at, pair_codec}
-use borrow.Author.Rules.{rules}
 use Rattle.cuts.proofs.pair_start.Goals as goal
 
 pub returns : goal.returns

@@ -1,5 +1,4 @@
 use Rattle.cuts.specs.Pairs.{reach_allows}
-use borrow.Author.Rules.{rules}
 use Rattle.cuts.proofs.pairs_allow_cut.Goals as goal
 
 pub returns : goal.returns

@@ -1,6 +1,5 @@
-use Rattle.cuts.specs.Pairs.{reach, pairs_from, reach_all, reach_none, reach_more}
-use mathlib.Core.Path.{◌≡◌, refl}
-use Prim.Native.Nat.{◌≤◌}
+use Rattle.cuts.specs.Pairs.{reach_all, reach_none, reach_more}
+use mathlib.Core.Path.{refl}
 use native.Mathlib.Omega.{arith}
 use Rattle.cuts.proofs.reach.Goals as goal
 

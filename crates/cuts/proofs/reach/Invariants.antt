@@ -1,7 +1,6 @@
-use Rattle.cuts.specs.Pairs.{reach, pairs_from, reach_all, reach_none, reach_more}
-use mathlib.Core.Path.{◌≡◌, refl}
+use Rattle.cuts.specs.Pairs.{reach, pairs_from}
+use mathlib.Core.Path.{◌≡◌}
 use Prim.Native.Nat.{◌≤◌}
-use native.Mathlib.Omega.{arith}
 use Rattle.cuts.proofs.reach.Given as goal
 
 abbrev pub invariant-loop-i : goal.invariant-loop-i

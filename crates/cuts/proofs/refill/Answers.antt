@@ -1,7 +1,6 @@
 use Rattle.cuts.specs.Window.{window_here, window_fits}
 use Prim.Native.Nat.{◌-◌, ◌%◌}
 use native.Mathlib.Omega.{arith}
-use borrow.Author.Rules.{rules}
 use Rattle.cuts.proofs.refill.Goals as goal
 
 pub nonzero_rem-j : goal.nonzero_rem-j
@@ -56,7 +55,7 @@ returns c =
     let start = at-room-in in
     let f = window_fits _ _ _ _ start.args.o start.requires.2 at-room-in.room_in.ensures
     at-next-size.next_size-n.ensures in let o = start.args.o in let n = at-next-size.next_size-n.result in record {
-        value = (window_here at_fill_lem.fill.ensures.0 o (o - o % n) n (o % n)
+      value = (window_here at_fill_lem.fill.ensures.0 o (o - o % n) n (o % n)
           at_fill_lem.fill.ensures.1 at_fill_lem.fill.ensures.2 f.3 (omega (arith, f.4))).1;
-        window = at_fill_lem.fill.ensures.0
+      window = at_fill_lem.fill.ensures.0;
     }

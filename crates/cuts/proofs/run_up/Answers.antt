@@ -1,7 +1,6 @@
-use Rattle.cuts.specs.Window.{Rising, rising_none, rising_more, rising_done}
+use Rattle.cuts.specs.Window.{rising_none, rising_more, rising_done}
 use Prim.Native.Nat.{◌-◌}
 use native.Mathlib.Omega.{arith}
-use lib.ListN.{length}
 use Rattle.cuts.proofs.run_up.Goals as goal
 
 pub loop-k-init : goal.loop-k-init

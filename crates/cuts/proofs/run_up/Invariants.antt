@@ -1,6 +1,5 @@
-use Rattle.cuts.specs.Window.{Rising, rising_none, rising_more, rising_done}
+use Rattle.cuts.specs.Window.{Rising}
 use Prim.Native.Nat.{◌-◌}
-use native.Mathlib.Omega.{arith}
 use lib.ListN.{length}
 use Rattle.cuts.proofs.run_up.Given as goal
 

@@ -1,7 +1,6 @@
 use mathlib.Core.Path.{refl}
 use mathlib.Core.Bool.{or-true}
-use borrow.Author.Rules.{rules}
-use borrow.Author.Tests.{eq-eqb, not-true, not-false}
+use borrow.Author.Tests.{eq-eqb}
 use Rattle.cuts.specs.Safe.{safe_cut_in, safe_no_line, safe_no_nodes, safe_pairs}
 use Rattle.cuts.proofs.safe_cut.Goals as goal
 

@@ -1,6 +1,5 @@
 use mathlib.Core.Path.{refl, ◌∙◌}
 use Rattle.model.specs.Region.{depth_behind}
-use borrow.Author.Rules.{rules}
 use Rattle.cuts.proofs.warichu_depth.Goals as goal
 
 pub returns : goal.returns

@@ -1,5 +1,4 @@
 use Rattle.cuts.specs.Window.{word_before, word_behind, word_inside}
-use borrow.Author.Rules.{rules}
 use Rattle.cuts.proofs.word_of.Goals as goal
 
 pub returns-then-o-from : goal.returns-then-o-from

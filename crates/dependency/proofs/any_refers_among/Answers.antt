@@ -1,11 +1,8 @@
-use Rattle.std.proofs.Common.{◌≡◌, ℕ, ◌-◌, ◌≤◌, min, ◌++◌, length, sym, refl, ap, ◌∙◌, arith, eq-eqb, ne_eqb}
+use Rattle.std.proofs.Common.{◌≡◌, ℕ, ◌-◌, ◌++◌, sym, refl, ap, ◌∙◌, arith, eq-eqb, ne_eqb}
 use Rattle.ruby_formats.specs.Sound.{sound_before, sound_node, sound_index}
-use Rattle.model.specs.Tape.{records_at, node_codec}
-use Rattle.wire.specs.Loops.{Missed, missed_none, missed_more, any_found, any_missed, any_up_to}
+use Rattle.wire.specs.Loops.{missed_none, missed_more, any_found, any_missed, any_up_to}
 use Rattle.strings.specs.Starts.{store_in}
 use Rattle.dependency.specs.Parts.{refers_among, noted_start}
-use Rattle.dependency.specs.Noted.{Noted}
-use Rattle.sorted_ids.specs.Row.{first_words}
 use Rattle.dependency.specs.Rows.{told_yes, told_no, told_not}
 use Rattle.dependency.proofs.any_refers_among.Goals as goal
 
@@ -17,9 +14,9 @@ pub refers_among-r-requires : goal.refers_among-r-requires
 refers_among-r-requires c =
     let turn = c in
     let start = turn in record {
-        sound = sound_before (sound_index turn.loop-i.invariant.2 start.requires.sound) (omega (arith, c.loop-i-test.true));
-        base_in_bounds = omega (arith, start.requires.base_in_bounds, turn.loop-i.invariant.1);
-        noted = turn.loop-i.invariant.3
+      sound = sound_before (sound_index turn.loop-i.invariant.2 start.requires.sound) (omega (arith, c.loop-i-test.true));
+      base_in_bounds = omega (arith, start.requires.base_in_bounds, turn.loop-i.invariant.1);
+      noted = turn.loop-i.invariant.3;
     }
 
 pub shape_of-words-then-r-eq1 : goal.shape_of-words-then-r-eq1
@@ -62,9 +59,9 @@ note_first-requires c =
     let at-loop-test = c in
     let turn = at-loop-test in
     let start = turn in record {
-        sound_node = sound_node (sound_index turn.loop-i.invariant.2 start.requires.sound) at-loop-test.loop-i-test.true;
-        base_in_bounds = omega (arith, start.requires.base_in_bounds, turn.loop-i.invariant.1);
-        noted = turn.loop-i.invariant.3
+      sound_node = sound_node (sound_index turn.loop-i.invariant.2 start.requires.sound) at-loop-test.loop-i-test.true;
+      base_in_bounds = omega (arith, start.requires.base_in_bounds, turn.loop-i.invariant.1);
+      noted = turn.loop-i.invariant.3;
     }
 
 pub overflow_add-i : goal.overflow_add-i

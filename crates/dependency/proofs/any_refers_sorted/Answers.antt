@@ -1,12 +1,10 @@
-use Rattle.std.proofs.Common.{◌≡◌, ◌-◌, ◌≤◌, min, ◌++◌, length, sym, refl, ◌∙◌, arith}
+use Rattle.std.proofs.Common.{◌≡◌, ◌-◌, ◌++◌, sym, refl, ◌∙◌, arith}
 use Rattle.ruby_formats.specs.Sound.{sound_before, sound_index}
-use Rattle.model.specs.Tape.{records_at, node_codec}
 use Rattle.wire.specs.Loops.{any_found}
 use Rattle.strings.specs.Starts.{store_in}
 use Rattle.dependency.specs.Parts.{refers_among}
-use Rattle.dependency.specs.Later.{Left, left_none, left_more, left_all}
-use Rattle.sorted_ids.specs.Row.{first_words}
-use Rattle.dependency.specs.Rows.{Rowed, rowed_start}
+use Rattle.dependency.specs.Later.{left_none, left_more, left_all}
+use Rattle.dependency.specs.Rows.{rowed_start}
 use Rattle.dependency.proofs.any_refers_sorted.Goals as goal
 
 pub loop-i-init : goal.loop-i-init
@@ -18,9 +16,9 @@ pub refers_or_later-requires : goal.refers_or_later-requires
 refers_or_later-requires c =
     let turn = c in
     let start = turn in record {
-        sound = sound_index turn.loop-i.invariant.2 start.requires.sound;
-        i_lt_count = (c.loop-i-test.true, omega (arith, start.requires.n_in_bounds, turn.loop-i.invariant.1));
-        rowed = turn.loop-i.invariant.4
+      sound = sound_index turn.loop-i.invariant.2 start.requires.sound;
+      i_lt_count = (c.loop-i-test.true, omega (arith, start.requires.n_in_bounds, turn.loop-i.invariant.1));
+      rowed = turn.loop-i.invariant.4;
     }
 
 pub shape_of-words-then-refers_or_later : goal.shape_of-words-then-refers_or_later
@@ -43,9 +41,9 @@ insert_first-m-requires c =
     let at-loop-test = c in
     let turn = at-loop-test in
     let start = turn in record {
-        sound = sound_before (sound_index turn.loop-i.invariant.2 start.requires.sound) (omega (arith, at-loop-test.loop-i-test.true));
-        rowed = turn.loop-i.invariant.4;
-        m_le_i = (turn.loop-i.invariant.3, omega (arith, start.requires.n_in_bounds, turn.loop-i.invariant.1))
+      sound = sound_before (sound_index turn.loop-i.invariant.2 start.requires.sound) (omega (arith, at-loop-test.loop-i-test.true));
+      rowed = turn.loop-i.invariant.4;
+      m_le_i = (turn.loop-i.invariant.3, omega (arith, start.requires.n_in_bounds, turn.loop-i.invariant.1));
     }
 
 pub overflow_add-i : goal.overflow_add-i

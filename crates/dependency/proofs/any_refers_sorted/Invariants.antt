@@ -1,12 +1,10 @@
-use Rattle.std.proofs.Common.{◌≡◌, ◌-◌, ◌≤◌, min, ◌++◌, length, sym, refl, ◌∙◌, arith}
-use Rattle.ruby_formats.specs.Sound.{sound_before, sound_index}
+use Rattle.std.proofs.Common.{◌≡◌, ◌-◌, ◌≤◌, min, ◌++◌, length}
 use Rattle.model.specs.Tape.{records_at, node_codec}
-use Rattle.wire.specs.Loops.{any_found}
 use Rattle.strings.specs.Starts.{store_in}
 use Rattle.dependency.specs.Parts.{refers_among}
-use Rattle.dependency.specs.Later.{Left, left_none, left_more, left_all}
+use Rattle.dependency.specs.Later.{Left}
 use Rattle.sorted_ids.specs.Row.{first_words}
-use Rattle.dependency.specs.Rows.{Rowed, rowed_start}
+use Rattle.dependency.specs.Rows.{Rowed}
 use Rattle.dependency.proofs.any_refers_sorted.Given as goal
 
 abbrev pub invariant-loop-i : goal.invariant-loop-i

@@ -1,4 +1,4 @@
-use Rattle.std.proofs.Common.{arith, rules}
+use Rattle.std.proofs.Common.{arith}
 use Rattle.dependency.specs.Noted.{key_short, key_long}
 use Rattle.dependency.proofs.filter_key.Goals as goal
 

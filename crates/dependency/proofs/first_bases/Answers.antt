@@ -1,4 +1,4 @@
-use Rattle.std.proofs.Common.{◌≡◌, ◌-◌, ◌≤◌, length, refl, arith}
+use Rattle.std.proofs.Common.{◌-◌, refl, arith}
 use Rattle.dependency.proofs.first_bases.Goals as goal
 
 pub loop-i-init : goal.loop-i-init
@@ -8,8 +8,8 @@ loop-i-init c =
 pub note_base_place-m-requires : goal.note_base_place-m-requires
 note_base_place-m-requires c =
     record {
-        naming = c.requires.node _ c.loop-i-test.true;
-        m_in_bounds = omega (arith, c.loop-i.invariant)
+      naming = c.requires.node _ c.loop-i-test.true;
+      m_in_bounds = omega (arith, c.loop-i.invariant);
     }
 
 pub overflow_add-i : goal.overflow_add-i

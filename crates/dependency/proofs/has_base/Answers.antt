@@ -1,7 +1,5 @@
 use Rattle.dependency.specs.Compared.{base_other, base_ruby}
 use Rattle.ruby_formats.specs.Sound.{ruby_first, plain_inside}
-use borrow.Author.Tests.{not-true, not-false}
-use Rattle.std.proofs.Common.{rules}
 use Rattle.dependency.proofs.has_base.Goals as goal
 
 pub returns-then-not-is_ruby : goal.returns-then-not-is_ruby
@@ -11,16 +9,16 @@ returns-then-not-is_ruby c =
 pub first_plain-p-requires : goal.first_plain-p-requires
 first_plain-p-requires c =
     record {
-        of_tape = c.requires.strings.sides.store;
-        at_in_bounds = c.requires.inside;
-        first_range = ruby_first c.requires c.is_ruby.ensures c.if-not-is_ruby.false
+      of_tape = c.requires.strings.sides.store;
+      at_in_bounds = c.requires.inside;
+      first_range = ruby_first c.requires c.is_ruby.ensures c.if-not-is_ruby.false;
     }
 
 pub is_plain-requires : goal.is_plain-requires
 is_plain-requires c =
     record {
-        resolvable = c.requires.strings;
-        plain_in = plain_inside c.requires c.first_plain-p.ensures
+      resolvable = c.requires.strings;
+      plain_in = plain_inside c.requires c.first_plain-p.ensures;
     }
 
 pub returns : goal.returns

@@ -1,4 +1,4 @@
-use Rattle.std.proofs.Common.{◌+◌, length, arith, rules}
+use Rattle.std.proofs.Common.{◌+◌, length, arith}
 use Rattle.ruby_formats.specs.Sound.{sound_before}
 use Rattle.dependency.specs.Asked.{asked_inside, asked_depends, asked_none}
 use Rattle.dependency.specs.Words.{lent_enough}
@@ -24,8 +24,8 @@ pub refers_by_words-requires : goal.refers_by_words-requires
 refers_by_words-requires c =
     let enough = lent_enough (length c.args.words.now) (c.asked_nodes-n.result + 1) c.in_many_parts.ensures c.if-in_many_parts.false in
     record {
-        sound = sound_before c.requires (asked_inside _ _ _ _ c.asked_nodes-n.ensures);
-        in_bounds = omega (arith, enough, c.if-n-eq0.false)
+      sound = sound_before c.requires (asked_inside _ _ _ _ c.asked_nodes-n.ensures);
+      in_bounds = omega (arith, enough, c.if-n-eq0.false);
     }
 
 pub returns : goal.returns

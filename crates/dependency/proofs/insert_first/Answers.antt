@@ -2,7 +2,7 @@ use Rattle.dependency.specs.Rows.{rowed_past, rowed_one}
 use Rattle.ruby_formats.specs.Named.{sound_naming, sound_namings}
 use Rattle.dependency.specs.Named.{rowed_again}
 use Rattle.ruby_formats.specs.Sound.{sound_last}
-use Rattle.std.proofs.Common.{refl, arith, rules}
+use Rattle.std.proofs.Common.{refl, arith}
 use Rattle.dependency.proofs.insert_first.Goals as goal
 
 pub returns-then-n-i : goal.returns-then-n-i
@@ -33,9 +33,9 @@ insert_base-requires c =
     let at-if1 = c in
     let start = at-if1 in
     record {
-        sound_node = sound_last start.args.i start.requires.sound;
-        row = start.requires.rowed.row;
-        m_in_bounds = omega (arith, start.requires.m_le_i, at-if1.if-n-i.false)
+      sound_node = sound_last start.args.i start.requires.sound;
+      row = start.requires.rowed.row;
+      m_in_bounds = omega (arith, start.requires.m_le_i, at-if1.if-n-i.false);
     }
 
 pub returns : goal.returns

@@ -1,15 +1,14 @@
 use Rattle.dependency.specs.Rows.{row_some, row_none}
-use Rattle.std.proofs.Common.{rules}
 use Rattle.dependency.proofs.insert_id.Goals as goal
 
 pub insert-requires : goal.insert-requires
 insert-requires c =
     let start = c in
     record {
-        resolvable = start.requires.resolvable;
-        row = start.requires.row;
-        m_in_bounds = start.requires.m_in_bounds;
-        id_lt_strings = (start.requires.plain_in.inside _ c.in-Id.is)
+      resolvable = start.requires.resolvable;
+      row = start.requires.row;
+      m_in_bounds = start.requires.m_in_bounds;
+      id_lt_strings = (start.requires.plain_in.inside _ c.in-Id.is);
     }
 
 pub returns-in-Id : goal.returns-in-Id

@@ -1,4 +1,4 @@
-use Rattle.std.proofs.Common.{◌∙◌, rules}
+use Rattle.std.proofs.Common.{◌∙◌}
 use Rattle.strings.specs.Shown.{shown_str}
 use Rattle.dependency.specs.Noted.{insert_some, insert_none}
 use Rattle.dependency.proofs.insert_plain.Goals as goal
@@ -6,8 +6,8 @@ use Rattle.dependency.proofs.insert_plain.Goals as goal
 pub resolve_str-s-requires : goal.resolve_str-s-requires
 resolve_str-s-requires c =
     record {
-        resolvable = c.requires.resolvable;
-        id_lt_strings = (c.requires.plain_in.inside _ c.in-Id.is)
+      resolvable = c.requires.resolvable;
+      id_lt_strings = (c.requires.plain_in.inside _ c.in-Id.is);
     }
 
 pub returns-in-Id : goal.returns-in-Id

@@ -1,12 +1,11 @@
 use Rattle.dependency.specs.Compared.{plain_some, plain_none}
-use Rattle.std.proofs.Common.{rules}
 use Rattle.dependency.proofs.is_plain.Goals as goal
 
 pub is_string-requires : goal.is_string-requires
 is_string-requires c =
     record {
-        resolvable = c.requires.resolvable;
-        id_lt_strings = c.requires.plain_in.inside _ c.in-Id.is
+      resolvable = c.requires.resolvable;
+      id_lt_strings = c.requires.plain_in.inside _ c.in-Id.is;
     }
 
 pub returns-in-Id : goal.returns-in-Id

@@ -1,14 +1,14 @@
 use Rattle.strings.specs.Shown.{shown_str}
 use Rattle.dependency.specs.Rows.{among_some, among_nothing}
-use Rattle.std.proofs.Common.{◌∙◌, rules}
+use Rattle.std.proofs.Common.{◌∙◌}
 use Rattle.dependency.proofs.is_plain_in_row.Goals as goal
 
 pub resolve_str-s-requires : goal.resolve_str-s-requires
 resolve_str-s-requires c =
     let start = c in
     record {
-        resolvable = start.requires.resolvable;
-        id_lt_strings = (start.requires.plain_in.inside _ c.in-Id.is)
+      resolvable = start.requires.resolvable;
+      id_lt_strings = (start.requires.plain_in.inside _ c.in-Id.is);
     }
 
 pub returns-in-Id : goal.returns-in-Id

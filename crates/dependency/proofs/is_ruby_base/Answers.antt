@@ -1,7 +1,7 @@
-use Rattle.std.proofs.Common.{◌-◌, ◌≤◌, ◌++◌, refl, arith}
+use Rattle.std.proofs.Common.{◌-◌, ◌++◌, refl, arith}
 use Rattle.model.specs.Tape.{node_codec}
-use Rattle.wire.specs.Loops.{Missed, missed_none}
-use Rattle.records.specs.Runs.{test_at, run_missed, run_found, run_nowhere}
+use Rattle.wire.specs.Loops.{missed_none}
+use Rattle.records.specs.Runs.{run_missed, run_found, run_nowhere}
 use Rattle.strings.specs.Starts.{store_in}
 use Rattle.dependency.specs.Bases.{has_base}
 use Rattle.ruby_formats.specs.Sound.{sound_node}

@@ -1,10 +1,9 @@
-use Rattle.std.proofs.Common.{◌-◌, ◌≤◌, ◌++◌, refl, arith}
+use Rattle.std.proofs.Common.{◌-◌, ◌≤◌, ◌++◌}
 use Rattle.model.specs.Tape.{node_codec}
-use Rattle.wire.specs.Loops.{Missed, missed_none}
-use Rattle.records.specs.Runs.{test_at, run_missed, run_found, run_nowhere}
+use Rattle.wire.specs.Loops.{Missed}
+use Rattle.records.specs.Runs.{test_at}
 use Rattle.strings.specs.Starts.{store_in}
 use Rattle.dependency.specs.Bases.{has_base}
-use Rattle.ruby_formats.specs.Sound.{sound_node}
 use Rattle.dependency.proofs.is_ruby_base.Given as goal
 
 abbrev pub invariant-loop-i : goal.invariant-loop-i

@@ -1,7 +1,7 @@
 use Rattle.dependency.specs.Compared.{other_length}
 use Rattle.strings.specs.Shown.{shown_str}
 use Rattle.model.specs.Lists.{same}
-use Rattle.std.proofs.Common.{ap, ◌∙◌, rules}
+use Rattle.std.proofs.Common.{ap, ◌∙◌}
 use Rattle.dependency.proofs.is_string.Goals as goal
 
 pub returns-then-string_length-s : goal.returns-then-string_length-s

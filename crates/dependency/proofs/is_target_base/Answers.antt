@@ -1,5 +1,5 @@
 use Rattle.dependency.specs.Rows.{told_as, told_no}
-use Rattle.std.proofs.Common.{sym, refl, ◌∙◌, rules}
+use Rattle.std.proofs.Common.{sym, refl, ◌∙◌}
 use Rattle.strings.specs.Shown.{shown_str}
 use Rattle.dependency.specs.Compared.{target_some, target_none}
 use Rattle.dependency.proofs.is_target_base.Goals as goal
@@ -9,8 +9,8 @@ resolve_str-s-requires c =
     let at_p = c in
     let start = at_p in
     record {
-        resolvable = start.requires.sound.strings;
-        id_lt_strings = (start.requires.plain_in.inside _ at_p.in-Id.is)
+      resolvable = start.requires.sound.strings;
+      id_lt_strings = (start.requires.plain_in.inside _ at_p.in-Id.is);
     }
 
 pub returns-in-Id : goal.returns-in-Id

@@ -1,4 +1,4 @@
-use Rattle.std.proofs.Common.{◌≡◌, ◌-◌, ◌≤◌, length, refl, arith}
+use Rattle.std.proofs.Common.{◌-◌, refl, arith}
 use Rattle.dependency.proofs.last_targets.Goals as goal
 
 pub loop-n-init : goal.loop-n-init
@@ -14,8 +14,8 @@ note_target_place-m-requires c =
     let turn = c in
     let start = turn in
     record {
-        naming = start.requires.node (turn.loop-n.n - 1) (omega (arith, turn.loop-n.invariant, c.loop-n-test.true));
-        m_in_bounds = omega (arith, turn.loop-n.invariant)
+      naming = start.requires.node (turn.loop-n.n - 1) (omega (arith, turn.loop-n.invariant, c.loop-n-test.true));
+      m_in_bounds = omega (arith, turn.loop-n.invariant);
     }
 
 pub overflow_sub-n-in-loop-n : goal.overflow_sub-n-in-loop-n

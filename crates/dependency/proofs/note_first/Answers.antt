@@ -1,4 +1,4 @@
-use Rattle.std.proofs.Common.{refl, rules}
+use Rattle.std.proofs.Common.{refl}
 use Rattle.dependency.specs.Noted.{noted_front}
 use Rattle.dependency.specs.Parts.{noted_past, noted_one}
 use Rattle.dependency.proofs.note_first.Goals as goal

@@ -1,6 +1,5 @@
 use Rattle.dependency.specs.Rows.{told_as, told_no}
-use Rattle.std.proofs.Common.{sym, refl, arith, rules}
-use borrow.Author.Tests.{not-true, not-false}
+use Rattle.std.proofs.Common.{sym, refl, arith}
 use Rattle.ruby_formats.specs.Sound.{sound_last, sound_before, format_first, plain_inside}
 use Rattle.dependency.specs.Parts.{refers_other, refers_target, noted_few}
 use Rattle.dependency.proofs.refers_among.Goals as goal
@@ -13,18 +12,18 @@ returns-then-not-asks_target c =
 pub first_plain-p-requires : goal.first_plain-p-requires
 first_plain-p-requires c =
     let start = c in record {
-        of_tape = start.requires.sound.strings.sides.store;
-        at_in_bounds = (sound_last start.args.i start.requires.sound).inside;
-        first_range = format_first (sound_last start.args.i start.requires.sound) _ c.asks_target.ensures c.if-not-asks_target.false
+      of_tape = start.requires.sound.strings.sides.store;
+      at_in_bounds = (sound_last start.args.i start.requires.sound).inside;
+      first_range = format_first (sound_last start.args.i start.requires.sound) _ c.asks_target.ensures c.if-not-asks_target.false;
     }
 
 pub is_target_base-requires : goal.is_target_base-requires
 is_target_base-requires c =
     let start = c in record {
-        sound = sound_before start.requires.sound (omega (arith, c.smaller-k.ensures));
-        base_in_bounds = start.requires.base_in_bounds;
-        noted = noted_few _ _ _ _ _ _ _ start.requires.noted _ c.smaller-k.ensures;
-        plain_in = plain_inside (sound_last start.args.i start.requires.sound) c.first_plain-p.ensures
+      sound = sound_before start.requires.sound (omega (arith, c.smaller-k.ensures));
+      base_in_bounds = start.requires.base_in_bounds;
+      noted = noted_few _ _ _ _ _ _ _ start.requires.noted _ c.smaller-k.ensures;
+      plain_in = plain_inside (sound_last start.args.i start.requires.sound) c.first_plain-p.ensures;
     }
 
 pub returns : goal.returns

@@ -1,4 +1,4 @@
-use Rattle.std.proofs.Common.{◌/◌, length, arith, rules}
+use Rattle.std.proofs.Common.{◌/◌, length, arith}
 use Rattle.strings.specs.Shown.{sides_readable}
 use Rattle.dependency.specs.Words.{first_length}
 use Rattle.dependency.specs.Parts.{sound_own}
@@ -13,12 +13,12 @@ refers_in_parts-requires c =
     let at-index-strings = c in
     let start = c in
     let base = length start.args.words.now / 4 in record {
-        sound = sound_own start.requires.sound start.args.words.now base (omega arith) at-index-strings.index_strings.new.words
+      sound = sound_own start.requires.sound start.args.words.now base (omega arith) at-index-strings.index_strings.new.words
           at-index-strings.index_strings.auto.words at-index-strings.index_strings.ensures;
-        base_in_bounds = omega (
+      base_in_bounds = omega (
         arith,
         first_length start.args.words.now base (omega arith)
             at-index-strings.index_strings.new.words at-index-strings.index_strings.auto.words,
         start.requires.in_bounds,
-      )
+      );
     }

@@ -1,10 +1,8 @@
-use Rattle.dependency.specs.Noted.{first_words}
 use Rattle.ruby_formats.specs.Sound.{sound_index}
 use Rattle.dependency.specs.Pieces.{sound_piece}
-use Rattle.dependency.specs.Parts.{refers_among, parts_none, parts_more, parts_found, parts_all}
+use Rattle.dependency.specs.Parts.{parts_none, parts_more, parts_found, parts_all}
 use Rattle.strings.specs.Starts.{store_in}
-use Rattle.wire.specs.Loops.{Missed}
-use Rattle.std.proofs.Common.{◌≡◌, ◌+◌, ◌-◌, ◌≤◌, ◌++◌, length, refl, ◌∙◌, arith}
+use Rattle.std.proofs.Common.{◌+◌, ◌-◌, ◌++◌, refl, ◌∙◌, arith}
 use Rattle.dependency.proofs.refers_in_parts.Goals as goal
 
 pub overflow_sub-size : goal.overflow_sub-size
@@ -49,8 +47,8 @@ pub refers_to_part-requires : goal.refers_to_part-requires
 refers_to_part-requires c =
     let turn = c in
     let start = turn in record {
-        sound = sound_piece (sound_index turn.loop-i.invariant.2 start.requires.sound) turn.loop-i.i _ (omega (arith, c.loop-i-test.true));
-        n_le_count = (omega (arith, c.smaller-n.ensures), omega (arith, c.smaller-n.ensures, turn.loop-i.invariant.4, turn.loop-i.invariant.1))
+      sound = sound_piece (sound_index turn.loop-i.invariant.2 start.requires.sound) turn.loop-i.i _ (omega (arith, c.loop-i-test.true));
+      n_le_count = (omega (arith, c.smaller-n.ensures), omega (arith, c.smaller-n.ensures, turn.loop-i.invariant.4, turn.loop-i.invariant.1));
     }
 
 pub shape_of-words-then-refers_to_part : goal.shape_of-words-then-refers_to_part

@@ -1,10 +1,8 @@
 use Rattle.dependency.specs.Noted.{first_words}
-use Rattle.ruby_formats.specs.Sound.{sound_index}
-use Rattle.dependency.specs.Pieces.{sound_piece}
-use Rattle.dependency.specs.Parts.{refers_among, parts_none, parts_more, parts_found, parts_all}
+use Rattle.dependency.specs.Parts.{refers_among}
 use Rattle.strings.specs.Starts.{store_in}
 use Rattle.wire.specs.Loops.{Missed}
-use Rattle.std.proofs.Common.{◌≡◌, ◌+◌, ◌-◌, ◌≤◌, ◌++◌, length, refl, ◌∙◌, arith}
+use Rattle.std.proofs.Common.{◌≡◌, ◌+◌, ◌-◌, ◌≤◌, ◌++◌, length}
 use Rattle.dependency.proofs.refers_in_parts.Given as goal
 
 abbrev pub invariant-loop-i : goal.invariant-loop-i

@@ -4,7 +4,7 @@ use Rattle.ruby_formats.specs.Sound.{sound_node}
 use Rattle.dependency.specs.Rows.{rowed_refers}
 use Rattle.dependency.specs.Parts.{refers_among}
 use Rattle.strings.specs.Starts.{store_in}
-use Rattle.std.proofs.Common.{◌++◌, rules}
+use Rattle.std.proofs.Common.{◌++◌}
 use Rattle.dependency.proofs.refers_or_later.Goals as goal
 
 pub noted_place-v-requires : goal.noted_place-v-requires
@@ -16,8 +16,8 @@ pub asks_again-requires : goal.asks_again-requires
 asks_again-requires c =
     let start = c in
     record {
-        namings = sound_namings start.requires.sound;
-        i_lt_count = start.requires.i_lt_count.0
+      namings = sound_namings start.requires.sound;
+      i_lt_count = start.requires.i_lt_count.0;
     }
 
 pub returns-then-asks_again : goal.returns-then-asks_again
@@ -29,9 +29,9 @@ pub refers_to_row-requires : goal.refers_to_row-requires
 refers_to_row-requires c =
     let start = c in
     record {
-        sound_node = sound_node start.requires.sound start.requires.i_lt_count.0;
-        base_in_bounds = start.requires.i_lt_count.1;
-        row = start.requires.rowed.row
+      sound_node = sound_node start.requires.sound start.requires.i_lt_count.0;
+      base_in_bounds = start.requires.i_lt_count.1;
+      row = start.requires.rowed.row;
     }
 
 pub returns : goal.returns

@@ -1,5 +1,4 @@
 use Rattle.ruby_formats.specs.Named.{sound_namings, namings_before}
-use Rattle.std.proofs.Common.{rules}
 use Rattle.dependency.proofs.refers_sorted.Goals as goal
 
 pub first_bases-a-requires : goal.first_bases-a-requires

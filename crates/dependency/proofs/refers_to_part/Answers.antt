@@ -1,4 +1,4 @@
-use Rattle.std.proofs.Common.{refl, rules}
+use Rattle.std.proofs.Common.{refl}
 use Rattle.dependency.specs.Parts.{part_without}
 use Rattle.dependency.proofs.refers_to_part.Goals as goal
 

@@ -1,7 +1,5 @@
-use borrow.Author.Tests.{not-true, not-false}
 use Rattle.ruby_formats.specs.Sound.{format_first, plain_inside}
 use Rattle.dependency.specs.Rows.{row_asks_not, row_target}
-use Rattle.std.proofs.Common.{rules}
 use Rattle.dependency.proofs.refers_to_row.Goals as goal
 
 pub returns-then-not-asks_target : goal.returns-then-not-asks_target
@@ -13,19 +11,19 @@ pub first_plain-p-requires : goal.first_plain-p-requires
 first_plain-p-requires c =
     let start = c in
     record {
-        of_tape = start.requires.sound_node.strings.sides.store;
-        at_in_bounds = start.requires.sound_node.inside;
-        first_range = format_first start.requires.sound_node _ c.asks_target.ensures c.if-not-asks_target.false
+      of_tape = start.requires.sound_node.strings.sides.store;
+      at_in_bounds = start.requires.sound_node.inside;
+      first_range = format_first start.requires.sound_node _ c.asks_target.ensures c.if-not-asks_target.false;
     }
 
 pub is_plain_in_row-requires : goal.is_plain_in_row-requires
 is_plain_in_row-requires c =
     let start = c in
     record {
-        resolvable = start.requires.sound_node.strings;
-        base_in_bounds = start.requires.base_in_bounds;
-        row = start.requires.row;
-        plain_in = plain_inside start.requires.sound_node c.first_plain-p.ensures
+      resolvable = start.requires.sound_node.strings;
+      base_in_bounds = start.requires.base_in_bounds;
+      row = start.requires.row;
+      plain_in = plain_inside start.requires.sound_node c.first_plain-p.ensures;
     }
 
 pub returns : goal.returns

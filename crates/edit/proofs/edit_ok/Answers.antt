@@ -1,6 +1,4 @@
-use borrow.Author.Tests.{not-true, not-false}
 use Rattle.edit.specs.Numbers.{within_order, within_length, within_start, within_end}
-use borrow.Author.Rules.{rules}
 use Rattle.edit.proofs.edit_ok.Goals as goal
 
 pub returns-then-end-start : goal.returns-then-end-start

@@ -1,7 +1,5 @@
-use borrow.Author.Tests.{not-true, not-false}
 use Rattle.edit.specs.Numbers.{edit_eight, edit_two, edit_facts, edit_three, edit_nine, edit_pass, within_facts}
 use mathlib.Core.Path.{sym, ◌∙◌}
-use borrow.Author.Rules.{rules}
 use Rattle.edit.proofs.edit_refusal.Goals as goal
 
 pub returns-then-not-edit_ok : goal.returns-then-not-edit_ok

@@ -1,5 +1,4 @@
 use Rattle.edit.specs.Numbers.{fits_over, fits_sum}
-use borrow.Author.Rules.{rules}
 use Rattle.edit.proofs.length_fits.Goals as goal
 
 pub returns-then-added-gt-MAX_TEXT : goal.returns-then-added-gt-MAX_TEXT

@@ -1,7 +1,6 @@
 use Rattle.model.specs.Region.{edit_of}
 use Rattle.edit.specs.Same.{unchanged_length, unchanged_part}
 use mathlib.Core.Path.{sym, ◌∙◌}
-use borrow.Author.Rules.{rules}
 use Rattle.edit.proofs.unchanged.Goals as goal
 
 pub returns-then-replacement-to : goal.returns-then-replacement-to

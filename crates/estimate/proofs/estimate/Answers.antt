@@ -1,6 +1,5 @@
 use mathlib.Core.Path.{ap, ◌∙◌}
 use Rattle.model.specs.Bytes.{zeros}
-use borrow.Author.Rules.{rules}
 use Rattle.estimate.proofs.estimate.Goals as goal
 
 pub returns : goal.returns

@@ -1,5 +1,4 @@
 use Rattle.estimate.specs.Pricing.{estimate_none, estimate_some}
-use borrow.Author.Rules.{rules}
 use Rattle.estimate.proofs.estimate_checked.Goals as goal
 
 pub returns-then-f-ne0 : goal.returns-then-f-ne0

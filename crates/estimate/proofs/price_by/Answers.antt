@@ -1,6 +1,5 @@
 use native.Mathlib.Omega.{arith}
 use Rattle.estimate.specs.Pricing.{over_sizes_lem, over_calls, not_over}
-use borrow.Author.Rules.{rules}
 use Rattle.estimate.proofs.price_by.Goals as goal
 
 pub returns-then-s : goal.returns-then-s

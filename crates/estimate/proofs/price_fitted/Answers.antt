@@ -3,7 +3,6 @@ use Rattle.model.specs.Region.{edit_of}
 use Rattle.result.specs.Books.{inside}
 use Rattle.result.specs.Merging.{texts_inside}
 use Rattle.estimate.specs.Pricing.{sizes_ready, nodes_few, priced}
-use borrow.Author.Rules.{rules}
 use Rattle.estimate.proofs.price_fitted.Goals as goal
 
 pub new_lengths-l-requires : goal.new_lengths-l-requires
@@ -11,8 +10,8 @@ unfolding edit_of
 new_lengths-l-requires c =
     let start = c in
     let i = inside start.requires in record {
-        end_le_text = (i.ends, i.normal_ends, i.limit);
-        normalized_bound = ((texts_inside start.requires).0, omega arith)
+      end_le_text = (i.ends, i.normal_ends, i.limit);
+      normalized_bound = ((texts_inside start.requires).0, omega arith);
     }
 
 pub reading_sizes-s-requires : goal.reading_sizes-s-requires

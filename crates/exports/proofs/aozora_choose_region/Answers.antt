@@ -1,6 +1,5 @@
 use mathlib.Core.Path.{ap, ◌∙◌}
 use Rattle.answers.specs.Answers.{region_answer}
-use borrow.Author.Rules.{rules}
 use Rattle.exports.proofs.aozora_choose_region.Goals as goal
 
 pub returns : goal.returns

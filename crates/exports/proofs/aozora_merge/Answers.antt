@@ -1,5 +1,4 @@
 use Rattle.output.specs.Answer.{merge_told}
-use borrow.Author.Rules.{rules}
 use Rattle.exports.proofs.aozora_merge.Goals as goal
 
 pub returns : goal.returns

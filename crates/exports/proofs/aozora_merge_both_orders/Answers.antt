@@ -1,5 +1,4 @@
 use Rattle.orders.specs.Orders.{orders_told}
-use borrow.Author.Rules.{rules}
 use Rattle.exports.proofs.aozora_merge_both_orders.Goals as goal
 
 pub shape_of-tape1 : goal.shape_of-tape1

@@ -1,8 +1,6 @@
 use native.Mathlib.Omega.{arith}
 use mathlib.Core.Path.{refl}
-use borrow.Author.Tests.{not-true, not-false}
 use Rattle.fitting.specs.Reading.{held_texts, refused_15, refused_16, refused_17, refused_none}
-use borrow.Author.Rules.{rules}
 use Rattle.fitting.proofs.cut_refusal.Goals as goal
 
 pub returns-then-introduces_ruby_format_dependency : goal.returns-then-introduces_ruby_format_dependency

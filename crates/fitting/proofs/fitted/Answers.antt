@@ -1,5 +1,4 @@
 use Rattle.fitting.specs.Stages.{target_refused}
-use borrow.Author.Rules.{rules}
 use Rattle.fitting.proofs.fitted.Goals as goal
 
 pub returns-then-b-ne0 : goal.returns-then-b-ne0

@@ -2,7 +2,6 @@ use native.Mathlib.Omega.{arith}
 use Rattle.model.specs.Region.{edit_of}
 use Rattle.fitting.specs.Stages.{reading_refused, reading_store_lem, reading_read, read_refused}
 use Rattle.fitting.specs.Merging.{window_read, window_offsets, window_refused, window_fits}
-use borrow.Author.Rules.{rules}
 use Rattle.fitting.proofs.fitting_reading.Goals as goal
 
 pub returns-then-n-ne0 : goal.returns-then-n-ne0
@@ -30,8 +29,8 @@ reading_refusal-k-requires c =
     let start = at-check-reading in
     let read = reading_read start.requires _ _ at-check-reading.check_reading-n.ensures at-if1.if-n-ne0.false at-places-of.places_of-q.ensures at-store-of.store_of-own.ensures in
     record {
-        read = window_read read at-region-window.region_window-w.result at-region-window.region_window-w.ensures;
-        nstart_value = window_offsets read at-region-window.region_window-w.result at-region-window.region_window-w.ensures
+      read = window_read read at-region-window.region_window-w.result at-region-window.region_window-w.ensures;
+      nstart_value = window_offsets read at-region-window.region_window-w.result at-region-window.region_window-w.ensures;
     }
 
 pub returns-then-k-ne0 : goal.returns-then-k-ne0

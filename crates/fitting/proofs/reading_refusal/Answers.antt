@@ -1,8 +1,6 @@
 use native.Mathlib.Omega.{arith}
-use borrow.Author.Tests.{not-true, not-false}
 use Rattle.model.specs.Region.{edit_of}
 use Rattle.fitting.specs.Reading.{held_texts, held_nodes, held_diagnostics, region_asked, passage_asked, refused_12, refused_13, refused_14, refused_cut}
-use borrow.Author.Rules.{rules}
 use Rattle.fitting.proofs.reading_refusal.Goals as goal
 
 pub slice_bounds-text-end : goal.slice_bounds-text-end
@@ -80,8 +78,8 @@ pub cut_refusal-requires : goal.cut_refusal-requires
 cut_refusal-requires c =
     let start = c in
     record {
-        held = (start.requires.read.given.held, start.requires.read.held);
-        nstart_value = start.requires.nstart_value
+      held = (start.requires.read.given.held, start.requires.read.held);
+      nstart_value = start.requires.nstart_value;
     }
 
 pub returns : goal.returns

@@ -9,16 +9,16 @@ pub normalized_cut-nstart-requires : goal.normalized_cut-nstart-requires
 normalized_cut-nstart-requires c =
     let start = c in
     record {
-        count_in_bounds = (held_nodes start.requires.held, held_order start.requires.held);
-        cut_bound = start_small start.requires refl
+      count_in_bounds = (held_nodes start.requires.held, held_order start.requires.held);
+      cut_bound = start_small start.requires refl;
     }
 
 pub normalized_cut-nend-requires : goal.normalized_cut-nend-requires
 normalized_cut-nend-requires c =
     let start = c in
     record {
-        count_in_bounds = (held_nodes start.requires.held, held_order start.requires.held);
-        cut_bound = end_small start.requires refl
+      count_in_bounds = (held_nodes start.requires.held, held_order start.requires.held);
+      cut_bound = end_small start.requires refl;
     }
 
 pub window-requires : goal.window-requires

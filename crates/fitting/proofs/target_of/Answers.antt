@@ -1,6 +1,5 @@
 use Rattle.region.specs.Entry.{choose_store, choose_held}
 use Rattle.fitting.specs.Stages.{book_refused, edit_refused, edit_found}
-use borrow.Author.Rules.{rules}
 use Rattle.fitting.proofs.target_of.Goals as goal
 
 pub returns-then-b-ne0 : goal.returns-then-b-ne0

@@ -1,5 +1,4 @@
 use Rattle.fitting.specs.Window.{window_made}
-use borrow.Author.Rules.{rules}
 use Rattle.fitting.proofs.window.Goals as goal
 
 pub returns : goal.returns

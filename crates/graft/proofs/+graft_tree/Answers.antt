@@ -1,25 +1,18 @@
 use native.Mathlib.Omega.{arith}
-use borrow.Author.Rules.{rules}
-use mathlib.Core.Path.{◌≡◌, refl, sym, ap, ◌∙◌}
-use lib.ListN.{length}
-use borrow.Author.Tests.{not-true, not-false}
+use mathlib.Core.Path.{refl, sym, ap, ◌∙◌}
 use Rattle.records.specs.Values.{body_at}
 use Rattle.ids.specs.Tests.{used_contents, used_segments}
 use Rattle.sizes.specs.InPlace.{inner_adds}
 use Rattle.graft.specs.Fields.{string_well, field_contents, field_segments_lem, field_string, field_contents_ready, field_segments_ready, word_is, word_small, place_well, place_ready, place_told}
-use Rattle.graft.specs.Fields.{BodySoFar, body_first, body_ready, body_turn, body_more, body_refused, body_last}
-use Rattle.model.specs.Tape.{content_codec, segment_codec}
+use Rattle.graft.specs.Fields.{body_first, body_ready, body_turn, body_more, body_refused, body_last}
 use Rattle.graft.specs.Blocks.{Apart.between, Apart.beyond}
-use Rattle.graft.specs.Walk.{shown_contents, shown_segments}
-use Rattle.graft.specs.Loop.{ItemsUpTo, items_first, item_ready, item_known, item_low, item_turn, items_more, items_refused, items_last}
+use Rattle.graft.specs.Loop.{items_first, item_ready, item_known, item_low, item_turn, items_more, items_refused, items_last}
 use Rattle.graft.specs.Kinds.{content_grafts, segment_grafts}
 use Rattle.graft.specs.Inner.{contents_ready, contents_high, contents_numbers, contents_others, contents_within, contents_known, content_run_answer}
 use Rattle.graft.specs.Inner.{segments_ready, segments_high, segments_numbers, segments_others, segments_within, segments_known, segment_run_answer}
 use Rattle.graft.specs.Items.{plain_known, plain_refused, plain_made, run_known, run_ready, run_refused, run_made, body_known, below_ready, segment_zero, below_refused, below_made}
 use Rattle.graft.specs.Answers.{told_none, content_run_empty, segment_run_empty}
-use Prim.Native.Nat.{ℕ, ◌+◌, ◌-◌, ◌*◌, ◌≤◌, ◌<◌}
-use borrow.Fn.Kinds.{In}
-use borrow.Fn.PlainCycle.{Measures, is, falls, and}
+use Prim.Native.Nat.{ℕ, ◌+◌, ◌-◌, ◌*◌}
 use Rattle.graft.proofs.+graft_tree.Goals as goal
 
 pub graft_body-loop-j-init : goal.graft_body-loop-j-init
@@ -89,10 +82,10 @@ graft_content-overflow_add-place t c =
 pub graft_content-graft_str-s-requires : goal.graft_content-graft_str-s-requires
 graft_content-graft_str-s-requires t c =
     record {
-        source = c.requires.ready.source;
-        indexed = (c.requires.ready.index, c.requires.ready.pairs);
-        good = (c.requires.ready.good, c.requires.ready.named);
-        id_lt_strings = (plain_known c.args.tape.now c.args.st c.args.at c.content_at-c.result c.content_at-c.ensures c.requires.at_in_bounds.1 c.if-c-eq0.true, omega (arith, c.requires.ready.space.calls), omega (arith, c.requires.ready.space.string_numbers))
+      source = c.requires.ready.source;
+      indexed = (c.requires.ready.index, c.requires.ready.pairs);
+      good = (c.requires.ready.good, c.requires.ready.named);
+      id_lt_strings = (plain_known c.args.tape.now c.args.st c.args.at c.content_at-c.result c.content_at-c.ensures c.requires.at_in_bounds.1 c.if-c-eq0.true, omega (arith, c.requires.ready.space.calls), omega (arith, c.requires.ready.space.string_numbers));
     }
 
 pub graft_content-shape_of-work-then-not-k : goal.graft_content-shape_of-work-then-not-k
@@ -182,9 +175,9 @@ graft_content_run-content_place-at-requires t c =
 pub graft_content_run-inner_contents-inner-requires : goal.graft_content_run-inner_contents-inner-requires
 graft_content_run-inner_contents-inner-requires t c =
     record {
-        of_tape = c.requires.ready.source.fit;
-        count_in_bounds = contents_within c.args.level c.args.start c.args.len c.requires.len_value c.requires.ready c.content_place-at.result c.content_place-at.ensures c.if-len-eq0.false;
-        count_bound = (omega (arith, contents_numbers c.args.level c.args.start c.args.len c.requires.len_value c.requires.ready c.content_place-at.result c.content_place-at.ensures), contents_others c.args.level c.args.start c.args.len c.requires.len_value c.requires.ready c.content_place-at.result c.content_place-at.ensures)
+      of_tape = c.requires.ready.source.fit;
+      count_in_bounds = contents_within c.args.level c.args.start c.args.len c.requires.len_value c.requires.ready c.content_place-at.result c.content_place-at.ensures c.if-len-eq0.false;
+      count_bound = (omega (arith, contents_numbers c.args.level c.args.start c.args.len c.requires.len_value c.requires.ready c.content_place-at.result c.content_place-at.ensures), contents_others c.args.level c.args.start c.args.len c.requires.len_value c.requires.ready c.content_place-at.result c.content_place-at.ensures);
     }
 
 pub graft_content_run-overflow_add-to : goal.graft_content_run-overflow_add-to
@@ -326,11 +319,11 @@ graft_field-returns-then-f-eq5 t c =
 pub graft_field-graft_string-requires : goal.graft_field-graft_string-requires
 graft_field-graft_string-requires t c =
     record {
-        source = c.requires.ready.source;
-        indexed = (c.requires.ready.index, c.requires.ready.pairs);
-        good = (c.requires.ready.good, c.requires.ready.named);
-        ok_value = (c.requires.ready.going, c.requires.ready.has);
-        id_value = (string_well c.args.st c.args.f.usage c.args.f.first c.args.f.second c.requires.second_value c.if-f-eq3.false c.if-f-eq5.false, omega (arith, c.requires.ready.space.calls), omega (arith, c.requires.ready.space.string_numbers))
+      source = c.requires.ready.source;
+      indexed = (c.requires.ready.index, c.requires.ready.pairs);
+      good = (c.requires.ready.good, c.requires.ready.named);
+      ok_value = (c.requires.ready.going, c.requires.ready.has);
+      id_value = (string_well c.args.st c.args.f.usage c.args.f.first c.args.f.second c.requires.second_value c.if-f-eq3.false c.if-f-eq5.false, omega (arith, c.requires.ready.space.calls), omega (arith, c.requires.ready.space.string_numbers));
     }
 
 pub graft_field-shape_of-work : goal.graft_field-shape_of-work
@@ -508,9 +501,9 @@ graft_segment_run-segment_place-at-requires t c =
 pub graft_segment_run-inner_segments-inner-requires : goal.graft_segment_run-inner_segments-inner-requires
 graft_segment_run-inner_segments-inner-requires t c =
     record {
-        of_tape = c.requires.ready.source.fit;
-        count_in_bounds = segments_within c.args.level c.args.start c.args.len c.requires.len_value c.requires.ready c.segment_place-at.result c.segment_place-at.ensures c.if-len-eq0.false;
-        count_bound = (segments_others c.args.level c.args.start c.args.len c.requires.len_value c.requires.ready c.segment_place-at.result c.segment_place-at.ensures, omega (arith, segments_numbers c.args.level c.args.start c.args.len c.requires.len_value c.requires.ready c.segment_place-at.result c.segment_place-at.ensures))
+      of_tape = c.requires.ready.source.fit;
+      count_in_bounds = segments_within c.args.level c.args.start c.args.len c.requires.len_value c.requires.ready c.segment_place-at.result c.segment_place-at.ensures c.if-len-eq0.false;
+      count_bound = (segments_others c.args.level c.args.start c.args.len c.requires.len_value c.requires.ready c.segment_place-at.result c.segment_place-at.ensures, omega (arith, segments_numbers c.args.level c.args.start c.args.len c.requires.len_value c.requires.ready c.segment_place-at.result c.segment_place-at.ensures));
     }
 
 pub graft_segment_run-overflow_add-to : goal.graft_segment_run-overflow_add-to

@@ -1,25 +1,11 @@
-use native.Mathlib.Omega.{arith}
-use borrow.Author.Rules.{rules}
-use mathlib.Core.Path.{◌≡◌, refl, sym, ap, ◌∙◌}
+use mathlib.Core.Path.{◌≡◌}
 use lib.ListN.{length}
-use borrow.Author.Tests.{not-true, not-false}
 use Rattle.records.specs.Values.{body_at}
-use Rattle.ids.specs.Tests.{used_contents, used_segments}
-use Rattle.sizes.specs.InPlace.{inner_adds}
-use Rattle.graft.specs.Fields.{string_well, field_contents, field_segments_lem, field_string, field_contents_ready, field_segments_ready, word_is, word_small, place_well, place_ready, place_told}
-use Rattle.graft.specs.Fields.{BodySoFar, body_first, body_ready, body_turn, body_more, body_refused, body_last}
+use Rattle.graft.specs.Fields.{BodySoFar}
 use Rattle.model.specs.Tape.{content_codec, segment_codec}
-use Rattle.graft.specs.Blocks.{Apart.between, Apart.beyond}
 use Rattle.graft.specs.Walk.{shown_contents, shown_segments}
-use Rattle.graft.specs.Loop.{ItemsUpTo, items_first, item_ready, item_known, item_low, item_turn, items_more, items_refused, items_last}
-use Rattle.graft.specs.Kinds.{content_grafts, segment_grafts}
-use Rattle.graft.specs.Inner.{contents_ready, contents_high, contents_numbers, contents_others, contents_within, contents_known, content_run_answer}
-use Rattle.graft.specs.Inner.{segments_ready, segments_high, segments_numbers, segments_others, segments_within, segments_known, segment_run_answer}
-use Rattle.graft.specs.Items.{plain_known, plain_refused, plain_made, run_known, run_ready, run_refused, run_made, body_known, below_ready, segment_zero, below_refused, below_made}
-use Rattle.graft.specs.Answers.{told_none, content_run_empty, segment_run_empty}
-use Prim.Native.Nat.{ℕ, ◌+◌, ◌-◌, ◌*◌, ◌≤◌, ◌<◌}
-use borrow.Fn.Kinds.{In}
-use borrow.Fn.PlainCycle.{Measures, is, falls, and}
+use Rattle.graft.specs.Loop.{ItemsUpTo}
+use Prim.Native.Nat.{◌+◌, ◌-◌, ◌*◌, ◌≤◌}
 use Rattle.graft.proofs.+graft_tree.Given as goal
 
 abbrev pub decreases-graft_body : goal.decreases-graft_body

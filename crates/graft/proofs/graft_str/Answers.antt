@@ -4,7 +4,6 @@ use Rattle.graft.specs.Named.{source_store, shows_by, is_answered}
 use Rattle.graft.specs.Strings.{id_small, str_answer_lem}
 use Rattle.interner.specs.Lookups.{last_there}
 use native.Mathlib.Omega.{arith}
-use borrow.Author.Rules.{rules}
 use Rattle.graft.proofs.graft_str.Goals as goal
 
 pub slice_bounds-representative-count : goal.slice_bounds-representative-count
@@ -25,8 +24,8 @@ intern_last-requires c =
     let shows = shows_by t d work g.words.room s.requires.indexed.1 c.representative-known.ensures.by_index in
     let e = is_answered t d work s.args.strs.now s.args.m s.requires.good.1 c.representative-known.result s.args.id shows (sym c.is_answered.ensures ∙ c.if-is_answered.true) in
     record {
-        last_nonzero = (last_there work s.args.strs.now s.args.m.state g (resolve_str (source_store t d) s.args.id) e, omega (arith, g.known, g.words.few));
-        counted = (g.counts, s.requires.id_lt_strings.1)
+      last_nonzero = (last_there work s.args.strs.now s.args.m.state g (resolve_str (source_store t d) s.args.id) e, omega (arith, g.known, g.words.few));
+      counted = (g.counts, s.requires.id_lt_strings.1);
     }
 
 pub start_of-requires : goal.start_of-requires
@@ -60,9 +59,9 @@ intern_str-requires c =
     let s = c in
     let g = s.requires.good.0 in
     record {
-        source = s.requires.source;
-        indexed = s.requires.indexed.0;
-        good = g;
-        id_lt_strings = s.requires.id_lt_strings;
-        shows_as = shows_by s.args.tape.now s.args.bytes.now s.args.work.now g.words.room s.requires.indexed.1 c.representative-known.ensures.by_index
+      source = s.requires.source;
+      indexed = s.requires.indexed.0;
+      good = g;
+      id_lt_strings = s.requires.id_lt_strings;
+      shows_as = shows_by s.args.tape.now s.args.bytes.now s.args.work.now g.words.room s.requires.indexed.1 c.representative-known.ensures.by_index;
     }

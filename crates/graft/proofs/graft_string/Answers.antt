@@ -1,15 +1,14 @@
 use Rattle.graft.specs.Fields.{string_known, optional_known, id_string, id_optional, id_missing, id_none}
 use Rattle.graft.specs.Answers.{told_nothing}
-use borrow.Author.Rules.{rules}
 use Rattle.graft.proofs.graft_string.Goals as goal
 
 pub graft_str-requires : goal.graft_str-requires
 graft_str-requires c =
     record {
-        source = c.requires.source;
-        indexed = c.requires.indexed;
-        good = c.requires.good;
-        id_lt_strings = (string_known c.args.st c.args.usage c.args.id 0 c.requires.id_value.0 c.if-usage-eq1.true, c.requires.id_value.1, c.requires.id_value.2)
+      source = c.requires.source;
+      indexed = c.requires.indexed;
+      good = c.requires.good;
+      id_lt_strings = (string_known c.args.st c.args.usage c.args.id 0 c.requires.id_value.0 c.if-usage-eq1.true, c.requires.id_value.1, c.requires.id_value.2);
     }
 
 pub returns-then-usage-eq1 : goal.returns-then-usage-eq1
@@ -23,10 +22,10 @@ returns-then-id-eq4294967295 c =
 pub graft_str-requires-then-usage-eq2 : goal.graft_str-requires-then-usage-eq2
 graft_str-requires-then-usage-eq2 c =
     record {
-        source = c.requires.source;
-        indexed = c.requires.indexed;
-        good = c.requires.good;
-        id_lt_strings = (optional_known c.args.st c.args.usage c.args.id 0 c.requires.id_value.0 c.if-usage-eq2.true c.if-id-eq4294967295.false, c.requires.id_value.1, c.requires.id_value.2)
+      source = c.requires.source;
+      indexed = c.requires.indexed;
+      good = c.requires.good;
+      id_lt_strings = (optional_known c.args.st c.args.usage c.args.id 0 c.requires.id_value.0 c.if-usage-eq2.true c.if-id-eq4294967295.false, c.requires.id_value.1, c.requires.id_value.2);
     }
 
 pub returns-then-usage-eq2 : goal.returns-then-usage-eq2

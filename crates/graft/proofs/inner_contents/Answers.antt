@@ -6,9 +6,9 @@ use Rattle.graft.proofs.inner_contents.Goals as goal
 pub contents_sizes-inner-requires : goal.contents_sizes-inner-requires
 contents_sizes-inner-requires c =
     record {
-        of_tape = c.requires.of_tape;
-        kept = kept_none wide_room;
-        count_in_bounds = c.requires.count_in_bounds
+      of_tape = c.requires.of_tape;
+      kept = kept_none wide_room;
+      count_in_bounds = c.requires.count_in_bounds;
     }
 
 pub returns : goal.returns

@@ -1,21 +1,20 @@
 use Rattle.graft.specs.Strings.{source_tape, part_inside, part_shows, id_small, str_answer_lem}
 use native.Mathlib.Omega.{arith}
-use borrow.Author.Rules.{rules}
 use Rattle.graft.proofs.intern_str.Goals as goal
 
 pub string_from-from-requires : goal.string_from-from-requires
 string_from-from-requires c =
     record {
-        source = c.requires.source;
-        indexed = c.requires.indexed;
-        id_lt_strings = c.requires.id_lt_strings.0
+      source = c.requires.source;
+      indexed = c.requires.indexed;
+      id_lt_strings = c.requires.id_lt_strings.0;
     }
 
 pub string_length-len-requires : goal.string_length-len-requires
 string_length-len-requires c =
     record {
-        of_tape = source_tape _ _ _ c.requires.source;
-        id_lt_strings = c.requires.id_lt_strings.0
+      of_tape = source_tape _ _ _ c.requires.source;
+      id_lt_strings = c.requires.id_lt_strings.0;
     }
 
 pub overflow_add-from : goal.overflow_add-from

@@ -1,7 +1,6 @@
 use lib.Seq.{set_out}
 use mathlib.Core.Path.{sym}
 use native.Mathlib.Omega.{arith}
-use borrow.Author.Rules.{rules}
 use Rattle.graft.proofs.set_word.Goals as goal
 
 pub returns : goal.returns

@@ -2,15 +2,14 @@ use Rattle.strings.specs.Starts.{lengths_in}
 use Rattle.strings.specs.Shown.{span_of_start}
 use Rattle.graft.specs.Strings.{header_inside, from_small_lem, source_readable}
 use native.Mathlib.Omega.{arith}
-use borrow.Author.Rules.{rules}
 use Rattle.graft.proofs.string_from.Goals as goal
 
 pub string_start-start-requires : goal.string_start-start-requires
 string_start-start-requires c =
     record {
-        readable = source_readable c.args.tape.now c.args.bytes.now c.args.st c.requires.source (omega arith);
-        indexed = c.requires.indexed;
-        id_lt_strings = c.requires.id_lt_strings
+      readable = source_readable c.args.tape.now c.args.bytes.now c.args.st c.requires.source (omega arith);
+      indexed = c.requires.indexed;
+      id_lt_strings = c.requires.id_lt_strings;
     }
 
 pub u32_at-text-requires : goal.u32_at-text-requires

@@ -1,5 +1,4 @@
 use Rattle.graft.specs.Bodies.{words_string, words_optional, words_contents, words_segments, words_none}
-use borrow.Author.Rules.{rules}
 use Rattle.graft.proofs.with_words.Goals as goal
 
 pub returns-then-f-eq1 : goal.returns-then-f-eq1

@@ -1,6 +1,5 @@
 use native.Mathlib.Omega.{arith}
 use Rattle.graft_nodes.specs.Nodes.{node_bare, node_ready, node_known, node_told}
-use borrow.Author.Rules.{rules}
 use Rattle.graft_nodes.proofs.graft_node.Goals as goal
 
 pub returns-then-tape-at-ge2 : goal.returns-then-tape-at-ge2
@@ -10,8 +9,8 @@ returns-then-tape-at-ge2 c =
 pub graft_body-requires : goal.graft_body-requires
 graft_body-requires c =
     record {
-        ready = node_ready c.args.tape.now c.args.bytes.now c.args.st c.args.at c.requires.ready (omega (arith, c.if-tape-at-ge2.false));
-        at_in_bounds = (omega (arith, c.requires.at_in_bounds.0), node_known c.args.tape.now c.args.bytes.now c.args.st c.args.at c.requires.ready (omega (arith, c.if-tape-at-ge2.false)) c.requires.at_in_bounds.1)
+      ready = node_ready c.args.tape.now c.args.bytes.now c.args.st c.args.at c.requires.ready (omega (arith, c.if-tape-at-ge2.false));
+      at_in_bounds = (omega (arith, c.requires.at_in_bounds.0), node_known c.args.tape.now c.args.bytes.now c.args.st c.args.at c.requires.ready (omega (arith, c.if-tape-at-ge2.false)) c.requires.at_in_bounds.1);
     }
 
 pub returns : goal.returns

@@ -1,7 +1,5 @@
 use native.Mathlib.Omega.{arith}
-use borrow.Author.Tests.{not-true, not-false}
 use Rattle.graft_nodes.specs.Nodes.{ref_refused, ref_made}
-use borrow.Author.Rules.{rules}
 use Rattle.graft_nodes.proofs.graft_node_at.Goals as goal
 
 pub returns-then-not-k : goal.returns-then-not-k

@@ -1,15 +1,8 @@
-use Prim.Native.Nat.{◌+◌, ◌-◌, ◌*◌, ◌≤◌}
+use Prim.Native.Nat.{◌+◌, ◌-◌, ◌*◌}
 use native.Mathlib.Omega.{arith}
-use mathlib.Core.Path.{◌≡◌, refl, ◌∙◌}
-use lib.ListN.{length}
-use borrow.Author.Tests.{not-true, not-false}
-use mathlib.Core.List.{List}
-use Rattle.model.specs.Types.{SourceNode}
-use Rattle.model.specs.Tape.{node_codec}
-use Rattle.model.specs.Graft.{graft_node_refs}
+use mathlib.Core.Path.{refl, ◌∙◌}
 use Rattle.graft.specs.Blocks.{Apart.beyond}
-use Rattle.graft.specs.NodeItems.{shown_of}
-use Rattle.graft.specs.Loop.{ItemsUpTo, items_first, item_ready, item_known, item_turn, items_more, items_refused, items_last}
+use Rattle.graft.specs.Loop.{items_first, item_ready, item_known, item_turn, items_more, items_refused, items_last}
 use Rattle.graft.specs.Kinds.{node_grafts}
 use Rattle.graft_nodes.proofs.graft_nodes.Goals as goal
 
@@ -36,8 +29,8 @@ overflow_add-nodesat c =
 pub graft_node_at-u-requires : goal.graft_node_at-u-requires
 graft_node_at-u-requires c =
     record {
-        ready = item_ready (node_grafts c.requires.ready.source) c.args.at c.args.count c.args.nodesat c.requires.ready c.requires.count_in_bounds.1 c.loop-i.invariant.1 c.loop-i-test.true;
-        at_in_bounds = (omega (arith, c.requires.count_in_bounds.0, c.loop-i-test.true), item_known (node_grafts c.requires.ready.source) c.args.at c.args.count c.args.nodesat c.requires.ready c.requires.count_in_bounds.1 c.loop-i.i c.loop-i-test.true, omega (arith, c.requires.count_bound.1, c.loop-i-test.true, c.loop-i.invariant.1.long))
+      ready = item_ready (node_grafts c.requires.ready.source) c.args.at c.args.count c.args.nodesat c.requires.ready c.requires.count_in_bounds.1 c.loop-i.invariant.1 c.loop-i-test.true;
+      at_in_bounds = (omega (arith, c.requires.count_in_bounds.0, c.loop-i-test.true), item_known (node_grafts c.requires.ready.source) c.args.at c.args.count c.args.nodesat c.requires.ready c.requires.count_in_bounds.1 c.loop-i.i c.loop-i-test.true, omega (arith, c.requires.count_bound.1, c.loop-i-test.true, c.loop-i.invariant.1.long));
     }
 
 pub shape_of-out-then-not-u : goal.shape_of-out-then-not-u

@@ -1,16 +1,12 @@
-use Prim.Native.Nat.{◌+◌, ◌-◌, ◌*◌, ◌≤◌}
-use native.Mathlib.Omega.{arith}
-use mathlib.Core.Path.{◌≡◌, refl, ◌∙◌}
+use Prim.Native.Nat.{◌-◌, ◌≤◌}
+use mathlib.Core.Path.{◌≡◌}
 use lib.ListN.{length}
-use borrow.Author.Tests.{not-true, not-false}
 use mathlib.Core.List.{List}
 use Rattle.model.specs.Types.{SourceNode}
 use Rattle.model.specs.Tape.{node_codec}
 use Rattle.model.specs.Graft.{graft_node_refs}
-use Rattle.graft.specs.Blocks.{Apart.beyond}
 use Rattle.graft.specs.NodeItems.{shown_of}
-use Rattle.graft.specs.Loop.{ItemsUpTo, items_first, item_ready, item_known, item_turn, items_more, items_refused, items_last}
-use Rattle.graft.specs.Kinds.{node_grafts}
+use Rattle.graft.specs.Loop.{ItemsUpTo}
 use Rattle.graft_nodes.proofs.graft_nodes.Given as goal
 
 abbrev pub invariant-loop-i : goal.invariant-loop-i

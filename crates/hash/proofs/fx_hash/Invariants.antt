@@ -1,5 +1,5 @@
-use Rattle.std.proofs.Common.{◌≡◌, ℕ, suc, ◌+◌, ◌-◌, ◌*◌, ◌%◌, ◌^◌, ◌<◌, ◌≤◌, List, [], ◌∷◌, length, get_or, drop, sym, refl, ap, ◌∙◌, add-one, arith, drop_of_length-le, drop-cons, rules}
-use Rattle.model.specs.Intern.{fx_step, fx_from, fx_hash}
+use Rattle.std.proofs.Common.{◌≡◌, ◌-◌, ◌≤◌, length, drop}
+use Rattle.model.specs.Intern.{fx_from}
 use Rattle.hash.proofs.fx_hash.Given as goal
 
 abbrev pub invariant-loop-i : goal.invariant-loop-i

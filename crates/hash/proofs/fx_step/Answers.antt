@@ -1,7 +1,7 @@
-use Rattle.std.proofs.Common.{◌≡◌, ℕ, ◌*◌, ◌%◌, ◌^◌, ap, ◌∙◌, rules}
+use Rattle.std.proofs.Common.{ℕ, ◌*◌, ◌%◌, ◌^◌, ap, ◌∙◌}
 use lib.Bits.{bit_xor}
-use Rattle.model.specs.Intern.{fx_step, rotate_left}
-use Rattle.model.specs.Limits.{fx_prime, fx_rotate_bits}
+use Rattle.model.specs.Intern.{fx_step}
+use Rattle.model.specs.Limits.{fx_prime}
 use Rattle.hash.proofs.fx_step.Goals as goal
 
 pub returns : goal.returns

@@ -1,4 +1,4 @@
-use Rattle.std.proofs.Common.{◌^◌, rules}
+use Rattle.std.proofs.Common.{◌^◌}
 use Rattle.hash.specs.Mod.{more, none}
 use Rattle.hash.proofs.mul_prime.Goals as goal
 

@@ -1,10 +1,8 @@
-use Rattle.records.specs.Values.{body_at}
-use Rattle.wire.specs.Loops.{Passed, passed_none, passed_more}
-use Rattle.ids.specs.Tests.{shown, word_in, word_read, body_failed, body_passed, body_rest, ruby_body}
-use borrow.Author.Tests.{not-true, not-false}
+use Rattle.wire.specs.Loops.{passed_none, passed_more}
+use Rattle.ids.specs.Tests.{shown, word_read, body_failed, body_passed, body_rest, ruby_body}
 use mathlib.Core.Path.{◌∙◌}
 use native.Mathlib.Omega.{arith}
-use Prim.Native.Nat.{◌-◌, ◌≤◌}
+use Prim.Native.Nat.{◌-◌}
 use Rattle.ids.proofs.body_ids_ok.Goals as goal
 
 pub bounds-tape-at : goal.bounds-tape-at

@@ -1,9 +1,6 @@
 use Rattle.records.specs.Values.{body_at}
-use Rattle.wire.specs.Loops.{Passed, passed_none, passed_more}
-use Rattle.ids.specs.Tests.{shown, word_in, word_read, body_failed, body_passed, body_rest, ruby_body}
-use borrow.Author.Tests.{not-true, not-false}
-use mathlib.Core.Path.{◌∙◌}
-use native.Mathlib.Omega.{arith}
+use Rattle.wire.specs.Loops.{Passed}
+use Rattle.ids.specs.Tests.{shown, word_in}
 use Prim.Native.Nat.{◌-◌, ◌≤◌}
 use Rattle.ids.proofs.body_ids_ok.Given as goal
 

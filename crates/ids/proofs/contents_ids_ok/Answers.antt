@@ -1,11 +1,10 @@
 use Rattle.model.specs.Tape.{content_codec}
-use Rattle.wire.specs.Loops.{Passed, passed_none}
-use Rattle.records.specs.Runs.{test_at, run_more, run_failed, run_passed}
+use Rattle.wire.specs.Loops.{passed_none}
+use Rattle.records.specs.Runs.{run_more, run_failed, run_passed}
 use Rattle.ids.specs.Tests.{content_in, shown_content}
-use borrow.Author.Tests.{not-true, not-false}
 use mathlib.Core.Path.{refl, ◌∙◌}
 use native.Mathlib.Omega.{arith}
-use Prim.Native.Nat.{◌-◌, ◌≤◌}
+use Prim.Native.Nat.{◌-◌}
 use Rattle.ids.proofs.contents_ids_ok.Goals as goal
 
 pub loop-i-init : goal.loop-i-init

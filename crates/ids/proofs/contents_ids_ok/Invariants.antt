@@ -1,10 +1,7 @@
 use Rattle.model.specs.Tape.{content_codec}
-use Rattle.wire.specs.Loops.{Passed, passed_none}
-use Rattle.records.specs.Runs.{test_at, run_more, run_failed, run_passed}
-use Rattle.ids.specs.Tests.{content_in, shown_content}
-use borrow.Author.Tests.{not-true, not-false}
-use mathlib.Core.Path.{refl, ◌∙◌}
-use native.Mathlib.Omega.{arith}
+use Rattle.wire.specs.Loops.{Passed}
+use Rattle.records.specs.Runs.{test_at}
+use Rattle.ids.specs.Tests.{content_in}
 use Prim.Native.Nat.{◌-◌, ◌≤◌}
 use Rattle.ids.proofs.contents_ids_ok.Given as goal
 

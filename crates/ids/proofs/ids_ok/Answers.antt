@@ -1,5 +1,4 @@
 use Rattle.ids.specs.Whole.{ids_layers, ids_nodes, ids_failed, ids_answer}
-use borrow.Author.Tests.{not-true, not-false}
 use Rattle.ids.proofs.ids_ok.Goals as goal
 
 pub layers_ids_ok-requires : goal.layers_ids_ok-requires

@@ -1,6 +1,4 @@
 use Rattle.ids.specs.Whole.{runs_failed, runs_answer}
-use borrow.Author.Tests.{not-true, not-false}
-use borrow.Author.Rules.{rules}
 use Rattle.ids.proofs.layer_ids_ok.Goals as goal
 
 pub returns-then-not-contents_ids_ok : goal.returns-then-not-contents_ids_ok

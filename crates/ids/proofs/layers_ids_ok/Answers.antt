@@ -1,6 +1,5 @@
-use Rattle.ids.specs.Whole.{Walked, walked_none, walked_inside, walked_fits, walked_failed, walked_more, walked_all}
-use borrow.Author.Tests.{not-true, not-false}
-use Prim.Native.Nat.{◌-◌, ◌≤◌}
+use Rattle.ids.specs.Whole.{walked_none, walked_inside, walked_fits, walked_failed, walked_more, walked_all}
+use Prim.Native.Nat.{◌-◌}
 use native.Mathlib.Omega.{arith}
 use Rattle.ids.proofs.layers_ids_ok.Goals as goal
 

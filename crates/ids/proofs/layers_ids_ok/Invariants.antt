@@ -1,7 +1,5 @@
-use Rattle.ids.specs.Whole.{Walked, walked_none, walked_inside, walked_fits, walked_failed, walked_more, walked_all}
-use borrow.Author.Tests.{not-true, not-false}
+use Rattle.ids.specs.Whole.{Walked}
 use Prim.Native.Nat.{◌-◌, ◌≤◌}
-use native.Mathlib.Omega.{arith}
 use Rattle.ids.proofs.layers_ids_ok.Given as goal
 
 abbrev pub invariant-loop-i : goal.invariant-loop-i

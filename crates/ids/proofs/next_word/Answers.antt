@@ -1,5 +1,4 @@
 use Rattle.ids.specs.Tests.{no_seventh}
-use borrow.Author.Rules.{rules}
 use Rattle.ids.proofs.next_word.Goals as goal
 
 pub returns-then-i-ge5 : goal.returns-then-i-ge5

@@ -1,5 +1,4 @@
 use Rattle.ids.specs.Tests.{node_bare, node_answer_lem}
-use borrow.Author.Rules.{rules}
 use Rattle.ids.proofs.node_ids_ok.Goals as goal
 
 pub returns-then-tape-at-ge2 : goal.returns-then-tape-at-ge2

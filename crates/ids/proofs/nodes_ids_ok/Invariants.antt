@@ -1,10 +1,7 @@
 use Rattle.model.specs.Tape.{node_codec}
-use Rattle.wire.specs.Loops.{Passed, passed_none}
-use Rattle.records.specs.Runs.{test_at, run_more, run_failed, run_passed}
-use Rattle.ids.specs.Tests.{node_in, shown_node_lem}
-use borrow.Author.Tests.{not-true, not-false}
-use mathlib.Core.Path.{refl, ◌∙◌}
-use native.Mathlib.Omega.{arith}
+use Rattle.wire.specs.Loops.{Passed}
+use Rattle.records.specs.Runs.{test_at}
+use Rattle.ids.specs.Tests.{node_in}
 use Prim.Native.Nat.{◌-◌, ◌≤◌}
 use Rattle.ids.proofs.nodes_ids_ok.Given as goal
 

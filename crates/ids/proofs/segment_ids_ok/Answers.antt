@@ -1,5 +1,4 @@
 use Rattle.ids.specs.Tests.{segment_answer}
-use borrow.Author.Rules.{rules}
 use Rattle.ids.proofs.segment_ids_ok.Goals as goal
 
 pub returns : goal.returns

@@ -1,10 +1,7 @@
 use Rattle.model.specs.Tape.{segment_codec}
-use Rattle.wire.specs.Loops.{Passed, passed_none}
-use Rattle.records.specs.Runs.{test_at, run_more, run_failed, run_passed}
-use Rattle.ids.specs.Tests.{segment_in, shown_segment}
-use borrow.Author.Tests.{not-true, not-false}
-use mathlib.Core.Path.{refl, ◌∙◌}
-use native.Mathlib.Omega.{arith}
+use Rattle.wire.specs.Loops.{Passed}
+use Rattle.records.specs.Runs.{test_at}
+use Rattle.ids.specs.Tests.{segment_in}
 use Prim.Native.Nat.{◌-◌, ◌≤◌}
 use Rattle.ids.proofs.segments_ids_ok.Given as goal
 

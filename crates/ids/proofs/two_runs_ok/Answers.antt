@@ -1,6 +1,4 @@
 use Rattle.ids.specs.Tests.{runs_failed, runs_passed}
-use borrow.Author.Tests.{not-true, not-false}
-use borrow.Author.Rules.{rules}
 use Rattle.ids.proofs.two_runs_ok.Goals as goal
 
 pub returns-then-not-range_ok : goal.returns-then-not-range_ok

@@ -1,6 +1,5 @@
 use Rattle.ids.specs.Tests.{used_string, used_missing, used_optional, used_contents, used_segments, used_not}
 use mathlib.Core.Path.{sym, ◌∙◌}
-use borrow.Author.Rules.{rules}
 use Rattle.ids.proofs.used_well.Goals as goal
 
 pub returns-then-usage-eq3 : goal.returns-then-usage-eq3

@@ -1,4 +1,3 @@
-use borrow.Author.Rules.{rules}
 use Rattle.ids.proofs.word_ok.Goals as goal
 
 pub returns : goal.returns

@@ -1,5 +1,4 @@
 use Rattle.output.specs.Cleared.{tape_within, bytes_within, merged}
-use borrow.Author.Rules.{rules}
 use Rattle.incremental.proofs.merge.Goals as goal
 
 pub clear_rest-requires : goal.clear_rest-requires

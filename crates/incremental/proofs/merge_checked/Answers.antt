@@ -2,7 +2,6 @@ use mathlib.Core.Path.{refl}
 use Rattle.model.specs.Merge.{result_checked}
 use Rattle.result.specs.Stages.{written_refused}
 use Rattle.incremental.specs.Merging.{merge_refused, merge_result, written_later}
-use borrow.Author.Rules.{rules}
 use Rattle.incremental.proofs.merge_checked.Goals as goal
 
 pub returns-then-f-ne0 : goal.returns-then-f-ne0

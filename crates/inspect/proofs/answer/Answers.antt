@@ -1,6 +1,5 @@
 use Rattle.inspect.specs.Answers.{headed, behind_few, edit_there, answer_head, answer_book, answer_edit, answer_region}
 use native.Mathlib.Omega.{arith}
-use borrow.Author.Rules.{rules}
 use Rattle.inspect.proofs.answer.Goals as goal
 
 pub returns-then-n-ne0 : goal.returns-then-n-ne0

@@ -2,7 +2,6 @@ use mathlib.Core.Path.{sym, ap, ◌∙◌}
 use lib.Seq.{length-take-le}
 use Rattle.inspect.specs.Answers.{outcome_of}
 use Rattle.inspect.specs.Cut.{read_asked}
-use borrow.Author.Rules.{rules}
 use Rattle.inspect.proofs.answer_read.Goals as goal
 
 pub slice_bounds-answer-end : goal.slice_bounds-answer-end

@@ -1,5 +1,4 @@
 use Rattle.inspect.specs.Answers.{book_refused, book_shown}
-use borrow.Author.Rules.{rules}
 use Rattle.inspect.proofs.book_answer.Goals as goal
 
 pub returns-then-n-ne0 : goal.returns-then-n-ne0

@@ -1,6 +1,5 @@
 use Rattle.inspect.specs.Answers.{book_text}
 use mathlib.Core.Path.{◌∙◌}
-use borrow.Author.Rules.{rules}
 use Rattle.inspect.proofs.book_text.Goals as goal
 
 pub returns : goal.returns

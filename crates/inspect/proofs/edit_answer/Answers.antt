@@ -1,6 +1,5 @@
 use Rattle.inspect.specs.Answers.{edit_told}
 use mathlib.Core.Path.{◌∙◌}
-use borrow.Author.Rules.{rules}
 use Rattle.inspect.proofs.edit_answer.Goals as goal
 
 pub returns : goal.returns

@@ -1,6 +1,5 @@
 use Rattle.inspect.specs.Answers.{edit_short, edit_long, edit_size, edit_none}
 use native.Mathlib.Omega.{arith}
-use borrow.Author.Rules.{rules}
 use Rattle.inspect.proofs.edit_refusal.Goals as goal
 
 pub returns-then-input-at : goal.returns-then-input-at

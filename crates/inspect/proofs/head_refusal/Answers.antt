@@ -1,5 +1,4 @@
 use Rattle.inspect.specs.Answers.{head_short, head_tape, head_bytes_lem, head_none}
-use borrow.Author.Rules.{rules}
 use Rattle.inspect.proofs.head_refusal.Goals as goal
 
 pub returns-then-input-lt8 : goal.returns-then-input-lt8

@@ -1,7 +1,6 @@
 use mathlib.Core.Path.{◌∙◌}
 use Rattle.inspect.specs.Answers.{passage_short, passage_whole}
 use native.Mathlib.Omega.{arith}
-use borrow.Author.Rules.{rules}
 use Rattle.inspect.proofs.put_passage.Goals as goal
 
 pub put_quoted-last-requires : goal.put_quoted-last-requires

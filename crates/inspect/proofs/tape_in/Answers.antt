@@ -1,6 +1,5 @@
 use Rattle.inspect.specs.Answers.{tape_part}
 use mathlib.Core.Path.{◌∙◌}
-use borrow.Author.Rules.{rules}
 use Rattle.inspect.proofs.tape_in.Goals as goal
 
 pub returns : goal.returns

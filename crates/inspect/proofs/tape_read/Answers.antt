@@ -4,7 +4,6 @@ use mathlib.Core.List.{List}
 use lib.Seq.{length-take-le}
 use Rattle.inspect.specs.Inspect.{tape_in}
 use Rattle.inspect.specs.Cut.{read_stream}
-use borrow.Author.Rules.{rules}
 use Rattle.inspect.proofs.tape_read.Goals as goal
 
 pub slice_bounds-tape_in-end : goal.slice_bounds-tape_in-end

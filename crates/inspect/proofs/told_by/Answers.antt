@@ -1,6 +1,5 @@
 use Rattle.inspect.specs.Answers.{told}
 use mathlib.Core.Path.{refl, ◌∙◌}
-use borrow.Author.Rules.{rules}
 use Rattle.inspect.proofs.told_by.Goals as goal
 
 pub returns-in-Refused : goal.returns-in-Refused

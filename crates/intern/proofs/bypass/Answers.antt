@@ -1,20 +1,16 @@
 use Rattle.interner.specs.Room.{room_there}
 use Rattle.intern.proofs.Answers.{bypass_told, bypass_refused}
-use mathlib.Core.Path.{◌≡◌, refl, sym, ap, ◌∙◌}
-use mathlib.Core.List.{List, [], ◌∷◌, ◌++◌}
-use Prim.Native.Nat.{ℕ, zero, suc, ◌+◌, ◌-◌, ◌*◌, ◌%◌, ◌/◌, ◌^◌, ◌≤◌, ◌<◌}
-use native.Mathlib.Omega.{arith}
-use lib.ListN.{length, get_or, take, drop, set, replicate, length-set, length-take, length-drop, length-append, length-replicate}
-use borrow.Author.Rules.{rules}
+use mathlib.Core.Path.{refl, sym, ◌∙◌}
+use Prim.Native.Nat.{◌-◌}
 use Rattle.stats.specs.Ways.{adds_bypass}
 use Rattle.intern.proofs.bypass.Goals as goal
 
 pub alloc-t-requires : goal.alloc-t-requires
 alloc-t-requires c =
     record {
-        good = c.requires.good;
-        count_bound = room_there _ _ _ _ (sym c.has_room.ensures ∙ c.if-has_room.true);
-        counted = (adds_bypass _ _ c.requires.good.counts c.bypass.ensures).counted
+      good = c.requires.good;
+      count_bound = room_there _ _ _ _ (sym c.has_room.ensures ∙ c.if-has_room.true);
+      counted = (adds_bypass _ _ c.requires.good.counts c.bypass.ensures).counted;
     }
 
 pub returns-then-has_room : goal.returns-then-has_room

@@ -2,7 +2,6 @@ use Rattle.table.specs.Layout.{probe_of}
 use Rattle.interner.specs.Lookups.{probe_in}
 use Rattle.intern.proofs.Answers.{hit_told}
 use Rattle.stats.specs.Ways.{adds_table_hit}
-use borrow.Author.Rules.{rules}
 use Rattle.intern.proofs.far_call.Goals as goal
 
 pub table_hit-requires : goal.table_hit-requires

@@ -1,24 +1,20 @@
 use mathlib.Core.Bool.{Bool}
-use Rattle.interner.specs.State.{state_of}
 use Rattle.table.specs.Sizes.{is_due, size_hi, one_or_none}
 use Rattle.interner.specs.declared.StrInterner.{StrInterner as Interner}
 use Rattle.interner.specs.Lookups.{last_there}
 use Rattle.intern.proofs.Answers.{intern_bypass, intern_told}
 use Rattle.interner.specs.Tables.{grows_is}
 use mathlib.Core.Bool.{cond}
-use mathlib.Core.Path.{◌≡◌, refl, sym, ap, ◌∙◌}
-use mathlib.Core.List.{List, [], ◌∷◌, ◌++◌}
-use Prim.Native.Nat.{ℕ, zero, suc, ◌+◌, ◌-◌, ◌*◌, ◌%◌, ◌/◌, ◌^◌, ◌≤◌, ◌<◌}
+use mathlib.Core.Path.{sym, ap, ◌∙◌}
+use Prim.Native.Nat.{◌-◌}
 use native.Mathlib.Omega.{arith}
-use lib.ListN.{length, get_or, take, drop, set, replicate, length-set, length-take, length-drop, length-append, length-replicate}
-use borrow.Author.Rules.{rules}
 use Rattle.intern.proofs.intern.Goals as goal
 
 pub intern_last-requires : goal.intern_last-requires
 intern_last-requires c =
     record {
-        last_nonzero = (last_there c.args.work.now c.args.strs.now c.args.st c.requires.good c.args.s.now (sym c.is_last.ensures ∙ c.if-is_last.true), omega (arith, c.requires.good.known, c.requires.good.words.few));
-        counted = (c.requires.good.counts, c.requires.calls_bound)
+      last_nonzero = (last_there c.args.work.now c.args.strs.now c.args.st c.requires.good c.args.s.now (sym c.is_last.ensures ∙ c.if-is_last.true), omega (arith, c.requires.good.known, c.requires.good.words.few));
+      counted = (c.requires.good.counts, c.requires.calls_bound);
     }
 
 pub returns-then-is_last : goal.returns-then-is_last
@@ -37,9 +33,9 @@ pub table_call-requires : goal.table_call-requires
 table_call-requires c =
     let y = c.table_for-t.ensures in
     record {
-        good = y.good;
-        slots_nonzero = (y.some, y.roomy);
-        calls_bound = (omega (arith, ap (λ (x : Interner). x.stats.calls) y.is, c.requires.calls_bound), omega (arith, c.resizes-resized.ensures, one_or_none (is_due c.args.st.slots c.args.st.occupied)))
+      good = y.good;
+      slots_nonzero = (y.some, y.roomy);
+      calls_bound = (omega (arith, ap (λ (x : Interner). x.stats.calls) y.is, c.requires.calls_bound), omega (arith, c.resizes-resized.ensures, one_or_none (is_due c.args.st.slots c.args.st.occupied)));
     }
 
 pub returns : goal.returns

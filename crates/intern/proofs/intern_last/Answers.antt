@@ -1,7 +1,6 @@
 use mathlib.Core.Path.{refl, sym}
 use Rattle.stats.specs.Ways.{adds_cache_hit}
 use Rattle.intern.proofs.Answers.{intern_cached}
-use borrow.Author.Rules.{rules}
 use Rattle.intern.proofs.intern_last.Goals as goal
 
 pub returns : goal.returns

@@ -6,7 +6,6 @@ use Rattle.interner.specs.Lookups.{probe_in, all_first, first_own}
 use Rattle.intern.specs.Told.{Told}
 use Rattle.intern.proofs.Answers.{call_alloc, learnt_told}
 use Rattle.stats.specs.Ways.{adds_table_hit}
-use borrow.Author.Rules.{rules}
 use Rattle.intern.proofs.learn.Goals as goal
 
 pub table_alloc-requires : goal.table_alloc-requires
@@ -17,9 +16,9 @@ table_alloc-requires c =
     let first = all_first start.args.work.now start.args.strs.now start.args.st start.requires.good start.args.s.now start.requires.slots_nonzero.0 p lookup.ensures in
     let in_table = probe_in start.args.work.now start.args.strs.now start.args.st start.requires.good start.args.s.now start.requires.slots_nonzero.0 start.requires.slots_nonzero.1 p first in
     record {
-        good = start.requires.good;
-        slots_nonzero = (start.requires.slots_nonzero.0, start.requires.calls_bound.0, start.requires.calls_bound.1);
-        at_lt_slots = (in_table.0, in_table.2, in_table.3 ∙ c.if-slot-eq0.true)
+      good = start.requires.good;
+      slots_nonzero = (start.requires.slots_nonzero.0, start.requires.calls_bound.0, start.requires.calls_bound.1);
+      at_lt_slots = (in_table.0, in_table.2, in_table.3 ∙ c.if-slot-eq0.true);
     }
 
 pub returns-then-slot-eq0 : goal.returns-then-slot-eq0
@@ -42,9 +41,9 @@ remember-requires c =
     let ne = c.if-slot-eq0.false in
     let own = first_own start.args.work.now start.args.strs.now start.args.st start.requires.good start.args.s.now start.requires.slots_nonzero.0 p ne first in
     record {
-        good = start.requires.good;
-        slots_nonzero = (start.requires.slots_nonzero.0, omega (arith, ne), start.requires.calls_bound.2);
-        p_value = own
+      good = start.requires.good;
+      slots_nonzero = (start.requires.slots_nonzero.0, omega (arith, ne), start.requires.calls_bound.2);
+      p_value = own;
     }
 
 pub table_hit-requires : goal.table_hit-requires

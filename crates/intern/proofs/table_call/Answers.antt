@@ -7,7 +7,6 @@ use Rattle.interner.specs.Lookups.{probe_in, near_first}
 use Rattle.intern.specs.Told.{Told}
 use Rattle.intern.proofs.Answers.{call_alloc, hit_told}
 use Rattle.stats.specs.Ways.{adds_table_hit}
-use borrow.Author.Rules.{rules}
 use Rattle.intern.proofs.table_call.Goals as goal
 
 pub table_hit-requires : goal.table_hit-requires
@@ -41,9 +40,9 @@ table_alloc-requires c =
     let first = near_first start.args.work.now start.args.strs.now start.args.st start.requires.good start.args.s.now start.requires.slots_nonzero.0 16 (lit≤ tt) p lookup.ensures stops in
     let in_table = probe_in start.args.work.now start.args.strs.now start.args.st start.requires.good start.args.s.now start.requires.slots_nonzero.0 start.requires.slots_nonzero.1 p first in
     record {
-        good = start.requires.good;
-        slots_nonzero = (start.requires.slots_nonzero.0, start.requires.calls_bound.0, start.requires.calls_bound.1);
-        at_lt_slots = (in_table.0, in_table.2, in_table.3 ∙ c.if-slot-ne0.false)
+      good = start.requires.good;
+      slots_nonzero = (start.requires.slots_nonzero.0, start.requires.calls_bound.0, start.requires.calls_bound.1);
+      at_lt_slots = (in_table.0, in_table.2, in_table.3 ∙ c.if-slot-ne0.false);
     }
 
 pub returns-then-p : goal.returns-then-p

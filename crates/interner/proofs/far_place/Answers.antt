@@ -1,7 +1,5 @@
-use Prim.Native.Nat.{◌-◌, ◌≤◌}
+use Prim.Native.Nat.{◌-◌}
 use native.Mathlib.Omega.{arith}
-use borrow.Author.Rules.{rules}
-use Rattle.interner.specs.Row.{far_in}
 use Rattle.interner.proofs.far_place.Goals as goal
 
 pub bounds-work-8191 : goal.bounds-work-8191
@@ -24,8 +22,8 @@ pub far_string-requires : goal.far_string-requires
 far_string-requires c =
     let start = c in
     record {
-        good = start.requires.good;
-        slots_nonzero = (start.requires.slots_nonzero, omega arith)
+      good = start.requires.good;
+      slots_nonzero = (start.requires.slots_nonzero, omega arith);
     }
 
 pub overflow_add-lo : goal.overflow_add-lo

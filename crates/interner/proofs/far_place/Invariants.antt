@@ -1,6 +1,4 @@
 use Prim.Native.Nat.{◌-◌, ◌≤◌}
-use native.Mathlib.Omega.{arith}
-use borrow.Author.Rules.{rules}
 use Rattle.interner.specs.Row.{far_in}
 use Rattle.interner.proofs.far_place.Given as goal
 

@@ -1,6 +1,5 @@
 use native.Mathlib.Omega.{arith}
 use Rattle.interner.specs.Recalled.{far_bounds, far_probed}
-use borrow.Author.Rules.{rules}
 use Rattle.interner.proofs.far_probe.Goals as goal
 
 pub overflow_sub-off : goal.overflow_sub-off

@@ -1,7 +1,6 @@
 use native.Mathlib.Omega.{arith}
 use Rattle.interner.specs.Recalled.{far_named, far_bytes}
 use Rattle.table.specs.Layout.{probe_of}
-use borrow.Author.Rules.{rules}
 use Rattle.interner.proofs.far_string.Goals as goal
 
 pub overflow_sub-p : goal.overflow_sub-p
@@ -17,8 +16,8 @@ resolve-requires c =
     let far-probe = c.far_probe-p in
     let named = far_named start.args.work.now start.args.strs.now start.args.st start.requires.good start.args.j start.requires.slots_nonzero (probe_of far-probe.result) far-probe.ensures in
     record {
-        good = start.requires.good;
-        id_lt_count = named.1
+      good = start.requires.good;
+      id_lt_count = named.1;
     }
 
 pub returns : goal.returns

@@ -1,5 +1,4 @@
 use Rattle.interner.specs.Begun.{begun}
-use borrow.Author.Rules.{rules}
 use Rattle.interner.proofs.fresh.Goals as goal
 
 pub returns : goal.returns

@@ -1,11 +1,8 @@
 use Rattle.interner.specs.Room.{room_left_lem}
 use borrow.Author.Tests.{le-leb, lt-leb}
-use mathlib.Core.Path.{◌≡◌, refl, sym, ap, ◌∙◌}
-use mathlib.Core.List.{List, [], ◌∷◌, ◌++◌}
-use Prim.Native.Nat.{ℕ, zero, suc, ◌+◌, ◌-◌, ◌*◌, ◌%◌, ◌/◌, ◌^◌, ◌≤◌, ◌<◌}
+use mathlib.Core.Path.{refl, sym, ◌∙◌}
+use Prim.Native.Nat.{◌+◌, ◌-◌}
 use native.Mathlib.Omega.{arith}
-use lib.ListN.{length, get_or, take, drop, set, replicate, length-set, length-take, length-drop, length-append, length-replicate}
-use borrow.Author.Rules.{rules}
 use Rattle.interner.proofs.has_room.Goals as goal
 
 pub returns-then-count-ge-MAX_NEW_STRINGS : goal.returns-then-count-ge-MAX_NEW_STRINGS

@@ -2,12 +2,10 @@ use Rattle.interner.specs.Lookups.{lookup_is}
 use Rattle.table.specs.Sizes.{size_hi, size_lo, size_length, starts_length}
 use Rattle.table.specs.Layout.{Entries, table_of}
 use mathlib.Core.Path.{subst}
-use mathlib.Core.Path.{◌≡◌, refl, sym, ap, ◌∙◌}
-use mathlib.Core.List.{List, [], ◌∷◌, ◌++◌}
-use Prim.Native.Nat.{ℕ, zero, suc, ◌+◌, ◌-◌, ◌*◌, ◌%◌, ◌/◌, ◌^◌, ◌≤◌, ◌<◌}
+use mathlib.Core.Path.{sym}
+use Prim.Native.Nat.{ℕ, ◌-◌, ◌<◌}
 use native.Mathlib.Omega.{arith}
-use lib.ListN.{length, get_or, take, drop, set, replicate, length-set, length-take, length-drop, length-append, length-replicate}
-use borrow.Author.Rules.{rules}
+use lib.ListN.{length}
 use Rattle.interner.proofs.lookup.Goals as goal
 
 pub overflow_sub-off : goal.overflow_sub-off
@@ -31,9 +29,9 @@ probe-requires c =
     let len = size_length c.args.work.now c.requires.good.size c.requires.good.words.room in
     let starts = starts_length c.args.work.now (length c.args.strs.now) c.args.st.count c.requires.good.words in
     record {
-        from_in_bounds = subst (λ (m : ℕ). c.slot_of-from.result < m) (sym len) c.slot_of-from.ensures.1;
-        starts = c.requires.good.words.starts;
-        entries = subst (λ (m : ℕ). Entries (table_of c.args.st.slots c.args.work.now) m) (sym starts) c.requires.good.entries
+      from_in_bounds = subst (λ (m : ℕ). c.slot_of-from.result < m) (sym len) c.slot_of-from.ensures.1;
+      starts = c.requires.good.words.starts;
+      entries = subst (λ (m : ℕ). Entries (table_of c.args.st.slots c.args.work.now) m) (sym starts) c.requires.good.entries;
     }
 
 pub returns : goal.returns

@@ -2,7 +2,6 @@ use mathlib.Core.Path.{refl}
 use native.Mathlib.Omega.{arith}
 use Rattle.table.specs.Layout.{probe_of}
 use Rattle.interner.specs.Recalled.{far_recalled}
-use borrow.Author.Rules.{rules}
 use Rattle.interner.proofs.recall.Goals as goal
 
 pub returns-then-wide-j : goal.returns-then-wide-j

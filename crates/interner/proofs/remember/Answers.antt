@@ -6,7 +6,6 @@ use native.Mathlib.Omega.{arith}
 use Rattle.table.specs.Layout.{probe_of}
 use Rattle.interner.specs.Row.{row_apart}
 use Rattle.interner.specs.Recalled.{remembered_none, remembered_one, probe_small}
-use borrow.Author.Rules.{rules}
 use Rattle.interner.proofs.remember.Goals as goal
 
 pub returns-then-far-ge-ROW : goal.returns-then-far-ge-ROW

@@ -1,18 +1,15 @@
 use Rattle.table.specs.Sizes.{starts_length}
 use Rattle.interner.specs.Lookups.{resolved}
-use mathlib.Core.Path.{◌≡◌, refl, sym, ap, ◌∙◌}
-use mathlib.Core.List.{List, [], ◌∷◌, ◌++◌}
-use Prim.Native.Nat.{ℕ, zero, suc, ◌+◌, ◌-◌, ◌*◌, ◌%◌, ◌/◌, ◌^◌, ◌≤◌, ◌<◌}
+use Prim.Native.Nat.{◌-◌}
 use native.Mathlib.Omega.{arith}
-use lib.ListN.{length, get_or, take, drop, set, replicate, length-set, length-take, length-drop, length-append, length-replicate}
-use borrow.Author.Rules.{rules}
+use lib.ListN.{length}
 use Rattle.interner.proofs.resolve.Goals as goal
 
 pub string_at-requires : goal.string_at-requires
 string_at-requires c =
     record {
-        starts = c.requires.good.words.starts;
-        id_in_bounds = omega (arith, starts_length c.args.work.now (length c.args.strs.now) c.args.st.count c.requires.good.words, c.requires.id_lt_count)
+      starts = c.requires.good.words.starts;
+      id_in_bounds = omega (arith, starts_length c.args.work.now (length c.args.strs.now) c.args.st.count c.requires.good.words, c.requires.id_lt_count);
     }
 
 pub returns : goal.returns

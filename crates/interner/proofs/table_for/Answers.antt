@@ -2,7 +2,6 @@ use mathlib.Core.Path.{sym, ◌∙◌}
 use native.Mathlib.Omega.{arith}
 use Rattle.table.specs.Sizes.{size_hi}
 use Rattle.interner.specs.Tables.{first_ready, stay_ready, grows_lo, grows_hi, grown_ready}
-use borrow.Author.Rules.{rules}
 use Rattle.interner.proofs.table_for.Goals as goal
 
 pub returns-then-slots-eq0 : goal.returns-then-slots-eq0
@@ -24,9 +23,9 @@ grow-requires c =
     let lo = grows_lo start.args.work.now start.args.strs.now start.args.st start.requires ne due in
     let hi = grows_hi start.args.work.now start.args.strs.now start.args.st start.requires ne due in
     record {
-        work = start.requires.words;
-        le_n = (lo, hi);
-        entries = start.requires.entries
+      work = start.requires.words;
+      le_n = (lo, hi);
+      entries = start.requires.entries;
     }
 
 pub overflow_mul-slots : goal.overflow_mul-slots

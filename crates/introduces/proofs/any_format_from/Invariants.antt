@@ -1,12 +1,8 @@
-use Rattle.model.specs.Tape.{records_at}
 use Rattle.model.specs.Tape.{node_codec}
-use Rattle.wire.specs.Loops.{Missed, missed_none}
-use Rattle.records.specs.Runs.{test_at, run_missed, run_found, run_nowhere}
+use Rattle.wire.specs.Loops.{Missed}
+use Rattle.records.specs.Runs.{test_at}
 use Prim.Native.Nat.{◌-◌, ◌≤◌}
-use native.Mathlib.Omega.{arith}
 use Rattle.ruby_formats.specs.Asks.{format_from}
-use Rattle.introduces.specs.Linked.{formats_from}
-use mathlib.Core.Path.{refl, ◌∙◌}
 use Rattle.introduces.proofs.any_format_from.Given as goal
 
 abbrev pub invariant-loop-i : goal.invariant-loop-i

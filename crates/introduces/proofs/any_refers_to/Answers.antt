@@ -1,5 +1,5 @@
-use Rattle.records.specs.Runs.{test_at, run_missed, run_found, run_nowhere}
-use Rattle.wire.specs.Loops.{Missed, missed_none}
+use Rattle.records.specs.Runs.{run_missed, run_found, run_nowhere}
+use Rattle.wire.specs.Loops.{missed_none}
 use Rattle.ruby_formats.specs.Sound.{sound_node}
 use Rattle.model.specs.Tape.{records_at, node_codec}
 use Rattle.strings.specs.Starts.{store_in}
@@ -8,7 +8,7 @@ use Rattle.introduces.specs.Linked.{refers_to}
 use Rattle.dependency.specs.Rows.{told_yes, told_no, told_not}
 use mathlib.Core.Path.{refl, sym}
 use mathlib.Core.List.{◌++◌}
-use Prim.Native.Nat.{◌-◌, ◌≤◌}
+use Prim.Native.Nat.{◌-◌}
 use native.Mathlib.Omega.{arith}
 use Rattle.introduces.proofs.any_refers_to.Goals as goal
 
@@ -28,10 +28,10 @@ pub refers_to-r-requires : goal.refers_to-r-requires
 refers_to-r-requires c =
     let start = c in
     record {
-        sound = start.requires.sound;
-        base_in_bounds = start.requires.base_in_bounds;
-        noted = start.requires.noted;
-        sound_node = sound_node start.requires.sound_2 c.loop-i-test.true
+      sound = start.requires.sound;
+      base_in_bounds = start.requires.base_in_bounds;
+      noted = start.requires.noted;
+      sound_node = sound_node start.requires.sound_2 c.loop-i-test.true;
     }
 
 pub returns-then-r-eq1 : goal.returns-then-r-eq1

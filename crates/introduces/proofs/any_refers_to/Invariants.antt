@@ -1,15 +1,10 @@
-use Rattle.records.specs.Runs.{test_at, run_missed, run_found, run_nowhere}
-use Rattle.wire.specs.Loops.{Missed, missed_none}
-use Rattle.ruby_formats.specs.Sound.{sound_node}
+use Rattle.records.specs.Runs.{test_at}
+use Rattle.wire.specs.Loops.{Missed}
 use Rattle.model.specs.Tape.{records_at, node_codec}
 use Rattle.strings.specs.Starts.{store_in}
-use borrow.Author.Tests.{eq-eqb, ne_eqb}
 use Rattle.introduces.specs.Linked.{refers_to}
-use Rattle.dependency.specs.Rows.{told_yes, told_no, told_not}
-use mathlib.Core.Path.{refl, sym}
 use mathlib.Core.List.{◌++◌}
 use Prim.Native.Nat.{◌-◌, ◌≤◌}
-use native.Mathlib.Omega.{arith}
 use Rattle.introduces.proofs.any_refers_to.Given as goal
 
 abbrev pub invariant-loop-i : goal.invariant-loop-i

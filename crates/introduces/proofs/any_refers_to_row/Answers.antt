@@ -1,12 +1,12 @@
-use Rattle.records.specs.Runs.{test_at, run_missed, run_found, run_nowhere}
-use Rattle.wire.specs.Loops.{Missed, missed_none}
+use Rattle.records.specs.Runs.{run_missed, run_found, run_nowhere}
+use Rattle.wire.specs.Loops.{missed_none}
 use Rattle.ruby_formats.specs.Sound.{sound_before}
 use Rattle.model.specs.Tape.{node_codec}
 use Rattle.strings.specs.Starts.{store_in}
 use Rattle.introduces.specs.Rows.{refers_to_row}
 use mathlib.Core.Path.{refl}
 use mathlib.Core.List.{◌++◌}
-use Prim.Native.Nat.{◌-◌, ◌≤◌}
+use Prim.Native.Nat.{◌-◌}
 use native.Mathlib.Omega.{arith}
 use Rattle.introduces.proofs.any_refers_to_row.Goals as goal
 
@@ -18,10 +18,10 @@ pub refers_first_to_row-requires : goal.refers_first_to_row-requires
 refers_first_to_row-requires c =
     let start = c in
     record {
-        resolvable = start.requires.resolvable;
-        row = start.requires.row;
-        sound = sound_before start.requires.sound (omega (arith, c.loop-i-test.true));
-        missed = c.loop-i.invariant.1
+      resolvable = start.requires.resolvable;
+      row = start.requires.row;
+      sound = sound_before start.requires.sound (omega (arith, c.loop-i-test.true));
+      missed = c.loop-i.invariant.1;
     }
 
 pub returns-then-refers_first_to_row : goal.returns-then-refers_first_to_row

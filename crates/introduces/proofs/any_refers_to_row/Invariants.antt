@@ -1,13 +1,10 @@
-use Rattle.records.specs.Runs.{test_at, run_missed, run_found, run_nowhere}
-use Rattle.wire.specs.Loops.{Missed, missed_none}
-use Rattle.ruby_formats.specs.Sound.{sound_before}
+use Rattle.records.specs.Runs.{test_at}
+use Rattle.wire.specs.Loops.{Missed}
 use Rattle.model.specs.Tape.{node_codec}
 use Rattle.strings.specs.Starts.{store_in}
 use Rattle.introduces.specs.Rows.{refers_to_row}
-use mathlib.Core.Path.{refl}
 use mathlib.Core.List.{◌++◌}
 use Prim.Native.Nat.{◌-◌, ◌≤◌}
-use native.Mathlib.Omega.{arith}
 use Rattle.introduces.proofs.any_refers_to_row.Given as goal
 
 abbrev pub invariant-loop-i : goal.invariant-loop-i

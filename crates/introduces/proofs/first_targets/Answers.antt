@@ -1,6 +1,5 @@
-use mathlib.Core.Path.{◌≡◌, refl}
-use Prim.Native.Nat.{◌-◌, ◌≤◌}
-use lib.ListN.{length}
+use mathlib.Core.Path.{refl}
+use Prim.Native.Nat.{◌-◌}
 use native.Mathlib.Omega.{arith}
 use Rattle.introduces.proofs.first_targets.Goals as goal
 
@@ -11,8 +10,8 @@ loop-i-init c =
 pub note_target-m-requires : goal.note_target-m-requires
 note_target-m-requires c =
     record {
-        naming = c.requires.node _ c.loop-i-test.true;
-        m_in_bounds = omega (arith, c.loop-i.invariant)
+      naming = c.requires.node _ c.loop-i-test.true;
+      m_in_bounds = omega (arith, c.loop-i.invariant);
     }
 
 pub overflow_add-i : goal.overflow_add-i

@@ -1,6 +1,5 @@
 use mathlib.Core.Path.{refl}
 use Rattle.introduces.specs.Words.{both_indexed}
-use borrow.Author.Rules.{rules}
 use Rattle.introduces.proofs.index_both.Goals as goal
 
 pub returns : goal.returns

@@ -1,11 +1,9 @@
 use Prim.Native.Nat.{◌+◌, ◌*◌}
 use lib.ListN.{length}
 use Rattle.dependency.specs.Words.{lent_enough}
-use borrow.Author.Tests.{not-true}
 use Rattle.introduces.specs.Books.{introduces_later, introduces_none, introduces_refers}
 use Rattle.region.specs.Held.{held_inside}
 use native.Mathlib.Omega.{arith}
-use borrow.Author.Rules.{rules}
 use Rattle.introduces.proofs.introduces_ruby_format_dependency.Goals as goal
 
 pub ruby_for_later-requires : goal.ruby_for_later-requires
@@ -46,9 +44,9 @@ refers_by_words-requires c =
     let start = c in
     let enough = lent_enough (length start.args.words.now) (2 * start.args.p.nodes.count + 6) c.in_many_parts.ensures c.if-in_many_parts.false in
     record {
-        held = start.requires.held;
-        held_2 = start.requires.held_2;
-        in_bounds = omega (arith, enough)
+      held = start.requires.held;
+      held_2 = start.requires.held_2;
+      in_bounds = omega (arith, enough);
     }
 
 pub returns : goal.returns

@@ -2,15 +2,14 @@ use Rattle.dependency.specs.Rows.{told_as, told_no}
 use mathlib.Core.Path.{refl, sym, ◌∙◌}
 use Rattle.strings.specs.Shown.{shown_str}
 use Rattle.dependency.specs.Compared.{target_some, target_none}
-use borrow.Author.Rules.{rules}
 use Rattle.introduces.proofs.is_base_of.Goals as goal
 
 pub resolve_str-s-requires : goal.resolve_str-s-requires
 resolve_str-s-requires c =
     let start = c in
     record {
-        resolvable = start.requires.resolvable;
-        id_lt_strings = start.requires.plain_in.inside _ c.in-Id.is
+      resolvable = start.requires.resolvable;
+      id_lt_strings = start.requires.plain_in.inside _ c.in-Id.is;
     }
 
 pub returns-in-Id : goal.returns-in-Id

@@ -1,15 +1,14 @@
 use Rattle.strings.specs.Shown.{shown_str}
 use Rattle.dependency.specs.Rows.{among_some, among_nothing}
 use mathlib.Core.Path.{◌∙◌}
-use borrow.Author.Rules.{rules}
 use Rattle.introduces.proofs.is_in_row.Goals as goal
 
 pub resolve_str-s-requires : goal.resolve_str-s-requires
 resolve_str-s-requires c =
     let start = c in
     record {
-        resolvable = start.requires.resolvable_2;
-        id_lt_strings = (start.requires.plain_in.inside _ c.in-Id.is)
+      resolvable = start.requires.resolvable_2;
+      id_lt_strings = (start.requires.plain_in.inside _ c.in-Id.is);
     }
 
 pub returns-in-Id : goal.returns-in-Id

@@ -1,14 +1,13 @@
 use Rattle.dependency.specs.Words.{last_first, last_inside}
 use Rattle.ruby_formats.specs.Sound.{sound_index}
 use mathlib.Core.Path.{refl, ◌∙◌}
-use borrow.Author.Rules.{rules}
 use Rattle.introduces.proofs.note_bases.Goals as goal
 
 pub note_rubies-requires : goal.note_rubies-requires
 note_rubies-requires c =
     record {
-        sound = sound_index (last_first c.args.words.now c.args.base c.requires.base_in_bounds _ refl c.zero_words.new.out c.zero_words.auto.out) c.requires.sound;
-        base_in_bounds = last_inside c.args.words.now c.args.base c.requires.base_in_bounds _ refl c.zero_words.new.out c.zero_words.auto.out
+      sound = sound_index (last_first c.args.words.now c.args.base c.requires.base_in_bounds _ refl c.zero_words.new.out c.zero_words.auto.out) c.requires.sound;
+      base_in_bounds = last_inside c.args.words.now c.args.base c.requires.base_in_bounds _ refl c.zero_words.new.out c.zero_words.auto.out;
     }
 
 pub returns : goal.returns

@@ -1,12 +1,11 @@
-use Rattle.dependency.specs.Noted.{first_words, Noted, noted_none, noted_next, noted_front}
+use Rattle.dependency.specs.Noted.{Noted, noted_none, noted_next, noted_front}
 use Rattle.ruby_formats.specs.Sound.{sound_node, sound_index}
 use Rattle.strings.specs.Starts.{store_in}
 use Rattle.model.specs.Tape.{records_at, node_codec}
-use lib.ListN.{length}
 use mathlib.Core.Path.{◌≡◌, refl, ◌∙◌, subst}
 use mathlib.Core.List.{◌++◌}
 use native.Mathlib.Omega.{arith}
-use Prim.Native.Nat.{◌≤◌, ◌-◌}
+use Prim.Native.Nat.{◌-◌}
 use Rattle.introduces.proofs.note_rubies.Goals as goal
 
 pub loop-i-init : goal.loop-i-init
@@ -24,8 +23,8 @@ overflow_add-at c =
 pub note_ruby-requires : goal.note_ruby-requires
 note_ruby-requires c =
     record {
-        sound_node = sound_node (sound_index c.loop-i.invariant.2 c.requires.sound) c.loop-i-test.true;
-        base_in_bounds = omega (arith, c.requires.base_in_bounds, c.loop-i.invariant.1)
+      sound_node = sound_node (sound_index c.loop-i.invariant.2 c.requires.sound) c.loop-i-test.true;
+      base_in_bounds = omega (arith, c.requires.base_in_bounds, c.loop-i.invariant.1);
     }
 
 pub overflow_add-i : goal.overflow_add-i

@@ -1,11 +1,9 @@
-use Rattle.dependency.specs.Noted.{first_words, Noted, noted_none, noted_next, noted_front}
-use Rattle.ruby_formats.specs.Sound.{sound_node, sound_index}
+use Rattle.dependency.specs.Noted.{first_words, Noted}
 use Rattle.strings.specs.Starts.{store_in}
 use Rattle.model.specs.Tape.{records_at, node_codec}
 use lib.ListN.{length}
-use mathlib.Core.Path.{◌≡◌, refl, ◌∙◌, subst}
+use mathlib.Core.Path.{◌≡◌}
 use mathlib.Core.List.{◌++◌}
-use native.Mathlib.Omega.{arith}
 use Prim.Native.Nat.{◌≤◌, ◌-◌}
 use Rattle.introduces.proofs.note_rubies.Given as goal
 

@@ -6,14 +6,13 @@ use Rattle.model.specs.Lists.{keep}
 use Rattle.laws.specs.Nodes.{ends_by}
 use mathlib.Core.Path.{refl, ap, ◌∙◌}
 use native.Mathlib.Omega.{arith}
-use borrow.Author.Rules.{rules}
 use Rattle.introduces.proofs.refers_before.Goals as goal
 
 pub nodes_until-n-requires : goal.nodes_until-n-requires
 nodes_until-n-requires c =
     record {
-        count_in_bounds = (ready_runs c.requires.ready).0;
-        in_order = ready_in_order c.requires.ready
+      count_in_bounds = (ready_runs c.requires.ready).0;
+      in_order = ready_in_order c.requires.ready;
     }
 
 pub last_strings_at-cut-requires : goal.last_strings_at-cut-requires
@@ -67,9 +66,9 @@ slice_bounds-refers_by_index-start-4 c =
 pub refers_by_index-requires : goal.refers_by_index-requires
 refers_by_index-requires c =
     record {
-        base_bound = c.requires.base_bound;
-        sound = sound_before (ready_sound c.requires.ready refl c.last_strings_at-cut.ensures (omega (arith, c.well_formed))) c.nodes_until-n.ensures.within;
-        sound_2 = ready_sound c.requires.ready_2 refl c.last_strings_at-part.ensures (omega (arith, c.well_formed))
+      base_bound = c.requires.base_bound;
+      sound = sound_before (ready_sound c.requires.ready refl c.last_strings_at-cut.ensures (omega (arith, c.well_formed))) c.nodes_until-n.ensures.within;
+      sound_2 = ready_sound c.requires.ready_2 refl c.last_strings_at-part.ensures (omega (arith, c.well_formed));
     }
 
 pub returns : goal.returns

@@ -1,12 +1,9 @@
-use Rattle.introduces.specs.Words.{KeptIndexes, kept_none, kept_more}
+use Rattle.introduces.specs.Words.{kept_none, kept_more}
 use Rattle.dependency.specs.Pieces.{sound_piece}
-use Rattle.introduces.specs.Pieces.{Unreferred, unreferred_none, unreferred_more, unreferred_all, referred_here}
+use Rattle.introduces.specs.Pieces.{unreferred_none, unreferred_more, unreferred_all, referred_here}
 use Rattle.ruby_formats.specs.Sound.{sound_index}
-use Rattle.strings.specs.Starts.{store_in}
-use Rattle.model.specs.Tape.{records_at, node_codec}
 use mathlib.Core.Path.{◌∙◌}
-use mathlib.Core.List.{◌++◌}
-use Prim.Native.Nat.{◌+◌, ◌≤◌, ◌-◌}
+use Prim.Native.Nat.{◌-◌}
 use native.Mathlib.Omega.{arith}
 use Rattle.introduces.proofs.refers_by_index.Goals as goal
 
@@ -46,10 +43,10 @@ pub refers_to_some-requires : goal.refers_to_some-requires
 refers_to_some-requires c =
     let turn = c in
     let start = turn in record {
-        count_bound = (omega (arith, c.fewer-n.ensures, turn.loop-i.invariant.3), omega (arith, turn.loop-i.invariant.1.size, start.requires.base_bound.1));
-        sound = sound_piece (sound_index turn.loop-i.invariant.1.first start.requires.sound) _ _ (omega
-            (arith, c.fewer-n.ensures, turn.loop-i.invariant.0));
-        sound_2 = sound_index turn.loop-i.invariant.1.last start.requires.sound_2
+      count_bound = (omega (arith, c.fewer-n.ensures, turn.loop-i.invariant.3), omega (arith, turn.loop-i.invariant.1.size, start.requires.base_bound.1));
+      sound = sound_piece (sound_index turn.loop-i.invariant.1.first start.requires.sound) _ _ (omega
+          (arith, c.fewer-n.ensures, turn.loop-i.invariant.0));
+      sound_2 = sound_index turn.loop-i.invariant.1.last start.requires.sound_2;
     }
 
 pub shape_of-words-then-refers_to_some : goal.shape_of-words-then-refers_to_some

@@ -1,13 +1,9 @@
-use Rattle.introduces.specs.Words.{KeptIndexes, kept_none, kept_more}
-use Rattle.dependency.specs.Pieces.{sound_piece}
-use Rattle.introduces.specs.Pieces.{Unreferred, unreferred_none, unreferred_more, unreferred_all, referred_here}
-use Rattle.ruby_formats.specs.Sound.{sound_index}
+use Rattle.introduces.specs.Words.{KeptIndexes}
+use Rattle.introduces.specs.Pieces.{Unreferred}
 use Rattle.strings.specs.Starts.{store_in}
 use Rattle.model.specs.Tape.{records_at, node_codec}
-use mathlib.Core.Path.{◌∙◌}
 use mathlib.Core.List.{◌++◌}
 use Prim.Native.Nat.{◌+◌, ◌≤◌, ◌-◌}
-use native.Mathlib.Omega.{arith}
 use Rattle.introduces.proofs.refers_by_index.Given as goal
 
 abbrev pub invariant-loop-i : goal.invariant-loop-i

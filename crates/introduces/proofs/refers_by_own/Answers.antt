@@ -4,7 +4,7 @@ use Rattle.introduces.proofs.refers_by_own.Goals as goal
 pub refers_by_words-requires : goal.refers_by_words-requires
 refers_by_words-requires c =
     let start = c in record {
-        held = start.requires.held;
-        held_2 = start.requires.held_2;
-        in_bounds = search rules
+      held = start.requires.held;
+      held_2 = start.requires.held_2;
+      in_bounds = search rules;
     }

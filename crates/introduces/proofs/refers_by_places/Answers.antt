@@ -5,7 +5,6 @@ use Rattle.introduces.specs.Words.{first_kept}
 use Rattle.dependency.specs.Words.{first_front, first_last}
 use Rattle.introduces.specs.Rows.{rowed_any, rowed_words}
 use mathlib.Core.List.{◌++◌}
-use borrow.Author.Rules.{rules}
 use Rattle.introduces.proofs.refers_by_places.Goals as goal
 
 pub any_refers_to_row-requires : goal.any_refers_to_row-requires
@@ -13,12 +12,12 @@ any_refers_to_row-requires c =
     let at-row-of = c in
     let start = at-row-of in
     let a = start.args in record {
-        resolvable = (sound_index (first_kept a.words.now a.middle start.requires.count_bound.1 at-row-of.row_of-m.new.words at-row-of.row_of-m.auto.words a.base
+      resolvable = (sound_index (first_kept a.words.now a.middle start.requires.count_bound.1 at-row-of.row_of-m.new.words at-row-of.row_of-m.auto.words a.base
           at-row-of.row_of-m.ensures.0).first start.requires.sound).strings;
-        row = (rowed_words (first_front a.words.now a.middle start.requires.count_bound.1 at-row-of.row_of-m.new.words at-row-of.row_of-m.auto.words)
-            at-row-of.row_of-m.ensures.1).row;
-        sound = sound_index (first_last a.words.now a.middle start.requires.count_bound.1 at-row-of.row_of-m.new.words
-            at-row-of.row_of-m.auto.words) start.requires.sound_2
+      row = (rowed_words (first_front a.words.now a.middle start.requires.count_bound.1 at-row-of.row_of-m.new.words at-row-of.row_of-m.auto.words)
+          at-row-of.row_of-m.ensures.1).row;
+      sound = sound_index (first_last a.words.now a.middle start.requires.count_bound.1 at-row-of.row_of-m.new.words
+          at-row-of.row_of-m.auto.words) start.requires.sound_2;
     }
 
 pub returns : goal.returns

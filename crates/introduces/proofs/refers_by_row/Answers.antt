@@ -1,5 +1,4 @@
 use Rattle.ruby_formats.specs.Named.{sound_namings}
-use borrow.Author.Rules.{rules}
 use Rattle.introduces.proofs.refers_by_row.Goals as goal
 
 pub first_bases-a-requires : goal.first_bases-a-requires

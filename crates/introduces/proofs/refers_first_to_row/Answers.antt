@@ -1,7 +1,6 @@
 use Rattle.introduces.specs.Rows.{target_again_lem}
 use Rattle.ruby_formats.specs.Named.{sound_naming, sound_namings}
 use Rattle.ruby_formats.specs.Sound.{sound_last}
-use borrow.Author.Rules.{rules}
 use Rattle.introduces.proofs.refers_first_to_row.Goals as goal
 
 pub noted_place-v-requires : goal.noted_place-v-requires
@@ -22,7 +21,7 @@ pub refers_to_row-requires : goal.refers_to_row-requires
 refers_to_row-requires c =
     let start = c in
     record {
-        resolvable = start.requires.resolvable;
-        row = start.requires.row;
-        sound_node = sound_last start.args.i start.requires.sound
+      resolvable = start.requires.resolvable;
+      row = start.requires.row;
+      sound_node = sound_last start.args.i start.requires.sound;
     }

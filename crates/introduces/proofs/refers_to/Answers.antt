@@ -2,7 +2,6 @@ use Rattle.dependency.specs.Rows.{told_as, told_no}
 use mathlib.Core.Path.{refl, sym}
 use Rattle.introduces.specs.Linked.{refers_other, refers_target}
 use Rattle.ruby_formats.specs.Sound.{target_first, plain_inside}
-use borrow.Author.Tests.{not-true, not-false}
 use Rattle.introduces.proofs.refers_to.Goals as goal
 
 pub is_referenced_format-requires : goal.is_referenced_format-requires
@@ -17,19 +16,19 @@ returns-then-not-is_referenced_format c =
 pub first_plain-p-requires : goal.first_plain-p-requires
 first_plain-p-requires c =
     let start = c in record {
-        of_tape = start.requires.sound_node.strings.sides.store;
-        at_in_bounds = start.requires.sound_node.inside;
-        first_range = target_first start.requires.sound_node c.is_referenced_format.ensures c.if-not-is_referenced_format.false
+      of_tape = start.requires.sound_node.strings.sides.store;
+      at_in_bounds = start.requires.sound_node.inside;
+      first_range = target_first start.requires.sound_node c.is_referenced_format.ensures c.if-not-is_referenced_format.false;
     }
 
 pub is_base_of-requires : goal.is_base_of-requires
 is_base_of-requires c =
     let start = c in record {
-        sound = start.requires.sound;
-        base_in_bounds = start.requires.base_in_bounds;
-        noted = start.requires.noted;
-        resolvable = start.requires.sound_node.strings;
-        plain_in = plain_inside start.requires.sound_node c.first_plain-p.ensures
+      sound = start.requires.sound;
+      base_in_bounds = start.requires.base_in_bounds;
+      noted = start.requires.noted;
+      resolvable = start.requires.sound_node.strings;
+      plain_in = plain_inside start.requires.sound_node c.first_plain-p.ensures;
     }
 
 pub returns : goal.returns

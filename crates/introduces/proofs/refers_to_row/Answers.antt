@@ -1,7 +1,5 @@
-use borrow.Author.Tests.{not-true, not-false}
 use Rattle.ruby_formats.specs.Sound.{target_first, plain_inside}
 use Rattle.introduces.specs.Rows.{row_other, row_target}
-use borrow.Author.Rules.{rules}
 use Rattle.introduces.proofs.refers_to_row.Goals as goal
 
 pub returns-then-not-is_referenced_format : goal.returns-then-not-is_referenced_format
@@ -13,19 +11,19 @@ pub first_plain-p-requires : goal.first_plain-p-requires
 first_plain-p-requires c =
     let start = c in
     record {
-        of_tape = start.requires.sound_node.strings.sides.store;
-        at_in_bounds = start.requires.sound_node.inside;
-        first_range = target_first start.requires.sound_node c.is_referenced_format.ensures c.if-not-is_referenced_format.false
+      of_tape = start.requires.sound_node.strings.sides.store;
+      at_in_bounds = start.requires.sound_node.inside;
+      first_range = target_first start.requires.sound_node c.is_referenced_format.ensures c.if-not-is_referenced_format.false;
     }
 
 pub is_in_row-requires : goal.is_in_row-requires
 is_in_row-requires c =
     let start = c in
     record {
-        resolvable = start.requires.resolvable;
-        row = start.requires.row;
-        resolvable_2 = start.requires.sound_node.strings;
-        plain_in = plain_inside start.requires.sound_node c.first_plain-p.ensures
+      resolvable = start.requires.resolvable;
+      row = start.requires.row;
+      resolvable_2 = start.requires.sound_node.strings;
+      plain_in = plain_inside start.requires.sound_node c.first_plain-p.ensures;
     }
 
 pub returns : goal.returns

@@ -1,25 +1,24 @@
 use Rattle.ruby_formats.specs.Sound.{sound_index}
 use Rattle.introduces.specs.Words.{kept_more}
 use native.Mathlib.Omega.{arith}
-use borrow.Author.Rules.{rules}
 use Rattle.introduces.proofs.refers_to_some.Goals as goal
 
 pub refers_by_filter-r-requires : goal.refers_by_filter-r-requires
 refers_by_filter-r-requires c =
     let start = c in
     record {
-        base_le_middle = (omega (arith, start.requires.count_bound), start.requires.count_bound.1);
-        sound = start.requires.sound;
-        sound_2 = start.requires.sound_2
+      base_le_middle = (omega (arith, start.requires.count_bound), start.requires.count_bound.1);
+      sound = start.requires.sound;
+      sound_2 = start.requires.sound_2;
     }
 
 pub refers_by_row-requires : goal.refers_by_row-requires
 refers_by_row-requires c =
     let at-refers-by-filter = c in
     let start = at-refers-by-filter in record {
-        count_bound = (start.requires.count_bound.0, omega (arith, at-refers-by-filter.refers_by_filter-r.ensures.1.size, start.requires.count_bound.1));
-        sound = sound_index at-refers-by-filter.refers_by_filter-r.ensures.1.first start.requires.sound;
-        sound_2 = sound_index at-refers-by-filter.refers_by_filter-r.ensures.1.last start.requires.sound_2
+      count_bound = (start.requires.count_bound.0, omega (arith, at-refers-by-filter.refers_by_filter-r.ensures.1.size, start.requires.count_bound.1));
+      sound = sound_index at-refers-by-filter.refers_by_filter-r.ensures.1.first start.requires.sound;
+      sound_2 = sound_index at-refers-by-filter.refers_by_filter-r.ensures.1.last start.requires.sound_2;
     }
 
 pub returns-then-r-eq2 : goal.returns-then-r-eq2

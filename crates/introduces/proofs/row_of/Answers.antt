@@ -1,12 +1,7 @@
 use Rattle.ruby_formats.specs.Sound.{sound_before, sound_index}
-use Rattle.model.specs.Tape.{records_at, node_codec}
-use Rattle.strings.specs.Starts.{store_in}
-use Rattle.sorted_ids.specs.Row.{first_words}
-use Rattle.dependency.specs.Rows.{Rowed, rowed_start}
+use Rattle.dependency.specs.Rows.{rowed_start}
 use mathlib.Core.Path.{◌≡◌, refl, ◌∙◌}
-use mathlib.Core.List.{◌++◌}
-use Prim.Native.Nat.{◌-◌, ◌≤◌, min}
-use lib.ListN.{length}
+use Prim.Native.Nat.{◌-◌, min}
 use native.Mathlib.Omega.{arith}
 use Rattle.introduces.proofs.row_of.Goals as goal
 
@@ -18,9 +13,9 @@ pub insert_first-m-requires : goal.insert_first-m-requires
 insert_first-m-requires c =
     let turn = c in
     let start = turn in record {
-        sound = sound_before (sound_index turn.loop-i.invariant.2 start.requires.sound) (omega (arith, c.loop-i-test.true));
-        rowed = turn.loop-i.invariant.4;
-        m_le_i = (turn.loop-i.invariant.3, omega (arith, start.requires.count_in_bounds, turn.loop-i.invariant.1))
+      sound = sound_before (sound_index turn.loop-i.invariant.2 start.requires.sound) (omega (arith, c.loop-i-test.true));
+      rowed = turn.loop-i.invariant.4;
+      m_le_i = (turn.loop-i.invariant.3, omega (arith, start.requires.count_in_bounds, turn.loop-i.invariant.1));
     }
 
 pub overflow_add-i : goal.overflow_add-i
@@ -32,8 +27,7 @@ loop-i-smaller c =
     omega arith
 
 pub loop-i-preserved : goal.loop-i-preserved
-loop-i-preserved c =
-    (
+loop-i-preserved c = (
   omega arith,
   c.insert_first-m.auto.words ∙ c.loop-i.invariant.1,
   c.insert_first-m.ensures.0 ∙ c.loop-i.invariant.2,

@@ -1,13 +1,11 @@
-use Rattle.ruby_formats.specs.Sound.{sound_before, sound_index}
 use Rattle.model.specs.Tape.{records_at, node_codec}
 use Rattle.strings.specs.Starts.{store_in}
 use Rattle.sorted_ids.specs.Row.{first_words}
-use Rattle.dependency.specs.Rows.{Rowed, rowed_start}
-use mathlib.Core.Path.{◌≡◌, refl, ◌∙◌}
+use Rattle.dependency.specs.Rows.{Rowed}
+use mathlib.Core.Path.{◌≡◌}
 use mathlib.Core.List.{◌++◌}
 use Prim.Native.Nat.{◌-◌, ◌≤◌, min}
 use lib.ListN.{length}
-use native.Mathlib.Omega.{arith}
 use Rattle.introduces.proofs.row_of.Given as goal
 
 abbrev pub invariant-loop-i : goal.invariant-loop-i

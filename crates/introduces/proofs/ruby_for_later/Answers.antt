@@ -1,6 +1,4 @@
 use Rattle.introduces.specs.Linked.{later_none, later_format}
-use borrow.Author.Tests.{not-true, not-false}
-use borrow.Author.Rules.{rules}
 use Rattle.introduces.proofs.ruby_for_later.Goals as goal
 
 pub returns-then-not-any_ruby : goal.returns-then-not-any_ruby

@@ -1,11 +1,7 @@
 use Rattle.layer.specs.Answers.{finish_refused, finish_made, strings_room}
-use borrow.Author.Tests.{not-true, not-false}
-use mathlib.Core.Path.{◌≡◌, refl, sym, ap, ◌∙◌}
-use mathlib.Core.List.{List, [], ◌∷◌, ◌++◌}
-use Prim.Native.Nat.{ℕ, zero, suc, ◌+◌, ◌-◌, ◌*◌, ◌%◌, ◌/◌, ◌^◌, ◌≤◌, ◌<◌}
+use Prim.Native.Nat.{◌-◌}
 use native.Mathlib.Omega.{arith}
-use lib.ListN.{length, get_or, take, drop, set, replicate, length-set, length-take, length-drop, length-append, length-replicate}
-use borrow.Author.Rules.{rules}
+use lib.ListN.{length}
 use Rattle.layer.proofs.finish.Goals as goal
 
 pub returns-then-not-strings_fit : goal.returns-then-not-strings_fit
@@ -15,8 +11,8 @@ returns-then-not-strings_fit c =
 pub lay_out-requires : goal.lay_out-requires
 lay_out-requires c =
     let x = strings_room c.args.below c.args.m.state.count (length c.args.out.now - c.args.at - c.args.len - c.args.rest) c.strings_fit.ensures c.if-not-strings_fit.false in record {
-        rising = c.requires.rising;
-        count_in_bounds = (omega (arith, x.1, c.requires.below_le_max_pool.2, c.requires.below_le_max_pool.3), c.requires.below_le_max_pool.1)
+      rising = c.requires.rising;
+      count_in_bounds = (omega (arith, x.1, c.requires.below_le_max_pool.2, c.requires.below_le_max_pool.3), c.requires.below_le_max_pool.1);
     }
 
 pub returns : goal.returns

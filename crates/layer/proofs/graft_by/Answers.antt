@@ -4,13 +4,10 @@ use Rattle.layer.specs.Layered.{source_adds}
 use Rattle.layer.specs.Source.{source_few}
 use Rattle.graft.specs.declared.Plan.{Plan}
 use mathlib.Core.Path.{subst}
-use borrow.Author.Tests.{not-true, not-false}
-use mathlib.Core.Path.{◌≡◌, refl, sym, ap, ◌∙◌}
-use mathlib.Core.List.{List, [], ◌∷◌, ◌++◌}
-use Prim.Native.Nat.{ℕ, zero, suc, ◌+◌, ◌-◌, ◌*◌, ◌%◌, ◌/◌, ◌^◌, ◌≤◌, ◌<◌}
+use mathlib.Core.Path.{sym, ◌∙◌}
+use Prim.Native.Nat.{◌+◌, ◌-◌}
 use native.Mathlib.Omega.{arith}
-use lib.ListN.{length, get_or, take, drop, set, replicate, length-set, length-take, length-drop, length-append, length-replicate}
-use borrow.Author.Rules.{rules}
+use lib.ListN.{length}
 use Rattle.layer.proofs.graft_by.Goals as goal
 
 pub nodes_length-rest-requires : goal.nodes_length-rest-requires
@@ -28,9 +25,9 @@ returns-then-out-at c =
 pub walk-m-requires : goal.walk-m-requires
 walk-m-requires c =
     record {
-        source_fits = c.requires.source_fits.0;
-        walk_room = subst (λ (v : Plan). WalkRoom v (c.args.at + c.layer_length-len.result) c.args.p.nodes.count (length c.args.out.now) (source_adds c.args.tape.now c.args.bytes.now)) (sym c.plan_of-plan.ensures) (walk_room c.args.out.now c.args.strs.now c.args.at c.args.base c.args.o c.requires.source_fits.1 _ (source_sizes c.requires.source_fits.0 c.args.o) c.requires.source_fits.2 c.layer_length-len.result c.nodes_length-rest.result c.layer_length-len.ensures c.nodes_length-rest.ensures (omega (arith, c.if-out-at.false, c.requires.min_work_words_in_bounds.2)) (omega (arith, c.well_formed.1.1.1.1.1.1.1.1.1.1.0)));
-        min_work_words_in_bounds = (c.requires.min_work_words_in_bounds.0, c.requires.min_work_words_in_bounds.1, c.requires.min_work_words_in_bounds.3)
+      source_fits = c.requires.source_fits.0;
+      walk_room = subst (λ (v : Plan). WalkRoom v (c.args.at + c.layer_length-len.result) c.args.p.nodes.count (length c.args.out.now) (source_adds c.args.tape.now c.args.bytes.now)) (sym c.plan_of-plan.ensures) (walk_room c.args.out.now c.args.strs.now c.args.at c.args.base c.args.o c.requires.source_fits.1 _ (source_sizes c.requires.source_fits.0 c.args.o) c.requires.source_fits.2 c.layer_length-len.result c.nodes_length-rest.result c.layer_length-len.ensures c.nodes_length-rest.ensures (omega (arith, c.if-out-at.false, c.requires.min_work_words_in_bounds.2)) (omega (arith, c.well_formed.1.1.1.1.1.1.1.1.1.1.0)));
+      min_work_words_in_bounds = (c.requires.min_work_words_in_bounds.0, c.requires.min_work_words_in_bounds.1, c.requires.min_work_words_in_bounds.3);
     }
 
 pub returns-then-not-m : goal.returns-then-not-m
@@ -39,7 +36,7 @@ returns-then-not-m c =
 
 pub finish-requires : goal.finish-requires
 finish-requires c =
-    let w = walked_by c.args.tape.now c.args.bytes.now c.args.o c.args.at c.args.s.contents c.plan_of-plan.ensures c.walk-m.ensures in 
+    let w = walked_by c.args.tape.now c.args.bytes.now c.args.o c.args.at c.args.s.contents c.plan_of-plan.ensures c.walk-m.ensures in
     let r = finish_room c.args.out.now c.args.strs.now c.args.at c.args.base c.args.o c.requires.source_fits.1 _ (source_sizes c.requires.source_fits.0 c.args.o) c.requires.source_fits.2 c.layer_length-len.result c.nodes_length-rest.result c.layer_length-len.ensures c.nodes_length-rest.ensures (omega (arith, c.if-out-at.false, c.requires.min_work_words_in_bounds.2)) (w.made c.if-not-m.false) c.walk-m.auto.out in
     record { rising = r.0; below_le_max_pool = r.1 }
 

@@ -1,12 +1,9 @@
 use Rattle.model.specs.Tape.{records_bytes, string_codec}
 use Rattle.layer.specs.LaidOut.{moved_up_lem}
 use Rattle.layer.specs.Lengths.{lengths_width, new_lengths}
-use mathlib.Core.Path.{◌≡◌, refl, sym, ap, ◌∙◌}
-use mathlib.Core.List.{List, [], ◌∷◌, ◌++◌}
-use Prim.Native.Nat.{ℕ, zero, suc, ◌+◌, ◌-◌, ◌*◌, ◌%◌, ◌/◌, ◌^◌, ◌≤◌, ◌<◌}
+use mathlib.Core.Path.{sym}
+use Prim.Native.Nat.{◌*◌}
 use native.Mathlib.Omega.{arith}
-use lib.ListN.{length, get_or, take, drop, set, replicate, length-set, length-take, length-drop, length-append, length-replicate}
-use borrow.Author.Rules.{rules}
 use Rattle.layer.proofs.lay_out.Goals as goal
 
 pub returns : goal.returns

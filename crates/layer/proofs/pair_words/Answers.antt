@@ -1,7 +1,6 @@
 use mathlib.Core.Path.{refl, ◌∙◌}
 use native.Mathlib.Omega.{arith}
 use Rattle.layer.specs.Paired.{parts_inside, parts_resolve, words_paired, behind_length}
-use borrow.Author.Rules.{rules}
 use Rattle.layer.proofs.pair_words.Goals as goal
 
 pub slice_bounds-pair_strings-end : goal.slice_bounds-pair_strings-end
@@ -19,8 +18,8 @@ slice_bounds-pair_strings-start-2 c =
 pub pair_strings-requires : goal.pair_strings-requires
 pair_strings-requires c =
     record {
-        resolvable = parts_resolve c.requires.source_fits refl c.last_strings_at-cut.ensures (omega arith);
-        in_bounds = omega (arith, c.requires.min_work_words_in_bounds, behind_length c.args.words.now (omega (arith, c.requires.min_work_words_in_bounds)))
+      resolvable = parts_resolve c.requires.source_fits refl c.last_strings_at-cut.ensures (omega arith);
+      in_bounds = omega (arith, c.requires.min_work_words_in_bounds, behind_length c.args.words.now (omega (arith, c.requires.min_work_words_in_bounds)));
     }
 
 pub returns : goal.returns

@@ -1,12 +1,7 @@
-use Rattle.layer.specs.Lengths.{new_lengths, lengths_none, lengths_more}
-use Rattle.wire.specs.Overwrite.{overwrite}
-use Rattle.model.specs.Tape.{records_bytes, string_codec}
-use mathlib.Core.Path.{◌≡◌, refl, sym, ap, ◌∙◌}
-use mathlib.Core.List.{List, [], ◌∷◌, ◌++◌}
-use Prim.Native.Nat.{ℕ, zero, suc, ◌+◌, ◌-◌, ◌*◌, ◌%◌, ◌/◌, ◌^◌, ◌≤◌, ◌<◌}
+use Rattle.layer.specs.Lengths.{lengths_none, lengths_more}
+use mathlib.Core.Path.{◌≡◌, refl}
+use Prim.Native.Nat.{◌-◌}
 use native.Mathlib.Omega.{arith}
-use borrow.Author.Rules.{rules}
-use lib.ListN.{length, get_or, take, drop, set, replicate, length-set, length-take, length-drop, length-append, length-replicate}
 use Rattle.layer.proofs.put_lengths.Goals as goal
 
 pub loop-i-init : goal.loop-i-init
@@ -24,8 +19,8 @@ overflow_add-at c =
 pub string_length-requires : goal.string_length-requires
 string_length-requires c =
     record {
-        k_in_bounds = omega (arith, c.requires.rising.room);
-        k_bound = c.requires.rising.order c.loop-i.i c.loop-i-test.true
+      k_in_bounds = omega (arith, c.requires.rising.room);
+      k_bound = c.requires.rising.order c.loop-i.i c.loop-i-test.true;
     }
 
 pub put_string-requires : goal.put_string-requires

@@ -1,12 +1,9 @@
-use Rattle.layer.specs.Lengths.{new_lengths, lengths_none, lengths_more}
+use Rattle.layer.specs.Lengths.{new_lengths}
 use Rattle.wire.specs.Overwrite.{overwrite}
 use Rattle.model.specs.Tape.{records_bytes, string_codec}
-use mathlib.Core.Path.{◌≡◌, refl, sym, ap, ◌∙◌}
-use mathlib.Core.List.{List, [], ◌∷◌, ◌++◌}
-use Prim.Native.Nat.{ℕ, zero, suc, ◌+◌, ◌-◌, ◌*◌, ◌%◌, ◌/◌, ◌^◌, ◌≤◌, ◌<◌}
-use native.Mathlib.Omega.{arith}
-use borrow.Author.Rules.{rules}
-use lib.ListN.{length, get_or, take, drop, set, replicate, length-set, length-take, length-drop, length-append, length-replicate}
+use mathlib.Core.Path.{◌≡◌}
+use Prim.Native.Nat.{◌-◌, ◌≤◌}
+use lib.ListN.{length}
 use Rattle.layer.proofs.put_lengths.Given as goal
 
 abbrev pub invariant-loop-i : goal.invariant-loop-i

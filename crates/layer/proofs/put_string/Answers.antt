@@ -2,12 +2,9 @@ use Rattle.layer.specs.Lengths.{string_written}
 use Rattle.put_records.specs.Written.{length_word}
 use Rattle.wire.specs.Overwrite.{Wrote, wrote_next}
 use Rattle.model.specs.Bytes.{word_bytes}
-use mathlib.Core.Path.{◌≡◌, refl, sym, ap, ◌∙◌}
-use mathlib.Core.List.{List, [], ◌∷◌, ◌++◌}
-use Prim.Native.Nat.{ℕ, zero, suc, ◌+◌, ◌-◌, ◌*◌, ◌%◌, ◌/◌, ◌^◌, ◌≤◌, ◌<◌}
+use mathlib.Core.List.{[], ◌∷◌}
+use Prim.Native.Nat.{◌+◌}
 use native.Mathlib.Omega.{arith}
-use lib.ListN.{length, get_or, take, drop, set, replicate, length-set, length-take, length-drop, length-append, length-replicate}
-use borrow.Author.Rules.{rules}
 use Rattle.layer.proofs.put_string.Goals as goal
 
 pub returns : goal.returns

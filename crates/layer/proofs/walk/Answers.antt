@@ -1,26 +1,22 @@
 use Rattle.layer.specs.Walked.{walk_ready, walk_low, walk_told}
 use Rattle.layer.specs.Source.{source_readable, source_inside, source_nodes_lem}
-use mathlib.Core.Path.{◌≡◌, refl, sym, ap, ◌∙◌}
-use mathlib.Core.List.{List, [], ◌∷◌, ◌++◌}
-use Prim.Native.Nat.{ℕ, zero, suc, ◌+◌, ◌-◌, ◌*◌, ◌%◌, ◌/◌, ◌^◌, ◌≤◌, ◌<◌}
+use Prim.Native.Nat.{◌-◌}
 use native.Mathlib.Omega.{arith}
-use lib.ListN.{length, get_or, take, drop, set, replicate, length-set, length-take, length-drop, length-append, length-replicate}
-use borrow.Author.Rules.{rules}
 use Rattle.layer.proofs.walk.Goals as goal
 
 pub index_words-requires : goal.index_words-requires
 index_words-requires c =
     record {
-        readable = source_readable c.requires.source_fits (omega (arith, c.well_formed));
-        min_work_words_in_bounds = c.requires.min_work_words_in_bounds.0
+      readable = source_readable c.requires.source_fits (omega (arith, c.well_formed));
+      min_work_words_in_bounds = c.requires.min_work_words_in_bounds.0;
     }
 
 pub graft_nodes-requires : goal.graft_nodes-requires
 graft_nodes-requires c =
     record {
-        ready = walk_ready c.requires.source_fits c.fresh-state.ensures c.index_words.ensures.0 c.index_words.ensures.1 c.requires.min_work_words_in_bounds.2 c.args.plan c.args.nodesat c.args.out.now c.requires.walk_room;
-        count_in_bounds = (source_inside c.requires.source_fits, source_nodes_lem c.requires.source_fits);
-        count_bound = (walk_low c.requires.source_fits c.fresh-state.ensures c.index_words.ensures.0 c.index_words.ensures.1 c.requires.min_work_words_in_bounds.2 c.args.plan c.args.nodesat c.args.out.now c.requires.walk_room, c.requires.walk_room.records)
+      ready = walk_ready c.requires.source_fits c.fresh-state.ensures c.index_words.ensures.0 c.index_words.ensures.1 c.requires.min_work_words_in_bounds.2 c.args.plan c.args.nodesat c.args.out.now c.requires.walk_room;
+      count_in_bounds = (source_inside c.requires.source_fits, source_nodes_lem c.requires.source_fits);
+      count_bound = (walk_low c.requires.source_fits c.fresh-state.ensures c.index_words.ensures.0 c.index_words.ensures.1 c.requires.min_work_words_in_bounds.2 c.args.plan c.args.nodesat c.args.out.now c.requires.walk_room, c.requires.walk_room.records);
     }
 
 pub returns : goal.returns

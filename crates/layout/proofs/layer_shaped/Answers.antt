@@ -1,6 +1,4 @@
 use Rattle.layout.specs.Shaped.{runs_failed, runs_last}
-use borrow.Author.Tests.{not-true, not-false}
-use borrow.Author.Rules.{rules}
 use Rattle.layout.proofs.layer_shaped.Goals as goal
 
 pub returns-then-not-contents_shaped : goal.returns-then-not-contents_shaped

@@ -1,6 +1,5 @@
-use Rattle.layout.specs.Shaped.{Shaping, shaping_none, shaping_inside, shaping_runs, shaping_failed, shaping_more, shaping_all}
-use borrow.Author.Tests.{not-true, not-false}
-use Prim.Native.Nat.{◌-◌, ◌≤◌}
+use Rattle.layout.specs.Shaped.{shaping_none, shaping_inside, shaping_runs, shaping_failed, shaping_more, shaping_all}
+use Prim.Native.Nat.{◌-◌}
 use native.Mathlib.Omega.{arith}
 use Rattle.layout.proofs.layers_shaped.Goals as goal
 

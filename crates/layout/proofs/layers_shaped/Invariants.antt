@@ -1,7 +1,5 @@
-use Rattle.layout.specs.Shaped.{Shaping, shaping_none, shaping_inside, shaping_runs, shaping_failed, shaping_more, shaping_all}
-use borrow.Author.Tests.{not-true, not-false}
+use Rattle.layout.specs.Shaped.{Shaping}
 use Prim.Native.Nat.{◌-◌, ◌≤◌}
-use native.Mathlib.Omega.{arith}
 use Rattle.layout.proofs.layers_shaped.Given as goal
 
 abbrev pub invariant-loop-i : goal.invariant-loop-i

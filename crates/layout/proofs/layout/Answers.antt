@@ -1,6 +1,4 @@
 use Rattle.layout.specs.Shaped.{layout_fault, layers_fit, lists_fit_lem, layout_layers, layout_lists, layout_book}
-use borrow.Author.Tests.{not-true, not-false}
-use borrow.Author.Rules.{rules}
 use Rattle.layout.proofs.layout.Goals as goal
 
 pub returns-then-p : goal.returns-then-p

@@ -1,6 +1,4 @@
 use Rattle.layout.specs.Shaped.{nodes_failed, pairs_failed, lists_last}
-use borrow.Author.Tests.{not-true, not-false}
-use borrow.Author.Rules.{rules}
 use Rattle.layout.proofs.lists_shaped.Goals as goal
 
 pub returns-then-not-nodes_shaped : goal.returns-then-not-nodes_shaped

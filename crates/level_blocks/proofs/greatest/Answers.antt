@@ -1,7 +1,7 @@
 use mathlib.Core.Path.{◌≡◌}
-use Prim.Native.Nat.{◌-◌, ◌≤◌}
+use Prim.Native.Nat.{◌-◌}
 use native.Mathlib.Omega.{arith}
-use Rattle.level_blocks.specs.Blocks.{Greatest, greatest_none, greatest_more}
+use Rattle.level_blocks.specs.Blocks.{greatest_none, greatest_more}
 use Rattle.level_blocks.proofs.greatest.Goals as goal
 
 pub loop-i-init : goal.loop-i-init

@@ -1,7 +1,5 @@
-use mathlib.Core.Path.{◌≡◌}
 use Prim.Native.Nat.{◌-◌, ◌≤◌}
-use native.Mathlib.Omega.{arith}
-use Rattle.level_blocks.specs.Blocks.{Greatest, greatest_none, greatest_more}
+use Rattle.level_blocks.specs.Blocks.{Greatest}
 use Rattle.level_blocks.proofs.greatest.Given as goal
 
 abbrev pub invariant-loop-i : goal.invariant-loop-i

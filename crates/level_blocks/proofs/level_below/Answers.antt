@@ -1,5 +1,4 @@
 use Rattle.level_blocks.specs.Level.{level_read}
-use borrow.Author.Rules.{rules}
 use Rattle.level_blocks.proofs.level_below.Goals as goal
 
 pub returns : goal.returns

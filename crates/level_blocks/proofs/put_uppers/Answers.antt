@@ -1,7 +1,7 @@
 use mathlib.Core.Path.{◌≡◌, sym, ◌∙◌}
-use Prim.Native.Nat.{◌-◌, ◌≤◌}
+use Prim.Native.Nat.{◌-◌}
 use native.Mathlib.Omega.{arith}
-use Rattle.level_blocks.specs.Blocks.{Risen, Kept, risen_none, risen_more, kept_all, kept_set}
+use Rattle.level_blocks.specs.Blocks.{risen_none, risen_more, kept_all, kept_set}
 use Rattle.level_blocks.proofs.put_uppers.Goals as goal
 
 pub loop-k-init : goal.loop-k-init

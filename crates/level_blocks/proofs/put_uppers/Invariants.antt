@@ -1,7 +1,5 @@
-use mathlib.Core.Path.{◌≡◌, sym, ◌∙◌}
 use Prim.Native.Nat.{◌-◌, ◌≤◌}
-use native.Mathlib.Omega.{arith}
-use Rattle.level_blocks.specs.Blocks.{Risen, Kept, risen_none, risen_more, kept_all, kept_set}
+use Rattle.level_blocks.specs.Blocks.{Risen, Kept}
 use Rattle.level_blocks.proofs.put_uppers.Given as goal
 
 abbrev pub invariant-loop-k : goal.invariant-loop-k

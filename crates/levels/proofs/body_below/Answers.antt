@@ -1,10 +1,9 @@
 use mathlib.Core.Path.{◌∙◌}
-use Prim.Native.Nat.{◌-◌, ◌≤◌}
+use Prim.Native.Nat.{◌-◌}
 use native.Mathlib.Omega.{arith}
-use borrow.Author.Tests.{not-true, not-false}
 use Rattle.levels.specs.Below.{word_below, word_read, body_failed, body_passed, body_rest}
 use Rattle.records.specs.Values.{body_at}
-use Rattle.wire.specs.Loops.{Passed, passed_none, passed_more}
+use Rattle.wire.specs.Loops.{passed_none, passed_more}
 use Rattle.levels.proofs.body_below.Goals as goal
 
 pub bounds-tape-at : goal.bounds-tape-at
@@ -48,8 +47,8 @@ word_below-requires c =
     let start = c in
     let loop-test = c.loop-i-test in
     record {
-        tables = start.requires.tables;
-        at_in_bounds = (start.requires.at_in_bounds, loop-test.true)
+      tables = start.requires.tables;
+      at_in_bounds = (start.requires.at_in_bounds, loop-test.true);
     }
 
 pub returns-then-not-word_below : goal.returns-then-not-word_below

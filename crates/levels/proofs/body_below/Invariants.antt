@@ -1,10 +1,7 @@
-use mathlib.Core.Path.{◌∙◌}
 use Prim.Native.Nat.{◌-◌, ◌≤◌}
-use native.Mathlib.Omega.{arith}
-use borrow.Author.Tests.{not-true, not-false}
-use Rattle.levels.specs.Below.{word_below, word_read, body_failed, body_passed, body_rest}
+use Rattle.levels.specs.Below.{word_below}
 use Rattle.records.specs.Values.{body_at}
-use Rattle.wire.specs.Loops.{Passed, passed_none, passed_more}
+use Rattle.wire.specs.Loops.{Passed}
 use Rattle.levels.proofs.body_below.Given as goal
 
 abbrev pub invariant-loop-i : goal.invariant-loop-i

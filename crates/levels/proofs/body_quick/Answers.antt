@@ -1,11 +1,10 @@
 use mathlib.Core.Path.{sym}
 use mathlib.Core.Bool.{true, false, false≢true}
-use Prim.Native.Nat.{◌-◌, ◌≤◌}
+use Prim.Native.Nat.{◌-◌}
 use native.Mathlib.Omega.{arith}
-use borrow.Author.Tests.{not-false}
-use Rattle.levels.specs.Below.{word_below, word_read, body_passed, body_rest}
+use Rattle.levels.specs.Below.{word_read, body_passed, body_rest}
 use Rattle.records.specs.Values.{body_at}
-use Rattle.wire.specs.Loops.{Passed, passed_none, passed_more}
+use Rattle.wire.specs.Loops.{passed_none, passed_more}
 use Rattle.levels.proofs.body_quick.Goals as goal
 
 pub bounds-tape-at : goal.bounds-tape-at
@@ -49,8 +48,8 @@ word_quick-requires c =
     let start = c in
     let loop-test = c.loop-i-test in
     record {
-        of_tape = start.requires.of_tape;
-        at_in_bounds = (start.requires.at_in_bounds, loop-test.true)
+      of_tape = start.requires.of_tape;
+      at_in_bounds = (start.requires.at_in_bounds, loop-test.true);
     }
 
 pub returns-then-not-word_quick : goal.returns-then-not-word_quick

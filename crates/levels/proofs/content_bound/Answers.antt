@@ -1,4 +1,4 @@
-use Prim.Native.Nat.{◌-◌, ◌≤◌}
+use Prim.Native.Nat.{◌-◌}
 use native.Mathlib.Omega.{arith}
 use Rattle.levels.specs.Table.{bound_none, bound_content, content_fits}
 use Rattle.levels.proofs.content_bound.Goals as goal
@@ -18,8 +18,8 @@ content_below-requires c =
     let t = start.args.tape.now in
     let st = start.args.st in
     record {
-        tops = start.requires.tops;
-        at_in_bounds = content_fits t st start.args.i _ start.requires.tops.fit start.requires.i_lt_contents content-place.ensures
+      tops = start.requires.tops;
+      at_in_bounds = content_fits t st start.args.i _ start.requires.tops.fit start.requires.i_lt_contents content-place.ensures;
     }
 
 pub returns-then-content_below : goal.returns-then-content_below

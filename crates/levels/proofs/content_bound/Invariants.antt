@@ -1,6 +1,4 @@
 use Prim.Native.Nat.{◌-◌, ◌≤◌}
-use native.Mathlib.Omega.{arith}
-use Rattle.levels.specs.Table.{bound_none, bound_content, content_fits}
 use Rattle.levels.proofs.content_bound.Given as goal
 
 abbrev pub invariant-loop-r : goal.invariant-loop-r

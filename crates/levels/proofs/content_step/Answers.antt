@@ -18,8 +18,8 @@ returns-then-i-r c =
 pub content_below-requires : goal.content_below-requires
 content_below-requires c =
     record {
-        tops = c.requires.tables.segments;
-        at_in_bounds = c.requires.at_in_bounds.0
+      tops = c.requires.tables.segments;
+      at_in_bounds = c.requires.at_in_bounds.0;
     }
 
 pub overflow_add-result : goal.overflow_add-result

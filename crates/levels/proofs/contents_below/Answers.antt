@@ -1,5 +1,4 @@
 use native.Mathlib.Omega.{arith}
-use borrow.Author.Tests.{not-true, not-false}
 use Rattle.levels.specs.Below.{contents_out, contents_none, contents_read, contents_fit_lem}
 use Rattle.levels.specs.Table.{contents_said}
 use Rattle.levels.proofs.contents_below.Goals as goal
@@ -45,9 +44,9 @@ contents_walk-requires c =
     let fits = contents_fit_lem t st level from len start.requires.segments.fit contents-in.ensures c.if-not-contents_in.false c.if-len-eq0.false _ c.content_place-at.ensures in
     let said = contents_said t st level from len _ start.requires contents-in.ensures c.if-not-contents_in.false c.content_place-at.ensures in
     record {
-        tables = start.requires;
-        len_in_bounds = (fits, omega arith);
-        said = said
+      tables = start.requires;
+      len_in_bounds = (fits, omega arith);
+      said = said;
     }
 
 pub returns : goal.returns

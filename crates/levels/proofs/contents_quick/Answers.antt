@@ -1,6 +1,5 @@
 use mathlib.Core.Path.{sym}
 use mathlib.Core.Bool.{true, false, false≢true}
-use borrow.Author.Tests.{not-false}
 use Rattle.levels.specs.Below.{contents_none, contents_read, contents_fit_lem}
 use Rattle.levels.proofs.contents_quick.Goals as goal
 
@@ -41,8 +40,8 @@ run_quick-requires c =
     let from = start.args.start in
     let len = start.args.len in
     record {
-        of_tape = start.requires;
-        count_in_bounds = contents_fit_lem t st level from len start.requires contents-in.ensures c.if-not-contents_in.false c.if-len-eq0.false _ c.content_place-at.ensures
+      of_tape = start.requires;
+      count_in_bounds = contents_fit_lem t st level from len start.requires contents-in.ensures c.if-not-contents_in.false c.if-len-eq0.false _ c.content_place-at.ensures;
     }
 
 pub returns : goal.returns

@@ -1,10 +1,7 @@
-use mathlib.Core.Path.{refl}
 use Prim.Native.Nat.{◌-◌, ◌≤◌}
-use native.Mathlib.Omega.{arith}
-use Rattle.levels.specs.Table.{walk_more}
 use Rattle.levels.specs.Below.{content_below}
-use Rattle.wire.specs.Loops.{Passed, passed_none}
-use Rattle.records.specs.Runs.{test_at, run_failed, run_passed}
+use Rattle.wire.specs.Loops.{Passed}
+use Rattle.records.specs.Runs.{test_at}
 use Rattle.model.specs.Tape.{content_codec}
 use Rattle.levels.proofs.contents_walk.Given as goal
 

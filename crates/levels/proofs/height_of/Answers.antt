@@ -1,7 +1,7 @@
 use mathlib.Core.Path.{◌≡◌}
-use Prim.Native.Nat.{◌+◌, ◌-◌, ◌*◌, ◌≤◌}
+use Prim.Native.Nat.{◌+◌, ◌-◌, ◌*◌}
 use native.Mathlib.Omega.{arith}
-use Rattle.levels.specs.Table.{Block, content_test, block_none, block_more, block_end}
+use Rattle.levels.specs.Table.{block_none, block_more, block_end}
 use Rattle.levels.proofs.height_of.Goals as goal
 
 pub overflow_cast-total : goal.overflow_cast-total
@@ -35,8 +35,8 @@ overflow_cast-i c =
 pub content_bound-m-requires : goal.content_bound-m-requires
 content_bound-m-requires c =
     record {
-        tops = c.requires.tops;
-        i_lt_contents = c.if-total-i.false
+      tops = c.requires.tops;
+      i_lt_contents = c.if-total-i.false;
     }
 
 pub overflow_add-i : goal.overflow_add-i

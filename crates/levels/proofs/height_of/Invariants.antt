@@ -1,7 +1,5 @@
-use mathlib.Core.Path.{◌≡◌}
 use Prim.Native.Nat.{◌+◌, ◌-◌, ◌*◌, ◌≤◌}
-use native.Mathlib.Omega.{arith}
-use Rattle.levels.specs.Table.{Block, content_test, block_none, block_more, block_end}
+use Rattle.levels.specs.Table.{Block, content_test}
 use Rattle.levels.proofs.height_of.Given as goal
 
 abbrev pub invariant-loop-i : goal.invariant-loop-i

@@ -1,5 +1,4 @@
 use native.Mathlib.Omega.{arith}
-use borrow.Author.Tests.{not-true, not-false}
 use Rattle.levels.specs.Below.{level_text, level_out, level_node}
 use Rattle.levels.proofs.level_ok.Goals as goal
 
@@ -47,8 +46,8 @@ overflow_add-at-2 c =
 pub body_below-requires : goal.body_below-requires
 body_below-requires c =
     record {
-        tables = c.requires.tables;
-        at_in_bounds = omega (arith, c.requires.at_in_bounds)
+      tables = c.requires.tables;
+      at_in_bounds = omega (arith, c.requires.at_in_bounds);
     }
 
 pub returns : goal.returns

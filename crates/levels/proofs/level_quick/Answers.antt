@@ -1,7 +1,6 @@
 use mathlib.Core.Path.{sym, ◌∙◌}
 use mathlib.Core.Bool.{true, false, false≢true}
 use native.Mathlib.Omega.{arith}
-use borrow.Author.Tests.{not-false}
 use Rattle.levels.specs.Below.{level_text, level_node}
 use Rattle.levels.proofs.level_quick.Goals as goal
 
@@ -44,8 +43,8 @@ overflow_add-at-2 c =
 pub body_quick-requires : goal.body_quick-requires
 body_quick-requires c =
     record {
-        of_tape = c.requires.of_tape;
-        at_in_bounds = omega (arith, c.requires.at_in_bounds)
+      of_tape = c.requires.of_tape;
+      at_in_bounds = omega (arith, c.requires.at_in_bounds);
     }
 
 pub returns : goal.returns

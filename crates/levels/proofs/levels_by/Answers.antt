@@ -1,7 +1,6 @@
-use Prim.Native.Nat.{◌-◌, ◌≤◌}
+use Prim.Native.Nat.{◌-◌}
 use native.Mathlib.Omega.{arith}
-use borrow.Author.Tests.{not-true, not-false}
-use Rattle.levels.specs.Whole.{Walked, walked_none, walked_inside, walked_fits, walked_failed, walked_more, walked_all}
+use Rattle.levels.specs.Whole.{walked_none, walked_inside, walked_fits, walked_failed, walked_more, walked_all}
 use Rattle.levels.proofs.levels_by.Goals as goal
 
 pub loop-i-init : goal.loop-i-init
@@ -16,8 +15,8 @@ pub run_levels_ok-requires : goal.run_levels_ok-requires
 run_levels_ok-requires c =
     let start = c in
     record {
-        tables = start.requires.tables;
-        count_in_bounds = walked_fits c.loop-i.invariant.1 start.requires.layers_value c.loop-i-test.true c.next_layer-l.ensures start.requires.tables.segments.fit
+      tables = start.requires.tables;
+      count_in_bounds = walked_fits c.loop-i.invariant.1 start.requires.layers_value c.loop-i-test.true c.next_layer-l.ensures start.requires.tables.segments.fit;
     }
 
 pub returns-then-not-run_levels_ok : goal.returns-then-not-run_levels_ok

@@ -1,7 +1,5 @@
 use Prim.Native.Nat.{◌-◌, ◌≤◌}
-use native.Mathlib.Omega.{arith}
-use borrow.Author.Tests.{not-true, not-false}
-use Rattle.levels.specs.Whole.{Walked, walked_none, walked_inside, walked_fits, walked_failed, walked_more, walked_all}
+use Rattle.levels.specs.Whole.{Walked}
 use Rattle.levels.proofs.levels_by.Given as goal
 
 abbrev pub invariant-loop-i : goal.invariant-loop-i

@@ -1,7 +1,6 @@
 use Rattle.levels.specs.Whole.{no_segments, walked_none, walked_inside, walked_fits, walked_more, walked_all}
 use mathlib.Core.Path.{refl, sym}
 use native.Mathlib.Omega.{arith}
-use borrow.Author.Tests.{not-false}
 use Rattle.levels.proofs.levels_ok.Goals as goal
 
 pub returns-then-st-eq0 : goal.returns-then-st-eq0
@@ -20,8 +19,8 @@ pub run_levels_quick-requires : goal.run_levels_quick-requires
 run_levels_quick-requires c =
     let start = c in
     record {
-        of_tape = start.requires.of_tape;
-        count_in_bounds = walked_fits (walked_none _ _) start.requires.layers_value (omega (arith, c.if-layers-eq0.false)) c.next_layer-l.ensures start.requires.of_tape
+      of_tape = start.requires.of_tape;
+      count_in_bounds = walked_fits (walked_none _ _) start.requires.layers_value (omega (arith, c.if-layers-eq0.false)) c.next_layer-l.ensures start.requires.of_tape;
     }
 
 pub levels_tabled-requires : goal.levels_tabled-requires
@@ -39,9 +38,9 @@ levels_quick-requires c =
     let passed = c.run_levels_quick.ensures c.if-not-run_levels_quick.false in
     let first = walked_more (walked_none _ _) start.requires.layers_value (omega (arith, if2.false)) c.next_layer-l.ensures (sym passed) refl in
     record {
-        of_tape = start.requires.of_tape;
-        layers_value = start.requires.layers_value;
-        le_layers = (omega (arith, if2.false), first)
+      of_tape = start.requires.of_tape;
+      layers_value = start.requires.layers_value;
+      le_layers = (omega (arith, if2.false), first);
     }
 
 pub returns-then-levels_quick : goal.returns-then-levels_quick

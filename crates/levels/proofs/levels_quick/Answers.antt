@@ -1,9 +1,8 @@
 use mathlib.Core.Path.{refl, sym}
 use mathlib.Core.Bool.{true, false, false≢true}
-use Prim.Native.Nat.{◌-◌, ◌≤◌}
+use Prim.Native.Nat.{◌-◌}
 use native.Mathlib.Omega.{arith}
-use borrow.Author.Tests.{not-false}
-use Rattle.levels.specs.Whole.{Walked, walked_inside, walked_fits, walked_more, walked_all}
+use Rattle.levels.specs.Whole.{walked_inside, walked_fits, walked_more, walked_all}
 use Rattle.levels.proofs.levels_quick.Goals as goal
 
 pub loop-i-init : goal.loop-i-init
@@ -18,8 +17,8 @@ pub run_levels_quick-requires : goal.run_levels_quick-requires
 run_levels_quick-requires c =
     let start = c in
     record {
-        of_tape = start.requires.of_tape;
-        count_in_bounds = walked_fits c.loop-i.invariant.1 start.requires.layers_value c.loop-i-test.true c.next_layer-l.ensures start.requires.of_tape
+      of_tape = start.requires.of_tape;
+      count_in_bounds = walked_fits c.loop-i.invariant.1 start.requires.layers_value c.loop-i-test.true c.next_layer-l.ensures start.requires.of_tape;
     }
 
 pub returns-then-not-run_levels_quick : goal.returns-then-not-run_levels_quick

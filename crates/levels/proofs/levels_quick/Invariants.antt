@@ -1,9 +1,5 @@
-use mathlib.Core.Path.{refl, sym}
-use mathlib.Core.Bool.{true, false, false≢true}
 use Prim.Native.Nat.{◌-◌, ◌≤◌}
-use native.Mathlib.Omega.{arith}
-use borrow.Author.Tests.{not-false}
-use Rattle.levels.specs.Whole.{Walked, walked_inside, walked_fits, walked_more, walked_all}
+use Rattle.levels.specs.Whole.{Walked}
 use Rattle.levels.proofs.levels_quick.Given as goal
 
 abbrev pub invariant-loop-i : goal.invariant-loop-i

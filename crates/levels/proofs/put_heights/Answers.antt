@@ -1,8 +1,8 @@
 use mathlib.Core.Path.{◌≡◌, refl}
-use Prim.Native.Nat.{◌-◌, ◌≤◌}
+use Prim.Native.Nat.{◌-◌}
 use native.Mathlib.Omega.{arith}
-use Rattle.levels.specs.Table.{Filled, content_test, filled_none, filled_more, filled_all}
-use lib.ListN.{length, length-set}
+use Rattle.levels.specs.Table.{filled_none, filled_more, filled_all}
+use lib.ListN.{length-set}
 use Rattle.levels.proofs.put_heights.Goals as goal
 
 pub overflow_cast-total : goal.overflow_cast-total
@@ -28,8 +28,8 @@ returns-then-total-k c =
 pub height_of-requires : goal.height_of-requires
 height_of-requires c =
     record {
-        tops = c.requires.tops;
-        k_bound = c.loop-k-test.true
+      tops = c.requires.tops;
+      k_bound = c.loop-k-test.true;
     }
 
 pub bounds-heights-k : goal.bounds-heights-k

@@ -1,8 +1,8 @@
 use mathlib.Core.Path.{◌≡◌, refl}
-use Prim.Native.Nat.{◌-◌, ◌≤◌}
+use Prim.Native.Nat.{◌-◌}
 use native.Mathlib.Omega.{arith}
-use Rattle.levels.specs.Table.{Filled, segment_test, filled_none, filled_more, filled_all}
-use lib.ListN.{length, length-set}
+use Rattle.levels.specs.Table.{filled_none, filled_more, filled_all}
+use lib.ListN.{length-set}
 use Rattle.levels.proofs.put_tops.Goals as goal
 
 pub overflow_cast-total : goal.overflow_cast-total
@@ -28,8 +28,8 @@ returns-then-total-k c =
 pub top_of-requires : goal.top_of-requires
 top_of-requires c =
     record {
-        of_tape = c.requires.of_tape;
-        k_bound = c.loop-k-test.true
+      of_tape = c.requires.of_tape;
+      k_bound = c.loop-k-test.true;
     }
 
 pub bounds-tops-k : goal.bounds-tops-k

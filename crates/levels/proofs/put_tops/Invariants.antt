@@ -1,8 +1,7 @@
-use mathlib.Core.Path.{◌≡◌, refl}
+use mathlib.Core.Path.{◌≡◌}
 use Prim.Native.Nat.{◌-◌, ◌≤◌}
-use native.Mathlib.Omega.{arith}
-use Rattle.levels.specs.Table.{Filled, segment_test, filled_none, filled_more, filled_all}
-use lib.ListN.{length, length-set}
+use Rattle.levels.specs.Table.{Filled, segment_test}
+use lib.ListN.{length}
 use Rattle.levels.proofs.put_tops.Given as goal
 
 abbrev pub invariant-loop-k : goal.invariant-loop-k

@@ -1,10 +1,9 @@
 use mathlib.Core.Path.{refl}
-use Prim.Native.Nat.{◌-◌, ◌≤◌}
+use Prim.Native.Nat.{◌-◌}
 use native.Mathlib.Omega.{arith}
-use borrow.Author.Tests.{not-true, not-false}
 use Rattle.levels.specs.Below.{level_in}
-use Rattle.wire.specs.Loops.{Passed, passed_none}
-use Rattle.records.specs.Runs.{test_at, run_failed, run_more, run_passed}
+use Rattle.wire.specs.Loops.{passed_none}
+use Rattle.records.specs.Runs.{run_failed, run_more, run_passed}
 use Rattle.model.specs.Tape.{segment_codec}
 use Rattle.levels.proofs.run_levels_ok.Goals as goal
 
@@ -23,8 +22,8 @@ overflow_add-at c =
 pub level_ok-requires : goal.level_ok-requires
 level_ok-requires c =
     record {
-        tables = c.requires.tables;
-        at_in_bounds = omega arith
+      tables = c.requires.tables;
+      at_in_bounds = omega arith;
     }
 
 pub returns-then-not-level_ok : goal.returns-then-not-level_ok

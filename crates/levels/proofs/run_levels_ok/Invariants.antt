@@ -1,10 +1,7 @@
-use mathlib.Core.Path.{refl}
 use Prim.Native.Nat.{◌-◌, ◌≤◌}
-use native.Mathlib.Omega.{arith}
-use borrow.Author.Tests.{not-true, not-false}
 use Rattle.levels.specs.Below.{level_in}
-use Rattle.wire.specs.Loops.{Passed, passed_none}
-use Rattle.records.specs.Runs.{test_at, run_failed, run_more, run_passed}
+use Rattle.wire.specs.Loops.{Passed}
+use Rattle.records.specs.Runs.{test_at}
 use Rattle.model.specs.Tape.{segment_codec}
 use Rattle.levels.proofs.run_levels_ok.Given as goal
 

@@ -1,11 +1,10 @@
 use mathlib.Core.Path.{refl, sym}
 use mathlib.Core.Bool.{true, false, false≢true}
-use Prim.Native.Nat.{◌-◌, ◌≤◌}
+use Prim.Native.Nat.{◌-◌}
 use native.Mathlib.Omega.{arith}
-use borrow.Author.Tests.{not-false}
 use Rattle.levels.specs.Below.{level_in}
-use Rattle.wire.specs.Loops.{Passed, passed_none}
-use Rattle.records.specs.Runs.{test_at, run_more, run_passed}
+use Rattle.wire.specs.Loops.{passed_none}
+use Rattle.records.specs.Runs.{run_more, run_passed}
 use Rattle.model.specs.Tape.{segment_codec}
 use Rattle.levels.proofs.run_levels_quick.Goals as goal
 
@@ -24,8 +23,8 @@ overflow_add-at c =
 pub level_quick-requires : goal.level_quick-requires
 level_quick-requires c =
     record {
-        of_tape = c.requires.of_tape;
-        at_in_bounds = omega arith
+      of_tape = c.requires.of_tape;
+      at_in_bounds = omega arith;
     }
 
 pub returns-then-not-level_quick : goal.returns-then-not-level_quick

@@ -1,5 +1,4 @@
 use native.Mathlib.Omega.{arith}
-use borrow.Author.Tests.{not-true, not-false}
 use Rattle.levels.specs.Below.{segments_out, segments_none, segments_read, segments_fit_lem}
 use Rattle.levels.specs.Table.{segments_said}
 use Rattle.levels.proofs.segments_below.Goals as goal
@@ -45,9 +44,9 @@ segments_walk-requires c =
     let fits = segments_fit_lem t st level from len start.requires.fit segments-in.ensures c.if-not-segments_in.false c.if-len-eq0.false _ c.segment_place-at.ensures in
     let said = segments_said t st level from len _ start.requires segments-in.ensures c.if-not-segments_in.false c.segment_place-at.ensures in
     record {
-        risen = start.requires.risen;
-        len_in_bounds = (fits, omega arith);
-        said = said
+      risen = start.requires.risen;
+      len_in_bounds = (fits, omega arith);
+      said = said;
     }
 
 pub returns : goal.returns

@@ -1,6 +1,5 @@
 use mathlib.Core.Path.{sym, ◌∙◌}
 use mathlib.Core.Bool.{true, false, false≢true}
-use borrow.Author.Tests.{not-false}
 use Rattle.levels.specs.Below.{segments_none, segments_read, segments_fit_lem}
 use Rattle.levels.proofs.segments_quick.Goals as goal
 

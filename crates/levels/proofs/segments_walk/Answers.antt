@@ -1,9 +1,9 @@
 use mathlib.Core.Path.{refl}
-use Prim.Native.Nat.{◌-◌, ◌≤◌}
+use Prim.Native.Nat.{◌-◌}
 use native.Mathlib.Omega.{arith}
 use Rattle.levels.specs.Table.{walk_more}
 use Rattle.level_blocks.specs.Level.{below}
-use Rattle.wire.specs.Loops.{Passed, passed_none}
+use Rattle.wire.specs.Loops.{passed_none}
 use Rattle.records.specs.Runs.{test_at, run_failed, run_passed}
 use Rattle.model.specs.Tape.{segment_codec}
 use Rattle.levels.proofs.segments_walk.Goals as goal
@@ -31,8 +31,8 @@ overflow_add-start-in-loop-k c =
 pub segment_step-r-requires : goal.segment_step-r-requires
 segment_step-r-requires c =
     record {
-        risen = c.requires.risen;
-        at_in_bounds = (omega (arith, c.requires.len_in_bounds), omega arith)
+      risen = c.requires.risen;
+      at_in_bounds = (omega (arith, c.requires.len_in_bounds), omega arith);
     }
 
 pub overflow_add-start-in-loop-k-2 : goal.overflow_add-start-in-loop-k-2

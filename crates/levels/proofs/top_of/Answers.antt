@@ -1,7 +1,7 @@
 use mathlib.Core.Path.{◌≡◌}
-use Prim.Native.Nat.{◌+◌, ◌-◌, ◌*◌, ◌≤◌}
+use Prim.Native.Nat.{◌+◌, ◌-◌, ◌*◌}
 use native.Mathlib.Omega.{arith}
-use Rattle.levels.specs.Table.{Block, segment_test, block_none, block_more, block_end}
+use Rattle.levels.specs.Table.{block_none, block_more, block_end}
 use Rattle.levels.proofs.top_of.Goals as goal
 
 pub overflow_cast-total : goal.overflow_cast-total
@@ -35,8 +35,8 @@ overflow_cast-i c =
 pub segment_bound-m-requires : goal.segment_bound-m-requires
 segment_bound-m-requires c =
     record {
-        of_tape = c.requires.of_tape;
-        i_lt_segments = c.if-total-i.false
+      of_tape = c.requires.of_tape;
+      i_lt_segments = c.if-total-i.false;
     }
 
 pub overflow_add-i : goal.overflow_add-i

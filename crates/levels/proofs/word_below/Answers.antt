@@ -1,6 +1,5 @@
 use mathlib.Core.Path.{ap₂, ◌∙◌}
 use Prim.Native.Nat.{ℕ}
-use borrow.Author.Rules.{rules}
 use Rattle.levels.specs.Below.{used_below}
 use Rattle.levels.proofs.word_below.Goals as goal
 

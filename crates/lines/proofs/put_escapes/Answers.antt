@@ -2,7 +2,7 @@ use lib.Seq.{take_all}
 use Rattle.lines.specs.Quoted.{escapes, escapes_none, escapes_more}
 use mathlib.Core.Path.{◌≡◌, refl, ap, ◌∙◌}
 use mathlib.Core.List.{List, ◌++◌}
-use Prim.Native.Nat.{ℕ, ◌+◌, ◌-◌, ◌*◌, ◌≤◌}
+use Prim.Native.Nat.{ℕ, ◌+◌, ◌-◌}
 use native.Mathlib.Omega.{arith}
 use lib.ListN.{length, take}
 use Rattle.lines.proofs.put_escapes.Goals as goal

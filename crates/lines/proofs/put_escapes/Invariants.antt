@@ -1,9 +1,7 @@
-use lib.Seq.{take_all}
-use Rattle.lines.specs.Quoted.{escapes, escapes_none, escapes_more}
-use mathlib.Core.Path.{◌≡◌, refl, ap, ◌∙◌}
-use mathlib.Core.List.{List, ◌++◌}
-use Prim.Native.Nat.{ℕ, ◌+◌, ◌-◌, ◌*◌, ◌≤◌}
-use native.Mathlib.Omega.{arith}
+use Rattle.lines.specs.Quoted.{escapes}
+use mathlib.Core.Path.{◌≡◌}
+use mathlib.Core.List.{◌++◌}
+use Prim.Native.Nat.{◌+◌, ◌-◌, ◌*◌, ◌≤◌}
 use lib.ListN.{length, take}
 use Rattle.lines.proofs.put_escapes.Given as goal
 

@@ -2,7 +2,6 @@ use lib.ListN.{take}
 use native.Mathlib.Omega.{arith}
 use Rattle.lines.specs.Decimal.{digits_few}
 use Rattle.lines.specs.Text.{put_number}
-use borrow.Author.Rules.{rules}
 use Rattle.lines.proofs.put_number.Goals as goal
 
 pub put_text-requires : goal.put_text-requires

@@ -1,7 +1,6 @@
 use Rattle.lines.specs.Quoted.{quoted_whole}
 use native.Mathlib.Omega.{arith}
 use lib.ListN.{take}
-use borrow.Author.Rules.{rules}
 use Rattle.lines.proofs.put_quoted.Goals as goal
 
 pub returns : goal.returns

@@ -1,6 +1,5 @@
 use Rattle.lines.specs.Text.{refused_line_lem}
 use native.Mathlib.Omega.{arith}
-use borrow.Author.Rules.{rules}
 use Rattle.lines.proofs.put_refused.Goals as goal
 
 pub returns : goal.returns

@@ -1,6 +1,5 @@
 use mathlib.Core.Path.{refl}
 use Rattle.lines.specs.Text.{put_text}
-use borrow.Author.Rules.{rules}
 use Rattle.lines.proofs.put_text.Goals as goal
 
 pub returns : goal.returns

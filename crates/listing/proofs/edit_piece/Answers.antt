@@ -1,6 +1,5 @@
 use Rattle.listing.specs.Pieces.{edit_start, edit_end, edit_part, edit_none}
 use mathlib.Core.Path.{◌∙◌}
-use borrow.Author.Rules.{rules}
 use Rattle.listing.proofs.edit_piece.Goals as goal
 
 pub returns-then-shows-eq8 : goal.returns-then-shows-eq8

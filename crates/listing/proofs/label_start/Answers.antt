@@ -1,6 +1,5 @@
 use Rattle.listing.specs.Coded.{start_none, start_read}
 use native.Mathlib.Omega.{arith}
-use borrow.Author.Rules.{rules}
 use Rattle.listing.proofs.label_start.Goals as goal
 
 pub returns-then-i-ge77 : goal.returns-then-i-ge77

@@ -2,7 +2,6 @@ use Rattle.listing.specs.Table.{sizes}
 use Rattle.listing.specs.Coded.{size_small}
 use Rattle.listing.specs.Walk.{number_few, next_none, next_read}
 use native.Mathlib.Omega.{arith}
-use borrow.Author.Rules.{rules}
 use Rattle.listing.proofs.next_line.Goals as goal
 
 pub returns-then-command-gt10 : goal.returns-then-command-gt10

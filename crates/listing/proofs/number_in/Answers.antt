@@ -1,6 +1,5 @@
 use Rattle.listing.specs.Walk.{number_none, number_read}
 use mathlib.Core.Path.{refl}
-use borrow.Author.Rules.{rules}
 use Rattle.listing.proofs.number_in.Goals as goal
 
 pub returns-then-command-gt10 : goal.returns-then-command-gt10

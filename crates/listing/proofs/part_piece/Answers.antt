@@ -1,6 +1,5 @@
 use Rattle.listing.specs.Pieces.{part_before, part_region, part_behind, part_all}
 use mathlib.Core.Path.{refl}
-use borrow.Author.Rules.{rules}
 use Rattle.listing.proofs.part_piece.Goals as goal
 
 pub returns-then-k-eq0 : goal.returns-then-k-eq0

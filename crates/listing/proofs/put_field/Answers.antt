@@ -1,6 +1,5 @@
 use Rattle.listing.specs.Lines.{field_put}
 use lib.ListN.{take}
-use borrow.Author.Rules.{rules}
 use Rattle.listing.proofs.put_field.Goals as goal
 
 pub returns : goal.returns

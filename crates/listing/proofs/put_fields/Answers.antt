@@ -1,8 +1,7 @@
-use Rattle.listing.specs.Lines.{fields_from, fields_none, fields_more}
+use Rattle.listing.specs.Lines.{fields_none, fields_more}
 use mathlib.Core.Path.{◌≡◌, refl}
-use Prim.Native.Nat.{◌-◌, ◌*◌, ◌≤◌}
+use Prim.Native.Nat.{◌-◌}
 use native.Mathlib.Omega.{arith}
-use lib.ListN.{length, take}
 use Rattle.listing.proofs.put_fields.Goals as goal
 
 pub loop-f-init : goal.loop-f-init
@@ -12,9 +11,9 @@ loop-f-init c =
 pub put_field-at-requires : goal.put_field-at-requires
 put_field-at-requires c =
     record {
-        at_in_bounds = (omega (arith, c.requires.in_bounds.0, c.requires.in_bounds.4), c.requires.in_bounds.1, omega (arith, c.requires.in_bounds.3));
-        text_value = c.requires.text_value;
-        printable = c.requires.printable
+      at_in_bounds = (omega (arith, c.requires.in_bounds.0, c.requires.in_bounds.4), c.requires.in_bounds.1, omega (arith, c.requires.in_bounds.3));
+      text_value = c.requires.text_value;
+      printable = c.requires.printable;
     }
 
 pub overflow_add-f : goal.overflow_add-f

@@ -1,7 +1,6 @@
-use Rattle.listing.specs.Lines.{fields_from, fields_none, fields_more}
-use mathlib.Core.Path.{◌≡◌, refl}
+use Rattle.listing.specs.Lines.{fields_from}
+use mathlib.Core.Path.{◌≡◌}
 use Prim.Native.Nat.{◌-◌, ◌*◌, ◌≤◌}
-use native.Mathlib.Omega.{arith}
 use lib.ListN.{length, take}
 use Rattle.listing.proofs.put_fields.Given as goal
 

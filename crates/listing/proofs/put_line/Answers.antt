@@ -1,6 +1,5 @@
 use Rattle.listing.specs.Lines.{row_small, row_fields, line_put}
 use native.Mathlib.Omega.{arith}
-use borrow.Author.Rules.{rules}
 use Rattle.listing.proofs.put_line.Goals as goal
 
 pub row_start-from-requires : goal.row_start-from-requires
@@ -18,9 +17,9 @@ row_start-to-requires c =
 pub put_fields-end-requires : goal.put_fields-end-requires
 put_fields-end-requires c =
     record {
-        in_bounds = (c.requires.in_bounds.0, c.requires.in_bounds.1, (row_fields c.args.tape.now c.args.m.edit c.args.c.at c.row_of-row.ensures c.row_start-from.ensures c.row_start-to.ensures).0, (row_fields c.args.tape.now c.args.m.edit c.args.c.at c.row_of-row.ensures c.row_start-from.ensures c.row_start-to.ensures).1, (row_fields c.args.tape.now c.args.m.edit c.args.c.at c.row_of-row.ensures c.row_start-from.ensures c.row_start-to.ensures).2);
-        text_value = c.requires.text_value;
-        printable = c.requires.printable
+      in_bounds = (c.requires.in_bounds.0, c.requires.in_bounds.1, (row_fields c.args.tape.now c.args.m.edit c.args.c.at c.row_of-row.ensures c.row_start-from.ensures c.row_start-to.ensures).0, (row_fields c.args.tape.now c.args.m.edit c.args.c.at c.row_of-row.ensures c.row_start-from.ensures c.row_start-to.ensures).1, (row_fields c.args.tape.now c.args.m.edit c.args.c.at c.row_of-row.ensures c.row_start-from.ensures c.row_start-to.ensures).2);
+      text_value = c.requires.text_value;
+      printable = c.requires.printable;
     }
 
 pub returns : goal.returns

@@ -1,7 +1,6 @@
 use Rattle.listing.specs.Lines.{item_put}
 use native.Mathlib.Omega.{arith}
 use lib.ListN.{take}
-use borrow.Author.Rules.{rules}
 use Rattle.listing.proofs.put_piece.Goals as goal
 
 pub returns : goal.returns

@@ -4,7 +4,6 @@ use mathlib.Core.Path.{refl}
 use Prim.Native.Nat.{◌-◌}
 use native.Mathlib.Omega.{arith}
 use lib.ListN.{take}
-use borrow.Author.Rules.{rules}
 use Rattle.listing.proofs.put_value.Goals as goal
 
 pub returns-then-x-eq1 : goal.returns-then-x-eq1

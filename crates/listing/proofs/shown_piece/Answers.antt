@@ -1,7 +1,6 @@
 use Rattle.listing.specs.Pieces.{shown_ordinal, shown_own, shown_byte, shown_word, shown_name, shown_string, shown_body, shown_edit}
 use mathlib.Core.Path.{refl, ◌∙◌}
 use native.Mathlib.Omega.{arith}
-use borrow.Author.Rules.{rules}
 use Rattle.listing.proofs.shown_piece.Goals as goal
 
 pub returns-then-shows-eq1 : goal.returns-then-shows-eq1

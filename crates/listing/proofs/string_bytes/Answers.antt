@@ -3,15 +3,14 @@ use Rattle.lookup.specs.Strings.{str_inside}
 use Rattle.listing.specs.Strings.{printable_readable, string_there}
 use mathlib.Core.Path.{refl, ◌∙◌}
 use native.Mathlib.Omega.{arith}
-use borrow.Author.Rules.{rules}
 use Rattle.listing.proofs.string_bytes.Goals as goal
 
 pub start_from-requires : goal.start_from-requires
 start_from-requires c =
     record {
-        readable = (printable_readable c.requires.printable);
-        between = record { order = omega arith; inside = omega (arith, c.requires.id_lt_strings) };
-        start_value = refl
+      readable = (printable_readable c.requires.printable);
+      between = record { order = omega arith; inside = omega (arith, c.requires.id_lt_strings) };
+      start_value = refl;
     }
 
 pub overflow_add-start : goal.overflow_add-start
@@ -21,8 +20,8 @@ overflow_add-start c =
 pub string_length-len-requires : goal.string_length-len-requires
 string_length-len-requires c =
     record {
-        of_tape = (printable_readable c.requires.printable).store;
-        id_lt_strings = c.requires.id_lt_strings
+      of_tape = (printable_readable c.requires.printable).store;
+      id_lt_strings = c.requires.id_lt_strings;
     }
 
 pub overflow_add-start-2 : goal.overflow_add-start-2

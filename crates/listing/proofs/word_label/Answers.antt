@@ -1,6 +1,5 @@
 use Rattle.listing.specs.Coded.{word_none, word_coded}
 use native.Mathlib.Omega.{arith}
-use borrow.Author.Rules.{rules}
 use Rattle.listing.proofs.word_label.Goals as goal
 
 pub returns-then-kind-ge16 : goal.returns-then-kind-ge16

@@ -1,7 +1,6 @@
 use Rattle.listing.specs.Pieces.{word_unused, word_string, word_range}
 use mathlib.Core.Path.{sym, ◌∙◌}
 use native.Mathlib.Omega.{arith}
-use borrow.Author.Rules.{rules}
 use Rattle.listing.proofs.word_piece.Goals as goal
 
 pub returns-then-used-eq0 : goal.returns-then-used-eq0

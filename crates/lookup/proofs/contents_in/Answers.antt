@@ -1,6 +1,4 @@
-use borrow.Author.Tests.{not-true, not-false}
 use Rattle.lookup.specs.Ranges.{range_none, range_there}
-use borrow.Author.Rules.{rules}
 use Rattle.lookup.proofs.contents_in.Goals as goal
 
 pub returns-then-not-range_ok : goal.returns-then-not-range_ok

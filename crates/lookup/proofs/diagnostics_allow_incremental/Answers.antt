@@ -1,6 +1,5 @@
 use Rattle.tape.specs.Placed.{fit_diagnostics}
 use Rattle.lookup.specs.Asked.{asked, asked_places, allowed_refused, allowed_yes, allowed_no}
-use borrow.Author.Rules.{rules}
 use Rattle.lookup.proofs.diagnostics_allow_incremental.Goals as goal
 
 pub returns-then-n-ne0 : goal.returns-then-n-ne0

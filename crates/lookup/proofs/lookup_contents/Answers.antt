@@ -1,6 +1,5 @@
 use Rattle.lookup.specs.Ranges.{asked_store, asked_few, range_refused, contents_both, contents_said}
 use Rattle.lookup.specs.Asked.{asked}
-use borrow.Author.Rules.{rules}
 use Rattle.lookup.proofs.lookup_contents.Goals as goal
 
 pub returns-then-n-ne0 : goal.returns-then-n-ne0

@@ -16,8 +16,8 @@ store_of-st-requires c =
 pub str_in-requires : goal.str_in-requires
 str_in-requires c =
     record {
-        readable = asked_readable (asked _ _ c.check_book-n.ensures c.if-n-ne0.false c.places_of-p.ensures) c.store_of-st.ensures (search rules);
-        from_bound = search rules
+      readable = asked_readable (asked _ _ c.check_book-n.ensures c.if-n-ne0.false c.places_of-p.ensures) c.store_of-st.ensures (search rules);
+      from_bound = search rules;
     }
 
 pub returns : goal.returns

@@ -1,6 +1,5 @@
 use native.Mathlib.Omega.{arith}
 use Rattle.lookup.specs.Strings.{str_none, str_inside, str_there}
-use borrow.Author.Rules.{rules}
 use Rattle.lookup.proofs.str_in.Goals as goal
 
 pub returns-then-st-id : goal.returns-then-st-id

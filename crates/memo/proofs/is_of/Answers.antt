@@ -1,6 +1,5 @@
 use mathlib.Core.Path.{refl, sym, ◌∙◌}
 use Rattle.memo.specs.Memo.{is_short_lem, is_elsewhere, is_told}
-use borrow.Author.Rules.{rules}
 use Rattle.memo.proofs.is_of.Goals as goal
 
 pub returns-then-memo-e : goal.returns-then-memo-e

@@ -1,7 +1,6 @@
 use native.Mathlib.Omega.{arith}
 use lib.ListN.{length-set}
 use Rattle.memo.specs.Memo.{put_none, put_there}
-use borrow.Author.Rules.{rules}
 use Rattle.memo.proofs.put.Goals as goal
 
 pub returns-then-memo-e : goal.returns-then-memo-e

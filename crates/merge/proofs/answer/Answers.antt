@@ -1,7 +1,6 @@
 use mathlib.Core.Path.{ap, sym, ◌∙◌}
 use Rattle.output.specs.Answer.{output_of}
 use Rattle.runs.specs.Input.{input_refused, input_asks, input_whole}
-use borrow.Author.Rules.{rules}
 use Rattle.merge.proofs.answer.Goals as goal
 
 pub returns-then-n-ne0 : goal.returns-then-n-ne0

@@ -1,5 +1,4 @@
 use Rattle.runs.specs.Input.{asked_answer}
-use borrow.Author.Rules.{rules}
 use Rattle.merge.proofs.merge_parts.Goals as goal
 
 pub returns : goal.returns

@@ -1,5 +1,4 @@
 use Rattle.runs.specs.Line.{program_line}
-use borrow.Author.Rules.{rules}
 use Rattle.merge.proofs.run.Goals as goal
 
 pub returns : goal.returns

@@ -1,7 +1,6 @@
 use Rattle.merged_lists.specs.Sizes.{lists_end}
 use Prim.Native.Nat.{◌-◌}
 use native.Mathlib.Omega.{arith}
-use borrow.Author.Rules.{rules}
 use Rattle.merged_lists.proofs.lists_end.Goals as goal
 
 pub returns : goal.returns

@@ -1,7 +1,5 @@
-use borrow.Author.Tests.{not-true, not-false}
 use Rattle.merged_lists.specs.Sizes.{lists_nodes, lists_pairs, lists_containers, lists_all}
 use Prim.Native.Nat.{◌-◌}
-use borrow.Author.Rules.{rules}
 use Rattle.merged_lists.proofs.lists_fit.Goals as goal
 
 pub returns-then-not-list_fits : goal.returns-then-not-list_fits

@@ -4,14 +4,13 @@ use Rattle.splice.specs.Window.{window_value}
 use Rattle.merged_lists.specs.Widths.{diagnostics_width}
 use Rattle.merged_lists.specs.Lists.{parts_written, total_is, sorted_wrote, diagnostics_there}
 use native.Mathlib.Omega.{arith}
-use borrow.Author.Rules.{rules}
 use Rattle.merged_lists.proofs.put_diagnostics.Goals as goal
 
 pub put_before_diagnostics-requires : goal.put_before_diagnostics-requires
 put_before_diagnostics-requires c =
     record {
-        count_in_bounds = c.requires.count_in_bounds.0;
-        count_in_bounds_2 = omega (arith, c.requires.before_value.0, c.requires.before_value.1, c.requires.all_in_bounds)
+      count_in_bounds = c.requires.count_in_bounds.0;
+      count_in_bounds_2 = omega (arith, c.requires.before_value.0, c.requires.before_value.1, c.requires.all_in_bounds);
     }
 
 pub overflow_mul-before : goal.overflow_mul-before
@@ -45,8 +44,8 @@ overflow_add-to-3 c =
 pub put_behind_diagnostics-requires : goal.put_behind_diagnostics-requires
 put_behind_diagnostics-requires c =
     record {
-        count_in_bounds = c.requires.count_in_bounds.0;
-        count_in_bounds_2 = omega (arith, c.requires.before_value.0, c.requires.before_value.1, c.requires.all_in_bounds, c.put_before_diagnostics.auto.out, c.put_placed_diagnostics.auto.out)
+      count_in_bounds = c.requires.count_in_bounds.0;
+      count_in_bounds_2 = omega (arith, c.requires.before_value.0, c.requires.before_value.1, c.requires.all_in_bounds, c.put_before_diagnostics.auto.out, c.put_placed_diagnostics.auto.out);
     }
 
 pub sort_diagnostics-requires : goal.sort_diagnostics-requires

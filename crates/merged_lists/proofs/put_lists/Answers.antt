@@ -2,7 +2,6 @@ use Rattle.merged_lists.specs.Lists.{lists_room, kept_is, lists_runs, lists_wrot
 use mathlib.Core.Path.{refl}
 use Prim.Native.Nat.{◌-◌}
 use native.Mathlib.Omega.{arith}
-use borrow.Author.Rules.{rules}
 use Rattle.merged_lists.proofs.put_lists.Goals as goal
 
 pub overflow_add-pairsat : goal.overflow_add-pairsat
@@ -20,34 +19,34 @@ overflow_add-diagnosticsat c =
 pub put_nodes-requires : goal.put_nodes-requires
 put_nodes-requires c =
     let r = lists_room c.requires in let i = kept_is c.requires in record {
-        count_in_bounds = (lists_runs c.requires).0;
-        before_value = i.nodes_before;
-        reading_in_bounds = omega (arith, r, i.nodes_before, i.nodes_behind)
+      count_in_bounds = (lists_runs c.requires).0;
+      before_value = i.nodes_before;
+      reading_in_bounds = omega (arith, r, i.nodes_before, i.nodes_behind);
     }
 
 pub put_pairs-requires : goal.put_pairs-requires
 put_pairs-requires c =
     let r = lists_room c.requires in let i = kept_is c.requires in record {
-        count_in_bounds = (lists_runs c.requires).1;
-        before_value = i.pairs_before;
-        count_in_bounds_2 = omega (arith, r, i.pairs_before, i.pairs_behind, c.total.ensures, c.total-2.ensures, c.total-3.ensures, c.total-count.ensures, c.put_nodes.auto.out)
+      count_in_bounds = (lists_runs c.requires).1;
+      before_value = i.pairs_before;
+      count_in_bounds_2 = omega (arith, r, i.pairs_before, i.pairs_behind, c.total.ensures, c.total-2.ensures, c.total-3.ensures, c.total-count.ensures, c.put_nodes.auto.out);
     }
 
 pub put_containers-requires : goal.put_containers-requires
 put_containers-requires c =
     let r = lists_room c.requires in let i = kept_is c.requires in record {
-        count_in_bounds = (lists_runs c.requires).2;
-        before_value = i.containers_before;
-        count_in_bounds_2 = omega (arith, r, i.containers_before, i.containers_behind, c.total.ensures, c.total-2.ensures, c.total-3.ensures, c.total-count.ensures, c.put_nodes.auto.out, c.put_pairs.auto.out)
+      count_in_bounds = (lists_runs c.requires).2;
+      before_value = i.containers_before;
+      count_in_bounds_2 = omega (arith, r, i.containers_before, i.containers_behind, c.total.ensures, c.total-2.ensures, c.total-3.ensures, c.total-count.ensures, c.put_nodes.auto.out, c.put_pairs.auto.out);
     }
 
 pub put_diagnostics-requires : goal.put_diagnostics-requires
 put_diagnostics-requires c =
     let r = lists_room c.requires in let i = kept_is c.requires in record {
-        count_in_bounds = (lists_runs c.requires).3;
-        before_value = (i.diagnostics_before, omega (arith, i.diagnostics_before, i.diagnostics_behind, c.total-count.ensures));
-        all_in_bounds = omega (arith, r, c.total.ensures, c.total-2.ensures, c.total-3.ensures, c.total-count.ensures, c.put_nodes.auto.out, c.put_pairs.auto.out, c.put_containers.auto.out);
-        count_value = c.requires.diagnostics
+      count_in_bounds = (lists_runs c.requires).3;
+      before_value = (i.diagnostics_before, omega (arith, i.diagnostics_before, i.diagnostics_behind, c.total-count.ensures));
+      all_in_bounds = omega (arith, r, c.total.ensures, c.total-2.ensures, c.total-3.ensures, c.total-count.ensures, c.put_nodes.auto.out, c.put_pairs.auto.out, c.put_containers.auto.out);
+      count_value = c.requires.diagnostics;
     }
 
 pub overflow_add-diagnosticsat-2 : goal.overflow_add-diagnosticsat-2

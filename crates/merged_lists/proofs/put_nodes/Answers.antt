@@ -4,7 +4,6 @@ use Rattle.records.specs.Runs.{run_length}
 use Rattle.merged_lists.specs.Widths.{nodes_six}
 use Rattle.merged_lists.specs.Lists.{nodes_wrote}
 use native.Mathlib.Omega.{arith}
-use borrow.Author.Rules.{rules}
 use Rattle.merged_lists.proofs.put_nodes.Goals as goal
 
 pub overflow_mul-reading : goal.overflow_mul-reading
@@ -22,8 +21,8 @@ move_up-requires c =
 pub put_before_nodes-requires : goal.put_before_nodes-requires
 put_before_nodes-requires c =
     record {
-        count_in_bounds = c.requires.count_in_bounds;
-        count_in_bounds_2 = omega (arith, c.requires.before_value, c.requires.reading_in_bounds, c.move_up.auto.out)
+      count_in_bounds = c.requires.count_in_bounds;
+      count_in_bounds_2 = omega (arith, c.requires.before_value, c.requires.reading_in_bounds, c.move_up.auto.out);
     }
 
 pub overflow_mul-before-2 : goal.overflow_mul-before-2
@@ -57,8 +56,8 @@ overflow_add-to-3 c =
 pub put_behind_nodes-requires : goal.put_behind_nodes-requires
 put_behind_nodes-requires c =
     record {
-        count_in_bounds = c.requires.count_in_bounds;
-        count_in_bounds_2 = omega (arith, c.requires.before_value, c.requires.reading_in_bounds, c.move_up.auto.out, c.put_before_nodes.auto.out, c.place_nodes.auto.out)
+      count_in_bounds = c.requires.count_in_bounds;
+      count_in_bounds_2 = omega (arith, c.requires.before_value, c.requires.reading_in_bounds, c.move_up.auto.out, c.put_before_nodes.auto.out, c.place_nodes.auto.out);
     }
 
 pub returns : goal.returns

@@ -4,14 +4,13 @@ use Rattle.splice.specs.Window.{window_value}
 use Rattle.merged_lists.specs.Widths.{pairs_width}
 use Rattle.merged_lists.specs.Lists.{parts_written}
 use native.Mathlib.Omega.{arith}
-use borrow.Author.Rules.{rules}
 use Rattle.merged_lists.proofs.put_pairs.Goals as goal
 
 pub put_before_pairs-requires : goal.put_before_pairs-requires
 put_before_pairs-requires c =
     record {
-        count_in_bounds = c.requires.count_in_bounds.0;
-        count_in_bounds_2 = omega (arith, c.requires.before_value, c.requires.count_in_bounds_2)
+      count_in_bounds = c.requires.count_in_bounds.0;
+      count_in_bounds_2 = omega (arith, c.requires.before_value, c.requires.count_in_bounds_2);
     }
 
 pub overflow_mul-before : goal.overflow_mul-before
@@ -45,8 +44,8 @@ overflow_add-to-3 c =
 pub put_behind_pairs-requires : goal.put_behind_pairs-requires
 put_behind_pairs-requires c =
     record {
-        count_in_bounds = c.requires.count_in_bounds.0;
-        count_in_bounds_2 = omega (arith, c.requires.before_value, c.requires.count_in_bounds_2, c.put_before_pairs.auto.out, c.put_placed_pairs.auto.out)
+      count_in_bounds = c.requires.count_in_bounds.0;
+      count_in_bounds_2 = omega (arith, c.requires.before_value, c.requires.count_in_bounds_2, c.put_before_pairs.auto.out, c.put_placed_pairs.auto.out);
     }
 
 pub returns : goal.returns

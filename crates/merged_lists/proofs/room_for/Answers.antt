@@ -1,7 +1,6 @@
 use Rattle.merged_lists.specs.Sizes.{no_work, no_normalized, no_base, no_head, room_lists}
 use Prim.Native.Nat.{◌-◌}
 use native.Mathlib.Omega.{arith}
-use borrow.Author.Rules.{rules}
 use Rattle.merged_lists.proofs.room_for.Goals as goal
 
 pub returns-then-work-lt-MIN_WORK_WORDS : goal.returns-then-work-lt-MIN_WORK_WORDS

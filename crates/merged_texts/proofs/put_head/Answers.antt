@@ -3,7 +3,6 @@ use Rattle.merged_texts.specs.Writing.{head_wrote}
 use Prim.Native.Nat.{◌-◌}
 use native.Mathlib.Omega.{arith}
 use lib.ListN.{drop, length-drop}
-use borrow.Author.Rules.{rules}
 use Rattle.merged_texts.proofs.put_head.Goals as goal
 
 pub returns : goal.returns

@@ -1,6 +1,5 @@
 use Rattle.merged_texts.specs.Writing.{splice_wrote}
 use Prim.Native.Nat.{◌-◌}
-use borrow.Author.Rules.{rules}
 use Rattle.merged_texts.proofs.put_spliced.Goals as goal
 
 pub returns : goal.returns

@@ -1,7 +1,6 @@
 use Rattle.merged_texts.specs.Writing.{spliced_length, texts_wrote}
 use mathlib.Core.Path.{sym}
 use Prim.Native.Nat.{◌-◌}
-use borrow.Author.Rules.{rules}
 use Rattle.merged_texts.proofs.put_texts.Goals as goal
 
 pub returns : goal.returns

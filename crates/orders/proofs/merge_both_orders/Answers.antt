@@ -1,7 +1,6 @@
 use mathlib.Core.Path.{refl}
 use native.Mathlib.Omega.{arith}
 use Rattle.orders.specs.Orders.{moved_correction, both_orders}
-use borrow.Author.Rules.{rules}
 use Rattle.orders.proofs.merge_both_orders.Goals as goal
 
 pub shape_of-tape1 : goal.shape_of-tape1

@@ -1,6 +1,5 @@
 use mathlib.Core.Path.{refl}
 use Rattle.orders.specs.Orders.{tape_head, bytes_head, in_order}
-use borrow.Author.Rules.{rules}
 use Rattle.orders.proofs.merge_in_order.Goals as goal
 
 pub slice_bounds-merge-end : goal.slice_bounds-merge-end

@@ -1,5 +1,4 @@
 use Rattle.orders.specs.Moved.{moved_same, moved_gone, moved_left}
-use borrow.Author.Rules.{rules}
 use Rattle.orders.proofs.moved.Goals as goal
 
 pub returns-then-end-start : goal.returns-then-end-start

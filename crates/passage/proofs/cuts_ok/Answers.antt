@@ -1,6 +1,4 @@
 use Rattle.passage.specs.Window.{ends_start, ends_end}
-use borrow.Author.Tests.{not-true, not-false}
-use borrow.Author.Rules.{rules}
 use Rattle.passage.proofs.cuts_ok.Goals as goal
 
 pub returns-then-not-is_char_boundary : goal.returns-then-not-is_char_boundary

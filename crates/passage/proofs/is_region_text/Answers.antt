@@ -1,8 +1,6 @@
 use Rattle.passage.specs.Text.{text_length_lem, text_first, text_second, text_third}
-use borrow.Author.Tests.{not-true, not-false}
 use mathlib.Core.Path.{refl}
 use native.Mathlib.Omega.{arith}
-use borrow.Author.Rules.{rules}
 use Rattle.passage.proofs.is_region_text.Goals as goal
 
 pub returns-then-reading-start : goal.returns-then-reading-start

@@ -1,8 +1,7 @@
-use Rattle.places.specs.Found.{Walked, walked_none, walked_more, walked_all, walked_rises, two_inside}
+use Rattle.places.specs.Found.{walked_none, walked_more, walked_all, walked_rises, two_inside}
 use mathlib.Core.Path.{sym, ◌∙◌}
 use Prim.Native.Nat.{◌-◌}
 use native.Mathlib.Omega.{arith}
-use lib.ListN.{length}
 use Rattle.places.proofs.all_layers.Goals as goal
 
 pub loop-s-init : goal.loop-s-init
@@ -16,8 +15,8 @@ byte_at-requires c =
 pub with_layer-s-requires : goal.with_layer-s-requires
 with_layer-s-requires c =
     record {
-        small = c.loop-s.invariant.small;
-        end_in_bounds = ((two_inside c.args.tape.now c.loop-s.s.end (sym c.byte_at.ensures ∙ c.loop-s-test.true)), c.requires)
+      small = c.loop-s.invariant.small;
+      end_in_bounds = ((two_inside c.args.tape.now c.loop-s.s.end (sym c.byte_at.ensures ∙ c.loop-s-test.true)), c.requires);
     }
 
 pub loop-s-smaller : goal.loop-s-smaller

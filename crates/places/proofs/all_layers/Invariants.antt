@@ -1,7 +1,5 @@
-use Rattle.places.specs.Found.{Walked, walked_none, walked_more, walked_all, walked_rises, two_inside}
-use mathlib.Core.Path.{sym, ◌∙◌}
+use Rattle.places.specs.Found.{Walked}
 use Prim.Native.Nat.{◌-◌}
-use native.Mathlib.Omega.{arith}
 use lib.ListN.{length}
 use Rattle.places.proofs.all_layers.Given as goal
 

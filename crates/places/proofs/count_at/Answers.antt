@@ -1,7 +1,6 @@
-use Rattle.places.specs.Runs.{Counted, counted_more, counted_other, counted_past}
+use Rattle.places.specs.Runs.{counted_more, counted_other, counted_past}
 use Prim.Native.Nat.{◌-◌}
 use native.Mathlib.Omega.{arith}
-use lib.ListN.{length}
 use Rattle.places.proofs.count_at.Goals as goal
 
 pub eights_at-n-requires : goal.eights_at-n-requires

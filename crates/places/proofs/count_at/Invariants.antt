@@ -1,6 +1,5 @@
-use Rattle.places.specs.Runs.{Counted, counted_more, counted_other, counted_past}
+use Rattle.places.specs.Runs.{Counted}
 use Prim.Native.Nat.{◌-◌}
-use native.Mathlib.Omega.{arith}
 use lib.ListN.{length}
 use Rattle.places.proofs.count_at.Given as goal
 

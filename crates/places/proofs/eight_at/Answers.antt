@@ -1,6 +1,5 @@
 use mathlib.Core.Path.{refl}
 use Rattle.places.specs.Runs.{eight_at}
-use borrow.Author.Rules.{rules}
 use Rattle.places.proofs.eight_at.Goals as goal
 
 pub returns : goal.returns

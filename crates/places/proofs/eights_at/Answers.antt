@@ -1,9 +1,7 @@
-use Rattle.places.specs.Runs.{Eights, eights_none, eights_more, eights_done}
+use Rattle.places.specs.Runs.{eights_none, eights_more, eights_done}
 use mathlib.Core.Path.{sym, ◌∙◌}
 use Prim.Native.Nat.{◌-◌}
 use native.Mathlib.Omega.{arith}
-use lib.ListN.{length}
-use borrow.Author.Tests.{not-false}
 use Rattle.places.proofs.eights_at.Goals as goal
 
 pub returns-then-tape-at : goal.returns-then-tape-at

@@ -1,9 +1,6 @@
-use Rattle.places.specs.Runs.{Eights, eights_none, eights_more, eights_done}
-use mathlib.Core.Path.{sym, ◌∙◌}
+use Rattle.places.specs.Runs.{Eights}
 use Prim.Native.Nat.{◌-◌}
-use native.Mathlib.Omega.{arith}
 use lib.ListN.{length}
-use borrow.Author.Tests.{not-false}
 use Rattle.places.proofs.eights_at.Given as goal
 
 abbrev pub invariant-loop-place : goal.invariant-loop-place

@@ -1,5 +1,4 @@
 use Rattle.places.specs.Found.{frame_head, frame_tail, frame_behind, frame_layers, frame_bytes}
-use borrow.Author.Rules.{rules}
 use Rattle.places.proofs.frame_holds.Goals as goal
 
 pub returns-then-byte_at-ne1 : goal.returns-then-byte_at-ne1

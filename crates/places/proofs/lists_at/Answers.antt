@@ -3,7 +3,6 @@ use Rattle.places.specs.Found.{list_runs}
 use Rattle.places.specs.Ends.{nodes_end, pairs_end, containers_end, diagnostics_end}
 use mathlib.Core.Path.{refl}
 use native.Mathlib.Omega.{arith}
-use borrow.Author.Rules.{rules}
 use Rattle.places.proofs.lists_at.Goals as goal
 
 pub overflow_mul-pairs_at : goal.overflow_mul-pairs_at

@@ -2,7 +2,6 @@ use Rattle.model.specs.Tape.{layer_places, count_at, string_codec, content_codec
 use Rattle.places.specs.Ends.{strings_end_lem, contents_end, segments_end}
 use mathlib.Core.Path.{refl}
 use native.Mathlib.Omega.{arith}
-use borrow.Author.Rules.{rules}
 use Rattle.places.proofs.next_layer.Goals as goal
 
 pub overflow_mul-contents_at : goal.overflow_mul-contents_at

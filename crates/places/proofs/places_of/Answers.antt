@@ -1,7 +1,6 @@
 use Rattle.places.specs.Found.{walk_near, walk_bytes, walk_lists, walk_found, walk_fault}
 use mathlib.Core.Path.{sym, ◌∙◌}
 use native.Mathlib.Omega.{arith}
-use borrow.Author.Rules.{rules}
 use Rattle.places.proofs.places_of.Goals as goal
 
 pub lists_at-l-requires : goal.lists_at-l-requires

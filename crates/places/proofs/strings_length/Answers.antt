@@ -1,7 +1,7 @@
 use Rattle.wire.specs.Loops.{sum_to, sum_more}
 use Rattle.places.specs.Runs.{length_at, lengths_over, lengths_in_lem}
-use mathlib.Core.Path.{◌≡◌, refl}
-use Prim.Native.Nat.{◌-◌, ◌≤◌}
+use mathlib.Core.Path.{refl}
+use Prim.Native.Nat.{◌-◌}
 use native.Mathlib.Omega.{arith}
 use Rattle.places.proofs.strings_length.Goals as goal
 

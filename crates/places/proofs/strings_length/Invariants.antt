@@ -1,8 +1,7 @@
-use Rattle.wire.specs.Loops.{sum_to, sum_more}
-use Rattle.places.specs.Runs.{length_at, lengths_over, lengths_in_lem}
-use mathlib.Core.Path.{◌≡◌, refl}
+use Rattle.wire.specs.Loops.{sum_to}
+use Rattle.places.specs.Runs.{length_at}
+use mathlib.Core.Path.{◌≡◌}
 use Prim.Native.Nat.{◌-◌, ◌≤◌}
-use native.Mathlib.Omega.{arith}
 use Rattle.places.proofs.strings_length.Given as goal
 
 abbrev pub invariant-loop-i : goal.invariant-loop-i

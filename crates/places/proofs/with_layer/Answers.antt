@@ -1,6 +1,5 @@
 use Rattle.places.specs.Found.{layer_small, layer_added}
 use native.Mathlib.Omega.{arith}
-use borrow.Author.Rules.{rules}
 use Rattle.places.proofs.with_layer.Goals as goal
 
 pub strings_length-bytes-requires : goal.strings_length-bytes-requires

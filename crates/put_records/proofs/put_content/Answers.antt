@@ -4,7 +4,6 @@ use Rattle.put_records.specs.Written.{content_written, length_word}
 use mathlib.Core.List.{[], ◌∷◌}
 use Prim.Native.Nat.{◌+◌}
 use native.Mathlib.Omega.{arith}
-use borrow.Author.Rules.{rules}
 use Rattle.put_records.proofs.put_content.Goals as goal
 
 pub returns : goal.returns

@@ -2,7 +2,6 @@ use Rattle.wire.specs.Overwrite.{Wrote, wrote_next}
 use mathlib.Core.List.{[], ◌∷◌}
 use Prim.Native.Nat.{◌+◌}
 use native.Mathlib.Omega.{arith}
-use borrow.Author.Rules.{rules}
 use Rattle.put_records.proofs.put_head.Goals as goal
 
 pub returns : goal.returns

@@ -5,7 +5,6 @@ use Rattle.wire.specs.Overwrite.{Wrote, wrote_next}
 use Rattle.put_records.specs.Written.{node_written, node_head, length_node_head, words_bytes, length_words, length_word}
 use mathlib.Core.List.{[], ◌∷◌}
 use lib.ListN.{length-append}
-use borrow.Author.Rules.{rules}
 use Rattle.put_records.proofs.put_node.Goals as goal
 
 pub returns : goal.returns

@@ -4,7 +4,6 @@ use Rattle.put_records.specs.Written.{words_written, length_word}
 use Prim.Native.Nat.{◌+◌}
 use native.Mathlib.Omega.{arith}
 use lib.ListN.{get_or, length-append}
-use borrow.Author.Rules.{rules}
 use Rattle.put_records.proofs.put_words.Goals as goal
 
 pub returns : goal.returns

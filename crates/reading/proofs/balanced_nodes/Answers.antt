@@ -1,5 +1,4 @@
-use borrow.Author.Rules.{rules}
-use Rattle.reading.specs.Balance.{Balanced, balanced_none, balanced_fails, balanced_more, balanced_done}
+use Rattle.reading.specs.Balance.{balanced_none, balanced_fails, balanced_more, balanced_done}
 use Prim.Native.Nat.{◌-◌}
 use native.Mathlib.Omega.{arith}
 use Rattle.reading.proofs.balanced_nodes.Goals as goal

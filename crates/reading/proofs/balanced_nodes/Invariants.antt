@@ -1,7 +1,5 @@
-use borrow.Author.Rules.{rules}
-use Rattle.reading.specs.Balance.{Balanced, balanced_none, balanced_fails, balanced_more, balanced_done}
+use Rattle.reading.specs.Balance.{Balanced}
 use Prim.Native.Nat.{◌-◌}
-use native.Mathlib.Omega.{arith}
 use Rattle.reading.proofs.balanced_nodes.Given as goal
 
 abbrev pub invariant-loop-i : goal.invariant-loop-i

@@ -1,5 +1,4 @@
 use Rattle.reading.specs.Balance.{unopened_block, unopened_warichu}
-use borrow.Author.Rules.{rules}
 use Rattle.reading.proofs.closes_unopened.Goals as goal
 
 pub returns-then-closes_nothing : goal.returns-then-closes_nothing

@@ -1,9 +1,9 @@
 use Rattle.model.specs.Merge.{is_unclosed}
 use Rattle.model.specs.Tape.{diagnostic_codec}
-use Rattle.wire.specs.Loops.{Missed, missed_none}
-use Rattle.records.specs.Runs.{test_at, run_missed, run_found, run_nowhere}
+use Rattle.wire.specs.Loops.{missed_none}
+use Rattle.records.specs.Runs.{run_missed, run_found, run_nowhere}
 use mathlib.Core.Path.{refl}
-use Prim.Native.Nat.{◌-◌, ◌≤◌}
+use Prim.Native.Nat.{◌-◌}
 use native.Mathlib.Omega.{arith}
 use Rattle.reading.proofs.has_unclosed.Goals as goal
 

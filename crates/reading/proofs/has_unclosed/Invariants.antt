@@ -1,10 +1,8 @@
 use Rattle.model.specs.Merge.{is_unclosed}
 use Rattle.model.specs.Tape.{diagnostic_codec}
-use Rattle.wire.specs.Loops.{Missed, missed_none}
-use Rattle.records.specs.Runs.{test_at, run_missed, run_found, run_nowhere}
-use mathlib.Core.Path.{refl}
+use Rattle.wire.specs.Loops.{Missed}
+use Rattle.records.specs.Runs.{test_at}
 use Prim.Native.Nat.{◌-◌, ◌≤◌}
-use native.Mathlib.Omega.{arith}
 use Rattle.reading.proofs.has_unclosed.Given as goal
 
 abbrev pub invariant-loop-i : goal.invariant-loop-i

@@ -1,7 +1,6 @@
 use Rattle.reading.specs.Balance.{unclosed_bracket, unclosed_close}
 use Rattle.model.specs.Tape.{record_at, operands_at, diagnostic_codec}
 use mathlib.Core.Path.{refl}
-use borrow.Author.Rules.{rules}
 use Rattle.reading.proofs.is_unclosed.Goals as goal
 
 pub returns-then-tape-at-eq2 : goal.returns-then-tape-at-eq2

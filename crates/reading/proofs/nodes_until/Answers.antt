@@ -1,6 +1,6 @@
-use Rattle.reading.specs.Until.{ends_at, until_stop, until_more, until_all}
-use Rattle.wire.specs.Loops.{Passed, passed_none}
-use Prim.Native.Nat.{◌-◌, ◌≤◌}
+use Rattle.reading.specs.Until.{until_stop, until_more, until_all}
+use Rattle.wire.specs.Loops.{passed_none}
+use Prim.Native.Nat.{◌-◌}
 use native.Mathlib.Omega.{arith}
 use Rattle.reading.proofs.nodes_until.Goals as goal
 

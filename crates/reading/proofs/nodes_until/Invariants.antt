@@ -1,7 +1,6 @@
-use Rattle.reading.specs.Until.{ends_at, until_stop, until_more, until_all}
-use Rattle.wire.specs.Loops.{Passed, passed_none}
+use Rattle.reading.specs.Until.{ends_at}
+use Rattle.wire.specs.Loops.{Passed}
 use Prim.Native.Nat.{◌-◌, ◌≤◌}
-use native.Mathlib.Omega.{arith}
 use Rattle.reading.proofs.nodes_until.Given as goal
 
 abbrev pub invariant-loop-i : goal.invariant-loop-i

@@ -1,4 +1,4 @@
-use Rattle.reading.specs.Until.{Summed, summed_none, summed_image, summed_span, summed_more, summed_sums, summed_offset}
+use Rattle.reading.specs.Until.{summed_none, summed_image, summed_span, summed_more, summed_sums, summed_offset}
 use Prim.Native.Nat.{◌-◌}
 use native.Mathlib.Omega.{arith}
 use Rattle.reading.proofs.normalized_offset.Goals as goal

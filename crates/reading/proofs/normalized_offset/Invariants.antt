@@ -1,6 +1,5 @@
-use Rattle.reading.specs.Until.{Summed, summed_none, summed_image, summed_span, summed_more, summed_sums, summed_offset}
+use Rattle.reading.specs.Until.{Summed}
 use Prim.Native.Nat.{◌-◌}
-use native.Mathlib.Omega.{arith}
 use Rattle.reading.proofs.normalized_offset.Given as goal
 
 abbrev pub invariant-loop-i : goal.invariant-loop-i

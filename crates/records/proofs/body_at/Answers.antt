@@ -1,6 +1,5 @@
 use mathlib.Core.Path.{refl}
 use Rattle.records.specs.Values.{body_at}
-use borrow.Author.Rules.{rules}
 use Rattle.records.proofs.body_at.Goals as goal
 
 pub returns : goal.returns

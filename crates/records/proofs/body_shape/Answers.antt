@@ -1,6 +1,5 @@
 use Rattle.records.specs.Shapes.{body_fails, body_goes_on}
 use mathlib.Core.Path.{sym, ◌∙◌}
-use borrow.Author.Rules.{rules}
 use Rattle.records.proofs.body_shape.Goals as goal
 
 pub returns-then-tag_count-b : goal.returns-then-tag_count-b

@@ -1,6 +1,5 @@
 use Rattle.records.specs.Values.{word_place}
 use mathlib.Core.Path.{◌∙◌}
-use borrow.Author.Rules.{rules}
 use Rattle.records.proofs.body_word.Goals as goal
 
 pub returns : goal.returns

@@ -1,6 +1,5 @@
 use mathlib.Core.Path.{refl}
 use Rattle.model.specs.Tape.{record_at, operands_at, diagnostic_codec}
-use borrow.Author.Rules.{rules}
 use Rattle.records.proofs.diagnostic_at.Goals as goal
 
 pub returns : goal.returns

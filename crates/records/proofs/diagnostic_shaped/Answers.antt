@@ -1,6 +1,5 @@
 use Rattle.model.specs.Tape.{record_at, operands_at, diagnostic_shape, diagnostic_codec}
 use mathlib.Core.Path.{refl}
-use borrow.Author.Rules.{rules}
 use Rattle.records.proofs.diagnostic_shaped.Goals as goal
 
 pub returns : goal.returns

@@ -1,5 +1,4 @@
 use Rattle.model.specs.Tape.{record_at, operands_at, node_codec}
-use borrow.Author.Rules.{rules}
 use Rattle.records.proofs.node_offset.Goals as goal
 
 pub returns : goal.returns

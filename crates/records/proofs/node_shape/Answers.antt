@@ -1,7 +1,5 @@
 use Rattle.records.specs.Shapes.{node_fails, node_goes_on}
-use borrow.Author.Tests.{not-true, not-false}
 use mathlib.Core.Path.{sym, ◌∙◌}
-use borrow.Author.Rules.{rules}
 use Rattle.records.proofs.node_shape.Goals as goal
 
 pub returns-then-not-node_head : goal.returns-then-not-node_head

@@ -1,6 +1,5 @@
 use Rattle.model.specs.Tape.{node_shape}
 use mathlib.Core.Path.{ap, ◌∙◌}
-use borrow.Author.Rules.{rules}
 use Rattle.records.proofs.node_shaped.Goals as goal
 
 pub returns : goal.returns

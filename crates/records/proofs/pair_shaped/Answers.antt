@@ -1,6 +1,5 @@
 use Rattle.model.specs.Tape.{record_at, operands_at, pair_shape, pair_codec}
 use mathlib.Core.Path.{refl}
-use borrow.Author.Rules.{rules}
 use Rattle.records.proofs.pair_shaped.Goals as goal
 
 pub returns : goal.returns

@@ -1,10 +1,7 @@
 use Rattle.model.specs.Tape.{pair_shape, pair_codec}
-use Rattle.wire.specs.Loops.{Passed, passed_none}
-use Rattle.records.specs.Runs.{test_at, run_more, run_failed, run_passed}
-use borrow.Author.Tests.{not-true, not-false}
-use mathlib.Core.Path.{refl}
+use Rattle.wire.specs.Loops.{Passed}
+use Rattle.records.specs.Runs.{test_at}
 use Prim.Native.Nat.{◌-◌, ◌≤◌}
-use native.Mathlib.Omega.{arith}
 use Rattle.records.proofs.pairs_shaped.Given as goal
 
 abbrev pub invariant-loop-i : goal.invariant-loop-i

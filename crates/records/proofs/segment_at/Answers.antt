@@ -1,5 +1,4 @@
 use Rattle.records.specs.Values.{segment_read}
-use borrow.Author.Rules.{rules}
 use Rattle.records.proofs.segment_at.Goals as goal
 
 pub returns : goal.returns

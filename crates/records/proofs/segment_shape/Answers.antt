@@ -1,7 +1,5 @@
 use Rattle.records.specs.Shapes.{segment_fails, segment_goes_on}
-use borrow.Author.Tests.{not-true, not-false}
 use mathlib.Core.Path.{sym, ◌∙◌}
-use borrow.Author.Rules.{rules}
 use Rattle.records.proofs.segment_shape.Goals as goal
 
 pub returns-then-not-segment_head : goal.returns-then-not-segment_head

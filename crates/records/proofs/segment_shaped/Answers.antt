@@ -1,6 +1,5 @@
 use Rattle.model.specs.Tape.{segment_shape}
 use mathlib.Core.Path.{ap, ◌∙◌}
-use borrow.Author.Rules.{rules}
 use Rattle.records.proofs.segment_shaped.Goals as goal
 
 pub returns : goal.returns

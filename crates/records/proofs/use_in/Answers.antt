@@ -1,6 +1,5 @@
 use Rattle.records.specs.Uses.{use_among}
 use mathlib.Core.Path.{refl}
-use borrow.Author.Rules.{rules}
 use Rattle.records.proofs.use_in.Goals as goal
 
 pub returns : goal.returns

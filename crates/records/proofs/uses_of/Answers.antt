@@ -1,6 +1,5 @@
 use Rattle.records.specs.Uses.{uses_of, other_uses}
 use borrow.Author.Tests.{eq-eqb, ne_eqb}
-use borrow.Author.Rules.{rules}
 use Rattle.records.proofs.uses_of.Goals as goal
 
 pub returns-then-kind-eq2 : goal.returns-then-kind-eq2

@@ -1,6 +1,5 @@
 use Rattle.records.specs.Uses.{uses_fit}
-use borrow.Author.Tests.{eq-eqb, ne_eqb, not-true, not-false}
-use borrow.Author.Rules.{rules}
+use borrow.Author.Tests.{eq-eqb, ne_eqb}
 use Rattle.records.proofs.word_fits.Goals as goal
 
 pub returns-then-w-eq0 : goal.returns-then-w-eq0

@@ -1,7 +1,6 @@
 use Rattle.records.specs.Uses.{use_among, uses_right}
 use mathlib.Core.Path.{ap, ◌∙◌}
 use Prim.Native.Nat.{ℕ}
-use borrow.Author.Rules.{rules}
 use Rattle.records.proofs.word_use.Goals as goal
 
 pub returns : goal.returns

@@ -1,11 +1,8 @@
-use Rattle.model.specs.Tape.{unused_zero}
 use Rattle.records.specs.Uses.{fields_for, fits_turn, fits_fails, fits_done, fits_read}
-use borrow.Author.Tests.{not-true, not-false}
-use mathlib.Core.Path.{◌≡◌, refl, sym, ◌∙◌}
-use Prim.Native.Nat.{◌-◌, ◌≤◌}
+use mathlib.Core.Path.{refl, sym, ◌∙◌}
+use Prim.Native.Nat.{◌-◌}
 use native.Mathlib.Omega.{arith}
 use borrow.Author.Rules.{rules}
-use lib.ListN.{length, drop}
 use Rattle.records.proofs.words_fit.Goals as goal
 
 pub uses_of-uses-requires : goal.uses_of-uses-requires

@@ -1,10 +1,7 @@
 use Rattle.model.specs.Tape.{unused_zero}
-use Rattle.records.specs.Uses.{fields_for, fits_turn, fits_fails, fits_done, fits_read}
-use borrow.Author.Tests.{not-true, not-false}
-use mathlib.Core.Path.{◌≡◌, refl, sym, ◌∙◌}
+use Rattle.records.specs.Uses.{fields_for}
+use mathlib.Core.Path.{◌≡◌}
 use Prim.Native.Nat.{◌-◌, ◌≤◌}
-use native.Mathlib.Omega.{arith}
-use borrow.Author.Rules.{rules}
 use lib.ListN.{length, drop}
 use Rattle.records.proofs.words_fit.Given as goal
 

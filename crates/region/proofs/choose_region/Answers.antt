@@ -1,5 +1,4 @@
 use mathlib.Core.Path.{ap, ◌∙◌}
-use borrow.Author.Rules.{rules}
 use Rattle.model.specs.Bytes.{zeros}
 use Rattle.region.proofs.choose_region.Goals as goal
 

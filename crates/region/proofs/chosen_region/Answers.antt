@@ -2,7 +2,6 @@ use native.Mathlib.Omega.{arith}
 use Rattle.region.specs.Held.{held_without}
 use Rattle.region.specs.Ready.{ready_inside, ready_runs}
 use Rattle.region.specs.Stage.{stage_short, stage_edit, stage_depends, stage_region, stage_nodes, stage_fits, stage_whole, stage_chosen}
-use borrow.Author.Rules.{rules}
 use Rattle.region.proofs.chosen_region.Goals as goal
 
 pub slice_bounds-text-end : goal.slice_bounds-text-end
@@ -32,10 +31,10 @@ balanced_region-r-requires c =
     let at-if1 = at-depends in
     let at-edit-refusal = at-if1 in
     let start = at-edit-refusal in record {
-        count_in_bounds = ready_runs (held_without start.requires);
-        start_in_bounds = stage_region (held_without start.requires) _ _ _ at-edit-refusal.edit_refusal-n.ensures at-if1.if-n-ne0.false at-depends.depends.ensures;
-        nodes_in = stage_nodes
-            (held_without start.requires) _ _ _ at-edit-refusal.edit_refusal-n.ensures at-if1.if-n-ne0.false at-depends.depends.ensures
+      count_in_bounds = ready_runs (held_without start.requires);
+      start_in_bounds = stage_region (held_without start.requires) _ _ _ at-edit-refusal.edit_refusal-n.ensures at-if1.if-n-ne0.false at-depends.depends.ensures;
+      nodes_in = stage_nodes
+          (held_without start.requires) _ _ _ at-edit-refusal.edit_refusal-n.ensures at-if1.if-n-ne0.false at-depends.depends.ensures;
     }
 
 pub returns-then-is_whole : goal.returns-then-is_whole

@@ -3,7 +3,6 @@ use native.Mathlib.Omega.{arith}
 use Rattle.model.specs.Region.{edit_of}
 use Rattle.region.specs.Held.{held_without}
 use Rattle.region.specs.Ready.{ready_cut, ready_sound, ready_depends}
-use borrow.Author.Rules.{rules}
 use Rattle.region.proofs.depends.Goals as goal
 
 pub last_strings_at-cut-requires : goal.last_strings_at-cut-requires

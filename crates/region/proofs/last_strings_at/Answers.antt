@@ -2,7 +2,6 @@ use Rattle.region.specs.Held.{held_without}
 use Rattle.region.specs.Ready.{ready_layers, ready_readable, ready_olds, ready_place, ready_cut}
 use mathlib.Core.Path.{refl}
 use native.Mathlib.Omega.{arith}
-use borrow.Author.Rules.{rules}
 use Rattle.region.proofs.last_strings_at.Goals as goal
 
 pub old_strings-olds-requires : goal.old_strings-olds-requires
@@ -12,9 +11,9 @@ old_strings-olds-requires c =
 pub start_from-requires : goal.start_from-requires
 start_from-requires c =
     record {
-        readable = ready_readable (held_without c.requires) (omega arith);
-        between = ready_olds (held_without c.requires) c.old_strings-olds.ensures;
-        start_value = refl
+      readable = ready_readable (held_without c.requires) (omega arith);
+      between = ready_olds (held_without c.requires) c.old_strings-olds.ensures;
+      start_value = refl;
     }
 
 pub overflow_add-result : goal.overflow_add-result

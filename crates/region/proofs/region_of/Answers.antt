@@ -1,6 +1,5 @@
 use mathlib.Core.Path.{refl}
 use Rattle.region.specs.Entry.{choose_refused, choose_accepted, choose_store, choose_held}
-use borrow.Author.Rules.{rules}
 use Rattle.region.proofs.region_of.Goals as goal
 
 pub returns-then-b-ne0 : goal.returns-then-b-ne0

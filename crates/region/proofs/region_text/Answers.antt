@@ -1,5 +1,4 @@
 use Rattle.region.specs.Passage.{region_part}
-use borrow.Author.Rules.{rules}
 use Rattle.region.proofs.region_text.Goals as goal
 
 pub returns : goal.returns

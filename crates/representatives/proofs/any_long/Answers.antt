@@ -1,5 +1,4 @@
 use Rattle.representatives.specs.Long.{any_long}
-use borrow.Author.Rules.{rules}
 use Rattle.representatives.proofs.any_long.Goals as goal
 
 pub returns : goal.returns

@@ -1,7 +1,6 @@
-use Prim.Native.Nat.{◌-◌, ◌≤◌}
+use Prim.Native.Nat.{◌-◌}
 use native.Mathlib.Omega.{arith}
-use Rattle.strings.specs.Starts.{lengths_in}
-use Rattle.representatives.specs.Long.{Short, short_none, short_more, long_here, long_none}
+use Rattle.representatives.specs.Long.{short_none, short_more, long_here, long_none}
 use Rattle.representatives.proofs.next_long.Goals as goal
 
 pub loop-i-init : goal.loop-i-init
@@ -11,8 +10,8 @@ loop-i-init c =
 pub string_length-requires : goal.string_length-requires
 string_length-requires c =
     record {
-        of_tape = c.requires.of_tape;
-        id_lt_strings = omega arith
+      of_tape = c.requires.of_tape;
+      id_lt_strings = omega arith;
     }
 
 pub returns-then-least-string_length : goal.returns-then-least-string_length

@@ -1,7 +1,6 @@
 use Prim.Native.Nat.{◌-◌, ◌≤◌}
-use native.Mathlib.Omega.{arith}
 use Rattle.strings.specs.Starts.{lengths_in}
-use Rattle.representatives.specs.Long.{Short, short_none, short_more, long_here, long_none}
+use Rattle.representatives.specs.Long.{Short}
 use Rattle.representatives.proofs.next_long.Given as goal
 
 abbrev pub invariant-loop-i : goal.invariant-loop-i

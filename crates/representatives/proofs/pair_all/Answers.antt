@@ -1,18 +1,15 @@
-use mathlib.Core.Path.{◌≡◌, refl, ◌∙◌}
-use mathlib.Core.List.{◌++◌}
-use Prim.Native.Nat.{◌-◌, ◌≤◌}
-use lib.ListN.{length}
+use mathlib.Core.Path.{refl, ◌∙◌}
+use Prim.Native.Nat.{◌-◌}
 use native.Mathlib.Omega.{arith}
-use Rattle.strings.specs.Starts.{store_in}
-use Rattle.representatives.specs.Pairs.{Paired, paired_none, paired_next, paired_index}
-use Rattle.representatives.specs.Ordered.{Ordered, ordered_later, ordered_all}
+use Rattle.representatives.specs.Pairs.{paired_none, paired_next, paired_index}
+use Rattle.representatives.specs.Ordered.{ordered_later, ordered_all}
 use Rattle.representatives.proofs.pair_all.Goals as goal
 
 pub next_long-i-requires : goal.next_long-i-requires
 next_long-i-requires c =
     record {
-        of_tape = c.requires.resolvable.sides.store;
-        from_le_strings = omega arith
+      of_tape = c.requires.resolvable.sides.store;
+      from_le_strings = omega arith;
     }
 
 pub loop-i-init : goal.loop-i-init
@@ -32,8 +29,8 @@ shape_of-words-then-room-n c =
 pub returns-then-room-n : goal.returns-then-room-n
 returns-then-room-n c =
     record {
-        pairs_2 = c.loop-i.invariant.4.pairs;
-        rising = ordered_all c.loop-i.invariant.5
+      pairs_2 = c.loop-i.invariant.4.pairs;
+      rising = ordered_all c.loop-i.invariant.5;
     }
 
 pub pair_string-m-requires : goal.pair_string-m-requires
@@ -43,12 +40,12 @@ pair_string-m-requires c =
     let inv = turn.loop-i.invariant in
     let paired = inv.4 in
     let few = start.requires.row_len in record {
-        resolvable = paired_index paired start.requires.resolvable;
-        row = paired.rising;
-        m_in_bounds = (omega (arith, inv.0, few, paired.few), omega arith);
-        n_bound = (omega (arith, few), omega (arith, few, inv.1));
-        pairs = paired.pairs;
-        ordered = inv.5
+      resolvable = paired_index paired start.requires.resolvable;
+      row = paired.rising;
+      m_in_bounds = (omega (arith, inv.0, few, paired.few), omega arith);
+      n_bound = (omega (arith, few), omega (arith, few, inv.1));
+      pairs = paired.pairs;
+      ordered = inv.5;
     }
 
 pub overflow_add-n : goal.overflow_add-n
@@ -63,8 +60,8 @@ pub next_long-i-requires-in-loop-i : goal.next_long-i-requires-in-loop-i
 next_long-i-requires-in-loop-i c =
     let start = c in
     record {
-        of_tape = start.requires.resolvable.sides.store;
-        from_le_strings = omega arith
+      of_tape = start.requires.resolvable.sides.store;
+      from_le_strings = omega arith;
     }
 
 pub loop-i-smaller : goal.loop-i-smaller
@@ -97,6 +94,6 @@ shape_of-words c =
 pub returns : goal.returns
 returns c =
     record {
-        pairs_2 = c.loop-i.invariant.4.pairs;
-        rising = ordered_all c.loop-i.invariant.5
+      pairs_2 = c.loop-i.invariant.4.pairs;
+      rising = ordered_all c.loop-i.invariant.5;
     }

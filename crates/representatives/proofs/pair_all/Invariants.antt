@@ -1,11 +1,10 @@
-use mathlib.Core.Path.{◌≡◌, refl, ◌∙◌}
+use mathlib.Core.Path.{◌≡◌}
 use mathlib.Core.List.{◌++◌}
 use Prim.Native.Nat.{◌-◌, ◌≤◌}
 use lib.ListN.{length}
-use native.Mathlib.Omega.{arith}
 use Rattle.strings.specs.Starts.{store_in}
-use Rattle.representatives.specs.Pairs.{Paired, paired_none, paired_next, paired_index}
-use Rattle.representatives.specs.Ordered.{Ordered, ordered_later, ordered_all}
+use Rattle.representatives.specs.Pairs.{Paired}
+use Rattle.representatives.specs.Ordered.{Ordered}
 use Rattle.representatives.proofs.pair_all.Given as goal
 
 abbrev pub invariant-loop-i : goal.invariant-loop-i

@@ -3,7 +3,6 @@ use native.Mathlib.Omega.{arith}
 use Rattle.strings.specs.Shown.{shown_str}
 use Rattle.representatives.specs.Pairs.{pairs_put, paired_known, paired_new}
 use Rattle.representatives.specs.Ordered.{ordered_put}
-use borrow.Author.Rules.{rules}
 use Rattle.representatives.proofs.pair_string.Goals as goal
 
 pub returns-then-k-ne0 : goal.returns-then-k-ne0
@@ -16,16 +15,16 @@ returns-then-k-ne0 c =
     let found = at-find.find-k.ensures.1 at-if1.if-k-ne0.true in
     let put = c.put_pair.ensures in
     let room = start.requires.n_bound.1 in record {
-        paired = paired_known (pairs_put _ _ _ _ room start.requires.pairs (sym own ∙ sym found) put) start.requires.row;
-        ordered_2 = ordered_put _ _ _ _ room start.requires.ordered put
+      paired = paired_known (pairs_put _ _ _ _ room start.requires.pairs (sym own ∙ sym found) put) start.requires.row;
+      ordered_2 = ordered_put _ _ _ _ room start.requires.ordered put;
     }
 
 pub put_pair-requires-2 : goal.put_pair-requires-2
 put_pair-requires-2 c =
     let start = c in
     record {
-        n_bound = start.requires.n_bound;
-        representative_bound = omega (arith, start.requires.m_in_bounds.1, start.well_formed, start.ranges)
+      n_bound = start.requires.n_bound;
+      representative_bound = omega (arith, start.requires.m_in_bounds.1, start.well_formed, start.ranges);
     }
 
 pub returns : goal.returns
@@ -34,6 +33,6 @@ returns c =
     let start = at-put-pair2 in
     let put = at-put-pair2.put_pair-2.ensures in
     let room = start.requires.n_bound.1 in record {
-        paired = paired_new (pairs_put _ _ _ _ room start.requires.pairs refl put) c.insert.ensures;
-        ordered_2 = ordered_put _ _ _ _ room start.requires.ordered put
+      paired = paired_new (pairs_put _ _ _ _ room start.requires.pairs refl put) c.insert.ensures;
+      ordered_2 = ordered_put _ _ _ _ room start.requires.ordered put;
     }

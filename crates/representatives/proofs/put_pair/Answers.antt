@@ -1,6 +1,5 @@
 use native.Mathlib.Omega.{arith}
 use lib.ListN.{length-set}
-use borrow.Author.Rules.{rules}
 use Rattle.representatives.proofs.put_pair.Goals as goal
 
 pub bounds-words-n : goal.bounds-words-n

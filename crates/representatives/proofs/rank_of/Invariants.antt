@@ -1,7 +1,5 @@
-use mathlib.Core.Path.{◌≡◌}
 use Prim.Native.Nat.{◌-◌}
-use native.Mathlib.Omega.{arith}
-use Rattle.representatives.specs.Bisection.{Split, split_start, split_up, split_down}
+use Rattle.representatives.specs.Bisection.{Split}
 use Rattle.representatives.proofs.rank_of.Given as goal
 
 abbrev pub invariant-loop-lo : goal.invariant-loop-lo

@@ -1,10 +1,8 @@
 use mathlib.Core.Bool.{true}
 use Rattle.stats.specs.Counts.{no_stats}
-use borrow.Author.Tests.{not-true, not-false}
 use Rattle.result.specs.Grafting.{offsets_of, graft_none, graft_refused, graft_some, graft_used, some_nodes, zero_nodes, source_count}
 use mathlib.Core.Path.{refl}
 use native.Mathlib.Omega.{arith}
-use borrow.Author.Rules.{rules}
 use Rattle.result.proofs.graft_reading.Goals as goal
 
 pub returns-then-p-eq0 : goal.returns-then-p-eq0
@@ -14,8 +12,8 @@ returns-then-p-eq0 c =
 pub graft_layer-l-requires : goal.graft_layer-l-requires
 graft_layer-l-requires c =
     record {
-        source_fits = (c.requires.source_fits, record { strings = c.requires.strings_le_max_pool.0; contents = c.requires.strings_le_max_pool.1; segments = c.requires.strings_le_max_pool.2 });
-        min_work_words_in_bounds = c.requires.min_work_words_in_bounds
+      source_fits = (c.requires.source_fits, record { strings = c.requires.strings_le_max_pool.0; contents = c.requires.strings_le_max_pool.1; segments = c.requires.strings_le_max_pool.2 });
+      min_work_words_in_bounds = c.requires.min_work_words_in_bounds;
     }
 
 pub returns-then-not-l : goal.returns-then-not-l

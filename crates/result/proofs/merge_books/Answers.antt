@@ -3,11 +3,9 @@ use Rattle.result.specs.Merging.{old_fit, texts_inside, no_room, no_graft, no_si
 use Rattle.result.specs.Whole.{small}
 use Rattle.merged_lists.specs.Sizes.{room_facts}
 use Rattle.result.specs.Books.{inside}
-use borrow.Author.Tests.{not-true, not-false}
 use mathlib.Core.Path.{refl, sym, ◌∙◌}
 use Prim.Native.Nat.{◌-◌}
 use native.Mathlib.Omega.{arith}
-use borrow.Author.Rules.{rules}
 use Rattle.result.proofs.merge_books.Goals as goal
 
 pub kept_in-k-requires : goal.kept_in-k-requires
@@ -18,8 +16,8 @@ pub new_lengths-l-requires : goal.new_lengths-l-requires
 unfolding edit_of
 new_lengths-l-requires c =
     let i = inside c.requires in record {
-        end_le_text = (i.ends, i.normal_ends, i.limit);
-        normalized_bound = ((texts_inside c.requires).0, omega arith)
+      end_le_text = (i.ends, i.normal_ends, i.limit);
+      normalized_bound = ((texts_inside c.requires).0, omega arith);
     }
 
 pub room_for-requires : goal.room_for-requires
@@ -34,9 +32,9 @@ returns-then-not-room_for c =
 pub put_store-g-requires : goal.put_store-g-requires
 put_store-g-requires c =
     let f = room_facts _ _ _ _ _ _ _ (sym c.room_for.ensures ∙ c.if-not-room_for.false) in record {
-        books = c.requires;
-        l_value = c.new_lengths-l.ensures;
-        min_work_words_in_bounds = (f.work, f.normalized, f.base, f.nodesat)
+      books = c.requires;
+      l_value = c.new_lengths-l.ensures;
+      min_work_words_in_bounds = (f.work, f.normalized, f.base, f.nodesat);
     }
 
 pub shape_of-outtape-then-not-g : goal.shape_of-outtape-then-not-g
@@ -65,8 +63,8 @@ pub lists_end-size-requires : goal.lists_end-size-requires
 unfolding edit_of
 lists_end-size-requires c =
     let x = at_small c.requires c.kept_in-k.ensures c.new_lengths-l.ensures c.args.outtape.now c.args.outbytes.now c.args.work.now c.put_store-g.ensures c.put_store-g.auto.outtape c.put_store-g.auto.outbytes c.if-not-g.false refl in record {
-        small = small c.requires c.kept_in-k.ensures;
-        at_bound = omega (arith, x, c.well_formed)
+      small = small c.requires c.kept_in-k.ensures;
+      at_bound = omega (arith, x, c.well_formed);
     }
 
 pub shape_of-outtape-then-outtape-size : goal.shape_of-outtape-then-outtape-size

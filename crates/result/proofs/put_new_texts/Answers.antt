@@ -1,8 +1,7 @@
 use Rattle.result.specs.Stages.{texts_sliced, texts_asked}
 use mathlib.Core.Path.{refl}
-use Prim.Native.Nat.{◌+◌, ◌/◌}
+use Prim.Native.Nat.{◌+◌}
 use native.Mathlib.Omega.{arith}
-use borrow.Author.Rules.{rules}
 use Rattle.result.proofs.put_new_texts.Goals as goal
 
 pub slice_bounds-put_texts-end-3 : goal.slice_bounds-put_texts-end-3

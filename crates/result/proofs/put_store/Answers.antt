@@ -6,7 +6,6 @@ use Rattle.result.specs.Books.{inside}
 use mathlib.Core.Path.{ap}
 use Prim.Native.Nat.{◌-◌}
 use native.Mathlib.Omega.{arith}
-use borrow.Author.Rules.{rules}
 use Rattle.result.proofs.put_store.Goals as goal
 
 pub put_new_texts-requires : goal.put_new_texts-requires
@@ -15,9 +14,9 @@ put_new_texts-requires c =
     let i = inside c.requires.books in
     let x = ap (λ (y : Lengths). y.base) c.requires.l_value in
     record {
-        start_le_end = (i.rising, i.ends, i.normal_rising, i.normal_ends);
-        normalized_in_bounds = texts_inside c.requires.books;
-        bytes_in_bounds = omega (arith, x, c.requires.min_work_words_in_bounds.2)
+      start_le_end = (i.rising, i.ends, i.normal_rising, i.normal_ends);
+      normalized_in_bounds = texts_inside c.requires.books;
+      bytes_in_bounds = omega (arith, x, c.requires.min_work_words_in_bounds.2);
     }
 
 pub overflow_cast-l : goal.overflow_cast-l
@@ -32,9 +31,9 @@ put_head-requires c =
 pub graft_reading-requires : goal.graft_reading-requires
 graft_reading-requires c =
     record {
-        source_fits = source_fits c.requires.books;
-        strings_le_max_pool = pools_fit c.requires.books;
-        min_work_words_in_bounds = (omega (arith, c.requires.min_work_words_in_bounds.0), omega (arith, c.requires.min_work_words_in_bounds.2, c.put_new_texts.auto.out), omega (arith, c.requires.min_work_words_in_bounds.3, c.put_head.auto.out))
+      source_fits = source_fits c.requires.books;
+      strings_le_max_pool = pools_fit c.requires.books;
+      min_work_words_in_bounds = (omega (arith, c.requires.min_work_words_in_bounds.0), omega (arith, c.requires.min_work_words_in_bounds.2, c.put_new_texts.auto.out), omega (arith, c.requires.min_work_words_in_bounds.3, c.put_head.auto.out));
     }
 
 pub returns : goal.returns

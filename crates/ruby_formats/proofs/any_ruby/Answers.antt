@@ -1,7 +1,7 @@
 use Rattle.model.specs.Tape.{node_codec}
-use Rattle.wire.specs.Loops.{Missed, missed_none}
-use Rattle.records.specs.Runs.{test_at, run_missed, run_found, run_nowhere}
-use Prim.Native.Nat.{◌-◌, ◌≤◌}
+use Rattle.wire.specs.Loops.{missed_none}
+use Rattle.records.specs.Runs.{run_missed, run_found, run_nowhere}
+use Prim.Native.Nat.{◌-◌}
 use native.Mathlib.Omega.{arith}
 use Rattle.model.specs.Region.{is_ruby}
 use mathlib.Core.Path.{refl}

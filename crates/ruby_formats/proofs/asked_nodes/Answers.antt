@@ -1,7 +1,6 @@
 use Rattle.ruby_formats.specs.Asks.{asks_at, count_to_last, last_here, last_before, last_none}
 use mathlib.Core.Path.{◌≡◌, refl, sym, ap, ◌∙◌}
 use native.Mathlib.Omega.{arith}
-use Prim.Native.Nat.{◌≤◌}
 use Rattle.ruby_formats.proofs.asked_nodes.Goals as goal
 
 pub loop-n-init : goal.loop-n-init

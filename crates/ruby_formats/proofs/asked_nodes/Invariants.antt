@@ -1,6 +1,5 @@
-use Rattle.ruby_formats.specs.Asks.{asks_at, count_to_last, last_here, last_before, last_none}
-use mathlib.Core.Path.{◌≡◌, refl, sym, ap, ◌∙◌}
-use native.Mathlib.Omega.{arith}
+use Rattle.ruby_formats.specs.Asks.{asks_at, count_to_last}
+use mathlib.Core.Path.{◌≡◌}
 use Prim.Native.Nat.{◌≤◌}
 use Rattle.ruby_formats.proofs.asked_nodes.Given as goal
 

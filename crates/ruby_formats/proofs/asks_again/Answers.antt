@@ -1,5 +1,4 @@
 use Rattle.ruby_formats.specs.Named.{again_before, again_past, again_other, again_same}
-use borrow.Author.Tests.{not-true, not-false}
 use native.Mathlib.Omega.{arith}
 use Rattle.ruby_formats.proofs.asks_again.Goals as goal
 
@@ -52,8 +51,8 @@ same_named-requires c =
     let at-if2 = c in
     let start = at-if2 in
     record {
-        naming = (start.requires.namings.node _ start.requires.i_lt_count);
-        naming_2 = (start.requires.namings.node _ at-if2.if-count-v.false)
+      naming = (start.requires.namings.node _ start.requires.i_lt_count);
+      naming_2 = (start.requires.namings.node _ at-if2.if-count-v.false);
     }
 
 pub returns : goal.returns

@@ -1,6 +1,4 @@
-use borrow.Author.Tests.{not-true, not-false}
 use Rattle.ruby_formats.specs.Asks.{asks_other, asks_end}
-use borrow.Author.Rules.{rules}
 use Rattle.ruby_formats.proofs.asks_target.Goals as goal
 
 pub returns-then-not-is_referenced_format : goal.returns-then-not-is_referenced_format

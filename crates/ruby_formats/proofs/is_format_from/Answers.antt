@@ -1,6 +1,4 @@
 use Rattle.ruby_formats.specs.Asks.{format_other, format_start}
-use borrow.Author.Tests.{not-true, not-false}
-use borrow.Author.Rules.{rules}
 use Rattle.ruby_formats.proofs.is_format_from.Goals as goal
 
 pub returns-then-not-is_referenced_format : goal.returns-then-not-is_referenced_format

@@ -1,5 +1,4 @@
 use Rattle.ruby_formats.specs.Named.{id_some, id_none}
-use borrow.Author.Rules.{rules}
 use Rattle.ruby_formats.proofs.is_id.Goals as goal
 
 pub returns-in-Id : goal.returns-in-Id

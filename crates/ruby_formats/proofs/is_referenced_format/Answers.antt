@@ -1,5 +1,4 @@
 use Rattle.ruby_formats.specs.Kinds.{format_class, format_kind, format_origin}
-use borrow.Author.Rules.{rules}
 use Rattle.ruby_formats.proofs.is_referenced_format.Goals as goal
 
 pub returns-then-tape-at-ne0 : goal.returns-then-tape-at-ne0

@@ -1,5 +1,4 @@
 use Rattle.ruby_formats.specs.Kinds.{ruby_class, ruby_kind}
-use borrow.Author.Rules.{rules}
 use Rattle.ruby_formats.proofs.is_ruby.Goals as goal
 
 pub returns-then-tape-at-ne0 : goal.returns-then-tape-at-ne0

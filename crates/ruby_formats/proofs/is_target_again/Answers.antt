@@ -1,5 +1,4 @@
 use Rattle.ruby_formats.specs.Named.{target_late, target_other, target_same}
-use borrow.Author.Tests.{not-true, not-false}
 use native.Mathlib.Omega.{arith}
 use Rattle.ruby_formats.proofs.is_target_again.Goals as goal
 
@@ -48,8 +47,8 @@ same_named-requires c =
     let at-if1 = c in
     let start = at-if1 in
     record {
-        naming = (start.requires.node start.args.i (omega arith));
-        naming_2 = (start.requires.node start.args.v (omega (arith, at-if1.if-v-i.false)))
+      naming = (start.requires.node start.args.i (omega arith));
+      naming_2 = (start.requires.node start.args.v (omega (arith, at-if1.if-v-i.false)));
     }
 
 pub returns : goal.returns

@@ -1,15 +1,14 @@
 use Rattle.ruby_formats.specs.Named.{named_ruby, named_format, named_none, nothing_in}
 use mathlib.Core.Path.{sym, ◌∙◌}
-use borrow.Author.Rules.{rules}
 use Rattle.ruby_formats.proofs.named.Goals as goal
 
 pub first_plain-requires : goal.first_plain-requires
 first_plain-requires c =
     let start = c in
     record {
-        of_tape = start.requires.store;
-        at_in_bounds = start.requires.inside;
-        first_range = start.requires.ruby (sym c.is_ruby.ensures ∙ c.if-is_ruby.true)
+      of_tape = start.requires.store;
+      at_in_bounds = start.requires.inside;
+      first_range = start.requires.ruby (sym c.is_ruby.ensures ∙ c.if-is_ruby.true);
     }
 
 pub returns-then-is_ruby : goal.returns-then-is_ruby
@@ -22,9 +21,9 @@ pub first_plain-requires-then-is_referenced_format : goal.first_plain-requires-t
 first_plain-requires-then-is_referenced_format c =
     let start = c in
     record {
-        of_tape = start.requires.store;
-        at_in_bounds = start.requires.inside;
-        first_range = start.requires.format (sym c.is_referenced_format.ensures ∙ c.if-is_referenced_format.true)
+      of_tape = start.requires.store;
+      at_in_bounds = start.requires.inside;
+      first_range = start.requires.format (sym c.is_referenced_format.ensures ∙ c.if-is_referenced_format.true);
     }
 
 pub returns-then-is_referenced_format : goal.returns-then-is_referenced_format

@@ -1,6 +1,5 @@
 use Rattle.ruby_formats.specs.Named.{same_plain}
 use mathlib.Core.Path.{ap₂, ◌∙◌}
-use borrow.Author.Rules.{rules}
 use Rattle.ruby_formats.proofs.same_named.Goals as goal
 
 pub returns : goal.returns

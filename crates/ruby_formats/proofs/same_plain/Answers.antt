@@ -1,5 +1,4 @@
 use Rattle.ruby_formats.specs.Named.{same_some, same_none}
-use borrow.Author.Rules.{rules}
 use Rattle.ruby_formats.proofs.same_plain.Goals as goal
 
 pub returns-in-Id : goal.returns-in-Id

@@ -1,6 +1,4 @@
-use borrow.Author.Tests.{not-true, not-false}
 use Rattle.runs.specs.Input.{number_short, number_part, number_size, number_none}
-use borrow.Author.Rules.{rules}
 use Rattle.runs.proofs.input_refusal.Goals as goal
 
 pub returns-then-input-lt-HEAD : goal.returns-then-input-lt-HEAD

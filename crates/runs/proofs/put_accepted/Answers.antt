@@ -1,7 +1,6 @@
 use mathlib.Core.Path.{◌∙◌}
 use native.Mathlib.Omega.{arith}
 use Rattle.runs.specs.Line.{whole_line}
-use borrow.Author.Rules.{rules}
 use Rattle.runs.proofs.put_accepted.Goals as goal
 
 pub put_number-reread-requires : goal.put_number-reread-requires

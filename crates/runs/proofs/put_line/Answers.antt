@@ -1,5 +1,4 @@
 use Rattle.runs.specs.Line.{refused_line_lem, accepted_line_lem}
-use borrow.Author.Rules.{rules}
 use Rattle.runs.proofs.put_line.Goals as goal
 
 pub returns-then-a-ne0 : goal.returns-then-a-ne0

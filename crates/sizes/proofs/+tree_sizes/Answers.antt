@@ -1,21 +1,17 @@
-use mathlib.Core.Path.{◌≡◌, refl, sym, ap, ◌∙◌}
-use Prim.Native.Nat.{ℕ, ◌+◌, ◌-◌, ◌*◌, ◌<◌}
+use mathlib.Core.Path.{refl, sym, ap, ◌∙◌}
+use Prim.Native.Nat.{◌-◌}
 use Rattle.records.specs.Values.{body_at, content_of}
 use Rattle.model.specs.Tape.{record_at, segment_codec}
 use Rattle.memo.specs.Memo.{is_there}
 use Rattle.sizes.specs.Lone.{lone_inside, lone_over, lone_then}
-use Rattle.sizes.specs.Known.{Known, known_adds, known_note, text_adds}
+use Rattle.sizes.specs.Known.{known_adds, known_note, text_adds}
 use Rattle.sizes.specs.Answers.{contents_over, contents_empty, contents_then, segments_over, segments_empty, segments_then, segment_last, segment_below}
 use Rattle.sizes.specs.Answers.{body_sum, place_read, used_contents, used_segments, used_string, content_plain, content_segments_lem}
 use Rattle.sizes.specs.InPlace.{inner_adds, place_adds, content_from, segment_from, contents_from, segments_from, contents_inside, segments_inside}
-use Rattle.sizes.specs.Capped.{plus, kept_plus, Adding, adding_none, adding_more, adding_over, adding_all}
+use Rattle.sizes.specs.Capped.{plus, kept_plus, adding_none, adding_more, adding_over, adding_all}
 use Rattle.sizes.specs.Added.{new_contents, new_segments}
 use Rattle.sizes.specs.Again.{going_before, kept_high, grown, adding_again, again_over, contents_same, segments_same}
-use lib.ListN.{length}
 use native.Mathlib.Omega.{arith}
-use borrow.Author.Rules.{rules}
-use borrow.Fn.Kinds.{In}
-use borrow.Fn.PlainCycle.{Measures, is, falls, and}
 use Rattle.sizes.proofs.+tree_sizes.Goals as goal
 
 pub body_sizes-loop-j-init : goal.body_sizes-loop-j-init
@@ -218,8 +214,8 @@ contents_walk-again-u-requires t c =
     let e = c.content_sizes-next.ensures.0 in
     let going = going_before c.args.room c.loop-i.u _ e on in
     record {
-        over_value = (going, on, kept_plus c.loop-i.u _ e);
-        contents_le_contents = grown c.args.room c.loop-i.u c.content_sizes-next.result _ going on e (kept_high c.loop-i.invariant.0.kept going)
+      over_value = (going, on, kept_plus c.loop-i.u _ e);
+      contents_le_contents = grown c.args.room c.loop-i.u c.content_sizes-next.result _ going on e (kept_high c.loop-i.invariant.0.kept going);
     }
 
 pub contents_walk-returns-then-u : goal.contents_walk-returns-then-u
@@ -401,8 +397,8 @@ segment_walk-note-requires t c =
     let e = segment_below c.args.room c.args.t c.args.tape.now c.args.st c.args.at c.args.level (λ q. absurd (omega (arith, c.requires.at_in_bounds.1, q))) c.body_sizes-r.ensures.0 in
     let going = going_before c.args.room c.args.t (inner_adds c.args.level c.args.tape.now c.args.st (record_at segment_codec c.args.tape.now c.args.at).body) e on in
     record {
-        e_bound = c.requires.at_in_bounds.2;
-        contents_le_contents = grown c.args.room c.args.t c.body_sizes-r.result (inner_adds c.args.level c.args.tape.now c.args.st (record_at segment_codec c.args.tape.now c.args.at).body) going on e (kept_high c.requires.kept going)
+      e_bound = c.requires.at_in_bounds.2;
+      contents_le_contents = grown c.args.room c.args.t c.body_sizes-r.result (inner_adds c.args.level c.args.tape.now c.args.st (record_at segment_codec c.args.tape.now c.args.at).body) going on e (kept_high c.requires.kept going);
     }
 
 pub segment_walk-returns : goal.segment_walk-returns
@@ -470,8 +466,8 @@ segments_walk-again-u-requires t c =
     let e = c.segment_sizes-next.ensures.0 in
     let going = going_before c.args.room c.loop-i.u _ e on in
     record {
-        over_value = (going, on, kept_plus c.loop-i.u _ e);
-        contents_le_contents = grown c.args.room c.loop-i.u c.segment_sizes-next.result _ going on e (kept_high c.loop-i.invariant.0.kept going)
+      over_value = (going, on, kept_plus c.loop-i.u _ e);
+      contents_le_contents = grown c.args.room c.loop-i.u c.segment_sizes-next.result _ going on e (kept_high c.loop-i.invariant.0.kept going);
     }
 
 pub segments_walk-returns-then-u : goal.segments_walk-returns-then-u

@@ -1,21 +1,10 @@
-use mathlib.Core.Path.{◌≡◌, refl, sym, ap, ◌∙◌}
-use Prim.Native.Nat.{ℕ, ◌+◌, ◌-◌, ◌*◌, ◌<◌}
-use Rattle.records.specs.Values.{body_at, content_of}
-use Rattle.model.specs.Tape.{record_at, segment_codec}
-use Rattle.memo.specs.Memo.{is_there}
-use Rattle.sizes.specs.Lone.{lone_inside, lone_over, lone_then}
-use Rattle.sizes.specs.Known.{Known, known_adds, known_note, text_adds}
-use Rattle.sizes.specs.Answers.{contents_over, contents_empty, contents_then, segments_over, segments_empty, segments_then, segment_last, segment_below}
-use Rattle.sizes.specs.Answers.{body_sum, place_read, used_contents, used_segments, used_string, content_plain, content_segments_lem}
-use Rattle.sizes.specs.InPlace.{inner_adds, place_adds, content_from, segment_from, contents_from, segments_from, contents_inside, segments_inside}
-use Rattle.sizes.specs.Capped.{plus, kept_plus, Adding, adding_none, adding_more, adding_over, adding_all}
-use Rattle.sizes.specs.Added.{new_contents, new_segments}
-use Rattle.sizes.specs.Again.{going_before, kept_high, grown, adding_again, again_over, contents_same, segments_same}
+use mathlib.Core.Path.{◌≡◌}
+use Prim.Native.Nat.{◌+◌, ◌-◌, ◌*◌}
+use Rattle.records.specs.Values.{body_at}
+use Rattle.sizes.specs.Known.{Known}
+use Rattle.sizes.specs.InPlace.{inner_adds, place_adds, content_from, segment_from}
+use Rattle.sizes.specs.Capped.{Adding}
 use lib.ListN.{length}
-use native.Mathlib.Omega.{arith}
-use borrow.Author.Rules.{rules}
-use borrow.Fn.Kinds.{In}
-use borrow.Fn.PlainCycle.{Measures, is, falls, and}
 use Rattle.sizes.proofs.+tree_sizes.Given as goal
 
 abbrev pub decreases-body_sizes : goal.decreases-body_sizes

@@ -1,9 +1,6 @@
-use borrow.Author.Rules.{rules}
 use native.Mathlib.Omega.{arith}
-use Prim.Native.Nat.{◌-◌, ◌≤◌}
-use mathlib.Core.Path.{◌≡◌}
-use Rattle.sizes.specs.Capped.{plus}
-use Rattle.sizes.specs.Again.{times, times_none, times_more, times_end, again_is}
+use Prim.Native.Nat.{◌-◌}
+use Rattle.sizes.specs.Again.{times_none, times_more, times_end, again_is}
 use Rattle.sizes.proofs.again.Goals as goal
 
 pub loop-j-init : goal.loop-j-init

@@ -1,9 +1,7 @@
-use borrow.Author.Rules.{rules}
-use native.Mathlib.Omega.{arith}
 use Prim.Native.Nat.{◌-◌, ◌≤◌}
 use mathlib.Core.Path.{◌≡◌}
 use Rattle.sizes.specs.Capped.{plus}
-use Rattle.sizes.specs.Again.{times, times_none, times_more, times_end, again_is}
+use Rattle.sizes.specs.Again.{times}
 use Rattle.sizes.proofs.again.Given as goal
 
 abbrev pub invariant-loop-j : goal.invariant-loop-j

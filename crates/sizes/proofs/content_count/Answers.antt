@@ -1,5 +1,4 @@
 use Rattle.sizes.specs.InPlace.{content_count_in, content_count_out}
-use borrow.Author.Rules.{rules}
 use Rattle.sizes.proofs.content_count.Goals as goal
 
 pub returns-then-contents_in : goal.returns-then-contents_in

@@ -1,5 +1,4 @@
 use Rattle.sizes.specs.Known.{known_none}
-use borrow.Author.Rules.{rules}
 use Rattle.sizes.proofs.contents_sizes.Goals as goal
 
 pub contents_walk-requires : goal.contents_walk-requires

@@ -1,5 +1,4 @@
 use Rattle.sizes.specs.InPlace.{field_read}
-use borrow.Author.Rules.{rules}
 use Rattle.sizes.proofs.field_at.Goals as goal
 
 pub returns : goal.returns

@@ -1,5 +1,4 @@
 use Rattle.sizes.specs.Plain.{plain_tag}
-use borrow.Author.Rules.{rules}
 use Rattle.sizes.proofs.is_plain.Goals as goal
 
 pub returns : goal.returns

@@ -1,6 +1,5 @@
 use native.Mathlib.Omega.{arith}
 use Rattle.sizes.specs.Lone.{lone_layers, lone_later, lone_none, lone_found}
-use borrow.Author.Rules.{rules}
 use Rattle.sizes.proofs.lone_place.Goals as goal
 
 pub returns-then-st-ne1 : goal.returns-then-st-ne1

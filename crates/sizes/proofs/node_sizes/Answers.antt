@@ -2,7 +2,6 @@ use mathlib.Core.Path.{sym, ◌∙◌}
 use native.Mathlib.Omega.{arith}
 use Rattle.sizes.specs.Answers.{node_bare, node_body_read}
 use Rattle.sizes.specs.Plain.{ruby_adds}
-use borrow.Author.Rules.{rules}
 use Rattle.sizes.proofs.node_sizes.Goals as goal
 
 pub returns-then-plain_ruby : goal.returns-then-plain_ruby
@@ -19,9 +18,9 @@ pub body_sizes-requires : goal.body_sizes-requires
 body_sizes-requires c =
     let start = c in
     record {
-        of_tape = (start.requires.of_tape.0, start.requires.of_tape.1);
-        kept = start.requires.kept;
-        at_in_bounds = omega (arith, start.requires.at_in_bounds)
+      of_tape = (start.requires.of_tape.0, start.requires.of_tape.1);
+      kept = start.requires.kept;
+      at_in_bounds = omega (arith, start.requires.at_in_bounds);
     }
 
 pub returns : goal.returns

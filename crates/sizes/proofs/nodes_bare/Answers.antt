@@ -1,10 +1,9 @@
 use Rattle.sizes.specs.Known.{known_none}
-use borrow.Author.Rules.{rules}
 use Rattle.sizes.proofs.nodes_bare.Goals as goal
 
 pub nodes_sizes-requires : goal.nodes_sizes-requires
 nodes_sizes-requires c =
     record {
-        of_tape = (c.requires.of_tape, known_none c.args.tape.now c.args.st 1);
-        count_in_bounds = c.requires.count_in_bounds
+      of_tape = (c.requires.of_tape, known_none c.args.tape.now c.args.st 1);
+      count_in_bounds = c.requires.count_in_bounds;
     }

@@ -1,11 +1,8 @@
-use mathlib.Core.Path.{◌≡◌, refl, ap, ◌∙◌}
+use mathlib.Core.Path.{refl, ap, ◌∙◌}
 use Prim.Native.Nat.{◌-◌}
 use native.Mathlib.Omega.{arith}
-use borrow.Author.Rules.{rules}
-use lib.ListN.{length}
 use Rattle.sizes.specs.InPlace.{node_from, nodes_from_lem}
-use Rattle.sizes.specs.Capped.{no_sizes, kept_none, Adding, adding_none, adding_more, adding_over, adding_all, plus_none, capped}
-use Rattle.sizes.specs.Known.{Known}
+use Rattle.sizes.specs.Capped.{kept_none, adding_none, adding_more, adding_over, adding_all, plus_none, capped}
 use Rattle.sizes.specs.Plain.{whole_inside}
 use Rattle.sizes.proofs.nodes_sizes.Goals as goal
 
@@ -31,9 +28,9 @@ node_sizes-u-requires c =
     let at-only-contents = c in
     let start = at-only-contents in
     record {
-        of_tape = (start.requires.of_tape.0, c.loop-i.invariant.1, at-only-contents.only_contents-own.ensures, whole_inside start.args.tape.now start.args.st start.requires.of_tape.0 at-only-contents.only_contents-own.result at-only-contents.only_contents-own.ensures);
-        kept = c.loop-i.invariant.0.kept;
-        at_in_bounds = omega (arith, start.requires.count_in_bounds, c.loop-i-test.true)
+      of_tape = (start.requires.of_tape.0, c.loop-i.invariant.1, at-only-contents.only_contents-own.ensures, whole_inside start.args.tape.now start.args.st start.requires.of_tape.0 at-only-contents.only_contents-own.result at-only-contents.only_contents-own.ensures);
+      kept = c.loop-i.invariant.0.kept;
+      at_in_bounds = omega (arith, start.requires.count_in_bounds, c.loop-i-test.true);
     }
 
 pub shape_of-memo-then-u : goal.shape_of-memo-then-u

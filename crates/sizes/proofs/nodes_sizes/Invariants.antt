@@ -1,12 +1,9 @@
-use mathlib.Core.Path.{◌≡◌, refl, ap, ◌∙◌}
+use mathlib.Core.Path.{◌≡◌}
 use Prim.Native.Nat.{◌-◌}
-use native.Mathlib.Omega.{arith}
-use borrow.Author.Rules.{rules}
 use lib.ListN.{length}
-use Rattle.sizes.specs.InPlace.{node_from, nodes_from_lem}
-use Rattle.sizes.specs.Capped.{no_sizes, kept_none, Adding, adding_none, adding_more, adding_over, adding_all, plus_none, capped}
+use Rattle.sizes.specs.InPlace.{node_from}
+use Rattle.sizes.specs.Capped.{no_sizes, Adding}
 use Rattle.sizes.specs.Known.{Known}
-use Rattle.sizes.specs.Plain.{whole_inside}
 use Rattle.sizes.proofs.nodes_sizes.Given as goal
 
 abbrev pub invariant-loop-i : goal.invariant-loop-i

@@ -1,6 +1,5 @@
 use mathlib.Core.Path.{refl}
 use Rattle.sizes.specs.Known.{note_far, note_cut, note_put}
-use borrow.Author.Rules.{rules}
 use Rattle.sizes.proofs.note.Goals as goal
 
 pub returns-then-at-gt4294967295 : goal.returns-then-at-gt4294967295

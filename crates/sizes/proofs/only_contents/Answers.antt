@@ -1,6 +1,5 @@
 use mathlib.Core.Path.{refl}
 use Rattle.sizes.specs.Plain.{whole_none, whole_only}
-use borrow.Author.Rules.{rules}
 use Rattle.sizes.proofs.only_contents.Goals as goal
 
 pub returns-then-st-ne1 : goal.returns-then-st-ne1

@@ -1,11 +1,8 @@
 use Rattle.model.specs.Tape.{content_codec}
-use Rattle.wire.specs.Loops.{Passed, passed_none}
-use Rattle.records.specs.Runs.{test_at, run_more, run_failed, run_passed}
+use Rattle.wire.specs.Loops.{Passed}
+use Rattle.records.specs.Runs.{test_at}
 use Rattle.sizes.specs.Plain.{is_plain}
-use borrow.Author.Tests.{not-true, not-false}
-use mathlib.Core.Path.{refl}
 use Prim.Native.Nat.{◌-◌, ◌≤◌}
-use native.Mathlib.Omega.{arith}
 use Rattle.sizes.proofs.plain_contents.Given as goal
 
 abbrev pub invariant-loop-i : goal.invariant-loop-i

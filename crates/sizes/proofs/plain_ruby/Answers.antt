@@ -1,7 +1,5 @@
 use mathlib.Core.Path.{sym, ◌∙◌}
-use borrow.Author.Tests.{not-true, not-false}
 use Rattle.sizes.specs.Plain.{ruby_class, ruby_other, ruby_base, ruby_told}
-use borrow.Author.Rules.{rules}
 use Rattle.sizes.proofs.plain_ruby.Goals as goal
 
 pub returns-then-tape-at-ge2 : goal.returns-then-tape-at-ge2

@@ -1,6 +1,5 @@
 use Rattle.sizes.specs.Plain.{plain_over, plain_told}
 use native.Mathlib.Omega.{arith}
-use borrow.Author.Rules.{rules}
 use Rattle.sizes.proofs.plain_run.Goals as goal
 
 pub returns-then-own-from : goal.returns-then-own-from

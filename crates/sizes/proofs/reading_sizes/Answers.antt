@@ -5,8 +5,8 @@ use Rattle.sizes.proofs.reading_sizes.Goals as goal
 pub nodes_bare-requires : goal.nodes_bare-requires
 nodes_bare-requires c =
     record {
-        of_tape = reading_levels c.requires.ids_fit;
-        count_in_bounds = ids_nodes c.requires.ids_fit
+      of_tape = reading_levels c.requires.ids_fit;
+      count_in_bounds = ids_nodes c.requires.ids_fit;
     }
 
 pub returns-then-st-eq0 : goal.returns-then-st-eq0
@@ -17,8 +17,8 @@ returns-then-st-eq0 c =
 pub nodes_noted-requires : goal.nodes_noted-requires
 nodes_noted-requires c =
     record {
-        of_tape = reading_levels c.requires.ids_fit;
-        count_in_bounds = ids_nodes c.requires.ids_fit
+      of_tape = reading_levels c.requires.ids_fit;
+      count_in_bounds = ids_nodes c.requires.ids_fit;
     }
 
 pub returns : goal.returns

@@ -1,5 +1,4 @@
 use Rattle.sizes.specs.Plain.{ruby_read}
-use borrow.Author.Rules.{rules}
 use Rattle.sizes.proofs.ruby_sizes.Goals as goal
 
 pub returns : goal.returns

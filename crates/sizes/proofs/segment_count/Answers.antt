@@ -1,5 +1,4 @@
 use Rattle.sizes.specs.InPlace.{segment_count_in, segment_count_out}
-use borrow.Author.Rules.{rules}
 use Rattle.sizes.proofs.segment_count.Goals as goal
 
 pub returns-then-segments_in : goal.returns-then-segments_in

@@ -1,5 +1,4 @@
 use Rattle.sizes.specs.Known.{known_none}
-use borrow.Author.Rules.{rules}
 use Rattle.sizes.proofs.segments_sizes.Goals as goal
 
 pub segments_walk-requires : goal.segments_walk-requires

@@ -1,5 +1,4 @@
 use Rattle.sizes.specs.InPlace.{string_one, string_missing, string_optional, string_none}
-use borrow.Author.Rules.{rules}
 use Rattle.sizes.proofs.string_sizes.Goals as goal
 
 pub returns-then-usage-eq1 : goal.returns-then-usage-eq1

@@ -1,7 +1,6 @@
 use Rattle.sizes.specs.Capped.{plus_over, plus_contents, plus_segments, plus_exact}
 use mathlib.Core.Path.{sym, ◌∙◌}
 use native.Mathlib.Omega.{arith}
-use borrow.Author.Rules.{rules}
 use Rattle.sizes.proofs.with_added.Goals as goal
 
 pub returns-then-t : goal.returns-then-t

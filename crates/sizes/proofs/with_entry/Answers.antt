@@ -1,5 +1,4 @@
 use Rattle.memo.specs.Memo.{entry_in}
-use borrow.Author.Rules.{rules}
 use Rattle.sizes.proofs.with_entry.Goals as goal
 
 pub returns : goal.returns

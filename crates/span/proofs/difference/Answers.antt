@@ -1,5 +1,4 @@
 use Rattle.span.specs.Shift.{difference_back, difference_forward}
-use borrow.Author.Rules.{rules}
 use Rattle.span.proofs.difference.Goals as goal
 
 pub returns-then-a-b : goal.returns-then-a-b

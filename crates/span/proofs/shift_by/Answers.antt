@@ -1,7 +1,6 @@
 use Rattle.span.specs.Shift.{shift_in, shift_over, shift_back, shift_under}
 use mathlib.Core.Path.{sym}
 use native.Mathlib.Omega.{arith}
-use borrow.Author.Rules.{rules}
 use Rattle.span.proofs.shift_by.Goals as goal
 
 pub returns-then-n-room : goal.returns-then-n-room

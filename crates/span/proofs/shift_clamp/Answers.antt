@@ -1,7 +1,6 @@
 use Rattle.span.specs.Shift.{clamp_in, clamp_over, clamp_back, clamp_under}
 use mathlib.Core.Path.{sym}
 use native.Mathlib.Omega.{arith}
-use borrow.Author.Rules.{rules}
 use Rattle.span.proofs.shift_clamp.Goals as goal
 
 pub returns-then-n-room : goal.returns-then-n-room

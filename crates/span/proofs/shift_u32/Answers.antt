@@ -1,7 +1,6 @@
 use mir.Syntax.{w64}
 use mir.ValLaws.{to_z-of_z}
 use mathlib.Core.Path.{refl, ◌∙◌}
-use borrow.Author.Rules.{rules}
 use Rattle.span.proofs.shift_u32.Goals as goal
 
 pub returns : goal.returns

@@ -4,7 +4,6 @@ use Rattle.model.specs.Merge.{container_located}
 use Rattle.model.specs.Tape.{container_codec}
 use Rattle.splice.specs.Window.{window_value}
 use mathlib.Core.Path.{◌∙◌}
-use borrow.Author.Rules.{rules}
 use Rattle.splice.proofs.count_containers.Goals as goal
 
 pub returns : goal.returns

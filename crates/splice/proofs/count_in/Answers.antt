@@ -1,10 +1,6 @@
-use Rattle.splice.specs.Counted.{row_in, places_from, count_none, count_more, count_most, count_all, place_first, place_next, place_in}
-use Rattle.model.specs.Lists.{keep}
-use mathlib.Core.Path.{◌≡◌}
-use Prim.Native.Nat.{◌+◌, ◌-◌, ◌*◌, ◌≤◌}
+use Rattle.splice.specs.Counted.{row_in, count_none, count_more, count_most, count_all, place_first, place_next, place_in}
+use Prim.Native.Nat.{◌-◌}
 use native.Mathlib.Omega.{arith}
-use borrow.Author.Rules.{rules}
-use lib.ListN.{length}
 use Rattle.splice.proofs.count_in.Goals as goal
 
 pub loop-i-init : goal.loop-i-init

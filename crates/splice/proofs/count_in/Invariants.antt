@@ -1,9 +1,7 @@
-use Rattle.splice.specs.Counted.{row_in, places_from, count_none, count_more, count_most, count_all, place_first, place_next, place_in}
+use Rattle.splice.specs.Counted.{row_in, places_from}
 use Rattle.model.specs.Lists.{keep}
 use mathlib.Core.Path.{◌≡◌}
 use Prim.Native.Nat.{◌+◌, ◌-◌, ◌*◌, ◌≤◌}
-use native.Mathlib.Omega.{arith}
-use borrow.Author.Rules.{rules}
 use lib.ListN.{length}
 use Rattle.splice.proofs.count_in.Given as goal
 

@@ -4,7 +4,6 @@ use Rattle.model.specs.Merge.{pair_located}
 use Rattle.model.specs.Tape.{pair_codec}
 use Rattle.splice.specs.Window.{window_value}
 use mathlib.Core.Path.{◌∙◌}
-use borrow.Author.Rules.{rules}
 use Rattle.splice.proofs.count_pairs.Goals as goal
 
 pub returns : goal.returns

@@ -1,7 +1,6 @@
 use Rattle.splice.specs.Kinds.{diagnostic_in}
 use Rattle.splice.specs.Window.{window_value}
 use mathlib.Core.Path.{sym, ◌∙◌}
-use borrow.Author.Rules.{rules}
 use Rattle.splice.proofs.diagnostic_in.Goals as goal
 
 pub returns : goal.returns

@@ -4,7 +4,6 @@ use Rattle.model.specs.Tape.{records_at, container_codec}
 use Rattle.splice.specs.Window.{window_value}
 use mathlib.Core.Path.{ap, ◌∙◌}
 use lib.ListN.{length}
-use borrow.Author.Rules.{rules}
 use Rattle.splice.proofs.kept_before_containers.Goals as goal
 
 pub returns : goal.returns

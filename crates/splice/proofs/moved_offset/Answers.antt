@@ -1,6 +1,5 @@
 use Rattle.splice.specs.Written.{moved_some, moved_none}
 use Rattle.span.specs.Values.{value_of}
-use borrow.Author.Rules.{rules}
 use Rattle.splice.proofs.moved_offset.Goals as goal
 
 pub returns-in-Some : goal.returns-in-Some

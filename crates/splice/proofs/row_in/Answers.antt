@@ -1,6 +1,5 @@
 use Rattle.splice.specs.Counted.{row_in}
 use mathlib.Core.Path.{sym}
-use borrow.Author.Rules.{rules}
 use Rattle.splice.proofs.row_in.Goals as goal
 
 pub returns : goal.returns

@@ -1,6 +1,5 @@
 use Rattle.splice.specs.Parts.{span_in}
 use mathlib.Core.Path.{refl}
-use borrow.Author.Rules.{rules}
 use Rattle.splice.proofs.span_in.Goals as goal
 
 pub returns-in-Before : goal.returns-in-Before

@@ -1,6 +1,5 @@
 use Rattle.splice.specs.Written.{container_as_in}
 use Rattle.splice.specs.Window.{window_value}
-use borrow.Author.Rules.{rules}
 use Rattle.splice_lists.proofs.container_as_in.Goals as goal
 
 pub returns : goal.returns

@@ -7,14 +7,13 @@ use Rattle.model.specs.Tape.{records_at, records_bytes, container_codec}
 use Rattle.splice.specs.Window.{window_value}
 use mathlib.Core.Path.{ap, ◌∙◌}
 use mathlib.Core.List.{List}
-use borrow.Author.Rules.{rules}
 use Rattle.splice_lists.proofs.put_before_containers.Goals as goal
 
 pub put_containers-requires : goal.put_containers-requires
 put_containers-requires c =
     record {
-        count_in_bounds = c.requires.count_in_bounds;
-        count_in_bounds_2 = before_room container_located (window_value c.args.w) (records_at container_codec c.args.tape.now c.args.at c.args.count) c.args.to 13 _ c.requires.count_in_bounds_2
+      count_in_bounds = c.requires.count_in_bounds;
+      count_in_bounds_2 = before_room container_located (window_value c.args.w) (records_at container_codec c.args.tape.now c.args.at c.args.count) c.args.to 13 _ c.requires.count_in_bounds_2;
     }
 
 pub returns : goal.returns

@@ -7,14 +7,13 @@ use Rattle.model.specs.Tape.{records_at, records_bytes, diagnostic_codec}
 use Rattle.splice.specs.Window.{window_value}
 use mathlib.Core.Path.{ap, ◌∙◌}
 use mathlib.Core.List.{List}
-use borrow.Author.Rules.{rules}
 use Rattle.splice_lists.proofs.put_behind_diagnostics.Goals as goal
 
 pub put_diagnostics-requires : goal.put_diagnostics-requires
 put_diagnostics-requires c =
     record {
-        count_in_bounds = c.requires.count_in_bounds;
-        count_in_bounds_2 = behind_room diagnostic_located (window_value c.args.w) (records_at diagnostic_codec c.args.tape.now c.args.at c.args.count) c.args.to 18 _ c.requires.count_in_bounds_2
+      count_in_bounds = c.requires.count_in_bounds;
+      count_in_bounds_2 = behind_room diagnostic_located (window_value c.args.w) (records_at diagnostic_codec c.args.tape.now c.args.at c.args.count) c.args.to 18 _ c.requires.count_in_bounds_2;
     }
 
 pub returns : goal.returns

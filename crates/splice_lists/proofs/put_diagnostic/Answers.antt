@@ -1,7 +1,6 @@
 use Rattle.splice.specs.Written.{diagnostic_bytes_lem}
 use Rattle.wire.specs.Overwrite.{overwrite}
 use mathlib.Core.Path.{ap, ◌∙◌}
-use borrow.Author.Rules.{rules}
 use Rattle.splice_lists.proofs.put_diagnostic.Goals as goal
 
 pub returns : goal.returns

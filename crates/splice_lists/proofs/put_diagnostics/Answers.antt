@@ -1,10 +1,8 @@
 use Rattle.splice.specs.Kinds.{diagnostic_kind}
-use Rattle.splice.specs.Parts.{PutUpTo, put_first, put_last, put_room, put_more}
-use Rattle.model.specs.Merge.{diagnostic_located}
-use Rattle.model.specs.Tape.{diagnostic_codec}
+use Rattle.splice.specs.Parts.{put_first, put_last, put_room, put_more}
 use Rattle.splice.specs.Window.{window_value}
 use mathlib.Core.Path.{refl}
-use Prim.Native.Nat.{◌+◌, ◌-◌, ◌*◌, ◌≤◌}
+use Prim.Native.Nat.{◌+◌, ◌-◌, ◌*◌}
 use native.Mathlib.Omega.{arith}
 use Rattle.splice_lists.proofs.put_diagnostics.Goals as goal
 
@@ -23,8 +21,8 @@ overflow_add-at c =
 pub put_diagnostic_item-next-requires : goal.put_diagnostic_item-next-requires
 put_diagnostic_item-next-requires c =
     record {
-        at_in_bounds = omega (arith, c.requires.count_in_bounds);
-        to_in_bounds = put_room diagnostic_kind (window_value c.args.w) c.args.part c.args.tape.now c.args.at c.args.out.now c.args.to c.loop-i.invariant.1 c.args.count c.loop-i-test.true c.requires.count_in_bounds_2 (c.args.at + 18 * c.loop-i.i) refl
+      at_in_bounds = omega (arith, c.requires.count_in_bounds);
+      to_in_bounds = put_room diagnostic_kind (window_value c.args.w) c.args.part c.args.tape.now c.args.at c.args.out.now c.args.to c.loop-i.invariant.1 c.args.count c.loop-i-test.true c.requires.count_in_bounds_2 (c.args.at + 18 * c.loop-i.i) refl;
     }
 
 pub overflow_add-i : goal.overflow_add-i

@@ -1,11 +1,8 @@
-use Rattle.splice.specs.Kinds.{diagnostic_kind}
-use Rattle.splice.specs.Parts.{PutUpTo, put_first, put_last, put_room, put_more}
+use Rattle.splice.specs.Parts.{PutUpTo}
 use Rattle.model.specs.Merge.{diagnostic_located}
 use Rattle.model.specs.Tape.{diagnostic_codec}
 use Rattle.splice.specs.Window.{window_value}
-use mathlib.Core.Path.{refl}
-use Prim.Native.Nat.{◌+◌, ◌-◌, ◌*◌, ◌≤◌}
-use native.Mathlib.Omega.{arith}
+use Prim.Native.Nat.{◌-◌, ◌≤◌}
 use Rattle.splice_lists.proofs.put_diagnostics.Given as goal
 
 abbrev pub invariant-loop-i : goal.invariant-loop-i

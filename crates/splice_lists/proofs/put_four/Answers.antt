@@ -6,7 +6,6 @@ use Rattle.model.specs.Bytes.{word_bytes}
 use mathlib.Core.List.{[], ◌∷◌}
 use Prim.Native.Nat.{◌+◌}
 use native.Mathlib.Omega.{arith}
-use borrow.Author.Rules.{rules}
 use Rattle.splice_lists.proofs.put_four.Goals as goal
 
 pub returns : goal.returns

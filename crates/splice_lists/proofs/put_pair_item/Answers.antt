@@ -1,4 +1,3 @@
-use borrow.Author.Tests.{not-true, not-false}
 use Rattle.splice.specs.Kinds.{pair_kind}
 use Rattle.splice.specs.Parts.{as_in, item_none, item_put}
 use Rattle.model.specs.Merge.{pair_located}
@@ -6,7 +5,6 @@ use Rattle.model.specs.Tape.{record_bytes, pair_codec}
 use Rattle.splice.specs.Window.{window_value}
 use mathlib.Core.Path.{sym, ap, ◌∙◌}
 use native.Mathlib.Omega.{arith}
-use borrow.Author.Rules.{rules}
 use Rattle.splice_lists.proofs.put_pair_item.Goals as goal
 
 pub returns-then-not-pair_in : goal.returns-then-not-pair_in

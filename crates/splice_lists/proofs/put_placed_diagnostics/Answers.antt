@@ -7,14 +7,13 @@ use Rattle.model.specs.Tape.{records_at, records_bytes, diagnostic_codec}
 use Rattle.splice.specs.Window.{window_value}
 use mathlib.Core.Path.{ap, ◌∙◌}
 use mathlib.Core.List.{List}
-use borrow.Author.Rules.{rules}
 use Rattle.splice_lists.proofs.put_placed_diagnostics.Goals as goal
 
 pub put_diagnostics-requires : goal.put_diagnostics-requires
 put_diagnostics-requires c =
     record {
-        count_in_bounds = c.requires.0;
-        count_in_bounds_2 = reading_room diagnostic_codec diagnostic_located (window_value c.args.w) c.args.tape.now c.args.at c.args.count c.args.to 18 _ c.requires.1
+      count_in_bounds = c.requires.0;
+      count_in_bounds_2 = reading_room diagnostic_codec diagnostic_located (window_value c.args.w) c.args.tape.now c.args.at c.args.count c.args.to 18 _ c.requires.1;
     }
 
 pub returns : goal.returns

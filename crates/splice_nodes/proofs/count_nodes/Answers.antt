@@ -4,7 +4,6 @@ use Rattle.model.specs.Merge.{node_located}
 use Rattle.model.specs.Tape.{node_codec}
 use Rattle.splice.specs.Window.{window_value}
 use mathlib.Core.Path.{◌∙◌}
-use borrow.Author.Rules.{rules}
 use Rattle.splice_nodes.proofs.count_nodes.Goals as goal
 
 pub returns : goal.returns

@@ -4,7 +4,6 @@ use Rattle.model.specs.Tape.{records_at, node_codec}
 use Rattle.splice.specs.Window.{window_value}
 use mathlib.Core.Path.{ap, ◌∙◌}
 use lib.ListN.{length, length-map}
-use borrow.Author.Rules.{rules}
 use Rattle.splice_nodes.proofs.kept_behind_nodes.Goals as goal
 
 pub returns : goal.returns

@@ -2,7 +2,6 @@ use Rattle.splice.specs.Written.{node_as_in}
 use Rattle.records.specs.Values.{source_node_of}
 use Rattle.splice.specs.Window.{window_value}
 use mathlib.Core.Path.{refl}
-use borrow.Author.Rules.{rules}
 use Rattle.splice_nodes.proofs.node_as_in.Goals as goal
 
 pub returns : goal.returns

@@ -8,7 +8,6 @@ use Rattle.records.specs.Values.{source_node_of}
 use Rattle.splice.specs.Window.{window_value}
 use mathlib.Core.Path.{ap, ◌∙◌}
 use native.Mathlib.Omega.{arith}
-use borrow.Author.Rules.{rules}
 use Rattle.splice_nodes.proofs.place_node.Goals as goal
 
 pub put_node-requires : goal.put_node-requires

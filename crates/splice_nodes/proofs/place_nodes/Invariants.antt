@@ -1,12 +1,9 @@
-use Rattle.splice_nodes.specs.Placed.{placed_first, placed_more, placed_last}
 use Rattle.splice.specs.declared.Part.TheVariants.{Reading}
-use Rattle.splice.specs.Kinds.{node_kind}
 use Rattle.splice.specs.Parts.{PutUpTo}
 use Rattle.model.specs.Merge.{node_located}
 use Rattle.model.specs.Tape.{node_codec}
 use Rattle.splice.specs.Window.{window_value}
 use Prim.Native.Nat.{◌+◌, ◌-◌, ◌*◌, ◌≤◌}
-use native.Mathlib.Omega.{arith}
 use Rattle.splice_nodes.proofs.place_nodes.Given as goal
 
 abbrev pub invariant-loop-i : goal.invariant-loop-i

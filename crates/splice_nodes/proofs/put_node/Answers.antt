@@ -1,5 +1,4 @@
 use Rattle.splice_nodes.specs.Placed.{node_again}
-use borrow.Author.Rules.{rules}
 use Rattle.splice_nodes.proofs.put_node.Goals as goal
 
 pub returns : goal.returns

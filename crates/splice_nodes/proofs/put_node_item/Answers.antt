@@ -1,6 +1,5 @@
 use Rattle.splice_nodes.specs.Placed.{six_read}
 use Rattle.records.specs.Values.{source_node_of}
-use borrow.Author.Tests.{not-true, not-false}
 use Rattle.splice.specs.Kinds.{node_kind}
 use Rattle.splice.specs.Parts.{as_in, item_none, item_put}
 use Rattle.model.specs.Merge.{node_located}
@@ -8,7 +7,6 @@ use Rattle.model.specs.Tape.{record_bytes, node_codec}
 use Rattle.splice.specs.Window.{window_value}
 use mathlib.Core.Path.{sym, ap, ◌∙◌}
 use native.Mathlib.Omega.{arith}
-use borrow.Author.Rules.{rules}
 use Rattle.splice_nodes.proofs.put_node_item.Goals as goal
 
 pub returns-then-not-node_in : goal.returns-then-not-node_in

@@ -1,10 +1,8 @@
 use Rattle.splice.specs.Kinds.{node_kind}
-use Rattle.splice.specs.Parts.{PutUpTo, put_first, put_last, put_room, put_more}
-use Rattle.model.specs.Merge.{node_located}
-use Rattle.model.specs.Tape.{node_codec}
+use Rattle.splice.specs.Parts.{put_first, put_last, put_room, put_more}
 use Rattle.splice.specs.Window.{window_value}
 use mathlib.Core.Path.{refl}
-use Prim.Native.Nat.{◌+◌, ◌-◌, ◌*◌, ◌≤◌}
+use Prim.Native.Nat.{◌+◌, ◌-◌, ◌*◌}
 use native.Mathlib.Omega.{arith}
 use Rattle.splice_nodes.proofs.put_nodes.Goals as goal
 
@@ -23,8 +21,8 @@ overflow_add-at c =
 pub put_node_item-next-requires : goal.put_node_item-next-requires
 put_node_item-next-requires c =
     record {
-        at_in_bounds = omega (arith, c.requires.count_in_bounds);
-        to_in_bounds = put_room node_kind (window_value c.args.w) c.args.part c.args.tape.now c.args.at c.args.out.now c.args.to c.loop-i.invariant.1 c.args.count c.loop-i-test.true c.requires.count_in_bounds_2 (c.args.at + 49 * c.loop-i.i) refl
+      at_in_bounds = omega (arith, c.requires.count_in_bounds);
+      to_in_bounds = put_room node_kind (window_value c.args.w) c.args.part c.args.tape.now c.args.at c.args.out.now c.args.to c.loop-i.invariant.1 c.args.count c.loop-i-test.true c.requires.count_in_bounds_2 (c.args.at + 49 * c.loop-i.i) refl;
     }
 
 pub overflow_add-i : goal.overflow_add-i

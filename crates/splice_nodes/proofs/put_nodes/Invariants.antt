@@ -1,11 +1,8 @@
-use Rattle.splice.specs.Kinds.{node_kind}
-use Rattle.splice.specs.Parts.{PutUpTo, put_first, put_last, put_room, put_more}
+use Rattle.splice.specs.Parts.{PutUpTo}
 use Rattle.model.specs.Merge.{node_located}
 use Rattle.model.specs.Tape.{node_codec}
 use Rattle.splice.specs.Window.{window_value}
-use mathlib.Core.Path.{refl}
-use Prim.Native.Nat.{◌+◌, ◌-◌, ◌*◌, ◌≤◌}
-use native.Mathlib.Omega.{arith}
+use Prim.Native.Nat.{◌-◌, ◌≤◌}
 use Rattle.splice_nodes.proofs.put_nodes.Given as goal
 
 abbrev pub invariant-loop-i : goal.invariant-loop-i

@@ -2,7 +2,6 @@ use Rattle.store.specs.Standing.{content_place}
 use Rattle.store.specs.Pools.{layer_few}
 use mathlib.Core.Path.{refl}
 use native.Mathlib.Omega.{arith}
-use borrow.Author.Rules.{rules}
 use Rattle.store.proofs.content_place.Goals as goal
 
 pub overflow_add-k : goal.overflow_add-k

@@ -1,7 +1,6 @@
 use Rattle.store.specs.Pools.{in_layer}
 use borrow.Author.Tests.{le-leb, lt-leb}
 use mathlib.Core.Path.{sym}
-use borrow.Author.Rules.{rules}
 use Rattle.store.proofs.in_layer.Goals as goal
 
 pub returns-then-start-wide : goal.returns-then-start-wide

@@ -1,7 +1,7 @@
 use Rattle.store.specs.Pools.{in_layer, in_one}
-use Rattle.wire.specs.Loops.{Missed, missed_none, missed_more, any_missed, any_found}
+use Rattle.wire.specs.Loops.{missed_none, missed_more, any_missed, any_found}
 use mathlib.Core.Path.{◌≡◌, sym, ◌∙◌}
-use Prim.Native.Nat.{◌-◌, ◌≤◌}
+use Prim.Native.Nat.{◌-◌}
 use native.Mathlib.Omega.{arith}
 use Rattle.store.proofs.in_one_layer.Goals as goal
 

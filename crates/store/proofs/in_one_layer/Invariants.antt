@@ -1,8 +1,6 @@
-use Rattle.store.specs.Pools.{in_layer, in_one}
-use Rattle.wire.specs.Loops.{Missed, missed_none, missed_more, any_missed, any_found}
-use mathlib.Core.Path.{◌≡◌, sym, ◌∙◌}
+use Rattle.store.specs.Pools.{in_layer}
+use Rattle.wire.specs.Loops.{Missed}
 use Prim.Native.Nat.{◌-◌, ◌≤◌}
-use native.Mathlib.Omega.{arith}
 use Rattle.store.proofs.in_one_layer.Given as goal
 
 abbrev pub invariant-loop-i : goal.invariant-loop-i

@@ -1,6 +1,5 @@
-use Rattle.store.specs.Pools.{layer_of, layer_here, layer_below, layer_none}
-use mathlib.Core.Path.{◌≡◌, refl, sym, ◌∙◌}
-use Prim.Native.Nat.{◌≤◌}
+use Rattle.store.specs.Pools.{layer_here, layer_below, layer_none}
+use mathlib.Core.Path.{refl, sym, ◌∙◌}
 use native.Mathlib.Omega.{arith}
 use Rattle.store.proofs.layer_of.Goals as goal
 

@@ -1,7 +1,6 @@
-use Rattle.store.specs.Pools.{layer_of, layer_here, layer_below, layer_none}
-use mathlib.Core.Path.{◌≡◌, refl, sym, ◌∙◌}
+use Rattle.store.specs.Pools.{layer_of}
+use mathlib.Core.Path.{◌≡◌}
 use Prim.Native.Nat.{◌≤◌}
-use native.Mathlib.Omega.{arith}
 use Rattle.store.proofs.layer_of.Given as goal
 
 abbrev pub invariant-loop-k : goal.invariant-loop-k

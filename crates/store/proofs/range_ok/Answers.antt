@@ -1,5 +1,4 @@
 use Rattle.store.specs.Pools.{range_over, range_empty, range_one}
-use borrow.Author.Rules.{rules}
 use Rattle.store.proofs.range_ok.Goals as goal
 
 pub returns-then-wide-end : goal.returns-then-wide-end

@@ -1,5 +1,4 @@
 use borrow.Author.Tests.{lt-ltb, le-ltb}
-use borrow.Author.Rules.{rules}
 use Rattle.store.proofs.start_or.Goals as goal
 
 pub returns-then-i-layers : goal.returns-then-i-layers

@@ -1,5 +1,5 @@
-use Rattle.store.specs.Stored.{Filling, filling_none, filling_inside, filling_fits, filling_more, filling_all}
-use Prim.Native.Nat.{◌-◌, ◌≤◌}
+use Rattle.store.specs.Stored.{filling_none, filling_inside, filling_fits, filling_more, filling_all}
+use Prim.Native.Nat.{◌-◌}
 use native.Mathlib.Omega.{arith}
 use Rattle.store.proofs.store_of.Goals as goal
 

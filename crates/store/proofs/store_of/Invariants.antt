@@ -1,6 +1,5 @@
-use Rattle.store.specs.Stored.{Filling, filling_none, filling_inside, filling_fits, filling_more, filling_all}
+use Rattle.store.specs.Stored.{Filling}
 use Prim.Native.Nat.{◌-◌, ◌≤◌}
-use native.Mathlib.Omega.{arith}
 use Rattle.store.proofs.store_of.Given as goal
 
 abbrev pub invariant-loop-i : goal.invariant-loop-i

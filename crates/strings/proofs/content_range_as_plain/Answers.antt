@@ -1,5 +1,4 @@
 use Rattle.strings.specs.PlainContent.{range_other, range_inside, range_one}
-use borrow.Author.Rules.{rules}
 use Rattle.strings.proofs.content_range_as_plain.Goals as goal
 
 pub returns-then-len-ne1 : goal.returns-then-len-ne1

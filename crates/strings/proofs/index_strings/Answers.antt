@@ -1,10 +1,8 @@
-use borrow.Author.Rules.{rules}
-use Prim.Native.Nat.{◌-◌, ◌≤◌}
+use Prim.Native.Nat.{◌-◌}
 use lib.ListN.{length, length-set}
-use mathlib.Core.Path.{◌≡◌, refl, ◌∙◌}
+use mathlib.Core.Path.{refl, ◌∙◌}
 use native.Mathlib.Omega.{arith}
-use Rattle.strings.specs.Index.{Indexing, indexing_none, indexing_more, step_some, next_between, next_word, index_all}
-use Rattle.strings.specs.Starts.{lengths_in}
+use Rattle.strings.specs.Index.{indexing_none, indexing_more, step_some, next_between, next_word, index_all}
 use Rattle.strings.proofs.index_strings.Goals as goal
 
 pub step_of-step-requires : goal.step_of-step-requires
@@ -34,9 +32,9 @@ overflow_cast-next c =
 pub start_from-start-requires : goal.start_from-start-requires
 start_from-start-requires c =
     record {
-        readable = c.requires;
-        between = next_between c.requires.store c.count_of-count.ensures c.loop-j.invariant.2 c.step_of-step.ensures c.wide.ensures c.loop-j-test.true;
-        start_value = c.loop-j.invariant.2.summed
+      readable = c.requires;
+      between = next_between c.requires.store c.count_of-count.ensures c.loop-j.invariant.2 c.step_of-step.ensures c.wide.ensures c.loop-j-test.true;
+      start_value = c.loop-j.invariant.2.summed;
     }
 
 pub offset_bounds-words-j : goal.offset_bounds-words-j

@@ -1,9 +1,7 @@
-use borrow.Author.Rules.{rules}
 use Prim.Native.Nat.{◌-◌, ◌≤◌}
-use lib.ListN.{length, length-set}
-use mathlib.Core.Path.{◌≡◌, refl, ◌∙◌}
-use native.Mathlib.Omega.{arith}
-use Rattle.strings.specs.Index.{Indexing, indexing_none, indexing_more, step_some, next_between, next_word, index_all}
+use lib.ListN.{length}
+use mathlib.Core.Path.{◌≡◌}
+use Rattle.strings.specs.Index.{Indexing}
 use Rattle.strings.specs.Starts.{lengths_in}
 use Rattle.strings.proofs.index_strings.Given as goal
 

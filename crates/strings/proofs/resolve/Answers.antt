@@ -1,7 +1,6 @@
 use mathlib.Core.Path.{refl}
 use native.Mathlib.Omega.{arith}
 use Rattle.strings.specs.Shown.{cut_old, cut_new}
-use borrow.Author.Rules.{rules}
 use Rattle.strings.proofs.resolve.Goals as goal
 
 pub slice_bounds-result-end : goal.slice_bounds-result-end

@@ -1,15 +1,14 @@
 use mathlib.Core.Path.{◌∙◌}
 use Rattle.strings.specs.Shown.{string_lies, string_shown, span_of_start, sides_readable}
 use Rattle.strings.specs.Starts.{lengths_in}
-use borrow.Author.Rules.{rules}
 use Rattle.strings.proofs.resolve_str.Goals as goal
 
 pub string_start-start-requires : goal.string_start-start-requires
 string_start-start-requires c =
     record {
-        readable = sides_readable c.requires.resolvable;
-        indexed = c.requires.resolvable.indexed;
-        id_lt_strings = c.requires.id_lt_strings
+      readable = sides_readable c.requires.resolvable;
+      indexed = c.requires.resolvable.indexed;
+      id_lt_strings = c.requires.id_lt_strings;
     }
 
 pub resolve-requires : goal.resolve-requires

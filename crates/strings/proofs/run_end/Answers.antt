@@ -1,7 +1,6 @@
 use native.Mathlib.Omega.{arith}
 use Rattle.store.specs.Pools.{layer_few}
 use Rattle.strings.specs.Starts.{run_cut, run_whole}
-use borrow.Author.Rules.{rules}
 use Rattle.strings.proofs.run_end.Goals as goal
 
 pub overflow_add-k : goal.overflow_add-k

@@ -1,6 +1,5 @@
 use native.Mathlib.Omega.{arith}
 use Rattle.strings.specs.Starts.{run_inside, run_start, start_most}
-use borrow.Author.Rules.{rules}
 use Rattle.strings.proofs.start_after.Goals as goal
 
 pub strings_length-requires : goal.strings_length-requires

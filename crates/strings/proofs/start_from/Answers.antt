@@ -1,4 +1,4 @@
-use Prim.Native.Nat.{◌-◌, ◌≤◌}
+use Prim.Native.Nat.{◌-◌}
 use mathlib.Core.Path.{◌≡◌, ap, ◌∙◌}
 use native.Mathlib.Omega.{arith}
 use Rattle.strings.specs.Starts.{start_in, run_to}
@@ -15,9 +15,9 @@ run_end-next-requires c =
 pub start_after-place-requires : goal.start_after-place-requires
 start_after-place-requires c =
     record {
-        readable = c.requires.readable;
-        in_layer = (run_to c.requires.readable c.run_end-next.ensures c.loop-i-test.true c.requires.between.inside).0;
-        start_value = c.loop-i.invariant.1
+      readable = c.requires.readable;
+      in_layer = (run_to c.requires.readable c.run_end-next.ensures c.loop-i-test.true c.requires.between.inside).0;
+      start_value = c.loop-i.invariant.1;
     }
 
 pub loop-i-smaller : goal.loop-i-smaller

@@ -1,7 +1,6 @@
 use Prim.Native.Nat.{◌-◌, ◌≤◌}
-use mathlib.Core.Path.{◌≡◌, ap, ◌∙◌}
-use native.Mathlib.Omega.{arith}
-use Rattle.strings.specs.Starts.{start_in, run_to}
+use mathlib.Core.Path.{◌≡◌}
+use Rattle.strings.specs.Starts.{start_in}
 use Rattle.strings.proofs.start_from.Given as goal
 
 abbrev pub invariant-loop-i : goal.invariant-loop-i

@@ -2,7 +2,6 @@ use Prim.Native.Nat.{◌+◌}
 use native.Mathlib.Nat.{div-le_self}
 use native.Mathlib.Omega.{arith}
 use Rattle.strings.specs.Index.{step_is}
-use borrow.Author.Rules.{rules}
 use Rattle.strings.proofs.step_of.Goals as goal
 
 pub overflow_add-result-2 : goal.overflow_add-result-2

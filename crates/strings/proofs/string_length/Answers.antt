@@ -1,7 +1,6 @@
 use mathlib.Core.Path.{◌∙◌}
 use native.Mathlib.Omega.{arith}
 use Rattle.strings.specs.Starts.{length_inside, length_word}
-use borrow.Author.Rules.{rules}
 use Rattle.strings.proofs.string_length.Goals as goal
 
 pub overflow_add-at : goal.overflow_add-at

@@ -3,7 +3,6 @@ use lib.ListN.{length}
 use mathlib.Core.Path.{refl, ◌∙◌}
 use native.Mathlib.Omega.{arith}
 use Rattle.strings.specs.Index.{step_some, lookup_between, lookup_inside, lookup_start, span_start}
-use borrow.Author.Rules.{rules}
 use Rattle.strings.proofs.string_start.Goals as goal
 
 pub nonzero_div-q : goal.nonzero_div-q
@@ -37,9 +36,9 @@ overflow_cast-q c =
 pub start_from-requires-2 : goal.start_from-requires-2
 start_from-requires-2 c =
     record {
-        readable = c.requires.readable;
-        between = lookup_between c.requires.readable.store c.count_of.ensures c.requires.indexed c.requires.id_lt_strings c.step_of-step.ensures c.wide.ensures;
-        start_value = c.wide-2.ensures ∙ lookup_start c.requires.readable.store c.count_of.ensures c.requires.indexed c.requires.id_lt_strings c.step_of-step.ensures c.wide.ensures c.if-q-eq0.false refl c.if-start.false
+      readable = c.requires.readable;
+      between = lookup_between c.requires.readable.store c.count_of.ensures c.requires.indexed c.requires.id_lt_strings c.step_of-step.ensures c.wide.ensures;
+      start_value = c.wide-2.ensures ∙ lookup_start c.requires.readable.store c.count_of.ensures c.requires.indexed c.requires.id_lt_strings c.step_of-step.ensures c.wide.ensures c.if-q-eq0.false refl c.if-start.false;
     }
 
 pub returns : goal.returns

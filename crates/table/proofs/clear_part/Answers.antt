@@ -1,10 +1,8 @@
 use Rattle.table.specs.Views.{length_part, drop_part}
-use mathlib.Core.Path.{◌≡◌, refl, sym, ap, ◌∙◌}
-use mathlib.Core.List.{List, [], ◌∷◌, ◌++◌}
-use Prim.Native.Nat.{ℕ, zero, suc, ◌+◌, ◌-◌, ◌*◌, ◌%◌, ◌/◌, ◌^◌, ◌≤◌, ◌<◌}
-use native.Mathlib.Omega.{arith}
-use lib.ListN.{length, get_or, take, drop, set, replicate, length-set, length-take, length-drop, length-append, length-replicate}
-use borrow.Author.Rules.{rules}
+use mathlib.Core.Path.{◌≡◌, refl}
+use mathlib.Core.List.{List, ◌++◌}
+use Prim.Native.Nat.{ℕ, ◌+◌, ◌-◌, ◌≤◌}
+use lib.ListN.{length, take, drop, replicate}
 use Rattle.table.proofs.clear_part.Goals as goal
 
 together : (w last : List ℕ) (a e : ℕ) → a ≤ e → e ≤ length w → last ≡ replicate (length (take (e - a) (drop a w))) 0 → take a w ++ (last ++ drop (e - a) (drop a w)) ≡ take a w ++ (replicate (e - a) 0 ++ drop e w)

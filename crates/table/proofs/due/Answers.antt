@@ -1,12 +1,7 @@
-use lib.Dec.{eqb, leb}
-use mathlib.Core.Bool.{false, true, not, ◌&&◌}
+use mathlib.Core.Bool.{false, true}
 use borrow.Author.Tests.{eq-eqb, ne_eqb}
-use mathlib.Core.Path.{◌≡◌, refl, sym, ap, ◌∙◌}
-use mathlib.Core.List.{List, [], ◌∷◌, ◌++◌}
-use Prim.Native.Nat.{ℕ, zero, suc, ◌+◌, ◌-◌, ◌*◌, ◌%◌, ◌/◌, ◌^◌, ◌≤◌, ◌<◌}
-use native.Mathlib.Omega.{arith}
-use lib.ListN.{length, get_or, take, drop, set, replicate, length-set, length-take, length-drop, length-append, length-replicate}
-use borrow.Author.Rules.{rules}
+use mathlib.Core.Path.{refl, sym}
+use Prim.Native.Nat.{◌-◌}
 use Rattle.table.proofs.due.Goals as goal
 
 pub returns-then-slots-eq0 : goal.returns-then-slots-eq0

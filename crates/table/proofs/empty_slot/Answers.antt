@@ -1,11 +1,7 @@
 use Rattle.table.specs.Slots.{empty_first, empty_here, empty_on, empty_none}
-use Rattle.model.specs.Intern.{empty_slot}
-use mathlib.Core.Path.{◌≡◌, refl, sym, ap, ◌∙◌}
-use mathlib.Core.List.{List, [], ◌∷◌, ◌++◌}
-use Prim.Native.Nat.{ℕ, zero, suc, ◌+◌, ◌-◌, ◌*◌, ◌%◌, ◌/◌, ◌^◌, ◌≤◌, ◌<◌}
+use mathlib.Core.Path.{refl, sym, ◌∙◌}
+use Prim.Native.Nat.{◌-◌}
 use native.Mathlib.Omega.{arith}
-use borrow.Author.Rules.{rules}
-use lib.ListN.{length, get_or, take, drop, set, replicate, length-set, length-take, length-drop, length-append, length-replicate}
 use Rattle.table.proofs.empty_slot.Goals as goal
 
 pub loop-k-init : goal.loop-k-init

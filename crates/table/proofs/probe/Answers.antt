@@ -1,13 +1,10 @@
 use Rattle.table.specs.Slots.{turn_first, turn_empty, turn_hit, turn_on, turn_none}
 use Rattle.table.specs.Layout.{wide_words, strings_of}
-use Rattle.model.specs.Intern.{Probe, probe}
 use Rattle.model.specs.Lists.{same}
-use mathlib.Core.Path.{◌≡◌, refl, sym, ap, ◌∙◌}
-use mathlib.Core.List.{List, [], ◌∷◌, ◌++◌}
-use Prim.Native.Nat.{ℕ, zero, suc, ◌+◌, ◌-◌, ◌*◌, ◌%◌, ◌/◌, ◌^◌, ◌≤◌, ◌<◌}
+use mathlib.Core.Path.{refl, sym, ap, ◌∙◌}
+use mathlib.Core.List.{List}
+use Prim.Native.Nat.{ℕ, ◌-◌}
 use native.Mathlib.Omega.{arith}
-use borrow.Author.Rules.{rules}
-use lib.ListN.{length, get_or, take, drop, set, replicate, length-set, length-take, length-drop, length-append, length-replicate}
 use Rattle.table.proofs.probe.Goals as goal
 
 pub loop-steps-init : goal.loop-steps-init
@@ -21,8 +18,8 @@ returns-then-e-eq0 c =
 pub string_at-requires : goal.string_at-requires
 string_at-requires c =
     record {
-        starts = c.requires.starts;
-        id_in_bounds = omega (arith, c.requires.entries c.loop-steps.at (omega arith))
+      starts = c.requires.starts;
+      id_in_bounds = omega (arith, c.requires.entries c.loop-steps.at (omega arith));
     }
 
 pub returns-then-same : goal.returns-then-same

@@ -1,13 +1,8 @@
-use Rattle.table.specs.Slots.{turn_first, turn_empty, turn_hit, turn_on, turn_none}
 use Rattle.table.specs.Layout.{wide_words, strings_of}
-use Rattle.model.specs.Intern.{Probe, probe}
-use Rattle.model.specs.Lists.{same}
-use mathlib.Core.Path.{◌≡◌, refl, sym, ap, ◌∙◌}
-use mathlib.Core.List.{List, [], ◌∷◌, ◌++◌}
-use Prim.Native.Nat.{ℕ, zero, suc, ◌+◌, ◌-◌, ◌*◌, ◌%◌, ◌/◌, ◌^◌, ◌≤◌, ◌<◌}
-use native.Mathlib.Omega.{arith}
-use borrow.Author.Rules.{rules}
-use lib.ListN.{length, get_or, take, drop, set, replicate, length-set, length-take, length-drop, length-append, length-replicate}
+use Rattle.model.specs.Intern.{probe}
+use mathlib.Core.Path.{◌≡◌}
+use Prim.Native.Nat.{◌-◌, ◌≤◌, ◌<◌}
+use lib.ListN.{length}
 use Rattle.table.proofs.probe.Given as goal
 
 abbrev pub invariant-loop-steps : goal.invariant-loop-steps

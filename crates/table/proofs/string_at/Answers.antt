@@ -1,11 +1,7 @@
 use Rattle.table.specs.Wide.{wide_inside}
 use Rattle.table.specs.Strings.{part_bounds, part_is}
-use mathlib.Core.Path.{◌≡◌, refl, sym, ap, ◌∙◌}
-use mathlib.Core.List.{List, [], ◌∷◌, ◌++◌}
-use Prim.Native.Nat.{ℕ, zero, suc, ◌+◌, ◌-◌, ◌*◌, ◌%◌, ◌/◌, ◌^◌, ◌≤◌, ◌<◌}
+use Prim.Native.Nat.{◌+◌, ◌-◌}
 use native.Mathlib.Omega.{arith}
-use lib.ListN.{length, get_or, take, drop, set, replicate, length-set, length-take, length-drop, length-append, length-replicate}
-use borrow.Author.Rules.{rules}
 use Rattle.table.proofs.string_at.Goals as goal
 
 pub wide_at-a-requires : goal.wide_at-a-requires

@@ -1,5 +1,4 @@
 use Rattle.tape.specs.Numbers.{laid_places, laid_pools, texts_limits, book_texts, book_pools, book_places}
-use borrow.Author.Rules.{rules}
 use Rattle.tape.proofs.book_refusal.Goals as goal
 
 pub returns-then-a-ne0 : goal.returns-then-a-ne0

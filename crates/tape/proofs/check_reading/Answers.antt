@@ -1,6 +1,5 @@
 use Rattle.tape.specs.Numbers.{reading_none, reading_layers, reading_one, laid_one, laid_other}
 use Rattle.layout.specs.Shaped.{layout_laid, layout_refused}
-use borrow.Author.Rules.{rules}
 use Rattle.tape.proofs.check_reading.Goals as goal
 
 pub returns-then-p : goal.returns-then-p

@@ -1,7 +1,6 @@
 use Rattle.tape.specs.Numbers.{book_none, book_some}
 use Rattle.layout.specs.Shaped.{layout_laid, layout_refused}
 use native.Mathlib.Omega.{arith}
-use borrow.Author.Rules.{rules}
 use Rattle.tape.proofs.checked_book.Goals as goal
 
 pub returns-then-p : goal.returns-then-p

@@ -1,5 +1,4 @@
 use Rattle.tape.specs.Placed.{shorter_no, shorter, longer_no, longer}
-use borrow.Author.Rules.{rules}
 use Rattle.tape.proofs.lengths_agree.Goals as goal
 
 pub returns-then-spans-images : goal.returns-then-spans-images

@@ -1,6 +1,4 @@
 use Rattle.tape.specs.Placed.{fit_pairs, fit_containers, fit_diagnostics, pairs_bad, containers_bad, lists_end_lem}
-use borrow.Author.Tests.{not-true, not-false}
-use borrow.Author.Rules.{rules}
 use Rattle.tape.proofs.lists_placed.Goals as goal
 
 pub pairs_placed-requires : goal.pairs_placed-requires

@@ -1,6 +1,4 @@
 use Rattle.tape.specs.Placed.{fit_nodes, places_six, places_drift}
-use borrow.Author.Tests.{not-true, not-false}
-use borrow.Author.Rules.{rules}
 use Rattle.tape.proofs.places_refusal.Goals as goal
 
 pub returns-then-not-lists_placed : goal.returns-then-not-lists_placed

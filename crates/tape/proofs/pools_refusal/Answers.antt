@@ -1,6 +1,5 @@
 use Rattle.tape.specs.Numbers.{pools_ids, pools_levels, levels_pass, pools_four, pools_five, pools_pass}
 use mathlib.Core.Path.{sym, ◌∙◌}
-use borrow.Author.Tests.{not-true, not-false}
 use Rattle.tape.proofs.pools_refusal.Goals as goal
 
 pub store_of-st-requires : goal.store_of-st-requires
@@ -18,8 +17,8 @@ returns-then-not-ids_ok c =
 pub levels_ok-requires : goal.levels_ok-requires
 levels_ok-requires c =
     record {
-        of_tape = pools_levels c.requires.0 c.requires.1 c.store_of-st.ensures;
-        layers_value = c.requires.1.count
+      of_tape = pools_levels c.requires.0 c.requires.1 c.store_of-st.ensures;
+      layers_value = c.requires.1.count;
     }
 
 pub returns-then-not-levels_ok : goal.returns-then-not-levels_ok

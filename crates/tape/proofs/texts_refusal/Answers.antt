@@ -1,7 +1,5 @@
 use Rattle.tape.specs.Numbers.{laid_texts, laid_limits, texts_two, texts_three, texts_pass}
 use mathlib.Core.Path.{sym, ◌∙◌}
-use borrow.Author.Tests.{not-true, not-false}
-use borrow.Author.Rules.{rules}
 use Rattle.tape.proofs.texts_refusal.Goals as goal
 
 pub texts_utf8-requires : goal.texts_utf8-requires

@@ -1,5 +1,5 @@
-use Rattle.texts.specs.Layers.{LayersLeft, layers_none, layers_inside, layers_records, layers_bytes, layers_bad, layers_more, layers_all}
-use Prim.Native.Nat.{◌-◌, ◌≤◌}
+use Rattle.texts.specs.Layers.{layers_none, layers_inside, layers_records, layers_bytes, layers_bad, layers_more, layers_all}
+use Prim.Native.Nat.{◌-◌}
 use native.Mathlib.Omega.{arith}
 use Rattle.texts.proofs.layers_utf8.Goals as goal
 
@@ -14,9 +14,9 @@ next_layer-l-requires c =
 pub strings_end-end-requires : goal.strings_end-end-requires
 strings_end-end-requires c =
     record {
-        count_in_bounds = layers_records c.loop-i.invariant.1 c.requires.0 c.loop-i-test.true c.next_layer-l.ensures;
-        count_in_bounds_2 = layers_bytes c.loop-i.invariant.1 c.requires.0 c.loop-i-test.true c.next_layer-l.ensures;
-        bytes_value = c.loop-i.invariant.1.whole
+      count_in_bounds = layers_records c.loop-i.invariant.1 c.requires.0 c.loop-i-test.true c.next_layer-l.ensures;
+      count_in_bounds_2 = layers_bytes c.loop-i.invariant.1 c.requires.0 c.loop-i-test.true c.next_layer-l.ensures;
+      bytes_value = c.loop-i.invariant.1.whole;
     }
 
 pub returns-then-bytes-end : goal.returns-then-bytes-end

@@ -1,6 +1,5 @@
-use Rattle.texts.specs.Layers.{LayersLeft, layers_none, layers_inside, layers_records, layers_bytes, layers_bad, layers_more, layers_all}
+use Rattle.texts.specs.Layers.{LayersLeft}
 use Prim.Native.Nat.{◌-◌, ◌≤◌}
-use native.Mathlib.Omega.{arith}
 use Rattle.texts.proofs.layers_utf8.Given as goal
 
 abbrev pub invariant-loop-i : goal.invariant-loop-i

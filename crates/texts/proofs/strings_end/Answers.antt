@@ -1,7 +1,6 @@
-use Rattle.texts.specs.Strings.{StringsLeft, strings_none, strings_fit_lem, strings_bad, strings_more, strings_all}
-use Prim.Native.Nat.{◌-◌, ◌≤◌}
+use Rattle.texts.specs.Strings.{strings_none, strings_fit_lem, strings_bad, strings_more, strings_all}
+use Prim.Native.Nat.{◌-◌}
 use native.Mathlib.Omega.{arith}
-use borrow.Author.Tests.{not-true, not-false}
 use Rattle.texts.proofs.strings_end.Goals as goal
 
 pub loop-i-init : goal.loop-i-init

@@ -1,7 +1,5 @@
-use Rattle.texts.specs.Strings.{StringsLeft, strings_none, strings_fit_lem, strings_bad, strings_more, strings_all}
+use Rattle.texts.specs.Strings.{StringsLeft}
 use Prim.Native.Nat.{◌-◌, ◌≤◌}
-use native.Mathlib.Omega.{arith}
-use borrow.Author.Tests.{not-true, not-false}
 use Rattle.texts.proofs.strings_end.Given as goal
 
 abbrev pub invariant-loop-i : goal.invariant-loop-i

@@ -1,9 +1,7 @@
-use borrow.Author.Tests.{not-false}
-use Rattle.utf8.specs.Skips.{Skipped, skipped_none, skipped_more, skip_ascii, eight_ascii}
+use Rattle.utf8.specs.Skips.{skipped_none, skipped_more, skip_ascii, eight_ascii}
 use mathlib.Core.Path.{sym, ◌∙◌}
 use Prim.Native.Nat.{◌-◌}
 use native.Mathlib.Omega.{arith}
-use lib.ListN.{length}
 use Rattle.utf8.proofs.ascii_end.Goals as goal
 
 pub loop-i-init : goal.loop-i-init

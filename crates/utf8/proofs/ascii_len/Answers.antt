@@ -1,5 +1,4 @@
 use Rattle.utf8.specs.Skips.{skipped_more, step_skipped, step_1}
-use borrow.Author.Rules.{rules}
 use Rattle.utf8.proofs.ascii_len.Goals as goal
 
 pub returns-then-at-end : goal.returns-then-at-end

@@ -1,7 +1,6 @@
-use Rattle.utf8.specs.Blocks.{Blocks, blocks_none, blocks_more, len_least, len_most}
+use Rattle.utf8.specs.Blocks.{blocks_none, blocks_more, len_least, len_most}
 use Prim.Native.Nat.{◌-◌}
 use native.Mathlib.Omega.{arith}
-use lib.ListN.{length}
 use Rattle.utf8.proofs.blocks_end.Goals as goal
 
 pub loop-i-init : goal.loop-i-init

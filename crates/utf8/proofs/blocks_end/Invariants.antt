@@ -1,6 +1,5 @@
-use Rattle.utf8.specs.Blocks.{Blocks, blocks_none, blocks_more, len_least, len_most}
+use Rattle.utf8.specs.Blocks.{Blocks}
 use Prim.Native.Nat.{◌-◌}
-use native.Mathlib.Omega.{arith}
 use lib.ListN.{length}
 use Rattle.utf8.proofs.blocks_end.Given as goal
 

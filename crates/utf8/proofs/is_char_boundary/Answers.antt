@@ -1,7 +1,6 @@
 use Rattle.model.specs.Utf8.{is_char_boundary}
 use borrow.Author.Tests.{le-leb, lt-leb}
 use mathlib.Core.Path.{refl}
-use borrow.Author.Rules.{rules}
 use Rattle.utf8.proofs.is_char_boundary.Goals as goal
 
 pub returns-then-s-at : goal.returns-then-s-at

@@ -1,5 +1,4 @@
 use mathlib.Core.Path.{refl}
-use borrow.Author.Rules.{rules}
 use Rattle.utf8.proofs.is_three.Goals as goal
 
 pub returns : goal.returns

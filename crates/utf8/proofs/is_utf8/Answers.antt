@@ -1,9 +1,8 @@
 use Rattle.chars.specs.Chars.{utf8_end}
-use Rattle.utf8.specs.Skips.{Skipped, skipped_more, skipped_none, step_on}
+use Rattle.utf8.specs.Skips.{skipped_more, skipped_none, step_on}
 use mathlib.Core.Path.{sym, ◌∙◌}
 use Prim.Native.Nat.{◌-◌}
 use native.Mathlib.Omega.{arith}
-use lib.ListN.{length}
 use Rattle.utf8.proofs.is_utf8.Goals as goal
 
 pub loop-at-init : goal.loop-at-init

@@ -1,6 +1,5 @@
 use Rattle.utf8.specs.Blocks.{is_odd}
 use mathlib.Core.Path.{refl}
-use borrow.Author.Rules.{rules}
 use Rattle.utf8.proofs.odd.Goals as goal
 
 pub returns : goal.returns

@@ -1,7 +1,7 @@
 use Rattle.wire.specs.Loops.{any_up_to}
 use Rattle.utf8.specs.Blocks.{odd_at, any_more}
 use mathlib.Core.Path.{◌≡◌, refl}
-use Prim.Native.Nat.{◌-◌, ◌≤◌}
+use Prim.Native.Nat.{◌-◌}
 use native.Mathlib.Omega.{arith}
 use Rattle.utf8.proofs.odd_block.Goals as goal
 

@@ -1,8 +1,7 @@
 use Rattle.wire.specs.Loops.{any_up_to}
-use Rattle.utf8.specs.Blocks.{odd_at, any_more}
-use mathlib.Core.Path.{◌≡◌, refl}
+use Rattle.utf8.specs.Blocks.{odd_at}
+use mathlib.Core.Path.{◌≡◌}
 use Prim.Native.Nat.{◌-◌, ◌≤◌}
-use native.Mathlib.Omega.{arith}
 use Rattle.utf8.proofs.odd_block.Given as goal
 
 abbrev pub invariant-loop-i : goal.invariant-loop-i

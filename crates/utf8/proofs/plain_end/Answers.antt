@@ -3,7 +3,6 @@ use Rattle.utf8.specs.Blocks.{clear_before}
 use mathlib.Core.Path.{◌≡◌}
 use Prim.Native.Nat.{◌+◌, ◌-◌}
 use native.Mathlib.Omega.{arith}
-use borrow.Author.Rules.{rules}
 use Rattle.utf8.proofs.plain_end.Goals as goal
 
 pub returns-then-at-lt2 : goal.returns-then-at-lt2

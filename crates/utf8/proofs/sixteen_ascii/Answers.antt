@@ -1,5 +1,4 @@
 use Rattle.utf8.specs.Skips.{twice_ascii}
-use borrow.Author.Rules.{rules}
 use Rattle.utf8.proofs.sixteen_ascii.Goals as goal
 
 pub returns : goal.returns

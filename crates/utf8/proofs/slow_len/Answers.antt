@@ -1,7 +1,6 @@
-use Rattle.utf8.specs.Skips.{Skipped, skipped_none, step_skipped, step_on, step_stop}
+use Rattle.utf8.specs.Skips.{skipped_none, step_skipped, step_on, step_stop}
 use Prim.Native.Nat.{◌-◌}
 use native.Mathlib.Omega.{arith}
-use lib.ListN.{length}
 use Rattle.utf8.proofs.slow_len.Goals as goal
 
 pub loop-i-init : goal.loop-i-init

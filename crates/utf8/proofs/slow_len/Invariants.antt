@@ -1,6 +1,5 @@
-use Rattle.utf8.specs.Skips.{Skipped, skipped_none, step_skipped, step_on, step_stop}
+use Rattle.utf8.specs.Skips.{Skipped}
 use Prim.Native.Nat.{◌-◌}
-use native.Mathlib.Omega.{arith}
 use lib.ListN.{length}
 use Rattle.utf8.proofs.slow_len.Given as goal
 

@@ -1,5 +1,4 @@
 use Rattle.utf8.specs.Skips.{step_char}
-use borrow.Author.Rules.{rules}
 use Rattle.utf8.proofs.step_len.Goals as goal
 
 pub returns : goal.returns

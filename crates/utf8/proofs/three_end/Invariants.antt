@@ -1,8 +1,5 @@
-use borrow.Author.Tests.{not-false}
-use Rattle.utf8.specs.Skips.{Skipped, skipped_none, skipped_more, skip_three}
-use mathlib.Core.Path.{sym, ◌∙◌}
+use Rattle.utf8.specs.Skips.{Skipped}
 use Prim.Native.Nat.{◌-◌}
-use native.Mathlib.Omega.{arith}
 use lib.ListN.{length}
 use Rattle.utf8.proofs.three_end.Given as goal
 

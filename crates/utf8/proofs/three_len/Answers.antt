@@ -1,5 +1,4 @@
 use Rattle.utf8.specs.Skips.{step_skipped, step_char}
-use borrow.Author.Rules.{rules}
 use Rattle.utf8.proofs.three_len.Goals as goal
 
 pub returns-then-at-end : goal.returns-then-at-end

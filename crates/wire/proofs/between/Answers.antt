@@ -1,4 +1,3 @@
-use borrow.Author.Rules.{rules}
 use Rattle.wire.specs.Parts.{part_none, part_past, part_over}
 use Rattle.wire.proofs.between.Goals as goal
 

@@ -1,6 +1,5 @@
 use lib.ListN.{get_or-eq_default}
 use mathlib.Core.Path.{sym}
-use borrow.Author.Rules.{rules}
 use Rattle.wire.proofs.byte_at.Goals as goal
 
 pub returns : goal.returns

@@ -1,9 +1,8 @@
 use lib.Seq.{take_all}
-use Rattle.wire.specs.Overwrite.{overwrite, copy_more, overwrite_nil}
-use mathlib.Core.Path.{◌≡◌, refl, ◌∙◌}
-use Prim.Native.Nat.{◌-◌, ◌≤◌}
+use Rattle.wire.specs.Overwrite.{copy_more, overwrite_nil}
+use mathlib.Core.Path.{refl, ◌∙◌}
 use native.Mathlib.Omega.{arith}
-use lib.ListN.{length, take, length-set}
+use lib.ListN.{length-set}
 use Rattle.wire.proofs.copy_at.Goals as goal
 
 pub loop-i-init : goal.loop-i-init

@@ -1,9 +1,7 @@
-use lib.Seq.{take_all}
-use Rattle.wire.specs.Overwrite.{overwrite, copy_more, overwrite_nil}
-use mathlib.Core.Path.{◌≡◌, refl, ◌∙◌}
+use Rattle.wire.specs.Overwrite.{overwrite}
+use mathlib.Core.Path.{◌≡◌}
 use Prim.Native.Nat.{◌-◌, ◌≤◌}
-use native.Mathlib.Omega.{arith}
-use lib.ListN.{length, take, length-set}
+use lib.ListN.{length, take}
 use Rattle.wire.proofs.copy_at.Given as goal
 
 abbrev pub invariant-loop-i : goal.invariant-loop-i

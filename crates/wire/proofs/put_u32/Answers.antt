@@ -2,7 +2,6 @@ use Rattle.model.specs.Bytes.{word_bytes}
 use Rattle.wire.specs.Overwrite.{overwrite_4}
 use native.Mathlib.Omega.{arith}
 use lib.ListN.{length-set}
-use borrow.Author.Rules.{rules}
 use Rattle.wire.proofs.put_u32.Goals as goal
 
 pub bounds-out-at-2 : goal.bounds-out-at-2

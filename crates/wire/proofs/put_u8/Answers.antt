@@ -1,5 +1,4 @@
 use Rattle.wire.specs.Overwrite.{set_overwrite}
-use borrow.Author.Rules.{rules}
 use Rattle.wire.proofs.put_u8.Goals as goal
 
 pub returns : goal.returns

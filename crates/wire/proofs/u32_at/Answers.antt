@@ -1,5 +1,4 @@
 use Rattle.model.specs.Bytes.{word_at}
-use borrow.Author.Rules.{rules}
 use Rattle.wire.proofs.u32_at.Goals as goal
 
 pub returns : goal.returns

@@ -1,7 +1,6 @@
 use Rattle.model.specs.Bytes.{word_at}
 use Rattle.wire.specs.Words.{word_at_past}
 use mathlib.Core.Path.{refl, sym, ◌∙◌}
-use borrow.Author.Rules.{rules}
 use Rattle.wire.proofs.u32_or_zero.Goals as goal
 
 pub returns-then-s-at : goal.returns-then-s-at

@@ -1,8 +1,7 @@
 use native.Mathlib.Nat.{sub_self}
-use Rattle.model.specs.Bytes.{zeros}
-use Rattle.wire.specs.Overwrite.{overwrite, zero_more, overwrite_nil}
+use Rattle.wire.specs.Overwrite.{zero_more, overwrite_nil}
 use mathlib.Core.Path.{◌≡◌, refl}
-use Prim.Native.Nat.{◌+◌, ◌-◌, ◌≤◌}
+use Prim.Native.Nat.{◌+◌, ◌-◌}
 use native.Mathlib.Omega.{arith}
 use lib.ListN.{length, length-set}
 use Rattle.wire.proofs.zero_from.Goals as goal

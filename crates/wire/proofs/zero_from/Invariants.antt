@@ -1,10 +1,8 @@
-use native.Mathlib.Nat.{sub_self}
 use Rattle.model.specs.Bytes.{zeros}
-use Rattle.wire.specs.Overwrite.{overwrite, zero_more, overwrite_nil}
-use mathlib.Core.Path.{◌≡◌, refl}
-use Prim.Native.Nat.{◌+◌, ◌-◌, ◌≤◌}
-use native.Mathlib.Omega.{arith}
-use lib.ListN.{length, length-set}
+use Rattle.wire.specs.Overwrite.{overwrite}
+use mathlib.Core.Path.{◌≡◌}
+use Prim.Native.Nat.{◌-◌, ◌≤◌}
+use lib.ListN.{length}
 use Rattle.wire.proofs.zero_from.Given as goal
 
 abbrev pub invariant-loop-i : goal.invariant-loop-i

@@ -1,7 +1,5 @@
-use Rattle.model.specs.Bytes.{zeros}
-use Rattle.wire.specs.Overwrite.{overwrite, zero_more, overwrite_nil, overwrite_all}
+use Rattle.wire.specs.Overwrite.{zero_more, overwrite_nil, overwrite_all}
 use mathlib.Core.Path.{◌≡◌, refl, ◌∙◌}
-use Prim.Native.Nat.{◌-◌, ◌≤◌}
 use native.Mathlib.Omega.{arith}
 use lib.ListN.{length, length-set}
 use Rattle.wire.proofs.zero_words.Goals as goal

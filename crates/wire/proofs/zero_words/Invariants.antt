@@ -1,9 +1,8 @@
 use Rattle.model.specs.Bytes.{zeros}
-use Rattle.wire.specs.Overwrite.{overwrite, zero_more, overwrite_nil, overwrite_all}
-use mathlib.Core.Path.{◌≡◌, refl, ◌∙◌}
+use Rattle.wire.specs.Overwrite.{overwrite}
+use mathlib.Core.Path.{◌≡◌}
 use Prim.Native.Nat.{◌-◌, ◌≤◌}
-use native.Mathlib.Omega.{arith}
-use lib.ListN.{length, length-set}
+use lib.ListN.{length}
 use Rattle.wire.proofs.zero_words.Given as goal
 
 abbrev pub invariant-loop-k : goal.invariant-loop-k

@@ -1,6 +1,5 @@
 use Rattle.model.specs.Offset.{shifted}
 use mathlib.Core.Path.{refl}
-use borrow.Author.Rules.{rules}
 use Rattle.span.proofs.Span.shifted_by.Goals as goal
 
 pub returns : goal.returns
