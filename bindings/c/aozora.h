@@ -9,7 +9,7 @@
    The caller lends all memory but some stack: a thread that calls should have 1 MB. Nothing is allocated, and nothing is kept behind a call. A book or a reading is a tape and a byte buffer: docs/FORMAT.md.
    In every answer `number` is 0, or that of the refusal; what an answer does not have is 0.
 
-   Build: rt staticlib exports && cc main.c -I bindings/c -L target/staticlib -lexports      (x86-64 Linux) */
+   Build: (cd crates/exports && rt lib) && cc main.c -I bindings/c -L crates/exports/out -lexports      (x86-64-v2 Linux) */
 #ifndef AOZORA_H
 #define AOZORA_H
 
@@ -102,7 +102,7 @@ typedef struct { uint32_t number, reread, calls, contents, segments; size_t byte
    buffers the book takes.
    calls is how many strings the reading's nodes name, each as often as it is named. probe_steps, how many slots of the interner's table were
    looked at, is at most calls × m, m being how many distinct strings of at most 64 bytes are among these, and 0 if m is 0: proved for every
-   merge (merged-ceiling and merged-most in crates/incremental/specs/Ceiling.antt). m is at most 3583. */
+   merge (merged_ceiling and merged_most in crates/incremental/specs/Ceiling.antt). m is at most 3583. */
 typedef struct {
     uint32_t number, start, end, reused, reread;
     uint64_t calls, cache_hits, table_hits, allocs, long_bypass, resizes, probe_steps;

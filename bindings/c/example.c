@@ -1,5 +1,5 @@
 /* Document 01's P5 priced and merged, a damaged tape refused, two corrections in both orders, and what else can be asked of a book. From the repository's root:
-     rt staticlib exports && cc -I bindings/c bindings/c/example.c -L target/staticlib -lexports -o /tmp/example && /tmp/example
+     (cd crates/exports && rt lib) && cc -I bindings/c bindings/c/example.c -L crates/exports/out -lexports -o /tmp/example && /tmp/example
    It prints bindings/c/example.txt. */
 #include <stdio.h>
 #include <stdlib.h>

@@ -1,5 +1,5 @@
 /* The program `merge` of document 01, section Runs, in C over the proved archive: one input on standard input, one line on standard output.
-     cc -I bindings/c bindings/c/merge.c -L target/staticlib -lexports -o /tmp/merge && /tmp/merge < crates/merge/stdin */
+     cc -I bindings/c bindings/c/merge.c -L crates/exports/out -lexports -o /tmp/merge && /tmp/merge < crates/merge/stdin */
 #include <stdio.h>
 #include <string.h>
 #include "aozora.h"

@@ -12,7 +12,7 @@ fn main() {
     let dir = env::var_os("AOZORA_ARCHIVE_DIR").map_or_else(
         || {
             PathBuf::from(env::var_os("CARGO_MANIFEST_DIR").unwrap_or_default())
-                .join("../../target/staticlib")
+                .join("../../crates/exports/out")
         },
         PathBuf::from,
     );
@@ -20,7 +20,7 @@ fn main() {
     println!("cargo::rerun-if-changed={}", archive.display());
     if !archive.is_file() {
         println!(
-            "cargo::error=the proved archive {} is not there: run `rt staticlib exports` in the repository's root, \
+            "cargo::error=the proved archive {} is not there: run `rt lib` in the repository's folder crates/exports, \
              or set AOZORA_ARCHIVE_DIR to the folder that has libexports.a",
             archive.display()
         );

@@ -1,4 +1,4 @@
-// The C entries of target/staticlib/libexports.a that the drivers call, as bindings/c/aozora.h declares them.
+// The C entries of crates/exports/out/libexports.a that the drivers call, as bindings/c/aozora.h declares them.
 #[repr(C)]
 #[derive(Clone, Copy)]
 struct Answer { number: u32, start: u32, end: u32, reused: u32, reread: u32, counts: [u64; 7], tape: usize, bytes: usize }

@@ -221,7 +221,7 @@ fn write(template: &str, docs: &str, rows: &[Row], slow: &[HostileRow], p: &Prof
         ("to-limit", to_limit(rows)),
         ("hostile", hostile_table(slow)),
         ("hostile-summary", if slow.is_empty() { String::new() } else { hostile_summary(slow) }),
-        ("archive", std::env::var("ARCHIVE").map_or("that of `rt staticlib exports`".into(), |s| format!("one that was given, `{s}`, and may be unproved"))),
+        ("archive", std::env::var("ARCHIVE").map_or("that of `rt lib` in crates/exports".into(), |s| format!("one that was given, `{s}`, and may be unproved"))),
         ("behind", list(rows, MERGE, REPARSE, 6)),
         ("ahead", list(rows, REPARSE, MERGE, 99)),
         ("behind-tapes", list(rows, MERGE, TAPES, 99)),

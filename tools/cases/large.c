@@ -1,6 +1,6 @@
 /* P5 on a book whose one string has 4294967295 bytes: the new strings stand behind the first 4 GiB of the byte buffer. It takes 4.3 GiB of
    memory and some seconds. From the repository's root:
-     rt staticlib exports && cc -O1 -I bindings/c tools/cases/large.c -L target/staticlib -lexports -o /tmp/large && /tmp/large < crates/merge/stdin */
+     (cd crates/exports && rt lib) && cc -O1 -I bindings/c tools/cases/large.c -L crates/exports/out -lexports -o /tmp/large && /tmp/large < crates/merge/stdin */
 #include <stdio.h>
 #include <string.h>
 #include <sys/mman.h>

@@ -67,8 +67,9 @@
 //!
 //! # Building
 //!
-//! The archive is `libexports.a`: `rt staticlib exports` in the repository's root writes it to
-//! target/staticlib. `AOZORA_ARCHIVE_DIR` names another folder. It is for x86-64 Linux.
+//! The archive is `libexports.a`: `rt lib` in the repository's folder crates/exports writes it to
+//! crates/exports/out. `AOZORA_ARCHIVE_DIR` names another folder. It is for x86-64 Linux,
+//! on processors from x86-64-v2 on.
 
 #![deny(missing_docs)]
 #![deny(unsafe_code)]

@@ -1,4 +1,4 @@
-//! The proved code, as C calls it: target/staticlib/libexports.a (`rt staticlib exports`), bindings/c/aozora.h. Every buffer is lent full of sevens.
+//! The proved code, as C calls it: crates/exports/out/libexports.a (`rt lib` in crates/exports), bindings/c/aozora.h. Every buffer is lent full of sevens.
 use crate::book::{Answer, Case, Room};
 
 #[repr(C)]
