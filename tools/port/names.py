@@ -16,8 +16,7 @@ import sys
 # already: where one of these had dashes and falls together with a definition, it is turned too, in .antt files alone.
 
 TOKEN = re.compile(r"[^\s(){}\[\].,;:@\"`λ→×≡≤<>+*/∷%^&|=?!#◌⊎]+")
-DECL = re.compile(r"^(\s*)((?:unfoldable |abbrev |pub |open |data |record )*)([^\s:{}()]+(?: [^\s:{}()]+)*?) : ")
-FIELD = re.compile(r"^\s+(?:pub )?([a-z][^\s:{}()]*) : ")
+DECL = re.compile(r"^(\s*)((?:unfoldable |abbrev |pub |open |data |record )*)([^\s:{}()]+(?: [^\s:{}()]+)*?) :(?: |$)")
 
 
 def files(root):

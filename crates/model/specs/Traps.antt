@@ -121,22 +121,22 @@ abbrev kaeriten : LexOutput
 kaeriten = one_node (layer_of (ascii "y" ∷ ascii "x" ∷ []) [] [] ∷ []) (body 12 0 (words 1 0))
 
 -- Looking for strings in older layers: a new layer never finds them. The "x" of the layer below has id 1, the new one 2.
-pub older-strings-not-found :
+pub older_strings_not_found :
     ((graft_node_refs (shown_nodes kaeriten) (layered kaeriten.layers)).1.interner.strings ≡ ascii "x" ∷ [])
     × (map (λ (n : SourceNode). n.body.words) (graft_node_refs (shown_nodes kaeriten) (layered kaeriten.layers)).0 ≡ words 2 0 ∷ [])
 unfolding computed
-older-strings-not-found = (refl, refl)
+older_strings_not_found = (refl, refl)
 
 abbrev container : ℕ → ℕ → ContainerPair
 container opening closing = record { plain = 7; opening = opening; closing = closing }
 
 -- Taking a container whose close equals the normalized start: it is dropped; one that closes before it is kept, one that opens
 -- at the normalized end moves.
-pub container-at-the-start-dropped :
+pub container_at_the_start_dropped :
     field (λ b. b.container_pairs) [] (merged (three_with [] (container 1 3 ∷ container 1 4 ∷ container 7 9 ∷ container 8 9 ∷ []) []) (plain_reading []))
     ≡ container 1 3 ∷ container 8 9 ∷ []
 unfolding computed
-container-at-the-start-dropped = refl
+container_at_the_start_dropped = refl
 
 -- ---- sentences that could be read twice
 
@@ -194,22 +194,22 @@ block_reading = record {
 }
 
 -- A reading of only BlockOpen and BlockClose adds a layer, an empty one; a reading with no nodes adds none.
-pub layer-of-blocks :
+pub layer_of_blocks :
     (field (λ b. length b.layers) 0 (merged (three_with [] [] []) block_reading) ≡ 2)
     × (field (λ b. length b.layers) 0 (merged (three_with [] [] []) (plain_reading [])) ≡ 1)
 unfolding computed
-layer-of-blocks = (refl, refl)
+layer_of_blocks = (refl, refl)
 
 abbrev diagnostic : ℕ → ℕ → ℕ → Diagnostic
 diagnostic start end plain = record { kind = 0; code_rank = 3; span = span start end; plain = plain }
 
 -- Equal diagnostic keys keep their order, those of the book and those of the reading; old lists need not be sorted.
-pub equal-keys-keep-their-order :
+pub equal_keys_keep_their_order :
     field (λ b. b.diagnostics) []
     (merged (three_with [] [] (diagnostic 9 10 1 ∷ diagnostic 8 9 2 ∷ diagnostic 0 1 3 ∷ diagnostic 8 9 4 ∷ [])) (plain_reading (diagnostic 0 1 5 ∷ diagnostic 0 1 6 ∷ [])))
     ≡ diagnostic 0 1 3 ∷ diagnostic 4 5 5 ∷ diagnostic 4 5 6 ∷ diagnostic 8 9 2 ∷ diagnostic 8 9 4 ∷ diagnostic 9 10 1 ∷ []
 unfolding computed
-equal-keys-keep-their-order = refl
+equal_keys_keep_their_order = refl
 
 -- a pair of one byte each
 abbrev pair : ℕ → ℕ → PairLink
@@ -247,42 +247,42 @@ blank_line_lost = refl
 
 -- Wish 1. Where there is a later cut the search goes on to it: the first of two newlines overwritten or taken away, a letter put between
 -- the two, two of three newlines taken away, and one of three at the text's start, where only one byte is left before the first cut.
-pub later-cut-taken :
+pub later_cut_taken :
     (region_over (ascii "aa\n\nbb\n\ncc") 2 3 (ascii "x") ≡ region 0 8)
     × (region_over (ascii "aa\n\nbb\n\ncc") 2 3 [] ≡ region 0 8)
     × (region_over (ascii "aa\n\nbb\n\ncc") 3 3 (ascii "x") ≡ region 0 8)
     × (region_over (ascii "a\n\n\nbb\n\nc") 1 3 [] ≡ region 0 8)
     × (region_over (ascii "\n\n\nbb") 0 1 [] ≡ region 0 3)
 unfolding computed
-later-cut-taken = (refl, refl, refl, refl, refl)
+later_cut_taken = (refl, refl, refl, refl, refl)
 
 -- Wish 1. A replacement that ends in a newline leaves two before the moved cut; so does one newline of three taken away.
-pub blank-line-survives :
+pub blank_line_survives :
     (region_over (ascii "aa\n\nbb\n\ncc") 2 3 (ascii "x\n") ≡ region 0 4)
     × (region_over (ascii "aa\n\nbb\n\ncc") 1 3 (ascii "\n") ≡ region 0 4)
     × (region_over (ascii "a\n\n\nbb\n\nc") 2 3 [] ≡ region 0 4)
 unfolding computed
-blank-line-survives = (refl, refl, refl)
+blank_line_survives = (refl, refl, refl)
 
 -- Wish 1. The text's end needs no blank line, neither in the old text nor in the new one.
-pub text-end-stays :
+pub text_end_stays :
     (region_over (ascii "aa\n\nbb\n\n") 6 7 (ascii "x") ≡ region 4 8) × (region_over (ascii "aa\n\nbb\n") 5 6 (ascii "x") ≡ region 4 7)
 unfolding computed
-text-end-stays = (refl, refl)
+text_end_stays = (refl, refl)
 
 -- Wish 1. Passages that a correction joins are read as one: the region is 0..8, and the reading of 0..4 alone is refused with 12.
-pub joined-passages :
+pub joined_passages :
     (number_of (merge (stored_book (three_with [] [] [])) (edit 2 3) (stored_book (plain_book (ascii "aax\n"))) program_room) ≡ 12)
     × (number_of (merge (stored_book (three_with [] [] [])) (edit 2 3) (stored_book (plain_book (ascii "aax\nbb\n\n"))) program_room) ≡ 0)
 unfolding computed
-joined-passages = (refl, refl)
+joined_passages = (refl, refl)
 
 -- 16384 work words are asked for also where nothing is grafted.
-pub work-words-always :
+pub work_words_always :
     (number_of (merge (stored_book (three_with [] [] [])) (edit 4 5) (stored_book (plain_reading [])) (record { tape_bytes = 65536; text_bytes = 65536; work_words = 16384 })) ≡ 0)
     × (number_of (merge (stored_book (three_with [] [] [])) (edit 4 5) (stored_book (plain_reading [])) (record { tape_bytes = 65536; text_bytes = 65536; work_words = 16383 })) ≡ 18)
 unfolding computed
-work-words-always = (refl, refl)
+work_words_always = (refl, refl)
 
 -- A reading has exactly one layer: another count is 1, where a book of two layers is accepted.
 pub reading_of_two_layers : (number (two_layers 0 1) ≡ 0) × (number_of (check_reading (tape_of (two_layers 0 1)) (bytes_of (two_layers 0 1))) ≡ 1)
@@ -290,11 +290,11 @@ unfolding computed
 reading_of_two_layers = (refl, refl)
 
 -- The program: fewer than seven words are 1; then a part over 65536 bytes is 3; then surplus input is 1.
-pub program-input :
+pub program_input :
     (number_of (program (replicate 27 255)) ≡ 1) × (number_of (program (replicate 28 255)) ≡ 3)
     × (number_of (program (input (plain_book (ascii "aa\n\nbb\n\ncc")) (edit 4 5) ruby_reading ++ (0 ∷ []))) ≡ 1)
 unfolding computed
-program-input = (refl, refl, refl)
+program_input = (refl, refl, refl)
 
 -- ---- wish 2
 
@@ -319,17 +319,17 @@ price nodes calls contents segments bytes = record { reparsed_nodes = nodes; cal
 
 -- Wish 2. The strings of all old layers are in the byte buffer beside both texts; the reading's strings are the new layer's. Without nodes
 -- the four counts are 0.
-pub old-strings-priced :
+pub old_strings_priced :
     (priced (layers_with (ascii "aa\n\nbb\n\ncc") (layer_of (ascii "old" ∷ []) [] [] ∷ layer_of (ascii "er" ∷ []) [] [] ∷ [])) ruby_reading ≡ accepted (price 1 2 2 0 26))
     × (priced (three_with [] [] []) (plain_reading []) ≡ accepted (price 0 0 0 0 20))
 unfolding computed
-old-strings-priced = (refl, refl)
+old_strings_priced = (refl, refl)
 
 -- Wish 2. 1048575 is not over, for none of the three; one more is, for each.
-pub over-by-one-of-three :
+pub over_by_one_of_three :
     (is_over 1048575 1048575 1048575 ≡ false) × (is_over 1048576 0 0 ≡ true) × (is_over 0 1048576 0 ≡ true) × (is_over 0 0 1048576 ≡ true)
 unfolding computed
-over-by-one-of-three = (refl, refl, refl, refl)
+over_by_one_of_three = (refl, refl, refl, refl)
 
 -- 1048576 calls, two contents, no segment
 abbrev many_calls : LexOutput → RegionOutput → Estimate
@@ -353,12 +353,12 @@ abbrev layers_of : ℕ → List Layer
 layers_of n = replicate n (layer_of [] [] [])
 
 -- Wish 2. 16 and 17 come as the merge gives them, 16 first; a reading without nodes needs no layer.
-pub sixteen-before-seventeen :
+pub sixteen_before_seventeen :
     (priced (layers_with bad_cut (layers_of 32)) ruby_reading ≡ refused 16)
     × (priced (layers_with (ascii "aa\n\nbb\n\ncc") (layers_of 32)) ruby_reading ≡ refused 17)
     × (priced (layers_with (ascii "aa\n\nbb\n\ncc") (layers_of 32)) (plain_reading []) ≡ accepted (price 0 0 0 0 20))
 unfolding computed
-sixteen-before-seventeen = (refl, refl, refl)
+sixteen_before_seventeen = (refl, refl, refl)
 
 -- calls, probes and m of a list of calls on a fresh layer
 abbrev probed : List (List ℕ) → List ℕ
@@ -386,9 +386,9 @@ unfolding computed
 growth_not_counted = refl
 
 -- Wish 7. The list is the one that grafting makes, in its order; what is no reading makes none.
-pub calls-in-order :
+pub calls_in_order :
     (graft_calls (shown_nodes gaiji) ≡ ascii "m" ∷ ascii "h" ∷ [])
     × (reading_calls (stored_book ruby_reading) ≡ ascii "x" ∷ ascii "b" ∷ [])
     × (reading_calls (stored_book (two_layers 0 1)) ≡ [])
 unfolding computed
-calls-in-order = (refl, refl, refl)
+calls_in_order = (refl, refl, refl)

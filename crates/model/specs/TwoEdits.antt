@@ -177,8 +177,8 @@ over start end replacement = record { start = start; end = end; replacement = re
 
 -- A text's end that was safe only as the end: region 4..7 ends there. Once "x" is put behind it, the region goes on to the new
 -- end, and the reading is refused with 12. The other way round both are accepted.
-pub end-only-safe-as-the-end :
+pub end_only_safe_as_the_end :
     (number_second (ascii "aa\n\nbb\n") (over 7 7 (ascii "x")) (ascii "x") (over 4 5 (ascii "y")) (ascii "yb\n") ≡ accepted 12)
     × (number_second (ascii "aa\n\nbb\n") (over 4 5 (ascii "y")) (ascii "yb\n") (over 7 7 (ascii "x")) (ascii "x") ≡ accepted 0)
 unfolding computed
-end-only-safe-as-the-end = (refl, refl)
+end_only_safe_as_the_end = (refl, refl)
