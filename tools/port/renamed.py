@@ -8,7 +8,7 @@ import re
 import subprocess
 import sys
 
-NAME = re.compile(r"^\s*(?:(?:unfoldable|abbrev|pub|open|data|record) )*([^\s:{}()]+)(?: [^:]*)? : ")
+NAME = re.compile(r"^\s*(?:(?:unfoldable|abbrev|pub|open|data|record) )*([^\s:{}()]+)(?: [^:]*)? :(?: |$)")
 
 
 def git(*words):
