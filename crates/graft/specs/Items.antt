@@ -1,7 +1,7 @@
 -- One content and one segment: what its function asks of the others, and its returns.
 use Rattle.std.specs.Prelude.{◌≡◌, ℕ, zero, suc, ◌+◌, ◌-◌, ◌*◌, ◌<◌, false, List, [], ◌∷◌, length, replicate}
 use Rattle.std.proofs.Math.Path.{refl, sym}
-use Rattle.std.proofs.Common.{ap, ◌∙◌}
+use Rattle.std.proofs.Common.{ap, ◌∙◌, subst}
 use native.Mathlib.Omega.{arith}
 use Rattle.std.proofs.Math.Bool.{true}
 use borrow.Author.Tests.{eq-eqb, ne_eqb, ltb-true}
@@ -39,17 +39,18 @@ module _ (t : List ℕ) (st : Store) (at : ℕ) (c : ContentRead) (e : content_o
   module _ (h : content_in st (record_at content_codec t at) ≡ true) where
     pub plain_known : c.tag ≡ 0 → c.first < st.totals.strings
     unfolding content_in
-    plain_known z = let g : content_in st (content_of c) ≡ true = rw e h in ltb-true c.first st.totals.strings (rw (eq-eqb c.tag 0 z) at g)
+    plain_known z = let g : content_in st (content_of c) ≡ true = subst (λ (x : Content). content_in st x ≡ true) (sym e) h in ltb-true c.first st.totals.strings (rw (eq-eqb c.tag 0 z) at g)
 
     pub run_known : (c.tag ≡ 0 → ⊥) → segments_in st c.first c.second ≡ true
     unfolding content_in
-    run_known z = let g : content_in st (content_of c) ≡ true = rw e h in rw (ne_eqb c.tag 0 z) at g
+    run_known z = let g : content_in st (content_of c) ≡ true = subst (λ (x : Content). content_in st x ≡ true) (sym e) h in rw (ne_eqb c.tag 0 z) at g
 
   pub run_ready : {d : List ℕ} {p : Plan} {m : Mark} {out work strs : List ℕ} (inner : Body → Added) → (c.tag ≡ 0 → ⊥)
       → Ready t d st p m out work strs (content_adds inner t st (record_at content_codec t at)) → Ready t d st p m out work strs (segment_run_adds inner t st c.first c.second)
   unfolding content_adds
   run_ready {d} {p} {m} {out} {work} {strs} inner z y =
-      let g : Ready t d st p m out work strs (content_adds inner t st (content_of c)) = rw e y in
+      let g : Ready t d st p m out work strs (content_adds inner t st (content_of c)) =
+          subst (λ (x : Content). Ready t d st p m out work strs (content_adds inner t st x)) (sym e) y in
       rw (ne_eqb c.tag 0 z) at g
 
   module _ (l : ℕ) (d : List ℕ) (p : Plan) (m : Mark) (to : ℕ) (out work strs : List ℕ) {out₁ work₁ strs₁ : List ℕ} (s : Start) where

@@ -1,3 +1,4 @@
+use borrow.Author.Tests.{not-true, not-false}
 use native.Mathlib.Omega.{arith}
 use mathlib.Core.Path.{refl, sym, ap, ◌∙◌}
 use Rattle.records.specs.Values.{body_at}
@@ -37,7 +38,7 @@ graft_body-shape_of-strs-then-not-k t c =
 
 pub graft_body-returns-then-not-k : goal.graft_body-returns-then-not-k
 graft_body-returns-then-not-k t c =
-    body_refused c.args.level c.args.tape.now c.args.bytes.now c.args.st c.args.p c.args.m (body_at c.args.tape.now c.args.at) c.args.out.now c.args.work.now c.args.strs.now c.requires.ready c.requires.at_in_bounds.1 (c.loop-j.j + 1) (omega (arith, c.loop-j-test.true)) (body_turn c.args.level c.args.tape.now c.args.bytes.now c.args.st c.args.p c.args.m (body_at c.args.tape.now c.args.at) c.args.out.now c.args.work.now c.args.strs.now c.requires.ready c.requires.at_in_bounds.1 c.loop-j.invariant.1 c.loop-j-test.true c.graft_place-u.ensures) c.if-not-k.true
+    body_refused c.args.level c.args.tape.now c.args.bytes.now c.args.st c.args.p c.args.m (body_at c.args.tape.now c.args.at) c.args.out.now c.args.work.now c.args.strs.now c.requires.ready c.requires.at_in_bounds.1 (c.loop-j.j + 1) (omega (arith, c.loop-j-test.true)) (body_turn c.args.level c.args.tape.now c.args.bytes.now c.args.st c.args.p c.args.m (body_at c.args.tape.now c.args.at) c.args.out.now c.args.work.now c.args.strs.now c.requires.ready c.requires.at_in_bounds.1 c.loop-j.invariant.1 c.loop-j-test.true c.graft_place-u.ensures) (not-true _ c.if-not-k.true)
 
 pub graft_body-overflow_add-j : goal.graft_body-overflow_add-j
 graft_body-overflow_add-j t c =
@@ -49,7 +50,7 @@ graft_body-loop-j-smaller t c =
 
 pub graft_body-loop-j-preserved : goal.graft_body-loop-j-preserved
 graft_body-loop-j-preserved t c =
-    (omega (arith, c.loop-j-test.true), body_more c.args.level c.args.tape.now c.args.bytes.now c.args.st c.args.p c.args.m (body_at c.args.tape.now c.args.at) c.args.out.now c.args.work.now c.args.strs.now c.requires.ready c.requires.at_in_bounds.1 c.loop-j.invariant.1 c.loop-j-test.true c.graft_place-u.ensures c.graft_place-u.auto.out c.if-not-k.false, c.graft_place-u.auto.work ∙ c.loop-j.invariant.2, c.graft_place-u.auto.strs ∙ c.loop-j.invariant.3)
+    (omega (arith, c.loop-j-test.true), body_more c.args.level c.args.tape.now c.args.bytes.now c.args.st c.args.p c.args.m (body_at c.args.tape.now c.args.at) c.args.out.now c.args.work.now c.args.strs.now c.requires.ready c.requires.at_in_bounds.1 c.loop-j.invariant.1 c.loop-j-test.true c.graft_place-u.ensures c.graft_place-u.auto.out (not-false _ c.if-not-k.false), c.graft_place-u.auto.work ∙ c.loop-j.invariant.2, c.graft_place-u.auto.strs ∙ c.loop-j.invariant.3)
 
 pub graft_body-shape_of-out : goal.graft_body-shape_of-out
 graft_body-shape_of-out t c =
@@ -98,7 +99,7 @@ graft_content-shape_of-strs-then-not-k t c =
 
 pub graft_content-returns-then-not-k : goal.graft_content-returns-then-not-k
 graft_content-returns-then-not-k t c =
-    plain_refused c.args.tape.now c.args.st c.args.at c.content_at-c.result c.content_at-c.ensures c.args.level c.args.bytes.now c.args.p c.args.m c.args.to c.args.out.now c.args.work.now c.args.strs.now c.graft_str-s.result c.if-c-eq0.true (c.graft_str-s.ensures c.args.out.now) c.if-not-k.true
+    plain_refused c.args.tape.now c.args.st c.args.at c.content_at-c.result c.content_at-c.ensures c.args.level c.args.bytes.now c.args.p c.args.m c.args.to c.args.out.now c.args.work.now c.args.strs.now c.graft_str-s.result c.if-c-eq0.true (c.graft_str-s.ensures c.args.out.now) (not-true _ c.if-not-k.true)
 
 pub graft_content-put_content-requires : goal.graft_content-put_content-requires
 graft_content-put_content-requires t c =
@@ -118,7 +119,7 @@ graft_content-shape_of-strs-then-c-eq0 t c =
 
 pub graft_content-returns-then-c-eq0 : goal.graft_content-returns-then-c-eq0
 graft_content-returns-then-c-eq0 t c =
-    plain_made c.args.tape.now c.args.st c.args.at c.content_at-c.result c.content_at-c.ensures c.args.level c.args.bytes.now c.args.p c.args.m c.args.to c.args.out.now c.args.work.now c.args.strs.now c.graft_str-s.result c.if-c-eq0.true (c.graft_str-s.ensures c.args.out.now) c.if-not-k.false c.put_content.ensures
+    plain_made c.args.tape.now c.args.st c.args.at c.content_at-c.result c.content_at-c.ensures c.args.level c.args.bytes.now c.args.p c.args.m c.args.to c.args.out.now c.args.work.now c.args.strs.now c.graft_str-s.result c.if-c-eq0.true (c.graft_str-s.ensures c.args.out.now) (not-false _ c.if-not-k.false) c.put_content.ensures
 
 pub graft_content-graft_segment_run-s-requires : goal.graft_content-graft_segment_run-s-requires
 graft_content-graft_segment_run-s-requires t c =
@@ -138,7 +139,7 @@ graft_content-shape_of-strs-then-not-k-2 t c =
 
 pub graft_content-returns-then-not-k-2 : goal.graft_content-returns-then-not-k-2
 graft_content-returns-then-not-k-2 t c =
-    run_refused c.args.tape.now c.args.st c.args.at c.content_at-c.result c.content_at-c.ensures c.args.level c.args.bytes.now c.args.p c.args.m c.args.to c.args.out.now c.args.work.now c.args.strs.now c.graft_segment_run-s.result c.requires.ready.source (run_known c.args.tape.now c.args.st c.args.at c.content_at-c.result c.content_at-c.ensures c.requires.at_in_bounds.1 c.if-c-eq0.false) c.if-c-eq0.false c.graft_segment_run-s.ensures c.if-not-k-2.true
+    run_refused c.args.tape.now c.args.st c.args.at c.content_at-c.result c.content_at-c.ensures c.args.level c.args.bytes.now c.args.p c.args.m c.args.to c.args.out.now c.args.work.now c.args.strs.now c.graft_segment_run-s.result c.requires.ready.source (run_known c.args.tape.now c.args.st c.args.at c.content_at-c.result c.content_at-c.ensures c.requires.at_in_bounds.1 c.if-c-eq0.false) c.if-c-eq0.false c.graft_segment_run-s.ensures (not-true _ c.if-not-k-2.true)
 
 pub graft_content-put_content-requires-2 : goal.graft_content-put_content-requires-2
 graft_content-put_content-requires-2 t c =
@@ -158,7 +159,7 @@ graft_content-shape_of-strs t c =
 
 pub graft_content-returns : goal.graft_content-returns
 graft_content-returns t c =
-    run_made c.args.tape.now c.args.st c.args.at c.content_at-c.result c.content_at-c.ensures c.args.level c.args.bytes.now c.args.p c.args.m c.args.to c.args.out.now c.args.work.now c.args.strs.now c.graft_segment_run-s.result c.requires.ready.source (run_known c.args.tape.now c.args.st c.args.at c.content_at-c.result c.content_at-c.ensures c.requires.at_in_bounds.1 c.if-c-eq0.false) c.if-c-eq0.false c.graft_segment_run-s.ensures c.if-not-k-2.false c.put_content-2.ensures
+    run_made c.args.tape.now c.args.st c.args.at c.content_at-c.result c.content_at-c.ensures c.args.level c.args.bytes.now c.args.p c.args.m c.args.to c.args.out.now c.args.work.now c.args.strs.now c.graft_segment_run-s.result c.requires.ready.source (run_known c.args.tape.now c.args.st c.args.at c.content_at-c.result c.content_at-c.ensures c.requires.at_in_bounds.1 c.if-c-eq0.false) c.if-c-eq0.false c.graft_segment_run-s.ensures (not-false _ c.if-not-k-2.false) c.put_content-2.ensures
 
 pub graft_content_run-overflow_add-result : goal.graft_content_run-overflow_add-result
 graft_content_run-overflow_add-result t c =
@@ -246,7 +247,7 @@ graft_contents-shape_of-strs-then-not-u t c =
 
 pub graft_contents-returns-then-not-u : goal.graft_contents-returns-then-not-u
 graft_contents-returns-then-not-u t c =
-    items_refused (content_grafts c.requires.ready.source c.args.level) c.args.at c.args.count (c.args.p.contentsat + 10 * c.args.to) c.requires.ready c.requires.count_in_bounds.1 (c.loop-i.i + 1) (omega (arith, c.loop-i-test.true)) (item_turn (content_grafts c.requires.ready.source c.args.level) c.args.at c.args.count (c.args.p.contentsat + 10 * c.args.to) c.requires.ready c.requires.count_in_bounds.1 c.loop-i.invariant.1 c.loop-i-test.true (between (omega (arith, c.requires.count_bound.0)) (omega (arith, c.requires.count_bound.1))) (c.args.p.contentsat + 10 * (c.args.to + c.loop-i.i)) (omega arith) c.graft_content-u.ensures) c.if-not-u.true
+    items_refused (content_grafts c.requires.ready.source c.args.level) c.args.at c.args.count (c.args.p.contentsat + 10 * c.args.to) c.requires.ready c.requires.count_in_bounds.1 (c.loop-i.i + 1) (omega (arith, c.loop-i-test.true)) (item_turn (content_grafts c.requires.ready.source c.args.level) c.args.at c.args.count (c.args.p.contentsat + 10 * c.args.to) c.requires.ready c.requires.count_in_bounds.1 c.loop-i.invariant.1 c.loop-i-test.true (between (omega (arith, c.requires.count_bound.0)) (omega (arith, c.requires.count_bound.1))) (c.args.p.contentsat + 10 * (c.args.to + c.loop-i.i)) (omega arith) c.graft_content-u.ensures) (not-true _ c.if-not-u.true)
 
 pub graft_contents-overflow_add-i : goal.graft_contents-overflow_add-i
 graft_contents-overflow_add-i t c =
@@ -258,7 +259,7 @@ graft_contents-loop-i-smaller t c =
 
 pub graft_contents-loop-i-preserved : goal.graft_contents-loop-i-preserved
 graft_contents-loop-i-preserved t c =
-    (omega (arith, c.loop-i-test.true), items_more (content_grafts c.requires.ready.source c.args.level) c.args.at c.args.count (c.args.p.contentsat + 10 * c.args.to) c.requires.ready c.requires.count_in_bounds.1 c.loop-i.invariant.1 c.loop-i-test.true (between (omega (arith, c.requires.count_bound.0)) (omega (arith, c.requires.count_bound.1))) (c.args.p.contentsat + 10 * (c.args.to + c.loop-i.i)) (omega arith) c.graft_content-u.ensures c.graft_content-u.auto.out c.if-not-u.false, c.graft_content-u.auto.work ∙ c.loop-i.invariant.2, c.graft_content-u.auto.strs ∙ c.loop-i.invariant.3)
+    (omega (arith, c.loop-i-test.true), items_more (content_grafts c.requires.ready.source c.args.level) c.args.at c.args.count (c.args.p.contentsat + 10 * c.args.to) c.requires.ready c.requires.count_in_bounds.1 c.loop-i.invariant.1 c.loop-i-test.true (between (omega (arith, c.requires.count_bound.0)) (omega (arith, c.requires.count_bound.1))) (c.args.p.contentsat + 10 * (c.args.to + c.loop-i.i)) (omega arith) c.graft_content-u.ensures c.graft_content-u.auto.out (not-false _ c.if-not-u.false), c.graft_content-u.auto.work ∙ c.loop-i.invariant.2, c.graft_content-u.auto.strs ∙ c.loop-i.invariant.3)
 
 pub graft_contents-shape_of-out : goal.graft_contents-shape_of-out
 graft_contents-shape_of-out t c =
@@ -432,7 +433,7 @@ graft_segment-shape_of-strs-then-not-k t c =
 
 pub graft_segment-returns-then-not-k : goal.graft_segment-returns-then-not-k
 graft_segment-returns-then-not-k t c =
-    below_refused c.args.tape.now c.args.bytes.now c.args.at c.args.p c.args.m c.args.to c.args.out.now c.args.work.now c.args.strs.now c.args.level c.if-level-eq0.false c.graft_body-b.result c.graft_body-b.ensures c.if-not-k.true
+    below_refused c.args.tape.now c.args.bytes.now c.args.at c.args.p c.args.m c.args.to c.args.out.now c.args.work.now c.args.strs.now c.args.level c.if-level-eq0.false c.graft_body-b.result c.graft_body-b.ensures (not-true _ c.if-not-k.true)
 
 pub graft_segment-overflow_add-at-2 : goal.graft_segment-overflow_add-at-2
 graft_segment-overflow_add-at-2 t c =
@@ -484,7 +485,7 @@ graft_segment-shape_of-strs t c =
 
 pub graft_segment-returns : goal.graft_segment-returns
 graft_segment-returns t c =
-    below_made c.args.tape.now c.args.bytes.now c.args.at c.args.p c.args.m c.args.to c.args.out.now c.args.work.now c.args.strs.now c.args.level c.if-level-eq0.false c.graft_body-b.result c.graft_body-b.ensures c.u32_at-first.result c.u32_at-second.result c.u32_at-first.ensures c.u32_at-second.ensures c.if-not-k.false c.put_segment-2.ensures
+    below_made c.args.tape.now c.args.bytes.now c.args.at c.args.p c.args.m c.args.to c.args.out.now c.args.work.now c.args.strs.now c.args.level c.if-level-eq0.false c.graft_body-b.result c.graft_body-b.ensures c.u32_at-first.result c.u32_at-second.result c.u32_at-first.ensures c.u32_at-second.ensures (not-false _ c.if-not-k.false) c.put_segment-2.ensures
 
 pub graft_segment_run-overflow_add-result : goal.graft_segment_run-overflow_add-result
 graft_segment_run-overflow_add-result t c =
@@ -572,7 +573,7 @@ graft_segments-shape_of-strs-then-not-u t c =
 
 pub graft_segments-returns-then-not-u : goal.graft_segments-returns-then-not-u
 graft_segments-returns-then-not-u t c =
-    items_refused (segment_grafts c.requires.ready.source c.args.level) c.args.at c.args.count (c.args.p.segmentsat + 37 * c.args.to) c.requires.ready c.requires.count_in_bounds.1 (c.loop-i.i + 1) (omega (arith, c.loop-i-test.true)) (item_turn (segment_grafts c.requires.ready.source c.args.level) c.args.at c.args.count (c.args.p.segmentsat + 37 * c.args.to) c.requires.ready c.requires.count_in_bounds.1 c.loop-i.invariant.1 c.loop-i-test.true (beyond (omega (arith, c.requires.count_bound.0)) (omega (arith, c.requires.count_bound.1))) (c.args.p.segmentsat + 37 * (c.args.to + c.loop-i.i)) (omega arith) c.graft_segment-u.ensures) c.if-not-u.true
+    items_refused (segment_grafts c.requires.ready.source c.args.level) c.args.at c.args.count (c.args.p.segmentsat + 37 * c.args.to) c.requires.ready c.requires.count_in_bounds.1 (c.loop-i.i + 1) (omega (arith, c.loop-i-test.true)) (item_turn (segment_grafts c.requires.ready.source c.args.level) c.args.at c.args.count (c.args.p.segmentsat + 37 * c.args.to) c.requires.ready c.requires.count_in_bounds.1 c.loop-i.invariant.1 c.loop-i-test.true (beyond (omega (arith, c.requires.count_bound.0)) (omega (arith, c.requires.count_bound.1))) (c.args.p.segmentsat + 37 * (c.args.to + c.loop-i.i)) (omega arith) c.graft_segment-u.ensures) (not-true _ c.if-not-u.true)
 
 pub graft_segments-overflow_add-i : goal.graft_segments-overflow_add-i
 graft_segments-overflow_add-i t c =
@@ -584,7 +585,7 @@ graft_segments-loop-i-smaller t c =
 
 pub graft_segments-loop-i-preserved : goal.graft_segments-loop-i-preserved
 graft_segments-loop-i-preserved t c =
-    (omega (arith, c.loop-i-test.true), items_more (segment_grafts c.requires.ready.source c.args.level) c.args.at c.args.count (c.args.p.segmentsat + 37 * c.args.to) c.requires.ready c.requires.count_in_bounds.1 c.loop-i.invariant.1 c.loop-i-test.true (beyond (omega (arith, c.requires.count_bound.0)) (omega (arith, c.requires.count_bound.1))) (c.args.p.segmentsat + 37 * (c.args.to + c.loop-i.i)) (omega arith) c.graft_segment-u.ensures c.graft_segment-u.auto.out c.if-not-u.false, c.graft_segment-u.auto.work ∙ c.loop-i.invariant.2, c.graft_segment-u.auto.strs ∙ c.loop-i.invariant.3)
+    (omega (arith, c.loop-i-test.true), items_more (segment_grafts c.requires.ready.source c.args.level) c.args.at c.args.count (c.args.p.segmentsat + 37 * c.args.to) c.requires.ready c.requires.count_in_bounds.1 c.loop-i.invariant.1 c.loop-i-test.true (beyond (omega (arith, c.requires.count_bound.0)) (omega (arith, c.requires.count_bound.1))) (c.args.p.segmentsat + 37 * (c.args.to + c.loop-i.i)) (omega arith) c.graft_segment-u.ensures c.graft_segment-u.auto.out (not-false _ c.if-not-u.false), c.graft_segment-u.auto.work ∙ c.loop-i.invariant.2, c.graft_segment-u.auto.strs ∙ c.loop-i.invariant.3)
 
 pub graft_segments-shape_of-out : goal.graft_segments-shape_of-out
 graft_segments-shape_of-out t c =

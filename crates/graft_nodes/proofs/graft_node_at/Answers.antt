@@ -1,10 +1,11 @@
+use borrow.Author.Tests.{not-true, not-false}
 use native.Mathlib.Omega.{arith}
 use Rattle.graft_nodes.specs.Nodes.{ref_refused, ref_made}
 use Rattle.graft_nodes.proofs.graft_node_at.Goals as goal
 
 pub returns-then-not-k : goal.returns-then-not-k
 returns-then-not-k c =
-    ref_refused c.args.tape.now c.args.bytes.now c.args.st c.args.at c.args.p c.args.m c.args.to c.args.out.now c.args.work.now c.args.strs.now c.graft_node-w.result c.graft_node-w.ensures c.if-not-k.true
+    ref_refused c.args.tape.now c.args.bytes.now c.args.st c.args.at c.args.p c.args.m c.args.to c.args.out.now c.args.work.now c.args.strs.now c.graft_node-w.result c.graft_node-w.ensures (not-true _ c.if-not-k.true)
 
 pub overflow_add-at : goal.overflow_add-at
 overflow_add-at c =
@@ -84,4 +85,4 @@ put_node-requires c =
 
 pub returns : goal.returns
 returns c =
-    ref_made c.args.tape.now c.args.bytes.now c.args.st c.args.at c.args.p c.args.m c.args.to c.args.out.now c.args.work.now c.args.strs.now c.graft_node-w.result c.graft_node-w.ensures c.u32_at-start.result c.u32_at-stop.result c.u32_at-offset.result c.u32_at-first.result c.u32_at-second.result c.u32_at-start.ensures c.u32_at-stop.ensures c.u32_at-offset.ensures c.u32_at-first.ensures c.u32_at-second.ensures c.if-not-k.false c.put_node.ensures
+    ref_made c.args.tape.now c.args.bytes.now c.args.st c.args.at c.args.p c.args.m c.args.to c.args.out.now c.args.work.now c.args.strs.now c.graft_node-w.result c.graft_node-w.ensures c.u32_at-start.result c.u32_at-stop.result c.u32_at-offset.result c.u32_at-first.result c.u32_at-second.result c.u32_at-start.ensures c.u32_at-stop.ensures c.u32_at-offset.ensures c.u32_at-first.ensures c.u32_at-second.ensures (not-false _ c.if-not-k.false) c.put_node.ensures

@@ -1,3 +1,4 @@
+use borrow.Author.Tests.{not-true, not-false}
 use Prim.Native.Nat.{◌+◌, ◌-◌, ◌*◌}
 use native.Mathlib.Omega.{arith}
 use mathlib.Core.Path.{refl, ◌∙◌}
@@ -47,7 +48,7 @@ shape_of-strs-then-not-u c =
 
 pub returns-then-not-u : goal.returns-then-not-u
 returns-then-not-u c =
-    items_refused (node_grafts c.requires.ready.source) c.args.at c.args.count c.args.nodesat c.requires.ready c.requires.count_in_bounds.1 (c.loop-i.i + 1) (omega (arith, c.loop-i-test.true)) (item_turn (node_grafts c.requires.ready.source) c.args.at c.args.count c.args.nodesat c.requires.ready c.requires.count_in_bounds.1 c.loop-i.invariant.1 c.loop-i-test.true (beyond c.requires.count_bound.0 c.requires.count_bound.1) (c.args.nodesat + 49 * c.loop-i.i) refl c.graft_node_at-u.ensures) c.if-not-u.true
+    items_refused (node_grafts c.requires.ready.source) c.args.at c.args.count c.args.nodesat c.requires.ready c.requires.count_in_bounds.1 (c.loop-i.i + 1) (omega (arith, c.loop-i-test.true)) (item_turn (node_grafts c.requires.ready.source) c.args.at c.args.count c.args.nodesat c.requires.ready c.requires.count_in_bounds.1 c.loop-i.invariant.1 c.loop-i-test.true (beyond c.requires.count_bound.0 c.requires.count_bound.1) (c.args.nodesat + 49 * c.loop-i.i) refl c.graft_node_at-u.ensures) (not-true _ c.if-not-u.true)
 
 pub overflow_add-i : goal.overflow_add-i
 overflow_add-i c =
@@ -59,7 +60,7 @@ loop-i-smaller c =
 
 pub loop-i-preserved : goal.loop-i-preserved
 loop-i-preserved c =
-    (omega (arith, c.loop-i-test.true), items_more (node_grafts c.requires.ready.source) c.args.at c.args.count c.args.nodesat c.requires.ready c.requires.count_in_bounds.1 c.loop-i.invariant.1 c.loop-i-test.true (beyond c.requires.count_bound.0 c.requires.count_bound.1) (c.args.nodesat + 49 * c.loop-i.i) refl c.graft_node_at-u.ensures c.graft_node_at-u.auto.out c.if-not-u.false, c.graft_node_at-u.auto.work ∙ c.loop-i.invariant.2, c.graft_node_at-u.auto.strs ∙ c.loop-i.invariant.3)
+    (omega (arith, c.loop-i-test.true), items_more (node_grafts c.requires.ready.source) c.args.at c.args.count c.args.nodesat c.requires.ready c.requires.count_in_bounds.1 c.loop-i.invariant.1 c.loop-i-test.true (beyond c.requires.count_bound.0 c.requires.count_bound.1) (c.args.nodesat + 49 * c.loop-i.i) refl c.graft_node_at-u.ensures c.graft_node_at-u.auto.out (not-false _ c.if-not-u.false), c.graft_node_at-u.auto.work ∙ c.loop-i.invariant.2, c.graft_node_at-u.auto.strs ∙ c.loop-i.invariant.3)
 
 pub shape_of-out : goal.shape_of-out
 shape_of-out c =

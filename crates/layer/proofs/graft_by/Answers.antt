@@ -1,3 +1,4 @@
+use borrow.Author.Tests.{not-true, not-false}
 use Rattle.layer.specs.Answers.{tape_refused, walk_room, walk_refused, finish_room, layer_told}
 use Rattle.layer.specs.Walked.{WalkRoom, walked_by, source_sizes}
 use Rattle.layer.specs.Layered.{source_adds}
@@ -32,14 +33,14 @@ walk-m-requires c =
 
 pub returns-then-not-m : goal.returns-then-not-m
 returns-then-not-m c =
-    let w = walked_by c.args.tape.now c.args.bytes.now c.args.o c.args.at c.args.s.contents c.plan_of-plan.ensures c.walk-m.ensures in walk_refused c.args.out.now c.args.strs.now c.args.at c.args.base c.args.o c.requires.source_fits.1 _ (source_sizes c.requires.source_fits.0 c.args.o) w.ok c.if-not-m.true c.refused-then-not-m.ensures
+    let w = walked_by c.args.tape.now c.args.bytes.now c.args.o c.args.at c.args.s.contents c.plan_of-plan.ensures c.walk-m.ensures in walk_refused c.args.out.now c.args.strs.now c.args.at c.args.base c.args.o c.requires.source_fits.1 _ (source_sizes c.requires.source_fits.0 c.args.o) w.ok (not-true _ c.if-not-m.true) c.refused-then-not-m.ensures
 
 pub finish-requires : goal.finish-requires
 finish-requires c =
     let w = walked_by c.args.tape.now c.args.bytes.now c.args.o c.args.at c.args.s.contents c.plan_of-plan.ensures c.walk-m.ensures in
-    let r = finish_room c.args.out.now c.args.strs.now c.args.at c.args.base c.args.o c.requires.source_fits.1 _ (source_sizes c.requires.source_fits.0 c.args.o) c.requires.source_fits.2 c.layer_length-len.result c.nodes_length-rest.result c.layer_length-len.ensures c.nodes_length-rest.ensures (omega (arith, c.if-out-at.false, c.requires.min_work_words_in_bounds.2)) (w.made c.if-not-m.false) c.walk-m.auto.out in
+    let r = finish_room c.args.out.now c.args.strs.now c.args.at c.args.base c.args.o c.requires.source_fits.1 _ (source_sizes c.requires.source_fits.0 c.args.o) c.requires.source_fits.2 c.layer_length-len.result c.nodes_length-rest.result c.layer_length-len.ensures c.nodes_length-rest.ensures (omega (arith, c.if-out-at.false, c.requires.min_work_words_in_bounds.2)) (w.made (not-false _ c.if-not-m.false)) c.walk-m.auto.out in
     record { rising = r.0; below_le_max_pool = r.1 }
 
 pub returns : goal.returns
 returns c =
-    let w = walked_by c.args.tape.now c.args.bytes.now c.args.o c.args.at c.args.s.contents c.plan_of-plan.ensures c.walk-m.ensures in layer_told c.args.out.now c.args.strs.now c.args.at c.args.base c.args.o c.requires.source_fits.1 _ (source_sizes c.requires.source_fits.0 c.args.o) c.requires.source_fits.2 c.layer_length-len.result c.nodes_length-rest.result c.layer_length-len.ensures c.nodes_length-rest.ensures (omega (arith, c.if-out-at.false, c.requires.min_work_words_in_bounds.2)) (w.made c.if-not-m.false) c.walk-m.auto.out c.finish.ensures (sym w.ok ∙ c.if-not-m.false)
+    let w = walked_by c.args.tape.now c.args.bytes.now c.args.o c.args.at c.args.s.contents c.plan_of-plan.ensures c.walk-m.ensures in layer_told c.args.out.now c.args.strs.now c.args.at c.args.base c.args.o c.requires.source_fits.1 _ (source_sizes c.requires.source_fits.0 c.args.o) c.requires.source_fits.2 c.layer_length-len.result c.nodes_length-rest.result c.layer_length-len.ensures c.nodes_length-rest.ensures (omega (arith, c.if-out-at.false, c.requires.min_work_words_in_bounds.2)) (w.made (not-false _ c.if-not-m.false)) c.walk-m.auto.out c.finish.ensures (sym w.ok ∙ (not-false _ c.if-not-m.false))

@@ -1,3 +1,4 @@
+use borrow.Author.Tests.{not-true, not-false}
 use Rattle.model.specs.Region.{edit_of}
 use Rattle.result.specs.Merging.{old_fit, texts_inside, no_room, no_graft, no_size, at_small, lists_ready, bytes_small, merged}
 use Rattle.result.specs.Whole.{small}
@@ -52,17 +53,17 @@ shape_of-work-then-not-g c =
 pub returns-then-not-g : goal.returns-then-not-g
 unfolding edit_of
 returns-then-not-g c =
-    no_graft c.requires c.kept_in-k.ensures c.new_lengths-l.ensures c.args.outtape.now c.args.outbytes.now c.args.work.now c.put_store-g.ensures c.put_store-g.auto.outtape c.put_store-g.auto.outbytes c.put_store-g.auto.work c.if-not-g.true c.refused_output-then-not-g.ensures
+    no_graft c.requires c.kept_in-k.ensures c.new_lengths-l.ensures c.args.outtape.now c.args.outbytes.now c.args.work.now c.put_store-g.ensures c.put_store-g.auto.outtape c.put_store-g.auto.outbytes c.put_store-g.auto.work (not-true _ c.if-not-g.true) c.refused_output-then-not-g.ensures
 
 pub overflow_add-at : goal.overflow_add-at
 unfolding edit_of
 overflow_add-at c =
-    let x = at_small c.requires c.kept_in-k.ensures c.new_lengths-l.ensures c.args.outtape.now c.args.outbytes.now c.args.work.now c.put_store-g.ensures c.put_store-g.auto.outtape c.put_store-g.auto.outbytes c.if-not-g.false refl in omega (arith, x, c.well_formed)
+    let x = at_small c.requires c.kept_in-k.ensures c.new_lengths-l.ensures c.args.outtape.now c.args.outbytes.now c.args.work.now c.put_store-g.ensures c.put_store-g.auto.outtape c.put_store-g.auto.outbytes (not-false _ c.if-not-g.false) refl in omega (arith, x, c.well_formed)
 
 pub lists_end-size-requires : goal.lists_end-size-requires
 unfolding edit_of
 lists_end-size-requires c =
-    let x = at_small c.requires c.kept_in-k.ensures c.new_lengths-l.ensures c.args.outtape.now c.args.outbytes.now c.args.work.now c.put_store-g.ensures c.put_store-g.auto.outtape c.put_store-g.auto.outbytes c.if-not-g.false refl in record {
+    let x = at_small c.requires c.kept_in-k.ensures c.new_lengths-l.ensures c.args.outtape.now c.args.outbytes.now c.args.work.now c.put_store-g.ensures c.put_store-g.auto.outtape c.put_store-g.auto.outbytes (not-false _ c.if-not-g.false) refl in record {
       small = small c.requires c.kept_in-k.ensures;
       at_bound = omega (arith, x, c.well_formed);
     }
@@ -82,17 +83,17 @@ shape_of-work-then-outtape-size c =
 pub returns-then-outtape-size : goal.returns-then-outtape-size
 unfolding edit_of
 returns-then-outtape-size c =
-    no_size c.requires c.kept_in-k.ensures c.new_lengths-l.ensures c.args.outtape.now c.args.outbytes.now c.args.work.now c.put_store-g.ensures c.put_store-g.auto.outtape c.put_store-g.auto.outbytes c.if-not-g.false refl c.put_store-g.auto.work c.lists_end-size.ensures (omega (arith, c.if-outtape-size.true, c.put_store-g.auto.outtape)) c.refused_output-then-outtape-size.ensures
+    no_size c.requires c.kept_in-k.ensures c.new_lengths-l.ensures c.args.outtape.now c.args.outbytes.now c.args.work.now c.put_store-g.ensures c.put_store-g.auto.outtape c.put_store-g.auto.outbytes (not-false _ c.if-not-g.false) refl c.put_store-g.auto.work c.lists_end-size.ensures (omega (arith, c.if-outtape-size.true, c.put_store-g.auto.outtape)) c.refused_output-then-outtape-size.ensures
 
 pub put_lists-requires : goal.put_lists-requires
 unfolding edit_of
 put_lists-requires c =
-    lists_ready c.requires c.kept_in-k.ensures c.new_lengths-l.ensures c.args.outtape.now c.args.outbytes.now c.args.work.now c.put_store-g.ensures c.put_store-g.auto.outtape c.put_store-g.auto.outbytes c.if-not-g.false refl c.room_for.ensures c.if-not-room_for.false c.lists_end-size.ensures (omega (arith, c.if-outtape-size.false, c.put_store-g.auto.outtape))
+    lists_ready c.requires c.kept_in-k.ensures c.new_lengths-l.ensures c.args.outtape.now c.args.outbytes.now c.args.work.now c.put_store-g.ensures c.put_store-g.auto.outtape c.put_store-g.auto.outbytes (not-false _ c.if-not-g.false) refl c.room_for.ensures c.if-not-room_for.false c.lists_end-size.ensures (omega (arith, c.if-outtape-size.false, c.put_store-g.auto.outtape))
 
 pub overflow_add-l : goal.overflow_add-l
 unfolding edit_of
 overflow_add-l c =
-    let x = bytes_small c.requires c.kept_in-k.ensures c.new_lengths-l.ensures c.args.outtape.now c.args.outbytes.now c.args.work.now c.put_store-g.ensures c.put_store-g.auto.outtape c.put_store-g.auto.outbytes c.if-not-g.false refl c.room_for.ensures c.if-not-room_for.false c.lists_end-size.ensures (omega (arith, c.if-outtape-size.false, c.put_store-g.auto.outtape)) in omega (arith, x, c.well_formed)
+    let x = bytes_small c.requires c.kept_in-k.ensures c.new_lengths-l.ensures c.args.outtape.now c.args.outbytes.now c.args.work.now c.put_store-g.ensures c.put_store-g.auto.outtape c.put_store-g.auto.outbytes (not-false _ c.if-not-g.false) refl c.room_for.ensures c.if-not-room_for.false c.lists_end-size.ensures (omega (arith, c.if-outtape-size.false, c.put_store-g.auto.outtape)) in omega (arith, x, c.well_formed)
 
 pub output_of-requires : goal.output_of-requires
 output_of-requires c =
@@ -113,4 +114,4 @@ shape_of-work c =
 pub returns : goal.returns
 unfolding edit_of
 returns c =
-    merged c.requires c.kept_in-k.ensures c.new_lengths-l.ensures c.args.outtape.now c.args.outbytes.now c.args.work.now c.put_store-g.ensures c.put_store-g.auto.outtape c.put_store-g.auto.outbytes c.if-not-g.false refl c.room_for.ensures c.if-not-room_for.false c.lists_end-size.ensures (omega (arith, c.if-outtape-size.false, c.put_store-g.auto.outtape)) c.put_store-g.auto.work c.put_lists.ensures (c.put_lists.auto.out ∙ c.put_store-g.auto.outtape) c.output_of.ensures
+    merged c.requires c.kept_in-k.ensures c.new_lengths-l.ensures c.args.outtape.now c.args.outbytes.now c.args.work.now c.put_store-g.ensures c.put_store-g.auto.outtape c.put_store-g.auto.outbytes (not-false _ c.if-not-g.false) refl c.room_for.ensures c.if-not-room_for.false c.lists_end-size.ensures (omega (arith, c.if-outtape-size.false, c.put_store-g.auto.outtape)) c.put_store-g.auto.work c.put_lists.ensures (c.put_lists.auto.out ∙ c.put_store-g.auto.outtape) c.output_of.ensures
