@@ -10,4 +10,4 @@ put_text-requires c =
 
 pub returns : goal.returns
 returns c =
-    (let few = digits_few _ _ c.decimal-k.ensures.len (omega (arith, c.ranges.n)) in omega (arith, c.put_text.ensures.0, c.put_text-behind.ensures.0, few, c.decimal-k.ensures.in_bounds.1), put_number (take c.args.at c.args.out.now) c.args.label.now _ _ c.put_text-behind.ensures.1 c.put_text.ensures.1 c.decimal-k.ensures.1.1 c.decimal-k.ensures.len)
+    (let few = digits_few _ _ c.decimal-k.ensures.len (omega (arith, c.ranges.n)) in omega (arith, c.put_text.ensures.0, c.put_text-behind.ensures.0, few, c.decimal-k.ensures.in_bounds.1), put_number (take c.args.at c.args.out.now) c.args.label.now _ _ c.put_text-behind.ensures.1 c.put_text.ensures.1 c.decimal-k.ensures.digits c.decimal-k.ensures.len)
