@@ -12,7 +12,8 @@ use Rattle.model.specs.WellFormed.{word_of}
 use Rattle.model.specs.Tape.{Field, Field.str, Field.opt_str, Field.content_range, Field.seg_range, field_table, fields_of, node_fields, record_at, operands_at, content_codec, segment_codec, node_codec}
 use Rattle.wire.specs.Loops.{all_up_to, Passed, all_passed, all_failed, by_bool}
 use Rattle.records.specs.Values.{body_at, segment_body, node_body}
-use Rattle.records.specs.Uses.{word_use, uses_of, use_among, uses_right, unused_from}
+use Rattle.records.specs.Uses.{word_use, uses_of, use_among}
+use Rattle.records.proofs.Uses.{uses_right, unused_from}
 use Rattle.records.specs.Words.{word_test, all_by_words}
 use Rattle.store.specs.Pools.{range_in}
 use Rattle.store.specs.declared.Store.{Store}

@@ -13,7 +13,8 @@ use Rattle.model.specs.Tape.{Field, Field.str, Field.opt_str, Field.content_rang
 use Rattle.laws.specs.Lists.{both}
 use Rattle.wire.specs.Loops.{all_up_to, Passed, all_passed, all_failed, by_bool}
 use Rattle.records.specs.Values.{body_at, segment_body}
-use Rattle.records.specs.Uses.{word_use, uses_of, use_among, uses_right, unused_from}
+use Rattle.records.specs.Uses.{word_use, uses_of, use_among}
+use Rattle.records.proofs.Uses.{uses_right, unused_from}
 use Rattle.records.specs.Words.{word_test, all_by_words}
 use Rattle.store.specs.Pools.{range_in}
 use Rattle.store.specs.Stored.{OfTape}

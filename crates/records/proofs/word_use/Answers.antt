@@ -1,4 +1,5 @@
-use Rattle.records.specs.Uses.{use_among, uses_right}
+use Rattle.records.specs.Uses.{use_among}
+use Rattle.records.proofs.Uses.{uses_right}
 use mathlib.Core.Path.{ap, ◌∙◌}
 use Prim.Native.Nat.{ℕ}
 use Rattle.records.proofs.word_use.Goals as goal

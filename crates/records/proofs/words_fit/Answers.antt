@@ -1,4 +1,5 @@
-use Rattle.records.specs.Uses.{fields_for, fits_turn, fits_fails, fits_done, fits_read}
+use Rattle.records.specs.Uses.{fields_for, fits_turn, fits_fails, fits_done}
+use Rattle.records.proofs.Uses.{fits_read}
 use mathlib.Core.Path.{refl, sym, ◌∙◌}
 use Prim.Native.Nat.{◌-◌}
 use native.Mathlib.Omega.{arith}

@@ -1,0 +1,99 @@
+-- The code's numbers of uses follow the rule of model's table of fields: computed for each kind and tag.
+use Rattle.std.specs.Prelude.{ℕ, suc, zero, ◌+◌, ◌*◌, ◌/◌, ◌%◌, ◌<◌, ◌≤◌, ◌≡◌, Bool, not, ◌&&◌, ◌||◌, [], get_or, ltb, eqb}
+use native.Mathlib.Omega.{arith}
+use Rattle.std.proofs.Math.Nat.{zero-div}
+use Rattle.std.proofs.Math.Path.{refl}
+use Rattle.std.proofs.Common.{sym, ap, ◌∙◌, ltb-true, ltb-false, eqb-true, ne_eqb}
+use Rattle.std.proofs.Math.Bool.{true, false, cond, or-true, or-false}
+use Rattle.std.proofs.Math.ListN.{get_or-eq_default}
+use Rattle.model.specs.Lists.{any}
+use Rattle.model.specs.Tape.{field_table, uses_word}
+use Rattle.laws.specs.Lists.{both}
+use Rattle.wire.specs.Loops.{by_bool, all_up_to, all_at}
+use Rattle.records.specs.Uses.{use_of, use_in, fields_for, word_use, word_fits, format_uses, mencode_uses, image_uses, other_uses, uses_of, use_among, variant_of, few, variant_small, same_use, uses_word_lem, uses_fit}
+
+-- word i of kind n / 4 with tag n % 4, and that the words behind an unused one are unused
+unfoldable uses_at : ℕ → ℕ → Bool
+uses_at n i =
+    eqb (use_among (uses_of (n / 4) (n % 4)) i) (word_use (n / 4) (n % 4) i)
+    && (not (eqb (word_use (n / 4) (n % 4) i) 0) || eqb (word_use (n / 4) (n % 4) (i + 1)) 0)
+
+unfoldable row_right : ℕ → Bool
+row_right n = all_up_to 6 (uses_at n)
+
+-- all of them
+rows_right : all_up_to 64 row_right ≡ true
+unfolding row_right uses_at all_up_to word_use use_in use_of field_table use_among uses_of format_uses mencode_uses image_uses other_uses
+rows_right = refl
+
+same_uses : (k t : ℕ) → uses_of k t ≡ uses_of k (variant_of k t)
+unfolding uses_of variant_of format_uses mencode_uses image_uses
+same_uses k t =
+    by_bool (eqb k 2) (λ e. let m : t % 4 % 4 ≡ t % 4 = omega arith in rw (e, m) refl)
+    (λ e. rw (e, few t 1 (omega arith), few t 2 (omega arith)) refl)
+
+module _ (k t : ℕ) (h : k < 16) (i : ℕ) (b : i < 6) where
+  row_parts : (use_among (uses_of k t) i ≡ word_use k t i) × ((not (eqb (word_use k t i) 0) || eqb (word_use k t (i + 1)) 0) ≡ true)
+  unfolding row_right uses_at
+  row_parts =
+      let n = 4 * k + variant_of k t in
+      let v = variant_small k t in
+      let e₁ : n / 4 ≡ k = omega arith in
+      let e₂ : n % 4 ≡ variant_of k t = omega arith in
+      let a = all_at (uses_at n) 6 i (all_at row_right 64 n rows_right (omega arith)) b in
+      let p = rw (e₁, e₂, ← same_uses k t, ← same_use k t i, ← same_use k t (i + 1)) at a in
+      let q = both _ _ p in
+      (eqb-true _ _ q.0, q.1)
+
+-- a kind that is none has no fields
+pub use_none : (k t i : ℕ) → 16 ≤ k → word_use k t i ≡ 0
+unfolding word_use use_in field_table
+use_none k t i h = ap (use_in i) (get_or-eq_default (field_table t) [] h)
+
+uses_none : (k t : ℕ) → 16 ≤ k → uses_of k t ≡ 0
+unfolding uses_of other_uses
+uses_none k t h =
+    rw (
+      ne_eqb k 2 (λ e. omega arith),
+      ne_eqb k 3 (λ e. omega arith),
+      ne_eqb k 11 (λ e. omega arith),
+      ne_eqb k 0 (λ e. omega arith),
+      ne_eqb k 1 (λ e. omega arith),
+      ne_eqb k 9 (λ e. omega arith),
+      ne_eqb k 10 (λ e. omega arith),
+      ne_eqb k 12 (λ e. omega arith),
+      ne_eqb k 13 (λ e. omega arith),
+      ne_eqb k 14 (λ e. omega arith),
+      ne_eqb k 15 (λ e. omega arith),
+    ) refl
+
+-- the code's number has the use of each word
+pub uses_right : (k t i : ℕ) → i < 6 → use_among (uses_of k t) i ≡ word_use k t i
+unfolding use_among
+uses_right k t i b =
+    by_bool (ltb k 16) (λ e. (row_parts k t (ltb-true k 16 e) i b).0)
+    (λ e. let h = ltb-false k 16 e in rw (uses_none k t h, use_none k t i h, zero-div) refl)
+
+-- the words behind an unused one are unused
+unused_next : (k t i : ℕ) → i < 6 → word_use k t i ≡ 0 → word_use k t (i + 1) ≡ 0
+unused_next k t i b e =
+    by_bool (ltb k 16)
+    (λ s. eqb-true (word_use k t (i + 1)) 0 (rw e at (row_parts k t (ltb-true k 16 s) i b).1))
+    (λ s. use_none k t (i + 1) (ltb-false k 16 s))
+
+pub unused_from : (k t i d : ℕ) → i + d ≤ 6 → word_use k t i ≡ 0 → word_use k t (i + d) ≡ 0
+unused_from k t i zero b e = ap (word_use k t) (let z : i + 0 ≡ i = omega arith in z) ∙ e
+unused_from k t i (suc d) b e =
+    ap (word_use k t) (let z : i + suc d ≡ i + d + 1 = omega arith in z) ∙ unused_next k t (i + d) (omega arith) (unused_from k t i d (omega arith) e)
+
+module _ (used : Bool) (k t i w : ℕ) (h : i < 6) where
+  fits_same : uses_fit used (uses_of k t) i w ≡ word_fits (fields_for used k t) i w
+  unfolding uses_fit word_fits fields_for word_use
+  fits_same = by_bool (eqb w 0) (λ e. rw (e, or-true) refl) (λ e. rw (e, or-false) (by_used used))
+    where
+      by_used : (x : Bool) → cond x (not (eqb (use_among (uses_of k t) i) 0)) false ≡ any (uses_word i) (cond x (get_or (field_table t) k []) [])
+      by_used true = rw (uses_right k t i h) (sym (uses_word_lem i (get_or (field_table t) k [])))
+      by_used false = refl
+
+  pub fits_read : {u : ℕ} → u ≡ uses_of k t → {r : Bool} → r ≡ uses_fit used u i w → word_fits (fields_for used k t) i w ≡ r
+  fits_read e q = sym (q ∙ ap (λ (n : ℕ). uses_fit used n i w) e ∙ fits_same)
