@@ -163,7 +163,7 @@ pub extern "C" fn aozora_merge(
     work: &mut [u32],
 ) -> answers::MergeAnswer
     ensures { Merged
-        (merge (record { tape = tape.entry.now; bytes = bytes.now }) (edit_of start end replacement.now) (record { tape = readingtape.now; bytes = readingbytes.now })
+        (merge (record { tape = tape.now; bytes = bytes.now }) (edit_of start end replacement.now) (record { tape = readingtape.now; bytes = readingbytes.now })
         (room_of outtape.old outbytes.old work.old))
         (room_of outtape.old outbytes.old work.old) (output_read result) outtape.new outbytes.new work.new }
 {
