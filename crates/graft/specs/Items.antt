@@ -50,7 +50,7 @@ module _ (t : List ℕ) (st : Store) (at : ℕ) (c : ContentRead) (e : content_o
   unfolding content_adds
   run_ready {d} {p} {m} {out} {work} {strs} inner z y =
       let g : Ready t d st p m out work strs (content_adds inner t st (content_of c)) =
-          subst (λ (x : Content). Ready t d st p m out work strs (content_adds inner t st x)) (sym e) y in
+      subst (λ (x : Content). Ready t d st p m out work strs (content_adds inner t st x)) (sym e) y in
       rw (ne_eqb c.tag 0 z) at g
 
   module _ (l : ℕ) (d : List ℕ) (p : Plan) (m : Mark) (to : ℕ) (out work strs : List ℕ) {out₁ work₁ strs₁ : List ℕ} (s : Start) where
