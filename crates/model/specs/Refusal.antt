@@ -2,15 +2,15 @@
 use Rattle.std.specs.Prelude.{ℕ, Bool, true, false}
 
 -- where each number's condition stands:
---    1  Tape.parse, WellFormed.check_reading        10  Region.has_ruby_format_dependency
---    2  WellFormed.texts_are_utf8, chosen_region      11  Region.isWhole
---    3  WellFormed.within_limits, chosen_region      12  Merge.new_region_text
---    4  WellFormed.ids_ok                           13  Merge.balanced_nodes
---    5  WellFormed.levels_ok                        14  Merge.is_unclosed
---    6  WellFormed.places_ok                        15  Merge.introduces_ruby_format_dependency
---    7  WellFormed.normalized_length_ok              16  Merge.cuts_ok
---    8  Region.edit_ok                              17  Merge.fitting
---    9  Region.edited                              18  Merge.result_ok
+--    1  Tape.parse, WellFormed.check_reading      10  Region.has_ruby_format_dependency
+--    2  WellFormed.texts_are_utf8, chosen_region  11  Region.is_whole
+--    3  WellFormed.within_limits, chosen_region   12  Merge.new_region_text
+--    4  WellFormed.ids_ok                         13  Merge.balanced_nodes
+--    5  WellFormed.levels_ok                      14  Merge.is_unclosed
+--    6  WellFormed.places_ok                      15  Merge.introduces_ruby_format_dependency
+--    7  WellFormed.normalized_length_ok           16  Merge.cuts_ok
+--    8  Region.edit_ok                            17  Merge.fitting
+--    9  Region.edited                             18  Merge.result_ok
 
 -- A value, or the number that refuses it.
 pub data Checked (A : Type 0) : Type 0 where

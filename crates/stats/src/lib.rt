@@ -6,7 +6,7 @@
 ghost use Rattle.std.specs.Prelude.{◌≡◌, ◌+◌, ◌^◌, ◌<◌, ◌≤◌};
 ghost use Rattle.stats.specs.Counts.{no_stats, plus_call, plus_cache_hit, plus_bypass, plus_table_hit, plus_alloc, plus_resizes, plus_probes, Counted};
 
-// The Rust's names without their underscores, which a clause would have to quote.
+// The Rust's names without their underscores.
 #[derive(Clone, Copy)]
 pub struct InternStats {
     pub calls: u64,
