@@ -13,10 +13,10 @@ pub fn layer_shaped(tape: &[u8], l: places::LayerRuns) -> bool
     requires { RunsFit tape.now l }
     ensures { result ≡ runs_shape tape.now l }
 {
-    if !records::contents_shaped(tape, l.contents.at, l.contents.count) {
+    if !records::all_shaped::<records::Content>(tape, l.contents.at, l.contents.count) {
         return false;
     }
-    records::segments_shaped(tape, l.segments.at, l.segments.count)
+    records::all_shaped::<records::Segment>(tape, l.segments.at, l.segments.count)
 }
 
 // Section 4. The shapes of every layer.
@@ -42,13 +42,13 @@ pub fn lists_shaped(tape: &[u8], p: places::Places) -> bool
     requires { ListsFit tape.now p }
     ensures { result ≡ lists_shape tape.now p }
 {
-    if !records::nodes_shaped(tape, p.nodes.at, p.nodes.count) {
+    if !records::all_shaped::<records::SourceNode>(tape, p.nodes.at, p.nodes.count) {
         return false;
     }
-    if !records::pairs_shaped(tape, p.pairs.at, p.pairs.count) {
+    if !records::all_shaped::<records::PairLink>(tape, p.pairs.at, p.pairs.count) {
         return false;
     }
-    records::diagnostics_shaped(tape, p.diagnostics.at, p.diagnostics.count)
+    records::all_shaped::<records::Diagnostic>(tape, p.diagnostics.at, p.diagnostics.count)
 }
 
 // Number 1: the places of a book's records, and a fault where tape and bytes are no book.

@@ -4,9 +4,10 @@
 // crate model, over the record that model reads at the place.
 #![tactic(auto)]
 
-ghost use Rattle.std.specs.Prelude.{◌≡◌, ◌+◌, ◌*◌, ◌≤◌, ◌<◌, length, get_or};
+ghost use Rattle.std.specs.Prelude.{◌≡◌, Bool, ℕ, ◌+◌, ◌*◌, ◌≤◌, ◌<◌, length, get_or};
 ghost use Rattle.model.specs.Lists.{all};
-ghost use Rattle.model.specs.Tape.{record_at, records_at, tag_counts, unused_zero, body_shape};
+ghost use Rattle.model.specs.Types as Types;
+ghost use Rattle.model.specs.Tape.{Codec, record_size, record_at, records_at, tag_counts, unused_zero, body_shape};
 ghost use Rattle.model.specs.Tape.{content_codec, segment_codec, node_codec, pair_codec, container_codec, diagnostic_codec};
 ghost use Rattle.model.specs.Tape.{content_shape, segment_shape, node_shape, pair_shape, diagnostic_shape};
 ghost use Rattle.model.specs.WellFormed.{word_of};
@@ -14,6 +15,7 @@ ghost use Rattle.records.specs.Values.{body_of, content_of, segment_of, source_n
 ghost use Rattle.records.specs.Values.{body_at};
 ghost use Rattle.records.specs.Uses.{format_uses, mencode_uses, image_uses, uses_of, use_among, word_use, fields_for, uses_fit};
 ghost use Rattle.records.specs.Shapes.{segment_head, node_head};
+ghost use Rattle.records.specs.Sizes.{content_size, segment_size, node_size, pair_size, diagnostic_size};
 
 // Section 4. A body: what a `Node` or a text holds.
 #[derive(Clone, Copy)]
@@ -428,109 +430,125 @@ pub fn diagnostic_shape(d: Diagnostic) -> bool
     d.kind < 5
 }
 
-// Each kind where it stands, and a run of `count` records from `at` on.
+// A kind of record of which the shape is tested where it stands.
+pub trait Shaped {
+    // how crate model reads one, and its test
+    ghost Value: { Type 0 };
 
-pub fn content_shaped(tape: &[u8], at: usize) -> bool
-    requires { at + 10 ≤ length tape.now }
-    ensures { result ≡ content_shape (record_at content_codec tape.now at) }
-{
-    content_shape(content_at(tape, at))
+    ghost codec: { Codec Value };
+
+    ghost test: { Value → Bool };
+
+    ghost SIZE: { ℕ };
+
+    // How many bytes one has on the tape.
+    const SIZE: usize;
+
+    fn shaped(tape: &[u8], at: usize) -> bool
+        requires { at + SIZE ≤ length tape.now }
+        ensures { result ≡ test (record_at codec tape.now at) };
+
+    ghost size: { record_size codec ≡ SIZE };
 }
 
-pub fn contents_shaped(tape: &[u8], at: usize, count: usize) -> bool
-    requires { at + 10 * count ≤ length tape.now }
-    ensures { result ≡ all content_shape (records_at content_codec tape.now at count) }
+// The shapes of a run of `count` records from `at` on.
+pub fn all_shaped<R: Shaped>(tape: &[u8], at: usize, count: usize) -> bool
+    requires { at + R.SIZE * count ≤ length tape.now }
+    ensures { result ≡ all R.test (records_at R.codec tape.now at count) }
 {
-    let mut i = 0;
-    while i < count {
-        if !content_shaped(tape, at + 10 * i) {
-            return false;
-        }
-        i += 1;
+    (0..count).all(
+        |i|
+            requires { at + R.SIZE * i + R.SIZE ≤ length tape.now }
+        { R::shaped(tape, at + R::SIZE * i) },
+    )
+}
+
+impl Shaped for Content {
+    ghost Value = { Types.Content };
+
+    ghost codec = { content_codec };
+
+    ghost test = { content_shape };
+
+    ghost SIZE = { 10 };
+
+    const SIZE: usize = 10;
+
+    ghost size = { content_size };
+
+    fn shaped(tape: &[u8], at: usize) -> bool {
+        content_shape(content_at(tape, at))
     }
-    true
 }
 
-pub fn segment_shaped(tape: &[u8], at: usize) -> bool
-    requires { at + 37 ≤ length tape.now }
-    ensures { result ≡ segment_shape (record_at segment_codec tape.now at) }
-{
-    segment_shape(segment_at(tape, at))
-}
+impl Shaped for Segment {
+    ghost Value = { Types.Segment };
 
-pub fn segments_shaped(tape: &[u8], at: usize, count: usize) -> bool
-    requires { at + 37 * count ≤ length tape.now }
-    ensures { result ≡ all segment_shape (records_at segment_codec tape.now at count) }
-{
-    let mut i = 0;
-    while i < count {
-        if !segment_shaped(tape, at + 37 * i) {
-            return false;
-        }
-        i += 1;
+    ghost codec = { segment_codec };
+
+    ghost test = { segment_shape };
+
+    ghost SIZE = { 37 };
+
+    const SIZE: usize = 37;
+
+    ghost size = { segment_size };
+
+    fn shaped(tape: &[u8], at: usize) -> bool {
+        segment_shape(segment_at(tape, at))
     }
-    true
 }
 
-pub fn node_shaped(tape: &[u8], at: usize) -> bool
-    requires { at + 49 ≤ length tape.now }
-    ensures { result ≡ node_shape (record_at node_codec tape.now at) }
-{
-    node_shape(node_at(tape, at))
-}
+impl Shaped for SourceNode {
+    ghost Value = { Types.SourceNode };
 
-pub fn nodes_shaped(tape: &[u8], at: usize, count: usize) -> bool
-    requires { at + 49 * count ≤ length tape.now }
-    ensures { result ≡ all node_shape (records_at node_codec tape.now at count) }
-{
-    let mut i = 0;
-    while i < count {
-        if !node_shaped(tape, at + 49 * i) {
-            return false;
-        }
-        i += 1;
+    ghost codec = { node_codec };
+
+    ghost test = { node_shape };
+
+    ghost SIZE = { 49 };
+
+    const SIZE: usize = 49;
+
+    ghost size = { node_size };
+
+    fn shaped(tape: &[u8], at: usize) -> bool {
+        node_shape(node_at(tape, at))
     }
-    true
 }
 
-pub fn pair_shaped(tape: &[u8], at: usize) -> bool
-    requires { at + 18 ≤ length tape.now }
-    ensures { result ≡ pair_shape (record_at pair_codec tape.now at) }
-{
-    tape[at + 1] < 5
-}
+impl Shaped for PairLink {
+    ghost Value = { Types.PairLink };
 
-pub fn pairs_shaped(tape: &[u8], at: usize, count: usize) -> bool
-    requires { at + 18 * count ≤ length tape.now }
-    ensures { result ≡ all pair_shape (records_at pair_codec tape.now at count) }
-{
-    let mut i = 0;
-    while i < count {
-        if !pair_shaped(tape, at + 18 * i) {
-            return false;
-        }
-        i += 1;
+    ghost codec = { pair_codec };
+
+    ghost test = { pair_shape };
+
+    ghost SIZE = { 18 };
+
+    const SIZE: usize = 18;
+
+    ghost size = { pair_size };
+
+    fn shaped(tape: &[u8], at: usize) -> bool {
+        pair_shape(pair_at(tape, at))
     }
-    true
 }
 
-pub fn diagnostic_shaped(tape: &[u8], at: usize) -> bool
-    requires { at + 18 ≤ length tape.now }
-    ensures { result ≡ diagnostic_shape (record_at diagnostic_codec tape.now at) }
-{
-    tape[at + 1] < 5
-}
+impl Shaped for Diagnostic {
+    ghost Value = { Types.Diagnostic };
 
-pub fn diagnostics_shaped(tape: &[u8], at: usize, count: usize) -> bool
-    requires { at + 18 * count ≤ length tape.now }
-    ensures { result ≡ all diagnostic_shape (records_at diagnostic_codec tape.now at count) }
-{
-    let mut i = 0;
-    while i < count {
-        if !diagnostic_shaped(tape, at + 18 * i) {
-            return false;
-        }
-        i += 1;
+    ghost codec = { diagnostic_codec };
+
+    ghost test = { diagnostic_shape };
+
+    ghost SIZE = { 18 };
+
+    const SIZE: usize = 18;
+
+    ghost size = { diagnostic_size };
+
+    fn shaped(tape: &[u8], at: usize) -> bool {
+        diagnostic_shape(diagnostic_at(tape, at))
     }
-    true
 }

@@ -1,7 +1,6 @@
 use Rattle.records.specs.Uses.{fields_for, fits_turn, fits_fails, fits_done}
 use Rattle.records.proofs.Uses.{fits_read}
 use mathlib.Core.Path.{refl, sym, ◌∙◌}
-use Prim.Native.Nat.{◌-◌}
 use native.Mathlib.Omega.{arith}
 use borrow.Author.Rules.{rules}
 use Rattle.records.proofs.words_fit.Goals as goal
