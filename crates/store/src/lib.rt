@@ -80,9 +80,7 @@ pub fn layer_of(starts: &[u32; 32], layers: usize, i: u32) -> usize
     requires { layers ≤ 32 }
     ensures { result ≡ layer_of starts.now layers i }
 {
-    let mut k = layers;
-    while 0 < k {
-        k -= 1;
+    for k in (0..layers).rev() {
         if starts[k] <= i {
             return k;
         }
