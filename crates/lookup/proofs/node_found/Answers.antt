@@ -1,6 +1,5 @@
-use mathlib.Core.Path.{refl}
+use Rattle.std.proofs.Common.{refl, rules}
 use Rattle.lookup.specs.Asked.{node_found}
-use borrow.Author.Rules.{rules}
 use Rattle.lookup.proofs.node_found.Goals as goal
 
 pub returns-in-At : goal.returns-in-At

@@ -1,6 +1,6 @@
 use Rattle.tape.specs.Placed.{drift_number, drift_seven, drift_none}
 use borrow.Author.Rules.{rules}
-use Rattle.tape.proofs.drift_refusal.Goals as goal
+use Rattle.tape.proofs.check_drift.Goals as goal
 
 pub returns-in-Misplaced : goal.returns-in-Misplaced
 unfolding drift_number
