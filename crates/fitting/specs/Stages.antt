@@ -1,10 +1,9 @@
 -- What each stage of 1 to 17 is given and answers, and the laws for its returns.
-use Rattle.std.specs.Prelude.{◌≡◌, refl, ℕ, ◌≤◌, List, Result, MatchResult}
-use Rattle.std.proofs.Math.Path.{sym, subst}
-use Rattle.std.proofs.Common.{ap, ◌∙◌, arith}
+use Rattle.std.specs.Prelude.{◌≡◌, refl, ℕ, List, Result, MatchResult}
+use Rattle.std.proofs.Math.Path.{sym}
+use Rattle.std.proofs.Common.{ap, ◌∙◌}
 use Rattle.model.specs.Offset.{Span}
-use Rattle.model.specs.Types.{LexOutput}
-use Rattle.model.specs.Refusal.{Checked, Checked.refused, Checked.accepted, ◌>>=◌, number_of}
+use Rattle.model.specs.Refusal.{Checked, Checked.refused, Checked.accepted, ◌>>=◌}
 use Rattle.model.specs.Tape.{places, book_at}
 use Rattle.model.specs.WellFormed.{check_book, check_reading}
 use Rattle.model.specs.Region.{Edit, chosen_region}
