@@ -1,8 +1,7 @@
 -- What is asked of a book, 1 to 7 first: the answers of `diagnostics_allow_incremental` and `node_at_source`, and the laws by
 -- which each entry goes from `checked_book` to its answer.
-use Rattle.std.specs.Prelude.{◌≡◌, ℕ, Bool, List, eqb, Option, Some, None}
+use Rattle.std.specs.Prelude.{◌≡◌, ℕ, Bool, List, eqb, Option}
 use Rattle.std.proofs.Common.{refl, sym, ap, ◌∙◌, eqb-true}
-use Rattle.std.proofs.Math.Option as maybe
 use Rattle.std.proofs.lemmas.Bool.{eqb-false}
 use Rattle.model.specs.Types.{LexOutput}
 use Rattle.model.specs.Refusal.{Checked, Checked.refused, Checked.accepted, ◌>>=◌, number_of}
@@ -13,23 +12,9 @@ use Rattle.wire.specs.Loops.{by_bool}
 use Rattle.refusal.specs.Refusal.{checked_map}
 use Rattle.places.specs.declared.Places.{Places}
 use Rattle.places.specs.Found.{found}
-use Rattle.bounds.specs.declared.Found.{Found}
-use Rattle.bounds.specs.declared.Found.TheVariants as found-variants
 use Rattle.bounds.specs.Search.{InOrder, found_of}
 use Rattle.tape.specs.Accepted.{Accepted, Passed, refusal_of, accepted_book, accepted_places, accepted_order}
 use Rattle.tape.specs.Placed.{PlacesFit}
-
--- ---- answers
-
--- The node's place in the list, or none.
-unfoldable pub node_if : maybe.Option ℕ → Option ℕ
-node_if (maybe.some i) = Some i
-node_if maybe.none = None
-
--- what a search in the list tells
-unfoldable pub node_found : Found → Option ℕ
-node_found (found-variants.At i) = Some i
-node_found found-variants.Nothing = None
 
 -- ---- 1 to 7
 
@@ -56,11 +41,6 @@ ask_shown t d {B = B} show f g h =
 
 -- ---- the two entries
 
-node_same : (x : maybe.Option ℕ) → node_found (found_of x) ≡ node_if x
-unfolding node_found found_of node_if
-node_same maybe.none = refl
-node_same (maybe.some i) = refl
-
 module _ {t d : List ℕ} {p : Places} (a : Passed t d p) where
   diagnostics_are : records_at diagnostic_codec t p.diagnostics.at p.diagnostics.count ≡ (book_at t (places t) d).diagnostics
   unfolding found book_at
@@ -82,9 +62,8 @@ module _ {t d : List ℕ} {p : Places} (a : Passed t d p) where
   pub asked_order : InOrder (records_at node_codec t p.nodes.at p.nodes.count)
   asked_order = accepted_order a.whole a.is
 
-  pub node_said : (o : ℕ) {f : Found} {x : Option ℕ} → x ≡ node_found f → f ≡ found_of (node_at_source (records_at node_codec t p.nodes.at p.nodes.count) o)
-      → accepted x ≡ ask_book t d (λ b. node_if (node_at_source b.source_nodes o))
-  node_said o q e =
-      ap {B = Checked (Option ℕ)} accepted (q ∙ ap node_found e ∙ node_same (node_at_source (records_at node_codec t p.nodes.at p.nodes.count) o)
-      ∙ ap (λ ns. node_if (node_at_source ns o)) nodes_are)
-      ∙ ask_accepted a.whole (λ (b : LexOutput). node_if (node_at_source b.source_nodes o))
+  pub node_said : (o : ℕ) {x : Option ℕ} → x ≡ found_of (node_at_source (records_at node_codec t p.nodes.at p.nodes.count) o)
+      → accepted x ≡ ask_book t d (λ b. found_of (node_at_source b.source_nodes o))
+  node_said o e =
+      ap {B = Checked (Option ℕ)} accepted (e ∙ ap (λ ns. found_of (node_at_source ns o)) nodes_are)
+      ∙ ask_accepted a.whole (λ (b : LexOutput). found_of (node_at_source b.source_nodes o))

@@ -9,7 +9,7 @@ use Rattle.model.specs.Computed.{computed}
 use Rattle.store.specs.Stored.{store_at}
 use Rattle.store.specs.Pools.{starts_of, layer_of}
 use Rattle.store.specs.Standing.{content_place}
-use Rattle.lookup.specs.Asked.{node_if}
+use Rattle.bounds.specs.Search.{found_of}
 use Rattle.lookup.specs.Ranges.{range_if}
 use Rattle.lookup.specs.Strings.{str_if}
 
@@ -20,9 +20,9 @@ abbrev d : List ℕ
 d = bytes_of ruby_reading
 
 -- an offset in the node, and at its end
-node : (ask_book t d (λ b. node_if (node_at_source b.source_nodes 1)) ≡ accepted (Some 0))
-    × (ask_book t d (λ b. node_if (node_at_source b.source_nodes 2)) ≡ accepted None)
-unfolding computed node_if
+node : (ask_book t d (λ b. found_of (node_at_source b.source_nodes 1)) ≡ accepted (Some 0))
+    × (ask_book t d (λ b. found_of (node_at_source b.source_nodes 2)) ≡ accepted None)
+unfolding computed found_of
 node = (refl, refl)
 
 -- the second string, and an id past the pool

@@ -6,10 +6,10 @@ ghost use Rattle.std.specs.Prelude.{◌≡◌, ◌≤◌, ◌<◌, ◌^◌};
 ghost use Rattle.model.specs.Tape.{content_codec, segment_codec};
 ghost use Rattle.model.specs.Lookup.{ask_book, diagnostics_allow_incremental, node_at_source, lookup_contents, lookup_segments, lookup_str, lookup_str_span, contents_ok, segments_ok};
 ghost use Rattle.refusal.specs.Refusal.{checked};
+ghost use Rattle.bounds.specs.Search.{found_of};
 ghost use Rattle.store.specs.Stored.{store_at};
 ghost use Rattle.store.specs.Pools.{range_in};
 ghost use Rattle.store.specs.Standing.{content_place, segment_place};
-ghost use Rattle.lookup.specs.Asked.{node_if, node_found};
 ghost use Rattle.lookup.specs.Ranges.{range_if, range_shown};
 ghost use Rattle.strings.specs.Starts.{lengths_in, Readable};
 ghost use Rattle.lookup.specs.Strings.{str_if, str_shown, span_from};
@@ -38,21 +38,12 @@ pub fn diagnostics_allow_incremental(tape: &[u8], bytes: &[u8]) -> Result<bool, 
     Ok(bounds::diagnostics_allow_incremental(tape, diagnostics.at, diagnostics.count))
 }
 
-fn node_found(f: bounds::Found) -> Option<usize>
-    ensures { result ≡ node_found f }
-{
-    match f {
-        bounds::Found::At(i) => Some(i),
-        bounds::Found::Nothing => None,
-    }
-}
-
 // Section 7. `node_at_source` of a book: the node's place in the list.
 pub fn node_at_source(tape: &[u8], bytes: &[u8], offset: u32) -> Result<Option<usize>, Refusal>
-    ensures { checked result ≡ ask_book tape.now bytes.now (λ b. node_if (node_at_source b.source_nodes offset)) }
+    ensures { checked result ≡ ask_book tape.now bytes.now (λ b. found_of (node_at_source b.source_nodes offset)) }
 {
     let nodes = tape::checked_book(tape, bytes)?.nodes;
-    Ok(node_found(bounds::node_at_source(tape, nodes.at, nodes.count, offset)))
+    Ok(bounds::node_at_source(tape, nodes.at, nodes.count, offset))
 }
 
 fn contents_in(st: store::Store, start: u32, len: u32) -> Option<RangeAt>

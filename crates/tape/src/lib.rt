@@ -63,19 +63,14 @@ fn lengths_agree(text: u32, normalized: u32, images: u64, spans: u64) -> bool
 }
 
 // Number 6 where a node is out of place, else number 7.
-fn check_drift(text: u32, normalized: u32, d: bounds::Drift) -> Result<(), Refusal>
-    ensures { number_in result ≡ drift_number text normalized d }
+#[tactic(auto, unfolding(crate::specs::Placed::drift_number))]
+fn check_drift(text: u32, normalized: u32, sums: Option<bounds::Sums>) -> Result<(), Refusal>
+    ensures { number_in result ≡ drift_number text normalized sums }
 {
-    match d {
-        bounds::Drift::Misplaced => {
-            return Err(Refusal::Place);
-        }
-        bounds::Drift::Placed(images, spans) => {
-            if lengths_agree(text, normalized, images, spans) {
-                return Ok(());
-            }
-            return Err(Refusal::NormalizedLength);
-        }
+    match sums {
+        None => Err(Refusal::Place),
+        Some(s) if lengths_agree(text, normalized, s.images, s.spans) => Ok(()),
+        Some(_) => Err(Refusal::NormalizedLength),
     }
 }
 
@@ -106,8 +101,8 @@ pub fn check_places(tape: &[u8], p: places::Places) -> Result<(), Refusal>
     if !lists_placed(tape, p) {
         return Err(Refusal::Place);
     }
-    let d = bounds::nodes_placed(tape, p.nodes.at, p.nodes.count, p.text as usize);
-    check_drift(p.text, p.normalized, d)
+    let sums = bounds::nodes_placed(tape, p.nodes.at, p.nodes.count, p.text as usize);
+    check_drift(p.text, p.normalized, sums)
 }
 
 // Numbers 2 to 7 of a tape that is laid out.

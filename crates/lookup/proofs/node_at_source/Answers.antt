@@ -14,4 +14,4 @@ node_at_source-requires c =
 
 pub returns : goal.returns
 returns c =
-    node_said (passed_book c.in_ok-nodes.ensures) _ c.node_found.ensures c.node_at_source.ensures
+    node_said (passed_book c.in_ok-nodes.ensures) _ c.node_at_source.ensures
