@@ -1,7 +1,7 @@
 -- The new text equals the old exactly if the replacement is what it replaces.
-use Rattle.std.specs.Prelude.{◌≡◌, refl, ℕ, zero, suc, ◌+◌, ◌-◌, ◌≤◌, Bool, true, false, ◌&&◌, List, [], ◌∷◌, ◌++◌, length, eqb}
+use Rattle.std.specs.Prelude.{◌≡◌, refl, ℕ, ◌+◌, ◌-◌, ◌≤◌, Bool, false, ◌&&◌, List, [], ◌∷◌, ◌++◌, length, eqb}
 use Rattle.std.proofs.Math.Path.{sym, ap}
-use Rattle.std.proofs.Common.{ap₂, ◌∙◌, arith, take-append-drop, drop-drop, eq-eqb}
+use Rattle.std.proofs.Common.{◌∙◌, arith, take-append-drop, drop-drop, eq-eqb}
 use Rattle.std.proofs.Math.ListN.{take, drop, length-append, length-drop}
 use Rattle.std.proofs.Math.Seq.{length-take-le}
 use Rattle.model.specs.Lists.{same}

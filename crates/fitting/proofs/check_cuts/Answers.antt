@@ -1,7 +1,7 @@
 use native.Mathlib.Omega.{arith}
 use mathlib.Core.Path.{refl}
 use Rattle.fitting.specs.Reading.{held_texts, refused_15, refused_16, refused_17, refused_none}
-use Rattle.fitting.proofs.cut_refusal.Goals as goal
+use Rattle.fitting.proofs.check_cuts.Goals as goal
 
 pub returns-then-introduces_ruby_format_dependency : goal.returns-then-introduces_ruby_format_dependency
 returns-then-introduces_ruby_format_dependency c =

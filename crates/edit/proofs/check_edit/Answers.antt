@@ -1,6 +1,6 @@
 use Rattle.edit.specs.Numbers.{edit_eight, edit_two, edit_facts, edit_three, edit_nine, edit_pass, within_facts}
-use mathlib.Core.Path.{sym, ◌∙◌}
-use Rattle.edit.proofs.edit_refusal.Goals as goal
+use Rattle.std.proofs.Common.{sym, ◌∙◌}
+use Rattle.edit.proofs.check_edit.Goals as goal
 
 pub returns-then-not-edit_ok : goal.returns-then-not-edit_ok
 returns-then-not-edit_ok c =

@@ -1,6 +1,6 @@
 use Rattle.tape.specs.Numbers.{pools_ids, pools_levels, levels_pass, pools_four, pools_five, pools_pass}
 use mathlib.Core.Path.{sym, ◌∙◌}
-use Rattle.tape.proofs.pools_refusal.Goals as goal
+use Rattle.tape.proofs.check_pools.Goals as goal
 
 pub store_of-st-requires : goal.store_of-st-requires
 store_of-st-requires c =

@@ -1,6 +1,6 @@
 use Rattle.tape.specs.Numbers.{laid_texts, laid_limits, texts_two, texts_three, texts_pass}
 use mathlib.Core.Path.{sym, ◌∙◌}
-use Rattle.tape.proofs.texts_refusal.Goals as goal
+use Rattle.tape.proofs.check_texts.Goals as goal
 
 pub texts_utf8-requires : goal.texts_utf8-requires
 texts_utf8-requires c =

@@ -1,5 +1,5 @@
 use Rattle.tape.specs.Placed.{fit_nodes, places_six, places_drift}
-use Rattle.tape.proofs.places_refusal.Goals as goal
+use Rattle.tape.proofs.check_places.Goals as goal
 
 pub returns-then-not-lists_placed : goal.returns-then-not-lists_placed
 returns-then-not-lists_placed c =
@@ -11,4 +11,4 @@ nodes_placed-sums-requires c =
 
 pub returns : goal.returns
 returns c =
-    λ d f. places_drift _ d f c.requires.is c.lists_placed.ensures c.if-not-lists_placed.false _ c.nodes_placed-sums.ensures c.drift_refusal.ensures
+    λ d f. places_drift _ d f c.requires.is c.lists_placed.ensures c.if-not-lists_placed.false _ c.nodes_placed-sums.ensures c.check_drift.ensures

@@ -1,7 +1,7 @@
 use native.Mathlib.Omega.{arith}
 use Rattle.model.specs.Region.{edit_of}
 use Rattle.fitting.specs.Reading.{held_texts, held_nodes, held_diagnostics, region_asked, passage_asked, refused_12, refused_13, refused_14, refused_cut}
-use Rattle.fitting.proofs.reading_refusal.Goals as goal
+use Rattle.fitting.proofs.check_fitting.Goals as goal
 
 pub slice_bounds-text-end : goal.slice_bounds-text-end
 slice_bounds-text-end c =
@@ -74,8 +74,8 @@ returns-then-has_unclosed c =
     refused_14 start.requires.read at-region-text.region_text-old_text.ensures at-is-region-text.is_region_text.ensures at-if1.if-not-is_region_text.false at-balanced-nodes.balanced_nodes.ensures
     c.if-not-balanced_nodes.false c.has_unclosed.ensures c.if-has_unclosed.true
 
-pub cut_refusal-requires : goal.cut_refusal-requires
-cut_refusal-requires c =
+pub check_cuts-requires : goal.check_cuts-requires
+check_cuts-requires c =
     let start = c in
     record {
       held = (start.requires.read.given.held, start.requires.read.held);
@@ -94,4 +94,4 @@ returns c =
     let at-region-text = at-is-region-text in
     let start = at-region-text in
     refused_cut start.requires.read at-region-text.region_text-old_text.ensures at-is-region-text.is_region_text.ensures at-if1.if-not-is_region_text.false at-balanced-nodes.balanced_nodes.ensures
-    at-if2.if-not-balanced_nodes.false at-has-unclosed.has_unclosed.ensures at-if3.if-has_unclosed.false (c.cut_refusal.ensures _)
+    at-if2.if-not-balanced_nodes.false at-has-unclosed.has_unclosed.ensures at-if3.if-has_unclosed.false (c.check_cuts.ensures _)
