@@ -1,6 +1,6 @@
 -- What is known of a tape and its bytes where `check_book` or `check_reading` answers 0, and what the code that reads them may
 -- ask: the places found, a store, nodes in order.
-use Rattle.std.specs.Prelude.{◌≡◌, refl, ℕ, true, List, length}
+use Rattle.std.specs.Prelude.{Some, ◌≡◌, refl, ℕ, true, List, length}
 use Rattle.std.proofs.Common.{sym, ap, ◌∙◌, subst, arith}
 use Rattle.std.proofs.Math.Option.{Option, some}
 use Rattle.model.specs.Types.{LexOutput, RegionOutput}
@@ -131,9 +131,9 @@ module _ {t d : List ℕ} {p : Places} where
 -- ---- what the code may ask then
 
 -- `places_of` has found them
-pub accepted_found : {t d : List ℕ} → Accepted t d → (p : Places) → p ≡ places_of t d → p ≡ found t
+pub accepted_found : {t d : List ℕ} → Accepted t d → places_of t d ≡ Some (found t)
 unfolding places_of
-accepted_found a p e = e ∙ rw a.holding refl
+accepted_found a = rw a.holding refl
 
 module _ {t d : List ℕ} (a : Accepted t d) {p : Places} (e : p ≡ found t) where
   pub accepted_laid : Laid t d p

@@ -119,8 +119,7 @@ pub fn check_laid_out(tape: &[u8], bytes: &[u8], p: places::Places) -> Result<()
 fn laid_out(tape: &[u8], bytes: &[u8]) -> Result<places::Places, Refusal>
     ensures { MatchResult result (λ p. Laid tape.now bytes.now p) (λ refusal. IsNoBook tape.now bytes.now refusal) }
 {
-    let p = layout::layout(tape, bytes);
-    if p.fault { Err(Refusal::Layout) } else { Ok(p) }
+    layout::layout(tape, bytes).ok_or(Refusal::Layout)
 }
 
 // Numbers 1 to 7 of a book, or where its records stand: whoever goes on with the book need not look for them again.
