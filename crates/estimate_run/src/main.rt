@@ -7,6 +7,7 @@
 ghost use Rattle.std.specs.Prelude.{◌≤◌};
 
 use estimate::Price;
+use refusal::Refusal;
 use std::io;
 
 const HEAD: usize = 12;
@@ -19,10 +20,11 @@ fn put(rt: &impl Print, label: &str, n: u64) -> io::Result<()> {
     print!(rt; "{label}{n}")
 }
 
-fn put_price(rt: &impl Print, r: Price) -> io::Result<()> {
-    if r.number != 0 {
-        return put(rt, "refused ", r.number as u64);
-    }
+fn put_price(rt: &impl Print, answer: Result<Price, Refusal>) -> io::Result<()> {
+    let r = match answer {
+        Ok(price) => price,
+        Err(refusal) => return put(rt, "refused ", u64::from(u32::from(refusal))),
+    };
     put(rt, "reread ", r.reread as u64)?;
     put(rt, " calls ", r.calls as u64)?;
     put(rt, " contents ", r.contents as u64)?;

@@ -135,9 +135,8 @@ fn show_graft(
 ) -> io::Result<()>
     requires { 16384 ≤ length work.old }
 {
-    let n = tape::check_book(tape, bytes);
-    if n != 0 {
-        return put(rt, "refused ", n as u64);
+    if let Err(refusal) = tape::check_book(tape, bytes) {
+        return put(rt, "refused ", u64::from(u32::from(refusal)));
     }
     if over(o) {
         return print!(rt; "refused 18");

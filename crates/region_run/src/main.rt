@@ -2,6 +2,8 @@
 // tools/cases/make writes the cases, and from document 01 the output that is stored beside them.
 #![tactic(auto)]
 
+use refusal::Refusal;
+use span::Span;
 use std::io;
 
 fn say(rt: &impl Print, s: &[u8]) -> io::Result<()> {
@@ -36,10 +38,10 @@ fn put_region(rt: &impl Print, bytes: &[u8], start: u32, end: u32) -> io::Result
     print!(rt; "\"")
 }
 
-fn put_chosen(rt: &impl Print, bytes: &[u8], a: region::Chosen) -> io::Result<()> {
+fn put_chosen(rt: &impl Print, bytes: &[u8], a: Result<Span, Refusal>) -> io::Result<()> {
     match a {
-        region::Chosen::Refused(n) => put(rt, "refused ", n as u64),
-        region::Chosen::Region(start, end) => put_region(rt, bytes, start, end),
+        Ok(Span { start, end }) => put_region(rt, bytes, start, end),
+        Err(refusal) => put(rt, "refused ", u64::from(u32::from(refusal))),
     }
 }
 

@@ -3,6 +3,7 @@
 // stored beside them.
 #![tactic(auto)]
 
+use refusal::Refusal;
 use std::io;
 
 fn say(rt: &impl Print, s: &[u8]) -> io::Result<()> {
@@ -24,10 +25,14 @@ fn put_hex(rt: &impl Print, s: &[u8]) -> io::Result<()> {
     Ok(())
 }
 
-fn put_copied(rt: &impl Print, a: copy::Copied) -> io::Result<()> {
+fn put_refused(rt: &impl Print, refusal: Refusal) -> io::Result<()> {
+    put(rt, "refused ", u64::from(u32::from(refusal)))
+}
+
+fn put_copied(rt: &impl Print, a: Result<copy::Copied, Refusal>) -> io::Result<()> {
     match a {
-        copy::Copied::Refused(n) => put(rt, "refused ", n as u64),
-        copy::Copied::Copied(tape, bytes) => print!(rt; "{tape} {bytes}"),
+        Ok(copy::Copied { tape, bytes }) => print!(rt; "{tape} {bytes}"),
+        Err(refusal) => put_refused(rt, refusal),
     }
 }
 
@@ -47,19 +52,19 @@ fn copy(rt: &impl Print, tape: &[u8], bytes: &[u8]) -> io::Result<()> {
     println!(rt)
 }
 
-fn put_allowed(rt: &impl Print, a: lookup::Allowed) -> io::Result<()> {
+fn put_allowed(rt: &impl Print, a: Result<bool, Refusal>) -> io::Result<()> {
     match a {
-        lookup::Allowed::Refused(n) => put(rt, "refused ", n as u64),
-        lookup::Allowed::Yes => print!(rt; "yes"),
-        lookup::Allowed::No => print!(rt; "no"),
+        Ok(true) => print!(rt; "yes"),
+        Ok(false) => print!(rt; "no"),
+        Err(refusal) => put_refused(rt, refusal),
     }
 }
 
-fn put_node(rt: &impl Print, a: lookup::NodeAt) -> io::Result<()> {
+fn put_node(rt: &impl Print, a: Result<Option<usize>, Refusal>) -> io::Result<()> {
     match a {
-        lookup::NodeAt::Refused(n) => put(rt, "refused ", n as u64),
-        lookup::NodeAt::Node(i) => print!(rt; "{i}"),
-        lookup::NodeAt::Nothing => print!(rt; "none"),
+        Ok(Some(i)) => print!(rt; "{i}"),
+        Ok(None) => print!(rt; "none"),
+        Err(refusal) => put_refused(rt, refusal),
     }
 }
 
@@ -79,20 +84,29 @@ fn put_string(rt: &impl Print, bytes: &[u8], start: usize, end: usize) -> io::Re
     print!(rt; "\"")
 }
 
-fn put_str(rt: &impl Print, bytes: &[u8], a: lookup::StrAt) -> io::Result<()> {
+fn put_str(
+    rt: &impl Print,
+    bytes: &[u8],
+    a: Result<Option<lookup::StrAt>, Refusal>,
+) -> io::Result<()> {
     match a {
-        lookup::StrAt::Refused(n) => put(rt, "refused ", n as u64),
-        lookup::StrAt::At(start, end) => put_string(rt, bytes, start, end),
-        lookup::StrAt::Nothing => print!(rt; "none"),
+        Ok(Some(lookup::StrAt { start, end })) => put_string(rt, bytes, start, end),
+        Ok(None) => print!(rt; "none"),
+        Err(refusal) => put_refused(rt, refusal),
     }
 }
 
-fn put_range(rt: &impl Print, start: u32, end: u32, a: lookup::RangeAt) -> io::Result<()> {
+fn put_range(
+    rt: &impl Print,
+    start: u32,
+    end: u32,
+    a: Result<Option<lookup::RangeAt>, Refusal>,
+) -> io::Result<()> {
     print!(rt; "{start} {end}: ")?;
     match a {
-        lookup::RangeAt::Refused(n) => put(rt, "refused ", n as u64),
-        lookup::RangeAt::At(place, n) => put_records(rt, place, n),
-        lookup::RangeAt::Nothing => print!(rt; "none"),
+        Ok(Some(lookup::RangeAt { place, count })) => put_records(rt, place, count),
+        Ok(None) => print!(rt; "none"),
+        Err(refusal) => put_refused(rt, refusal),
     }
 }
 
@@ -121,6 +135,14 @@ fn ask(rt: &impl Print, tape: &[u8], bytes: &[u8], start: u32, end: u32) -> io::
     println!(rt)
 }
 
+// 0 where it is accepted.
+fn number(a: Result<(), Refusal>) -> u64 {
+    match a {
+        Ok(()) => 0,
+        Err(refusal) => u64::from(u32::from(refusal)),
+    }
+}
+
 fn show(
     rt: &impl Print,
     label: &[u8],
@@ -129,12 +151,12 @@ fn show(
     start: u32,
     end: u32,
 ) -> io::Result<()> {
-    let n = tape::check_book(tape, bytes);
+    let book = tape::check_book(tape, bytes);
     say(rt, label)?;
-    put(rt, ": check ", n as u64)?;
-    put(rt, ", reading ", tape::check_reading(tape, bytes) as u64)?;
+    put(rt, ": check ", number(book))?;
+    put(rt, ", reading ", number(tape::check_reading(tape, bytes)))?;
     println!(rt)?;
-    if n == 0 {
+    if book.is_ok() {
         ask(rt, tape, bytes, start, end)?;
     }
     Ok(())
