@@ -138,7 +138,11 @@ impl splice::Spliced for Containers {
         out: &mut [u8],
         to: usize,
     ) {
-        put_container(out, to, container_as_in(records::container_at(tape, at), w, part));
+        put_container(
+            out,
+            to,
+            container_as_in(records::container_at(tape, at), w, part),
+        );
     }
 
     ghost kind = { container_kind };
@@ -194,7 +198,11 @@ impl splice::Spliced for Diagnostics {
         out: &mut [u8],
         to: usize,
     ) {
-        put_diagnostic(out, to, diagnostic_as_in(records::diagnostic_at(tape, at), w, part));
+        put_diagnostic(
+            out,
+            to,
+            diagnostic_as_in(records::diagnostic_at(tape, at), w, part),
+        );
     }
 
     ghost kind = { diagnostic_kind };
