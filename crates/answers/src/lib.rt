@@ -256,13 +256,15 @@ impl From<Result<Price, Refusal>> for PriceAnswer {
 
     fn from(a: Result<Price, Refusal>) -> PriceAnswer {
         match a {
-            Ok(Price {
-                reread,
-                calls,
-                contents,
-                segments,
-                bytes,
-            }) => PriceAnswer {
+            Ok(
+                Price {
+                    reread,
+                    calls,
+                    contents,
+                    segments,
+                    bytes,
+                },
+            ) => PriceAnswer {
                 number: 0,
                 reread,
                 calls,
