@@ -1,6 +1,6 @@
 -- A refusal as document 01's number, and what a call answers as a value or a number of the model.
 use Rattle.std.specs.Prelude.{◌≡◌, ℕ, ◌<◌, ◌≤◌, Result, Ok, Err, IsErrAnd}
-use Rattle.std.proofs.Common.{refl, sym, ap, arith}
+use Rattle.std.proofs.Common.{◌∙◌, refl, sym, ap, arith}
 use Rattle.model.specs.Refusal.{Checked, Checked.refused, Checked.accepted, ◌>>=◌, number_of}
 use Rattle.refusal.specs.declared.Refusal.{Refusal}
 use Rattle.refusal.specs.declared.Refusal.TheVariants.{Layout, NotUtf8, OverLimit, IdOrRange, Level, Place, NormalizedLength, Edit, SameText, RubyFormatDependency, WholeText, OtherText, Unbalanced, Unclosed, NewRubyFormatDependency, CutInCharacter, LayersFull, NoRoom}
@@ -97,6 +97,15 @@ module _ {A : Type 0} where
     pub was_accepted : (x : Checked A) {b : B} → accepted b ≡ checked_map f x → (a : A) × (x ≡ accepted a) × (b ≡ f a)
     was_accepted (refused m) e = cc
     was_accepted (accepted a) e = (a, refl, cc)
+
+number_map : {A B : Type 0} (f : A → B) (x : Checked A) → number_of (checked_map f x) ≡ number_of x
+unfolding number_of
+number_map f (refused n) = refl
+number_map f (accepted a) = refl
+
+-- the number of what is said of an answer
+pub number_told : {A B : Type 0} (f : A → B) (a : Result B Refusal) (x : Checked A) → checked a ≡ checked_map f x → number_in a ≡ number_of x
+number_told f a x e = sym (number_of-checked a) ∙ ap number_of e ∙ number_map f x
 
 -- what a `?` hands on is the refusal that it found
 pub handed_on : {A : Type 0} (x : Result A Refusal) {r : Refusal} → IsErrAnd x (λ q. q ≡ r) → x ≡ Err r
