@@ -1,7 +1,6 @@
 -- What a node is, by the bytes of its record.
-use Rattle.std.specs.Prelude.{◌≡◌, ℕ, ◌+◌, ◌/◌, Bool, false, ◌&&◌, List, eqb}
+use Rattle.std.specs.Prelude.{◌≡◌, ℕ, ◌+◌, ◌/◌, false, List, eqb}
 use Rattle.std.proofs.Math.Path.{refl}
-use Rattle.std.proofs.Common.{sym}
 use borrow.Author.Tests.{eq-eqb, ne_eqb}
 use Rattle.model.specs.Bytes.{byte_at}
 use Rattle.model.specs.Tape.{record_at, operands_at, node_codec}
