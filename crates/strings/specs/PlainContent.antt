@@ -3,7 +3,7 @@ use Rattle.std.specs.Prelude.{Option, Some, None, ◌≡◌, ℕ, ◌+◌, ◌�
 use Rattle.std.proofs.Math.Path.{refl}
 use Rattle.std.proofs.Common.{sym, ap, ◌∙◌, arith, add-zero}
 use Rattle.std.proofs.Math.Option.{Option as ModelOption, none, some}
-use borrow.Author.Tests.{leb-true, eq-eqb, ne_eqb}
+use borrow.Author.Tests.{leb-true}
 use Rattle.model.specs.Types.{Content}
 use Rattle.model.specs.Store.{NodeStore, resolve_str, resolve_content_range, as_plain, content_range_as_plain}
 use Rattle.model.specs.Tape.{record_at, records_at, content_codec}
@@ -38,17 +38,6 @@ plain_string_lem st start len {r} e = go (resolve_content_range st start len) �
     go [] = refl
     go (c ∷ []) = one c (eqb c.tag 0)
     go (c ∷ d ∷ cs) = refl
-
--- ---- one content
-
-module _ (c : Content) where
-  pub plain_id : c.tag ≡ 0 → Some c.first ≡ plain_of (c ∷ [])
-  unfolding plain_of
-  plain_id e = rw (eq-eqb c.tag 0 e) refl
-
-  pub plain_other : (c.tag ≡ 0 → ⊥) → None ≡ plain_of (c ∷ [])
-  unfolding plain_of
-  plain_other e = rw (ne_eqb c.tag 0 e) refl
 
 -- ---- a range of a tape's contents
 
