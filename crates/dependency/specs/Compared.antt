@@ -1,13 +1,12 @@
 -- A string of the store compared with other bytes, lengths first; and each return of the code above it.
-use Rattle.std.specs.Prelude.{Option, Some, None, ◌≡◌, ℕ, suc, ◌+◌, ◌*◌, ◌<◌, Bool, true, false, ◌&&◌, List, ◌++◌, length, drop, ◌≢◌, slice_index}
+use Rattle.std.specs.Prelude.{Option, Some, None, ◌≡◌, ℕ, suc, ◌<◌, Bool, true, false, List, ◌++◌, length, drop, ◌≢◌, slice_index}
 use Rattle.std.proofs.Math.Path.{refl, ap}
 use Rattle.std.proofs.Common.{sym, ◌∙◌, arith, length-append, length-drop, length-take-le}
-use Rattle.std.proofs.Math.Option.{none, some}
 use Rattle.model.specs.Lists.{any, same}
 use Rattle.model.specs.Types.{SourceNode}
 use Rattle.model.specs.Store.{NodeStore, resolve_str}
-use Rattle.model.specs.Tape.{record_at, records_at, node_codec, string_codec}
-use Rattle.model.specs.Region.{is_ruby, first_plain}
+use Rattle.model.specs.Tape.{record_at, node_codec, string_codec}
+use Rattle.model.specs.Region.{is_ruby}
 use Rattle.laws.specs.Lists.{same_eq}
 use Rattle.wire.specs.Loops.{by_bool}
 use Rattle.store.specs.declared.Store.{Store}
@@ -16,8 +15,7 @@ use Rattle.store.specs.Standing.{string_place, length_at, string_at_lem}
 use Rattle.strings.specs.Starts.{lengths_in, start_in, store_in}
 use Rattle.strings.specs.Shown.{TwoSides, Resolvable}
 use Rattle.strings.specs.PlainContent.{plain_of, plain_string}
-use Rattle.ruby_formats.specs.Asks.{asks_target}
-use Rattle.dependency.specs.Bases.{is_plain, has_base, among_bases, refers_back, refers_at}
+use Rattle.dependency.specs.Bases.{is_plain, has_base, among_bases}
 use Rattle.ruby_formats.specs.Sound.{SoundNode, first_contents, plain_first}
 
 -- ---- a string and bytes

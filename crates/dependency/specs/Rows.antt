@@ -1,5 +1,5 @@
 -- The bases of the Rubies passed, in a row of ids: a string is a base exactly if the row has it. It serves where the filter is crowded.
-use Rattle.std.specs.Prelude.{Option, Some, None, ◌≡◌, ℕ, ◌+◌, ◌*◌, ◌<◌, ◌≤◌, min, Bool, true, false, ◌&&◌, ◌||◌, List, ◌++◌, length, ◌==◌, ◌≢◌}
+use Rattle.std.specs.Prelude.{Option, Some, None, ◌≡◌, ℕ, ◌+◌, ◌*◌, ◌<◌, ◌≤◌, min, Bool, true, false, ◌&&◌, ◌||◌, List, ◌++◌, length, ◌≢◌}
 use Rattle.std.proofs.Math.Path.{refl, sym, ap}
 use Rattle.std.proofs.Common.{ap₂, ◌∙◌, arith, add-one}
 use Rattle.std.proofs.Math.Option.{Option as ModelOption, none, some}

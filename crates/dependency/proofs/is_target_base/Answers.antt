@@ -1,5 +1,5 @@
 use Rattle.dependency.specs.Rows.{told_as, told_is}
-use Rattle.std.proofs.Common.{sym, refl, ◌∙◌}
+use Rattle.std.proofs.Common.{refl, ◌∙◌}
 use Rattle.strings.specs.Shown.{shown_str}
 use Rattle.dependency.specs.Compared.{target_some, target_none}
 use Rattle.dependency.proofs.is_target_base.Goals as goal

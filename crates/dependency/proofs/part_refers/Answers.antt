@@ -1,6 +1,5 @@
-use Rattle.std.proofs.Common.{◌≡◌, ◌≤◌, length, refl, ◌∙◌, arith}
+use Rattle.std.proofs.Common.{◌≤◌, length, refl, ◌∙◌, arith}
 use Rattle.ruby_formats.specs.Sound.{sound_index}
-use Rattle.sorted_ids.specs.Row.{first_words}
 use Rattle.dependency.specs.Words.{last_first, last_inside, last_length}
 use Rattle.dependency.proofs.part_refers.Goals as goal
 

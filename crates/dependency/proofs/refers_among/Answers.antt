@@ -1,5 +1,5 @@
 use Rattle.dependency.specs.Rows.{told_as, told_is}
-use Rattle.std.proofs.Common.{sym, refl, arith}
+use Rattle.std.proofs.Common.{refl, arith}
 use Rattle.ruby_formats.specs.Sound.{sound_last, sound_before, format_first, plain_inside}
 use Rattle.dependency.specs.Parts.{refers_other, refers_target, noted_few}
 use Rattle.dependency.proofs.refers_among.Goals as goal

@@ -2,7 +2,7 @@ use Rattle.ruby_formats.specs.Sound.{sound_index}
 use Rattle.dependency.specs.Pieces.{sound_piece}
 use Rattle.dependency.specs.Parts.{parts_none, parts_more, parts_found, parts_all}
 use Rattle.strings.specs.Starts.{store_in}
-use Rattle.std.proofs.Common.{◌+◌, ◌-◌, ◌++◌, refl, ◌∙◌, arith}
+use Rattle.std.proofs.Common.{◌++◌, refl, ◌∙◌, arith}
 use Rattle.dependency.proofs.refers_in_parts.Goals as goal
 
 pub overflow_sub-size : goal.overflow_sub-size
