@@ -1,4 +1,4 @@
-use Rattle.dependency.specs.Rows.{told_as, told_no}
+use Rattle.dependency.specs.Rows.{told_as, told_is}
 use mathlib.Core.Path.{refl, sym, ◌∙◌}
 use Rattle.strings.specs.Shown.{shown_str}
 use Rattle.dependency.specs.Compared.{target_some, target_none}
@@ -21,4 +21,4 @@ returns-in-Some c =
 
 pub returns-in-None : goal.returns-in-None
 returns-in-None c =
-    told_no (sym (target_none _ _ _ c.in-None.is))
+    told_is _ (target_none _ _ _ c.in-None.is)
