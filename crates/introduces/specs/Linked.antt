@@ -1,6 +1,6 @@
 -- Number 15, as the code asks it: a Ruby of the reading and a Referenced Format behind the region, or a Referenced Format of the reading
 -- whose target is the base of a Ruby before the region.
-use Rattle.std.specs.Prelude.{Option, Some, None, ◌≡◌, ℕ, Bool, true, false, ◌&&◌, ◌||◌, List, [], ◌∷◌, ◌++◌}
+use Rattle.std.specs.Prelude.{Option, ◌≡◌, ℕ, Bool, true, false, ◌&&◌, ◌||◌, List, [], ◌∷◌, ◌++◌}
 use Rattle.std.proofs.Math.Path.{refl, ap}
 use Rattle.std.proofs.Common.{sym, ◌∙◌, le-leb, arith}
 use Rattle.std.proofs.Math.Bool.{and-false, and-true}

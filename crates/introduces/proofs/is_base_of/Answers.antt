@@ -1,5 +1,5 @@
 use Rattle.dependency.specs.Rows.{told_as, told_is}
-use mathlib.Core.Path.{refl, sym, ◌∙◌}
+use mathlib.Core.Path.{refl, ◌∙◌}
 use Rattle.strings.specs.Shown.{shown_str}
 use Rattle.dependency.specs.Compared.{target_some, target_none}
 use Rattle.introduces.proofs.is_base_of.Goals as goal

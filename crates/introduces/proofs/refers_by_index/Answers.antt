@@ -3,7 +3,6 @@ use Rattle.dependency.specs.Pieces.{sound_piece}
 use Rattle.introduces.specs.Pieces.{unreferred_none, unreferred_more, unreferred_all, referred_here}
 use Rattle.ruby_formats.specs.Sound.{sound_index}
 use mathlib.Core.Path.{◌∙◌}
-use Prim.Native.Nat.{◌-◌}
 use native.Mathlib.Omega.{arith}
 use Rattle.introduces.proofs.refers_by_index.Goals as goal
 

@@ -1,5 +1,5 @@
 use Rattle.dependency.specs.Rows.{told_as, told_is}
-use mathlib.Core.Path.{refl, sym}
+use mathlib.Core.Path.{refl}
 use Rattle.introduces.specs.Linked.{refers_other, refers_target}
 use Rattle.ruby_formats.specs.Sound.{target_first, plain_inside}
 use Rattle.introduces.proofs.refers_to.Goals as goal
