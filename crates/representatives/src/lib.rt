@@ -145,9 +145,8 @@ fn pair_string<'a>(
     ensures ordered_2 { Ordered words.new (n + 1) (id + 1) }
 {
     let s = strings::resolve_str(tape, st, &row[0..INDEX], old, new, id);
-    let k = sorted_ids::find(tape, st, row, INDEX, m, old, new, s);
-    if k != 0 {
-        put_pair(words, n, id, k - 1);
+    if let Some(known) = sorted_ids::find(tape, st, row, INDEX, m, old, new, s) {
+        put_pair(words, n, id, known);
         return m;
     }
     put_pair(words, n, id, id);

@@ -1,4 +1,3 @@
-use Prim.Native.Nat.{◌-◌}
 use native.Mathlib.Omega.{arith}
 use Rattle.representatives.specs.Long.{short_none, short_more, long_here, long_none}
 use Rattle.representatives.proofs.next_long.Goals as goal

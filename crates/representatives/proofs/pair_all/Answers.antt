@@ -1,5 +1,4 @@
 use mathlib.Core.Path.{refl, ◌∙◌}
-use Prim.Native.Nat.{◌-◌}
 use native.Mathlib.Omega.{arith}
 use Rattle.representatives.specs.Pairs.{paired_none, paired_next, paired_index}
 use Rattle.representatives.specs.Ordered.{ordered_later, ordered_all}

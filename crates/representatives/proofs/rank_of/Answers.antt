@@ -1,5 +1,4 @@
 use mathlib.Core.Path.{◌≡◌}
-use Prim.Native.Nat.{◌-◌}
 use native.Mathlib.Omega.{arith}
 use Rattle.representatives.specs.Bisection.{split_start, split_up, split_down}
 use Rattle.representatives.proofs.rank_of.Goals as goal
