@@ -1,5 +1,5 @@
 -- The seven counts: the defined ones they stand for, what each function adds, and that no sum wraps.
-use Rattle.std.specs.Prelude.{◌≡◌, ℕ, ◌+◌, ◌*◌, ◌≤◌}
+use Rattle.std.specs.Prelude.{ℕ, ◌+◌, ◌*◌, ◌≤◌}
 use Rattle.model.specs.Intern.{InternStats as Stats}
 use Rattle.stats.specs.declared.InternStats.{InternStats}
 
