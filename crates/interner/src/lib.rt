@@ -193,7 +193,8 @@ impl StrInterner {
         self.resolve(work, strs, p.slot - 1)
     }
 
-    // How many far strings precede s. Proved is only that there are so many: `recall` tests what stands there.
+    // How many far strings precede s. Proved is only that there are so many: `recall` tests what stands there. Bisected by hand:
+    // `partition_point` wants a test of any word, and only a word of the row has a string.
     pub fn far_place(&self, work: &[u32], strs: &[u8], s: &[u8]) -> usize
         requires good { Good work.now strs.now self.now }
         requires slots_nonzero { 0 < self.now.slots }
