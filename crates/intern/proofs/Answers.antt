@@ -32,23 +32,23 @@ module _ (work strs : List ℕ) (st : Interner) (g : Good work strs st) where
   known_told slot c one adds le u is r id =
       subst (λ (x : Interner). Told work strs st work strs x (Some r) (record { id = slot - 1; state = record { strings = strings; table = table_of st.slots work; occupied = st.occupied; last = slot; stats = plus_stats (stats_of st.stats) one } })) (sym is)
       (record {
+        good = record {
+          words = g.words;
+          size = g.size;
+          entries = g.entries;
+          number = g.number;
+          most = g.most;
+          known = le;
+          end = g.end;
+          fits = g.fits;
+          begins = g.begins;
+          laid = g.laid;
+          counts = adds.counted;
+          row = g.row;
+        };
         room = room_same work strs st g;
         refused = λ e. absurd (none-some r (sym e));
         answered = λ k e. record {
-          good = record {
-            words = g.words;
-            size = g.size;
-            entries = g.entries;
-            number = g.number;
-            most = g.most;
-            known = le;
-            end = g.end;
-            fits = g.fits;
-            begins = g.begins;
-            laid = g.laid;
-            counts = adds.counted;
-            row = g.row;
-          };
           state = ap (λ (x : InternStats). record { strings = strings; table = table_of st.slots work; occupied = st.occupied; last = slot; stats = x }) adds.is;
           id_is = sym (same_Some r k e) ∙ id;
           base = refl;
@@ -58,27 +58,27 @@ module _ (work strs : List ℕ) (st : Interner) (g : Good work strs st) where
       })
 
   -- ---- a new string
-  refusal : (work' strs' : List ℕ) (a : Interned) → false ≡ has_room (length strs) st.base a.state → Told work strs st work' strs' st None a
-  refusal work' strs' a no_room = record { room = no_room; answered = λ k e. absurd (none-some k e); refused = λ _. refl }
+  refusal : (a : Interned) → false ≡ has_room (length strs) st.base a.state → Told work strs st work strs st None a
+  refusal a no_room = record { good = g; room = no_room; answered = λ k e. absurd (none-some k e); refused = λ _. refl }
 
   module _ (s : List ℕ) (b : Bool) (room : b ≡ (leb (st.count + 1) max_new_strings && leb (st.used + length s) (length strs))) where
-    pub bypass_refused : (work' strs' : List ℕ) → b ≡ false → Told work strs st work' strs' st None (bypass (state_of work strs st) s)
+    pub bypass_refused : b ≡ false → Told work strs st work strs st None (bypass (state_of work strs st) s)
     unfolding bypass
-    bypass_refused work' strs' hb = refusal work' strs' _ (sym hb ∙ room_more work strs st g b s room _ refl)
+    bypass_refused hb = refusal _ (sym hb ∙ room_more work strs st g b s room _ refl)
 
-    pub alloc_refused : (work' strs' : List ℕ) (resized : ℕ) (p : Probe) → b ≡ false → Told work strs st work' strs' st None (table_alloc (state_of work strs st) (table_of st.slots work) resized p s)
+    pub alloc_refused : (resized : ℕ) (p : Probe) → b ≡ false → Told work strs st work strs st None (table_alloc (state_of work strs st) (table_of st.slots work) resized p s)
     unfolding table_alloc
-    alloc_refused work' strs' resized p hb = refusal work' strs' _ (sym hb ∙ room_more work strs st g b s room _ refl)
+    alloc_refused resized p hb = refusal _ (sym hb ∙ room_more work strs st g b s room _ refl)
 
     module _ (has : b ≡ true) (work' strs' : List ℕ) (c : Counters) (one : InternStats) (adds : Adds st.stats c one) (t : Interner) (a : Alloced work strs st s c work' strs' t) (r : ℕ) (id : r ≡ st.count) where
       pub bypass_told : one ≡ record { calls = 1; cache_hits = 0; table_hits = 0; allocs = 1; long_bypass = 1; resizes = 0; probe_steps = 0 } → Told work strs st work' strs' t (Some r) (bypass (state_of work strs st) s)
       unfolding bypass
       bypass_told hby =
           record {
+            good = a.good;
             room = sym has ∙ room_more work strs st g b s room _ refl;
             refused = λ e. absurd (none-some r (sym e));
             answered = λ k e. record {
-              good = a.good;
               state = a.state ∙ ap (allocated (state_of work strs st) s) (adds.is ∙ ap (plus_stats (stats_of st.stats)) hby);
               id_is = sym (same_Some r k e) ∙ id ∙ sym (count_is work strs st g);
               base = a.base;
@@ -161,10 +161,10 @@ module _ (work strs : List ℕ) (st : Interner) (g : Good work strs st) where
             let more : length (strings ++ (s ∷ [])) ≡ suc (length strings) = length-append strings (s ∷ []) ∙ omega arith in
             subst (λ (w : List ℕ). Told work strs st w strs' u (Some r) (table_alloc (state_of work strs st) (table_of st.slots work) resized p s)) (sym hw)
             (record {
+              good = subst (Good new strs') (sym state) entered_good;
               room = sym has ∙ room_more work strs st g b s room _ refl;
               refused = λ e. absurd (none-some r (sym e));
               answered = λ k e. record {
-                good = subst (Good new strs') (sym state) entered_good;
                 state =
                     ap (state_of new strs') state ∙ entered_state ∙ ap entered a.state
                     ∙ (λ i. record { strings = strings ++ (s ∷ []); table = set (table_of st.slots work) (sym hat i) (more i); occupied = st.occupied + 1; last = suc (length strings); stats = (adds.is ∙ ap (plus_stats (stats_of st.stats)) hby) i });
@@ -182,12 +182,12 @@ module _ (work strs : List ℕ) (st : Interner) (g : Good work strs st) where
       let used : u.used ≡ st.used = ap (λ (x : Interner). x.used) is in
       let free : drop 15360 w ≡ drop 15360 work = sym (drop-drop 7168 8192 w) ∙ ap (λ (l : List ℕ). drop 7168 l) high ∙ drop-drop 7168 8192 work in
       record {
+        good = h.good;
         refused = λ e. h.refused e ∙ ap (λ (x : Interner). with_slots x u'.slots) is;
         room = h.room ∙ ap (λ (n : ℕ). has_room (length strs) n a.state) base;
         answered = λ k e.
             let q = h.answered k e in
             record {
-              good = q.good;
               state = q.state;
               id_is = q.id_is;
               base = q.base ∙ base;

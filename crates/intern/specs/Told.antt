@@ -7,15 +7,16 @@ use Rattle.interner.specs.State.{state_of, Good, has_room, with_slots, first_pro
 
 -- The code's id and its interner u are those of the defined answer a. Of the buffers nothing is changed below `used`, nor from word 15360 on.
 pub record Answered (work strs : List ℕ) (st : Interner) (work' strs' : List ℕ) (u : Interner) (id : ℕ) (a : Interned) : Type 0 where
-  pub good : Good work' strs' u
   pub state : state_of work' strs' u ≡ a.state
   pub id_is : id ≡ a.id
   pub base : u.base ≡ st.base
   pub kept : take st.used strs' ≡ take st.used strs
   pub free : drop 15360 work' ≡ drop 15360 work
 
--- Every answer: it is None exactly where the defined state has no room. That leaves the interner as it was, but for a table that may have grown.
+-- Every answer: it is None exactly where the defined state has no room. That leaves the interner good, and as it was but for a table
+-- that may have grown.
 pub record Told (work strs : List ℕ) (st : Interner) (work' strs' : List ℕ) (u : Interner) (r : Option ℕ) (a : Interned) : Type 0 where
+  pub good : Good work' strs' u
   pub room : is_some r ≡ has_room (length strs) st.base a.state
   pub answered : (id : ℕ) → r ≡ Some id → Answered work strs st work' strs' u id a
   pub refused : r ≡ None → u ≡ with_slots st u.slots

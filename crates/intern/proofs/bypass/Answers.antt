@@ -6,7 +6,7 @@ use Rattle.intern.proofs.bypass.Goals as goal
 
 pub returns-then-not-has_room : goal.returns-then-not-has_room
 returns-then-not-has_room c =
-    bypass_refused c.args.work.now c.args.strs.now c.args.st.now c.requires.good c.args.s.now _ c.has_room.ensures _ _ c.if-not-has_room.true
+    bypass_refused c.args.work.now c.args.strs.now c.args.st.now c.requires.good c.args.s.now _ c.has_room.ensures c.if-not-has_room.true
 
 pub alloc-requires : goal.alloc-requires
 alloc-requires c =

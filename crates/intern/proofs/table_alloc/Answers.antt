@@ -6,7 +6,7 @@ use Rattle.intern.proofs.table_alloc.Goals as goal
 
 pub returns-then-not-has_room : goal.returns-then-not-has_room
 returns-then-not-has_room c =
-    alloc_refused c.args.work.now c.args.strs.now c.args.st.now c.requires.good c.args.s.now _ c.has_room.ensures _ _ _ _ c.if-not-has_room.true
+    alloc_refused c.args.work.now c.args.strs.now c.args.st.now c.requires.good c.args.s.now _ c.has_room.ensures _ _ c.if-not-has_room.true
 
 pub alloc-requires : goal.alloc-requires
 alloc-requires c =
