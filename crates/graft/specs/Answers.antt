@@ -157,4 +157,3 @@ module _ (l : ℕ) (t d : List ℕ) (st : Store) (source : Source t d st) (p : P
       let is : records_at segment_codec t at len ≡ resolve_seg_range (source_store t d) start len =
       ap (λ (n : ℕ). records_at segment_codec t n len) e ∙ sym (segment_range t st source.fit.stored (drop (word_at t 1 + word_at t 5) d) start len h) in
       rw (← is) (record { told = record { room = b.room; made = λ o. absurd (true≢false (sym o)) }; start = λ k o. absurd (none-some k o) })
-

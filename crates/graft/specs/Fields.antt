@@ -136,20 +136,20 @@ module _ (st : Store) (b : Body) (j : ℕ) where
   unfolding place_adds
   place_ready inner f e y = rw e y
 
-  module _ (l : ℕ) (t d : List ℕ) (source : Source t d st) (p : Plan) (m : Mark) (ws out work strs : List ℕ) {out' work' strs' : List ℕ} (f : FieldWords) (q : f ≡ field_words b j)
-      (h : used_well st f.usage f.first f.second ≡ true) {r : Mark} where
+  module _ (l : ℕ) (t d : List ℕ) (source : Source t d st) (p : Plan) (m : Mark) (ws out work strs : List ℕ) (f : FieldWords) (q : f ≡ field_words b j)
+      (h : used_well st f.usage f.first f.second ≡ true) where
     known_well : used_well st (field_words b j).usage (field_words b j).first (field_words b j).second ≡ true
     known_well = rw q at h
 
-    pub place_refused : StartTold t d p m out work strs out' work' strs' r None (field_from l t d f (layer_from p work strs m))
+    pub place_refused : {out' work' strs' : List ℕ} {r : Mark} → StartTold t d p m out work strs out' work' strs' r None (field_from l t d f (layer_from p work strs m))
         → WordsTold t d p m out work strs out' work' strs' r None (place_from l t d b j ws (layer_from p work strs m))
-    place_refused x =
+    place_refused {out'} {work'} {strs'} {r} x =
         let y : StartTold t d p m out work strs out' work' strs' r None (field_from l t d (field_words b j) (layer_from p work strs m)) = rw q at x in
         rw (place_from_lem l t d st source b j ws (layer_from p work strs m) known_well) (record { told = y.told; words = λ own o. absurd (none-some own o) })
 
-    pub place_told : (i : ℕ) → i ≡ field_word b.kind j → (v : ℕ) → StartTold t d p m out work strs out' work' strs' r (Some v) (field_from l t d f (layer_from p work strs m))
+    pub place_told : {out' work' strs' : List ℕ} {r : Mark} (i : ℕ) → i ≡ field_word b.kind j → (v : ℕ) → StartTold t d p m out work strs out' work' strs' r (Some v) (field_from l t d f (layer_from p work strs m))
         → (own : List ℕ) → own ≡ words_with ws i f v → WordsTold t d p m out work strs out' work' strs' r (Some own) (place_from l t d b j ws (layer_from p work strs m))
-    place_told i e v x own z =
+    place_told {out'} {work'} {strs'} {r} i e v x own z =
         let y : StartTold t d p m out work strs out' work' strs' r (Some v) (field_from l t d (field_words b j) (layer_from p work strs m)) = rw q at x in
         let k : own ≡ words_with ws (field_word b.kind j) (field_words b j) v = z ∙ ap₂ (λ (n : ℕ) (g : FieldWords). words_with ws n g v) e q in
         rw (place_from_lem l t d st source b j ws (layer_from p work strs m) known_well) (record {

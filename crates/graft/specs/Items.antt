@@ -104,7 +104,7 @@ module _ (t d : List ℕ) (at : ℕ) where
         rw found_is (item_made segment_codec p m (p.segmentsat + 37 * to) out work strs k (one_zero t d (record { tag = byte_at t (at + 1); level = byte_at t (at + 2); body = body_at t (at + 3) }) (layer_from p work strs m) l z)
         (segment_with (byte_at t (at + 1)) (byte_at t (at + 2)) 0 0 0 0 (replicate 6 0)) refl w)
 
-    module _ (l : ℕ) (z : l ≡ 0 → ⊥) {out₁ work₁ strs₁ : List ℕ} {r : Mark} where
+    module _ (l : ℕ) (z : l ≡ 0 → ⊥) where
       abbrev body : Body
       body = body_at t (at + 3)
 
@@ -121,11 +121,11 @@ module _ (t d : List ℕ) (at : ℕ) where
           ∙ one_body t d (record { tag = byte_at t (at + 1); level = byte_at t (at + 2); body = body_at t (at + 3) }) (layer_from p work strs m) l z
           ∙ ap (λ (b : With Body). (record { tag = byte_at t (at + 1); level = byte_at t (at + 2); body = b.0 } ∷ [], b.1)) (body_from_lem (l - 1) t d p work strs m (body_at t (at + 3)))
 
-      pub below_refused : WordsTold t d p m out work strs out₁ work₁ strs₁ r None (body_from (l - 1) t d p work strs m (body_at t (at + 3)) 6)
+      pub below_refused : {out₁ work₁ strs₁ : List ℕ} {r : Mark} → WordsTold t d p m out work strs out₁ work₁ strs₁ r None (body_from (l - 1) t d p work strs m (body_at t (at + 3)) 6)
           → SegmentsTold t d p m to out work strs out₁ work₁ strs₁ r false (shown_segments l t d (found ∷ []) (layer_from p work strs m))
       below_refused x = item_refused segment_codec p m (p.segmentsat + 37 * to) out work strs x.told below refl
 
-      module _ (own : List ℕ) (x : WordsTold t d p m out work strs out₁ work₁ strs₁ r (Some own) (body_from (l - 1) t d p work strs m (body_at t (at + 3)) 6)) where
+      module _ {out₁ work₁ strs₁ : List ℕ} {r : Mark} (own : List ℕ) (x : WordsTold t d p m out work strs out₁ work₁ strs₁ r (Some own) (body_from (l - 1) t d p work strs m (body_at t (at + 3)) 6)) where
         six : six_of own ≡ ws
         six =
             let n = (node_six (show_body (l - 1) (source_store t d) body) (layer_from p work strs m)).is in

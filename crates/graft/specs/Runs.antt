@@ -1,6 +1,6 @@
 -- Items while they are walked, those of a run or the nodes: their records stand at their final places, behind all that the inner
 -- runs push. What the items so far and the inner runs so far have written, more items, and the end, where a run is pushed.
-use Rattle.std.specs.Prelude.{◌≡◌, refl, ℕ, ◌+◌, ◌*◌, ◌≤◌, true, length}
+use Rattle.std.specs.Prelude.{◌≡◌, refl, Bool, ℕ, ◌+◌, ◌*◌, ◌≤◌, true, length}
 use Rattle.std.proofs.Common.{sym, ap₂, ◌∙◌, arith}
 use Rattle.std.proofs.Math.Path.{ap}
 use mathlib.Core.List.{List, ◌++◌}
