@@ -3,7 +3,7 @@
 // tools/cases/make writes the cases, and from document 01 the output that is stored beside them.
 #![tactic(auto)]
 
-ghost use Rattle.std.specs.Prelude.{◌≡◌, true, false, ◌+◌, ◌*◌, ◌≤◌, length};
+ghost use Rattle.std.specs.Prelude.{◌≡◌, IfSome, false, ◌+◌, ◌*◌, ◌≤◌, length};
 ghost use Rattle.tape.specs.Accepted.{Accepted};
 ghost use Rattle.layer.specs.Layered.{OffsetsFit};
 
@@ -43,17 +43,16 @@ fn put_layer(
 
 fn put_answer(
     rt: &impl Print,
-    r: layer::Layer,
+    r: Option<layer::Layer>,
     nodes: usize,
     out: &[u8],
     strs: &[u8],
 ) -> io::Result<()>
-    requires { r.ok ≡ true → r.len + 49 * nodes ≤ length out.now }
+    requires { IfSome r (λ l. l.len + 49 * nodes ≤ length out.now) }
 {
-    if r.ok {
-        put_layer(rt, r, nodes, out, strs)
-    } else {
-        print!(rt; "refused 18")
+    match r {
+        Some(l) => put_layer(rt, l, nodes, out, strs),
+        None => print!(rt; "refused 18"),
     }
 }
 

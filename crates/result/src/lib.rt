@@ -18,6 +18,8 @@ ghost use Rattle.merged_lists.specs.Sizes.{lengths_of};
 ghost use Rattle.result.specs.Grafting.{offsets_of, GraftTold};
 ghost use Rattle.result.specs.Stages.{texts_of, StoreTold};
 
+use stats::InternStats;
+
 // Both new texts and the old strings, by the places of both books and the window.
 fn put_new_texts(
     out: &mut [u8],
@@ -58,7 +60,7 @@ pub struct Graft {
     pub ok: bool,
     pub len: usize,
     pub bytes: usize,
-    pub stats: stats::InternStats,
+    pub stats: InternStats,
 }
 
 // The reading's nodes grafted behind the old layers, if it has any: their records from `at` on, new strings from `base` on.
@@ -84,7 +86,7 @@ fn graft_reading(
             ok: true,
             len: 0,
             bytes: 0,
-            stats: stats::none(),
+            stats: InternStats::default(),
         };
     }
     let o = layer::Offsets {
@@ -92,22 +94,19 @@ fn graft_reading(
         contents: below.contents,
         segments: below.segments,
     };
-    let l = layer::graft_layer(tape, bytes, p, st, out, work, strs, o, at, base);
-    if !l.ok {
-        return Graft {
+    match layer::graft_layer(tape, bytes, p, st, out, work, strs, o, at, base) {
+        None => Graft {
             ok: false,
             len: 0,
             bytes: 0,
-            stats: stats::none(),
-        };
-    }
-    let state = l.state;
-    let stats = state.stats;
-    Graft {
-        ok: true,
-        len: l.len,
-        bytes: state.used - base,
-        stats: stats,
+            stats: InternStats::default(),
+        },
+        Some(l) => Graft {
+            ok: true,
+            len: l.len,
+            bytes: l.state.used - base,
+            stats: l.state.stats,
+        },
     }
 }
 

@@ -1,4 +1,3 @@
-use Rattle.std.proofs.Common.{arith}
 use Rattle.tape.specs.Accepted.{accepted_found, accepted_store}
 use Rattle.graft_run.specs.Inside.{source_fits, records_inside}
 use Rattle.graft_run.proofs.graft.Goals as goal
@@ -10,6 +9,5 @@ pub graft_layer-r-requires-clause-source_fits : goal.graft_layer-r-requires-clau
 graft_layer-r-requires-clause-source_fits g c = (source_fits c.requires.accepted c.places_of-p.ensures c.store_of-st.ensures, c.requires.offsets_fit)
 
 pub put_answer-requires : goal.put_answer-requires
-put_answer-requires g c = λ y.
-    let fits = source_fits c.requires.accepted c.places_of-p.ensures c.store_of-st.ensures in
-    omega (arith, records_inside fits c.graft_layer-r.ensures y, c.graft_layer-r.auto.out)
+put_answer-requires g c =
+    records_inside (source_fits c.requires.accepted c.places_of-p.ensures c.store_of-st.ensures) _ c.graft_layer-r.auto.out c.graft_layer-r.result c.graft_layer-r.ensures

@@ -15,7 +15,7 @@ reading_sizes-s-requires c =
 
 pub returns-then-s : goal.returns-then-s
 returns-then-s c =
-    pools_refused c.args.out.now c.args.strs.now c.args.at c.args.base c.args.o c.requires.source_fits.1 _ (source_sizes c.requires.source_fits.0 c.args.o) (left_sizes c.args.o (source_adds c.args.tape.now c.args.bytes.now) c.room_left.ensures (c.reading_sizes-s.ensures c.args.bytes.now)) c.if-s.true c.refused.ensures
+    pools_refused c.args.out.now c.args.strs.now c.args.at c.args.base c.args.o c.requires.source_fits.1 _ (source_sizes c.requires.source_fits.0 c.args.o) (left_sizes c.args.o (source_adds c.args.tape.now c.args.bytes.now) c.room_left.ensures (c.reading_sizes-s.ensures c.args.bytes.now)) c.if-s.true
 
 pub graft_sized-requires : goal.graft_sized-requires
 graft_sized-requires c =

@@ -3,10 +3,10 @@ use Rattle.table.specs.Sizes.{size_hi, size_lo, size_length, starts_length}
 use Rattle.table.specs.Layout.{Entries, table_of}
 use mathlib.Core.Path.{subst}
 use mathlib.Core.Path.{sym}
-use Prim.Native.Nat.{ℕ, ◌-◌, ◌<◌}
+use Prim.Native.Nat.{ℕ, ◌<◌}
 use native.Mathlib.Omega.{arith}
 use lib.ListN.{length}
-use Rattle.interner.proofs.lookup.Goals as goal
+use Rattle.interner.proofs.StrInterner.lookup.Goals as goal
 
 pub overflow_sub-off : goal.overflow_sub-off
 overflow_sub-off c =
@@ -27,13 +27,13 @@ slice_bounds-probe-end c =
 pub probe-requires : goal.probe-requires
 probe-requires c =
     let len = size_length c.args.work.now c.requires.good.size c.requires.good.words.room in
-    let starts = starts_length c.args.work.now (length c.args.strs.now) c.args.st.count c.requires.good.words in
+    let starts = starts_length c.args.work.now (length c.args.strs.now) c.args.self.now.count c.requires.good.words in
     record {
       from_in_bounds = subst (λ (m : ℕ). c.slot_of-from.result < m) (sym len) c.slot_of-from.ensures.1;
       starts = c.requires.good.words.starts;
-      entries = subst (λ (m : ℕ). Entries (table_of c.args.st.slots c.args.work.now) m) (sym starts) c.requires.good.entries;
+      entries = subst (λ (m : ℕ). Entries (table_of c.args.self.now.slots c.args.work.now) m) (sym starts) c.requires.good.entries;
     }
 
 pub returns : goal.returns
 returns c =
-    lookup_is c.args.work.now c.args.strs.now c.args.st c.requires.good c.args.s.now c.requires.slots_nonzero _ _ _ _ c.fx_hash.ensures c.slot_of-from.ensures.0 c.probe.ensures
+    lookup_is c.args.work.now c.args.strs.now c.args.self.now c.requires.good c.args.s.now c.requires.slots_nonzero _ _ _ _ c.fx_hash.ensures c.slot_of-from.ensures.0 c.probe.ensures

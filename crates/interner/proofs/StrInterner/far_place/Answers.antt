@@ -1,6 +1,5 @@
-use Prim.Native.Nat.{◌-◌}
 use native.Mathlib.Omega.{arith}
-use Rattle.interner.proofs.far_place.Goals as goal
+use Rattle.interner.proofs.StrInterner.far_place.Goals as goal
 
 pub bounds-work-8191 : goal.bounds-work-8191
 bounds-work-8191 c =

@@ -1,6 +1,6 @@
 use Prim.Native.Nat.{◌-◌, ◌≤◌}
 use Rattle.interner.specs.Row.{far_in}
-use Rattle.interner.proofs.far_place.Given as goal
+use Rattle.interner.proofs.StrInterner.far_place.Given as goal
 
 abbrev pub invariant-loop-lo : goal.invariant-loop-lo
 invariant-loop-lo l = (l.lo ≤ l.hi) × (l.hi ≤ far_in l.work)
