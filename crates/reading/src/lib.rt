@@ -37,6 +37,7 @@ pub fn balanced_nodes(tape: &[u8], at: usize, count: usize) -> bool
     cuts::depths_zero(blocks, warichu)
 }
 
+#[tactic(auto, using(std::proofs::lemmas::Bool::Decides::nat_tests), unfolding(model::specs::Merge::is_unclosed, model::specs::Tape::record_at, model::specs::Tape::operands_at, model::specs::Tape::diagnostic_codec))]
 fn is_unclosed(tape: &[u8], at: usize) -> bool
     requires { at + 18 ≤ length tape.now }
     ensures { result ≡ is_unclosed (record_at diagnostic_codec tape.now at) }
