@@ -14,30 +14,23 @@ use refusal::Refusal;
 const MAX_TEXT: usize = 16777215;
 
 // Number 8. Start ≤ end ≤ length, neither inside a character.
+#[tactic(auto, using(std::proofs::lemmas::Bool::Decides::nat_tests), unfolding(crate::specs::Numbers::within))]
 pub fn edit_ok(text: &[u8], start: u32, end: u32) -> bool
     ensures { result ≡ within text.now start end }
 {
-    if end < start {
-        return false;
-    }
-    if text.len() < end as usize {
-        return false;
-    }
-    if !utf8::is_char_boundary(text, start as usize) {
-        return false;
-    }
-    utf8::is_char_boundary(text, end as usize)
+    start <= end
+        && end as usize <= text.len()
+        && utf8::is_char_boundary(text, start as usize)
+        && utf8::is_char_boundary(text, end as usize)
 }
 
 // Number 3 of the new text, by lengths.
+#[tactic(auto, using(std::proofs::lemmas::Bool::Decides::nat_tests), unfolding(crate::specs::Numbers::length_fits))]
 fn length_fits(size: usize, start: u32, end: u32, added: usize) -> bool
     requires { (start ≤ end) × (end ≤ size) × (size ≤ max_text) }
     ensures { result ≡ length_fits size start end added }
 {
-    if MAX_TEXT < added {
-        return false;
-    }
-    start as usize + added + (size - end as usize) <= MAX_TEXT
+    added <= MAX_TEXT && start as usize + added + (size - end as usize) <= MAX_TEXT
 }
 
 // Number 9. The new text equals the old.
@@ -45,12 +38,7 @@ pub fn unchanged(text: &[u8], start: u32, end: u32, replacement: &[u8]) -> bool
     requires { (start ≤ end) × (end ≤ length text.now) }
     ensures { result ≡ same_bytes (edited text.now (edit_of start end replacement.now)) text.now }
 {
-    let from = start as usize;
-    let to = end as usize;
-    if replacement.len() != to - from {
-        return false;
-    }
-    compare::same(replacement, &text[from..to])
+    compare::same(replacement, &text[start as usize..end as usize])
 }
 
 // Numbers 8, 2, 3, 9 of an edit.
