@@ -38,23 +38,24 @@ fn merge_checked(
         Ok(f) => f,
         Err(refusal) => return output::refused_output(u32::from(refusal)),
     };
-    result::merge_books(
+    let book = result::Book {
         tape,
         bytes,
-        f.p,
-        f.st,
+        places: f.p,
+        store: f.st,
+    };
+    let edit = result::Edit {
         start,
         end,
         replacement,
-        f.w,
-        readingtape,
-        readingbytes,
-        f.q,
-        f.own,
-        outtape,
-        outbytes,
-        work,
-    )
+    };
+    let reading = result::Book {
+        tape: readingtape,
+        bytes: readingbytes,
+        places: f.q,
+        store: f.own,
+    };
+    result::merge_books(&book, &edit, f.w, &reading, outtape, outbytes, work)
 }
 
 // `merge`: the merged book in both result buffers, zeros behind it, and zeros in all work words; after a refusal zeros everywhere.
