@@ -99,7 +99,7 @@ fn graft_reading(
         contents: below.contents,
         segments: below.segments,
     };
-    let layer = layer::graft_layer(
+    match layer::graft_layer(
         reading.tape,
         reading.bytes,
         p,
@@ -110,8 +110,7 @@ fn graft_reading(
         o,
         at,
         base,
-    );
-    match layer {
+    ) {
         None => Graft {
             ok: false,
             len: 0,

@@ -8,8 +8,8 @@ pub returns-then-p-eq0 : goal.returns-then-p-eq0
 returns-then-p-eq0 c =
     graft_none c.args.reading.now.tape.now c.args.reading.now.bytes.now (offsets_of c.args.below) c.args.out.now c.args.strs.now c.args.at c.args.base c.requires.min_work_words_in_bounds.1 (zero_nodes c.args.reading.now.tape.now c.args.reading.now.bytes.now (offsets_of c.args.below) _ (source_count c.requires.source_fits) c.if-p-eq0.true) _ refl refl refl (default_is c.default.result c.default.ensures)
 
-pub graft_layer-layer-requires : goal.graft_layer-layer-requires
-graft_layer-layer-requires c =
+pub graft_layer-requires : goal.graft_layer-requires
+graft_layer-requires c =
     record {
       source_fits = (c.requires.source_fits, record { strings = c.requires.strings_le_max_pool.0; contents = c.requires.strings_le_max_pool.1; segments = c.requires.strings_le_max_pool.2 });
       min_work_words_in_bounds = c.requires.min_work_words_in_bounds;
