@@ -16,7 +16,8 @@ module _ {A : Type 0} (c : Codec A) (p : A → Bool) (t : List ℕ) (at : ℕ) w
   unfoldable pub test_at : ℕ → Bool
   test_at i = p (record_at c t (at + record_size c * i))
 
-  whole : (n : ℕ) → all p (records_at c t at n) ≡ all_up_to n test_at
+  -- as `range_all` answers (crate wire, proofs/Ranges.antt)
+  pub whole : (n : ℕ) → all p (records_at c t at n) ≡ all_up_to n test_at
   unfolding records_at test_at
   whole n = sym (all_tabulate p n (λ (i : ℕ). record_at c t (at + record_size c * i)))
 
