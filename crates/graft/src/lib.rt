@@ -255,10 +255,9 @@ fn inner_contents(tape: &[u8], st: store::Store, at: usize, count: usize, level:
         contents: 0,
         segments: 0,
         calls: 0,
-        over: false,
     };
     let inner = sizes::contents_sizes(tape, st, room, none, at, count, level);
-    inner.contents
+    inner.unwrap().contents
 }
 
 // How many segments the items of a run push.
@@ -276,10 +275,9 @@ fn inner_segments(tape: &[u8], st: store::Store, at: usize, count: usize, level:
         contents: 0,
         segments: 0,
         calls: 0,
-        over: false,
     };
     let inner = sizes::segments_sizes(tape, st, room, none, at, count, level);
-    inner.segments
+    inner.unwrap().segments
 }
 
 // A run of contents that was pushed, and where it starts.

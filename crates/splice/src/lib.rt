@@ -125,11 +125,7 @@ fn plus(o: u32, start: u32) -> u32
 fn moved_offset(o: u32, by: span::Amount) -> u32
     ensures { result ≡ moved_offset o (value_of by) }
 {
-    let moved = span::shift_by(o, by);
-    match moved {
-        span::OptionU32::Some(n) => n,
-        span::OptionU32::None => 0,
-    }
+    span::shift_by(o, by).unwrap_or(0)
 }
 
 // Where an offset in the normalized text stands in a part.

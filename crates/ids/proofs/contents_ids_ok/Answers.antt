@@ -1,12 +1,12 @@
-use Rattle.std.proofs.Common.{rules, tests, refl, sym, ◌∙◌}
-use Rattle.model.specs.Tape.{content_codec}
+use Rattle.std.proofs.Common.{◌+◌, ◌*◌, rules, tests, refl, ◌∙◌}
+use Rattle.model.specs.Tape.{record_at, content_codec}
 use Rattle.wire.proofs.Ranges.{range_all}
-use Rattle.records.specs.Runs.{test_at, whole}
+use Rattle.records.specs.Runs.{run_all}
 use Rattle.ids.specs.Tests.{content_in}
 use Rattle.ids.proofs.contents_ids_ok.Goals as goal
 
 pub returns : goal.returns
-unfolding test_at content_codec
+unfolding content_codec
 returns c =
-    range_all _ _ _ _ (test_at content_codec (content_in c.args.st) c.args.tape.now c.args.at) refl (λ x b q k. search (rules, tests)) _ c.all.ensures.ran
-    ∙ sym (whole content_codec (content_in c.args.st) c.args.tape.now c.args.at c.args.count)
+    range_all _ _ _ _ (λ i. content_in c.args.st (record_at content_codec c.args.tape.now (c.args.at + 10 * i))) refl (λ x b q k. search (rules, tests)) _ c.all.ensures.ran
+    ∙ run_all content_codec (content_in c.args.st) c.args.tape.now c.args.at c.args.count 10 refl

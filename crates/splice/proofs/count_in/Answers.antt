@@ -1,5 +1,4 @@
 use Rattle.splice.specs.Counted.{row_in, count_none, count_more, count_most, count_all, place_first, place_next, place_in}
-use Prim.Native.Nat.{◌-◌}
 use native.Mathlib.Omega.{arith}
 use Rattle.splice.proofs.count_in.Goals as goal
 
