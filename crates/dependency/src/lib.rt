@@ -354,7 +354,7 @@ pub fn noted_place(tape: &[u8], st: store::Store, at: usize, places: &[u64]) -> 
     let p = ruby_formats::named(tape, st, at);
     match p {
         Plain::Id(id) => {
-            return id_places::find(places, id);
+            return id_places::find(places, id).unwrap_or(4294967295);
         }
         Plain::Nothing => {
             return 4294967295;

@@ -56,9 +56,10 @@ price_by reread (Some s) bytes =
     cond (ltb max_pool s.calls) (over_price reread bytes) (record { number = 0; reread = reread; calls = s.calls; contents = s.contents; segments = s.segments; bytes = bytes })
 
 module _ (reread bytes : ℕ) where
-  pub over_sizes_lem : {o : Option Sizes} {r : Price} → o ≡ None → r ≡ over_price reread bytes → r ≡ price_by reread o bytes
+  pub over_sizes_lem : (o : Option Sizes) {r : Price} → ((s : Sizes) → o ≡ Some s → ⊥) → r ≡ over_price reread bytes → r ≡ price_by reread o bytes
   unfolding price_by
-  over_sizes_lem h q = q ∙ sym (rw h refl)
+  over_sizes_lem None n q = q
+  over_sizes_lem (Some s) n q = absurd (n s refl)
 
   module _ {o : Option Sizes} {s : Sizes} (is : o ≡ Some s) where
     pub over_calls : {r : Price} → max_pool < s.calls → r ≡ over_price reread bytes → r ≡ price_by reread o bytes

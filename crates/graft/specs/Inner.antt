@@ -1,5 +1,5 @@
 -- A run at its place: what its items push is known from their sizes, and there is room for both.
-use Rattle.std.specs.Prelude.{◌≡◌, ℕ, ◌+◌, ◌*◌, ◌≤◌, ◌<◌, ◌^◌, true, List, length, drop, leb, Option, Some, None}
+use Rattle.std.specs.Prelude.{◌≡◌, ℕ, ◌+◌, ◌*◌, ◌≤◌, ◌<◌, ◌^◌, true, List, length, drop, leb, Option, Some, IsSome}
 use Rattle.std.proofs.Math.Path.{refl, sym, ap}
 use Rattle.std.proofs.Common.{◌∙◌, arith, le-leb}
 use Rattle.model.specs.Lists.{all}
@@ -39,8 +39,8 @@ module _ (a : Added) (x : a.contents < 2 ^ 32) (y : a.segments < 2 ^ 32) {r : Op
   exact : r ≡ Some (exact_sizes a)
   exact = e ∙ plus_none wide_room a ∙ capped_exact wide_room a (fits_wide a x y)
 
-  pub inner_fits : r ≡ None → ⊥
-  inner_fits n = let q : None ≡ Some (exact_sizes a) = sym n ∙ exact in cc
+  pub inner_some : IsSome r
+  inner_some = rw exact refl
 
   -- what the answer says
   module _ {s : Sizes} (is : r ≡ Some s) where

@@ -57,12 +57,10 @@ fn run_quick(tape: &[u8], st: store::Store, at: usize, count: usize, level: u8) 
     requires count_in_bounds { at + 10 * count ≤ length tape.now }
     ensures { result ≡ true → all (content_below tape.now st level) (records_at content_codec tape.now at count) ≡ true }
 {
-    let mut i = 0;
-    while i < count {
+    for i in 0..count {
         if !content_quick(tape, st, at + 10 * i, level) {
             return false;
         }
-        i += 1;
     }
     true
 }
@@ -88,13 +86,11 @@ fn used_quick(tape: &[u8], st: store::Store, usage: u8, w: u32, next: u32, level
     requires { OfTape tape.now st }
     ensures { result ≡ true → used_below tape.now st level usage w next ≡ true }
 {
-    if usage == 3 {
-        return contents_quick(tape, st, w, next, level);
+    match usage {
+        3 => contents_quick(tape, st, w, next, level),
+        5 => segments_quick(tape, st, w, next, level),
+        _ => true,
     }
-    if usage == 5 {
-        return segments_quick(tape, st, w, next, level);
-    }
-    true
 }
 
 // Word i of the body at `at`, which has that use.
@@ -114,8 +110,7 @@ fn body_quick(tape: &[u8], st: store::Store, at: usize, level: u8) -> bool
     ensures { result ≡ true → body_below tape.now st level (body_at tape.now at) ≡ true }
 {
     let uses = records::uses_of(tape[at], tape[at + 1]);
-    let mut i = 0;
-    while i < 6 {
+    for i in 0..6 {
         let usage = records::use_in(uses, i);
         if usage == 0 {
             return true;
@@ -123,7 +118,6 @@ fn body_quick(tape: &[u8], st: store::Store, at: usize, level: u8) -> bool
         if !word_quick(tape, st, usage, at, i, level) {
             return false;
         }
-        i += 1;
     }
     true
 }
@@ -148,12 +142,10 @@ fn run_levels_quick(tape: &[u8], st: store::Store, at: usize, count: usize) -> b
     requires count_in_bounds { at + 37 * count ≤ length tape.now }
     ensures { result ≡ true → all (level_in tape.now st) (records_at segment_codec tape.now at count) ≡ true }
 {
-    let mut i = 0;
-    while i < count {
+    for i in 0..count {
         if !level_quick(tape, st, at + 37 * i) {
             return false;
         }
-        i += 1;
     }
     true
 }
@@ -166,14 +158,12 @@ fn levels_quick(tape: &[u8], st: store::Store, from: usize, layers: usize) -> bo
     ensures { result ≡ true → levels_in tape.now st ≡ true }
 {
     let mut at = from;
-    let mut i = 1;
-    while i < layers {
+    for _layer in 1..layers {
         let l = places::next_layer(tape, at);
         if !run_levels_quick(tape, st, l.segments.at, l.segments.count) {
             return false;
         }
         at = l.end;
-        i += 1;
     }
     true
 }
@@ -206,6 +196,7 @@ fn segments_walk(tape: &[u8], tops: &[u8], at: usize, start: usize, len: usize, 
     ensures { result ≡ all (below level) (records_at segment_codec tape.now at len) }
 {
     let mut k = 0;
+    // A step says how far it goes: k rises by as much.
     while k < len {
         let r = segment_step(tape, tops, at + 37 * k, start + k, start + len, level);
         if r == start + k {
@@ -294,6 +285,7 @@ fn contents_walk(
     ensures { result ≡ all (content_below tape.now st level) (records_at content_codec tape.now at len) }
 {
     let mut k = 0;
+    // A step says how far it goes: k rises by as much.
     while k < len {
         let r = content_step(
             tape,
@@ -358,13 +350,11 @@ fn used_below(
     requires { Tables tape.now st tops.now heights.now }
     ensures { result ≡ used_below tape.now st level usage w next }
 {
-    if usage == 3 {
-        return contents_below(tape, st, tops, heights, w, next, level);
+    match usage {
+        3 => contents_below(tape, st, tops, heights, w, next, level),
+        5 => segments_below(tape, st, tops, w, next, level),
+        _ => true,
     }
-    if usage == 5 {
-        return segments_below(tape, st, tops, w, next, level);
-    }
-    true
 }
 
 // Word i of the body at `at`, which has that use.
@@ -400,8 +390,7 @@ fn body_below(
     ensures { result ≡ body_below tape.now st level (body_at tape.now at) }
 {
     let uses = records::uses_of(tape[at], tape[at + 1]);
-    let mut i = 0;
-    while i < 6 {
+    for i in 0..6 {
         let usage = records::use_in(uses, i);
         if usage == 0 {
             return true;
@@ -409,7 +398,6 @@ fn body_below(
         if !word_below(tape, st, tops, heights, usage, at, i, level) {
             return false;
         }
-        i += 1;
     }
     true
 }
@@ -442,14 +430,7 @@ fn run_levels_ok(
     requires count_in_bounds { at + 37 * count ≤ length tape.now }
     ensures { result ≡ all (level_in tape.now st) (records_at segment_codec tape.now at count) }
 {
-    let mut i = 0;
-    while i < count {
-        if !level_ok(tape, st, tops, heights, at + 37 * i) {
-            return false;
-        }
-        i += 1;
-    }
-    true
+    (0..count).all(|i| level_ok(tape, st, tops, heights, at + 37 * i))
 }
 
 fn levels_by(tape: &[u8], st: store::Store, tops: &[u8], heights: &[u8], layers: usize) -> bool
@@ -458,14 +439,12 @@ fn levels_by(tape: &[u8], st: store::Store, tops: &[u8], heights: &[u8], layers:
     ensures { result ≡ levels_in tape.now st }
 {
     let mut at = 9;
-    let mut i = 0;
-    while i < layers {
+    for _layer in 0..layers {
         let l = places::next_layer(tape, at);
         if !run_levels_ok(tape, st, tops, heights, l.segments.at, l.segments.count) {
             return false;
         }
         at = l.end;
-        i += 1;
     }
     true
 }
@@ -496,13 +475,11 @@ fn top_of(tape: &[u8], st: store::Store, k: usize) -> u8
 {
     let total = st.totals.segments as usize;
     let mut m = 1;
-    let mut i = 16 * k;
-    while i < 16 * k + 16 {
+    for i in 16 * k..16 * k + 16 {
         if total <= i {
             return m;
         }
         m = segment_bound(tape, st, i as u32, m);
-        i += 1;
     }
     m
 }
@@ -513,13 +490,11 @@ fn put_tops(tape: &[u8], st: store::Store, tops: &mut [u8])
     ensures { Filled (segment_test tape.now st) st.totals.segments tops.new 65536 }
 {
     let total = st.totals.segments as usize;
-    let mut k = 0;
-    while k < 65536 {
+    for k in 0..65536 {
         if total <= 16 * k {
             return;
         }
         tops[k] = top_of(tape, st, k);
-        k += 1;
     }
 }
 
@@ -530,12 +505,10 @@ fn content_bound(tape: &[u8], st: store::Store, tops: &[u8], i: u32, m: u8) -> u
     ensures { Bound (content_test tape.now st) i m result }
 {
     let at = store::content_place(st, i);
-    let mut r = m;
-    while r < 34 {
+    for r in m..34 {
         if content_below(tape, st, tops, at, r) {
             return r;
         }
-        r += 1;
     }
     255
 }
@@ -547,13 +520,11 @@ fn height_of(tape: &[u8], st: store::Store, tops: &[u8], k: usize) -> u8
 {
     let total = st.totals.contents as usize;
     let mut m = 1;
-    let mut i = 16 * k;
-    while i < 16 * k + 16 {
+    for i in 16 * k..16 * k + 16 {
         if total <= i {
             return m;
         }
         m = content_bound(tape, st, tops, i as u32, m);
-        i += 1;
     }
     m
 }
@@ -564,13 +535,11 @@ fn put_heights(tape: &[u8], st: store::Store, tops: &[u8], heights: &mut [u8])
     ensures { Filled (content_test tape.now st) st.totals.contents heights.new 65536 }
 {
     let total = st.totals.contents as usize;
-    let mut k = 0;
-    while k < 65536 {
+    for k in 0..65536 {
         if total <= 16 * k {
             return;
         }
         heights[k] = height_of(tape, st, tops, k);
-        k += 1;
     }
 }
 

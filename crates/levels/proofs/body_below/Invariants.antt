@@ -1,11 +1,7 @@
-use Prim.Native.Nat.{◌-◌, ◌≤◌}
 use Rattle.levels.specs.Below.{word_below}
 use Rattle.records.specs.Values.{body_at}
 use Rattle.wire.specs.Loops.{Passed}
 use Rattle.levels.proofs.body_below.Given as goal
 
 abbrev pub invariant-loop-i : goal.invariant-loop-i
-invariant-loop-i l = (l.i ≤ 6) × Passed (word_below l.tape l.st l.level (body_at l.tape l.at)) l.i
-
-abbrev pub decreases-loop-i : goal.decreases-loop-i
-decreases-loop-i l = 6 - l.i
+invariant-loop-i l = Passed (word_below l.tape l.st l.level (body_at l.tape l.at)) l.i

@@ -5,13 +5,8 @@ use Rattle.levels.proofs.content_below.Goals as goal
 
 pub returns-then-c-eq0 : goal.returns-then-c-eq0
 returns-then-c-eq0 c =
-    let start = c in
-    let content_at_lem = c.content_at-c in
-    let t = start.args.tape.now in
-    let st = start.args.st in
-    let level = start.args.level in
-    let content = content_of content_at_lem.result in
-    content_plain t st level content c.if-c-eq0.true ∙ ap (content_below t st level) content_at_lem.ensures
+    let content = content_of c.content_at-c.result in
+    content_plain c.args.tape.now c.args.st c.args.level content c.if-c-eq0.true ∙ ap (content_below c.args.tape.now c.args.st c.args.level) c.content_at-c.ensures
 
 pub segments_below-requires : goal.segments_below-requires
 segments_below-requires c =
@@ -19,10 +14,5 @@ segments_below-requires c =
 
 pub returns : goal.returns
 returns c =
-    let start = c in
-    let content_at_lem = c.content_at-c in
-    let t = start.args.tape.now in
-    let st = start.args.st in
-    let level = start.args.level in
-    let content = content_of content_at_lem.result in
-    content_segments_lem t st level content _ c.if-c-eq0.false c.segments_below.ensures ∙ ap (content_below t st level) content_at_lem.ensures
+    let content = content_of c.content_at-c.result in
+    content_segments_lem c.args.tape.now c.args.st c.args.level content _ c.if-c-eq0.false c.segments_below.ensures ∙ ap (content_below c.args.tape.now c.args.st c.args.level) c.content_at-c.ensures

@@ -6,13 +6,8 @@ use Rattle.levels.proofs.content_quick.Goals as goal
 
 pub returns-then-c-eq0 : goal.returns-then-c-eq0
 returns-then-c-eq0 c =
-    let start = c in
-    let content_at_lem = c.content_at-c in
-    let t = start.args.tape.now in
-    let st = start.args.st in
-    let level = start.args.level in
-    let content = content_of content_at_lem.result in
-    λ e. sym (content_plain t st level content c.if-c-eq0.true ∙ ap (content_below t st level) content_at_lem.ensures)
+    let content = content_of c.content_at-c.result in
+    λ e. sym (content_plain c.args.tape.now c.args.st c.args.level content c.if-c-eq0.true ∙ ap (content_below c.args.tape.now c.args.st c.args.level) c.content_at-c.ensures)
 
 pub segments_quick-requires : goal.segments_quick-requires
 segments_quick-requires c =
@@ -20,10 +15,5 @@ segments_quick-requires c =
 
 pub returns : goal.returns
 returns c =
-    let start = c in
-    let content_at_lem = c.content_at-c in
-    let t = start.args.tape.now in
-    let st = start.args.st in
-    let level = start.args.level in
-    let content = content_of content_at_lem.result in
-    λ e. sym (content_segments_lem t st level content true c.if-c-eq0.false (sym (c.segments_quick.ensures e)) ∙ ap (content_below t st level) content_at_lem.ensures)
+    let content = content_of c.content_at-c.result in
+    λ e. sym (content_segments_lem c.args.tape.now c.args.st c.args.level content true c.if-c-eq0.false (sym (c.segments_quick.ensures e)) ∙ ap (content_below c.args.tape.now c.args.st c.args.level) c.content_at-c.ensures)

@@ -22,10 +22,6 @@ content_below-requires c =
       at_in_bounds = c.requires.at_in_bounds.0;
     }
 
-pub overflow_add-result : goal.overflow_add-result
-overflow_add-result c =
-    omega arith
-
 pub returns-then-content_below : goal.returns-then-content_below
 returns-then-content_below c =
     step_one c.requires.at_in_bounds.1 (sym c.content_below.ensures ∙ c.if-content_below.true)

@@ -9,24 +9,11 @@ contents_in-requires c =
 
 pub returns-then-not-contents_in : goal.returns-then-not-contents_in
 returns-then-not-contents_in c =
-    let start = c in
-    let t = start.args.tape.now in
-    let st = start.args.st in
-    let level = start.args.level in
-    let from = start.args.start in
-    let len = start.args.len in
-    contents_out t st level from len c.contents_in.ensures c.if-not-contents_in.true
+    contents_out c.args.tape.now c.args.st c.args.level c.args.start c.args.len c.contents_in.ensures c.if-not-contents_in.true
 
 pub returns-then-len-eq0 : goal.returns-then-len-eq0
 returns-then-len-eq0 c =
-    let start = c in
-    let contents-in = c.contents_in in
-    let t = start.args.tape.now in
-    let st = start.args.st in
-    let level = start.args.level in
-    let from = start.args.start in
-    let len = start.args.len in
-    contents_none t st level from len contents-in.ensures c.if-not-contents_in.false c.if-len-eq0.true
+    contents_none c.args.tape.now c.args.st c.args.level c.args.start c.args.len c.contents_in.ensures c.if-not-contents_in.false c.if-len-eq0.true
 
 pub content_place-at-requires : goal.content_place-at-requires
 content_place-at-requires c =
@@ -34,29 +21,14 @@ content_place-at-requires c =
 
 pub contents_walk-requires : goal.contents_walk-requires
 contents_walk-requires c =
-    let start = c in
-    let contents-in = c.contents_in in
-    let t = start.args.tape.now in
-    let st = start.args.st in
-    let level = start.args.level in
-    let from = start.args.start in
-    let len = start.args.len in
-    let fits = contents_fit_lem t st level from len start.requires.segments.fit contents-in.ensures c.if-not-contents_in.false c.if-len-eq0.false _ c.content_place-at.ensures in
-    let said = contents_said t st level from len _ start.requires contents-in.ensures c.if-not-contents_in.false c.content_place-at.ensures in
+    let fits = contents_fit_lem c.args.tape.now c.args.st c.args.level c.args.start c.args.len c.requires.segments.fit c.contents_in.ensures c.if-not-contents_in.false c.if-len-eq0.false _ c.content_place-at.ensures in
+    let said = contents_said c.args.tape.now c.args.st c.args.level c.args.start c.args.len _ c.requires c.contents_in.ensures c.if-not-contents_in.false c.content_place-at.ensures in
     record {
-      tables = start.requires;
+      tables = c.requires;
       len_in_bounds = (fits, omega arith);
       said = said;
     }
 
 pub returns : goal.returns
 returns c =
-    let start = c in
-    let contents-in = c.contents_in in
-    let if1 = c.if-not-contents_in in
-    let t = start.args.tape.now in
-    let st = start.args.st in
-    let level = start.args.level in
-    let from = start.args.start in
-    let len = start.args.len in
-    contents_read t st level from len contents-in.ensures if1.false _ c.content_place-at.ensures c.contents_walk.ensures
+    contents_read c.args.tape.now c.args.st c.args.level c.args.start c.args.len c.contents_in.ensures c.if-not-contents_in.false _ c.content_place-at.ensures c.contents_walk.ensures

@@ -17,14 +17,7 @@ returns-then-not-contents_in c =
 
 pub returns-then-len-eq0 : goal.returns-then-len-eq0
 returns-then-len-eq0 c =
-    let start = c in
-    let contents-in = c.contents_in in
-    let t = start.args.tape.now in
-    let st = start.args.st in
-    let level = start.args.level in
-    let from = start.args.start in
-    let len = start.args.len in
-    λ e. sym (contents_none t st level from len contents-in.ensures c.if-not-contents_in.false c.if-len-eq0.true)
+    λ e. sym (contents_none c.args.tape.now c.args.st c.args.level c.args.start c.args.len c.contents_in.ensures c.if-not-contents_in.false c.if-len-eq0.true)
 
 pub content_place-at-requires : goal.content_place-at-requires
 content_place-at-requires c =
@@ -32,26 +25,11 @@ content_place-at-requires c =
 
 pub run_quick-requires : goal.run_quick-requires
 run_quick-requires c =
-    let start = c in
-    let contents-in = c.contents_in in
-    let t = start.args.tape.now in
-    let st = start.args.st in
-    let level = start.args.level in
-    let from = start.args.start in
-    let len = start.args.len in
     record {
-      of_tape = start.requires;
-      count_in_bounds = contents_fit_lem t st level from len start.requires contents-in.ensures c.if-not-contents_in.false c.if-len-eq0.false _ c.content_place-at.ensures;
+      of_tape = c.requires;
+      count_in_bounds = contents_fit_lem c.args.tape.now c.args.st c.args.level c.args.start c.args.len c.requires c.contents_in.ensures c.if-not-contents_in.false c.if-len-eq0.false _ c.content_place-at.ensures;
     }
 
 pub returns : goal.returns
 returns c =
-    let start = c in
-    let contents-in = c.contents_in in
-    let if2 = c.if-not-contents_in in
-    let t = start.args.tape.now in
-    let st = start.args.st in
-    let level = start.args.level in
-    let from = start.args.start in
-    let len = start.args.len in
-    λ e. sym (contents_read t st level from len contents-in.ensures if2.false _ c.content_place-at.ensures (sym (c.run_quick.ensures e)))
+    λ e. sym (contents_read c.args.tape.now c.args.st c.args.level c.args.start c.args.len c.contents_in.ensures c.if-not-contents_in.false _ c.content_place-at.ensures (sym (c.run_quick.ensures e)))

@@ -12,22 +12,6 @@ pub loop-k-init : goal.loop-k-init
 loop-k-init c =
     (omega arith, passed_none _)
 
-pub overflow_mul-k : goal.overflow_mul-k
-overflow_mul-k c =
-    omega (arith, c.requires.len_in_bounds)
-
-pub overflow_add-at : goal.overflow_add-at
-overflow_add-at c =
-    omega (arith, c.requires.len_in_bounds)
-
-pub overflow_add-start : goal.overflow_add-start
-overflow_add-start c =
-    omega (arith, c.requires.len_in_bounds)
-
-pub overflow_add-start-in-loop-k : goal.overflow_add-start-in-loop-k
-overflow_add-start-in-loop-k c =
-    omega (arith, c.requires.len_in_bounds)
-
 pub content_step-r-requires : goal.content_step-r-requires
 content_step-r-requires c =
     record {
@@ -35,21 +19,10 @@ content_step-r-requires c =
       at_in_bounds = (omega (arith, c.requires.len_in_bounds), omega arith);
     }
 
-pub overflow_add-start-in-loop-k-2 : goal.overflow_add-start-in-loop-k-2
-overflow_add-start-in-loop-k-2 c =
-    omega (arith, c.requires.len_in_bounds)
-
 pub returns-then-r-start : goal.returns-then-r-start
 unfolding content_codec
 returns-then-r-start c =
-    let start = c in
-    let loop = c.loop-k in
-    let loop-test = c.loop-k-test in
-    let t = start.args.tape.now in
-    let st = start.args.st in
-    let level = start.args.level in
-    let at = start.args.at in
-    run_failed content_codec (content_below t st level) t at loop.k _ refl _ refl _ loop-test.true (c.content_step-r.ensures.stuck c.if-r-start.true)
+    run_failed content_codec (content_below c.args.tape.now c.args.st c.args.level) c.args.tape.now c.args.at c.loop-k.k _ refl _ refl _ c.loop-k-test.true (c.content_step-r.ensures.stuck c.if-r-start.true)
 
 pub overflow_sub-k : goal.overflow_sub-k
 overflow_sub-k c =
@@ -57,27 +30,13 @@ overflow_sub-k c =
 
 pub loop-k-smaller : goal.loop-k-smaller
 loop-k-smaller c =
-    let loop-test = c.loop-k-test in
-    let s = c.content_step-r.ensures in
-    omega (arith, s.on, s.far, c.if-r-start.false, c.loop-k-test.true)
+    omega (arith, c.content_step-r.ensures.on, c.content_step-r.ensures.far, c.if-r-start.false, c.loop-k-test.true)
 
 pub loop-k-preserved : goal.loop-k-preserved
 unfolding test_at content_codec
 loop-k-preserved c =
-    let start = c in
-    let loop = c.loop-k in
-    let t = start.args.tape.now in
-    let st = start.args.st in
-    let level = start.args.level in
-    let at = start.args.at in
-    let s = c.content_step-r.ensures in
-    (omega (arith, s.on, s.far), walk_more (test_at content_codec (content_below t st level) t at) s start.requires.said refl loop.invariant.1)
+    (omega (arith, c.content_step-r.ensures.on, c.content_step-r.ensures.far), walk_more (test_at content_codec (content_below c.args.tape.now c.args.st c.args.level) c.args.tape.now c.args.at) c.content_step-r.ensures c.requires.said refl c.loop-k.invariant.1)
 
 pub returns : goal.returns
 returns c =
-    let start = c in
-    let t = start.args.tape.now in
-    let st = start.args.st in
-    let level = start.args.level in
-    let at = start.args.at in
-    run_passed content_codec (content_below t st level) t at _ c.loop-k.k (omega arith) c.loop-k.invariant.1
+    run_passed content_codec (content_below c.args.tape.now c.args.st c.args.level) c.args.tape.now c.args.at _ c.loop-k.k (omega arith) c.loop-k.invariant.1

@@ -17,10 +17,9 @@ next_layer-l-requires c =
 
 pub run_levels_quick-requires : goal.run_levels_quick-requires
 run_levels_quick-requires c =
-    let start = c in
     record {
-      of_tape = start.requires.of_tape;
-      count_in_bounds = walked_fits (walked_none _ _) start.requires.layers_value (omega (arith, c.if-layers-eq0.false)) c.next_layer-l.ensures start.requires.of_tape;
+      of_tape = c.requires.of_tape;
+      count_in_bounds = walked_fits (walked_none _ _) c.requires.layers_value (omega (arith, c.if-layers-eq0.false)) c.next_layer-l.ensures c.requires.of_tape;
     }
 
 pub levels_tabled-requires : goal.levels_tabled-requires
@@ -33,14 +32,12 @@ returns-then-not-run_levels_quick c =
 
 pub levels_quick-requires : goal.levels_quick-requires
 levels_quick-requires c =
-    let start = c in
-    let if2 = c.if-layers-eq0 in
     let passed = c.run_levels_quick.ensures c.if-not-run_levels_quick.false in
-    let first = walked_more (walked_none _ _) start.requires.layers_value (omega (arith, if2.false)) c.next_layer-l.ensures (sym passed) refl in
+    let first = walked_more (walked_none _ _) c.requires.layers_value (omega (arith, c.if-layers-eq0.false)) c.next_layer-l.ensures (sym passed) refl in
     record {
-      of_tape = start.requires.of_tape;
-      layers_value = start.requires.layers_value;
-      le_layers = (omega (arith, if2.false), first);
+      of_tape = c.requires.of_tape;
+      layers_value = c.requires.layers_value;
+      le_layers = (omega (arith, c.if-layers-eq0.false), first);
     }
 
 pub returns-then-levels_quick : goal.returns-then-levels_quick

@@ -16,10 +16,7 @@ put_uppers-requires c =
 
 pub put_heights-requires : goal.put_heights-requires
 put_heights-requires c =
-    let start = c in
-    let put-tops = c.put_tops in
-    let put-uppers = c.put_uppers in
-    let made = tops_made start.requires.of_tape put-tops.ensures put-uppers.ensures.0 put-uppers.ensures.1 in
+    let made = tops_made c.requires.of_tape c.put_tops.ensures c.put_uppers.ensures.0 c.put_uppers.ensures.1 in
     record {
       tops = made;
       heights_len = length-replicate {A = ℕ} 69904 0;
@@ -31,15 +28,10 @@ put_uppers-requires-2 c =
 
 pub levels_by-requires : goal.levels_by-requires
 levels_by-requires c =
-    let start = c in
-    let put-tops = c.put_tops in
-    let put-uppers = c.put_uppers in
-    let put-heights = c.put_heights in
-    let put-uppers2 = c.put_uppers-2 in
-    let made = tops_made start.requires.of_tape put-tops.ensures put-uppers.ensures.0 put-uppers.ensures.1 in
+    let made = tops_made c.requires.of_tape c.put_tops.ensures c.put_uppers.ensures.0 c.put_uppers.ensures.1 in
     record {
-      tables = tables_made made put-heights.ensures put-uppers2.ensures.0 put-uppers2.ensures.1;
-      layers_value = start.requires.layers_value;
+      tables = tables_made made c.put_heights.ensures c.put_uppers-2.ensures.0 c.put_uppers-2.ensures.1;
+      layers_value = c.requires.layers_value;
     }
 
 pub returns : goal.returns

@@ -5,25 +5,17 @@ use Rattle.levels.specs.Table.{filled_none, filled_more, filled_all}
 use lib.ListN.{length-set}
 use Rattle.levels.proofs.put_heights.Goals as goal
 
-pub overflow_cast-total : goal.overflow_cast-total
-overflow_cast-total c =
-    omega arith
-
 pub loop-k-init : goal.loop-k-init
 loop-k-init c =
-    (omega arith, refl, filled_none _ _ _ c.requires.heights_len)
-
-pub overflow_mul-k : goal.overflow_mul-k
-overflow_mul-k c =
-    omega arith
+    (refl, filled_none _ _ _ c.requires.heights_len)
 
 pub shape_of-heights-then-total-k : goal.shape_of-heights-then-total-k
 shape_of-heights-then-total-k c =
-    c.loop-k.invariant.1
+    c.loop-k.invariant.0
 
 pub returns-then-total-k : goal.returns-then-total-k
 returns-then-total-k c =
-    filled_all c.loop-k.invariant.2 c.if-total-k.true
+    filled_all c.loop-k.invariant.1 c.if-total-k.true
 
 pub height_of-requires : goal.height_of-requires
 height_of-requires c =
@@ -34,26 +26,16 @@ height_of-requires c =
 
 pub bounds-heights-k : goal.bounds-heights-k
 bounds-heights-k c =
-    let e = c.loop-k.invariant.2.size in omega (arith, e, c.loop-k-test.true)
-
-pub overflow_add-k : goal.overflow_add-k
-overflow_add-k c =
-    omega arith
-
-pub loop-k-smaller : goal.loop-k-smaller
-loop-k-smaller c =
-    omega arith
+    let e = c.loop-k.invariant.1.size in omega (arith, e, c.loop-k-test.true)
 
 pub loop-k-preserved : goal.loop-k-preserved
 loop-k-preserved c =
-    let loop = c.loop-k in
-    let loop-test = c.loop-k-test in
-    (omega arith, simp length-set loop.invariant.1, filled_more loop.invariant.2 loop-test.true _ c.height_of.ensures)
+    (simp length-set c.loop-k.invariant.0, filled_more c.loop-k.invariant.1 c.loop-k-test.true _ c.height_of.ensures)
 
 pub shape_of-heights : goal.shape_of-heights
 shape_of-heights c =
-    c.loop-k.invariant.1
+    c.loop-k.invariant.0
 
 pub returns : goal.returns
 returns c =
-    let e : c.loop-k.k ≡ 65536 = omega arith in rw e at c.loop-k.invariant.2
+    let e : c.loop-k.k ≡ 65536 = omega arith in rw e at c.loop-k.invariant.1

@@ -1,11 +1,6 @@
-use mathlib.Core.Path.{◌≡◌}
-use Prim.Native.Nat.{◌-◌, ◌≤◌}
+use Rattle.std.specs.Prelude.{◌≡◌, length}
 use Rattle.levels.specs.Table.{Filled, segment_test}
-use lib.ListN.{length}
 use Rattle.levels.proofs.put_tops.Given as goal
 
 abbrev pub invariant-loop-k : goal.invariant-loop-k
-invariant-loop-k l = (l.k ≤ 65536) × (length l.tops ≡ length l.initial.tops) × Filled (segment_test l.tape l.st) l.st.totals.segments l.tops l.k
-
-abbrev pub decreases-loop-k : goal.decreases-loop-k
-decreases-loop-k l = 65536 - l.k
+invariant-loop-k l = (length l.tops ≡ length l.initial.tops) × Filled (segment_test l.tape l.st) l.st.totals.segments l.tops l.k

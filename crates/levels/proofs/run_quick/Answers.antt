@@ -10,15 +10,7 @@ use Rattle.levels.proofs.run_quick.Goals as goal
 
 pub loop-i-init : goal.loop-i-init
 loop-i-init c =
-    (omega arith, passed_none _)
-
-pub overflow_mul-i : goal.overflow_mul-i
-overflow_mul-i c =
-    omega arith
-
-pub overflow_add-at : goal.overflow_add-at
-overflow_add-at c =
-    omega arith
+    passed_none _
 
 pub content_quick-requires : goal.content_quick-requires
 content_quick-requires c =
@@ -31,30 +23,11 @@ pub returns-then-not-content_quick : goal.returns-then-not-content_quick
 returns-then-not-content_quick c =
     λ e. absurd (false≢true e)
 
-pub overflow_add-i : goal.overflow_add-i
-overflow_add-i c =
-    omega arith
-
-pub loop-i-smaller : goal.loop-i-smaller
-loop-i-smaller c =
-    omega arith
-
 pub loop-i-preserved : goal.loop-i-preserved
 unfolding content_codec
 loop-i-preserved c =
-    let start = c in
-    let loop = c.loop-i in
-    let t = start.args.tape.now in
-    let st = start.args.st in
-    let level = start.args.level in
-    let at = start.args.at in
-    (omega arith, run_more content_codec (content_below t st level) t at loop.i _ refl true (sym (c.content_quick.ensures c.if-not-content_quick.false)) refl loop.invariant.1)
+    run_more content_codec (content_below c.args.tape.now c.args.st c.args.level) c.args.tape.now c.args.at c.loop-i.i _ refl true (sym (c.content_quick.ensures c.if-not-content_quick.false)) refl c.loop-i.invariant
 
 pub returns : goal.returns
 returns c =
-    let start = c in
-    let t = start.args.tape.now in
-    let st = start.args.st in
-    let level = start.args.level in
-    let at = start.args.at in
-    λ e. sym (run_passed content_codec (content_below t st level) t at _ c.loop-i.i (omega arith) c.loop-i.invariant.1)
+    λ e. sym (run_passed content_codec (content_below c.args.tape.now c.args.st c.args.level) c.args.tape.now c.args.at _ c.loop-i.i (omega arith) c.loop-i.invariant)

@@ -8,27 +8,17 @@ segment_place-at-requires c =
 
 pub overflow_add-v : goal.overflow_add-v
 overflow_add-v c =
-    let start = c in
-    let t = start.args.tape.now in
-    let st = start.args.st in
-    let fits = segment_fits t st start.args.i c.segment_place-at.result start.requires.of_tape start.requires.i_lt_segments c.segment_place-at.ensures in
+    let fits = segment_fits c.args.tape.now c.args.st c.args.i c.segment_place-at.result c.requires.of_tape c.requires.i_lt_segments c.segment_place-at.ensures in
     omega (arith, fits)
 
 pub bounds-tape-at : goal.bounds-tape-at
 bounds-tape-at c =
-    let start = c in
-    let t = start.args.tape.now in
-    let st = start.args.st in
-    let fits = segment_fits t st start.args.i c.segment_place-at.result start.requires.of_tape start.requires.i_lt_segments c.segment_place-at.ensures in
+    let fits = segment_fits c.args.tape.now c.args.st c.args.i c.segment_place-at.result c.requires.of_tape c.requires.i_lt_segments c.segment_place-at.ensures in
     omega (arith, fits)
 
 pub returns-then-v-m : goal.returns-then-v-m
 returns-then-v-m c =
-    let start = c in
-    let segment-place = c.segment_place-at in
-    let t = start.args.tape.now in
-    let st = start.args.st in
-    bound_segment t st start.args.i start.args.m _ segment-place.result segment-place.ensures (omega arith) c.if-v-m.true
+    bound_segment c.args.tape.now c.args.st c.args.i c.args.m _ c.segment_place-at.result c.segment_place-at.ensures (omega arith) c.if-v-m.true
 
 pub returns-then-v-gt32 : goal.returns-then-v-gt32
 returns-then-v-gt32 c =
@@ -40,8 +30,4 @@ overflow_add-result c =
 
 pub returns : goal.returns
 returns c =
-    let start = c in
-    let segment-place = c.segment_place-at in
-    let t = start.args.tape.now in
-    let st = start.args.st in
-    bound_segment t st start.args.i start.args.m _ segment-place.result segment-place.ensures (omega (arith, c.if-v-m.false)) (omega arith)
+    bound_segment c.args.tape.now c.args.st c.args.i c.args.m _ c.segment_place-at.result c.segment_place-at.ensures (omega (arith, c.if-v-m.false)) (omega arith)

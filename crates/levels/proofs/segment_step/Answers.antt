@@ -19,10 +19,6 @@ pub level_below-requires : goal.level_below-requires
 level_below-requires c =
     c.requires.at_in_bounds.0
 
-pub overflow_add-result : goal.overflow_add-result
-overflow_add-result c =
-    omega arith
-
 pub returns-then-level_below : goal.returns-then-level_below
 returns-then-level_below c =
     step_one c.requires.at_in_bounds.1 (sym c.level_below.ensures ∙ c.if-level_below.true)

@@ -17,14 +17,7 @@ returns-then-not-segments_in c =
 
 pub returns-then-len-eq0 : goal.returns-then-len-eq0
 returns-then-len-eq0 c =
-    let start = c in
-    let segments-in = c.segments_in in
-    let t = start.args.tape.now in
-    let st = start.args.st in
-    let level = start.args.level in
-    let from = start.args.start in
-    let len = start.args.len in
-    λ e. sym (segments_none t st level from len segments-in.ensures c.if-not-segments_in.false c.if-len-eq0.true)
+    λ e. sym (segments_none c.args.tape.now c.args.st c.args.level c.args.start c.args.len c.segments_in.ensures c.if-not-segments_in.false c.if-len-eq0.true)
 
 pub segment_place-at-requires : goal.segment_place-at-requires
 segment_place-at-requires c =
@@ -32,23 +25,8 @@ segment_place-at-requires c =
 
 pub levels_below-requires : goal.levels_below-requires
 levels_below-requires c =
-    let start = c in
-    let segments-in = c.segments_in in
-    let t = start.args.tape.now in
-    let st = start.args.st in
-    let level = start.args.level in
-    let from = start.args.start in
-    let len = start.args.len in
-    segments_fit_lem t st level from len start.requires segments-in.ensures c.if-not-segments_in.false c.if-len-eq0.false _ c.segment_place-at.ensures
+    segments_fit_lem c.args.tape.now c.args.st c.args.level c.args.start c.args.len c.requires c.segments_in.ensures c.if-not-segments_in.false c.if-len-eq0.false _ c.segment_place-at.ensures
 
 pub returns : goal.returns
 returns c =
-    let start = c in
-    let segments-in = c.segments_in in
-    let if2 = c.if-not-segments_in in
-    let t = start.args.tape.now in
-    let st = start.args.st in
-    let level = start.args.level in
-    let from = start.args.start in
-    let len = start.args.len in
-    λ e. sym (segments_read t st level from len segments-in.ensures if2.false _ c.segment_place-at.ensures c.levels_below.ensures) ∙ e
+    λ e. sym (segments_read c.args.tape.now c.args.st c.args.level c.args.start c.args.len c.segments_in.ensures c.if-not-segments_in.false _ c.segment_place-at.ensures c.levels_below.ensures) ∙ e

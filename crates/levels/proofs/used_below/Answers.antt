@@ -6,39 +6,18 @@ pub contents_below-requires : goal.contents_below-requires
 contents_below-requires c =
     c.requires
 
-pub returns-then-usage-eq3 : goal.returns-then-usage-eq3
-returns-then-usage-eq3 c =
-    let start = c in
-    let t = start.args.tape.now in
-    let st = start.args.st in
-    let level = start.args.level in
-    let u = start.args.usage in
-    let w = start.args.w in
-    let next = start.args.next in
-    c.contents_below.ensures ∙ sym (used_contents t st level u w next c.if-usage-eq3.true)
+pub returns-in-3 : goal.returns-in-3
+returns-in-3 c =
+    c.contents_below.ensures ∙ sym (used_contents c.args.tape.now c.args.st c.args.level c.args.usage c.args.w c.args.next c.in-3.is)
 
 pub segments_below-requires : goal.segments_below-requires
 segments_below-requires c =
     c.requires.segments
 
-pub returns-then-usage-eq5 : goal.returns-then-usage-eq5
-returns-then-usage-eq5 c =
-    let start = c in
-    let t = start.args.tape.now in
-    let st = start.args.st in
-    let level = start.args.level in
-    let u = start.args.usage in
-    let w = start.args.w in
-    let next = start.args.next in
-    c.segments_below.ensures ∙ sym (used_segments t st level u w next c.if-usage-eq5.true)
+pub returns-in-5 : goal.returns-in-5
+returns-in-5 c =
+    c.segments_below.ensures ∙ sym (used_segments c.args.tape.now c.args.st c.args.level c.args.usage c.args.w c.args.next c.in-5.is)
 
-pub returns : goal.returns
-returns c =
-    let start = c in
-    let t = start.args.tape.now in
-    let st = start.args.st in
-    let level = start.args.level in
-    let u = start.args.usage in
-    let w = start.args.w in
-    let next = start.args.next in
-    sym (used_other t st level u w next c.if-usage-eq3.false c.if-usage-eq5.false)
+pub returns-in_default : goal.returns-in_default
+returns-in_default c =
+    sym (used_other c.args.tape.now c.args.st c.args.level c.args.usage c.args.w c.args.next (λ e. omega arith) (λ e. omega arith))

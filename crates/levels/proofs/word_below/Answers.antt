@@ -9,10 +9,5 @@ used_below-requires c =
 
 pub returns : goal.returns
 returns c =
-    let start = c in
-    let body-word = c.body_word-w in
-    let t = start.args.tape.now in
-    let st = start.args.st in
-    let level = start.args.level in
-    let both = ap₂ (λ (w next : ℕ). used_below t st level start.args.usage w next) body-word.ensures c.next_word-next.ensures in
+    let both = ap₂ (λ (w next : ℕ). used_below c.args.tape.now c.args.st c.args.level c.args.usage w next) c.body_word-w.ensures c.next_word-next.ensures in
     c.used_below.ensures ∙ both
