@@ -20,7 +20,11 @@ returns-in-None c =
 pub graft_sized-requires : goal.graft_sized-requires
 graft_sized-requires c =
     record {
-      source_fits = (c.requires.source_fits.0, c.requires.source_fits.1, sizes_exact (room_left c.args.o) (source_adds c.args.tape.now c.args.bytes.now)
-          (left_sizes c.args.o (source_adds c.args.tape.now c.args.bytes.now) c.room_left.ensures (c.reading_sizes.ensures c.args.bytes.now)) c.in-Some.is);
+      source_fits = (
+        c.requires.source_fits.0,
+        c.requires.source_fits.1,
+        sizes_exact (room_left c.args.o) (source_adds c.args.tape.now c.args.bytes.now)
+            (left_sizes c.args.o (source_adds c.args.tape.now c.args.bytes.now) c.room_left.ensures (c.reading_sizes.ensures c.args.bytes.now)) c.in-Some.is,
+      );
       min_work_words_in_bounds = c.requires.min_work_words_in_bounds;
     }

@@ -1,7 +1,5 @@
-use mathlib.Core.Path.{◌∙◌}
-use Prim.Native.Nat.{◌-◌}
-use native.Mathlib.Omega.{arith}
-use Rattle.levels.specs.Below.{word_below, word_read, body_failed, body_passed, body_rest}
+use Rattle.std.proofs.Common.{◌∙◌, arith}
+use Rattle.levels.specs.Below.{word_read, body_failed, body_passed, body_rest}
 use Rattle.records.specs.Values.{body_at}
 use Rattle.wire.specs.Loops.{passed_none, passed_more}
 use Rattle.levels.proofs.body_below.Goals as goal

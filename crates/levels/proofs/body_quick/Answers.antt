@@ -1,7 +1,4 @@
-use mathlib.Core.Path.{sym}
-use mathlib.Core.Bool.{true, false, false≢true}
-use Prim.Native.Nat.{◌-◌}
-use native.Mathlib.Omega.{arith}
+use Rattle.std.proofs.Common.{sym, arith}
 use Rattle.levels.specs.Below.{word_read, body_passed, body_rest}
 use Rattle.records.specs.Values.{body_at}
 use Rattle.wire.specs.Loops.{passed_none, passed_more}
@@ -21,10 +18,6 @@ word_quick-requires c =
       of_tape = c.requires.of_tape;
       at_in_bounds = (c.requires.at_in_bounds, c.loop-i-test.true);
     }
-
-pub returns-then-not-word_quick : goal.returns-then-not-word_quick
-returns-then-not-word_quick c =
-    λ e. absurd (false≢true e)
 
 pub loop-i-preserved : goal.loop-i-preserved
 loop-i-preserved c =

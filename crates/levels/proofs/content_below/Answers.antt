@@ -1,4 +1,4 @@
-use mathlib.Core.Path.{ap, ◌∙◌}
+use Rattle.std.proofs.Common.{ap, ◌∙◌}
 use Rattle.levels.specs.Below.{content_below, content_plain, content_segments_lem}
 use Rattle.records.specs.Values.{content_of}
 use Rattle.levels.proofs.content_below.Goals as goal

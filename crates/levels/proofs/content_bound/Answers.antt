@@ -1,5 +1,4 @@
-use Prim.Native.Nat.{◌-◌}
-use native.Mathlib.Omega.{arith}
+use Rattle.std.proofs.Common.{arith}
 use Rattle.levels.specs.Table.{bound_none, bound_content, content_fits}
 use Rattle.levels.proofs.content_bound.Goals as goal
 

@@ -1,5 +1,4 @@
-use mathlib.Core.Path.{sym, ap, ◌∙◌}
-use mathlib.Core.Bool.{true}
+use Rattle.std.proofs.Common.{sym, ap, ◌∙◌, true}
 use Rattle.levels.specs.Below.{content_below, content_plain, content_segments_lem}
 use Rattle.records.specs.Values.{content_of}
 use Rattle.levels.proofs.content_quick.Goals as goal

@@ -1,5 +1,4 @@
-use mathlib.Core.Path.{sym, ◌∙◌}
-use native.Mathlib.Omega.{arith}
+use Rattle.std.proofs.Common.{sym, ◌∙◌}
 use Rattle.levels.specs.Table.{step_end, step_known, step_one, step_none}
 use Rattle.levels.proofs.content_step.Goals as goal
 

@@ -1,4 +1,4 @@
-use native.Mathlib.Omega.{arith}
+use Rattle.std.proofs.Common.{arith}
 use Rattle.levels.specs.Below.{contents_out, contents_none, contents_read, contents_fit_lem}
 use Rattle.levels.specs.Table.{contents_said}
 use Rattle.levels.proofs.contents_below.Goals as goal

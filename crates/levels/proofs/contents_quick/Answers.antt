@@ -1,19 +1,10 @@
-use mathlib.Core.Path.{sym}
-use mathlib.Core.Bool.{true, false, false≢true}
+use Rattle.std.proofs.Common.{sym}
 use Rattle.levels.specs.Below.{contents_none, contents_read, contents_fit_lem}
 use Rattle.levels.proofs.contents_quick.Goals as goal
-
-pub returns-then-len-gt16 : goal.returns-then-len-gt16
-returns-then-len-gt16 c =
-    λ e. absurd (false≢true e)
 
 pub contents_in-requires : goal.contents_in-requires
 contents_in-requires c =
     c.requires.few
-
-pub returns-then-not-contents_in : goal.returns-then-not-contents_in
-returns-then-not-contents_in c =
-    λ e. absurd (false≢true e)
 
 pub returns-then-len-eq0 : goal.returns-then-len-eq0
 returns-then-len-eq0 c =

@@ -1,4 +1,4 @@
-use native.Mathlib.Omega.{arith}
+use Rattle.std.proofs.Common.{arith}
 use Rattle.levels.specs.Below.{level_text, level_out, level_node}
 use Rattle.levels.proofs.level_ok.Goals as goal
 

@@ -1,16 +1,10 @@
-use mathlib.Core.Path.{sym, ◌∙◌}
-use mathlib.Core.Bool.{true, false, false≢true}
-use native.Mathlib.Omega.{arith}
+use Rattle.std.proofs.Common.{sym, ◌∙◌, true, arith}
 use Rattle.levels.specs.Below.{level_text, level_node}
 use Rattle.levels.proofs.level_quick.Goals as goal
 
 pub returns-then-tape-at-lt3 : goal.returns-then-tape-at-lt3
 returns-then-tape-at-lt3 c =
     λ e. sym (level_text c.args.tape.now c.args.st c.args.at c.if-tape-at-lt3.true) ∙ e
-
-pub returns-then-not-level_in_range : goal.returns-then-not-level_in_range
-returns-then-not-level_in_range c =
-    λ e. absurd (false≢true e)
 
 pub body_quick-requires : goal.body_quick-requires
 body_quick-requires c =

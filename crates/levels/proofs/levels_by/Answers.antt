@@ -1,5 +1,3 @@
-use Prim.Native.Nat.{◌-◌}
-use native.Mathlib.Omega.{arith}
 use Rattle.levels.specs.Whole.{walked_none, walked_inside, walked_fits, walked_failed, walked_more, walked_all}
 use Rattle.levels.proofs.levels_by.Goals as goal
 

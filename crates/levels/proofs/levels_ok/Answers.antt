@@ -1,6 +1,5 @@
+use Rattle.std.proofs.Common.{refl, sym, arith}
 use Rattle.levels.specs.Whole.{no_segments, walked_none, walked_inside, walked_fits, walked_more, walked_all}
-use mathlib.Core.Path.{refl, sym}
-use native.Mathlib.Omega.{arith}
 use Rattle.levels.proofs.levels_ok.Goals as goal
 
 pub returns-then-st-eq0 : goal.returns-then-st-eq0

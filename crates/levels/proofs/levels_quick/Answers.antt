@@ -1,7 +1,4 @@
-use mathlib.Core.Path.{refl, sym}
-use mathlib.Core.Bool.{true, false, false≢true}
-use Prim.Native.Nat.{◌-◌}
-use native.Mathlib.Omega.{arith}
+use Rattle.std.proofs.Common.{refl, sym}
 use Rattle.levels.specs.Whole.{walked_inside, walked_fits, walked_more, walked_all}
 use Rattle.levels.proofs.levels_quick.Goals as goal
 
@@ -19,10 +16,6 @@ run_levels_quick-requires c =
       of_tape = c.requires.of_tape;
       count_in_bounds = walked_fits c.loop-layer.invariant c.requires.layers_value c.loop-layer-test.true c.next_layer-l.ensures c.requires.of_tape;
     }
-
-pub returns-then-not-run_levels_quick : goal.returns-then-not-run_levels_quick
-returns-then-not-run_levels_quick c =
-    λ e. absurd (false≢true e)
 
 pub loop-layer-preserved : goal.loop-layer-preserved
 loop-layer-preserved c =

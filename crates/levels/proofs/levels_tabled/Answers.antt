@@ -1,6 +1,6 @@
-use Prim.Native.Nat.{ℕ}
+use Rattle.std.proofs.Common.{ℕ}
+use Rattle.std.proofs.lemmas.List.{length-replicate}
 use Rattle.levels.specs.Table.{tops_made, tables_made}
-use lib.ListN.{length-replicate}
 use Rattle.levels.proofs.levels_tabled.Goals as goal
 
 pub put_tops-requires : goal.put_tops-requires

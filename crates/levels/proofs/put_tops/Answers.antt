@@ -1,8 +1,5 @@
-use mathlib.Core.Path.{◌≡◌, refl}
-use Prim.Native.Nat.{◌-◌}
-use native.Mathlib.Omega.{arith}
+use Rattle.std.proofs.Common.{◌≡◌, refl, arith, length-set}
 use Rattle.levels.specs.Table.{filled_none, filled_more, filled_all}
-use lib.ListN.{length-set}
 use Rattle.levels.proofs.put_tops.Goals as goal
 
 pub loop-k-init : goal.loop-k-init

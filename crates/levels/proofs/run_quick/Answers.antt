@@ -1,7 +1,4 @@
-use mathlib.Core.Path.{refl, sym}
-use mathlib.Core.Bool.{true, false, false≢true}
-use Prim.Native.Nat.{◌-◌}
-use native.Mathlib.Omega.{arith}
+use Rattle.std.proofs.Common.{refl, sym, true, arith}
 use Rattle.levels.specs.Below.{content_below}
 use Rattle.wire.specs.Loops.{passed_none}
 use Rattle.records.specs.Runs.{run_more, run_passed}
@@ -18,10 +15,6 @@ content_quick-requires c =
       of_tape = c.requires.of_tape;
       at_in_bounds = omega arith;
     }
-
-pub returns-then-not-content_quick : goal.returns-then-not-content_quick
-returns-then-not-content_quick c =
-    λ e. absurd (false≢true e)
 
 pub loop-i-preserved : goal.loop-i-preserved
 unfolding content_codec

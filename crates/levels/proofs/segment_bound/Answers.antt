@@ -1,4 +1,4 @@
-use native.Mathlib.Omega.{arith}
+use Rattle.std.proofs.Common.{arith}
 use Rattle.levels.specs.Table.{bound_none, bound_segment, segment_fits}
 use Rattle.levels.proofs.segment_bound.Goals as goal
 

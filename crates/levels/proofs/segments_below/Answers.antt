@@ -1,4 +1,4 @@
-use native.Mathlib.Omega.{arith}
+use Rattle.std.proofs.Common.{arith}
 use Rattle.levels.specs.Below.{segments_out, segments_none, segments_read, segments_fit_lem}
 use Rattle.levels.specs.Table.{segments_said}
 use Rattle.levels.proofs.segments_below.Goals as goal

@@ -1,19 +1,10 @@
-use mathlib.Core.Path.{sym, ◌∙◌}
-use mathlib.Core.Bool.{true, false, false≢true}
+use Rattle.std.proofs.Common.{sym, ◌∙◌}
 use Rattle.levels.specs.Below.{segments_none, segments_read, segments_fit_lem}
 use Rattle.levels.proofs.segments_quick.Goals as goal
-
-pub returns-then-len-gt16 : goal.returns-then-len-gt16
-returns-then-len-gt16 c =
-    λ e. absurd (false≢true e)
 
 pub segments_in-requires : goal.segments_in-requires
 segments_in-requires c =
     c.requires.few
-
-pub returns-then-not-segments_in : goal.returns-then-not-segments_in
-returns-then-not-segments_in c =
-    λ e. absurd (false≢true e)
 
 pub returns-then-len-eq0 : goal.returns-then-len-eq0
 returns-then-len-eq0 c =

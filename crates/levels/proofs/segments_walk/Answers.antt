@@ -1,6 +1,4 @@
-use mathlib.Core.Path.{refl}
-use Prim.Native.Nat.{◌-◌}
-use native.Mathlib.Omega.{arith}
+use Rattle.std.proofs.Common.{refl, arith}
 use Rattle.levels.specs.Table.{walk_more}
 use Rattle.level_blocks.specs.Level.{below}
 use Rattle.wire.specs.Loops.{passed_none}

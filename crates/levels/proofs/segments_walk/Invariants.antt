@@ -1,4 +1,4 @@
-use Prim.Native.Nat.{◌-◌, ◌≤◌}
+use Rattle.std.proofs.Common.{◌-◌, ◌≤◌}
 use Rattle.level_blocks.specs.Level.{below}
 use Rattle.wire.specs.Loops.{Passed}
 use Rattle.records.specs.Runs.{test_at}

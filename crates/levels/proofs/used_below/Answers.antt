@@ -1,4 +1,4 @@
-use mathlib.Core.Path.{sym, ◌∙◌}
+use Rattle.std.proofs.Common.{sym, ◌∙◌, arith}
 use Rattle.levels.specs.Below.{used_contents, used_segments, used_other}
 use Rattle.levels.proofs.used_below.Goals as goal
 

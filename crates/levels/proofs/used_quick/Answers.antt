@@ -1,4 +1,4 @@
-use mathlib.Core.Path.{◌∙◌}
+use Rattle.std.proofs.Common.{◌∙◌, arith}
 use Rattle.levels.specs.Below.{used_contents, used_segments, used_other}
 use Rattle.levels.proofs.used_quick.Goals as goal
 

@@ -1,5 +1,4 @@
-use mathlib.Core.Path.{ap₂, ◌∙◌}
-use Prim.Native.Nat.{ℕ}
+use Rattle.std.proofs.Common.{ap₂, ◌∙◌, ℕ}
 use Rattle.levels.specs.Below.{used_below}
 use Rattle.levels.proofs.word_below.Goals as goal
 

@@ -1,5 +1,4 @@
-use mathlib.Core.Path.{sym, ap₂, ◌∙◌}
-use Prim.Native.Nat.{ℕ}
+use Rattle.std.proofs.Common.{sym, ap₂, ◌∙◌, ℕ}
 use Rattle.levels.specs.Below.{used_below}
 use Rattle.levels.proofs.word_quick.Goals as goal
 

@@ -1,5 +1,4 @@
-use mathlib.Core.Path.{refl, sym, ◌∙◌}
-use native.Mathlib.Omega.{arith}
+use Rattle.std.proofs.Common.{refl, sym, ◌∙◌, arith}
 use Rattle.strings.specs.Shown.{shown_str}
 use Rattle.representatives.specs.Pairs.{pairs_put, paired_known, paired_new}
 use Rattle.representatives.specs.Ordered.{ordered_put}
