@@ -17,13 +17,12 @@ next_layer-l-requires c =
 pub run_levels_quick-requires : goal.run_levels_quick-requires
 run_levels_quick-requires c =
     record {
-      of_tape = c.requires.of_tape;
       count_in_bounds = walked_fits (walked_none _ _) c.requires.layers_value (omega (arith, c.if-layers-eq0.false)) c.next_layer-l.ensures c.requires.of_tape;
     }
 
 pub levels_tabled-requires : goal.levels_tabled-requires
 levels_tabled-requires c =
-    record { of_tape = c.requires.of_tape; layers_value = c.requires.layers_value }
+    record { layers_value = c.requires.layers_value }
 
 pub returns-then-not-run_levels_quick : goal.returns-then-not-run_levels_quick
 returns-then-not-run_levels_quick c =
@@ -34,7 +33,6 @@ levels_quick-requires c =
     let passed = c.run_levels_quick.ensures c.if-not-run_levels_quick.false in
     let first = walked_more (walked_none _ _) c.requires.layers_value (omega (arith, c.if-layers-eq0.false)) c.next_layer-l.ensures (sym passed) refl in
     record {
-      of_tape = c.requires.of_tape;
       layers_value = c.requires.layers_value;
       le_layers = (omega (arith, c.if-layers-eq0.false), first);
     }
@@ -45,7 +43,7 @@ returns-then-levels_quick c =
 
 pub levels_tabled-requires-2 : goal.levels_tabled-requires-2
 levels_tabled-requires-2 c =
-    record { of_tape = c.requires.of_tape; layers_value = c.requires.layers_value }
+    record { layers_value = c.requires.layers_value }
 
 pub returns : goal.returns
 returns c =

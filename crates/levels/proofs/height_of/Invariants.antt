@@ -1,6 +1,0 @@
-use Rattle.std.specs.Prelude.{◌*◌}
-use Rattle.levels.specs.Table.{Block, content_test}
-use Rattle.levels.proofs.height_of.Given as goal
-
-abbrev pub invariant-loop-i : goal.invariant-loop-i
-invariant-loop-i l = Block (content_test l.tape l.st) l.st.totals.contents (16 * l.k) l.i l.m
