@@ -327,7 +327,7 @@ fn any_refers_among<'a>(
 pub fn noted_place(tape: &[u8], st: store::Store, at: usize, places: &[u64]) -> Option<usize>
     requires { Naming tape.now st at }
 {
-    Some(id_places::find(places, ruby_formats::named(tape, st, at)?))
+    id_places::find(places, ruby_formats::named(tape, st, at)?)
 }
 
 // From how many bytes on a string is so long that it is not to be compared twice: fewer than 4096 of the book's strings are.

@@ -1,5 +1,5 @@
 -- What `estimate` answers, and the laws for its returns.
-use Rattle.std.specs.Prelude.{◌≡◌, refl, ℕ, ◌+◌, ◌≤◌, ◌<◌, true, false, cond, List, ◌++◌, leb, ltb}
+use Rattle.std.specs.Prelude.{◌≡◌, refl, ℕ, ◌+◌, ◌≤◌, ◌<◌, true, false, cond, List, ◌++◌, leb, ltb, Option, Some, None}
 use Rattle.std.proofs.Math.Path.{sym, ap}
 use Rattle.std.proofs.Common.{◌∙◌, arith}
 use Rattle.std.proofs.Math.ListN.{length, length-append}
@@ -48,23 +48,25 @@ estimate_of = checked_map price_value
 abbrev pub over_price : ℕ → ℕ → Price
 over_price reread bytes = record { reread = reread; calls = over; contents = over; segments = over; bytes = bytes }
 
-unfoldable pub price_by : ℕ → Sizes → ℕ → Price
-price_by reread s bytes =
-    cond s.over (over_price reread bytes)
-    (cond (ltb max_pool s.calls) (over_price reread bytes) (record { reread = reread; calls = s.calls; contents = s.contents; segments = s.segments; bytes = bytes }))
+unfoldable pub price_by : ℕ → Option Sizes → ℕ → Price
+price_by reread None bytes = over_price reread bytes
+price_by reread (Some s) bytes =
+    cond (ltb max_pool s.calls) (over_price reread bytes) (record { reread = reread; calls = s.calls; contents = s.contents; segments = s.segments; bytes = bytes })
 
-module _ (reread : ℕ) (s : Sizes) (bytes : ℕ) where
-  pub over_sizes_lem : {r : Price} → s.over ≡ true → r ≡ over_price reread bytes → r ≡ price_by reread s bytes
+module _ (reread bytes : ℕ) where
+  pub over_sizes_lem : (o : Option Sizes) {r : Price} → ((s : Sizes) → o ≡ Some s → ⊥) → r ≡ over_price reread bytes → r ≡ price_by reread o bytes
   unfolding price_by
-  over_sizes_lem h q = q ∙ sym (rw h refl)
+  over_sizes_lem None n q = q
+  over_sizes_lem (Some s) n q = absurd (n s refl)
 
-  pub over_calls : {r : Price} → s.over ≡ false → max_pool < s.calls → r ≡ over_price reread bytes → r ≡ price_by reread s bytes
-  unfolding price_by
-  over_calls h k q = q ∙ sym (rw (h, lt-ltb max_pool s.calls k) refl)
+  module _ {o : Option Sizes} {s : Sizes} (is : o ≡ Some s) where
+    pub over_calls : {r : Price} → max_pool < s.calls → r ≡ over_price reread bytes → r ≡ price_by reread o bytes
+    unfolding price_by
+    over_calls k q = q ∙ sym (rw (is, lt-ltb max_pool s.calls k) refl)
 
-  pub not_over : s.over ≡ false → s.calls ≤ max_pool → ◌≡◌ {A = Price} (record { reread = reread; calls = s.calls; contents = s.contents; segments = s.segments; bytes = bytes }) (price_by reread s bytes)
-  unfolding price_by
-  not_over h k = sym (rw (h, le-ltb max_pool s.calls k) refl)
+    pub not_over : s.calls ≤ max_pool → ◌≡◌ {A = Price} (record { reread = reread; calls = s.calls; contents = s.contents; segments = s.segments; bytes = bytes }) (price_by reread o bytes)
+    unfolding price_by
+    not_over k = sym (rw (is, le-ltb max_pool s.calls k) refl)
 
 -- as much as a pool may hold
 abbrev pool : Room
@@ -76,7 +78,7 @@ three_of reread calls contents segments bytes =
     let all = is_over calls contents segments in
     record { reparsed_nodes = reread; calls = cond all over calls; contents = cond all over contents; segments = cond all over segments; byte_length = bytes }
 
-sizes_told : (a : Added) (reread bytes : ℕ) {s : Sizes} → s ≡ sizes_in pool a → price_by reread s bytes ≡ price_value (three_of reread a.calls a.contents a.segments bytes)
+sizes_told : (a : Added) (reread bytes : ℕ) {s : Option Sizes} → s ≡ sizes_in pool a → price_by reread s bytes ≡ price_value (three_of reread a.calls a.contents a.segments bytes)
 unfolding price_by sizes_in fits is_over
 sizes_told a reread bytes e =
     by_bool (leb a.calls max_pool)
@@ -119,7 +121,7 @@ module _ {t d : List ℕ} {p : Places} {st : Store} {e : Edit} {w : MergeWindow}
   pub nodes_few : q.nodes.count ≤ 262143
   nodes_few = source_few source
 
-  pub priced : {s : Sizes} → ((x : List ℕ) → s ≡ sizes_in pool (nodes_size (shown_nodes (book_at rt (places rt) x)))) → {l : Lengths}
+  pub priced : {s : Option Sizes} → ((x : List ℕ) → s ≡ sizes_in pool (nodes_size (shown_nodes (book_at rt (places rt) x)))) → {l : Lengths}
       → l ≡ lengths_of p q e.start e.end (length e.replacement) w.normalized.start w.normalized.end (length d) → {r : Price}
       → r ≡ price_by q.nodes.count s l.base → r ≡ price_value (price_in old e read w)
   unfolding price_in price_of grafted layered length_before merged_book

@@ -41,13 +41,13 @@ fn over(reread: u32, bytes: usize) -> Price
     }
 }
 
-// Wish 2. If one of the three is above 1048575, all three are given as 1048576. The sizes are over where contents or segments are.
-fn price_by(reread: u32, s: sizes::Sizes, bytes: usize) -> Price
+// Wish 2. If one of the three is above 1048575, all three are given as 1048576. There are no sizes where contents or segments are.
+fn price_by(reread: u32, s: Option<sizes::Sizes>, bytes: usize) -> Price
     ensures { result ≡ price_by reread s bytes }
 {
-    if s.over {
+    let Some(s) = s else {
         return over(reread, bytes);
-    }
+    };
     if MAX_POOL < s.calls {
         return over(reread, bytes);
     }

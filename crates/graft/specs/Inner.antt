@@ -1,5 +1,5 @@
 -- A run at its place: what its items push is known from their sizes, and there is room for both.
-use Rattle.std.specs.Prelude.{◌≡◌, Some, ℕ, ◌+◌, ◌*◌, ◌≤◌, ◌<◌, ◌^◌, true, List, length, drop, leb}
+use Rattle.std.specs.Prelude.{◌≡◌, ℕ, ◌+◌, ◌*◌, ◌≤◌, ◌<◌, ◌^◌, true, List, length, drop, leb, Option, Some, IsSome}
 use Rattle.std.proofs.Math.Path.{refl, sym, ap}
 use Rattle.std.proofs.Common.{◌∙◌, arith, le-leb}
 use Rattle.model.specs.Lists.{all}
@@ -34,15 +34,20 @@ fits_wide : (a : Added) → a.contents < 2 ^ 32 → a.segments < 2 ^ 32 → fits
 unfolding fits
 fits_wide a x y = join (leb a.contents 4294967295) (leb a.segments 4294967295) (le-leb a.contents 4294967295 (omega arith)) (le-leb a.segments 4294967295 (omega arith))
 
-module _ (a : Added) (x : a.contents < 2 ^ 32) (y : a.segments < 2 ^ 32) (r : Sizes) (e : r ≡ plus wide_room no_sizes a) where
-  exact : r ≡ exact_sizes a
+module _ (a : Added) (x : a.contents < 2 ^ 32) (y : a.segments < 2 ^ 32) {r : Option Sizes} (e : r ≡ plus wide_room no_sizes a) where
+  exact : r ≡ Some (exact_sizes a)
   exact = e ∙ plus_none wide_room a ∙ capped_exact wide_room a (fits_wide a x y)
 
-  pub contents_exact : r.contents ≡ a.contents
-  contents_exact = ap (λ (s : Sizes). s.contents) exact
+  pub inner_some : IsSome r
+  inner_some = rw exact refl
 
-  pub segments_exact : r.segments ≡ a.segments
-  segments_exact = ap (λ (s : Sizes). s.segments) exact
+  -- what the answer says
+  module _ {s : Sizes} (is : r ≡ Some s) where
+    pub contents_exact : s.contents ≡ a.contents
+    contents_exact = let q : Some s ≡ Some (exact_sizes a) = sym is ∙ exact in cc
+
+    pub segments_exact : s.segments ≡ a.segments
+    segments_exact = let q : Some s ≡ Some (exact_sizes a) = sym is ∙ exact in cc
 
 -- ---- a run of contents
 

@@ -36,7 +36,6 @@ const NONE: Sizes = Sizes {
     contents: 0,
     segments: 0,
     calls: 0,
-    over: false,
 };
 
 // Where the new layer's numbers begin, and where its contents and segments are written.
@@ -188,7 +187,8 @@ fn inner_contents(tape: &[u8], st: store::Store, at: usize, count: usize, level:
     requires count_bound { ((contents_add (inner_adds level tape.now st) tape.now st at count).contents < 2 ^ 32) × ((contents_add (inner_adds level tape.now st) tape.now st at count).segments < 2 ^ 32) }
     ensures { result ≡ (contents_add (inner_adds level tape.now st) tape.now st at count).contents }
 {
-    sizes::contents_sizes(tape, st, ANY, NONE, at, count, level).contents
+    let inner = sizes::contents_sizes(tape, st, ANY, NONE, at, count, level);
+    inner.unwrap().contents
 }
 
 // How many segments the items of a run push.
@@ -198,7 +198,8 @@ fn inner_segments(tape: &[u8], st: store::Store, at: usize, count: usize, level:
     requires count_bound { ((segments_add (inner_adds level tape.now st) tape.now at count).contents < 2 ^ 32) × ((segments_add (inner_adds level tape.now st) tape.now at count).segments < 2 ^ 32) }
     ensures { result ≡ (segments_add (inner_adds level tape.now st) tape.now at count).segments }
 {
-    sizes::segments_sizes(tape, st, ANY, NONE, at, count, level).segments
+    let inner = sizes::segments_sizes(tape, st, ANY, NONE, at, count, level);
+    inner.unwrap().segments
 }
 
 // ---- the walk: nine functions that call each other, the level falling on each turn

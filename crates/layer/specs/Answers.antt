@@ -81,31 +81,21 @@ pub record Exact (m : Room) (a : Added) (s : Sizes) : Type 0 where
   pub contents_fit : a.contents ≤ m.contents
   pub segments_fit : a.segments ≤ m.segments
 
-module _ (m : Room) (a : Added) {s : Sizes} (e : s ≡ sizes_in m a) where
-  not_over : fits m a ≡ true → s.over ≡ false
+module _ (m : Room) (a : Added) {r : Option Sizes} (e : r ≡ sizes_in m a) where
+  pub is_over_lem : r ≡ None → fits m a ≡ false
   unfolding sizes_in
-  not_over h = ap (λ (x : Sizes). x.over) e ∙ rw h refl
+  is_over_lem n = by_bool (fits m a) (λ y. let q : None ≡ Some (record { contents = a.contents; segments = a.segments; calls = a.calls }) = sym n ∙ e ∙ rw y refl in cc) (λ y. y)
 
-  is_over_lem : fits m a ≡ false → s.over ≡ true
+  pub sizes_exact : {s : Sizes} → r ≡ Some s → Exact m a s
   unfolding sizes_in
-  is_over_lem h = ap (λ (x : Sizes). x.over) e ∙ rw h refl
-
-  pub sizes_exact : s.over ≡ false → Exact m a s
-  unfolding sizes_in
-  sizes_exact x =
-      let h : fits m a ≡ true = by_bool (fits m a) (λ y. y) (λ y. absurd (true≢false (sym (is_over_lem y) ∙ x))) in
+  sizes_exact {s} x =
+      let h : fits m a ≡ true = by_bool (fits m a) (λ y. y) (λ y. let q : Some s ≡ None = sym x ∙ e ∙ rw y refl in cc) in
       let r = fits_room_lem m a h in
-      let q : s ≡ record { contents = a.contents; segments = a.segments; calls = a.calls; over = false } = e ∙ rw h refl in
-      record {
-        contents = ap (λ (y : Sizes). y.contents) q;
-        segments = ap (λ (y : Sizes). y.segments) q;
-        calls = ap (λ (y : Sizes). y.calls) q;
-        contents_fit = r.0;
-        segments_fit = r.1;
-      }
+      let q : Some s ≡ Some (record { contents = a.contents; segments = a.segments; calls = a.calls }) = sym x ∙ e ∙ rw h refl in
+      record { contents = cc; segments = cc; calls = cc; contents_fit = r.0; segments_fit = r.1 }
 
 -- as `reading_sizes` answers in the room that is left
-pub left_sizes : (o : Offsets) (a : Added) {m : Room} {s : Sizes} → m ≡ room_left o → s ≡ sizes_in m a → s ≡ sizes_in (room_left o) a
+pub left_sizes : (o : Offsets) (a : Added) {m : Room} {s : Option Sizes} → m ≡ room_left o → s ≡ sizes_in m a → s ≡ sizes_in (room_left o) a
 left_sizes o a {m} e f = f ∙ ap (λ (x : Room). sizes_in x a) e
 
 pub left_limited : {m : Room} (o : Offsets) {nodes : ℕ} → m ≡ room_left o → nodes ≤ max_list → Limited m nodes
@@ -127,9 +117,9 @@ module _ (out strs : List ℕ) (at base : ℕ) (o : Offsets) (small : OffsetsFit
   none_fits h = record { room = layer_refused (length out) (length strs) at base o g h; made = λ l e. absurd (none-some l e) }
 
   -- a pool would pass number 3's limit
-  pub pools_refused : {out' strs' : List ℕ} {s : Sizes} → s ≡ sizes_in (room_left o) a → s.over ≡ true → Told out' strs' None
+  pub pools_refused : {out' strs' : List ℕ} {s : Option Sizes} → s ≡ sizes_in (room_left o) a → s ≡ None → Told out' strs' None
   pools_refused e x =
-      none_fits (λ f. true≢false (sym x ∙ not_over (room_left o) a e (fits_where (room_left o) a (omega (arith, f.contents, z.contents)) (omega (arith, f.segments, z.segments)))))
+      none_fits (λ f. true≢false (sym (fits_where (room_left o) a (omega (arith, f.contents, z.contents)) (omega (arith, f.segments, z.segments))) ∙ is_over_lem (room_left o) a e x))
 
   -- the strings have no room
   pub walk_refused : {out' strs' : List ℕ} → false ≡ has_room (length strs) base g.1.interner → Told out' strs' None

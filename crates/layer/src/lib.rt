@@ -379,9 +379,8 @@ pub fn graft_layer(
     requires min_work_words_in_bounds { (min_work_words ≤ length work.old) × (base ≤ length strs.old) × (at ≤ length out.old) }
     ensures { LayerTold out.old strs.old out.new strs.new at base o result (grafted_into tape.now bytes.now o) }
 {
-    let s = sizes::reading_sizes(tape, st, p, room_left(o));
-    if s.over {
-        return None;
+    match sizes::reading_sizes(tape, st, p, room_left(o)) {
+        Some(s) => graft_sized(tape, bytes, p, st, out, work, strs, o, at, base, s),
+        None => None,
     }
-    graft_sized(tape, bytes, p, st, out, work, strs, o, at, base, s)
 }

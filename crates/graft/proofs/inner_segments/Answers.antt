@@ -1,4 +1,4 @@
-use Rattle.graft.specs.Inner.{wide_room, segments_exact}
+use Rattle.graft.specs.Inner.{wide_room, inner_some, segments_exact}
 use Rattle.sizes.specs.Capped.{kept_none}
 use Rattle.sizes.specs.InPlace.{inner_adds, segments_add}
 use Rattle.graft.proofs.inner_segments.Goals as goal
@@ -11,6 +11,9 @@ segments_sizes-requires c =
       count_in_bounds = c.requires.count_in_bounds;
     }
 
+pub unwrap-requires : goal.unwrap-requires
+unwrap-requires c = inner_some (segments_add (inner_adds c.args.level c.args.tape.now c.args.st) c.args.tape.now c.args.at c.args.count) c.requires.count_bound.0 c.requires.count_bound.1 c.segments_sizes-inner.ensures
+
 pub returns : goal.returns
 returns c =
-    segments_exact (segments_add (inner_adds c.args.level c.args.tape.now c.args.st) c.args.tape.now c.args.at c.args.count) c.requires.count_bound.0 c.requires.count_bound.1 c.segments_sizes.result c.segments_sizes.ensures
+    segments_exact (segments_add (inner_adds c.args.level c.args.tape.now c.args.st) c.args.tape.now c.args.at c.args.count) c.requires.count_bound.0 c.requires.count_bound.1 c.segments_sizes-inner.ensures c.unwrap.ensures
