@@ -6,15 +6,15 @@ use Rattle.places.specs.Found.{places_of}
 use Rattle.store.specs.declared.Store.{Store}
 use Rattle.store.specs.Stored.{store_at}
 use Rattle.store.specs.Lengths.{book_lengths}
-use Rattle.tape.specs.Accepted.{Accepted, accepted_found}
+use Rattle.tape.specs.Accepted.{Accepted, accepted_place}
 use Rattle.layer.specs.declared.Offsets.{Offsets}
 use Rattle.layer.specs.declared.Layer.{Layer}
 use Rattle.layer.specs.Source.{SourceFits}
 use Rattle.layer.specs.Layered.{grafted_into, layer_sizes, layer_fits_lem}
 use Rattle.layer.specs.Answers.{LayerTold}
 
-pub source_fits : {t d : List ℕ} → Accepted t d → {p : Places} → p ≡ places_of t d → {st : Store} → st ≡ store_at t → SourceFits t d p st
-source_fits a {p} e f = record { accepted = a; is = accepted_found a p e; stored = f }
+pub source_fits : {t d : List ℕ} → Accepted t d → {p : Places} → Some p ≡ places_of t d → {st : Store} → st ≡ store_at t → SourceFits t d p st
+source_fits a {p} e f = record { accepted = a; is = accepted_place a e; stored = f }
 
 pub records_inside : {t d : List ℕ} {p : Places} {st : Store} → SourceFits t d p st → {out strs out' strs' : List ℕ} {o : Offsets} (n : ℕ) → n ≡ length out
     → (r : Option Layer) → LayerTold out strs out' strs' 0 0 o r (grafted_into t d o) → IfSome r (λ (l : Layer). l.len + 49 * p.nodes.count ≤ n)

@@ -69,7 +69,7 @@ fn graft(
     requires offsets_fit { OffsetsFit o }
     requires in_bounds { 16384 ≤ length work.old }
 {
-    let p = places::places_of(tape, bytes);
+    let p = places::places_of(tape, bytes).unwrap();
     let st = store::store_of(tape, p.layers);
     let nodes = p.nodes.count;
     let r = layer::graft_layer(tape, bytes, p, st, out, work, strs, o, 0, 0);

@@ -1,5 +1,5 @@
 -- The returns of the code, and what is known of a book that is not refused.
-use Rattle.std.specs.Prelude.{◌≡◌, ℕ, ◌+◌, ◌-◌, ◌≤◌, ◌<◌, false, cond, ◌&&◌, List, ◌++◌, length, take, drop, leb, ltb, eqb}
+use Rattle.std.specs.Prelude.{Some, ◌≡◌, ℕ, ◌+◌, ◌-◌, ◌≤◌, ◌<◌, false, cond, ◌&&◌, List, ◌++◌, length, take, drop, leb, ltb, eqb}
 use Rattle.std.proofs.Math.Path.{refl}
 use Rattle.std.proofs.Common.{sym, ap, ◌∙◌, arith, append_assoc, length-take}
 use Rattle.std.proofs.Math.Option.{Option, none, some}
@@ -21,7 +21,7 @@ use Rattle.places.specs.declared.Places.{Places}
 use Rattle.places.specs.Found.{places_of}
 use Rattle.store.specs.declared.Store.{Store}
 use Rattle.store.specs.Stored.{StoreFits, store_at}
-use Rattle.tape.specs.Accepted.{Accepted, refusal_of, accepted_book, accepted_found, accepted_store}
+use Rattle.tape.specs.Accepted.{Accepted, refusal_of, accepted_book, accepted_place, accepted_store}
 use Rattle.lines.specs.Text.{numbered}
 use Rattle.lines.specs.Quoted.{quoted}
 use Rattle.listing.specs.Strings.{Printable, text_short}
@@ -296,8 +296,8 @@ unfolding passage_line
 passage_whole b r h p q u v w = w ∙ rw (v, u, q, p, h, append_assoc, append_assoc, append_assoc) refl
 
 -- what the printing of a line asks
-pub shown_store_lem : {t d : List ℕ} → Shown t d → {p : Places} → p ≡ places_of t d → StoreFits t p.layers
-shown_store_lem w {p} e = accepted_store w.passed (accepted_found w.passed p e)
+pub shown_store_lem : {t d : List ℕ} → Shown t d → {p : Places} → Some p ≡ places_of t d → StoreFits t p.layers
+shown_store_lem w {p} e = accepted_store w.passed (accepted_place w.passed e)
 
 pub shown_printable : {t d : List ℕ} → Shown t d → {st : Store} → st ≡ store_at t → Printable t d st
 shown_printable w e = record { passed = w.passed; stored = e; short = w.short }

@@ -297,7 +297,7 @@ fn print_book<W: Write>(
     requires shown { Shown tape.now bytes.now }
 {
     let labels = listing::labels();
-    let p = places::places_of(tape, bytes);
+    let p = places::places_of(tape, bytes).unwrap();
     let st = store::store_of(tape, p.layers);
     print_lines(writer, out, &labels, tape, bytes, st, m)
 }

@@ -3,6 +3,7 @@
 use Rattle.std.specs.Prelude.{Some, ◌≡◌, refl, ℕ, true, List, length}
 use Rattle.std.proofs.Common.{sym, ap, ◌∙◌, subst, arith}
 use Rattle.std.proofs.Math.Option.{Option, some}
+use Rattle.std.proofs.lemmas.Option.{same_Some}
 use Rattle.model.specs.Types.{LexOutput, RegionOutput}
 use Rattle.model.specs.Refusal.{Checked, Checked.refused, Checked.accepted, number_of}
 use Rattle.model.specs.Tape.{places, records_at, node_codec, book_at, parse}
@@ -134,6 +135,9 @@ module _ {t d : List ℕ} {p : Places} where
 pub accepted_found : {t d : List ℕ} → Accepted t d → places_of t d ≡ Some (found t)
 unfolding places_of
 accepted_found a = rw a.holding refl
+
+pub accepted_place : {t d : List ℕ} → Accepted t d → {p : Places} → Some p ≡ places_of t d → p ≡ found t
+accepted_place {t} a {p} e = same_Some p (found t) (e ∙ accepted_found a)
 
 module _ {t d : List ℕ} (a : Accepted t d) {p : Places} (e : p ≡ found t) where
   pub accepted_laid : Laid t d p
