@@ -1,12 +1,13 @@
-use Rattle.std.proofs.Common.{refl}
+use Rattle.std.proofs.Common.{refl, ap, ◌∙◌}
 use Rattle.model.specs.Merge.{result_checked}
+use Rattle.output.specs.Answer.{refused_output}
 use Rattle.result.specs.Stages.{written_refused}
 use Rattle.incremental.specs.Merging.{merge_refused, merge_result, written_later}
 use Rattle.incremental.proofs.merge_checked.Goals as goal
 
 pub returns-in-Err : goal.returns-in-Err
 returns-in-Err c =
-    written_refused _ _ _ _ (merge_refused _ _ _ _ _ _ c.in-Err.ensures) c.refused_output.ensures refl refl c.fitted.auto.work
+    written_refused _ _ _ _ (merge_refused _ _ _ _ _ _ c.in-Err.ensures) (c.refused_output.ensures ∙ ap refused_output c.from.ensures) refl refl c.fitted.auto.work
 
 pub merge_books-requires : goal.merge_books-requires
 merge_books-requires c =
