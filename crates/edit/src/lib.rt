@@ -6,7 +6,10 @@ ghost use Rattle.std.specs.Prelude.{◌≡◌, ◌≤◌, length};
 ghost use Rattle.model.specs.Limits.{max_text};
 ghost use Rattle.model.specs.Lists.{same as same_bytes};
 ghost use Rattle.model.specs.Region.{edited, edit_of};
+ghost use Rattle.refusal.specs.Refusal.{number_in};
 ghost use Rattle.edit.specs.Numbers.{within, length_fits, edit_number};
+
+use refusal::Refusal;
 
 const MAX_TEXT: usize = 16777215;
 
@@ -38,22 +41,22 @@ pub fn unchanged(text: &[u8], start: u32, end: u32, replacement: &[u8]) -> bool
     compare::same(replacement, &text[start as usize..end as usize])
 }
 
-// Numbers 8, 2, 3, 9 of an edit, 0 where none refuses it.
-pub fn edit_refusal(text: &[u8], start: u32, end: u32, replacement: &[u8]) -> u32
+// Numbers 8, 2, 3, 9 of an edit.
+pub fn check_edit(text: &[u8], start: u32, end: u32, replacement: &[u8]) -> Result<(), Refusal>
     requires { length text.now ≤ max_text }
-    ensures { result ≡ edit_number text.now (edit_of start end replacement.now) }
+    ensures { number_in result ≡ edit_number text.now (edit_of start end replacement.now) }
 {
     if !edit_ok(text, start, end) {
-        return 8;
+        return Err(Refusal::Edit);
     }
     if !utf8::is_utf8(replacement) {
-        return 2;
+        return Err(Refusal::NotUtf8);
     }
     if !length_fits(text.len(), start, end, replacement.len()) {
-        return 3;
+        return Err(Refusal::OverLimit);
     }
     if unchanged(text, start, end, replacement) {
-        return 9;
+        return Err(Refusal::SameText);
     }
-    0
+    Ok(())
 }

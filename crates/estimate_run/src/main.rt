@@ -5,19 +5,20 @@
 #![tactic(auto)]
 
 use estimate::Price;
+use refusal::Refusal;
 use std::io;
 use std::io::Read;
 
 const HEAD: usize = 12;
 
-fn put_price(rt: &impl Print, r: Price) -> io::Result<()> {
-    if r.number != 0 {
-        return print!(rt; "refused {}", r.number);
+fn put_price(rt: &impl Print, answer: Result<Price, Refusal>) -> io::Result<()> {
+    match answer {
+        Ok(r) => print!(rt;
+            "reread {} calls {} contents {} segments {} bytes {}",
+            r.reread, r.calls, r.contents, r.segments, r.bytes,
+        ),
+        Err(refusal) => print!(rt; "refused {}", u32::from(refusal)),
     }
-    print!(rt;
-        "reread {} calls {} contents {} segments {} bytes {}",
-        r.reread, r.calls, r.contents, r.segments, r.bytes,
-    )
 }
 
 fn show(rt: &(impl Alloc + Print), c: cases::Case) -> io::Result<()> {

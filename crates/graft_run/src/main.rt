@@ -3,7 +3,7 @@
 // tools/cases/make writes the cases, and from document 01 the output that is stored beside them.
 #![tactic(auto)]
 
-ghost use Rattle.std.specs.Prelude.{◌≡◌, true, false, ◌+◌, ◌*◌, ◌≤◌, length};
+ghost use Rattle.std.specs.Prelude.{◌≡◌, IfSome, false, ◌+◌, ◌*◌, ◌≤◌, length};
 ghost use Rattle.tape.specs.Accepted.{Accepted};
 ghost use Rattle.layer.specs.Layered.{OffsetsFit};
 
@@ -43,17 +43,16 @@ fn put_layer(
 
 fn put_answer(
     rt: &impl Print,
-    r: layer::Layer,
+    r: Option<layer::Layer>,
     nodes: usize,
     out: &[u8],
     strs: &[u8],
 ) -> io::Result<()>
-    requires { r.ok ≡ true → r.len + 49 * nodes ≤ length out.now }
+    requires { IfSome r (λ l. l.len + 49 * nodes ≤ length out.now) }
 {
-    if r.ok {
-        put_layer(rt, r, nodes, out, strs)
-    } else {
-        print!(rt; "refused 18")
+    match r {
+        Some(l) => put_layer(rt, l, nodes, out, strs),
+        None => print!(rt; "refused 18"),
     }
 }
 
@@ -70,7 +69,7 @@ fn graft(
     requires offsets_fit { OffsetsFit o }
     requires in_bounds { 16384 ≤ length work.old }
 {
-    let p = places::places_of(tape, bytes);
+    let p = places::places_of(tape, bytes).unwrap();
     let st = store::store_of(tape, p.layers);
     let nodes = p.nodes.count;
     let r = layer::graft_layer(tape, bytes, p, st, out, work, strs, o, 0, 0);
@@ -85,9 +84,8 @@ fn offsets_fit(o: layer::Offsets) -> bool
 }
 
 fn show_graft(rt: &(impl Alloc + Print), c: cases::Case) -> io::Result<()> {
-    let n = tape::check_book(c.tape, c.bytes);
-    if n != 0 {
-        return print!(rt; "refused {n}");
+    if let Err(refusal) = tape::check_book(c.tape, c.bytes) {
+        return print!(rt; "refused {}", u32::from(refusal));
     }
     let o = layer::Offsets {
         strings: wire::u32_or_zero(c.replacement, 0),

@@ -24,7 +24,7 @@ fn merge_checked(
 ) -> IncrementalOutput
     ensures { Written (merge_of (stored_of tape.now bytes.now) (correction_of start end replacement.now readingtape.now readingbytes.now) (room_of outtape.old outbytes.old work.old)) result outtape.old outbytes.old work.old outtape.new outbytes.new work.new }
 {
-    let f = fitting::fitted(
+    let fitted = fitting::fitted(
         tape,
         bytes,
         start,
@@ -34,26 +34,28 @@ fn merge_checked(
         readingbytes,
         work,
     );
-    if f.number != 0 {
-        return output::refused_output(f.number);
-    }
-    result::merge_books(
+    let f = match fitted {
+        Ok(f) => f,
+        Err(refusal) => return output::refused_output(u32::from(refusal)),
+    };
+    let book = result::Book {
         tape,
         bytes,
-        f.p,
-        f.st,
+        places: f.p,
+        store: f.st,
+    };
+    let edit = result::Edit {
         start,
         end,
         replacement,
-        f.w,
-        readingtape,
-        readingbytes,
-        f.q,
-        f.own,
-        outtape,
-        outbytes,
-        work,
-    )
+    };
+    let reading = result::Book {
+        tape: readingtape,
+        bytes: readingbytes,
+        places: f.q,
+        store: f.own,
+    };
+    result::merge_books(&book, &edit, f.w, &reading, outtape, outbytes, work)
 }
 
 // `merge`: the merged book in both result buffers, zeros behind it, and zeros in all work words; after a refusal zeros everywhere.

@@ -1,5 +1,5 @@
 -- What `places_of` finds, in the model's terms.
-use Rattle.std.specs.Prelude.{◌≡◌, Bool, true, false, cond, not, ◌&&◌, List, [], ◌∷◌, map, eqb, leb}
+use Rattle.std.specs.Prelude.{Option, Some, None, ◌≡◌, Bool, true, false, cond, not, ◌&&◌, List, [], ◌∷◌, map, eqb, leb}
 use Rattle.std.proofs.Math.Path.{refl, sym, ap}
 use Rattle.std.proofs.Common.{◌∙◌, lt_of_not-le}
 use Prim.Native.Nat.{ℕ, zero, suc, ◌+◌, ◌-◌, ◌*◌, ◌≤◌, ◌<◌}
@@ -16,7 +16,6 @@ use Rattle.model.specs.Tape.{LayerPlaces, layer_places, layers_from, layers_end,
 use Rattle.laws.specs.RoundTrip.{layer_end, string_bytes}
 use Rattle.places.specs.Runs.{capped}
 use Rattle.places.specs.Ends.{segments_end, diagnostics_end}
-use Rattle.places.specs.declared.Run.{Run}
 use Rattle.places.specs.declared.LayerRuns.{LayerRuns}
 use Rattle.places.specs.declared.ListRuns.{ListRuns}
 use Rattle.places.specs.declared.Tally.{Tally}
@@ -101,7 +100,6 @@ unfoldable pub found : List ℕ → Places
 found t =
     let p = places t in
     record {
-      fault = false;
       text = word_at t 1;
       normalized = word_at t 5;
       layers = length p.layers;
@@ -115,29 +113,9 @@ found t =
       end = p.end_at;
     }
 
-abbrev pub nothing : Run
-nothing = record { at = 0; count = 0 }
-
-unfoldable pub no_places : Places
-no_places = record {
-  fault = true;
-  text = 0;
-  normalized = 0;
-  layers = 0;
-  strings = 0;
-  contents = 0;
-  segments = 0;
-  nodes = nothing;
-  pairs = nothing;
-  containers = nothing;
-  diagnostics = nothing;
-  end = 0;
-}
-
 -- what the walk has found, put together
 abbrev pub found_by : List ℕ → Tally → ListRuns → Places
 found_by t s l = record {
-  fault = false;
   text = word_at t 1;
   normalized = word_at t 5;
   layers = s.count;
@@ -151,9 +129,9 @@ found_by t s l = record {
   end = l.end;
 }
 
--- Section 4. Where everything stands, on every tape and byte buffer.
-unfoldable pub places_of : List ℕ → List ℕ → Places
-places_of t d = cond (holds t d) (found t) no_places
+-- Section 4. Where everything stands, if the frame holds.
+unfoldable pub places_of : List ℕ → List ℕ → Option Places
+places_of t d = cond (holds t d) (Some (found t)) None
 
 -- ---- how far a layer reaches
 
@@ -344,13 +322,13 @@ module _ (t d : List ℕ) (s : Tally) (l : ListRuns) (e : s ≡ tallied t (lengt
       let g : 0 + sum (segments_in ls) ≡ sum (segments_in ls) = omega arith in
       rw (c, a, b, g) refl)
 
-  pub walk_found : (p : Places) → p ≡ found_by t s l → frame_holds t s l.end (length d) ≡ true → p ≡ places_of t d
+  pub walk_found : (p : Places) → p ≡ found_by t s l → frame_holds t s l.end (length d) ≡ true → Some p ≡ places_of t d
   unfolding places_of
-  walk_found p g h = rw (sym frame_is ∙ h) (g ∙ found_is)
+  walk_found p g h = rw (sym frame_is ∙ h) (ap (λ (x : Places). Some x) (g ∙ found_is))
 
-  pub walk_fault : (p : Places) → p ≡ no_places → frame_holds t s l.end (length d) ≡ false → p ≡ places_of t d
+  pub walk_none : frame_holds t s l.end (length d) ≡ false → None ≡ places_of t d
   unfolding places_of
-  walk_fault p g h = rw (sym frame_is ∙ h) g
+  walk_none h = rw (sym frame_is ∙ h) refl
 
 -- what the walk's parts may ask of each other
 pub walk_near : (t : List ℕ) (room : ℕ) (s : Tally) → s ≡ tallied t room → s.end ≤ length t + 36

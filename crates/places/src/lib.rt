@@ -9,7 +9,7 @@ ghost use Rattle.std.specs.Prelude.{◌≡◌, ◌+◌, ◌*◌, ◌^◌, ◌≤
 ghost use Rattle.model.specs.Lists.{sum};
 ghost use Rattle.model.specs.Tape.{records_in, records_at, string_codec, layer_places};
 ghost use Rattle.places.specs.Runs.{eight_at, Counted, capped};
-ghost use Rattle.places.specs.Found.{layer_runs, add_layer, Small, tallied, list_runs, frame_holds, no_places, found_by, places_of};
+ghost use Rattle.places.specs.Found.{layer_runs, add_layer, Small, tallied, list_runs, frame_holds, found_by, places_of};
 
 // A run of records of one kind: where the first stands, and how many they are.
 #[derive(Clone, Copy)]
@@ -48,7 +48,6 @@ pub struct Tally {
 
 #[derive(Clone, Copy)]
 pub struct Places {
-    pub fault: bool,
     pub text: u32,
     pub normalized: u32,
     pub layers: usize,
@@ -239,31 +238,10 @@ fn frame_holds(tape: &[u8], s: Tally, end: usize, room: usize) -> bool
         && room == text + normalized + s.bytes
 }
 
-pub fn no_places() -> Places
-    ensures { result ≡ no_places }
-{
-    let none = Run { at: 0, count: 0 };
-    Places {
-        fault: true,
-        text: 0,
-        normalized: 0,
-        layers: 0,
-        strings: 0,
-        contents: 0,
-        segments: 0,
-        nodes: none,
-        pairs: none,
-        containers: none,
-        diagnostics: none,
-        end: 0,
-    }
-}
-
 fn found_places(tape: &[u8], s: Tally, l: ListRuns) -> Places
     ensures { result ≡ found_by tape.now s l }
 {
     Places {
-        fault: false,
         text: wire::u32_or_zero(tape, 1),
         normalized: wire::u32_or_zero(tape, 5),
         layers: s.count,
@@ -278,14 +256,15 @@ fn found_places(tape: &[u8], s: Tally, l: ListRuns) -> Places
     }
 }
 
-// Number 1, without the records' shapes: where everything stands and how many there are; `fault` where the frame is broken.
-pub fn places_of(tape: &[u8], bytes: &[u8]) -> Places
+// Number 1, without the records' shapes: where everything stands and how many there are, if the frame holds.
+pub fn places_of(tape: &[u8], bytes: &[u8]) -> Option<Places>
     ensures { result ≡ places_of tape.now bytes.now }
 {
     let s = all_layers(tape, bytes.len());
     let l = lists_at(tape, s.end);
     if frame_holds(tape, s, l.end, bytes.len()) {
-        return found_places(tape, s, l);
+        Some(found_places(tape, s, l))
+    } else {
+        None
     }
-    no_places()
 }

@@ -2,6 +2,7 @@
 // tools/cases/make writes the cases, and from document 01 the output that is stored beside them.
 #![tactic(auto)]
 
+use span::Span;
 use std::io;
 use std::io::Read;
 
@@ -28,8 +29,8 @@ fn show(rt: &impl Print, c: cases::Case) -> io::Result<()> {
     rt.write_all(c.label)?;
     print!(rt; ": ")?;
     match region::choose_region(c.tape, c.bytes, c.start, c.end, c.replacement, &mut words) {
-        region::Chosen::Refused(n) => print!(rt; "refused {n}")?,
-        region::Chosen::Region(start, end) => put_region(rt, c.bytes, start, end)?,
+        Ok(Span { start, end }) => put_region(rt, c.bytes, start, end)?,
+        Err(refusal) => print!(rt; "refused {}", u32::from(refusal))?,
     }
     println!(rt)
 }

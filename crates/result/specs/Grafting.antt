@@ -1,5 +1,5 @@
 -- The reading's nodes grafted behind the old layers: nothing where there are none, else one new layer; and both buffers up to them.
-use Rattle.std.specs.Prelude.{◌≡◌, ℕ, ◌+◌, ◌-◌, ◌≤◌, Bool, false, length}
+use Rattle.std.specs.Prelude.{◌≡◌, Some, None, ℕ, ◌+◌, ◌-◌, ◌≤◌, Bool, false, length}
 use Rattle.std.proofs.Math.Path.{refl, sym, ap}
 use Rattle.std.proofs.Common.{◌∙◌, arith, add-zero, true≢false}
 use Rattle.std.proofs.Math.Bool.{true}
@@ -80,23 +80,24 @@ module _ (t d : List ℕ) (o : Offsets) where
 
   -- ---- nodes
 
-  module _ (out strs : List ℕ) {out' strs' : List ℕ} (at base : ℕ) {l : Layer} (e : is_empty nodes ≡ false) (told : LayerTold out strs out' strs' at base o l (grafted_into t d o)) (r : Graft) where
-    pub graft_refused : l.ok ≡ false → r.ok ≡ false → GraftTold out strs out' strs' at base o (is_empty nodes) r (grafted_into t d o)
+  module _ (out strs : List ℕ) {out' strs' : List ℕ} (at base : ℕ) (e : is_empty nodes ≡ false) where
+    pub graft_refused : LayerTold out strs out' strs' at base o None (grafted_into t d o) → (r : Graft) → r.ok ≡ false → GraftTold out strs out' strs' at base o (is_empty nodes) r (grafted_into t d o)
     unfolding graft_ok
-    graft_refused f g = rw e (record { ok = g ∙ sym f ∙ told.ok; made = λ q. absurd (true≢false (sym q ∙ g)) })
+    graft_refused told r g = rw e (record { ok = g ∙ told.room; made = λ q. absurd (true≢false (sym q ∙ g)) })
 
-    pub graft_some : l.ok ≡ true → r.ok ≡ true → r.len ≡ l.len → r.bytes ≡ l.state.used - base → r.stats ≡ l.state.stats → GraftTold out strs out' strs' at base o (is_empty nodes) r (grafted_into t d o)
-    unfolding graft_ok new_layer_bytes new_string_bytes layer_records
-    graft_some f g len bytes stats =
-        let m = told.made f in
-        rw e (record {
-          ok = g ∙ sym f ∙ told.ok;
-          made = λ q. record { wrote = m.wrote; strings = m.bytes; len = len ∙ m.len; bytes = omega (arith, bytes, m.used); stats = ap stats_of stats ∙ m.stats };
-        })
+    module _ (l : Layer) (told : LayerTold out strs out' strs' at base o (Some l) (grafted_into t d o)) where
+      pub graft_some : (r : Graft) → r.ok ≡ true → r.len ≡ l.len → r.bytes ≡ l.state.used - base → r.stats ≡ l.state.stats → GraftTold out strs out' strs' at base o (is_empty nodes) r (grafted_into t d o)
+      unfolding graft_ok new_layer_bytes new_string_bytes layer_records
+      graft_some r g len bytes stats =
+          let m = told.made l refl in
+          rw e (record {
+            ok = g ∙ told.room;
+            made = λ q. record { wrote = m.wrote; strings = m.bytes; len = len ∙ m.len; bytes = omega (arith, bytes, m.used); stats = ap stats_of stats ∙ m.stats };
+          })
 
-    -- so that the difference is one
-    pub graft_used : l.ok ≡ true → base ≤ l.state.used
-    graft_used f = let m = told.made f in omega (arith, m.used)
+      -- so that the difference is one
+      pub graft_used : base ≤ l.state.used
+      graft_used = let m = told.made l refl in omega (arith, m.used)
 
   -- where the code counts the nodes
   pub some_nodes : (n : ℕ) → length nodes ≡ n → (n ≡ 0 → ⊥) → is_empty nodes ≡ false

@@ -18,37 +18,46 @@ ghost use Rattle.merged_lists.specs.Sizes.{lengths_of};
 ghost use Rattle.result.specs.Grafting.{offsets_of, GraftTold};
 ghost use Rattle.result.specs.Stages.{texts_of, StoreTold};
 
+use stats::InternStats;
+
+// The old book or the reading: its tape and bytes, where the records stand, and its store.
+#[derive(Clone, Copy)]
+pub struct Book<'a> {
+    pub tape: &'a [u8],
+    pub bytes: &'a [u8],
+    pub places: places::Places,
+    pub store: store::Store,
+}
+
+// What is replaced in the old text, and by what.
+#[derive(Clone, Copy)]
+pub struct Edit<'a> {
+    pub start: u32,
+    pub end: u32,
+    pub replacement: &'a [u8],
+}
+
 // Both new texts and the old strings, by the places of both books and the window.
-fn put_new_texts(
-    out: &mut [u8],
-    bytes: &[u8],
-    p: places::Places,
-    start: u32,
-    end: u32,
-    replacement: &[u8],
-    w: splice::Window,
-    readingbytes: &[u8],
-    q: places::Places,
-)
-    requires start_le_end { (start ≤ end) × (end ≤ p.text) × (w.nstart ≤ w.nend) × (w.nend ≤ p.normalized) }
-    requires normalized_in_bounds { (p.text + p.normalized ≤ length bytes.now) × (q.text + q.normalized ≤ length readingbytes.now) }
-    requires bytes_in_bounds { (lengths_of p q start end (length replacement.now) w.nstart w.nend (length bytes.now)).base ≤ length out.old }
-    ensures { out.new ≡ overwrite out.old 0 (texts_of p q start end replacement.now w.nstart w.nend bytes.now readingbytes.now) }
+fn put_new_texts(out: &mut [u8], book: &Book, edit: &Edit, w: splice::Window, reading: &Book)
+    requires start_le_end { (edit.now.start ≤ edit.now.end) × (edit.now.end ≤ book.now.places.text) × (w.nstart ≤ w.nend) × (w.nend ≤ book.now.places.normalized) }
+    requires normalized_in_bounds { (book.now.places.text + book.now.places.normalized ≤ length book.now.bytes.now) × (reading.now.places.text + reading.now.places.normalized ≤ length reading.now.bytes.now) }
+    requires bytes_in_bounds { (lengths_of book.now.places reading.now.places edit.now.start edit.now.end (length edit.now.replacement.now) w.nstart w.nend (length book.now.bytes.now)).base ≤ length out.old }
+    ensures { out.new ≡ overwrite out.old 0 (texts_of book.now.places reading.now.places edit.now.start edit.now.end edit.now.replacement.now w.nstart w.nend book.now.bytes.now reading.now.bytes.now) }
 {
-    let text = p.text as usize;
-    let first = text + p.normalized as usize;
-    let from = q.text as usize;
+    let text = book.places.text as usize;
+    let first = text + book.places.normalized as usize;
+    let from = reading.places.text as usize;
     merged_texts::put_texts(
         out,
-        &bytes[0..text],
-        start as usize,
-        end as usize,
-        replacement,
-        &bytes[text..first],
+        &book.bytes[0..text],
+        edit.start as usize,
+        edit.end as usize,
+        edit.replacement,
+        &book.bytes[text..first],
         w.nstart as usize,
         w.nend as usize,
-        &readingbytes[from..from + q.normalized as usize],
-        &bytes[first..bytes.len()],
+        &reading.bytes[from..from + reading.places.normalized as usize],
+        &book.bytes[first..book.bytes.len()],
     );
 }
 
@@ -58,15 +67,12 @@ pub struct Graft {
     pub ok: bool,
     pub len: usize,
     pub bytes: usize,
-    pub stats: stats::InternStats,
+    pub stats: InternStats,
 }
 
 // The reading's nodes grafted behind the old layers, if it has any: their records from `at` on, new strings from `base` on.
 fn graft_reading(
-    tape: &[u8],
-    bytes: &[u8],
-    p: places::Places,
-    st: store::Store,
+    reading: &Book,
     below: store::Totals,
     out: &mut [u8],
     work: &mut [u32],
@@ -74,17 +80,18 @@ fn graft_reading(
     at: usize,
     base: usize,
 ) -> Graft
-    requires source_fits { SourceFits tape.now bytes.now p st }
+    requires source_fits { SourceFits reading.now.tape.now reading.now.bytes.now reading.now.places reading.now.store }
     requires strings_le_max_pool { (below.strings ≤ max_pool) × (below.contents ≤ max_pool) × (below.segments ≤ max_pool) }
     requires min_work_words_in_bounds { (min_work_words ≤ length work.old) × (base ≤ length strs.old) × (at ≤ length out.old) }
-    ensures { GraftTold out.old strs.old out.new strs.new at base (offsets_of below) (is_empty (book_in tape.now bytes.now).source_nodes) result (grafted_into tape.now bytes.now (offsets_of below)) }
+    ensures { GraftTold out.old strs.old out.new strs.new at base (offsets_of below) (is_empty (book_in reading.now.tape.now reading.now.bytes.now).source_nodes) result (grafted_into reading.now.tape.now reading.now.bytes.now (offsets_of below)) }
 {
+    let p = reading.places;
     if p.nodes.count == 0 {
         return Graft {
             ok: true,
             len: 0,
             bytes: 0,
-            stats: stats::none(),
+            stats: InternStats::default(),
         };
     }
     let o = layer::Offsets {
@@ -92,112 +99,88 @@ fn graft_reading(
         contents: below.contents,
         segments: below.segments,
     };
-    let l = layer::graft_layer(tape, bytes, p, st, out, work, strs, o, at, base);
-    if !l.ok {
-        return Graft {
+    match layer::graft_layer(
+        reading.tape,
+        reading.bytes,
+        p,
+        reading.store,
+        out,
+        work,
+        strs,
+        o,
+        at,
+        base,
+    ) {
+        None => Graft {
             ok: false,
             len: 0,
             bytes: 0,
-            stats: stats::none(),
-        };
-    }
-    let state = l.state;
-    let stats = state.stats;
-    Graft {
-        ok: true,
-        len: l.len,
-        bytes: state.used - base,
-        stats: stats,
+            stats: InternStats::default(),
+        },
+        Some(l) => Graft {
+            ok: true,
+            len: l.len,
+            bytes: l.state.used - base,
+            stats: l.state.stats,
+        },
     }
 }
 
 // Both texts and the strings; the head and the layers, the grafted nodes behind them.
 fn put_store(
-    tape: &[u8],
-    bytes: &[u8],
-    p: places::Places,
-    st: store::Store,
-    start: u32,
-    end: u32,
-    replacement: &[u8],
+    book: &Book,
+    edit: &Edit,
     w: splice::Window,
-    readingtape: &[u8],
-    readingbytes: &[u8],
-    q: places::Places,
-    rst: store::Store,
+    reading: &Book,
     l: merged_lists::Lengths,
     outtape: &mut [u8],
     outbytes: &mut [u8],
     work: &mut [u32],
 ) -> Graft
-    requires books { Books tape.now bytes.now p st (edit_of start end replacement.now) (window_value w) readingtape.now readingbytes.now q rst }
-    requires l_value { l ≡ lengths_of p q start end (length replacement.now) w.nstart w.nend (length bytes.now) }
-    requires min_work_words_in_bounds { (min_work_words ≤ length work.old) × (l.normalized ≤ max_text) × (l.base ≤ length outbytes.old) × (p.nodes.at ≤ length outtape.old) }
-    ensures { StoreTold (book_in tape.now bytes.now) (edit_of start end replacement.now) (book_in readingtape.now readingbytes.now) (window_value w) outtape.old outbytes.old outtape.new outbytes.new p.nodes.at l.base (offsets_of st.totals) result }
+    requires books { Books book.now.tape.now book.now.bytes.now book.now.places book.now.store (edit_of edit.now.start edit.now.end edit.now.replacement.now) (window_value w) reading.now.tape.now reading.now.bytes.now reading.now.places reading.now.store }
+    requires l_value { l ≡ lengths_of book.now.places reading.now.places edit.now.start edit.now.end (length edit.now.replacement.now) w.nstart w.nend (length book.now.bytes.now) }
+    requires min_work_words_in_bounds { (min_work_words ≤ length work.old) × (l.normalized ≤ max_text) × (l.base ≤ length outbytes.old) × (book.now.places.nodes.at ≤ length outtape.old) }
+    ensures { StoreTold (book_in book.now.tape.now book.now.bytes.now) (edit_of edit.now.start edit.now.end edit.now.replacement.now) (book_in reading.now.tape.now reading.now.bytes.now) (window_value w) outtape.old outbytes.old outtape.new outbytes.new book.now.places.nodes.at l.base (offsets_of book.now.store.totals) result }
 {
-    put_new_texts(
-        outbytes,
-        bytes,
-        p,
-        start,
-        end,
-        replacement,
-        w,
-        readingbytes,
-        q,
-    );
-    merged_texts::put_head(
-        outtape,
-        tape,
-        p.nodes.at,
-        l.text as u32,
-        l.normalized as u32,
-    );
+    let at = book.places.nodes.at;
+    put_new_texts(outbytes, book, edit, w, reading);
+    merged_texts::put_head(outtape, book.tape, at, l.text as u32, l.normalized as u32);
     graft_reading(
-        readingtape,
-        readingbytes,
-        q,
-        rst,
-        st.totals,
+        reading,
+        book.store.totals,
         outtape,
         work,
         outbytes,
-        p.nodes.at,
+        at,
         l.base,
     )
 }
 
 // Number 18, and the merged book, of a book and a reading that passed 1 to 17.
 pub fn merge_books(
-    tape: &[u8],
-    bytes: &[u8],
-    p: places::Places,
-    st: store::Store,
-    start: u32,
-    end: u32,
-    replacement: &[u8],
+    book: &Book,
+    edit: &Edit,
     w: splice::Window,
-    readingtape: &[u8],
-    readingbytes: &[u8],
-    q: places::Places,
-    rst: store::Store,
+    reading: &Book,
     outtape: &mut [u8],
     outbytes: &mut [u8],
     work: &mut [u32],
 ) -> output::IncrementalOutput
-    requires { Books tape.now bytes.now p st (edit_of start end replacement.now) (window_value w) readingtape.now readingbytes.now q rst }
-    ensures { Written (result_checked (book_in tape.now bytes.now) (edit_of start end replacement.now) (book_in readingtape.now readingbytes.now) (window_value w) (room_of outtape.old outbytes.old work.old)) result outtape.old outbytes.old work.old outtape.new outbytes.new work.new }
+    requires { Books book.now.tape.now book.now.bytes.now book.now.places book.now.store (edit_of edit.now.start edit.now.end edit.now.replacement.now) (window_value w) reading.now.tape.now reading.now.bytes.now reading.now.places reading.now.store }
+    ensures { Written (result_checked (book_in book.now.tape.now book.now.bytes.now) (edit_of edit.now.start edit.now.end edit.now.replacement.now) (book_in reading.now.tape.now reading.now.bytes.now) (window_value w) (room_of outtape.old outbytes.old work.old)) result outtape.old outbytes.old work.old outtape.new outbytes.new work.new }
 {
-    let k = merged_lists::kept_in(tape, p, w);
+    let p = book.places;
+    let q = reading.places;
+    let k = merged_lists::kept_in(book.tape, p, w);
     let l = merged_lists::new_lengths(
         p,
         q,
-        start,
-        end,
-        replacement.len(),
+        edit.start,
+        edit.end,
+        edit.replacement.len(),
         w.nstart,
         w.nend,
-        bytes.len(),
+        book.bytes.len(),
     );
     if !merged_lists::room_for(
         l,
@@ -210,24 +193,7 @@ pub fn merge_books(
     ) {
         return output::refused_output(18);
     }
-    let g = put_store(
-        tape,
-        bytes,
-        p,
-        st,
-        start,
-        end,
-        replacement,
-        w,
-        readingtape,
-        readingbytes,
-        q,
-        rst,
-        l,
-        outtape,
-        outbytes,
-        work,
-    );
+    let g = put_store(book, edit, w, reading, l, outtape, outbytes, work);
     if !g.ok {
         return output::refused_output(18);
     }
@@ -236,6 +202,6 @@ pub fn merge_books(
     if outtape.len() < size {
         return output::refused_output(18);
     }
-    merged_lists::put_lists(tape, p, w, k, readingtape, q, outtape, at);
+    merged_lists::put_lists(book.tape, p, w, k, reading.tape, q, outtape, at);
     merged_lists::output_of(w, k.nodes, q.nodes.count, g.stats, size, l.base + g.bytes)
 }

@@ -3,6 +3,9 @@
 // stored beside them.
 #![tactic(auto)]
 
+use copy::Copied;
+use lookup::{RangeAt, StrAt};
+use refusal::Refusal;
 use std::io;
 use std::io::Read;
 
@@ -13,10 +16,10 @@ fn put_hex(rt: &impl Print, s: &[u8]) -> io::Result<()> {
     Ok(())
 }
 
-fn put_copied(rt: &impl Print, a: copy::Copied) -> io::Result<()> {
+fn put_copied(rt: &impl Print, a: Result<Copied, Refusal>) -> io::Result<()> {
     match a {
-        copy::Copied::Refused(n) => print!(rt; "refused {n}"),
-        copy::Copied::Copied(tape, bytes) => print!(rt; "{tape} {bytes}"),
+        Ok(Copied { tape, bytes }) => print!(rt; "{tape} {bytes}"),
+        Err(refusal) => print!(rt; "refused {}", u32::from(refusal)),
     }
 }
 
@@ -36,19 +39,19 @@ fn copy(rt: &impl Print, tape: &[u8], bytes: &[u8]) -> io::Result<()> {
     println!(rt)
 }
 
-fn put_allowed(rt: &impl Print, a: lookup::Allowed) -> io::Result<()> {
+fn put_allowed(rt: &impl Print, a: Result<bool, Refusal>) -> io::Result<()> {
     match a {
-        lookup::Allowed::Refused(n) => print!(rt; "refused {n}"),
-        lookup::Allowed::Yes => print!(rt; "yes"),
-        lookup::Allowed::No => print!(rt; "no"),
+        Ok(true) => print!(rt; "yes"),
+        Ok(false) => print!(rt; "no"),
+        Err(refusal) => print!(rt; "refused {}", u32::from(refusal)),
     }
 }
 
-fn put_node(rt: &impl Print, a: lookup::NodeAt) -> io::Result<()> {
+fn put_node(rt: &impl Print, a: Result<Option<usize>, Refusal>) -> io::Result<()> {
     match a {
-        lookup::NodeAt::Refused(n) => print!(rt; "refused {n}"),
-        lookup::NodeAt::Node(i) => print!(rt; "{i}"),
-        lookup::NodeAt::Nothing => print!(rt; "none"),
+        Ok(Some(i)) => print!(rt; "{i}"),
+        Ok(None) => print!(rt; "none"),
+        Err(refusal) => print!(rt; "refused {}", u32::from(refusal)),
     }
 }
 
@@ -68,19 +71,19 @@ fn put_string(rt: &impl Print, bytes: &[u8], start: usize, end: usize) -> io::Re
     print!(rt; "\"")
 }
 
-fn put_str(rt: &impl Print, bytes: &[u8], a: lookup::StrAt) -> io::Result<()> {
+fn put_str(rt: &impl Print, bytes: &[u8], a: Result<Option<StrAt>, Refusal>) -> io::Result<()> {
     match a {
-        lookup::StrAt::Refused(n) => print!(rt; "refused {n}"),
-        lookup::StrAt::At(start, end) => put_string(rt, bytes, start, end),
-        lookup::StrAt::Nothing => print!(rt; "none"),
+        Ok(Some(StrAt { start, end })) => put_string(rt, bytes, start, end),
+        Ok(None) => print!(rt; "none"),
+        Err(refusal) => print!(rt; "refused {}", u32::from(refusal)),
     }
 }
 
-fn put_range(rt: &impl Print, a: lookup::RangeAt) -> io::Result<()> {
+fn put_range(rt: &impl Print, a: Result<Option<RangeAt>, Refusal>) -> io::Result<()> {
     match a {
-        lookup::RangeAt::Refused(n) => print!(rt; "refused {n}"),
-        lookup::RangeAt::At(place, n) => put_records(rt, place, n),
-        lookup::RangeAt::Nothing => print!(rt; "none"),
+        Ok(Some(RangeAt { place, count })) => put_records(rt, place, count),
+        Ok(None) => print!(rt; "none"),
+        Err(refusal) => print!(rt; "refused {}", u32::from(refusal)),
     }
 }
 
@@ -106,9 +109,17 @@ fn ask(rt: &impl Print, c: cases::Case) -> io::Result<()> {
     println!(rt)
 }
 
+// 0 where it is accepted.
+fn number(a: Result<(), Refusal>) -> u32 {
+    match a {
+        Ok(()) => 0,
+        Err(refusal) => u32::from(refusal),
+    }
+}
+
 fn show(rt: &impl Print, c: cases::Case) -> io::Result<()> {
-    let book = tape::check_book(c.tape, c.bytes);
-    let reading = tape::check_reading(c.tape, c.bytes);
+    let book = number(tape::check_book(c.tape, c.bytes));
+    let reading = number(tape::check_reading(c.tape, c.bytes));
     rt.write_all(c.label)?;
     println!(rt; ": check {book}, reading {reading}")?;
     if book == 0 {
