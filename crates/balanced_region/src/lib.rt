@@ -34,7 +34,7 @@ fn next_try(tape: &[u8], text: &[u8], pairs: places::Run, o: usize, words: &mut 
     o.max(cuts::reach_at(tape, pairs, o, words) as usize)
 }
 
-// The first offset from lo on and before hi that text and pairs allow, else hi.
+// The first offset from lo on and before hi that text and pairs allow, else hi. Each step is as long as `next_try` says.
 fn first_cut_in(
     tape: &[u8],
     text: &[u8],
@@ -199,7 +199,7 @@ fn depths_past(tape: &[u8], at: usize, d: Depths) -> Depths
     }
 }
 
-// The depths behind the nodes that start before `bound`.
+// The depths behind the nodes that start before `bound`. How many they are is a part of the depths: a `for` would count twice.
 fn depths_before(tape: &[u8], nodes: places::Run, bound: usize) -> Depths
     requires { nodes.at + 49 * nodes.count ≤ length tape.now }
     ensures { result ≡ depths_before bound no_depths (nodes_of tape.now nodes) }
@@ -236,7 +236,7 @@ fn text_pairs_allow(
     next_try(tape, text, pairs, o, words) == o
 }
 
-// The last offset from lo on and before hi that text and pairs allow, else d.
+// The last offset from lo on and before hi that text and pairs allow, else d. Downwards, as `last_from` recurses.
 fn last_cut_in(
     tape: &[u8],
     text: &[u8],
@@ -295,7 +295,7 @@ fn gap_from(tape: &[u8], nodes: places::Run, i: usize) -> usize
     records::node_end(tape, nodes.at + 49 * (i - 1)) as usize
 }
 
-// The last cut at or before `bound`, behind the last unmatched close, else 0.
+// The last cut at or before `bound`, behind the last unmatched close, else 0. What the walk stops at is looked at behind the loop.
 fn last_cut(
     tape: &[u8],
     text: &[u8],

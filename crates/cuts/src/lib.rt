@@ -108,7 +108,7 @@ fn reach_of(start: u32, end: u32, o: usize) -> u32
     if (start as usize) < o { end } else { 0 }
 }
 
-// How far the pairs reach that start before an offset: the greatest end.
+// How far the pairs reach that start before an offset: the greatest end. From the last pair to the first, as `reach` goes over them.
 pub fn reach(tape: &[u8], pairs: places::Run, o: usize) -> u32
     requires { pairs.at + 18 * pairs.count ≤ length tape.now }
     ensures { result ≡ reach (pairs_of tape.now pairs) o }
@@ -204,7 +204,7 @@ fn note(slots: &mut [u32], from: usize, start: u32, end: u32)
     }
 }
 
-// Each pair's end at the first offset behind its start, the greatest where several are.
+// Each pair's end at the first offset behind its start, the greatest where several are. From the last pair to the first, as `Noted` says.
 fn note_pairs(tape: &[u8], pairs: places::Run, slots: &mut [u32], from: usize)
     requires { (pairs.at + 18 * pairs.count ≤ length tape.now) × (from < 4294967296) }
     ensures { Noted (pairs_of tape.now pairs) from slots.new }
