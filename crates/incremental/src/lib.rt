@@ -24,7 +24,7 @@ fn merge_checked(
 ) -> IncrementalOutput
     ensures { Written (merge_of (stored_of tape.now bytes.now) (correction_of start end replacement.now readingtape.now readingbytes.now) (room_of outtape.old outbytes.old work.old)) result outtape.old outbytes.old work.old outtape.new outbytes.new work.new }
 {
-    let fitted = fitting::fitted(
+    let f = match fitting::fitted(
         tape,
         bytes,
         start,
@@ -33,8 +33,7 @@ fn merge_checked(
         readingtape,
         readingbytes,
         work,
-    );
-    let f = match fitted {
+    ) {
         Ok(f) => f,
         Err(refusal) => return output::refused_output(u32::from(refusal)),
     };

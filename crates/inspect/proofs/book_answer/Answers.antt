@@ -11,4 +11,4 @@ returns-in-Err c =
 
 pub returns : goal.returns
 returns c =
-    book_shown (passed_whole c.else-Err.ensures)
+    book_shown (passed_whole c.in_default.ensures)
