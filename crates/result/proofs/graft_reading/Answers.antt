@@ -1,5 +1,5 @@
 use borrow.Author.Tests.{not-true, not-false}
-use mathlib.Core.Bool.{true}
+use Rattle.std.proofs.Common.{true}
 use Rattle.stats.specs.Counts.{no_stats}
 use Rattle.result.specs.Grafting.{offsets_of, graft_none, graft_refused, graft_some, graft_used, some_nodes, zero_nodes, source_count}
 use mathlib.Core.Path.{refl}
@@ -8,7 +8,7 @@ use Rattle.result.proofs.graft_reading.Goals as goal
 
 pub returns-then-p-eq0 : goal.returns-then-p-eq0
 returns-then-p-eq0 c =
-    graft_none c.args.reading.now.tape.now c.args.reading.now.bytes.now (offsets_of c.args.below) c.args.out.now c.args.strs.now c.args.at c.args.base c.requires.min_work_words_in_bounds.1 (zero_nodes c.args.reading.now.tape.now c.args.reading.now.bytes.now (offsets_of c.args.below) _ (source_count c.requires.source_fits) c.if-p-eq0.true) _ refl refl refl c.none.ensures
+    graft_none c.args.reading.now.tape.now c.args.reading.now.bytes.now (offsets_of c.args.below) c.args.out.now c.args.strs.now c.args.at c.args.base c.requires.min_work_words_in_bounds.1 (zero_nodes c.args.reading.now.tape.now c.args.reading.now.bytes.now (offsets_of c.args.below) _ (source_count c.requires.source_fits) c.if-p-eq0.true) _ refl refl c.none.ensures
 
 pub graft_layer-l-requires : goal.graft_layer-l-requires
 graft_layer-l-requires c =
@@ -19,12 +19,12 @@ graft_layer-l-requires c =
 
 pub returns-then-not-l : goal.returns-then-not-l
 returns-then-not-l c =
-    graft_refused c.args.reading.now.tape.now c.args.reading.now.bytes.now (offsets_of c.args.below) c.args.out.now c.args.strs.now c.args.at c.args.base (some_nodes c.args.reading.now.tape.now c.args.reading.now.bytes.now (offsets_of c.args.below) _ (source_count c.requires.source_fits) c.if-p-eq0.false) c.graft_layer-l.ensures _ (not-true _ c.if-not-l.true) refl
+    graft_refused c.args.reading.now.tape.now c.args.reading.now.bytes.now (offsets_of c.args.below) c.args.out.now c.args.strs.now c.args.at c.args.base (some_nodes c.args.reading.now.tape.now c.args.reading.now.bytes.now (offsets_of c.args.below) _ (source_count c.requires.source_fits) c.if-p-eq0.false) c.graft_layer-l.ensures (not-true _ c.if-not-l.true)
 
 pub overflow_sub-result : goal.overflow_sub-result
 overflow_sub-result c =
-    let x = graft_used c.args.reading.now.tape.now c.args.reading.now.bytes.now (offsets_of c.args.below) c.args.out.now c.args.strs.now c.args.at c.args.base (some_nodes c.args.reading.now.tape.now c.args.reading.now.bytes.now (offsets_of c.args.below) _ (source_count c.requires.source_fits) c.if-p-eq0.false) c.graft_layer-l.ensures (record { ok = true; len = 0; bytes = 0; stats = no_stats }) (not-false _ c.if-not-l.false) in omega (arith, x)
+    let x = graft_used c.args.reading.now.tape.now c.args.reading.now.bytes.now (offsets_of c.args.below) c.args.out.now c.args.strs.now c.args.at c.args.base (some_nodes c.args.reading.now.tape.now c.args.reading.now.bytes.now (offsets_of c.args.below) _ (source_count c.requires.source_fits) c.if-p-eq0.false) c.graft_layer-l.ensures (not-false _ c.if-not-l.false) in omega (arith, x)
 
 pub returns : goal.returns
 returns c =
-    graft_some c.args.reading.now.tape.now c.args.reading.now.bytes.now (offsets_of c.args.below) c.args.out.now c.args.strs.now c.args.at c.args.base (some_nodes c.args.reading.now.tape.now c.args.reading.now.bytes.now (offsets_of c.args.below) _ (source_count c.requires.source_fits) c.if-p-eq0.false) c.graft_layer-l.ensures _ (not-false _ c.if-not-l.false) refl refl refl refl
+    graft_some c.args.reading.now.tape.now c.args.reading.now.bytes.now (offsets_of c.args.below) c.args.out.now c.args.strs.now c.args.at c.args.base (some_nodes c.args.reading.now.tape.now c.args.reading.now.bytes.now (offsets_of c.args.below) _ (source_count c.requires.source_fits) c.if-p-eq0.false) c.graft_layer-l.ensures (not-false _ c.if-not-l.false) _ refl refl refl
