@@ -1,9 +1,17 @@
-// The answers of the entries as C has them: an enum as a struct of numbers. In every answer `number` is 0 or the number of the refusal, and what an
+// The answers of the entries as C has them: a `Result` as a struct of numbers. In every answer `number` is 0 or the number of the refusal, and what an
 // answer does not have is 0. A caller in C or Rust declares these structs again.
 #![tactic(auto)]
 
 ghost use Rattle.std.specs.Prelude.{◌≡◌};
-ghost use Rattle.answers.specs.Answers.{allowed_answer, node_answer, range_answer, str_answer, copy_answer, region_answer, output_read, orders_read};
+ghost use Rattle.refusal.specs.Refusal.{number_in, checked, checked_map};
+ghost use Rattle.span.specs.Values.{span_of};
+ghost use Rattle.answers.specs.Answers.{allowed_answer, node_answer, range_answer, str_answer, copy_answer, region_answer, price_answer, output_read, orders_read};
+
+use copy::Copied;
+use estimate::Price;
+use lookup::{RangeAt, StrAt};
+use refusal::Refusal;
+use span::Span;
 
 #[repr(C)]
 #[derive(Clone, Copy)]
@@ -59,6 +67,19 @@ pub struct RegionAnswer {
     pub end: u32,
 }
 
+// What a merge would make: the reading's nodes, calls of `intern`, contents and segments added, and the length of the byte buffer without
+// the new layer's strings.
+#[repr(C)]
+#[derive(Clone, Copy)]
+pub struct PriceAnswer {
+    pub number: u32,
+    pub reread: u32,
+    pub calls: u32,
+    pub contents: u32,
+    pub segments: u32,
+    pub bytes: usize,
+}
+
 // What a merge answers: the region in offsets of the old text, old nodes kept, the reading's nodes, the seven counts, and how many bytes of
 // the two result buffers the book takes.
 #[repr(C)]
@@ -90,128 +111,176 @@ pub struct OrdersAnswer {
     pub earliersecond: MergeAnswer,
 }
 
-pub fn allowed_answer(a: lookup::Allowed) -> AllowedAnswer
-    ensures { result ≡ allowed_answer a }
+// The number of an answer that is nothing else: 0 where it is accepted.
+pub fn number_answer(a: Result<(), Refusal>) -> u32
+    ensures { result ≡ number_in a }
 {
     match a {
-        lookup::Allowed::Refused(n) => AllowedAnswer {
-            number: n,
-            allowed: false,
-        },
-        lookup::Allowed::Yes => AllowedAnswer {
-            number: 0,
-            allowed: true,
-        },
-        lookup::Allowed::No => AllowedAnswer {
-            number: 0,
-            allowed: false,
-        },
+        Ok(()) => 0,
+        Err(refusal) => u32::from(refusal),
     }
 }
 
-pub fn node_answer(a: lookup::NodeAt) -> NodeAnswer
-    ensures { result ≡ node_answer a }
-{
-    match a {
-        lookup::NodeAt::Refused(n) => NodeAnswer {
-            number: n,
-            found: false,
-            node: 0,
-        },
-        lookup::NodeAt::Node(i) => NodeAnswer {
-            number: 0,
-            found: true,
-            node: i,
-        },
-        lookup::NodeAt::Nothing => NodeAnswer {
-            number: 0,
-            found: false,
-            node: 0,
-        },
+impl From<Result<bool, Refusal>> for AllowedAnswer {
+    ghost from_gives = { λ a r. r ≡ allowed_answer (checked a) };
+
+    fn from(a: Result<bool, Refusal>) -> AllowedAnswer {
+        match a {
+            Ok(allowed) => AllowedAnswer { number: 0, allowed },
+            Err(refusal) => AllowedAnswer {
+                number: u32::from(refusal),
+                allowed: false,
+            },
+        }
     }
 }
 
-pub fn range_answer(a: lookup::RangeAt) -> RangeAnswer
-    ensures { result ≡ range_answer a }
-{
-    match a {
-        lookup::RangeAt::Refused(n) => RangeAnswer {
-            number: n,
-            found: false,
-            place: 0,
-            count: 0,
-        },
-        lookup::RangeAt::At(place, n) => RangeAnswer {
-            number: 0,
-            found: true,
-            place: place,
-            count: n,
-        },
-        lookup::RangeAt::Nothing => RangeAnswer {
-            number: 0,
-            found: false,
-            place: 0,
-            count: 0,
-        },
+impl From<Result<Option<usize>, Refusal>> for NodeAnswer {
+    ghost from_gives = { λ a r. r ≡ node_answer (checked a) };
+
+    fn from(a: Result<Option<usize>, Refusal>) -> NodeAnswer {
+        match a {
+            Ok(Some(node)) => NodeAnswer {
+                number: 0,
+                found: true,
+                node,
+            },
+            Ok(None) => NodeAnswer {
+                number: 0,
+                found: false,
+                node: 0,
+            },
+            Err(refusal) => NodeAnswer {
+                number: u32::from(refusal),
+                found: false,
+                node: 0,
+            },
+        }
     }
 }
 
-pub fn str_answer(a: lookup::StrAt) -> StrAnswer
-    ensures { result ≡ str_answer a }
-{
-    match a {
-        lookup::StrAt::Refused(n) => StrAnswer {
-            number: n,
-            found: false,
-            start: 0,
-            end: 0,
-        },
-        lookup::StrAt::At(start, end) => StrAnswer {
-            number: 0,
-            found: true,
-            start: start,
-            end: end,
-        },
-        lookup::StrAt::Nothing => StrAnswer {
-            number: 0,
-            found: false,
-            start: 0,
-            end: 0,
-        },
+impl From<Result<Option<RangeAt>, Refusal>> for RangeAnswer {
+    ghost from_gives = { λ a r. r ≡ range_answer (checked a) };
+
+    fn from(a: Result<Option<RangeAt>, Refusal>) -> RangeAnswer {
+        match a {
+            Ok(Some(RangeAt { place, count })) => RangeAnswer {
+                number: 0,
+                found: true,
+                place,
+                count,
+            },
+            Ok(None) => RangeAnswer {
+                number: 0,
+                found: false,
+                place: 0,
+                count: 0,
+            },
+            Err(refusal) => RangeAnswer {
+                number: u32::from(refusal),
+                found: false,
+                place: 0,
+                count: 0,
+            },
+        }
     }
 }
 
-pub fn copy_answer(a: copy::Copied) -> CopyAnswer
-    ensures { result ≡ copy_answer a }
-{
-    match a {
-        copy::Copied::Refused(n) => CopyAnswer {
-            number: n,
-            tape: 0,
-            bytes: 0,
-        },
-        copy::Copied::Copied(tape, bytes) => CopyAnswer {
-            number: 0,
-            tape: tape,
-            bytes: bytes,
-        },
+impl From<Result<Option<StrAt>, Refusal>> for StrAnswer {
+    ghost from_gives = { λ a r. r ≡ str_answer (checked a) };
+
+    fn from(a: Result<Option<StrAt>, Refusal>) -> StrAnswer {
+        match a {
+            Ok(Some(StrAt { start, end })) => StrAnswer {
+                number: 0,
+                found: true,
+                start,
+                end,
+            },
+            Ok(None) => StrAnswer {
+                number: 0,
+                found: false,
+                start: 0,
+                end: 0,
+            },
+            Err(refusal) => StrAnswer {
+                number: u32::from(refusal),
+                found: false,
+                start: 0,
+                end: 0,
+            },
+        }
     }
 }
 
-pub fn region_answer(a: region::Chosen) -> RegionAnswer
-    ensures { result ≡ region_answer a }
-{
-    match a {
-        region::Chosen::Refused(n) => RegionAnswer {
-            number: n,
-            start: 0,
-            end: 0,
-        },
-        region::Chosen::Region(start, end) => RegionAnswer {
-            number: 0,
-            start: start,
-            end: end,
-        },
+impl From<Result<Copied, Refusal>> for CopyAnswer {
+    ghost from_gives = { λ a r. r ≡ copy_answer (checked a) };
+
+    fn from(a: Result<Copied, Refusal>) -> CopyAnswer {
+        match a {
+            Ok(Copied { tape, bytes }) => CopyAnswer {
+                number: 0,
+                tape,
+                bytes,
+            },
+            Err(refusal) => CopyAnswer {
+                number: u32::from(refusal),
+                tape: 0,
+                bytes: 0,
+            },
+        }
+    }
+}
+
+impl From<Result<Span, Refusal>> for RegionAnswer {
+    ghost from_gives = { λ a r. r ≡ region_answer (checked_map span_of (checked a)) };
+
+    fn from(a: Result<Span, Refusal>) -> RegionAnswer {
+        match a {
+            Ok(Span { start, end }) => RegionAnswer {
+                number: 0,
+                start,
+                end,
+            },
+            Err(refusal) => RegionAnswer {
+                number: u32::from(refusal),
+                start: 0,
+                end: 0,
+            },
+        }
+    }
+}
+
+impl From<Result<Price, Refusal>> for PriceAnswer {
+    ghost from_gives = { λ a r. r ≡ price_answer (checked a) };
+
+    fn from(a: Result<Price, Refusal>) -> PriceAnswer {
+        match a {
+            Ok(
+                Price {
+                    reread,
+                    calls,
+                    contents,
+                    segments,
+                    bytes,
+                },
+            ) => PriceAnswer {
+                number: 0,
+                reread,
+                calls,
+                contents,
+                segments,
+                bytes,
+            },
+            Err(refusal) => PriceAnswer {
+                number: u32::from(refusal),
+                reread: 0,
+                calls: 0,
+                contents: 0,
+                segments: 0,
+                bytes: 0,
+            },
+        }
     }
 }
 

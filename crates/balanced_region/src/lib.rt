@@ -31,7 +31,7 @@ fn next_try(tape: &[u8], text: &[u8], pairs: places::Run, o: usize, words: &mut 
     if !cuts::blank_line_before(text, o) {
         return o + 1;
     }
-    later(o, cuts::reach_at(tape, pairs, o, words) as usize)
+    o.max(cuts::reach_at(tape, pairs, o, words) as usize)
 }
 
 // The first offset from lo on and before hi that text and pairs allow, else hi.
@@ -59,15 +59,6 @@ fn first_cut_in(
     hi
 }
 
-fn later(a: usize, b: usize) -> usize
-    ensures { result ≡ max a b }
-{
-    if a < b {
-        return b;
-    }
-    a
-}
-
 // The same of the gap that begins at `from`, behind `o`, where the nodes before it leave these depths.
 fn gap_first(
     tape: &[u8],
@@ -88,7 +79,7 @@ fn gap_first(
     if !cuts::depths_zero(blocks, warichu) {
         return hi;
     }
-    first_cut_in(tape, text, pairs, later(from, o + 1), hi, words)
+    first_cut_in(tape, text, pairs, from.max(o + 1), hi, words)
 }
 
 // Section 6. End: the first safe offset after a newline at or behind an offset, else the length.
@@ -109,8 +100,7 @@ pub fn region_end(
     let mut from: usize = 0;
     let mut blocks: usize = 0;
     let mut warichu: usize = 0;
-    let mut i = 0;
-    while i < nodes.count {
+    for i in 0..nodes.count {
         let p = nodes.at + 49 * i;
         let start = records::node_start(tape, p) as usize;
         let c = gap_first(
@@ -130,7 +120,6 @@ pub fn region_end(
         from = records::node_end(tape, p) as usize;
         blocks = cuts::block_depth(tape, p, blocks);
         warichu = cuts::warichu_depth(tape, p, warichu);
-        i += 1;
     }
     gap_first(
         tape,
@@ -170,7 +159,7 @@ fn warichu_before(tape: &[u8], at: usize, depth: usize) -> usize
 
 // What a number of nodes leave: both depths, and how many there are up to and with the last that closes at depth 0. Behind that
 // one every close has its open.
-#[derive(Clone, Copy)]
+#[derive(Clone, Copy, Debug, PartialEq, Eq)]
 pub struct Depths {
     pub count: usize,
     pub blocks: usize,
@@ -183,10 +172,8 @@ fn is_unmatched(tape: &[u8], at: usize, d: Depths) -> bool
     requires { at + 49 ≤ length tape.now }
     ensures { result ≡ is_unmatched d (record_at node_codec tape.now at) }
 {
-    if cuts::closes_nothing(cuts::is_block_close(tape, at), d.blocks) {
-        return true;
-    }
-    cuts::closes_nothing(cuts::is_warichu_close(tape, at), d.warichu)
+    cuts::closes_nothing(cuts::is_block_close(tape, at), d.blocks)
+        || cuts::closes_nothing(cuts::is_warichu_close(tape, at), d.warichu)
 }
 
 fn last_unmatched(tape: &[u8], at: usize, d: Depths) -> usize
@@ -194,9 +181,10 @@ fn last_unmatched(tape: &[u8], at: usize, d: Depths) -> usize
     ensures { result ≡ last_unmatched d (record_at node_codec tape.now at) }
 {
     if is_unmatched(tape, at, d) {
-        return d.count + 1;
+        d.count + 1
+    } else {
+        d.unmatched
     }
-    d.unmatched
 }
 
 fn depths_past(tape: &[u8], at: usize, d: Depths) -> Depths
@@ -296,15 +284,6 @@ fn gap_last(
     last_cut_in(tape, text, pairs, lo, hi, d, words)
 }
 
-fn earlier(a: usize, b: usize) -> usize
-    ensures { result ≡ min a b }
-{
-    if a < b {
-        return a;
-    }
-    b
-}
-
 // Where the gap behind i nodes begins; that before the first node at 1, since 0 needs no search.
 fn gap_from(tape: &[u8], nodes: places::Run, i: usize) -> usize
     requires { (nodes.at + 49 * nodes.count ≤ length tape.now) × (i ≤ nodes.count) }
@@ -347,7 +326,7 @@ fn last_cut(
             hi + 1,
             blocks,
             warichu,
-            earlier(lo - 1, hi),
+            hi.min(lo - 1),
             words,
         );
         if lo <= c {
@@ -355,7 +334,7 @@ fn last_cut(
         }
         i -= 1;
         let p = nodes.at + 49 * i;
-        hi = earlier(c, records::node_start(tape, p) as usize);
+        hi = c.min(records::node_start(tape, p) as usize);
         blocks = block_before(tape, p, blocks);
         warichu = warichu_before(tape, p, warichu);
     }
@@ -368,7 +347,7 @@ fn last_cut(
         hi + 1,
         blocks,
         warichu,
-        earlier(lo - 1, hi),
+        hi.min(lo - 1),
         words,
     );
     if lo <= c {
@@ -396,8 +375,7 @@ fn last_cut_before(
     let mut blocks: usize = 0;
     let mut warichu: usize = 0;
     let mut last: usize = 0;
-    let mut i = 0;
-    while i < nodes.count {
+    for i in 0..nodes.count {
         let p = nodes.at + 49 * i;
         let start = records::node_start(tape, p) as usize;
         if bound <= start {
@@ -427,7 +405,6 @@ fn last_cut_before(
         from = records::node_end(tape, p) as usize;
         blocks = cuts::block_depth(tape, p, blocks);
         warichu = cuts::warichu_depth(tape, p, warichu);
-        i += 1;
     }
     gap_last(
         tape,
@@ -447,13 +424,7 @@ fn ends_behind_newline(text: &[u8], o: usize) -> bool
     requires { o ≤ length text.now }
     ensures { result ≡ ends_behind_newline text.now o }
 {
-    if o != text.len() {
-        return false;
-    }
-    if o < 1 {
-        return false;
-    }
-    text[o - 1] == 10
+    o == text.len() && 1 <= o && text[o - 1] == b'\n'
 }
 
 // Section 6. Start: the last safe offset after a newline, at or before an offset, else 0.
@@ -483,11 +454,11 @@ pub fn region_start(
         return 0;
     }
     let start = records::node_start(tape, nodes.at + 49 * (d.unmatched - 1)) as usize;
-    last_cut_before(tape, text, nodes, pairs, earlier(o, start), words)
+    last_cut_before(tape, text, nodes, pairs, o.min(start), words)
 }
 
 // Offsets of the old text.
-#[derive(Clone, Copy)]
+#[derive(Clone, Copy, Debug, PartialEq, Eq)]
 pub struct Region {
     pub start: usize,
     pub end: usize,
@@ -495,33 +466,31 @@ pub struct Region {
 
 // Wish 1. Is the last byte before the edit's end a newline in the new text? It is the replacement's, or else the last one before the
 // edit.
+#[tactic(auto, using(std::proofs::lemmas::Bool::Decides::nat_tests), unfolding(crate::specs::Survives::newline_kept))]
 fn newline_kept(text: &[u8], start: usize, replacement: &[u8]) -> bool
     requires { start ≤ length text.now }
     ensures { result ≡ newline_kept text.now start replacement.now }
 {
     let n = replacement.len();
     if 0 < n {
-        return replacement[n - 1] == 10;
+        replacement[n - 1] == b'\n'
+    } else {
+        1 <= start && text[start - 1] == b'\n'
     }
-    if start < 1 {
-        return false;
-    }
-    text[start - 1] == 10
 }
 
 // Wish 1. Where the search for the end begins. Only the cut one byte behind the edit's end can lose its blank line in the new text;
 // then it is passed over.
+#[tactic(auto, using(std::proofs::lemmas::Bool::Decides::nat_tests), unfolding(crate::specs::Survives::search_from))]
 fn search_from(text: &[u8], start: usize, end: usize, replacement: &[u8]) -> usize
     requires { (start ≤ length text.now) × (end ≤ length text.now) }
     ensures { result ≡ search_from text.now start end replacement.now }
 {
-    if end == text.len() {
-        return end;
+    if end == text.len() || newline_kept(text, start, replacement) {
+        end
+    } else {
+        end + 1
     }
-    if newline_kept(text, start, replacement) {
-        return end;
-    }
-    end + 1
 }
 
 // The region, with these words for the windows.

@@ -2,7 +2,7 @@
 // another hash seldom is. The words before `base` are left as they are; where there are none behind it, each hash counts as inserted.
 #![tactic(auto)]
 
-ghost use Rattle.std.specs.Prelude.{◌≡◌, ◌^◌, ◌<◌, min, length};
+ghost use Rattle.std.specs.Prelude.{◌≡◌, ◌^◌, ◌<◌, length};
 ghost use Rattle.bloom.specs.Filter.{hash_place, hash_bits, has_bits, with_bits, may_contain, inserted};
 
 fn power(k: u32) -> u32
@@ -21,22 +21,13 @@ fn bits_of(h: u64) -> u32
     a | b
 }
 
-// How many words a filter uses: no more than 32 bits can tell apart.
-fn used(len: usize) -> usize
-    ensures { result ≡ min len 4294967296 }
-{
-    if len < 4294967296 {
-        return len;
-    }
-    4294967296
-}
-
-// The word of 32 bits of a hash: their share of the words, which takes no division.
+// The word of 32 bits of a hash: their share of the words, no more than 32 bits can tell apart, which takes no division.
 fn place_of(base: usize, len: usize, x: u64) -> usize
     requires { (base < len) × (x < 4294967296) }
     ensures { result ≡ hash_place base len x }
 {
-    base + (x * (used(len - base) as u64) / 4294967296) as usize
+    let used = (len - base).min(4294967296);
+    base + (x * used as u64 / 4294967296) as usize
 }
 
 fn set_bits(words: &mut [u32], base: usize, x: u64, bits: u32)
@@ -44,8 +35,7 @@ fn set_bits(words: &mut [u32], base: usize, x: u64, bits: u32)
     ensures { words.new ≡ with_bits words.old base x bits }
 {
     let i = place_of(base, words.len(), x);
-    let w = words[i];
-    words[i] = w | bits;
+    words[i] |= bits;
 }
 
 fn has_bits(words: &[u32], base: usize, x: u64, bits: u32) -> bool
@@ -53,8 +43,7 @@ fn has_bits(words: &[u32], base: usize, x: u64, bits: u32) -> bool
     ensures { result ≡ has_bits words.now base x bits }
 {
     let i = place_of(base, words.len(), x);
-    let w = words[i];
-    w & bits == bits
+    words[i] & bits == bits
 }
 
 pub fn insert(words: &mut [u32], base: usize, h: u64)
@@ -75,8 +64,6 @@ pub fn may_contain(words: &[u32], base: usize, h: u64) -> bool
         return true;
     }
     let m = bits_of(h);
-    if has_bits(words, base, h / 4294967296 % 4294967296, m) {
-        return has_bits(words, base, h / 65536 % 4294967296, m);
-    }
-    false
+    has_bits(words, base, h / 4294967296 % 4294967296, m)
+        && has_bits(words, base, h / 65536 % 4294967296, m)
 }

@@ -10,55 +10,55 @@ ghost use Rattle.model.specs.Lookup.{ask_book, diagnostics_allow_incremental, no
 ghost use Rattle.model.specs.Lookup.{copied_tape, copied_bytes};
 ghost use Rattle.store.specs.Stored.{store_at};
 ghost use Rattle.store.specs.Standing.{content_place, segment_place};
-ghost use Rattle.lookup.specs.Asked.{allowed_of, node_at_of};
-ghost use Rattle.lookup.specs.Ranges.{range_at_of, range_shown};
-ghost use Rattle.lookup.specs.Strings.{str_at_of, str_shown};
+ghost use Rattle.bounds.specs.Search.{found_of};
+ghost use Rattle.lookup.specs.Ranges.{range_if, range_shown};
+ghost use Rattle.lookup.specs.Strings.{str_if, str_shown};
 ghost use Rattle.copy.specs.Copying.{copied_of};
 ghost use Rattle.answers.specs.Answers.{allowed_answer, node_answer, range_answer, range_read, str_answer, str_read, copy_answer};
 
 pub fn check_book(tape: &[u8], bytes: &[u8]) -> u32
     ensures { result ≡ number_of (check_book tape.now bytes.now) }
 {
-    tape::check_book(tape, bytes)
+    answers::number_answer(tape::check_book(tape, bytes))
 }
 
 pub fn check_reading(tape: &[u8], bytes: &[u8]) -> u32
     ensures { result ≡ number_of (check_reading tape.now bytes.now) }
 {
-    tape::check_reading(tape, bytes)
+    answers::number_answer(tape::check_reading(tape, bytes))
 }
 
 pub fn diagnostics_allow_incremental(tape: &[u8], bytes: &[u8]) -> answers::AllowedAnswer
-    ensures { result ≡ allowed_answer (allowed_of (ask_book tape.now bytes.now (λ b. diagnostics_allow_incremental b.diagnostics))) }
+    ensures { result ≡ allowed_answer (ask_book tape.now bytes.now (λ b. diagnostics_allow_incremental b.diagnostics)) }
 {
-    answers::allowed_answer(lookup::diagnostics_allow_incremental(tape, bytes))
+    answers::AllowedAnswer::from(lookup::diagnostics_allow_incremental(tape, bytes))
 }
 
 pub fn node_at_source(tape: &[u8], bytes: &[u8], offset: u32) -> answers::NodeAnswer
-    ensures { result ≡ node_answer (node_at_of (ask_book tape.now bytes.now (λ b. node_at_source b.source_nodes offset))) }
+    ensures { result ≡ node_answer (ask_book tape.now bytes.now (λ b. found_of (node_at_source b.source_nodes offset))) }
 {
-    answers::node_answer(lookup::node_at_source(tape, bytes, offset))
+    answers::NodeAnswer::from(lookup::node_at_source(tape, bytes, offset))
 }
 
 pub fn lookup_str(tape: &[u8], bytes: &[u8], id: u32) -> answers::StrAnswer
-    ensures { (result ≡ str_answer (str_at_of (ask_book tape.now bytes.now (λ b. lookup_str_span b id))))
+    ensures { (result ≡ str_answer (ask_book tape.now bytes.now (λ b. str_if (lookup_str_span b id))))
         × (str_shown bytes.now (str_read result) ≡ ask_book tape.now bytes.now (λ b. lookup_str b id)) }
 {
-    answers::str_answer(lookup::lookup_str(tape, bytes, id))
+    answers::StrAnswer::from(lookup::lookup_str(tape, bytes, id))
 }
 
 pub fn lookup_contents(tape: &[u8], bytes: &[u8], start: u32, len: u32) -> answers::RangeAnswer
-    ensures { (result ≡ range_answer (range_at_of (ask_book tape.now bytes.now (contents_ok start len)) (content_place (store_at tape.now) start) len))
+    ensures { (result ≡ range_answer (ask_book tape.now bytes.now (λ b. range_if (contents_ok start len b) (content_place (store_at tape.now) start) len)))
         × (range_shown content_codec tape.now (range_read result) ≡ ask_book tape.now bytes.now (λ b. lookup_contents b start len)) }
 {
-    answers::range_answer(lookup::lookup_contents(tape, bytes, start, len))
+    answers::RangeAnswer::from(lookup::lookup_contents(tape, bytes, start, len))
 }
 
 pub fn lookup_segments(tape: &[u8], bytes: &[u8], start: u32, len: u32) -> answers::RangeAnswer
-    ensures { (result ≡ range_answer (range_at_of (ask_book tape.now bytes.now (segments_ok start len)) (segment_place (store_at tape.now) start) len))
+    ensures { (result ≡ range_answer (ask_book tape.now bytes.now (λ b. range_if (segments_ok start len b) (segment_place (store_at tape.now) start) len)))
         × (range_shown segment_codec tape.now (range_read result) ≡ ask_book tape.now bytes.now (λ b. lookup_segments b start len)) }
 {
-    answers::range_answer(lookup::lookup_segments(tape, bytes, start, len))
+    answers::RangeAnswer::from(lookup::lookup_segments(tape, bytes, start, len))
 }
 
 pub fn copy_book(
@@ -72,5 +72,5 @@ pub fn copy_book(
         × (outtape.new ≡ copied_tape (length outtape.old) copy)
         × (outbytes.new ≡ copied_bytes (length outbytes.old) copy) }
 {
-    answers::copy_answer(copy::copy_book(tape, bytes, outtape, outbytes))
+    answers::CopyAnswer::from(copy::copy_book(tape, bytes, outtape, outbytes))
 }

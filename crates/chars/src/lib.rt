@@ -7,13 +7,11 @@ ghost use Rattle.std.specs.Prelude.{◌≡◌, cond, ◌+◌, ◌≤◌, ◌<◌
 ghost use Rattle.model.specs.Utf8.{utf8_first, utf8_step, within as is_within, tail1, tail2, bad};
 ghost use Rattle.chars.specs.Chars.{char_len};
 
+#[tactic(auto, using(std::proofs::lemmas::Bool::Decides::nat_tests))]
 pub fn within(lo: u8, hi: u8, b: u8) -> bool
     ensures { result ≡ is_within lo hi b }
 {
-    if b < lo {
-        return false;
-    }
-    b <= hi
+    lo <= b && b <= hi
 }
 
 // The second byte of three, whose range the first one narrows.
@@ -21,26 +19,22 @@ fn second_of_three(a: u8, b: u8) -> bool
     requires { (0xe0 ≤ a) × (a < 0xf0) }
     ensures { utf8_step (utf8_first a) b ≡ cond result tail1 bad }
 {
-    if a == 0xe0 {
-        return within(0xa0, 0xbf, b);
+    match a {
+        0xe0 => within(0xa0, 0xbf, b),
+        0xed => within(0x80, 0x9f, b),
+        _ => within(0x80, 0xbf, b),
     }
-    if a == 0xed {
-        return within(0x80, 0x9f, b);
-    }
-    within(0x80, 0xbf, b)
 }
 
 fn second_of_four(a: u8, b: u8) -> bool
     requires { (0xf0 ≤ a) × (a < 0xf5) }
     ensures { utf8_step (utf8_first a) b ≡ cond result tail2 bad }
 {
-    if a == 0xf0 {
-        return within(0x90, 0xbf, b);
+    match a {
+        0xf0 => within(0x90, 0xbf, b),
+        0xf4 => within(0x80, 0x8f, b),
+        _ => within(0x80, 0xbf, b),
     }
-    if a == 0xf4 {
-        return within(0x80, 0x8f, b);
-    }
-    within(0x80, 0xbf, b)
 }
 
 fn two(s: &[u8], at: usize) -> usize
@@ -92,25 +86,16 @@ fn four(s: &[u8], at: usize) -> usize
 }
 
 // How many bytes the character at `at` has, 0 where there is none.
+#[tactic(auto, using(crate::proofs::Lengths::one_byte, crate::proofs::Lengths::none_low, crate::proofs::Lengths::none_high))]
 pub fn char_len(s: &[u8], at: usize) -> usize
     requires { at < length s.now }
     ensures { result ≡ char_len (drop at s.now) }
 {
-    let b = s[at];
-    if b < 0x80 {
-        return 1;
+    match s[at] {
+        0x00..=0x7f => 1,
+        0xc2..=0xdf => two(s, at),
+        0xe0..=0xef => three(s, at),
+        0xf0..=0xf4 => four(s, at),
+        _ => 0,
     }
-    if b < 0xc2 {
-        return 0;
-    }
-    if b < 0xe0 {
-        return two(s, at);
-    }
-    if b < 0xf0 {
-        return three(s, at);
-    }
-    if b < 0xf5 {
-        return four(s, at);
-    }
-    0
 }

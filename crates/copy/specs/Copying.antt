@@ -15,15 +15,14 @@ use Rattle.laws.specs.RoundTrip.{read_write}
 use Rattle.wire.specs.Loops.{by_bool}
 use Rattle.wire.specs.Overwrite.{overwrite, overwrite_all}
 use Rattle.tape.specs.Accepted.{Accepted, refusal_of, accepted_book}
+use Rattle.refusal.specs.Refusal.{checked_map, was_refused, was_accepted}
 use Rattle.copy.specs.declared.Copied.{Copied}
-use Rattle.copy.specs.declared.Copied.TheVariants as copied
 
 -- ---- the answer
 
 -- A number 1 to 7 or 18, or the lengths of the copy.
-unfoldable pub copied_of : Checked Stored → Copied
-copied_of (refused n) = copied.Refused n
-copied_of (accepted s) = copied.Copied (length s.tape) (length s.bytes)
+unfoldable pub copied_of : Checked Stored → Checked Copied
+copied_of = checked_map (λ s. record { tape = length s.tape; bytes = length s.bytes })
 
 -- what is lent: two result buffers of these lengths, no work words
 abbrev room_for : ℕ → ℕ → Room
@@ -32,9 +31,9 @@ room_for tape bytes = record { tape_bytes = tape; text_bytes = bytes; work_words
 -- ---- refused, or copied
 
 module _ (t d : List ℕ) (tape bytes : ℕ) where
-  pub copy_refused : {n : ℕ} → n ≡ number_of (check_book t d) → (n ≡ 0 → ⊥) → copy_into t d tape bytes ≡ refused n
+  pub copy_refused : {n : ℕ} → check_book t d ≡ refused n → copy_into t d tape bytes ≡ refused n
   unfolding copy_into copy_book ◌>>=◌
-  copy_refused e h = rw (refusal_of (check_book t d) e h) refl
+  copy_refused e = rw e refl
 
   module _ (are : AreBytes t) (a : Accepted t d) where
     again : stored_book (book_at t (places t) d) ≡ stored_of t d
@@ -57,15 +56,15 @@ module _ (t d : List ℕ) (tape bytes : ℕ) where
     unfolding fits_room refuse◌if◌ ◌>>=◌
     copy_there h k = copy_if ∙ rw (le-leb (length t) tape h, le-leb (length d) bytes k) refl
 
-  -- what is known where the number is 0
+  -- what is known where it is not refused
   pub record Copies : Type 0 where
     pub is : copy_into t d tape bytes ≡ accepted (stored_of t d)
     pub tape_fits : length t ≤ tape
     pub bytes_fit : length d ≤ bytes
 
-  pub copies : AreBytes t → {n : ℕ} → n ≡ number_of (copy_into t d tape bytes) → n ≡ 0 → Copies
+  copies_by : AreBytes t → number_of (copy_into t d tape bytes) ≡ 0 → Copies
   unfolding number_of
-  copies are {n} e z =
+  copies_by are z =
       by_bool (eqb (number_of (check_book t d)) 0)
       (λ f.
       let a = accepted_book t d (eqb-true (number_of (check_book t d)) 0 f) in
@@ -76,34 +75,15 @@ module _ (t d : List ℕ) (tape bytes : ℕ) where
       let x = leb-true (length t) tape g in
       let y = leb-true (length d) bytes h in
       record { is = copy_there are a x y; tape_fits = x; bytes_fit = y })
-      (λ h. let q : number_of (copy_into t d tape bytes) ≡ 18 = ap number_of (copy_no_bytes are a (leb-false (length d) bytes h)) in absurd (omega (arith, e, z, q))))
-      (λ g. let q : number_of (copy_into t d tape bytes) ≡ 18 = ap number_of (copy_no_tape are a (leb-false (length t) tape g)) in absurd (omega (arith, e, z, q))))
+      (λ h. let q : number_of (copy_into t d tape bytes) ≡ 18 = ap number_of (copy_no_bytes are a (leb-false (length d) bytes h)) in absurd (omega (arith, z, q))))
+      (λ g. let q : number_of (copy_into t d tape bytes) ≡ 18 = ap number_of (copy_no_tape are a (leb-false (length t) tape g)) in absurd (omega (arith, z, q))))
       (λ f.
       let k = eqb-false (number_of (check_book t d)) 0 f in
-      let q : number_of (copy_into t d tape bytes) ≡ number_of (check_book t d) = ap number_of (copy_refused refl k) in absurd (k (sym q ∙ sym e ∙ z)))
+      let q : number_of (copy_into t d tape bytes) ≡ number_of (check_book t d) = ap number_of (copy_refused (refusal_of (check_book t d) refl k)) in absurd (k (sym q ∙ z)))
 
--- ---- the returns of `copy_refusal`
-
-module _ (t d : List ℕ) (tape bytes : ℕ) {n : ℕ} (e : n ≡ number_of (check_book t d)) where
-  pub number_book : (n ≡ 0 → ⊥) → n ≡ number_of (copy_into t d tape bytes)
+  pub copies : AreBytes t → accepted (tt {0}) ≡ checked_map (λ _. tt {0}) (copy_into t d tape bytes) → Copies
   unfolding number_of
-  number_book h = sym (ap number_of (copy_refused t d tape bytes e h))
-
-  module _ (are : AreBytes t) (z : n ≡ 0) where
-    whole : Accepted t d
-    whole = accepted_book t d (sym e ∙ z)
-
-    pub number_no_tape : tape < length t → 18 ≡ number_of (copy_into t d tape bytes)
-    unfolding number_of
-    number_no_tape h = sym (ap number_of (copy_no_tape t d tape bytes are whole h))
-
-    pub number_no_bytes : bytes < length d → 18 ≡ number_of (copy_into t d tape bytes)
-    unfolding number_of
-    number_no_bytes h = sym (ap number_of (copy_no_bytes t d tape bytes are whole h))
-
-    pub number_none : length t ≤ tape → length d ≤ bytes → 0 ≡ number_of (copy_into t d tape bytes)
-    unfolding number_of
-    number_none h k = sym (ap number_of (copy_there t d tape bytes are whole h k))
+  copies are e = copies_by are (ap number_of (was_accepted (λ (s : Stored). tt {0}) (copy_into t d tape bytes) e).1)
 
 -- ---- the returns of `copy_book`
 
@@ -112,16 +92,15 @@ cleared : (a x : List ℕ) → x ≡ overwrite a 0 (zeros (length a - 0)) → x 
 cleared a x e = e ∙ ap (λ (k : ℕ). overwrite a 0 (zeros k)) (sub-zero (length a)) ∙ overwrite_all a
 
 -- the buffers were `a` and `b`
-pub copied_refused : (t d a b : List ℕ) {n : ℕ} → n ≡ number_of (copy_into t d (length a) (length b)) → (n ≡ 0 → ⊥)
+pub copied_refused : (t d a b : List ℕ) {n : ℕ} → refused n ≡ checked_map (λ _. tt {0}) (copy_into t d (length a) (length b))
     → (x y : List ℕ) → x ≡ overwrite a 0 (zeros (length a - 0)) → y ≡ overwrite b 0 (zeros (length b - 0))
-    → (copied.Refused n ≡ copied_of (copy_into t d (length a) (length b)))
+    → (refused n ≡ copied_of (copy_into t d (length a) (length b)))
     × (x ≡ copied_tape (length a) (copy_into t d (length a) (length b))) × (y ≡ copied_bytes (length b) (copy_into t d (length a) (length b)))
 unfolding copied_of copied_tape copied_bytes
-copied_refused t d a b e h x y p q = rw (refusal_of (copy_into t d (length a) (length b)) e h) (refl, cleared a x p, cleared b y q)
+copied_refused t d a b e x y p q = rw (was_refused (λ (s : Stored). tt {0}) (copy_into t d (length a) (length b)) e) (refl, cleared a x p, cleared b y q)
 
-pub copied_there : (t d : List ℕ) (tape bytes : ℕ) {n : ℕ} → n ≡ number_of (copy_into t d tape bytes) → AreBytes t → n ≡ 0
-    → (x y : List ℕ) → x ≡ padded tape t → y ≡ padded bytes d
-    → (copied.Copied (length t) (length d) ≡ copied_of (copy_into t d tape bytes))
+pub copied_there : (t d : List ℕ) (tape bytes : ℕ) → Copies t d tape bytes → (x y : List ℕ) → x ≡ padded tape t → y ≡ padded bytes d
+    → (accepted (record { tape = length t; bytes = length d }) ≡ copied_of (copy_into t d tape bytes))
     × (x ≡ copied_tape tape (copy_into t d tape bytes)) × (y ≡ copied_bytes bytes (copy_into t d tape bytes))
 unfolding copied_of copied_tape copied_bytes
-copied_there t d tape bytes e are z x y p q = rw (copies t d tape bytes are e z).is (refl, p, q)
+copied_there t d tape bytes c x y p q = rw c.is (refl, p, q)

@@ -1,34 +1,33 @@
-// Document 01: a book read and written again. The entry tests 1 to 7 first, then 18, and answers their number; it has no `requires`.
+// Document 01: a book read and written again. The entry tests 1 to 7 first, then 18, and is refused by their number; it has no `requires`.
 #![tactic(auto)]
 
 ghost use Rattle.std.specs.Prelude.{◌≡◌, ◌≤◌, ◌<◌, length};
-ghost use Rattle.model.specs.Refusal.{number_of};
 ghost use Rattle.model.specs.Merge.{padded};
 ghost use Rattle.model.specs.Lookup.{copied_tape, copied_bytes, copy_into};
+ghost use Rattle.refusal.specs.Refusal.{checked, checked_map};
 ghost use Rattle.copy.specs.Copying.{copied_of};
 
+use refusal::Refusal;
+
 // How many bytes of the two result buffers the copy takes.
-#[derive(Clone, Copy)]
-pub enum Copied {
-    Refused(u32),
-    Copied(usize, usize),
+#[derive(Clone, Copy, Debug, PartialEq, Eq)]
+pub struct Copied {
+    pub tape: usize,
+    pub bytes: usize,
 }
 
-// 1 to 7, then 18 for a short buffer; 0 for neither.
-fn copy_refusal(tape: &[u8], bytes: &[u8], taperoom: usize, bytesroom: usize) -> u32
-    ensures { result ≡ number_of (copy_into tape.now bytes.now taperoom bytesroom) }
+// 1 to 7, then 18 for a short buffer.
+fn check_copy(tape: &[u8], bytes: &[u8], taperoom: usize, bytesroom: usize) -> Result<(), Refusal>
+    ensures { checked result ≡ checked_map (λ _. tt) (copy_into tape.now bytes.now taperoom bytesroom) }
 {
-    let n = tape::check_book(tape, bytes);
-    if n != 0 {
-        return n;
-    }
+    tape::check_book(tape, bytes)?;
     if taperoom < tape.len() {
-        return 18;
+        return Err(Refusal::NoRoom);
     }
     if bytesroom < bytes.len() {
-        return 18;
+        return Err(Refusal::NoRoom);
     }
-    0
+    Ok(())
 }
 
 // `s` from the buffer's start on, and zeros behind it.
@@ -41,19 +40,30 @@ fn copy_padded(out: &mut [u8], s: &[u8])
 }
 
 // A book read and written again, which is the same bytes: both buffers copied, or cleared after a refusal.
-pub fn copy_book(tape: &[u8], bytes: &[u8], outtape: &mut [u8], outbytes: &mut [u8]) -> Copied
+pub fn copy_book(
+    tape: &[u8],
+    bytes: &[u8],
+    outtape: &mut [u8],
+    outbytes: &mut [u8],
+) -> Result<Copied, Refusal>
     ensures { let copy = copy_into tape.now bytes.now (length outtape.old) (length outbytes.old) in
-        (result ≡ copied_of copy)
+        (checked result ≡ copied_of copy)
         × (outtape.new ≡ copied_tape (length outtape.old) copy)
         × (outbytes.new ≡ copied_bytes (length outbytes.old) copy) }
 {
-    let n = copy_refusal(tape, bytes, outtape.len(), outbytes.len());
-    if n != 0 {
-        wire::zero_from(outtape, 0);
-        wire::zero_from(outbytes, 0);
-        return Copied::Refused(n);
+    match check_copy(tape, bytes, outtape.len(), outbytes.len()) {
+        Ok(()) => {
+            copy_padded(outtape, tape);
+            copy_padded(outbytes, bytes);
+            Ok(Copied {
+                tape: tape.len(),
+                bytes: bytes.len(),
+            })
+        }
+        Err(refusal) => {
+            wire::zero_from(outtape, 0);
+            wire::zero_from(outbytes, 0);
+            Err(refusal)
+        }
     }
-    copy_padded(outtape, tape);
-    copy_padded(outbytes, bytes);
-    Copied::Copied(tape.len(), bytes.len())
 }

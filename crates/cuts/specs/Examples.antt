@@ -1,5 +1,5 @@
 -- Cuts of small texts, by computation. A fall of a depth below 0 and a pair up to a cut stand in crate model (Traps).
-use Rattle.std.specs.Prelude.{ℕ, ◌-◌, ◌≡◌, refl, true, false, List, [], ◌∷◌}
+use Rattle.std.specs.Prelude.{ℕ, ◌≡◌, refl, true, false, List, [], ◌∷◌}
 use Rattle.model.specs.Lists.{ascii}
 use Rattle.model.specs.Types.{SourceNode}
 use Rattle.model.specs.Region.{depth_behind, depth, nodes_before, nodes_allow_cut, pairs_allow_cut, blank_line_before}

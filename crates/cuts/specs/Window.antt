@@ -1,11 +1,11 @@
 -- The reach at the offsets of a window: each pair's end is noted at the first of them behind its start; the greatest so far at each is the reach.
-use Rattle.std.specs.Prelude.{ℕ, zero, suc, ◌+◌, ◌-◌, ◌*◌, ◌/◌, ◌%◌, ◌≤◌, ◌<◌, min, max, ◌≡◌, Bool, true, false, cond, List, [], ◌∷◌, ◌++◌, length, get_or, set, take, drop, ltb, leb, eqb}
+use Rattle.std.specs.Prelude.{ℕ, zero, suc, ◌+◌, ◌-◌, ◌*◌, ◌/◌, ◌%◌, ◌≤◌, ◌<◌, min, max, ◌≡◌, cond, List, [], ◌∷◌, ◌++◌, length, get_or, set, take, ltb, leb, eqb}
 use native.Mathlib.Omega.{arith}
 use Rattle.std.proofs.Common.{mod-lt, mod-eq_of_lt, sym, ap, ◌∙◌, length-set, length-append, get_or-set_same, get_or-set_other}
 use Rattle.std.proofs.Math.Path.{refl}
 use Rattle.std.proofs.Math.ListN.{get_or-append}
 use Rattle.std.proofs.lemmas.List.{get_or-replicate, length-replicate}
-use borrow.Author.Tests.{lt-ltb, le-ltb, ltb-true, ltb-false, leb-true, leb-false, le-leb, lt-leb, eq-eqb, ne_eqb, eqb-true, eqb-false}
+use borrow.Author.Tests.{lt-ltb, le-ltb, ltb-true, ltb-false, leb-false, le-leb, lt-leb, eq-eqb, ne_eqb, eqb-true, eqb-false}
 use Rattle.model.specs.Bytes.{zeros}
 use Rattle.model.specs.Types.{PairLink}
 use Rattle.model.specs.Tape.{record_at, pair_codec}
@@ -205,40 +205,12 @@ window_filled ps (x ∷ y ∷ l) ys zs from size h e r d m s q = rw (q, s) (
   refl,
 )
 
--- which word has the reach at an offset, 0 if none
-unfoldable pub word_of : ℕ → ℕ → ℕ → ℕ
-word_of from size o = cond (ltb o from) 0 (cond (leb size (o - from)) 0 (2 + (o - from)))
-
-module _ (from size o : ℕ) where
-  pub word_before : o < from → 0 ≡ word_of from size o
-  unfolding word_of
-  word_before h = rw (lt-ltb o from h) refl
-
-  pub word_behind : from ≤ o → size ≤ o - from → 0 ≡ word_of from size o
-  unfolding word_of
-  word_behind h g = rw (le-ltb o from h, le-leb size (o - from) g) refl
-
-  pub word_inside : from ≤ o → o - from < size → 2 + (o - from) ≡ word_of from size o
-  unfolding word_of
-  word_inside h g = rw (le-ltb o from h, lt-leb size (o - from) g) refl
-
-  word_found : 0 < word_of from size o → (from ≤ o) × (o - from < size) × (word_of from size o ≡ 2 + (o - from))
-  word_found h =
-      by_bool (ltb o from)
-      (λ e. absurd (omega (arith, word_before (ltb-true o from e))))
-      (λ e.
-      let a = ltb-false o from e in
-      by_bool (leb size (o - from))
-      (λ f. absurd (omega (arith, word_behind a (leb-true size (o - from) f))))
-      (λ f. let b = leb-false size (o - from) f in (a, omega arith, sym (word_inside a (omega arith)))))
-
 module _ {ps : List PairLink} {l : List ℕ} (w : Window ps l) (o : ℕ) where
-  pub window_word : (k : ℕ) → k ≡ word_of (get_or l 0 0) (get_or l 1 0) o → 0 < k → (k < length l) × (get_or l k 0 ≡ reach ps o)
-  window_word k q h =
+  -- the word that has the reach at an offset
+  pub window_word : (k : ℕ) → (get_or l 0 0 ≤ o) × (o - get_or l 0 0 < get_or l 1 0) → k ≡ 2 + (o - get_or l 0 0) → (k < length l) × (get_or l k 0 ≡ reach ps o)
+  window_word k f s =
       let from = get_or l 0 0 in
-      let f = word_found from (get_or l 1 0) o (omega (arith, q)) in
       let v = w.at (o - from) f.1 in
-      let s : k ≡ 2 + (o - from) = q ∙ f.2 in
       let t : from + (o - from) ≡ o = omega (arith, f.0) in
       (omega (arith, v.0), ap (λ (x : ℕ). get_or l x 0) s ∙ v.1 ∙ ap (reach ps) t)
 

@@ -2,15 +2,15 @@
 // answers by a walk over the nodes and one over the pairs.
 #![tactic(auto)]
 
-ghost use Rattle.std.specs.Prelude.{◌≡◌, cond, ◌+◌, ◌-◌, ◌*◌, ◌≤◌, ◌<◌, max, min, List, length, get_or, set};
+ghost use Rattle.std.specs.Prelude.{◌≡◌, SomeIff, cond, ◌+◌, ◌-◌, ◌*◌, ◌≤◌, ◌<◌, max, min, List, length, get_or, set};
 ghost use Rattle.model.specs.Types.{PairLink};
 ghost use Rattle.model.specs.Tape.{record_at, node_codec, pair_codec};
 ghost use Rattle.model.specs.Region.{blank_line_before, is_block_open, is_block_close, is_directive, is_warichu_open, is_warichu_close, depth_behind};
 ghost use Rattle.model.specs.Region.{nodes_allow_cut, pairs_allow_cut};
 ghost use Rattle.bounds.specs.Search.{InOrder};
-ghost use Rattle.cuts.specs.Safe.{safe_cut_in};
+ghost use Rattle.cuts.specs.Safe.{cut_allowed, safe_cut_in};
 ghost use Rattle.cuts.specs.Pairs.{reach_of, reach, pairs_of};
-ghost use Rattle.cuts.specs.Window.{noted, Noted, Risen, Reaches, Window, word_of, next_size};
+ghost use Rattle.cuts.specs.Window.{noted, Noted, Risen, Reaches, Window, next_size};
 ghost use Rattle.cuts.specs.Gaps.{depths_zero, nodes_of};
 ghost use Rattle.cuts.specs.Gaps.{closes_nothing};
 
@@ -19,13 +19,7 @@ pub fn blank_line_before(text: &[u8], o: usize) -> bool
     requires { o ≤ length text.now }
     ensures { result ≡ blank_line_before text.now o }
 {
-    if o < 2 {
-        return false;
-    }
-    if text[o - 2] != 10 {
-        return false;
-    }
-    text[o - 1] == 10
+    2 <= o && text[o - 2] == b'\n' && text[o - 1] == b'\n'
 }
 
 // What a node is, and the depth behind it; a fall below 0 counts as 0.
@@ -48,13 +42,7 @@ fn is_directive(tape: &[u8], at: usize, kind: u8) -> bool
     requires { at + 49 ≤ length tape.now }
     ensures { result ≡ is_directive kind (record_at node_codec tape.now at) }
 {
-    if 2 <= tape[at + 1] {
-        return false;
-    }
-    if tape[at + 15] != 13 {
-        return false;
-    }
-    tape[at + 16] == kind
+    tape[at + 1] < 2 && tape[at + 15] == 13 && tape[at + 16] == kind
 }
 
 pub fn is_warichu_open(tape: &[u8], at: usize) -> bool
@@ -77,15 +65,12 @@ pub fn depth_behind(opens: bool, closes: bool, depth: usize) -> usize
     ensures { result ≡ cond opens (depth + 1) (cond closes (depth - 1) depth) }
 {
     if opens {
-        return depth + 1;
+        depth + 1
+    } else if closes {
+        depth.saturating_sub(1)
+    } else {
+        depth
     }
-    if !closes {
-        return depth;
-    }
-    if depth == 0 {
-        return 0;
-    }
-    depth - 1
 }
 
 pub fn block_depth(tape: &[u8], at: usize, depth: usize) -> usize
@@ -116,23 +101,11 @@ fn pair_end(tape: &[u8], at: usize) -> u32
     wire::u32_at(tape, at + 14)
 }
 
-fn greatest(a: u32, b: u32) -> u32
-    ensures { result ≡ max a b }
-{
-    if a < b {
-        return b;
-    }
-    a
-}
-
 // What a pair adds to the reach at an offset: its end, if it starts before.
 fn reach_of(start: u32, end: u32, o: usize) -> u32
     ensures { result ≡ reach_of start end o }
 {
-    if (start as usize) < o {
-        return end;
-    }
-    0
+    if (start as usize) < o { end } else { 0 }
 }
 
 // How far the pairs reach that start before an offset: the greatest end.
@@ -145,7 +118,7 @@ pub fn reach(tape: &[u8], pairs: places::Run, o: usize) -> u32
     while 0 < i {
         i -= 1;
         let p = pairs.at + 18 * i;
-        far = greatest(far, reach_of(pair_start(tape, p), pair_end(tape, p), o));
+        far = far.max(reach_of(pair_start(tape, p), pair_end(tape, p), o));
     }
     far
 }
@@ -161,10 +134,7 @@ pub fn pairs_allow_cut(tape: &[u8], pairs: places::Run, o: usize) -> bool
 pub fn depths_zero(blocks: usize, warichu: usize) -> bool
     ensures { result ≡ depths_zero blocks warichu }
 {
-    if blocks != 0 {
-        return false;
-    }
-    warichu == 0
+    blocks == 0 && warichu == 0
 }
 
 // Section 6. No node across; block and warichu depths 0 (falls below 0 count as 0).
@@ -175,8 +145,7 @@ pub fn nodes_allow_cut(tape: &[u8], nodes: places::Run, o: usize) -> bool
 {
     let mut blocks: usize = 0;
     let mut warichu: usize = 0;
-    let mut i = 0;
-    while i < nodes.count {
+    for i in 0..nodes.count {
         let p = nodes.at + 49 * i;
         if o <= records::node_start(tape, p) as usize {
             return depths_zero(blocks, warichu);
@@ -186,9 +155,17 @@ pub fn nodes_allow_cut(tape: &[u8], nodes: places::Run, o: usize) -> bool
         }
         blocks = block_depth(tape, p, blocks);
         warichu = warichu_depth(tape, p, warichu);
-        i += 1;
     }
     depths_zero(blocks, warichu)
+}
+
+// Text, nodes and pairs allow a cut.
+fn cut_allowed(tape: &[u8], text: &[u8], nodes: places::Run, pairs: places::Run, o: usize) -> bool
+    requires count_in_bounds { (nodes.at + 49 * nodes.count ≤ length tape.now) × (pairs.at + 18 * pairs.count ≤ length tape.now) × (o ≤ length text.now) }
+    requires in_order { InOrder (nodes_of tape.now nodes) }
+    ensures { result ≡ cut_allowed text.now (nodes_of tape.now nodes) (pairs_of tape.now pairs) o }
+{
+    blank_line_before(text, o) && nodes_allow_cut(tape, nodes, o) && pairs_allow_cut(tape, pairs, o)
 }
 
 // Section 6. `safe_cut`: 0 and the length always; elsewhere text, nodes and pairs allow it.
@@ -197,28 +174,13 @@ pub fn safe_cut(tape: &[u8], text: &[u8], nodes: places::Run, pairs: places::Run
     requires in_order { InOrder (nodes_of tape.now nodes) }
     ensures { result ≡ safe_cut_in text.now (nodes_of tape.now nodes) (pairs_of tape.now pairs) o }
 {
-    if o == 0 {
-        return true;
-    }
-    if o == text.len() {
-        return true;
-    }
-    if !blank_line_before(text, o) {
-        return false;
-    }
-    if !nodes_allow_cut(tape, nodes, o) {
-        return false;
-    }
-    pairs_allow_cut(tape, pairs, o)
+    o == 0 || o == text.len() || cut_allowed(tape, text, nodes, pairs, o)
 }
 
 pub fn closes_nothing(closes: bool, depth: usize) -> bool
     ensures { result ≡ closes_nothing closes depth }
 {
-    if !closes {
-        return false;
-    }
-    depth == 0
+    closes && depth == 0
 }
 
 // The reach at many offsets: one walk over the pairs fills a window. Word 0 has its first offset, word 1 how many offsets it has,
@@ -229,10 +191,7 @@ fn slot_of(from: usize, start: u32) -> usize
     requires { from < 4294967296 }
     ensures { result ≡ start + 1 - from }
 {
-    if (start as usize) < from {
-        return 0;
-    }
-    start as usize + 1 - from
+    (start as usize + 1).saturating_sub(from)
 }
 
 fn note(slots: &mut [u32], from: usize, start: u32, end: u32)
@@ -240,11 +199,9 @@ fn note(slots: &mut [u32], from: usize, start: u32, end: u32)
     ensures { slots.new ≡ noted slots.old from start end }
 {
     let k = slot_of(from, start);
-    if slots.len() <= k {
-        return;
+    if k < slots.len() {
+        slots[k] = slots[k].max(end);
     }
-    let was = slots[k];
-    slots[k] = greatest(was, end);
 }
 
 // Each pair's end at the first offset behind its start, the greatest where several are.
@@ -266,11 +223,9 @@ fn run_up(slots: &mut [u32])
     ensures { Risen slots.old slots.new }
 {
     let mut far: u32 = 0;
-    let mut k = 0;
-    while k < slots.len() {
-        far = greatest(far, slots[k]);
-        slots[k] = far;
-        k += 1;
+    for slot in slots.iter_mut() {
+        far = far.max(*slot);
+        *slot = far;
     }
 }
 
@@ -303,22 +258,18 @@ fn next_size(room: usize, size: u32) -> usize
     ensures { result ≡ next_size room size }
 {
     if room / 16 <= size as usize {
-        return room;
+        room
+    } else {
+        16 * (size as usize) + 1
     }
-    16 * (size as usize) + 1
 }
 
-// Which word has the reach at an offset, 0 if none.
-fn word_of(from: u32, size: u32, o: usize) -> usize
-    ensures { result ≡ word_of from size o }
+// Which word has the reach at an offset, if one has.
+fn word_of(from: u32, size: u32, o: usize) -> Option<usize>
+    ensures { SomeIff result ((from ≤ o) × (o - from < size)) (2 + (o - from)) }
 {
-    if o < from as usize {
-        return 0;
-    }
-    if size as usize <= o - (from as usize) {
-        return 0;
-    }
-    2 + (o - (from as usize))
+    let k = o.checked_sub(from as usize)?;
+    if k < size as usize { Some(2 + k) } else { None }
 }
 
 // No more offsets than a word can count.
@@ -326,10 +277,7 @@ fn room_in(len: usize) -> usize
     requires { 3 ≤ len }
     ensures { result ≡ min (len - 2) 16777216 }
 {
-    if 16777218 < len {
-        return 16777216;
-    }
-    len - 2
+    (len - 2).min(16777216)
 }
 
 // The reach at an offset, by a new window with that offset in it. Windows begin at multiples of their size, to serve both ways.
@@ -351,26 +299,21 @@ pub fn reach_at(tape: &[u8], pairs: places::Run, o: usize, words: &mut [u32]) ->
     ensures value { result ≡ reach (pairs_of tape.now pairs) o }
     ensures window_2 { Window (pairs_of tape.now pairs) words.new }
 {
-    if words.len() < 3 {
-        return reach(tape, pairs, o);
-    }
-    if 4294967295 < o {
+    if words.len() < 3 || 4294967295 < o {
         return reach(tape, pairs, o);
     }
     let size = words[1];
-    let k = word_of(words[0], size, o);
-    if 0 < k {
-        return words[k];
+    match word_of(words[0], size, o) {
+        Some(k) => words[k],
+        None => refill(tape, pairs, o, words, size),
     }
-    refill(tape, pairs, o, words, size)
 }
 
 // No window yet.
 pub fn no_window(words: &mut [u32])
     ensures { (ps : List PairLink) → Window ps words.new }
 {
-    if words.len() < 2 {
-        return;
+    if 2 <= words.len() {
+        words[1] = 0;
     }
-    words[1] = 0;
 }

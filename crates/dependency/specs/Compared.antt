@@ -1,13 +1,12 @@
 -- A string of the store compared with other bytes, lengths first; and each return of the code above it.
-use Rattle.std.specs.Prelude.{◌≡◌, ℕ, suc, ◌+◌, ◌*◌, ◌<◌, Bool, true, false, ◌&&◌, List, ◌++◌, length, drop, ◌≢◌, slice_index}
+use Rattle.std.specs.Prelude.{Option, Some, None, ◌≡◌, ℕ, suc, ◌<◌, Bool, true, false, List, ◌++◌, length, drop, ◌≢◌, slice_index}
 use Rattle.std.proofs.Math.Path.{refl, ap}
 use Rattle.std.proofs.Common.{sym, ◌∙◌, arith, length-append, length-drop, length-take-le}
-use Rattle.std.proofs.Math.Option.{none, some}
 use Rattle.model.specs.Lists.{any, same}
 use Rattle.model.specs.Types.{SourceNode}
 use Rattle.model.specs.Store.{NodeStore, resolve_str}
-use Rattle.model.specs.Tape.{record_at, records_at, node_codec, string_codec}
-use Rattle.model.specs.Region.{is_ruby, first_plain}
+use Rattle.model.specs.Tape.{record_at, node_codec, string_codec}
+use Rattle.model.specs.Region.{is_ruby}
 use Rattle.laws.specs.Lists.{same_eq}
 use Rattle.wire.specs.Loops.{by_bool}
 use Rattle.store.specs.declared.Store.{Store}
@@ -16,10 +15,7 @@ use Rattle.store.specs.Standing.{string_place, length_at, string_at_lem}
 use Rattle.strings.specs.Starts.{lengths_in, start_in, store_in}
 use Rattle.strings.specs.Shown.{TwoSides, Resolvable}
 use Rattle.strings.specs.PlainContent.{plain_of, plain_string}
-use Rattle.strings.specs.declared.Plain.{Plain}
-use Rattle.strings.specs.declared.Plain.TheVariants.{Id, Nothing}
-use Rattle.ruby_formats.specs.Asks.{asks_target}
-use Rattle.dependency.specs.Bases.{is_plain, has_base, among_bases, refers_back, refers_at}
+use Rattle.dependency.specs.Bases.{is_plain, has_base, among_bases}
 use Rattle.ruby_formats.specs.Sound.{SoundNode, first_contents, plain_first}
 
 -- ---- a string and bytes
@@ -47,11 +43,11 @@ other_length {t} {st} {words} {old} {new} r id h s e d =
 -- ---- an answer and bytes
 
 module _ (t : List ℕ) (b s : List ℕ) where
-  pub plain_some : (id : ℕ) {r : Plain} → r ≡ Id id → {x : Bool} → x ≡ same s (resolve_str (store_in t b) id) → x ≡ is_plain s (plain_string (store_in t b) r)
+  pub plain_some : (id : ℕ) {r : Option ℕ} → r ≡ Some id → {x : Bool} → x ≡ same s (resolve_str (store_in t b) id) → x ≡ is_plain s (plain_string (store_in t b) r)
   unfolding is_plain plain_string
   plain_some id e q = rw e q
 
-  pub plain_none : {r : Plain} → r ≡ Nothing → false ≡ is_plain s (plain_string (store_in t b) r)
+  pub plain_none : {r : Option ℕ} → r ≡ None → false ≡ is_plain s (plain_string (store_in t b) r)
   unfolding is_plain plain_string
   plain_none e = rw e refl
 
@@ -63,7 +59,7 @@ module _ {t : List ℕ} {st : Store} {words old new : List ℕ} {p : ℕ} (n : S
     unfolding has_base
     base_other h = rw (← e, h) refl
 
-    pub base_ruby : x ≡ true → {r : Plain} → ((b : List ℕ) → r ≡ plain_of (first_contents t p b)) → {y : Bool} → y ≡ is_plain s (plain_string (store_in t (old ++ new)) r)
+    pub base_ruby : x ≡ true → {r : Option ℕ} → ((b : List ℕ) → r ≡ plain_of (first_contents t p b)) → {y : Bool} → y ≡ is_plain s (plain_string (store_in t (old ++ new)) r)
         → y ≡ has_base (store_in t (old ++ new)) s (record_at node_codec t p)
     unfolding has_base
     base_ruby h g q = rw (← e, h) (q ∙ ap (is_plain s) (sym (plain_first n g)))
@@ -71,11 +67,11 @@ module _ {t : List ℕ} {st : Store} {words old new : List ℕ} {p : ℕ} (n : S
 -- ---- the target of a Format, whose string may stand in another store
 
 module _ (st other : NodeStore) (ns : List SourceNode) where
-  pub target_some : (id : ℕ) {r : Plain} → r ≡ Id id → {s : List ℕ} → s ≡ resolve_str other id → {x : Bool} → x ≡ any (has_base st s) ns
+  pub target_some : (id : ℕ) {r : Option ℕ} → r ≡ Some id → {s : List ℕ} → s ≡ resolve_str other id → {x : Bool} → x ≡ any (has_base st s) ns
       → x ≡ among_bases st ns (plain_string other r)
   unfolding among_bases plain_string
   target_some id e f q = rw (e, ← f) q
 
-  pub target_none : {r : Plain} → r ≡ Nothing → false ≡ among_bases st ns (plain_string other r)
+  pub target_none : {r : Option ℕ} → r ≡ None → false ≡ among_bases st ns (plain_string other r)
   unfolding among_bases plain_string
   target_none e = rw e refl

@@ -1,12 +1,12 @@
 -- The bases of the Rubies passed, in a Bloom filter: each base is found in it, so that a string which is not found is no base.
-use Rattle.std.specs.Prelude.{◌≡◌, ℕ, ◌+◌, ◌-◌, ◌*◌, ◌%◌, ◌^◌, ◌<◌, ◌≤◌, Bool, true, false, cond, ◌||◌, List, [], ◌∷◌, ◌++◌, length, take, nat_le}
+use Rattle.std.specs.Prelude.{Option, Some, None, ◌≡◌, ℕ, ◌+◌, ◌-◌, ◌*◌, ◌%◌, ◌^◌, ◌<◌, ◌≤◌, Bool, true, false, cond, ◌||◌, List, [], ◌∷◌, ◌++◌, length, take, nat_le}
 use Rattle.std.proofs.Math.Path.{refl, ap}
 use Rattle.std.proofs.Common.{sym, ◌∙◌, le-leb}
 use native.Mathlib.Omega.{arith}
 use Rattle.std.proofs.Math.Numerals.{add-one}
 use Rattle.std.proofs.Math.Nat.{sub-zero}
 use Rattle.std.proofs.lemmas.Bool.{false≢true, lt-leb}
-use Rattle.std.proofs.Math.Option.{Option, none, some}
+use Rattle.std.proofs.Math.Option.{Option as ModelOption, none, some}
 use Rattle.model.specs.Lists.{any}
 use Rattle.model.specs.Types.{SourceNode}
 use Rattle.model.specs.Store.{NodeStore, resolve_str}
@@ -19,8 +19,6 @@ use Rattle.wire.specs.Loops.{by_bool, tabulate_last}
 use Rattle.store.specs.declared.Store.{Store}
 use Rattle.strings.specs.Starts.{store_in}
 use Rattle.strings.specs.PlainContent.{plain_of, plain_string}
-use Rattle.strings.specs.declared.Plain.{Plain}
-use Rattle.strings.specs.declared.Plain.TheVariants.{Id, Nothing}
 use Rattle.bloom.specs.Filter.{may_contain, inserted, inserted_own, inserted_kept, inserted_front}
 pub use Rattle.sorted_ids.specs.Row.{first_words}
 use Rattle.dependency.specs.Bases.{is_plain, has_base, any_snoc}
@@ -44,7 +42,7 @@ module _ (s : List ℕ) where
       rw (lt-leb (length s) 64 l, e₂, e₁, q₁, q₂, p₁, p₂, k) refl
 
 -- a string inserted; None is not
-unfoldable pub inserted_plain : List ℕ → ℕ → Option (List ℕ) → List ℕ
+unfoldable pub inserted_plain : List ℕ → ℕ → ModelOption (List ℕ) → List ℕ
 inserted_plain words base none = words
 inserted_plain words base (some s) = inserted words base (filter_key s)
 
@@ -58,18 +56,18 @@ pub record Noted (st : NodeStore) (ns : List SourceNode) (words : List ℕ) (bas
 
 -- ---- one base more
 
-plain_own : (words : List ℕ) (base : ℕ) (s : List ℕ) (p : Option (List ℕ)) → is_plain s p ≡ true → may_contain (inserted_plain words base p) base (filter_key s) ≡ true
+plain_own : (words : List ℕ) (base : ℕ) (s : List ℕ) (p : ModelOption (List ℕ)) → is_plain s p ≡ true → may_contain (inserted_plain words base p) base (filter_key s) ≡ true
 unfolding is_plain inserted_plain
 plain_own words base s none e = absurd (false≢true e)
 plain_own words base s (some x) e =
     ap (λ (y : List ℕ). may_contain (inserted words base (filter_key x)) base (filter_key y)) (same_eq s x e) ∙ inserted_own words base (filter_key x)
 
-plain_kept : (words : List ℕ) (base h : ℕ) (p : Option (List ℕ)) → may_contain words base h ≡ true → may_contain (inserted_plain words base p) base h ≡ true
+plain_kept : (words : List ℕ) (base h : ℕ) (p : ModelOption (List ℕ)) → may_contain words base h ≡ true → may_contain (inserted_plain words base p) base h ≡ true
 unfolding inserted_plain
 plain_kept words base h none e = e
 plain_kept words base h (some x) e = inserted_kept words base (filter_key x) h e
 
-plain_front : (words : List ℕ) (base : ℕ) (p : Option (List ℕ)) → take base (inserted_plain words base p) ≡ take base words
+plain_front : (words : List ℕ) (base : ℕ) (p : ModelOption (List ℕ)) → take base (inserted_plain words base p) ≡ take base words
 unfolding inserted_plain
 plain_front words base none = refl
 plain_front words base (some x) = inserted_front words base (filter_key x)
@@ -128,12 +126,12 @@ base_absent {st} {ns} {words} {base} m s e q f =
     (λ r. sym r)
 
 module _ (st : NodeStore) (words : List ℕ) (base : ℕ) where
-  pub insert_some : (id : ℕ) {r : Plain} → r ≡ Id id → {s : List ℕ} → s ≡ resolve_str st id → {h : ℕ} → h ≡ filter_key s → {after : List ℕ} → after ≡ inserted words base h
+  pub insert_some : (id : ℕ) {r : Option ℕ} → r ≡ Some id → {s : List ℕ} → s ≡ resolve_str st id → {h : ℕ} → h ≡ filter_key s → {after : List ℕ} → after ≡ inserted words base h
       → after ≡ inserted_plain words base (plain_string st r)
   unfolding inserted_plain plain_string
   insert_some id e f g q = rw e (q ∙ ap (inserted words base) (g ∙ ap filter_key f))
 
-  pub insert_none : {r : Plain} → r ≡ Nothing → words ≡ inserted_plain words base (plain_string st r)
+  pub insert_none : {r : Option ℕ} → r ≡ None → words ≡ inserted_plain words base (plain_string st r)
   unfolding inserted_plain plain_string
   insert_none e = rw e refl
 
@@ -142,7 +140,7 @@ module _ {t : List ℕ} {st : Store} {index old new : List ℕ} (words : List �
   unfolding noted_by
   note_other h = rw (← e, h) refl
 
-  pub note_ruby : x ≡ true → {r : Plain} → ((b : List ℕ) → r ≡ plain_of (first_contents t p b)) → {after : List ℕ}
+  pub note_ruby : x ≡ true → {r : Option ℕ} → ((b : List ℕ) → r ≡ plain_of (first_contents t p b)) → {after : List ℕ}
       → after ≡ inserted_plain words base (plain_string (store_in t (old ++ new)) r) → after ≡ noted_by (store_in t (old ++ new)) words base (record_at node_codec t p)
   unfolding noted_by
   note_ruby h g q = rw (← e, h) (q ∙ ap (inserted_plain words base) (sym (plain_first n g)))

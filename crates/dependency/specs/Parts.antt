@@ -1,11 +1,11 @@
 -- Number 10 in parts of the nodes, so that the filter is never crowded: a target is compared with the bases of one part, in one walk
 -- for each part. What refers to none of the first nodes and to none of the next refers to none of both.
-use Rattle.std.specs.Prelude.{◌≡◌, ℕ, ◌+◌, ◌-◌, ◌*◌, ◌<◌, ◌≤◌, min, Bool, true, false, ◌&&◌, ◌||◌, List, [], ◌∷◌, ◌++◌, length, take, drop, nat_lt, refl}
+use Rattle.std.specs.Prelude.{Option, ◌≡◌, ℕ, ◌+◌, ◌-◌, ◌*◌, ◌<◌, ◌≤◌, min, Bool, true, false, ◌&&◌, ◌||◌, List, [], ◌∷◌, ◌++◌, length, take, drop, nat_lt, refl}
 use Rattle.std.proofs.Math.Path.{sym, ap}
 use Rattle.std.proofs.Common.{ap₂, ◌∙◌, true≢false, ltb-true, ltb-false}
 use native.Mathlib.Omega.{arith}
 use Rattle.std.proofs.Math.Bool.{and-false}
-use Rattle.std.proofs.Math.Option.{Option, none, some}
+use Rattle.std.proofs.Math.Option.{Option as ModelOption, none, some}
 use Rattle.model.specs.Types.{SourceNode}
 use Rattle.model.specs.Store.{NodeStore}
 use Rattle.model.specs.Tape.{record_at, records_at, node_codec}
@@ -19,7 +19,6 @@ use Rattle.wire.specs.Overwrite.{overwrite}
 use Rattle.strings.specs.Starts.{store_in, lengths_in}
 use Rattle.strings.specs.Index.{index_in}
 use Rattle.strings.specs.PlainContent.{plain_of, plain_string}
-use Rattle.strings.specs.declared.Plain.{Plain}
 use Rattle.sorted_ids.specs.Row.{any_false}
 use Rattle.sorted_ids.specs.Words.{resolvable_own}
 use Rattle.ruby_formats.specs.Asks.{asks_target}
@@ -144,7 +143,7 @@ module _ {t : List ℕ} {st : Store} {words old new : List ℕ} (at i n from : �
   unfolding refers_back
   refers_other h = sym (here ∙ rw (← e, h) refl)
 
-  pub refers_target : x ≡ true → {r : Plain} → ((b : List ℕ) → r ≡ plain_of (first_contents t p b)) → {k : ℕ} → k ≡ min n i
+  pub refers_target : x ≡ true → {r : Option ℕ} → ((b : List ℕ) → r ≡ plain_of (first_contents t p b)) → {k : ℕ} → k ≡ min n i
       → {y : Bool} → y ≡ among_bases (store_in t (old ++ new)) (records_at node_codec t at k) (plain_string (store_in t (old ++ new)) r)
       → y ≡ refers_among (store_in t (old ++ new)) from t at n i
   unfolding refers_back
@@ -159,7 +158,7 @@ base_none st s [] e = refl
 base_none st s (n ∷ ns) e =
     ap₂ (λ (a b : Bool). (a && is_plain s (first_plain st n)) || b) (neither (is_ruby n) (any is_ruby ns) e).0 (base_none st s ns (neither (is_ruby n) (any is_ruby ns) e).1)
 
-among_none_of : (st : NodeStore) (ns : List SourceNode) (p : Option (List ℕ)) → any is_ruby ns ≡ false → among_bases st ns p ≡ false
+among_none_of : (st : NodeStore) (ns : List SourceNode) (p : ModelOption (List ℕ)) → any is_ruby ns ≡ false → among_bases st ns p ≡ false
 unfolding among_bases
 among_none_of st ns none e = refl
 among_none_of st ns (some s) e = base_none st s ns e

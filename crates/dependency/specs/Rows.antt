@@ -1,8 +1,8 @@
 -- The bases of the Rubies passed, in a row of ids: a string is a base exactly if the row has it. It serves where the filter is crowded.
-use Rattle.std.specs.Prelude.{◌≡◌, ℕ, ◌+◌, ◌*◌, ◌<◌, ◌≤◌, min, Bool, true, false, ◌&&◌, ◌||◌, List, ◌++◌, length, ◌==◌, ◌≢◌}
+use Rattle.std.specs.Prelude.{Option, Some, None, ◌≡◌, ℕ, ◌+◌, ◌*◌, ◌<◌, ◌≤◌, min, Bool, true, false, ◌&&◌, ◌||◌, List, ◌++◌, length, ◌≢◌}
 use Rattle.std.proofs.Math.Path.{refl, sym, ap}
 use Rattle.std.proofs.Common.{ap₂, ◌∙◌, arith, add-one}
-use Rattle.std.proofs.Math.Option.{Option, none, some}
+use Rattle.std.proofs.Math.Option.{Option as ModelOption, none, some}
 use Rattle.model.specs.Lists.{any}
 use Rattle.model.specs.Types.{SourceNode}
 use Rattle.model.specs.Store.{NodeStore, resolve_str}
@@ -12,38 +12,47 @@ use Rattle.wire.specs.Loops.{any_up_to, tabulate_last}
 use Rattle.store.specs.declared.Store.{Store}
 use Rattle.strings.specs.Starts.{store_in}
 use Rattle.strings.specs.PlainContent.{plain_of, plain_string}
-use Rattle.strings.specs.declared.Plain.{Plain}
-use Rattle.strings.specs.declared.Plain.TheVariants.{Id, Nothing}
 use Rattle.sorted_ids.specs.Row.{Row, holds_at, is_string, Inserted, inserted_none, inserted_as}
 use Rattle.ruby_formats.specs.Asks.{asks_target}
 use Rattle.dependency.specs.Bases.{is_plain, has_base, among_bases, refers_back, any_snoc}
 use Rattle.ruby_formats.specs.Sound.{SoundNode, first_contents, plain_first}
 use Rattle.dependency.specs.Parts.{refers_among}
+use Rattle.dependency.specs.declared.Answer.{Answer}
+use Rattle.dependency.specs.declared.Answer.TheVariants.{Yes, No, InVain, Unknown}
 
--- ---- an answer that may be 2 for not known
+-- ---- an answer that may be not known
 
-pub record Told (r : ℕ) (x : Bool) : Type 0 where
-  pub told : (r ≢ 2) → (r == 1) ≡ x
+abbrev pub is_yes : Answer → Bool
+is_yes Yes = true
+is_yes No = false
+is_yes InVain = false
+is_yes Unknown = false
 
-pub told_yes : {x : Bool} → x ≡ true → Told 1 x
-told_yes e = record { told = λ d. sym e }
+pub record Told (r : Answer) (x : Bool) : Type 0 where
+  pub told : (r ≢ Unknown) → is_yes r ≡ x
 
-pub told_no : {x : Bool} → x ≡ false → Told 0 x
-told_no e = record { told = λ d. sym e }
+pub told_is : (r : Answer) {x : Bool} → is_yes r ≡ x → Told r x
+told_is r e = record { told = λ d. e }
 
-pub told_not : {x : Bool} → Told 2 x
+pub told_not : {x : Bool} → Told Unknown x
 told_not = record { told = λ d. absurd (d refl) }
 
-pub told_is : {r : ℕ} {x : Bool} → (r == 1) ≡ x → Told r x
-told_is e = record { told = λ d. e }
-
-pub told_as : {r : ℕ} {x y : Bool} → Told r x → x ≡ y → Told r y
+pub told_as : {r : Answer} {x y : Bool} → Told r x → x ≡ y → Told r y
 told_as t e = record { told = λ d. t.told d ∙ e }
+
+pub yes_told : {x : Bool} → Told Yes x → true ≡ x
+yes_told t = t.told (λ e. cc)
+
+pub no_told : {x : Bool} → Told No x → false ≡ x
+no_told t = t.told (λ e. cc)
+
+pub vain_told : {x : Bool} → Told InVain x → false ≡ x
+vain_told t = t.told (λ e. cc)
 
 -- ---- what is put in
 
 -- is it this string? None is not
-unfoldable pub is_one : Option (List ℕ) → List ℕ → Bool
+unfoldable pub is_one : ModelOption (List ℕ) → List ℕ → Bool
 is_one p s = is_plain s p
 
 -- is it the plain base of this node?
@@ -51,12 +60,12 @@ unfoldable pub is_base_of : NodeStore → SourceNode → List ℕ → Bool
 is_base_of st n s = has_base st s n
 
 module _ {st : NodeStore} {ids : ℕ} {words : List ℕ} {base m : ℕ} where
-  pub row_some : (id : ℕ) {r : Plain} → r ≡ Id id → {after : List ℕ} {n : ℕ} → Inserted st ids (is_string st id) words base m after n
+  pub row_some : (id : ℕ) {r : Option ℕ} → r ≡ Some id → {after : List ℕ} {n : ℕ} → Inserted st ids (is_string st id) words base m after n
       → Inserted st ids (is_one (plain_string st r)) words base m after n
   unfolding is_string is_one plain_string is_plain
   row_some id e i = rw e (inserted_as i (is_one (some (resolve_str st id))) (λ s. refl))
 
-  pub row_none : Row st ids words base m → {r : Plain} → r ≡ Nothing → Inserted st ids (is_one (plain_string st r)) words base m words m
+  pub row_none : Row st ids words base m → {r : Option ℕ} → r ≡ None → Inserted st ids (is_one (plain_string st r)) words base m words m
   unfolding is_one plain_string is_plain
   row_none row e = rw e (inserted_none row (is_one none) (λ s. refl))
 
@@ -69,13 +78,13 @@ module _ {t : List ℕ} {st : Store} {index old new : List ℕ} {p : ℕ} (k : S
       inserted_none row (is_base_of (store_in t (old ++ new)) (record_at node_codec t p))
       (λ s. ap (λ (b : Bool). b && is_plain s (first_plain (store_in t (old ++ new)) (record_at node_codec t p))) (sym e ∙ h))
 
-  pub row_ruby : x ≡ true → {r : Plain} → ((b : List ℕ) → r ≡ plain_of (first_contents t p b)) → {after : List ℕ} {n : ℕ}
+  pub row_ruby : x ≡ true → {r : Option ℕ} → ((b : List ℕ) → r ≡ plain_of (first_contents t p b)) → {after : List ℕ} {n : ℕ}
       → Inserted (store_in t (old ++ new)) ids (is_one (plain_string (store_in t (old ++ new)) r)) words base m after n
       → Inserted (store_in t (old ++ new)) ids (is_base_of (store_in t (old ++ new)) (record_at node_codec t p)) words base m after n
   unfolding is_base_of has_base is_one
   row_ruby h {r} f i =
       inserted_as i (is_base_of (store_in t (old ++ new)) (record_at node_codec t p))
-      (λ s. sym (ap₂ (λ (b : Bool) (o : Option (List ℕ)). b && is_plain s o) (sym e ∙ h) (plain_first k f)))
+      (λ s. sym (ap₂ (λ (b : Bool) (o : ModelOption (List ℕ)). b && is_plain s o) (sym e ∙ h) (plain_first k f)))
 
 -- ---- a row of the bases of some nodes
 
@@ -119,23 +128,23 @@ module _ (st : NodeStore) (ids : ℕ) (t : List ℕ) (at : ℕ) where
 
 -- ---- a target among them
 
-unfoldable pub among_row : NodeStore → List ℕ → ℕ → ℕ → Option (List ℕ) → Bool
+unfoldable pub among_row : NodeStore → List ℕ → ℕ → ℕ → ModelOption (List ℕ) → Bool
 among_row st words base m none = false
 among_row st words base m (some s) = any_up_to m (holds_at st s words base)
 
-pub among_row_lem : {st : NodeStore} {ids : ℕ} {ns : List SourceNode} {words : List ℕ} {base m : ℕ} → Rowed st ids ns words base m → (p : Option (List ℕ))
+pub among_row_lem : {st : NodeStore} {ids : ℕ} {ns : List SourceNode} {words : List ℕ} {base m : ℕ} → Rowed st ids ns words base m → (p : ModelOption (List ℕ))
     → among_row st words base m p ≡ among_bases st ns p
 unfolding among_row among_bases
 among_row_lem r none = refl
 among_row_lem r (some s) = sym (r.holds s)
 
 module _ (st other : NodeStore) (words : List ℕ) (base m : ℕ) where
-  pub among_some : (id : ℕ) {r : Plain} → r ≡ Id id → {s : List ℕ} → s ≡ resolve_str other id → {x : Bool} → x ≡ any_up_to m (holds_at st s words base)
+  pub among_some : (id : ℕ) {r : Option ℕ} → r ≡ Some id → {s : List ℕ} → s ≡ resolve_str other id → {x : Bool} → x ≡ any_up_to m (holds_at st s words base)
       → x ≡ among_row st words base m (plain_string other r)
   unfolding among_row plain_string
   among_some id e f q = rw (e, ← f) q
 
-  pub among_nothing : {r : Plain} → r ≡ Nothing → false ≡ among_row st words base m (plain_string other r)
+  pub among_nothing : {r : Option ℕ} → r ≡ None → false ≡ among_row st words base m (plain_string other r)
   unfolding among_row plain_string
   among_nothing e = rw e refl
 
@@ -149,7 +158,7 @@ module _ {t : List ℕ} {st : Store} {index old new : List ℕ} {p : ℕ} (k : S
   unfolding refers_row
   row_asks_not h = rw (← e, h) refl
 
-  pub row_target : x ≡ true → {r : Plain} → ((b : List ℕ) → r ≡ plain_of (first_contents t p b)) → {y : Bool}
+  pub row_target : x ≡ true → {r : Option ℕ} → ((b : List ℕ) → r ≡ plain_of (first_contents t p b)) → {y : Bool}
       → y ≡ among_row (store_in t (old ++ new)) words base m (plain_string (store_in t (old ++ new)) r) → y ≡ refers_row (store_in t (old ++ new)) from words base m (record_at node_codec t p)
   unfolding refers_row
   row_target h f q = rw (← e, h) (q ∙ ap (among_row (store_in t (old ++ new)) words base m) (sym (plain_first k f)))

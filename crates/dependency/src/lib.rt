@@ -9,7 +9,7 @@
 // one id share; crate `ruby_formats` has what is asked of one node and what number 4 has shown of it.
 #![tactic(auto)]
 
-ghost use Rattle.std.specs.Prelude.{◌≡◌, ◌+◌, ◌*◌, ◌<◌, ◌≤◌, min, ◌&&◌, [], ◌++◌, length, nat_lt};
+ghost use Rattle.std.specs.Prelude.{◌≡◌, ℕ, IfSome, ◌+◌, ◌*◌, ◌<◌, ◌≤◌, min, ◌&&◌, [], ◌++◌, length, nat_lt};
 ghost use Rattle.model.specs.Lists.{any, same as same_bytes};
 ghost use Rattle.model.specs.Tape.{record_at, records_at, node_codec};
 ghost use Rattle.model.specs.Store.{resolve_str};
@@ -27,8 +27,6 @@ ghost use Rattle.ruby_formats.specs.Named.{Naming, Namings};
 ghost use Rattle.dependency.specs.Later.{Settled};
 ghost use Rattle.sorted_ids.specs.Row.{first_words, Row, Inserted};
 
-use strings::Plain;
-
 // Is it the string of an id? Lengths first: where they differ, the string is not looked for.
 fn is_string<'a>(
     tape: &[u8],
@@ -43,10 +41,8 @@ fn is_string<'a>(
     requires id_lt_strings { id < st.totals.strings }
     ensures { result ≡ same_bytes s.now (resolve_str (store_in tape.now (old.now ++ new.now)) id) }
 {
-    if strings::string_length(tape, st, id) != s.len() {
-        return false;
-    }
-    compare::same(s, strings::resolve_str(tape, st, words, old, new, id))
+    strings::string_length(tape, st, id) == s.len()
+        && compare::same(s, strings::resolve_str(tape, st, words, old, new, id))
 }
 
 fn is_plain<'a>(
@@ -55,7 +51,7 @@ fn is_plain<'a>(
     words: &[u32],
     old: &'a [u8],
     new: &'a [u8],
-    p: Plain,
+    p: Option<u32>,
     s: &[u8],
 ) -> bool
     requires resolvable { Resolvable tape.now st words.now old.now new.now }
@@ -63,12 +59,8 @@ fn is_plain<'a>(
     ensures { result ≡ is_plain s.now (plain_string (store_in tape.now (old.now ++ new.now)) p) }
 {
     match p {
-        Plain::Id(id) => {
-            return is_string(tape, st, words, old, new, id, s);
-        }
-        Plain::Nothing => {
-            return false;
-        }
+        Some(id) => is_string(tape, st, words, old, new, id, s),
+        None => false,
     }
 }
 
@@ -85,11 +77,16 @@ fn has_base<'a>(
     requires { SoundNode tape.now st words.now old.now new.now at }
     ensures { result ≡ has_base (store_in tape.now (old.now ++ new.now)) s.now (record_at node_codec tape.now at) }
 {
-    if !ruby_formats::is_ruby(tape, at) {
-        return false;
-    }
-    let p = ruby_formats::first_plain(tape, st, at);
-    is_plain(tape, st, words, old, new, p, s)
+    ruby_formats::is_ruby(tape, at)
+        && is_plain(
+            tape,
+            st,
+            words,
+            old,
+            new,
+            ruby_formats::first_plain(tape, st, at),
+            s,
+        )
 }
 
 // Is it the plain base of a Ruby among these nodes?
@@ -106,12 +103,10 @@ pub fn is_ruby_base<'a>(
     requires { Sound tape.now st words.now old.now new.now at count }
     ensures { result ≡ any (has_base (store_in tape.now (old.now ++ new.now)) s.now) (records_at node_codec tape.now at count) }
 {
-    let mut i = 0;
-    while i < count {
+    for i in 0..count {
         if has_base(tape, st, words, old, new, at + 49 * i, s) {
             return true;
         }
-        i += 1;
     }
     false
 }
@@ -126,13 +121,27 @@ fn filter_key(s: &[u8]) -> u64
     if n <= LONG_STRING {
         return hash::fx_hash(s);
     }
-    let front = hash::fx_hash(wire::between(s, 0, 32));
-    let back = hash::fx_hash(wire::between(s, n - 32, n));
-    std::num::wrapping_add_u64(std::num::wrapping_add_u64(front, back), n as u64)
+    let front = hash::fx_hash(&s[0..32]);
+    let back = hash::fx_hash(&s[n - 32..n]);
+    front.wrapping_add(back).wrapping_add(n as u64)
 }
 
-// The same, with the filter of these bases asked first: 1 if it is, 0 if the filter says that it is not, 3 if that took comparing. A long
-// string is not compared: 2 for not known.
+// Is a string a base?
+#[derive(Clone, Copy, Debug, PartialEq, Eq)]
+pub enum Answer {
+    Yes,
+    // The filter excludes it.
+    No,
+    // It is not, which took comparing.
+    InVain,
+    // The filter does not exclude it, and it is too long to be compared.
+    Unknown,
+}
+
+// How many targets a walk compares in vain before it gives up: then bases crowd the filter.
+pub const MOST_IN_VAIN: u32 = 128;
+
+// The same, with the filter of these bases asked first.
 pub fn is_filtered_base<'a>(
     tape: &[u8],
     st: store::Store,
@@ -143,7 +152,7 @@ pub fn is_filtered_base<'a>(
     at: usize,
     count: usize,
     s: &[u8],
-) -> u32
+) -> Answer
     requires sound { Sound tape.now st (first_words base words.now) old.now new.now at count }
     requires base_in_bounds { base ≤ length words.now }
     requires noted { Noted (store_in tape.now (old.now ++ new.now)) (records_at node_codec tape.now at count) words.now base }
@@ -151,15 +160,15 @@ pub fn is_filtered_base<'a>(
 {
     let h = filter_key(s);
     if !bloom::may_contain(words, base, h) {
-        return 0;
+        return Answer::No;
     }
     if LONG_STRING < s.len() {
-        return 2;
+        return Answer::Unknown;
     }
     if is_ruby_base(tape, st, &words[0..base], old, new, at, count, s) {
-        return 1;
+        return Answer::Yes;
     }
-    3
+    Answer::InVain
 }
 
 fn is_target_base<'a>(
@@ -171,8 +180,8 @@ fn is_target_base<'a>(
     new: &'a [u8],
     at: usize,
     count: usize,
-    p: Plain,
-) -> u32
+    p: Option<u32>,
+) -> Answer
     requires sound { Sound tape.now st (first_words base words.now) old.now new.now at count }
     requires base_in_bounds { base ≤ length words.now }
     requires noted { Noted (store_in tape.now (old.now ++ new.now)) (records_at node_codec tape.now at count) words.now base }
@@ -180,23 +189,12 @@ fn is_target_base<'a>(
     ensures { Told result (among_bases (store_in tape.now (old.now ++ new.now)) (records_at node_codec tape.now at count) (plain_string (store_in tape.now (old.now ++ new.now)) p)) }
 {
     match p {
-        Plain::Id(id) => {
+        Some(id) => {
             let s = strings::resolve_str(tape, st, &words[0..base], old, new, id);
-            return is_filtered_base(tape, st, words, base, old, new, at, count, s);
+            is_filtered_base(tape, st, words, base, old, new, at, count, s)
         }
-        Plain::Nothing => {
-            return 0;
-        }
+        None => Answer::No,
     }
-}
-
-fn smaller(a: usize, b: usize) -> usize
-    ensures { result ≡ min a b }
-{
-    if a < b {
-        return a;
-    }
-    b
 }
 
 // Number 10, node i: a Referenced Format that ends behind `from` and whose target is the base of an earlier Ruby among the first n nodes.
@@ -211,7 +209,7 @@ fn refers_among<'a>(
     i: usize,
     n: usize,
     from: u32,
-) -> u32
+) -> Answer
     requires sound { Sound tape.now st (first_words base words.now) old.now new.now at (i + 1) }
     requires base_in_bounds { base ≤ length words.now }
     requires noted { Noted (store_in tape.now (old.now ++ new.now)) (records_at node_codec tape.now at (min n i)) words.now base }
@@ -219,11 +217,10 @@ fn refers_among<'a>(
 {
     let place = at + 49 * i;
     if !ruby_formats::asks_target(tape, place, from) {
-        return 0;
+        return Answer::No;
     }
     let p = ruby_formats::first_plain(tape, st, place);
-    let k = smaller(n, i);
-    is_target_base(tape, st, words, base, old, new, at, k, p)
+    is_target_base(tape, st, words, base, old, new, at, n.min(i), p)
 }
 
 // The string of an answer, inserted.
@@ -234,23 +231,17 @@ fn insert_plain<'a>(
     base: usize,
     old: &'a [u8],
     new: &'a [u8],
-    p: Plain,
+    p: Option<u32>,
 )
     requires resolvable { Resolvable tape.now st (first_words base words.old) old.now new.now }
     requires base_in_bounds { base ≤ length words.old }
     requires plain_in { PlainIn st p }
     ensures { words.new ≡ inserted_plain words.old base (plain_string (store_in tape.now (old.now ++ new.now)) p) }
 {
-    match p {
-        Plain::Id(id) => {
-            let s = strings::resolve_str(tape, st, &words[0..base], old, new, id);
-            let h = filter_key(s);
-            bloom::insert(words, base, h);
-            return;
-        }
-        Plain::Nothing => {
-            return;
-        }
+    if let Some(id) = p {
+        let s = strings::resolve_str(tape, st, &words[0..base], old, new, id);
+        let h = filter_key(s);
+        bloom::insert(words, base, h);
     }
 }
 
@@ -298,19 +289,8 @@ fn note_first<'a>(
     note_ruby(tape, st, words, base, old, new, at + 49 * i);
 }
 
-// How many targets were compared in vain, after one more answer.
-pub fn in_vain(vain: u32, answer: u32) -> u32
-    requires { vain < 1000 }
-    ensures { result ≤ vain + 1 }
-{
-    if answer == 3 {
-        return vain + 1;
-    }
-    vain
-}
-
-// One walk over the nodes; each base among the first n is inserted when it is passed. 1 or 0; 2 for not known, where the filter does not
-// exclude a long target, or bases crowd it so that more than 128 targets were compared in vain.
+// One walk over the nodes; each base among the first n is inserted when it is passed. None for not known, where the filter does not
+// exclude a long target, or bases crowd it.
 fn any_refers_among<'a>(
     tape: &[u8],
     st: store::Store,
@@ -322,53 +302,37 @@ fn any_refers_among<'a>(
     count: usize,
     n: usize,
     from: u32,
-) -> u32
+) -> Option<bool>
     requires sound { Sound tape.now st (first_words base words.old) old.now new.now at count }
     requires base_in_bounds { base ≤ length words.old }
-    ensures { Told result (any_up_to count (refers_among (store_in tape.now (old.now ++ new.now)) from tape.now at n)) × (first_words base words.new ≡ first_words base words.old) }
+    ensures { IfSome result (λ r. r ≡ any_up_to count (refers_among (store_in tape.now (old.now ++ new.now)) from tape.now at n)) × (first_words base words.new ≡ first_words base words.old) }
 {
     let mut vain = 0;
-    let mut i = 0;
-    while i < count {
-        let r = refers_among(tape, st, words, base, old, new, at, i, n, from);
-        if r == 1 {
-            return 1;
+    for i in 0..count {
+        match refers_among(tape, st, words, base, old, new, at, i, n, from) {
+            Answer::Yes => return Some(true),
+            Answer::Unknown => return None,
+            Answer::InVain => vain += 1,
+            Answer::No => {}
         }
-        if r == 2 {
-            return 2;
-        }
-        vain = in_vain(vain, r);
-        if 128 < vain {
-            return 2;
+        if MOST_IN_VAIN < vain {
+            return None;
         }
         note_first(tape, st, words, base, old, new, at, i, n);
-        i += 1;
     }
-    0
+    Some(false)
 }
 
 // The place that is noted for what a node names. Whoever asks looks whether it is so.
-pub fn noted_place(tape: &[u8], st: store::Store, at: usize, places: &[u64]) -> usize
+pub fn noted_place(tape: &[u8], st: store::Store, at: usize, places: &[u64]) -> Option<usize>
     requires { Naming tape.now st at }
 {
-    let p = ruby_formats::named(tape, st, at);
-    match p {
-        Plain::Id(id) => {
-            return id_places::find(places, id);
-        }
-        Plain::Nothing => {
-            return 4294967295;
-        }
-    }
+    id_places::find(places, ruby_formats::named(tape, st, at)?)
 }
 
 // From how many bytes on a string is so long that it is not to be compared twice: fewer than 4096 of the book's strings are.
 pub fn long_from(bytes: usize) -> usize {
-    let n = bytes / 4096;
-    if n < LONG_STRING {
-        return LONG_STRING;
-    }
-    n
+    LONG_STRING.max(bytes / 4096)
 }
 
 // Node i noted by what it names, if that is a long string that is not noted yet.
@@ -385,76 +349,33 @@ pub fn note_place(
     requires m_in_bounds { m ≤ length places.old }
     ensures { result ≤ length places.old }
 {
-    let p = ruby_formats::named(tape, st, at + 49 * i);
-    match p {
-        Plain::Id(id) => {
-            if strings::string_length(tape, st, id) <= long {
-                return m;
-            }
-            return id_places::insert(places, m, id, i);
+    match ruby_formats::named(tape, st, at + 49 * i) {
+        Some(id) if long < strings::string_length(tape, st, id) => {
+            id_places::insert(places, m, id, i)
         }
-        Plain::Nothing => {
-            return m;
-        }
+        _ => m,
     }
 }
 
-fn note_base_place(
-    tape: &[u8],
-    st: store::Store,
-    at: usize,
-    i: usize,
-    long: usize,
-    places: &mut [u64],
-    m: usize,
-) -> usize
-    requires naming { Naming tape.now st (at + 49 * i) }
-    requires m_in_bounds { m ≤ length places.old }
-    ensures { result ≤ length places.old }
-{
-    if ruby_formats::is_ruby(tape, at + 49 * i) {
-        return note_place(tape, st, at, i, long, places, m);
-    }
-    m
-}
-
-// The first Ruby of each long base.
-pub fn first_bases(
+// The first node that passes a test, of those that name one long string.
+pub fn first_places<F: Fn(usize) -> bool>(
     tape: &[u8],
     st: store::Store,
     at: usize,
     count: usize,
     long: usize,
     places: &mut [u64],
+    passes: F,
 ) -> usize
-    requires { Namings tape.now st at count }
+    requires namings { Namings tape.now st at count }
+    requires callable { (p : ℕ) → p + 49 ≤ length tape.now → F.pre passes p }
     ensures { result ≤ length places.old }
 {
     let mut m = 0;
-    let mut i = 0;
-    while i < count {
-        m = note_base_place(tape, st, at, i, long, places, m);
-        i += 1;
-    }
-    m
-}
-
-fn note_target_place(
-    tape: &[u8],
-    st: store::Store,
-    at: usize,
-    i: usize,
-    from: u32,
-    long: usize,
-    places: &mut [u64],
-    m: usize,
-) -> usize
-    requires naming { Naming tape.now st (at + 49 * i) }
-    requires m_in_bounds { m ≤ length places.old }
-    ensures { result ≤ length places.old }
-{
-    if ruby_formats::asks_target(tape, at + 49 * i, from) {
-        return note_place(tape, st, at, i, long, places, m);
+    for i in 0..count {
+        if passes(at + 49 * i) {
+            m = note_place(tape, st, at, i, long, places, m);
+        }
     }
     m
 }
@@ -474,9 +395,12 @@ fn last_targets(
 {
     let mut m = 0;
     let mut n = count;
+    // From the last on: the places of a reversed range are not known to be below its end.
     while 0 < n {
-        m = note_target_place(tape, st, at, n - 1, from, long, places, m);
         n -= 1;
+        if ruby_formats::asks_target(tape, at + 49 * n, from) {
+            m = note_place(tape, st, at, n, long, places, m);
+        }
     }
     m
 }
@@ -490,7 +414,7 @@ fn is_plain_in_row<'a>(
     m: usize,
     old: &'a [u8],
     new: &'a [u8],
-    p: Plain,
+    p: Option<u32>,
 ) -> bool
     requires resolvable { Resolvable tape.now st (first_words base words.now) old.now new.now }
     requires base_in_bounds { base ≤ length words.now }
@@ -499,13 +423,11 @@ fn is_plain_in_row<'a>(
     ensures { result ≡ among_row (store_in tape.now (old.now ++ new.now)) words.now base m (plain_string (store_in tape.now (old.now ++ new.now)) p) }
 {
     match p {
-        Plain::Id(id) => {
+        Some(id) => {
             let s = strings::resolve_str(tape, st, &words[0..base], old, new, id);
-            return sorted_ids::contains(tape, st, words, base, m, old, new, s);
+            sorted_ids::contains(tape, st, words, base, m, old, new, s)
         }
-        Plain::Nothing => {
-            return false;
-        }
+        None => false,
     }
 }
 
@@ -542,7 +464,7 @@ fn insert_id<'a>(
     m: usize,
     old: &'a [u8],
     new: &'a [u8],
-    p: Plain,
+    p: Option<u32>,
 ) -> usize
     requires resolvable { Resolvable tape.now st (first_words base words.old) old.now new.now }
     requires row { Row (store_in tape.now (old.now ++ new.now)) st.totals.strings words.old base m }
@@ -551,12 +473,8 @@ fn insert_id<'a>(
     ensures { Inserted (store_in tape.now (old.now ++ new.now)) st.totals.strings (is_one (plain_string (store_in tape.now (old.now ++ new.now)) p)) words.old base m words.new result }
 {
     match p {
-        Plain::Id(id) => {
-            return sorted_ids::insert(tape, st, words, base, m, old, new, id);
-        }
-        Plain::Nothing => {
-            return m;
-        }
+        Some(id) => sorted_ids::insert(tape, st, words, base, m, old, new, id),
+        None => m,
     }
 }
 
@@ -606,9 +524,10 @@ fn refers_or_later<'a>(
     ensures { Settled (refers_among (store_in tape.now (old.now ++ new.now)) from tape.now at n) count i result }
 {
     let place = at + 49 * i;
-    let v = noted_place(tape, st, place, last);
-    if ruby_formats::asks_again(tape, st, at, i, v, count, from) {
-        return false;
+    if let Some(v) = noted_place(tape, st, place, last) {
+        if ruby_formats::asks_again(tape, st, at, i, v, count, from) {
+            return false;
+        }
     }
     refers_to_row(tape, st, words, base, m, old, new, place, from)
 }
@@ -637,9 +556,10 @@ pub fn insert_first<'a>(
         return m;
     }
     let place = at + 49 * i;
-    let v = noted_place(tape, st, place, first);
-    if ruby_formats::is_base_again(tape, st, at, i, v) {
-        return m;
+    if let Some(v) = noted_place(tape, st, place, first) {
+        if ruby_formats::is_base_again(tape, st, at, i, v) {
+            return m;
+        }
     }
     insert_base(tape, st, words, base, m, old, new, place)
 }
@@ -664,15 +584,13 @@ fn any_refers_sorted<'a>(
     ensures { (result ≡ any_up_to count (refers_among (store_in tape.now (old.now ++ new.now)) from tape.now at n)) × (first_words base words.new ≡ first_words base words.old) }
 {
     let mut m = 0;
-    let mut i = 0;
-    while i < count {
+    for i in 0..count {
         if refers_or_later(
             tape, st, words, base, m, old, new, at, i, count, n, from, last,
         ) {
             return true;
         }
         m = insert_first(tape, st, words, base, m, old, new, at, i, n, first);
-        i += 1;
     }
     false
 }
@@ -697,7 +615,9 @@ fn refers_sorted<'a>(
     let mut first = [0u64; 4096];
     let mut last = [0u64; 4096];
     let long = long_from(old.len() + new.len());
-    let a = first_bases(tape, st, at, n, long, &mut first);
+    let a = first_places(tape, st, at, n, long, &mut first, |place| {
+        ruby_formats::is_ruby(tape, place)
+    });
     let z = last_targets(tape, st, at, count, from, long, &mut last);
     any_refers_sorted(
         tape,
@@ -733,12 +653,11 @@ fn part_refers<'a>(
     ensures { (result ≡ any_up_to count (refers_among (store_in tape.now (old.now ++ new.now)) from tape.now at n)) × (first_words base words.new ≡ first_words base words.old) }
 {
     let end = words.len();
-    wire::zero_words(&mut words[base..end]);
-    let r = any_refers_among(tape, st, words, base, old, new, at, count, n, from);
-    if r == 2 {
-        return refers_sorted(tape, st, words, base, old, new, at, count, n, from);
+    words[base..end].fill(0);
+    match any_refers_among(tape, st, words, base, old, new, at, count, n, from) {
+        Some(refers) => refers,
+        None => refers_sorted(tape, st, words, base, old, new, at, count, n, from),
     }
-    r == 1
 }
 
 // The same; a part without a Ruby takes no walk.
@@ -758,10 +677,8 @@ fn refers_to_part<'a>(
     requires n_le_count { (n ≤ count) × (base + n ≤ length words.old) }
     ensures { (result ≡ any_up_to count (refers_among (store_in tape.now (old.now ++ new.now)) from tape.now at n)) × (first_words base words.new ≡ first_words base words.old) }
 {
-    if ruby_formats::any_ruby(tape, at, n) {
-        return part_refers(tape, st, words, base, old, new, at, count, n, from);
-    }
-    false
+    ruby_formats::any_ruby(tape, at, n)
+        && part_refers(tape, st, words, base, old, new, at, count, n, from)
 }
 
 // Number 10 in parts of half as many nodes as the filter has words, a walk from each part on: so a target is seldom compared.
@@ -783,7 +700,7 @@ fn refers_in_parts<'a>(
     let size = (words.len() - base) / 2 + 1;
     let mut i = 0;
     while i < count {
-        let n = smaller(size, count - i);
+        let n = size.min(count - i);
         if refers_to_part(
             tape,
             st,
@@ -844,10 +761,7 @@ fn refers_by_own<'a>(
 pub fn in_many_parts(words: usize, nodes: usize) -> bool
     ensures { result ≡ (nat_lt words 65536 && nat_lt words nodes) }
 {
-    if 65536 <= words {
-        return false;
-    }
-    words < nodes
+    words < 65536 && words < nodes
 }
 
 // Number 10. `has_ruby_format_dependency`. The words may hold anything. A book without a Format that refers to a target behind `from` needs none.

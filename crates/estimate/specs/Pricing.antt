@@ -1,6 +1,6 @@
 -- What `estimate` answers, and the laws for its returns.
-use Rattle.std.specs.Prelude.{◌≡◌, refl, ℕ, ◌+◌, ◌≤◌, ◌<◌, true, false, cond, List, ◌++◌, leb, ltb}
-use Rattle.std.proofs.Math.Path.{sym}
+use Rattle.std.specs.Prelude.{◌≡◌, refl, ℕ, ◌+◌, ◌≤◌, ◌<◌, true, false, cond, List, ◌++◌, leb, ltb, Option, Some, None}
+use Rattle.std.proofs.Math.Path.{sym, ap}
 use Rattle.std.proofs.Common.{◌∙◌, arith}
 use Rattle.std.proofs.Math.ListN.{length, length-append}
 use borrow.Author.Tests.{leb-true, leb-false, lt-ltb, le-ltb}
@@ -11,9 +11,10 @@ use Rattle.model.specs.Tape.{places, book_at}
 use Rattle.model.specs.Tree.{shown_nodes}
 use Rattle.model.specs.Graft.{layered, graft_node_refs}
 use Rattle.model.specs.Region.{Edit, edited}
-use Rattle.model.specs.Merge.{stored_of, MergeWindow, merged_book, merged_normalized, grafted}
+use Rattle.model.specs.Merge.{stored_of, MergeWindow, fitted, merged_book, merged_normalized, grafted}
 use Rattle.model.specs.Estimate.{Estimate, over, is_over, length_before, price_of, estimate}
 use Rattle.wire.specs.Loops.{by_bool}
+use Rattle.refusal.specs.Refusal.{checked_map}
 use Rattle.places.specs.declared.Places.{Places}
 use Rattle.store.specs.declared.Store.{Store}
 use Rattle.ids.specs.Whole.{IdsFit, ids_in}
@@ -24,49 +25,48 @@ use Rattle.sizes.specs.Capped.{fits, sizes_in}
 use Rattle.sizes.specs.Trees.{nodes_size, node_refs_grow}
 use Rattle.sizes.specs.Calls.{Limited}
 use Rattle.layer.specs.Source.{SourceFits, source_ids, source_in_lem, source_few}
-use Rattle.splice.specs.Window.{window_value}
 use Rattle.merged_lists.specs.declared.Lengths.{Lengths}
 use Rattle.merged_lists.specs.Sizes.{lengths_of}
 use Rattle.fitting.specs.Books.{Books, book_in}
 use Rattle.result.specs.Books.{lengths_read}
 use Rattle.result.specs.Parts.{old_string_bytes}
 use Rattle.result.specs.Whole.{base_is}
-use Rattle.fitting.specs.declared.Fitting.{Fitting}
-use Rattle.fitting.specs.Stages.{Fits, fits_refused, fits_accepted}
+use Rattle.fitting.specs.Stages.{books_fitted}
 use Rattle.estimate.specs.declared.Price.{Price}
 
 -- ---- the answer
 
-abbrev pub refused_price : ℕ → Price
-refused_price n = record { number = n; reread = 0; calls = 0; contents = 0; segments = 0; bytes = 0 }
+abbrev pub price_value : Estimate → Price
+price_value p = record { reread = p.reparsed_nodes; calls = p.calls; contents = p.contents; segments = p.segments; bytes = p.byte_length }
 
 -- Document 01's number, or what is told.
-unfoldable pub estimate_of : Checked Estimate → Price
-estimate_of (refused n) = refused_price n
-estimate_of (accepted p) = record { number = 0; reread = p.reparsed_nodes; calls = p.calls; contents = p.contents; segments = p.segments; bytes = p.byte_length }
+abbrev pub estimate_of : Checked Estimate → Checked Price
+estimate_of = checked_map price_value
 
 -- ---- the three counts
 
 abbrev pub over_price : ℕ → ℕ → Price
-over_price reread bytes = record { number = 0; reread = reread; calls = over; contents = over; segments = over; bytes = bytes }
+over_price reread bytes = record { reread = reread; calls = over; contents = over; segments = over; bytes = bytes }
 
-unfoldable pub price_by : ℕ → Sizes → ℕ → Price
-price_by reread s bytes =
-    cond s.over (over_price reread bytes)
-    (cond (ltb max_pool s.calls) (over_price reread bytes) (record { number = 0; reread = reread; calls = s.calls; contents = s.contents; segments = s.segments; bytes = bytes }))
+unfoldable pub price_by : ℕ → Option Sizes → ℕ → Price
+price_by reread None bytes = over_price reread bytes
+price_by reread (Some s) bytes =
+    cond (ltb max_pool s.calls) (over_price reread bytes) (record { reread = reread; calls = s.calls; contents = s.contents; segments = s.segments; bytes = bytes })
 
-module _ (reread : ℕ) (s : Sizes) (bytes : ℕ) where
-  pub over_sizes_lem : {r : Price} → s.over ≡ true → r ≡ over_price reread bytes → r ≡ price_by reread s bytes
+module _ (reread bytes : ℕ) where
+  pub over_sizes_lem : (o : Option Sizes) {r : Price} → ((s : Sizes) → o ≡ Some s → ⊥) → r ≡ over_price reread bytes → r ≡ price_by reread o bytes
   unfolding price_by
-  over_sizes_lem h q = q ∙ sym (rw h refl)
+  over_sizes_lem None n q = q
+  over_sizes_lem (Some s) n q = absurd (n s refl)
 
-  pub over_calls : {r : Price} → s.over ≡ false → max_pool < s.calls → r ≡ over_price reread bytes → r ≡ price_by reread s bytes
-  unfolding price_by
-  over_calls h k q = q ∙ sym (rw (h, lt-ltb max_pool s.calls k) refl)
+  module _ {o : Option Sizes} {s : Sizes} (is : o ≡ Some s) where
+    pub over_calls : {r : Price} → max_pool < s.calls → r ≡ over_price reread bytes → r ≡ price_by reread o bytes
+    unfolding price_by
+    over_calls k q = q ∙ sym (rw (is, lt-ltb max_pool s.calls k) refl)
 
-  pub not_over : s.over ≡ false → s.calls ≤ max_pool → ◌≡◌ {A = Price} (record { number = 0; reread = reread; calls = s.calls; contents = s.contents; segments = s.segments; bytes = bytes }) (price_by reread s bytes)
-  unfolding price_by
-  not_over h k = sym (rw (h, le-ltb max_pool s.calls k) refl)
+    pub not_over : s.calls ≤ max_pool → ◌≡◌ {A = Price} (record { reread = reread; calls = s.calls; contents = s.contents; segments = s.segments; bytes = bytes }) (price_by reread o bytes)
+    unfolding price_by
+    not_over k = sym (rw (is, le-ltb max_pool s.calls k) refl)
 
 -- as much as a pool may hold
 abbrev pool : Room
@@ -78,8 +78,8 @@ three_of reread calls contents segments bytes =
     let all = is_over calls contents segments in
     record { reparsed_nodes = reread; calls = cond all over calls; contents = cond all over contents; segments = cond all over segments; byte_length = bytes }
 
-sizes_told : (a : Added) (reread bytes : ℕ) {s : Sizes} → s ≡ sizes_in pool a → price_by reread s bytes ≡ estimate_of (accepted (three_of reread a.calls a.contents a.segments bytes))
-unfolding price_by estimate_of sizes_in fits is_over
+sizes_told : (a : Added) (reread bytes : ℕ) {s : Option Sizes} → s ≡ sizes_in pool a → price_by reread s bytes ≡ price_value (three_of reread a.calls a.contents a.segments bytes)
+unfolding price_by sizes_in fits is_over
 sizes_told a reread bytes e =
     by_bool (leb a.calls max_pool)
     (λ x.
@@ -121,9 +121,9 @@ module _ {t d : List ℕ} {p : Places} {st : Store} {e : Edit} {w : MergeWindow}
   pub nodes_few : q.nodes.count ≤ 262143
   nodes_few = source_few source
 
-  pub priced : {s : Sizes} → ((x : List ℕ) → s ≡ sizes_in pool (nodes_size (shown_nodes (book_at rt (places rt) x)))) → {l : Lengths}
+  pub priced : {s : Option Sizes} → ((x : List ℕ) → s ≡ sizes_in pool (nodes_size (shown_nodes (book_at rt (places rt) x)))) → {l : Lengths}
       → l ≡ lengths_of p q e.start e.end (length e.replacement) w.normalized.start w.normalized.end (length d) → {r : Price}
-      → r ≡ price_by q.nodes.count s l.base → r ≡ estimate_of (accepted (price_in old e read w))
+      → r ≡ price_by q.nodes.count s l.base → r ≡ price_value (price_in old e read w)
   unfolding price_in price_of grafted layered length_before merged_book
   priced f {l} z h =
       let a = nodes_size (shown_nodes read) in
@@ -136,15 +136,16 @@ module _ {t d : List ℕ} {p : Places} {st : Store} {e : Edit} {w : MergeWindow}
       let y = length-append (edited old.sanitized e ++ merged_normalized w old read) (old_string_bytes old) in
       let i = base_is b z in
       let m : l.base ≡ length (edited old.sanitized e) + length (merged_normalized w old read) + length (old_string_bytes old) = omega (arith, x, y, i) in
-      h ∙ sizes_told a q.nodes.count l.base (f rd) ∙ (λ j. estimate_of (accepted (three_of (n j) (c₁ j) (c₂ j) (c₃ j) (m j))))
+      h ∙ sizes_told a q.nodes.count l.base (f rd) ∙ (λ j. price_value (three_of (n j) (c₁ j) (c₂ j) (c₃ j) (m j)))
 
 -- ---- 1 to 17, then the price
 
-module _ {t d : List ℕ} {e : Edit} {rt rd : List ℕ} {f : Fitting} (h : Fits t d e rt rd f) where
-  pub estimate_none : (f.number ≡ 0 → ⊥) → {r : Price} → r ≡ refused_price f.number → r ≡ estimate_of (estimate (stored_of t d) e (stored_of rt rd))
-  unfolding estimate ◌>>=◌ estimate_of
-  estimate_none n q = q ∙ sym (rw (fits_refused h n) refl)
+module _ (t d : List ℕ) (e : Edit) (rt rd : List ℕ) where
+  pub estimate_none : {n : ℕ} → fitted (stored_of t d) e (stored_of rt rd) ≡ refused n → refused n ≡ estimate_of (estimate (stored_of t d) e (stored_of rt rd))
+  unfolding estimate ◌>>=◌
+  estimate_none f = rw f refl
 
-  pub estimate_some : f.number ≡ 0 → {r : Price} → r ≡ estimate_of (accepted (price_in (book_in t d) e (book_in rt rd) (window_value f.w))) → r ≡ estimate_of (estimate (stored_of t d) e (stored_of rt rd))
+  pub estimate_some : {p q : Places} {st own : Store} {w : MergeWindow} → Books t d p st e w rt rd q own → {r : Price} → r ≡ price_value (price_in (book_in t d) e (book_in rt rd) w)
+      → accepted r ≡ estimate_of (estimate (stored_of t d) e (stored_of rt rd))
   unfolding estimate ◌>>=◌ price_in
-  estimate_some z q = q ∙ sym (rw (fits_accepted h z) refl)
+  estimate_some b q = ap {B = Checked Price} accepted q ∙ sym (rw (books_fitted b) refl)

@@ -4,24 +4,24 @@
 
 ghost use Rattle.std.specs.Prelude.{◌≡◌, length};
 ghost use Rattle.model.specs.Bytes.{zeros};
-ghost use Rattle.model.specs.Refusal.{Checked.accepted};
 ghost use Rattle.model.specs.Region.{edit_of};
 ghost use Rattle.model.specs.Merge.{stored_of};
 ghost use Rattle.model.specs.Estimate.{estimate};
+ghost use Rattle.refusal.specs.Refusal.{checked};
 ghost use Rattle.splice.specs.Window.{window_value};
 ghost use Rattle.fitting.specs.Books.{Books, book_in};
-ghost use Rattle.estimate.specs.Pricing.{refused_price, over_price, price_by, estimate_of, price_in};
+ghost use Rattle.estimate.specs.Pricing.{over_price, price_by, price_value, estimate_of, price_in};
+
+use refusal::Refusal;
 
 const MAX_POOL: u32 = 1048575;
 
 const OVER: u32 = 1048576;
 
-// A number, or 0 and what the merge would make: the reading's nodes, calls of `intern`, contents and segments added, and the length of the
-// byte buffer without the new layer's strings. The three are 1048576 where one of them is above 1048575. All is 0 beside a number. C has it as it is.
-#[repr(C)]
-#[derive(Clone, Copy)]
+// What the merge would make: the reading's nodes, calls of `intern`, contents and segments added, and the length of the byte buffer without
+// the new layer's strings. The three are 1048576 where one of them is above 1048575.
+#[derive(Clone, Copy, Debug, PartialEq, Eq)]
 pub struct Price {
-    pub number: u32,
     pub reread: u32,
     pub calls: u32,
     pub contents: u32,
@@ -29,24 +29,10 @@ pub struct Price {
     pub bytes: usize,
 }
 
-fn refused(n: u32) -> Price
-    ensures { result ≡ refused_price n }
-{
-    Price {
-        number: n,
-        reread: 0,
-        calls: 0,
-        contents: 0,
-        segments: 0,
-        bytes: 0,
-    }
-}
-
 fn over(reread: u32, bytes: usize) -> Price
     ensures { result ≡ over_price reread bytes }
 {
     Price {
-        number: 0,
         reread: reread,
         calls: OVER,
         contents: OVER,
@@ -55,18 +41,17 @@ fn over(reread: u32, bytes: usize) -> Price
     }
 }
 
-// Wish 2. If one of the three is above 1048575, all three are given as 1048576. The sizes are over where contents or segments are.
-fn price_by(reread: u32, s: sizes::Sizes, bytes: usize) -> Price
+// Wish 2. If one of the three is above 1048575, all three are given as 1048576. There are no sizes where contents or segments are.
+fn price_by(reread: u32, s: Option<sizes::Sizes>, bytes: usize) -> Price
     ensures { result ≡ price_by reread s bytes }
 {
-    if s.over {
+    let Some(s) = s else {
         return over(reread, bytes);
-    }
+    };
     if MAX_POOL < s.calls {
         return over(reread, bytes);
     }
     Price {
-        number: 0,
         reread: reread,
         calls: s.calls,
         contents: s.contents,
@@ -87,8 +72,8 @@ fn price_fitted(
     f: fitting::Fitting,
 ) -> Price
     requires { Books tape.now bytes.now f.p f.st (edit_of start end replacement.now) (window_value f.w) readingtape.now readingbytes.now f.q f.own }
-    ensures { result ≡ estimate_of (accepted (price_in (book_in tape.now bytes.now) (edit_of start end replacement.now)
-        (book_in readingtape.now readingbytes.now) (window_value f.w))) }
+    ensures { result ≡ price_value (price_in (book_in tape.now bytes.now) (edit_of start end replacement.now)
+        (book_in readingtape.now readingbytes.now) (window_value f.w)) }
 {
     let q = f.q;
     let w = f.w;
@@ -120,8 +105,8 @@ fn estimate_checked(
     readingtape: &[u8],
     readingbytes: &[u8],
     work: &mut [u32],
-) -> Price
-    ensures { result ≡ estimate_of (estimate (stored_of tape.now bytes.now) (edit_of start end replacement.now) (stored_of readingtape.now readingbytes.now)) }
+) -> Result<Price, Refusal>
+    ensures { checked result ≡ estimate_of (estimate (stored_of tape.now bytes.now) (edit_of start end replacement.now) (stored_of readingtape.now readingbytes.now)) }
 {
     let f = fitting::fitted(
         tape,
@@ -132,11 +117,8 @@ fn estimate_checked(
         readingtape,
         readingbytes,
         work,
-    );
-    if f.number != 0 {
-        return refused(f.number);
-    }
-    price_fitted(
+    )?;
+    Ok(price_fitted(
         tape,
         bytes,
         start,
@@ -145,7 +127,7 @@ fn estimate_checked(
         readingtape,
         readingbytes,
         f,
-    )
+    ))
 }
 
 // `estimate`: the merge's 1 to 17 as the merge gives them, or the price; all work words are 0 at the end.
@@ -158,8 +140,8 @@ pub fn estimate(
     readingtape: &[u8],
     readingbytes: &[u8],
     work: &mut [u32],
-) -> Price
-    ensures { (result ≡ estimate_of (estimate (stored_of tape.now bytes.now) (edit_of start end replacement.now) (stored_of readingtape.now readingbytes.now)))
+) -> Result<Price, Refusal>
+    ensures { (checked result ≡ estimate_of (estimate (stored_of tape.now bytes.now) (edit_of start end replacement.now) (stored_of readingtape.now readingbytes.now)))
         × (work.new ≡ zeros (length work.old)) }
 {
     let r = estimate_checked(

@@ -14,15 +14,14 @@ ghost use Rattle.model.specs.Lookup.{copied_tape, copied_bytes};
 ghost use Rattle.model.specs.Demand3.{correction_of};
 ghost use Rattle.store.specs.Stored.{store_at};
 ghost use Rattle.store.specs.Standing.{content_place, segment_place};
-ghost use Rattle.lookup.specs.Asked.{allowed_of, node_at_of};
-ghost use Rattle.lookup.specs.Ranges.{range_at_of, range_shown};
-ghost use Rattle.lookup.specs.Strings.{str_at_of, str_shown};
+ghost use Rattle.bounds.specs.Search.{found_of};
+ghost use Rattle.lookup.specs.Ranges.{range_if, range_shown};
+ghost use Rattle.lookup.specs.Strings.{str_if, str_shown};
 ghost use Rattle.copy.specs.Copying.{copied_of};
-ghost use Rattle.region.specs.Chosen.{chosen_of};
 ghost use Rattle.estimate.specs.Pricing.{estimate_of};
 ghost use Rattle.output.specs.Answer.{Merged};
 ghost use Rattle.orders.specs.Orders.{MergedBothOrders};
-ghost use Rattle.answers.specs.Answers.{allowed_answer, node_answer, range_answer, range_read, str_answer, str_read, copy_answer, region_answer, output_read, orders_read};
+ghost use Rattle.answers.specs.Answers.{allowed_answer, node_answer, range_answer, range_read, str_answer, str_read, copy_answer, region_answer, price_answer, output_read, orders_read};
 
 #[unsafe(no_mangle)]
 pub extern "C" fn aozora_check_book(tape: &[u8], bytes: &[u8]) -> u32
@@ -43,7 +42,7 @@ pub extern "C" fn aozora_diagnostics_allow_incremental(
     tape: &[u8],
     bytes: &[u8],
 ) -> answers::AllowedAnswer
-    ensures { result ≡ allowed_answer (allowed_of (ask_book tape.now bytes.now (λ b. diagnostics_allow_incremental b.diagnostics))) }
+    ensures { result ≡ allowed_answer (ask_book tape.now bytes.now (λ b. diagnostics_allow_incremental b.diagnostics)) }
 {
     book_answers::diagnostics_allow_incremental(tape, bytes)
 }
@@ -54,14 +53,14 @@ pub extern "C" fn aozora_node_at_source(
     bytes: &[u8],
     offset: u32,
 ) -> answers::NodeAnswer
-    ensures { result ≡ node_answer (node_at_of (ask_book tape.now bytes.now (λ b. node_at_source b.source_nodes offset))) }
+    ensures { result ≡ node_answer (ask_book tape.now bytes.now (λ b. found_of (node_at_source b.source_nodes offset))) }
 {
     book_answers::node_at_source(tape, bytes, offset)
 }
 
 #[unsafe(no_mangle)]
 pub extern "C" fn aozora_lookup_str(tape: &[u8], bytes: &[u8], id: u32) -> answers::StrAnswer
-    ensures { (result ≡ str_answer (str_at_of (ask_book tape.now bytes.now (λ b. lookup_str_span b id))))
+    ensures { (result ≡ str_answer (ask_book tape.now bytes.now (λ b. str_if (lookup_str_span b id))))
         × (str_shown bytes.now (str_read result) ≡ ask_book tape.now bytes.now (λ b. lookup_str b id)) }
 {
     book_answers::lookup_str(tape, bytes, id)
@@ -74,7 +73,7 @@ pub extern "C" fn aozora_lookup_contents(
     start: u32,
     len: u32,
 ) -> answers::RangeAnswer
-    ensures { (result ≡ range_answer (range_at_of (ask_book tape.now bytes.now (contents_ok start len)) (content_place (store_at tape.now) start) len))
+    ensures { (result ≡ range_answer (ask_book tape.now bytes.now (λ b. range_if (contents_ok start len b) (content_place (store_at tape.now) start) len)))
         × (range_shown content_codec tape.now (range_read result) ≡ ask_book tape.now bytes.now (λ b. lookup_contents b start len)) }
 {
     book_answers::lookup_contents(tape, bytes, start, len)
@@ -87,7 +86,7 @@ pub extern "C" fn aozora_lookup_segments(
     start: u32,
     len: u32,
 ) -> answers::RangeAnswer
-    ensures { (result ≡ range_answer (range_at_of (ask_book tape.now bytes.now (segments_ok start len)) (segment_place (store_at tape.now) start) len))
+    ensures { (result ≡ range_answer (ask_book tape.now bytes.now (λ b. range_if (segments_ok start len b) (segment_place (store_at tape.now) start) len)))
         × (range_shown segment_codec tape.now (range_read result) ≡ ask_book tape.now bytes.now (λ b. lookup_segments b start len)) }
 {
     book_answers::lookup_segments(tape, bytes, start, len)
@@ -117,10 +116,10 @@ pub extern "C" fn aozora_choose_region(
     replacement: &[u8],
     words: &mut [u32],
 ) -> answers::RegionAnswer
-    ensures { (result ≡ region_answer (chosen_of (choose_region tape.now bytes.now (edit_of start end replacement.now))))
+    ensures { (result ≡ region_answer (choose_region tape.now bytes.now (edit_of start end replacement.now)))
         × (words.new ≡ zeros (length words.old)) }
 {
-    answers::region_answer(region::choose_region(tape, bytes, start, end, replacement, words))
+    answers::RegionAnswer::from(region::choose_region(tape, bytes, start, end, replacement, words))
 }
 
 #[unsafe(no_mangle)]
@@ -133,11 +132,11 @@ pub extern "C" fn aozora_estimate(
     readingtape: &[u8],
     readingbytes: &[u8],
     work: &mut [u32],
-) -> estimate::Price
-    ensures { (result ≡ estimate_of (estimate (stored_of tape.now bytes.now) (edit_of start end replacement.now) (stored_of readingtape.now readingbytes.now)))
+) -> answers::PriceAnswer
+    ensures { (result ≡ price_answer (estimate_of (estimate (stored_of tape.now bytes.now) (edit_of start end replacement.now) (stored_of readingtape.now readingbytes.now))))
         × (work.new ≡ zeros (length work.old)) }
 {
-    estimate::estimate(
+    answers::PriceAnswer::from(estimate::estimate(
         tape,
         bytes,
         start,
@@ -146,7 +145,7 @@ pub extern "C" fn aozora_estimate(
         readingtape,
         readingbytes,
         work,
-    )
+    ))
 }
 
 #[unsafe(no_mangle)]

@@ -1,11 +1,11 @@
 -- The reading's own numbers, by the window: what 12 to 17 ask, and what the merge is made of where none holds.
-use Rattle.std.specs.Prelude.{◌≡◌, refl, ℕ, List, length}
+use Rattle.std.specs.Prelude.{◌≡◌, refl, ℕ, ◌<◌, List, length}
 use Rattle.std.proofs.Math.Path.{sym}
-use Rattle.std.proofs.Common.{ap, ◌∙◌, subst}
+use Rattle.std.proofs.Common.{ap, ◌∙◌, subst, arith}
 use Rattle.model.specs.Bytes.{AreBytes}
 use Rattle.model.specs.Offset.{Span}
 use Rattle.model.specs.Types.{LexOutput, RegionOutput}
-use Rattle.model.specs.Refusal.{Checked.refused, number_of}
+use Rattle.model.specs.Refusal.{Checked.refused}
 use Rattle.model.specs.Tape.{records_at, node_codec, places, book_at}
 use Rattle.model.specs.Region.{Edit}
 use Rattle.model.specs.Merge.{MergeWindow, normalized_offset, window_of, fitting}
@@ -16,7 +16,7 @@ use Rattle.splice.specs.declared.Window.{Window}
 use Rattle.splice.specs.Window.{window_value}
 use Rattle.fitting.specs.Books.{Books}
 use Rattle.fitting.specs.Numbers.{reading_number, number_refused, number_passed}
-use Rattle.fitting.specs.Stages.{Read, Fits, region_of, books_fitted}
+use Rattle.fitting.specs.Stages.{Read, region_of}
 use Rattle.fitting.specs.Window.{window_from, window_is}
 use Rattle.fitting.specs.Reading.{held_lengths}
 
@@ -48,8 +48,8 @@ module _ {t d : List ℕ} {p : Places} {st : Store} {e : Edit} {from to : ℕ} {
       here : n ≡ reading_number old e (region_of from to) new
       here = k ∙ ap (λ (r : Span). reading_number old e r new) source
 
-      pub window_refused : (n ≡ 0 → ⊥) → fitting old e (region_of from to) new ≡ refused n
-      window_refused h = number_refused old e (region_of from to) new here h
+      pub window_refused : 0 < n → fitting old e (region_of from to) new ≡ refused n
+      window_refused h = number_refused old e (region_of from to) new here (λ z. omega (arith, h, z))
 
       module _ (z : n ≡ 0) where
         passed : Passed old e (region_of from to) new
@@ -58,8 +58,8 @@ module _ {t d : List ℕ} {p : Places} {st : Store} {e : Edit} {from to : ℕ} {
         is_window : window_value w ≡ window_of old e new (region_of from to)
         is_window = window_is g.given refl refl refl new (held_lengths g.held).normalized w f
 
-        merge_books_lem : AreBytes t → AreBytes rt → Books t d p st e (window_value w) rt rd q own
-        merge_books_lem a b = record {
+        pub window_books : AreBytes t → AreBytes rt → Books t d p st e (window_value w) rt rd q own
+        window_books a b = record {
           bytes = a;
           book = g.given.held.accepted;
           old_places = g.given.held.is;
@@ -72,7 +72,3 @@ module _ {t d : List ℕ} {p : Places} {st : Store} {e : Edit} {from to : ℕ} {
           window = is_window ∙ ap (window_of old e new) (sym source);
           passed = rw source passed;
         }
-
-        pub window_fits : AreBytes t → AreBytes rt → Fits t d e rt rd (record { number = 0; p = p; st = st; q = q; own = own; w = w })
-        unfolding number_of
-        window_fits a b = record { number = sym (ap number_of (books_fitted (merge_books_lem a b))); books = λ i. merge_books_lem a b }

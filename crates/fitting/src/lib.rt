@@ -8,98 +8,33 @@ ghost use Rattle.model.specs.Region.{Edit, edit_of};
 ghost use Rattle.model.specs.Merge.{normalized_offset};
 ghost use Rattle.bounds.specs.Search.{InOrder};
 ghost use Rattle.region.specs.Held.{Held};
+ghost use Rattle.refusal.specs.Refusal.{number_in};
+ghost use Rattle.span.specs.Values.{span_of};
 ghost use Rattle.splice.specs.Window.{window_value};
 ghost use Rattle.fitting.specs.Numbers.{cut_number, reading_number};
 ghost use Rattle.fitting.specs.Window.{window_from};
 ghost use Rattle.fitting.specs.Stages.{Given, Read, TargetFound, Fits, region_of};
 
-use region::Chosen;
-use span::{NormalizedOffset, SourceOffset};
+use refusal::Refusal;
+use span::{NormalizedOffset, SourceOffset, Span};
 use splice::Window;
 
-// What an edit aims at: a number 1 to 11, or 0, where the old book's records stand, its store, and the region.
+// What an edit aims at: where the old book's records stand, its store, and the region.
 #[derive(Clone, Copy)]
 struct Target {
-    number: u32,
     p: places::Places,
     st: store::Store,
-    from: u32,
-    to: u32,
+    region: Span,
 }
 
-// A number 1 to 17, or 0 and what is known then: where the records of the book and of the reading stand, their stores, the merge's window.
+// What is known where none of 1 to 17 holds: where the records of the book and of the reading stand, their stores, the merge's window.
 #[derive(Clone, Copy)]
 pub struct Fitting {
-    pub number: u32,
     pub p: places::Places,
     pub st: store::Store,
     pub q: places::Places,
     pub own: store::Store,
     pub w: Window,
-}
-
-fn nowhere() -> places::Places {
-    let none = places::Run { at: 0, count: 0 };
-    places::Places {
-        fault: true,
-        text: 0,
-        normalized: 0,
-        layers: 0,
-        strings: 0,
-        contents: 0,
-        segments: 0,
-        nodes: none,
-        pairs: none,
-        containers: none,
-        diagnostics: none,
-        end: 0,
-    }
-}
-
-fn no_store() -> store::Store {
-    store::Store {
-        layers: 0,
-        strings: [0u32; 32],
-        contents: [0u32; 32],
-        segments: [0u32; 32],
-        totals: store::Totals {
-            strings: 0,
-            contents: 0,
-            segments: 0,
-        },
-    }
-}
-
-fn no_target(n: u32) -> Target
-    ensures { result.number ≡ n }
-{
-    Target {
-        number: n,
-        p: nowhere(),
-        st: no_store(),
-        from: 0,
-        to: 0,
-    }
-}
-
-fn not_fitting(n: u32) -> Fitting
-    ensures { result.number ≡ n }
-{
-    Fitting {
-        number: n,
-        p: nowhere(),
-        st: no_store(),
-        q: nowhere(),
-        own: no_store(),
-        w: Window {
-            start: 0,
-            end: 0,
-            nstart: 0,
-            nend: 0,
-            by: span::Amount::Forward(0),
-            nby: span::Amount::Forward(0),
-        },
-    }
 }
 
 // Numbers 1 to 11: the old book, then the edit.
@@ -110,30 +45,13 @@ fn target_of(
     end: u32,
     replacement: &[u8],
     work: &mut [u32],
-) -> Target
+) -> Result<Target, Refusal>
     ensures { TargetFound tape.now bytes.now (edit_of start end replacement.now) result }
 {
-    let b = tape::checked_book(tape, bytes);
-    if b.number != 0 {
-        return no_target(b.number);
-    }
-    let p = b.p;
+    let p = tape::checked_book(tape, bytes)?;
     let st = store::store_of(tape, p.layers);
-    let found = region::chosen_region(tape, bytes, p, st, work, start, end, replacement);
-    match found {
-        Chosen::Refused(k) => {
-            return no_target(k);
-        }
-        Chosen::Region(from, to) => {
-            return Target {
-                number: 0,
-                p: p,
-                st: st,
-                from: from,
-                to: to,
-            };
-        }
-    }
+    let region = region::chosen_region(tape, bytes, p, st, work, start, end, replacement)?;
+    Ok(Target { p, st, region })
 }
 
 // Section 1. Source offsets and normalized offsets are two measures of two texts. Only here does one become the other: a cut of the source
@@ -181,32 +99,35 @@ fn region_window(
     replacement: &[u8],
     normalized: u32,
 ) -> Window
-    requires { Given tape.now bytes.now b.p b.st (edit_of start end replacement.now) (region_of b.from b.to) }
-    ensures { window_value result ≡ window_from b.from b.to
-        (normalized_offset (records_at node_codec tape.now b.p.nodes.at b.p.nodes.count) b.from)
-        (normalized_offset (records_at node_codec tape.now b.p.nodes.at b.p.nodes.count) b.to)
+    requires { Given tape.now bytes.now b.p b.st (edit_of start end replacement.now) (span_of b.region) }
+    ensures { window_value result ≡ window_from b.region.start b.region.end
+        (normalized_offset (records_at node_codec tape.now b.p.nodes.at b.p.nodes.count) b.region.start)
+        (normalized_offset (records_at node_codec tape.now b.p.nodes.at b.p.nodes.count) b.region.end)
         (length replacement.now) start end normalized }
 {
     let p = b.p;
-    let nstart = normalized_cut(tape, p.nodes, SourceOffset(b.from));
-    let nend = normalized_cut(tape, p.nodes, SourceOffset(b.to));
+    let r = b.region;
+    let nstart = normalized_cut(tape, p.nodes, SourceOffset(r.start));
+    let nend = normalized_cut(tape, p.nodes, SourceOffset(r.end));
     let len = replacement.len();
-    window(b.from, b.to, nstart.0, nend.0, len, start, end, normalized)
+    window(
+        r.start, r.end, nstart.0, nend.0, len, start, end, normalized,
+    )
 }
 
-// Numbers 15 to 17, or 0.
-fn cut_refusal(
+// Numbers 15 to 17.
+fn check_cuts(
     tape: &[u8],
     bytes: &[u8],
     readingtape: &[u8],
     readingbytes: &[u8],
     f: Fitting,
     work: &mut [u32],
-) -> u32
+) -> Result<(), Refusal>
     requires held { Held tape.now bytes.now f.p f.st × Held readingtape.now readingbytes.now f.q f.own }
     requires nstart_value { (f.w.nstart ≡ normalized_offset (records_at node_codec tape.now f.p.nodes.at f.p.nodes.count) f.w.start)
         × (f.w.nend ≡ normalized_offset (records_at node_codec tape.now f.p.nodes.at f.p.nodes.count) f.w.end) }
-    ensures { (e : Edit) → result ≡ cut_number (book_at tape.now (places_in tape.now) bytes.now) e (region_of f.w.start f.w.end)
+    ensures { (e : Edit) → number_in result ≡ cut_number (book_at tape.now (places_in tape.now) bytes.now) e (region_of f.w.start f.w.end)
         (book_at readingtape.now (places_in readingtape.now) readingbytes.now) }
 {
     let p = f.p;
@@ -225,21 +146,21 @@ fn cut_refusal(
         w.start,
         w.end,
     ) {
-        return 15;
+        return Err(Refusal::NewRubyFormatDependency);
     }
     let first = p.text as usize;
     let normalized = &bytes[first..first + p.normalized as usize];
     if !passage::cuts_ok(normalized, w.nstart as usize, w.nend as usize) {
-        return 16;
+        return Err(Refusal::CutInCharacter);
     }
     if passage::layer_missing(q.nodes.count, p.layers) {
-        return 17;
+        return Err(Refusal::LayersFull);
     }
-    0
+    Ok(())
 }
 
-// Numbers 12 to 17, or 0.
-fn reading_refusal(
+// Numbers 12 to 17.
+fn check_fitting(
     tape: &[u8],
     bytes: &[u8],
     start: u32,
@@ -249,11 +170,11 @@ fn reading_refusal(
     readingbytes: &[u8],
     f: Fitting,
     work: &mut [u32],
-) -> u32
+) -> Result<(), Refusal>
     requires read { Read tape.now bytes.now f.p f.st (edit_of start end replacement.now) (region_of f.w.start f.w.end) readingtape.now readingbytes.now f.q f.own }
     requires nstart_value { (f.w.nstart ≡ normalized_offset (records_at node_codec tape.now f.p.nodes.at f.p.nodes.count) f.w.start)
         × (f.w.nend ≡ normalized_offset (records_at node_codec tape.now f.p.nodes.at f.p.nodes.count) f.w.end) }
-    ensures { result ≡ reading_number (book_at tape.now (places_in tape.now) bytes.now) (edit_of start end replacement.now) (region_of f.w.start f.w.end)
+    ensures { number_in result ≡ reading_number (book_at tape.now (places_in tape.now) bytes.now) (edit_of start end replacement.now) (region_of f.w.start f.w.end)
         (book_at readingtape.now (places_in readingtape.now) readingbytes.now) }
 {
     let p = f.p;
@@ -265,15 +186,15 @@ fn reading_refusal(
     let first = (start - w.start) as usize;
     let last = (end - w.start) as usize;
     if !passage::is_region_text(old_text, first, last, replacement, own_text) {
-        return 12;
+        return Err(Refusal::OtherText);
     }
     if !reading::balanced_nodes(readingtape, q.nodes.at, q.nodes.count) {
-        return 13;
+        return Err(Refusal::Unbalanced);
     }
     if reading::has_unclosed(readingtape, q.diagnostics.at, q.diagnostics.count) {
-        return 14;
+        return Err(Refusal::Unclosed);
     }
-    cut_refusal(tape, bytes, readingtape, readingbytes, f, work)
+    check_cuts(tape, bytes, readingtape, readingbytes, f, work)
 }
 
 // The reading as the old book, then 12 to 17.
@@ -287,28 +208,21 @@ fn fitting_reading(
     readingbytes: &[u8],
     b: Target,
     work: &mut [u32],
-) -> Fitting
-    requires { Given tape.now bytes.now b.p b.st (edit_of start end replacement.now) (region_of b.from b.to) }
+) -> Result<Fitting, Refusal>
+    requires { Given tape.now bytes.now b.p b.st (edit_of start end replacement.now) (span_of b.region) }
     ensures { Fits tape.now bytes.now (edit_of start end replacement.now) readingtape.now readingbytes.now result }
 {
-    let n = tape::check_reading(readingtape, readingbytes);
-    if n != 0 {
-        return not_fitting(n);
-    }
-    let q = places::places_of(readingtape, readingbytes);
+    let q = tape::checked_reading(readingtape, readingbytes)?;
     let own = store::store_of(readingtape, q.layers);
     let w = region_window(tape, bytes, b, start, end, replacement, q.normalized);
-    let p = b.p;
-    let st = b.st;
     let f = Fitting {
-        number: 0,
-        p: p,
-        st: st,
-        q: q,
-        own: own,
-        w: w,
+        p: b.p,
+        st: b.st,
+        q,
+        own,
+        w,
     };
-    let k = reading_refusal(
+    check_fitting(
         tape,
         bytes,
         start,
@@ -318,11 +232,8 @@ fn fitting_reading(
         readingbytes,
         f,
         work,
-    );
-    if k != 0 {
-        return not_fitting(k);
-    }
-    f
+    )?;
+    Ok(f)
 }
 
 // Numbers 1 to 17 in their order.
@@ -335,13 +246,10 @@ pub fn fitted(
     readingtape: &[u8],
     readingbytes: &[u8],
     work: &mut [u32],
-) -> Fitting
+) -> Result<Fitting, Refusal>
     ensures { Fits tape.now bytes.now (edit_of start end replacement.now) readingtape.now readingbytes.now result }
 {
-    let b = target_of(tape, bytes, start, end, replacement, work);
-    if b.number != 0 {
-        return not_fitting(b.number);
-    }
+    let b = target_of(tape, bytes, start, end, replacement, work)?;
     fitting_reading(
         tape,
         bytes,

@@ -1,5 +1,6 @@
 -- The walk's answers: what each function has read, grafted and written, against the model's graft of what the source shows.
-use Rattle.std.specs.Prelude.{◌≡◌, ℕ, ◌+◌, true, false, drop}
+use Rattle.std.specs.Prelude.{◌≡◌, Bool, Some, None, ℕ, ◌+◌, true, false, drop}
+use Rattle.std.proofs.lemmas.Option.{none-some, same_Some}
 use Rattle.std.proofs.Math.Path.{refl, sym, ap}
 use Rattle.std.proofs.Common.{◌∙◌, true≢false, eq-eqb, ne_eqb}
 use native.Mathlib.Omega.{arith}
@@ -28,15 +29,14 @@ use Rattle.graft.specs.Runs.{ItemsTold, with_contents, with_segments, contents_p
 use Rattle.graft.specs.Walk.{Source, shown_contents, shown_segments, Ready, StartTold, ContentsTold, SegmentsTold, content_run_from, segment_run_from}
 use Rattle.graft.specs.declared.Plan.{Plan}
 use Rattle.graft.specs.declared.Mark.{Mark}
-use Rattle.graft.specs.declared.Start.{Start}
 
 -- ---- nothing is grafted
 
-module _ {t d : List ℕ} {p : Plan} {m : Mark} {work strs : List ℕ} (good : Good work strs m.state) (named : Named t d work strs m) (going : m.ok ≡ true) (has : has_room (length strs) m.state.base (state_of work strs m.state) ≡ true) where
-  pub told_nothing : (out : List ℕ) → Told t d p m out work strs out work strs m (layer_from p work strs m)
+module _ {t d : List ℕ} {p : Plan} {m : Mark} {work strs : List ℕ} (good : Good work strs m.state) (named : Named t d work strs m) (has : has_room (length strs) m.state.base (state_of work strs m.state) ≡ true) where
+  pub told_nothing : (out : List ℕ) → Told t d p m out work strs out work strs m true (layer_from p work strs m)
   unfolding records_bytes flatten
   told_nothing out = record {
-    ok = going ∙ sym has;
+    room = sym has;
     made = λ e. record {
       good = good;
       state = refl;
@@ -51,8 +51,8 @@ module _ {t d : List ℕ} {p : Plan} {m : Mark} {work strs : List ℕ} (good : G
     };
   }
 
-pub told_none : {t d : List ℕ} {st : Store} {p : Plan} {m : Mark} {out work strs : List ℕ} {a : Added} → Ready t d st p m out work strs a → Told t d p m out work strs out work strs m (layer_from p work strs m)
-told_none {t} {d} {st} {p} {m} {out} {work} {strs} r = told_nothing r.good r.named r.going r.has out
+pub told_none : {t d : List ℕ} {st : Store} {p : Plan} {m : Mark} {out work strs : List ℕ} {a : Added} → Ready t d st p m out work strs a → Told t d p m out work strs out work strs m true (layer_from p work strs m)
+told_none {t} {d} {st} {p} {m} {out} {work} {strs} r = told_nothing r.good r.named r.has out
 
 -- ---- one content
 
@@ -75,67 +75,85 @@ module _ (l : ℕ) (t d : List ℕ) (x : Content) (f : NewLayer) where
 
 -- ---- one item, whatever its kind
 
-module _ {A : Type 0} {t d : List ℕ} (k : Codec A) (p : Plan) (m : Mark) (place : ℕ) (out work strs : List ℕ) {out₁ work₁ strs₁ : List ℕ} {r : Mark} {g : NewLayer} (a : Told t d p m out work strs out₁ work₁ strs₁ r g)
+module _ {A : Type 0} {t d : List ℕ} (k : Codec A) (p : Plan) (m : Mark) (place : ℕ) (out work strs : List ℕ) {out₁ work₁ strs₁ : List ℕ} {r : Mark} {ok : Bool} {g : NewLayer} (a : Told t d p m out work strs out₁ work₁ strs₁ r ok g)
     {whole : With (List A)} {one : A} (q : whole ≡ (one ∷ [], g)) where
-  pub item_refused : r.ok ≡ false → ItemsTold t d k p m place out work strs out₁ work₁ strs₁ r whole
-  item_refused e = rw q (record { ok = a.ok; made = λ o. absurd (true≢false (sym o ∙ e)) })
+  pub item_refused : ok ≡ false → ItemsTold t d k p m place out work strs out₁ work₁ strs₁ r ok whole
+  item_refused e = rw q (record { room = a.room; made = λ o. absurd (true≢false (sym o ∙ e)) })
 
   -- its walk was made, and its record written
-  pub item_made : (x : A) → x ≡ one → {out₂ : List ℕ} → out₂ ≡ overwrite out₁ place (record_bytes k x) → ItemsTold t d k p m place out work strs out₂ work₁ strs₁ r whole
+  pub item_made : (x : A) → x ≡ one → {out₂ : List ℕ} → out₂ ≡ overwrite out₁ place (record_bytes k x) → ItemsTold t d k p m place out work strs out₂ work₁ strs₁ r ok whole
   unfolding records_bytes flatten
   item_made x z e =
       rw q (record {
-        ok = a.ok;
+        room = a.room;
         made = λ y. record { under = out₁; made = a.made y; wrote = e ∙ ap (λ (v : A). overwrite out₁ place (record_bytes k v)) z ∙ ap (overwrite out₁ place) (sym (append-nil (record_bytes k one))) };
       })
 
 -- ---- runs
 
 module _ (l : ℕ) (t d : List ℕ) (st : Store) (source : Source t d st) (p : Plan) (m : Mark) (out work strs : List ℕ) (start len : ℕ) where
-  pub content_run_empty : len ≡ 0 → {a : Added} → Ready t d st p m out work strs a → StartTold t d p m out work strs out work strs (record { mark = m; at = p.contents + m.contents }) (content_run_from l t d start len (layer_from p work strs m))
+  pub content_run_empty : len ≡ 0 → {a : Added} → Ready t d st p m out work strs a → StartTold t d p m out work strs out work strs m (Some (p.contents + m.contents)) (content_run_from l t d start len (layer_from p work strs m))
   unfolding content_run_from resolve_content_range graft_contents show_contents push_contents
-  content_run_empty z r = rw z (record { told = told_none r; start = λ o. omega arith })
+  content_run_empty z r = rw z (record { told = told_none r; start = λ at o. let q = same_Some (p.contents + m.contents) at o in omega (arith, q) })
 
   pub content_run_told : contents_in st start len ≡ true → (at to : ℕ) → at ≡ content_place st start → {out' work' strs' : List ℕ} {r : Mark}
       → (let w = shown_contents l t d (records_at content_codec t at len) (layer_from p work strs m) in
-      to ≡ m.contents + length w.1.contents → Roomy p m out (push_contents w.0 w.1).1 → ContentsTold t d p m to out work strs out' work' strs' r w
-      → (s : Start) → s ≡ record { mark = with_contents r (to + len); at = p.contents + to } → StartTold t d p m out work strs out' work' strs' s (content_run_from l t d start len (layer_from p work strs m)))
+      to ≡ m.contents + length w.1.contents → Roomy p m out (push_contents w.0 w.1).1 → ContentsTold t d p m to out work strs out' work' strs' r true w
+      → StartTold t d p m out work strs out' work' strs' (with_contents r (to + len)) (Some (p.contents + to)) (content_run_from l t d start len (layer_from p work strs m)))
   unfolding content_run_from push_contents
-  content_run_told h at to e {out'} {work'} {strs'} {r} z room b s q =
+  content_run_told h at to e {out'} {work'} {strs'} {r} z room b =
       let f = layer_from p work strs m in
       let show = show_inner l (source_store t d) in
       let is : records_at content_codec t at len ≡ resolve_content_range (source_store t d) start len =
       ap (λ (n : ℕ). records_at content_codec t n len) e ∙ sym (content_range_lem t st source.fit.stored (drop (word_at t 1 + word_at t 5) d) start len h) in
       let w = shown_contents l t d (records_at content_codec t at len) f in
       let n : length w.0 ≡ len = length_contents (show_contents show (source_store t d) (records_at content_codec t at len)) f ∙ contents_shown show (source_store t d) (records_at content_codec t at len) ∙ length_records content_codec t at len in
-      rw (← is, q) (record {
+      rw (← is) (record {
         told = record {
-          ok = b.ok;
+          room = b.room;
           made = λ o. contents_pushed p m to out work strs (contents_sized (show_contents show (source_store t d) (records_at content_codec t at len)) f (empty_sized p work strs m)) z (contents_width w.0) room (b.made o) (to + len) (omega (arith, n));
         };
-        start = λ o. omega (arith, z, ((steps_each (show_contents show (source_store t d) (records_at content_codec t at len))).offsets f).contents);
+        start = λ k o. let q = same_Some (p.contents + to) k o in omega (arith, q, z, ((steps_each (show_contents show (source_store t d) (records_at content_codec t at len))).offsets f).contents);
       })
 
-  pub segment_run_empty : len ≡ 0 → {a : Added} → Ready t d st p m out work strs a → StartTold t d p m out work strs out work strs (record { mark = m; at = p.segments + m.segments }) (segment_run_from l t d start len (layer_from p work strs m))
+  pub content_run_refused : contents_in st start len ≡ true → (at to : ℕ) → at ≡ content_place st start → {out' work' strs' : List ℕ} {r : Mark}
+      → ContentsTold t d p m to out work strs out' work' strs' r false (shown_contents l t d (records_at content_codec t at len) (layer_from p work strs m))
+      → StartTold t d p m out work strs out' work' strs' r None (content_run_from l t d start len (layer_from p work strs m))
+  unfolding content_run_from push_contents
+  content_run_refused h at to e b =
+      let is : records_at content_codec t at len ≡ resolve_content_range (source_store t d) start len =
+      ap (λ (n : ℕ). records_at content_codec t n len) e ∙ sym (content_range_lem t st source.fit.stored (drop (word_at t 1 + word_at t 5) d) start len h) in
+      rw (← is) (record { told = record { room = b.room; made = λ o. absurd (true≢false (sym o)) }; start = λ k o. absurd (none-some k o) })
+
+  pub segment_run_empty : len ≡ 0 → {a : Added} → Ready t d st p m out work strs a → StartTold t d p m out work strs out work strs m (Some (p.segments + m.segments)) (segment_run_from l t d start len (layer_from p work strs m))
   unfolding segment_run_from resolve_seg_range graft_segments show_segments push_segments
-  segment_run_empty z r = rw z (record { told = told_none r; start = λ o. omega arith })
+  segment_run_empty z r = rw z (record { told = told_none r; start = λ at o. let q = same_Some (p.segments + m.segments) at o in omega (arith, q) })
 
   pub segment_run_told : segments_in st start len ≡ true → (at to : ℕ) → at ≡ segment_place st start → {out' work' strs' : List ℕ} {r : Mark}
       → (let w = shown_segments l t d (records_at segment_codec t at len) (layer_from p work strs m) in
-      to ≡ m.segments + length w.1.segments → Roomy p m out (push_segments w.0 w.1).1 → SegmentsTold t d p m to out work strs out' work' strs' r w
-      → (s : Start) → s ≡ record { mark = with_segments r (to + len); at = p.segments + to } → StartTold t d p m out work strs out' work' strs' s (segment_run_from l t d start len (layer_from p work strs m)))
+      to ≡ m.segments + length w.1.segments → Roomy p m out (push_segments w.0 w.1).1 → SegmentsTold t d p m to out work strs out' work' strs' r true w
+      → StartTold t d p m out work strs out' work' strs' (with_segments r (to + len)) (Some (p.segments + to)) (segment_run_from l t d start len (layer_from p work strs m)))
   unfolding segment_run_from push_segments
-  segment_run_told h at to e {out'} {work'} {strs'} {r} z room b s q =
+  segment_run_told h at to e {out'} {work'} {strs'} {r} z room b =
       let f = layer_from p work strs m in
       let show = show_inner l (source_store t d) in
       let is : records_at segment_codec t at len ≡ resolve_seg_range (source_store t d) start len =
       ap (λ (n : ℕ). records_at segment_codec t n len) e ∙ sym (segment_range t st source.fit.stored (drop (word_at t 1 + word_at t 5) d) start len h) in
       let w = shown_segments l t d (records_at segment_codec t at len) f in
       let n : length w.0 ≡ len = length_segments (show_segments show (records_at segment_codec t at len)) f ∙ segments_shown show (records_at segment_codec t at len) ∙ length_records segment_codec t at len in
-      rw (← is, q) (record {
+      rw (← is) (record {
         told = record {
-          ok = b.ok;
+          room = b.room;
           made = λ o. segments_pushed p m to out work strs (segments_sized (show_segments show (records_at segment_codec t at len)) f (empty_sized p work strs m)) z (segments_width (show_segments show (records_at segment_codec t at len)) f) room (b.made o) (to + len) (omega (arith, n));
         };
-        start = λ o. omega (arith, z, ((steps_every (show_segments show (records_at segment_codec t at len))).offsets f).segments);
+        start = λ k o. let q = same_Some (p.segments + to) k o in omega (arith, q, z, ((steps_every (show_segments show (records_at segment_codec t at len))).offsets f).segments);
       })
+
+  pub segment_run_refused : segments_in st start len ≡ true → (at to : ℕ) → at ≡ segment_place st start → {out' work' strs' : List ℕ} {r : Mark}
+      → SegmentsTold t d p m to out work strs out' work' strs' r false (shown_segments l t d (records_at segment_codec t at len) (layer_from p work strs m))
+      → StartTold t d p m out work strs out' work' strs' r None (segment_run_from l t d start len (layer_from p work strs m))
+  unfolding segment_run_from push_segments
+  segment_run_refused h at to e b =
+      let is : records_at segment_codec t at len ≡ resolve_seg_range (source_store t d) start len =
+      ap (λ (n : ℕ). records_at segment_codec t n len) e ∙ sym (segment_range t st source.fit.stored (drop (word_at t 1 + word_at t 5) d) start len h) in
+      rw (← is) (record { told = record { room = b.room; made = λ o. absurd (true≢false (sym o)) }; start = λ k o. absurd (none-some k o) })

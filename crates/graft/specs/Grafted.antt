@@ -1,6 +1,6 @@
 -- What a step of the writing walk does: the defined layer's new items stand in the tape where the step began, the interner is the
 -- defined one; and that steps can follow each other.
-use Rattle.std.specs.Prelude.{◌≡◌, refl, ℕ, ◌+◌, ◌*◌, ◌≤◌, true, false, length, take, drop}
+use Rattle.std.specs.Prelude.{◌≡◌, refl, ℕ, ◌+◌, ◌*◌, ◌≤◌, Bool, true, false, length, take, drop}
 use Rattle.std.proofs.Common.{sym, ap, ap₂, ◌∙◌, arith, true≢false, length-append}
 use mathlib.Core.List.{List, [], flatten}
 use Rattle.model.specs.Tape.{records_bytes, content_codec, segment_codec}
@@ -62,10 +62,10 @@ pub record Made (t d : List ℕ) (p : Plan) (m : Mark) (out work strs out' work'
   pub long : length strs' ≡ length strs
   pub named : Named t d work' strs' r
 
--- every answer: not ok exactly where the defined strings have no room
-pub record Told (t d : List ℕ) (p : Plan) (m : Mark) (out work strs out' work' strs' : List ℕ) (r : Mark) (g : NewLayer) : Type 0 where
-  pub ok : r.ok ≡ has_room (length strs) m.state.base g.interner
-  pub made : r.ok ≡ true → Made t d p m out work strs out' work' strs' r g
+-- every answer: there is one (`ok`) exactly where the defined strings have room
+pub record Told (t d : List ℕ) (p : Plan) (m : Mark) (out work strs out' work' strs' : List ℕ) (r : Mark) (ok : Bool) (g : NewLayer) : Type 0 where
+  pub room : ok ≡ has_room (length strs) m.state.base g.interner
+  pub made : ok ≡ true → Made t d p m out work strs out' work' strs' r g
 
 -- ---- bytes of two runs
 
@@ -104,18 +104,18 @@ module _ {t d : List ℕ} (p : Plan) (m : Mark) (out work strs : List ℕ) {out�
             named = b.named;
           }
 
-      pub told_then : Told t d p r₁ out₁ work₁ strs₁ out₂ work₂ strs₂ r h → Told t d p m out work strs out₂ work₂ strs₂ r (behind g h)
+      pub told_then : {ok : Bool} → Told t d p r₁ out₁ work₁ strs₁ out₂ work₂ strs₂ r ok h → Told t d p m out work strs out₂ work₂ strs₂ r ok (behind g h)
       told_then b = record {
-        ok = b.ok ∙ ap₂ (λ (n k : ℕ). has_room n k h.interner) a.long a.base;
+        room = b.room ∙ ap₂ (λ (n k : ℕ). has_room n k h.interner) a.long a.base;
         made = λ e. made_then (b.made e);
       }
 
   -- a step that is refused is a refusal of all that follows
-  pub refused_then : Told t d p m out work strs out₁ work₁ strs₁ r₁ g → r₁.ok ≡ false → (final : NewLayer)
-      → ((size base : ℕ) → has_room size base final.interner ≡ true → has_room size base g.interner ≡ true) → Told t d p m out work strs out₁ work₁ strs₁ r₁ final
-  refused_then a e final before = record {
-    ok = by_bool (has_room (length strs) m.state.base final.interner)
-        (λ x. absurd (true≢false (sym (before (length strs) m.state.base x) ∙ sym a.ok ∙ e)))
-        (λ x. e ∙ sym x);
-    made = λ x. absurd (true≢false (sym x ∙ e));
+  pub refused_then : Told t d p m out work strs out₁ work₁ strs₁ r₁ false g → (final : NewLayer)
+      → ((size base : ℕ) → has_room size base final.interner ≡ true → has_room size base g.interner ≡ true) → Told t d p m out work strs out₁ work₁ strs₁ r₁ false final
+  refused_then a final before = record {
+    room = by_bool (has_room (length strs) m.state.base final.interner)
+        (λ x. absurd (true≢false (sym (before (length strs) m.state.base x) ∙ sym a.room)))
+        (λ x. sym x);
+    made = λ x. absurd (true≢false (sym x));
   }

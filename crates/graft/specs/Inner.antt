@@ -1,5 +1,5 @@
 -- A run at its place: what its items push is known from their sizes, and there is room for both.
-use Rattle.std.specs.Prelude.{◌≡◌, ℕ, ◌+◌, ◌*◌, ◌≤◌, ◌<◌, ◌^◌, true, List, length, drop, leb}
+use Rattle.std.specs.Prelude.{◌≡◌, ℕ, ◌+◌, ◌*◌, ◌≤◌, ◌<◌, ◌^◌, true, List, length, drop, leb, Option, Some, IsSome}
 use Rattle.std.proofs.Math.Path.{refl, sym, ap}
 use Rattle.std.proofs.Common.{◌∙◌, arith, le-leb}
 use Rattle.model.specs.Lists.{all}
@@ -24,7 +24,6 @@ use Rattle.graft.specs.Rooms.{ready_left, roomy, content_run_adds_lem, segment_r
 use Rattle.graft.specs.Answers.{content_run_told, segment_run_told}
 use Rattle.graft.specs.declared.Plan.{Plan}
 use Rattle.graft.specs.declared.Mark.{Mark}
-use Rattle.graft.specs.declared.Start.{Start}
 
 -- ---- sizes that are exact
 
@@ -35,15 +34,20 @@ fits_wide : (a : Added) → a.contents < 2 ^ 32 → a.segments < 2 ^ 32 → fits
 unfolding fits
 fits_wide a x y = join (leb a.contents 4294967295) (leb a.segments 4294967295) (le-leb a.contents 4294967295 (omega arith)) (le-leb a.segments 4294967295 (omega arith))
 
-module _ (a : Added) (x : a.contents < 2 ^ 32) (y : a.segments < 2 ^ 32) (r : Sizes) (e : r ≡ plus wide_room no_sizes a) where
-  exact : r ≡ exact_sizes a
+module _ (a : Added) (x : a.contents < 2 ^ 32) (y : a.segments < 2 ^ 32) {r : Option Sizes} (e : r ≡ plus wide_room no_sizes a) where
+  exact : r ≡ Some (exact_sizes a)
   exact = e ∙ plus_none wide_room a ∙ capped_exact wide_room a (fits_wide a x y)
 
-  pub contents_exact : r.contents ≡ a.contents
-  contents_exact = ap (λ (s : Sizes). s.contents) exact
+  pub inner_some : IsSome r
+  inner_some = rw exact refl
 
-  pub segments_exact : r.segments ≡ a.segments
-  segments_exact = ap (λ (s : Sizes). s.segments) exact
+  -- what the answer says
+  module _ {s : Sizes} (is : r ≡ Some s) where
+    pub contents_exact : s.contents ≡ a.contents
+    contents_exact = let q : Some s ≡ Some (exact_sizes a) = sym is ∙ exact in cc
+
+    pub segments_exact : s.segments ≡ a.segments
+    segments_exact = let q : Some s ≡ Some (exact_sizes a) = sym is ∙ exact in cc
 
 -- ---- a run of contents
 
@@ -82,17 +86,17 @@ module _ {t d : List ℕ} {st : Store} {p : Plan} {m : Mark} {out work strs : Li
       rw (e, ← is) (all_take (content_in st) len (drop start (source_store t d).contents) (all_drop (content_in st) start (source_store t d).contents y.source.contents))
 
   pub content_run_answer : (to : ℕ) → to ≡ m.contents + own.contents → {out' work' strs' : List ℕ} {r : Mark}
-      → ContentsTold t d p m to out work strs out' work' strs' r (shown_contents l t d (records_at content_codec t at len) (layer_from p work strs m))
-      → (s : Start) → s ≡ record { mark = with_contents r (to + len); at = p.contents + to } → StartTold t d p m out work strs out' work' strs' s (content_run_from l t d start len (layer_from p work strs m))
+      → ContentsTold t d p m to out work strs out' work' strs' r true (shown_contents l t d (records_at content_codec t at len) (layer_from p work strs m))
+      → StartTold t d p m out work strs out' work' strs' (with_contents r (to + len)) (Some (p.contents + to)) (content_run_from l t d start len (layer_from p work strs m))
   unfolding content_run_from contents_add
-  content_run_answer to z b s q =
+  content_run_answer to z b =
       let f = layer_from p work strs m in
       let is : records_at content_codec t at len ≡ resolve_content_range (source_store t d) start len =
       ap (λ (n : ℕ). records_at content_codec t n len) e ∙ sym (content_range_lem t st y.source.fit.stored (drop (word_at t 1 + word_at t 5) d) start len h) in
       let w = shown_contents l t d (records_at content_codec t at len) f in
       let room : Roomy p m out (push_contents w.0 w.1).1 = rw is (roomy out work strs y.space (content_run_adds_lem t d st y.source l start len f h)) in
       let g = shown_contents_grow t d st y.source l (records_at content_codec t at len) f contents_known in
-      content_run_told l t d st y.source p m out work strs start len h at to e (omega (arith, z, g.contents)) room b s q
+      content_run_told l t d st y.source p m out work strs start len h at to e (omega (arith, z, g.contents)) room b
 
 -- ---- a run of segments
 
@@ -131,14 +135,14 @@ module _ {t d : List ℕ} {st : Store} {p : Plan} {m : Mark} {out work strs : Li
       rw (e, ← is) (all_take (segment_in st) len (drop start (source_store t d).segments) (all_drop (segment_in st) start (source_store t d).segments y.source.segments))
 
   pub segment_run_answer : (to : ℕ) → to ≡ m.segments + theirs.segments → {out' work' strs' : List ℕ} {r : Mark}
-      → SegmentsTold t d p m to out work strs out' work' strs' r (shown_segments l t d (records_at segment_codec t at len) (layer_from p work strs m))
-      → (s : Start) → s ≡ record { mark = with_segments r (to + len); at = p.segments + to } → StartTold t d p m out work strs out' work' strs' s (segment_run_from l t d start len (layer_from p work strs m))
+      → SegmentsTold t d p m to out work strs out' work' strs' r true (shown_segments l t d (records_at segment_codec t at len) (layer_from p work strs m))
+      → StartTold t d p m out work strs out' work' strs' (with_segments r (to + len)) (Some (p.segments + to)) (segment_run_from l t d start len (layer_from p work strs m))
   unfolding segment_run_from segments_add
-  segment_run_answer to z b s q =
+  segment_run_answer to z b =
       let f = layer_from p work strs m in
       let is : records_at segment_codec t at len ≡ resolve_seg_range (source_store t d) start len =
       ap (λ (n : ℕ). records_at segment_codec t n len) e ∙ sym (segment_range t st y.source.fit.stored (drop (word_at t 1 + word_at t 5) d) start len h) in
       let w = shown_segments l t d (records_at segment_codec t at len) f in
       let room : Roomy p m out (push_segments w.0 w.1).1 = rw is (roomy out work strs y.space (segment_run_adds_lem t d st y.source l start len f h)) in
       let g = shown_segments_grow t d st y.source l (records_at segment_codec t at len) f segments_known in
-      segment_run_told l t d st y.source p m out work strs start len h at to e (omega (arith, z, g.segments)) room b s q
+      segment_run_told l t d st y.source p m out work strs start len h at to e (omega (arith, z, g.segments)) room b

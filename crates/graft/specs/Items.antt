@@ -1,5 +1,5 @@
 -- One content and one segment: what its function asks of the others, and its returns.
-use Rattle.std.specs.Prelude.{◌≡◌, ℕ, zero, suc, ◌+◌, ◌-◌, ◌*◌, ◌<◌, false, List, [], ◌∷◌, length, replicate}
+use Rattle.std.specs.Prelude.{◌≡◌, ℕ, zero, suc, ◌+◌, ◌-◌, ◌*◌, ◌<◌, Some, None, false, List, [], ◌∷◌, length, replicate}
 use Rattle.std.proofs.Math.Path.{refl, sym}
 use Rattle.std.proofs.Common.{ap, ◌∙◌, subst}
 use native.Mathlib.Omega.{arith}
@@ -27,8 +27,6 @@ use Rattle.graft.specs.Answers.{one_plain, one_segments, item_refused, item_made
 use Rattle.graft.specs.Bodies.{one_zero, one_body, body_from_lem}
 use Rattle.graft.specs.declared.Plan.{Plan}
 use Rattle.graft.specs.declared.Mark.{Mark}
-use Rattle.graft.specs.declared.Start.{Start}
-use Rattle.graft.specs.declared.Words.{Words}
 
 -- ---- a content
 
@@ -53,23 +51,26 @@ module _ (t : List ℕ) (st : Store) (at : ℕ) (c : ContentRead) (e : content_o
       subst (λ (x : Content). Ready t d st p m out work strs (content_adds inner t st x)) (sym e) y in
       rw (ne_eqb c.tag 0 z) at g
 
-  module _ (l : ℕ) (d : List ℕ) (p : Plan) (m : Mark) (to : ℕ) (out work strs : List ℕ) {out₁ work₁ strs₁ : List ℕ} (s : Start) where
-    module _ (z : c.tag ≡ 0) (x : StartTold t d p m out work strs out₁ work₁ strs₁ s (graft_str (resolve_str (source_store t d) c.first) (layer_from p work strs m))) where
-      pub plain_refused : s.mark.ok ≡ false → ContentsTold t d p m to out work strs out₁ work₁ strs₁ s.mark (shown_contents l t d (record_at content_codec t at ∷ []) (layer_from p work strs m))
-      plain_refused o = rw (← e) (item_refused content_codec p m (p.contentsat + 10 * to) out work strs x.told (one_plain l t d (content_of c) (layer_from p work strs m) z) o)
+  module _ (l : ℕ) (d : List ℕ) (p : Plan) (m : Mark) (to : ℕ) (out work strs : List ℕ) {out₁ work₁ strs₁ : List ℕ} {r : Mark} where
+    module _ (z : c.tag ≡ 0) where
+      pub plain_refused : StartTold t d p m out work strs out₁ work₁ strs₁ r None (graft_str (resolve_str (source_store t d) c.first) (layer_from p work strs m))
+          → ContentsTold t d p m to out work strs out₁ work₁ strs₁ r false (shown_contents l t d (record_at content_codec t at ∷ []) (layer_from p work strs m))
+      plain_refused x = rw (← e) (item_refused content_codec p m (p.contentsat + 10 * to) out work strs x.told (one_plain l t d (content_of c) (layer_from p work strs m) z) refl)
 
-      pub plain_made : s.mark.ok ≡ true → {out₂ : List ℕ} → out₂ ≡ overwrite out₁ (p.contentsat + 10 * to) (record_bytes content_codec (record { tag = 0; first = s.at; second = 0 }))
-          → ContentsTold t d p m to out work strs out₂ work₁ strs₁ s.mark (shown_contents l t d (record_at content_codec t at ∷ []) (layer_from p work strs m))
-      plain_made o w = rw (← e) (item_made content_codec p m (p.contentsat + 10 * to) out work strs x.told (one_plain l t d (content_of c) (layer_from p work strs m) z) (content_with 0 0 s.at) (ap (content_with 0 0) (x.start o)) w)
+      pub plain_made : (id : ℕ) → StartTold t d p m out work strs out₁ work₁ strs₁ r (Some id) (graft_str (resolve_str (source_store t d) c.first) (layer_from p work strs m))
+          → {out₂ : List ℕ} → out₂ ≡ overwrite out₁ (p.contentsat + 10 * to) (record_bytes content_codec (record { tag = 0; first = id; second = 0 }))
+          → ContentsTold t d p m to out work strs out₂ work₁ strs₁ r true (shown_contents l t d (record_at content_codec t at ∷ []) (layer_from p work strs m))
+      plain_made id x w = rw (← e) (item_made content_codec p m (p.contentsat + 10 * to) out work strs x.told (one_plain l t d (content_of c) (layer_from p work strs m) z) (content_with 0 0 id) (ap (content_with 0 0) (x.start id refl)) w)
 
-    module _ (source : Source t d st) (h : segments_in st c.first c.second ≡ true) (z : c.tag ≡ 0 → ⊥)
-        (x : StartTold t d p m out work strs out₁ work₁ strs₁ s (segment_run_from l t d c.first c.second (layer_from p work strs m))) where
-      pub run_refused : s.mark.ok ≡ false → ContentsTold t d p m to out work strs out₁ work₁ strs₁ s.mark (shown_contents l t d (record_at content_codec t at ∷ []) (layer_from p work strs m))
-      run_refused o = rw (← e) (item_refused content_codec p m (p.contentsat + 10 * to) out work strs x.told (one_segments l t d (content_of c) (layer_from p work strs m) st source h z) o)
+    module _ (source : Source t d st) (h : segments_in st c.first c.second ≡ true) (z : c.tag ≡ 0 → ⊥) where
+      pub run_refused : StartTold t d p m out work strs out₁ work₁ strs₁ r None (segment_run_from l t d c.first c.second (layer_from p work strs m))
+          → ContentsTold t d p m to out work strs out₁ work₁ strs₁ r false (shown_contents l t d (record_at content_codec t at ∷ []) (layer_from p work strs m))
+      run_refused x = rw (← e) (item_refused content_codec p m (p.contentsat + 10 * to) out work strs x.told (one_segments l t d (content_of c) (layer_from p work strs m) st source h z) refl)
 
-      pub run_made : s.mark.ok ≡ true → {out₂ : List ℕ} → out₂ ≡ overwrite out₁ (p.contentsat + 10 * to) (record_bytes content_codec (record { tag = 1; first = s.at; second = c.second }))
-          → ContentsTold t d p m to out work strs out₂ work₁ strs₁ s.mark (shown_contents l t d (record_at content_codec t at ∷ []) (layer_from p work strs m))
-      run_made o w = rw (← e) (item_made content_codec p m (p.contentsat + 10 * to) out work strs x.told (one_segments l t d (content_of c) (layer_from p work strs m) st source h z) (content_with 1 c.second s.at) (ap (content_with 1 c.second) (x.start o)) w)
+      pub run_made : (start : ℕ) → StartTold t d p m out work strs out₁ work₁ strs₁ r (Some start) (segment_run_from l t d c.first c.second (layer_from p work strs m))
+          → {out₂ : List ℕ} → out₂ ≡ overwrite out₁ (p.contentsat + 10 * to) (record_bytes content_codec (record { tag = 1; first = start; second = c.second }))
+          → ContentsTold t d p m to out work strs out₂ work₁ strs₁ r true (shown_contents l t d (record_at content_codec t at ∷ []) (layer_from p work strs m))
+      run_made start x w = rw (← e) (item_made content_codec p m (p.contentsat + 10 * to) out work strs x.told (one_segments l t d (content_of c) (layer_from p work strs m) st source h z) (content_with 1 c.second start) (ap (content_with 1 c.second) (x.start start refl)) w)
 
 -- ---- a segment
 
@@ -95,15 +96,15 @@ module _ (t d : List ℕ) (at : ℕ) where
   found_is = let e = segment_body t at in λ i. record { tag = byte_at t (at + 1); level = byte_at t (at + 2); body = sym e i }
 
   module _ (p : Plan) (m : Mark) (to : ℕ) (out work strs : List ℕ) where
-    pub segment_zero : (l : ℕ) → l ≡ 0 → Told t d p m out work strs out work strs m (layer_from p work strs m) → {out₂ : List ℕ}
+    pub segment_zero : (l : ℕ) → l ≡ 0 → Told t d p m out work strs out work strs m true (layer_from p work strs m) → {out₂ : List ℕ}
         → out₂ ≡ overwrite out (p.segmentsat + 37 * to) (record_bytes segment_codec (segment_with (byte_at t (at + 1)) (byte_at t (at + 2)) 0 0 0 0 (replicate 6 0)))
-        → SegmentsTold t d p m to out work strs out₂ work strs m (shown_segments l t d (found ∷ []) (layer_from p work strs m))
+        → SegmentsTold t d p m to out work strs out₂ work strs m true (shown_segments l t d (found ∷ []) (layer_from p work strs m))
     unfolding six_of
     segment_zero l z k w =
         rw found_is (item_made segment_codec p m (p.segmentsat + 37 * to) out work strs k (one_zero t d (record { tag = byte_at t (at + 1); level = byte_at t (at + 2); body = body_at t (at + 3) }) (layer_from p work strs m) l z)
         (segment_with (byte_at t (at + 1)) (byte_at t (at + 2)) 0 0 0 0 (replicate 6 0)) refl w)
 
-    module _ (l : ℕ) (z : l ≡ 0 → ⊥) {out₁ work₁ strs₁ : List ℕ} (r : Words) (x : WordsTold t d p m out work strs out₁ work₁ strs₁ r (body_from (l - 1) t d p work strs m (body_at t (at + 3)) 6)) where
+    module _ (l : ℕ) (z : l ≡ 0 → ⊥) where
       abbrev body : Body
       body = body_at t (at + 3)
 
@@ -120,32 +121,34 @@ module _ (t d : List ℕ) (at : ℕ) where
           ∙ one_body t d (record { tag = byte_at t (at + 1); level = byte_at t (at + 2); body = body_at t (at + 3) }) (layer_from p work strs m) l z
           ∙ ap (λ (b : With Body). (record { tag = byte_at t (at + 1); level = byte_at t (at + 2); body = b.0 } ∷ [], b.1)) (body_from_lem (l - 1) t d p work strs m (body_at t (at + 3)))
 
-      pub below_refused : r.mark.ok ≡ false → SegmentsTold t d p m to out work strs out₁ work₁ strs₁ r.mark (shown_segments l t d (found ∷ []) (layer_from p work strs m))
-      below_refused o = item_refused segment_codec p m (p.segmentsat + 37 * to) out work strs x.told below o
+      pub below_refused : {out₁ work₁ strs₁ : List ℕ} {r : Mark} → WordsTold t d p m out work strs out₁ work₁ strs₁ r None (body_from (l - 1) t d p work strs m (body_at t (at + 3)) 6)
+          → SegmentsTold t d p m to out work strs out₁ work₁ strs₁ r false (shown_segments l t d (found ∷ []) (layer_from p work strs m))
+      below_refused x = item_refused segment_codec p m (p.segmentsat + 37 * to) out work strs x.told below refl
 
-      six : r.mark.ok ≡ true → six_of r.words ≡ ws
-      six o =
-          let n = (node_six (show_body (l - 1) (source_store t d) body) (layer_from p work strs m)).is in
-          let k : length ws ≡ 6 = ap (λ (b : With Body). length b.0.words) (sym (body_from_lem (l - 1) t d p work strs m body)) ∙ n in
-          ap six_of (x.words o) ∙ six_of_lem ws k
+      module _ {out₁ work₁ strs₁ : List ℕ} {r : Mark} (own : List ℕ) (x : WordsTold t d p m out work strs out₁ work₁ strs₁ r (Some own) (body_from (l - 1) t d p work strs m (body_at t (at + 3)) 6)) where
+        six : six_of own ≡ ws
+        six =
+            let n = (node_six (show_body (l - 1) (source_store t d) body) (layer_from p work strs m)).is in
+            let k : length ws ≡ 6 = ap (λ (b : With Body). length b.0.words) (sym (body_from_lem (l - 1) t d p work strs m body)) ∙ n in
+            ap six_of (x.words own refl) ∙ six_of_lem ws k
 
-      same : r.mark.ok ≡ true → segment_with (byte_at t (at + 1)) (byte_at t (at + 2)) (byte_at t (at + 3)) (byte_at t (at + 4)) (word_at t (at + 5)) (word_at t (at + 9)) r.words
-          ≡ record { tag = byte_at t (at + 1); level = byte_at t (at + 2); body = record { kind = body.kind; tag = body.tag; plain1 = body.plain1; plain2 = body.plain2; words = ws } }
-      unfolding body_at
-      same o =
-          let a : at + 4 ≡ at + 3 + 1 = omega arith in
-          let b : at + 5 ≡ at + 3 + 2 = omega arith in
-          let g : at + 9 ≡ at + 3 + 6 = omega arith in
-          let y = six o in
-          λ i. record {
-            tag = byte_at t (at + 1);
-            level = byte_at t (at + 2);
-            body = record { kind = byte_at t (at + 3); tag = byte_at t (a i); plain1 = word_at t (b i); plain2 = word_at t (g i); words = y i };
-          }
+        same : segment_with (byte_at t (at + 1)) (byte_at t (at + 2)) (byte_at t (at + 3)) (byte_at t (at + 4)) (word_at t (at + 5)) (word_at t (at + 9)) own
+            ≡ record { tag = byte_at t (at + 1); level = byte_at t (at + 2); body = record { kind = body.kind; tag = body.tag; plain1 = body.plain1; plain2 = body.plain2; words = ws } }
+        unfolding body_at
+        same =
+            let a : at + 4 ≡ at + 3 + 1 = omega arith in
+            let b : at + 5 ≡ at + 3 + 2 = omega arith in
+            let g : at + 9 ≡ at + 3 + 6 = omega arith in
+            let y = six in
+            λ i. record {
+              tag = byte_at t (at + 1);
+              level = byte_at t (at + 2);
+              body = record { kind = byte_at t (at + 3); tag = byte_at t (a i); plain1 = word_at t (b i); plain2 = word_at t (g i); words = y i };
+            }
 
-      pub below_made : (first second : ℕ) → first ≡ word_at t (at + 5) → second ≡ word_at t (at + 9) → r.mark.ok ≡ true → {out₂ : List ℕ}
-          → out₂ ≡ overwrite out₁ (p.segmentsat + 37 * to) (record_bytes segment_codec (segment_with (byte_at t (at + 1)) (byte_at t (at + 2)) (byte_at t (at + 3)) (byte_at t (at + 4)) first second r.words))
-          → SegmentsTold t d p m to out work strs out₂ work₁ strs₁ r.mark (shown_segments l t d (found ∷ []) (layer_from p work strs m))
-      below_made first second a b o {out₂} w =
-          let v : out₂ ≡ overwrite out₁ (p.segmentsat + 37 * to) (record_bytes segment_codec (segment_with (byte_at t (at + 1)) (byte_at t (at + 2)) (byte_at t (at + 3)) (byte_at t (at + 4)) (word_at t (at + 5)) (word_at t (at + 9)) r.words)) = rw (← a, ← b) w in
-          item_made segment_codec p m (p.segmentsat + 37 * to) out work strs x.told below (segment_with (byte_at t (at + 1)) (byte_at t (at + 2)) (byte_at t (at + 3)) (byte_at t (at + 4)) (word_at t (at + 5)) (word_at t (at + 9)) r.words) (same o) v
+        pub below_made : (first second : ℕ) → first ≡ word_at t (at + 5) → second ≡ word_at t (at + 9) → {out₂ : List ℕ}
+            → out₂ ≡ overwrite out₁ (p.segmentsat + 37 * to) (record_bytes segment_codec (segment_with (byte_at t (at + 1)) (byte_at t (at + 2)) (byte_at t (at + 3)) (byte_at t (at + 4)) first second own))
+            → SegmentsTold t d p m to out work strs out₂ work₁ strs₁ r true (shown_segments l t d (found ∷ []) (layer_from p work strs m))
+        below_made first second a b {out₂} w =
+            let v : out₂ ≡ overwrite out₁ (p.segmentsat + 37 * to) (record_bytes segment_codec (segment_with (byte_at t (at + 1)) (byte_at t (at + 2)) (byte_at t (at + 3)) (byte_at t (at + 4)) (word_at t (at + 5)) (word_at t (at + 9)) own)) = rw (← a, ← b) w in
+            item_made segment_codec p m (p.segmentsat + 37 * to) out work strs x.told below (segment_with (byte_at t (at + 1)) (byte_at t (at + 2)) (byte_at t (at + 3)) (byte_at t (at + 4)) (word_at t (at + 5)) (word_at t (at + 9)) own) same v

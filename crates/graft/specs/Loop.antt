@@ -41,8 +41,7 @@ pub record Grafts {A : Type 0} (t : List ℕ) (k : Codec A) (size : ℕ) (run : 
 -- the first i records are grafted, those of the graft written from the byte `place` on
 pub record ItemsUpTo {A : Type 0} (t d : List ℕ) (k : Codec A) (run : List A → NewLayer → With (List A)) (p : Plan) (m : Mark) (at place : ℕ) (out work strs out' work' strs' : List ℕ) (u : Mark) (i : ℕ) : Type 0 where
   pub long : length out' ≡ length out
-  pub going : u.ok ≡ true
-  pub told : ItemsTold t d k p m place out work strs out' work' strs' u (run (records_at k t at i) (layer_from p work strs m))
+  pub told : ItemsTold t d k p m place out work strs out' work' strs' u true (run (records_at k t at i) (layer_from p work strs m))
 
 module _ {A : Type 0} {t : List ℕ} {k : Codec A} {size : ℕ} {run : List A → NewLayer → With (List A)} {known : A → Bool} {adds : A → Added} {sum : ℕ → ℕ → Added} (w : Grafts t k size run known adds sum) where
   -- ---- one part more
@@ -62,10 +61,10 @@ module _ {A : Type 0} {t : List ℕ} {k : Codec A} {size : ℕ} {run : List A �
         let y : (run ys first.1).1 ≡ behind first.1 second.1 = (w.steps ys).layer first.1 ∙ ap (λ (l : NewLayer). behind first.1 (run ys l).1) e in
         w.parts xs ys (layer_from p work strs m) ∙ (λ i. (first.0 ++ x i, y i))
 
-    part_turn : {out₂ work₂ strs₂ : List ℕ} {r : Mark} (n : ℕ) → n ≡ place + length (records_bytes k first.0)
+    part_turn : {out₂ work₂ strs₂ : List ℕ} {r : Mark} {ok : Bool} (n : ℕ) → n ≡ place + length (records_bytes k first.0)
         → (let both = run (xs ++ ys) (layer_from p work strs m) in
         Roomy p m out both.1 → Clear p m (length out) (length both.1.contents) (length both.1.segments) place (length (records_bytes k both.0))
-        → ItemsTold t d k p r₁ n out₁ work₁ strs₁ out₂ work₂ strs₂ r second → ItemsTold t d k p m place out work strs out₂ work₂ strs₂ r both)
+        → ItemsTold t d k p r₁ n out₁ work₁ strs₁ out₂ work₂ strs₂ r ok second → ItemsTold t d k p m place out work strs out₂ work₂ strs₂ r ok both)
     part_turn n e room clear b =
         let g = first.1 in
         let h = second.1 in
@@ -74,7 +73,7 @@ module _ {A : Type 0} {t : List ℕ} {k : Codec A} {size : ℕ} {run : List A �
         let sg = w.sized xs (layer_from p work strs m) (empty_sized p work strs m) in
         let sh = w.sized ys (layer_from p work₁ strs₁ r₁) (empty_sized p work₁ strs₁ r₁) in
         rw joined (record {
-          ok = b.ok ∙ ap₂ (λ (i j : ℕ). has_room i j h.interner) a.made.long a.made.base;
+          room = b.room ∙ ap₂ (λ (i j : ℕ). has_room i j h.interner) a.made.long a.made.base;
           made = λ o. items_then k p m place out work strs sg sh room' n e clear' a (b.made o);
         })
 
@@ -126,56 +125,56 @@ module _ {A : Type 0} {t : List ℕ} {k : Codec A} {size : ℕ} {run : List A �
     unfolding records_at records_bytes flatten
     items_first =
         let e = told_none y in
-        record { long = refl; going = y.going; told = rw (w.none (layer_from p work strs m)) (record { ok = e.ok; made = λ o. record { under = out; made = e.made o; wrote = overwrite_nil out place } }) }
+        record { long = refl; told = rw (w.none (layer_from p work strs m)) (record { room = e.room; made = λ o. record { under = out; made = e.made o; wrote = overwrite_nil out place } }) }
 
     pub item_known : (i : ℕ) → i < count → known (item i) ≡ true
     item_known i j = ap known (sym (item_is i)) ∙ records_in_lem k t at known i count j h
 
-    pub items_refused : {out' work' strs' : List ℕ} {u : Mark} (i : ℕ) → i ≤ count → ItemsTold t d k p m place out work strs out' work' strs' u (items i) → u.ok ≡ false
-        → ItemsTold t d k p m place out work strs out' work' strs' u (items count)
-    items_refused i j a e =
+    pub items_refused : {out' work' strs' : List ℕ} {u : Mark} (i : ℕ) → i ≤ count → ItemsTold t d k p m place out work strs out' work' strs' u false (items i)
+        → ItemsTold t d k p m place out work strs out' work' strs' u false (items count)
+    items_refused i j a =
         let f = layer_from p work strs m in
         let r = records_parts k t at i count j in
         let q : (items count).1 ≡ (run r.rest (items i).1).1
         = ap (λ (xs : List A). (run xs f).1) r.is ∙ ap (λ (x : With (List A)). x.1) (w.parts (records_at k t at i) r.rest f) in
         record {
-          ok = by_bool (has_room (length strs) m.state.base (items count).1.interner)
-              (λ x. absurd (true≢false (sym ((w.steps r.rest).room (length strs) m.state.base (items i).1 (rw q at x)) ∙ sym a.ok ∙ e)))
-              (λ x. e ∙ sym x);
-          made = λ o. absurd (true≢false (sym o ∙ e));
+          room = by_bool (has_room (length strs) m.state.base (items count).1.interner)
+              (λ x. absurd (true≢false (sym ((w.steps r.rest).room (length strs) m.state.base (items i).1 (rw q at x)) ∙ sym a.room)))
+              (λ x. sym x);
+          made = λ o. absurd (true≢false (sym o));
         }
 
     module _ {out' work' strs' : List ℕ} {u : Mark} {i : ℕ} (a : ItemsUpTo t d k run p m at place out work strs out' work' strs' u i) where
-      pub items_last : count ≤ i → i ≤ count → ItemsTold t d k p m place out work strs out' work' strs' u (items count)
+      pub items_last : count ≤ i → i ≤ count → ItemsTold t d k p m place out work strs out' work' strs' u true (items count)
       items_last x z = let e : i ≡ count = omega arith in rw e at a.told
 
       pub item_ready : i < count → Ready t d st p u out' work' strs' (adds (item i))
       item_ready j =
-          let x = a.told.made a.going in
+          let x = a.told.made refl in
           let z : i + 1 ≤ count = omega arith in
-          ready_item p m out work strs x.made (sum at i) (first_grow i (omega arith)) (adds (item i)) (others (i + 1) z) a.told.ok a.going a.long (rw (item_adds i z) at y)
+          ready_item p m out work strs x.made (sum at i) (first_grow i (omega arith)) (adds (item i)) (others (i + 1) z) a.told.room a.long (rw (item_adds i z) at y)
 
       -- what the records so far and this one add is no more than what all add
       pub item_low : i < count → (u.contents + (adds (item i)).contents ≤ m.contents + (sum at count).contents) × (u.segments + (adds (item i)).segments ≤ m.segments + (sum at count).segments)
       unfolding add
       item_low j =
           let g = first_grow i (omega arith) in
-          let x = (a.told.made a.going).made in
+          let x = (a.told.made refl).made in
           let z : i + 1 ≤ count = omega arith in
           let e = ap (λ (v : Added). v.contents) (item_adds i z) in
           let f = ap (λ (v : Added). v.segments) (item_adds i z) in
           (omega (arith, x.contents, g.contents, e), omega (arith, x.segments, g.segments, f))
 
-      module _ {out'' work'' strs'' : List ℕ} {r : Mark} (j : i < count) (clear : Clear p m (length out) (sum at count).contents (sum at count).segments place (size * count))
-          (n : ℕ) (e : n ≡ place + size * i) (x : ItemsTold t d k p u n out' work' strs' out'' work'' strs'' r (run (item i ∷ []) (layer_from p work' strs' u))) where
-        pub item_turn : ItemsTold t d k p m place out work strs out'' work'' strs'' r (items (i + 1))
+      module _ {out'' work'' strs'' : List ℕ} {r : Mark} {ok : Bool} (j : i < count) (clear : Clear p m (length out) (sum at count).contents (sum at count).segments place (size * count))
+          (n : ℕ) (e : n ≡ place + size * i) (x : ItemsTold t d k p u n out' work' strs' out'' work'' strs'' r ok (run (item i ∷ []) (layer_from p work' strs' u))) where
+        pub item_turn : ItemsTold t d k p m place out work strs out'' work'' strs'' r ok (items (i + 1))
         item_turn =
             let xs = records_at k t at i in
             let one = item i ∷ [] in
             let f = layer_from p work strs m in
             let q : items (i + 1) ≡ run (xs ++ one) f = ap (λ (zs : List A). run zs f) (records_more k t at i ∙ ap (λ (z : A). xs ++ (z ∷ [])) (item_is i)) in
             let z : i + 1 ≤ count = omega arith in
-            rw q (part_turn p m place out work strs xs one (a.told.made a.going) n (omega (arith, e, items_bytes i)) (rw q at (first_roomy (i + 1) z)) (rw q at (first_clear (i + 1) z clear)) x)
+            rw q (part_turn p m place out work strs xs one (a.told.made refl) n (omega (arith, e, items_bytes i)) (rw q at (first_roomy (i + 1) z)) (rw q at (first_clear (i + 1) z clear)) x)
 
-        pub items_more : length out'' ≡ length out' → r.ok ≡ true → ItemsUpTo t d k run p m at place out work strs out'' work'' strs'' r (i + 1)
-        items_more z o = record { long = z ∙ a.long; going = o; told = item_turn }
+        pub items_more : length out'' ≡ length out' → ok ≡ true → ItemsUpTo t d k run p m at place out work strs out'' work'' strs'' r (i + 1)
+        items_more z o = record { long = z ∙ a.long; told = rw o at item_turn }

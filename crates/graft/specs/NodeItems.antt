@@ -1,5 +1,5 @@
 -- The nodes of the reading, one after the other, as the model grafts them and as the source has them.
-use Rattle.std.specs.Prelude.{◌≡◌, refl, ℕ, suc, ◌+◌, ◌*◌, true, length, drop}
+use Rattle.std.specs.Prelude.{◌≡◌, refl, Bool, ℕ, suc, ◌+◌, ◌*◌, true, length, drop}
 use Rattle.std.proofs.Common.{ap, ◌∙◌, arith, length-append}
 use mathlib.Core.List.{List, [], ◌∷◌, ◌++◌, map, flatten}
 use Rattle.model.specs.Lists.{all}
@@ -110,5 +110,5 @@ abbrev pub refs_from : Plan → List ℕ → List ℕ → Mark → List ShownNod
 refs_from p work strs m ns = graft_node_refs ns (layer_from p work strs m)
 
 -- the grafted nodes, their records from a byte behind the new segments on
-abbrev pub NodesTold : List ℕ → List ℕ → Plan → Mark → ℕ → List ℕ → List ℕ → List ℕ → List ℕ → List ℕ → List ℕ → Mark → With (List SourceNode) → Type 0
+abbrev pub NodesTold : List ℕ → List ℕ → Plan → Mark → ℕ → List ℕ → List ℕ → List ℕ → List ℕ → List ℕ → List ℕ → Mark → Bool → With (List SourceNode) → Type 0
 NodesTold t d = ItemsTold t d node_codec

@@ -36,7 +36,7 @@ space_left a b s = record {
 }
 
 pub ready_left : {t d : List ℕ} {st : Store} {p : Plan} {m : Mark} {out work strs : List ℕ} (a b : Added) → Ready t d st p m out work strs (add a b) → Ready t d st p m out work strs a
-ready_left a b r = record { source = r.source; index = r.index; pairs = r.pairs; good = r.good; named = r.named; going = r.going; has = r.has; space = space_left a b r.space }
+ready_left a b r = record { source = r.source; index = r.index; pairs = r.pairs; good = r.good; named = r.named; has = r.has; space = space_left a b r.space }
 
 module _ {t d : List ℕ} (p : Plan) (m : Mark) (out work strs : List ℕ) {out' work' strs' : List ℕ} {r : Mark} {g : NewLayer} (x : Made t d p m out work strs out' work' strs' r g) (a : Added) (k : Grew (layer_from p work strs m) g a) where
   calls_on : r.state.stats.calls ≡ m.state.stats.calls + a.calls
@@ -54,23 +54,22 @@ module _ {t d : List ℕ} (p : Plan) (m : Mark) (out work strs : List ℕ) {out'
     calls = omega (arith, s.calls, calls_on);
   }
 
-  pub ready_next : {tape : List ℕ} {st : Store} (b : Added) → r.ok ≡ has_room (length strs) m.state.base g.interner → r.ok ≡ true → length tape ≡ length out
+  pub ready_next : {tape : List ℕ} {st : Store} (b : Added) → true ≡ has_room (length strs) m.state.base g.interner → length tape ≡ length out
       → Ready t d st p m out work strs (add a b) → Ready t d st p r tape work' strs' b
-  ready_next {tape} {st} b o e l y = record {
+  ready_next {tape} {st} b o l y = record {
     source = y.source;
     index = rw x.free y.index;
     pairs = rw x.free y.pairs;
     good = x.good;
     named = x.named;
-    going = e;
-    has = (λ i. has_room (x.long i) (x.base i) (x.state i)) ∙ sym o ∙ e;
+    has = (λ i. has_room (x.long i) (x.base i) (x.state i)) ∙ sym o;
     space = rw l (space_next b y.space);
   }
 
   -- room for the item behind the first part, whatever follows it
-  pub ready_item : {tape : List ℕ} {st : Store} (b rest : Added) → r.ok ≡ has_room (length strs) m.state.base g.interner → r.ok ≡ true → length tape ≡ length out
+  pub ready_item : {tape : List ℕ} {st : Store} (b rest : Added) → true ≡ has_room (length strs) m.state.base g.interner → length tape ≡ length out
       → Ready t d st p m out work strs (add (add a b) rest) → Ready t d st p r tape work' strs' b
-  ready_item b rest o e l y = ready_left b rest (ready_next (add b rest) o e l (rw (add_assoc a b rest) at y))
+  ready_item b rest o l y = ready_left b rest (ready_next (add b rest) o l (rw (add_assoc a b rest) at y))
 
 pub roomy : {p : Plan} {m : Mark} (out work strs : List ℕ) {g : NewLayer} {a : Added} → Space p m (length out) a → Grew (layer_from p work strs m) g a → Roomy p m out g
 roomy out work strs s k = record { contents = omega (arith, s.contents, k.contents); segments = omega (arith, s.segments, k.segments) }

@@ -1,6 +1,6 @@
 -- Items while they are walked, those of a run or the nodes: their records stand at their final places, behind all that the inner
 -- runs push. What the items so far and the inner runs so far have written, more items, and the end, where a run is pushed.
-use Rattle.std.specs.Prelude.{◌≡◌, refl, ℕ, ◌+◌, ◌*◌, ◌≤◌, true, length}
+use Rattle.std.specs.Prelude.{◌≡◌, refl, Bool, ℕ, ◌+◌, ◌*◌, ◌≤◌, true, length}
 use Rattle.std.proofs.Common.{sym, ap₂, ◌∙◌, arith}
 use Rattle.std.proofs.Math.Path.{ap}
 use mathlib.Core.List.{List, ◌++◌}
@@ -23,10 +23,10 @@ pub record ItemsSoFar {A : Type 0} (t d : List ℕ) (k : Codec A) (p : Plan) (m 
   pub made : Made t d p m out work strs under work' strs' r g
   pub wrote : out' ≡ overwrite under place (records_bytes k items)
 
--- not ok exactly where the defined strings have no room
-pub record ItemsTold {A : Type 0} (t d : List ℕ) (k : Codec A) (p : Plan) (m : Mark) (place : ℕ) (out work strs out' work' strs' : List ℕ) (r : Mark) (a : With (List A)) : Type 0 where
-  pub ok : r.ok ≡ has_room (length strs) m.state.base a.1.interner
-  pub made : r.ok ≡ true → ItemsSoFar t d k p m place out work strs out' work' strs' r a.0 a.1
+-- there is an answer (`ok`) exactly where the defined strings have room
+pub record ItemsTold {A : Type 0} (t d : List ℕ) (k : Codec A) (p : Plan) (m : Mark) (place : ℕ) (out work strs out' work' strs' : List ℕ) (r : Mark) (ok : Bool) (a : With (List A)) : Type 0 where
+  pub room : ok ≡ has_room (length strs) m.state.base a.1.interner
+  pub made : ok ≡ true → ItemsSoFar t d k p m place out work strs out' work' strs' r a.0 a.1
 
 -- n bytes from `place` on meet neither the new contents nor the new segments, so many of each
 abbrev pub Clear : Plan → Mark → ℕ → ℕ → ℕ → ℕ → ℕ → Type 0
@@ -73,10 +73,10 @@ module _ {A : Type 0} {t d : List ℕ} (k : Codec A) (p : Plan) (m : Mark) (plac
 -- ---- the end: the run is pushed
 
 abbrev pub with_contents : Mark → ℕ → Mark
-with_contents r n = record { ok = r.ok; contents = n; segments = r.segments; state = r.state; answered = r.answered }
+with_contents r n = record { contents = n; segments = r.segments; state = r.state; answered = r.answered }
 
 abbrev pub with_segments : Mark → ℕ → Mark
-with_segments r n = record { ok = r.ok; contents = r.contents; segments = n; state = r.state; answered = r.answered }
+with_segments r n = record { contents = r.contents; segments = n; state = r.state; answered = r.answered }
 
 module _ {t d : List ℕ} (p : Plan) (m : Mark) (to : ℕ) (out work strs : List ℕ) {out' work' strs' : List ℕ} {r : Mark} {g : NewLayer} (sg : Sized g) where
   pub contents_pushed : {items : List Content} → to ≡ m.contents + length g.contents → length (records_bytes content_codec items) ≡ 10 * length items

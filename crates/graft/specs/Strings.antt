@@ -1,7 +1,8 @@
 -- Section 3: where a string's bytes stand.
-use Rattle.std.specs.Prelude.{◌≡◌, ℕ, suc, ◌+◌, ◌-◌, ◌≤◌, ◌<◌, ◌^◌, length, get_or}
+use Rattle.std.specs.Prelude.{◌≡◌, Some, None, ℕ, suc, ◌+◌, ◌-◌, ◌≤◌, ◌<◌, ◌^◌, length, get_or}
 use Rattle.std.proofs.Math.Path.{sym, ap}
-use Rattle.std.proofs.Common.{◌∙◌, drop-drop}
+use Rattle.std.proofs.Common.{refl, true≢false, ◌∙◌, drop-drop}
+use Rattle.std.proofs.lemmas.Option.{none-some, same_Some}
 use native.Mathlib.Omega.{arith}
 use mathlib.Core.List.{List, flatten}
 use Rattle.std.proofs.Math.ListN.{take, drop}
@@ -11,19 +12,17 @@ use Rattle.model.specs.Tape.{places, bytes_needed, records_bytes}
 use Rattle.model.specs.Store.{resolve_str}
 use Rattle.model.specs.Graft.{graft_str}
 use Rattle.model.specs.Intern.{StrInterner, Interned, holds, intern, cache_hit, bypass, table_alloc, table_hit}
-use Rattle.wire.specs.Loops.{by_bool}
 use Rattle.places.specs.Again.{nodes_place}
 use Rattle.interner.specs.State.{state_of, Good}
+use Rattle.interner.specs.declared.StrInterner.{StrInterner as Interner}
 use Rattle.intern.specs.Told.{Told as InternTold}
 use Rattle.intern.specs.Calls.{each_way, answered_base, last_holds}
-use Rattle.intern.specs.declared.Answer.{Answer}
 use Rattle.graft.specs.Blocks.{blocks_none}
 use Rattle.graft.specs.Grafted.{layer_from, content_at, segment_at}
 use Rattle.graft.specs.Named.{source_store, ShowsAs}
-use Rattle.graft.specs.Walk.{Source, string_from, StartTold, str_start}
+use Rattle.graft.specs.Walk.{Source, string_from, StartTold}
 use Rattle.graft.specs.declared.Plan.{Plan}
 use Rattle.graft.specs.declared.Mark.{Mark}
-use Rattle.graft.specs.declared.Start.{Start}
 use Rattle.store.specs.Pools.{before_next, before_most}
 use Rattle.store.specs.Standing.{all_lengths, length_at, string_at_lem}
 use Rattle.store.specs.declared.Store.{Store}
@@ -75,41 +74,43 @@ id_known : (t : StrInterner) (s : List ℕ) → (intern t s).id ≤ (intern t s)
 unfolding cache_hit bypass table_alloc table_hit
 id_known t s = each_way (λ (a : Interned). a.id ≤ a.state.last) t s (omega arith) (omega arith) (λ table resized p. omega arith) (λ table resized p. omega arith)
 
-module _ (p : Plan) (m : Mark) (work strs work' strs' s : List ℕ) (a : Answer) (told : InternTold work strs m.state work' strs' a (intern (state_of work strs m.state) s)) where
-  pub id_small : a.id < 2 ^ 12
-  id_small =
-      by_bool a.ok
-      (λ e.
-      let r = told.answered e in
+module _ (p : Plan) (m : Mark) (work strs work' strs' s : List ℕ) (u : Interner) where
+  pub id_small : (id : ℕ) → InternTold work strs m.state work' strs' u (Some id) (intern (state_of work strs m.state) s) → id < 2 ^ 12
+  id_small id told =
+      let r = told.answered id refl in
       let k = id_known (state_of work strs m.state) s in
       let l = ap (λ (x : StrInterner). x.last) r.state in
-      omega (arith, r.id, k, l, r.good.known, r.good.words.few))
-      (λ e. let z = (told.refused e).id in omega (arith, z))
+      omega (arith, r.id_is, k, l, told.good.known, told.good.words.few)
 
-  pub str_answer_lem : Good work strs m.state → length strs' ≡ length strs → (t d out : List ℕ) (known id : ℕ) → ShowsAs t d known id → (r : Start) → r ≡ str_start m a known p.strings
-      → s ≡ resolve_str (source_store t d) id → StartTold t d p m out work strs out work' strs' r (graft_str (resolve_str (source_store t d) id) (layer_from p work strs m))
-  unfolding graft_str records_bytes flatten
-  str_answer_lem good long t d out known id shows r e q =
-      rw (e, ← q) (record {
-        told = record {
-          ok = told.ok;
-          made = λ o.
-              let y = told.answered o in
-              record {
-                good = y.good;
-                state = y.state;
-                contents = omega arith;
-                segments = omega arith;
-                wrote = blocks_none out (content_at p m) (segment_at p m);
-                base = y.base;
-                kept = ap (λ (n : ℕ). take n strs') (sym y.base) ∙ answered_base work strs m.state work' strs' a (intern (state_of work strs m.state) s) good y;
-                free = y.free;
-                long = long;
-                named = λ n.
-                    ap (holds (state_of work' strs' a.state).strings a.state.last) (shows n ∙ sym q)
-                    ∙ ap (λ (i : StrInterner). holds i.strings i.last s) y.state
-                    ∙ last_holds (state_of work strs m.state) s;
-              };
-        };
-        start = λ o. ap (λ (n : ℕ). p.strings + n) (told.answered o).id;
-      })
+  module _ (t d out : List ℕ) (id : ℕ) (q : s ≡ resolve_str (source_store t d) id) where
+    pub str_refused : InternTold work strs m.state work' strs' u None (intern (state_of work strs m.state) s) → {r : Mark}
+        → StartTold t d p m out work strs out work' strs' r None (graft_str (resolve_str (source_store t d) id) (layer_from p work strs m))
+    unfolding graft_str
+    str_refused told = rw (← q) (record { told = record { room = told.room; made = λ o. absurd (true≢false (sym o)) }; start = λ k o. absurd (none-some k o) })
+
+    pub str_answer_lem : Good work strs m.state → length strs' ≡ length strs → (known : ℕ) → ShowsAs t d known id → (a : ℕ) → InternTold work strs m.state work' strs' u (Some a) (intern (state_of work strs m.state) s)
+        → StartTold t d p m out work strs out work' strs' (record { contents = m.contents; segments = m.segments; state = u; answered = known }) (Some (p.strings + a)) (graft_str (resolve_str (source_store t d) id) (layer_from p work strs m))
+    unfolding graft_str records_bytes flatten
+    str_answer_lem good long known shows a told =
+        let y = told.answered a refl in
+        rw (← q) (record {
+          told = record {
+            room = told.room;
+            made = λ o. record {
+              good = told.good;
+              state = y.state;
+              contents = omega arith;
+              segments = omega arith;
+              wrote = blocks_none out (content_at p m) (segment_at p m);
+              base = y.base;
+              kept = ap (λ (n : ℕ). take n strs') (sym y.base) ∙ answered_base work strs m.state work' strs' u a (intern (state_of work strs m.state) s) good y;
+              free = y.free;
+              long = long;
+              named = λ n.
+                  ap (holds (state_of work' strs' u).strings u.last) (shows n ∙ sym q)
+                  ∙ ap (λ (i : StrInterner). holds i.strings i.last s) y.state
+                  ∙ last_holds (state_of work strs m.state) s;
+            };
+          };
+          start = λ k o. sym (same_Some (p.strings + a) k o) ∙ ap (λ (n : ℕ). p.strings + n) y.id_is;
+        })

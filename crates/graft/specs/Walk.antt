@@ -1,5 +1,5 @@
 -- What each function of the writing walk is told of its source and its room, and what it answers.
-use Rattle.std.specs.Prelude.{◌≡◌, ℕ, ◌+◌, ◌-◌, ◌*◌, ◌≤◌, ◌<◌, ◌^◌, true, cond, List, length, take, drop, set, replicate, eqb}
+use Rattle.std.specs.Prelude.{◌≡◌, Bool, Option, Some, is_some, ℕ, ◌+◌, ◌-◌, ◌*◌, ◌≤◌, ◌<◌, ◌^◌, true, cond, List, length, take, drop, set, replicate, eqb}
 use Rattle.model.specs.Lists.{all, sum}
 use Rattle.model.specs.Limits.{no_string}
 use Rattle.model.specs.Bytes.{word_at}
@@ -16,7 +16,6 @@ use Rattle.strings.specs.Index.{Indexed}
 use Rattle.ids.specs.Tests.{content_in, segment_in}
 use Rattle.store.specs.Stored.{OfTape}
 use Rattle.interner.specs.State.{has_room, Good, state_of}
-use Rattle.intern.specs.declared.Answer.{Answer}
 use Rattle.sizes.specs.Shown.{show_inner}
 use Rattle.sizes.specs.Order.{place_field, place_fields}
 use Rattle.sizes.specs.declared.FieldWords.{FieldWords}
@@ -27,8 +26,6 @@ use Rattle.graft.specs.Runs.{ItemsTold}
 use Rattle.representatives.specs.Pairs.{Pairs}
 use Rattle.graft.specs.declared.Plan.{Plan}
 use Rattle.graft.specs.declared.Mark.{Mark}
-use Rattle.graft.specs.declared.Start.{Start}
-use Rattle.graft.specs.declared.Words.{Words}
 
 -- ---- the source
 
@@ -68,23 +65,20 @@ pub record Space (p : Plan) (m : Mark) (size : ℕ) (a : Added) : Type 0 where
 -- ---- answers
 
 -- a string's id, or a run's start, beside the walk's own answer
-pub record StartTold (t d : List ℕ) (p : Plan) (m : Mark) (out work strs out' work' strs' : List ℕ) (r : Start) (a : With ℕ) : Type 0 where
-  pub told : Told t d p m out work strs out' work' strs' r.mark a.1
-  pub start : r.mark.ok ≡ true → r.at ≡ a.0
+pub record StartTold (t d : List ℕ) (p : Plan) (m : Mark) (out work strs out' work' strs' : List ℕ) (r : Mark) (x : Option ℕ) (a : With ℕ) : Type 0 where
+  pub told : Told t d p m out work strs out' work' strs' r (is_some x) a.1
+  pub start : (at : ℕ) → x ≡ Some at → at ≡ a.0
 
--- a string that was asked for, beside what was pushed
-abbrev pub str_start : Mark → Answer → ℕ → ℕ → Start
-str_start m a answered offset = record { mark = record { ok = a.ok; contents = m.contents; segments = m.segments; state = a.state; answered = answered }; at = offset + a.id }
-
-pub record WordsTold (t d : List ℕ) (p : Plan) (m : Mark) (out work strs out' work' strs' : List ℕ) (r : Words) (a : With (List ℕ)) : Type 0 where
-  pub told : Told t d p m out work strs out' work' strs' r.mark a.1
-  pub words : r.mark.ok ≡ true → r.words ≡ a.0
+-- the words of a body, or those set so far
+pub record WordsTold (t d : List ℕ) (p : Plan) (m : Mark) (out work strs out' work' strs' : List ℕ) (r : Mark) (x : Option (List ℕ)) (a : With (List ℕ)) : Type 0 where
+  pub told : Told t d p m out work strs out' work' strs' r (is_some x) a.1
+  pub words : (ws : List ℕ) → x ≡ Some ws → ws ≡ a.0
 
 -- a run's items at their final places, the first at number `to`
-abbrev pub ContentsTold : List ℕ → List ℕ → Plan → Mark → ℕ → List ℕ → List ℕ → List ℕ → List ℕ → List ℕ → List ℕ → Mark → With (List Content) → Type 0
+abbrev pub ContentsTold : List ℕ → List ℕ → Plan → Mark → ℕ → List ℕ → List ℕ → List ℕ → List ℕ → List ℕ → List ℕ → Mark → Bool → With (List Content) → Type 0
 ContentsTold t d p m to = ItemsTold t d content_codec p m (p.contentsat + 10 * to)
 
-abbrev pub SegmentsTold : List ℕ → List ℕ → Plan → Mark → ℕ → List ℕ → List ℕ → List ℕ → List ℕ → List ℕ → List ℕ → Mark → With (List Segment) → Type 0
+abbrev pub SegmentsTold : List ℕ → List ℕ → Plan → Mark → ℕ → List ℕ → List ℕ → List ℕ → List ℕ → List ℕ → List ℕ → Mark → Bool → With (List Segment) → Type 0
 SegmentsTold t d p m to = ItemsTold t d segment_codec p m (p.segmentsat + 37 * to)
 
 -- ---- what the functions of the walk graft
@@ -96,7 +90,6 @@ pub record Ready (t d : List ℕ) (st : Store) (p : Plan) (m : Mark) (out work s
   pub pairs : Pairs (resolve_str (source_store t d)) (pair_words work)
   pub good : Good work strs m.state
   pub named : Named t d work strs m
-  pub going : m.ok ≡ true
   pub has : has_room (length strs) m.state.base (state_of work strs m.state) ≡ true
   pub space : Space p m (length out) a
 

@@ -2,28 +2,44 @@
 // behind all that its items push, and each item is written once, at its place. Crate `graft_nodes` does so for each node.
 #![tactic(auto)]
 
-ghost use Rattle.std.specs.Prelude.{◌≡◌, true, not, ◌&&◌, eqb, [], ◌∷◌, ℕ, ◌+◌, ◌*◌, ◌≤◌, ◌<◌, ◌^◌, length, set, List};
+ghost use Rattle.std.specs.Prelude.{◌≡◌, true, not, ◌&&◌, eqb, is_some, [], ◌∷◌, ℕ, ◌+◌, ◌*◌, ◌≤◌, ◌<◌, ◌^◌, length, List};
 ghost use Rattle.graft.specs.Walk.{words_with};
 ghost use Rattle.model.specs.Lists.{all};
 ghost use Rattle.store.specs.Stored.{OfTape};
 ghost use Rattle.model.specs.Store.{resolve_str};
 ghost use Rattle.model.specs.Tape.{record_at, records_at, content_codec, segment_codec};
+ghost use Rattle.model.specs.Intern.{holds, intern};
 ghost use Rattle.model.specs.Graft.{graft_str};
 ghost use Rattle.records.specs.Values.{body_at};
 ghost use Rattle.strings.specs.Starts.{lengths_in};
 ghost use Rattle.strings.specs.Index.{Indexed};
 ghost use Rattle.interner.specs.State.{Good, state_of, has_room};
+ghost use Rattle.intern.specs.Told.{Told as InternTold};
 ghost use Rattle.ids.specs.Tests.{body_in, content_in, segment_in, contents_in, segments_in, used_well};
 ghost use Rattle.sizes.specs.InPlace.{inner_adds, body_adds, place_adds, used_adds, content_adds, contents_add, content_run_adds, segments_add, segment_run_adds};
 ghost use Rattle.graft.specs.Grafted.{layer_from};
-ghost use Rattle.graft.specs.Runs.{with_contents, with_segments};
 ghost use Rattle.graft.specs.Walk.{Ready, body_from, place_from, content_run_from, segment_run_from, field_from};
 ghost use Rattle.graft.specs.Named.{source_store, pair_words, Named, ShowsAs};
 ghost use Rattle.representatives.specs.Pairs.{Pairs};
-ghost use Rattle.graft.specs.Walk.{Source, index_words, string_from, shown_contents, shown_segments, StartTold, id_from, str_start, WordsTold, ContentsTold, SegmentsTold};
+ghost use Rattle.graft.specs.Walk.{Source, index_words, string_from, shown_contents, shown_segments, StartTold, id_from, WordsTold, ContentsTold, SegmentsTold};
+
+use interner::StrInterner;
+use sizes::{Room, Sizes};
+
+// any number of items, and none yet
+const ANY: Room = Room {
+    contents: 4294967295,
+    segments: 4294967295,
+};
+
+const NONE: Sizes = Sizes {
+    contents: 0,
+    segments: 0,
+    calls: 0,
+};
 
 // Where the new layer's numbers begin, and where its contents and segments are written.
-#[derive(Clone, Copy)]
+#[derive(Clone, Copy, Debug, PartialEq, Eq)]
 pub struct Plan {
     pub strings: u32,
     pub contents: u32,
@@ -32,35 +48,14 @@ pub struct Plan {
     pub segmentsat: usize,
 }
 
-// How far the walk is: contents and segments pushed, and the interner; not ok where a string had no room. `answered`: the representative of
-// the last answer's string plus 1, or 0 where none is known.
-#[derive(Clone, Copy)]
+// How far the walk is: contents and segments pushed, and the interner. `answered`: the representative of the last answer's string plus 1,
+// or 0 where none is known. A function of the walk answers None where a string had no room; the mark then tells nothing.
+#[derive(Clone, Copy, Debug, PartialEq, Eq)]
 pub struct Mark {
-    pub ok: bool,
     pub contents: u32,
     pub segments: u32,
-    pub state: interner::StrInterner,
+    pub state: StrInterner,
     pub answered: u32,
-}
-
-// A string's id, or where a run starts.
-#[derive(Clone, Copy)]
-pub struct Start {
-    pub mark: Mark,
-    pub at: u32,
-}
-
-// Six words.
-#[derive(Clone, Copy)]
-pub struct Six {
-    pub words: [u32; 6],
-}
-
-// The words of a grafted body.
-#[derive(Clone, Copy)]
-pub struct Words {
-    pub mark: Mark,
-    pub words: [u32; 6],
 }
 
 // Where the bytes of that string begin; `words` are the index of the strings.
@@ -76,59 +71,38 @@ fn string_from(tape: &[u8], bytes: &[u8], st: store::Store, words: &[u32], id: u
     text + normalized + start
 }
 
-// A string that was asked for, beside what was pushed.
-fn start_of(m: Mark, a: intern::Answer, answered: u32, offset: u32) -> Start
-    requires { offset + a.id < 2 ^ 32 }
-    ensures { result ≡ str_start m a answered offset }
-{
-    let state = a.state;
-    Start {
-        mark: Mark {
-            ok: a.ok,
-            contents: m.contents,
-            segments: m.segments,
-            state: state,
-            answered: answered,
-        },
-        at: offset + a.id,
-    }
-}
-
-// A string of the source interned; `known` is its representative plus 1, or 0.
+// A string of the source interned; `is_last`: it is known to be the last answer's, and is not compared.
 fn intern_str(
     tape: &[u8],
     bytes: &[u8],
     st: store::Store,
     work: &mut [u32],
     strs: &mut [u8],
-    p: Plan,
-    m: Mark,
-    known: u32,
+    state: &mut StrInterner,
+    is_last: bool,
     id: u32,
-) -> Start
+) -> Option<u32>
     requires source { Source tape.now bytes.now st }
     requires indexed { Indexed (lengths_in tape.now) (index_words work.old) }
-    requires good { Good work.old strs.old m.state }
-    requires id_lt_strings { (id < st.totals.strings) × (m.state.stats.calls < 2 ^ 32) × (p.strings + 2 ^ 12 < 2 ^ 32) }
-    requires shows_as { ShowsAs tape.now bytes.now known id }
-    ensures { (out : List ℕ) → StartTold tape.now bytes.now p m out work.old strs.old out work.new strs.new result
-        (graft_str (resolve_str (source_store tape.now bytes.now) id) (layer_from p work.old strs.old m)) }
+    requires good { Good work.old strs.old state.old }
+    requires id_lt_strings { (id < st.totals.strings) × (state.old.stats.calls < 2 ^ 32) }
+    requires last { is_last ≡ true → holds (state_of work.old strs.old state.old).strings state.old.last (resolve_str (source_store tape.now bytes.now) id) ≡ true }
+    ensures { InternTold work.old strs.old state.old work.new strs.new state.new result
+        (intern (state_of work.old strs.old state.old) (resolve_str (source_store tape.now bytes.now) id)) }
 {
+    if is_last {
+        return Some(intern::intern_last(state));
+    }
     let from = string_from(tape, bytes, st, &work[15360..16384], id);
     let len = strings::string_length(tape, st, id);
-    let state = m.state;
-    let a = intern::intern(work, strs, state, &bytes[from..from + len]);
-    start_of(m, a, known, p.strings)
+    intern::intern(state, work, strs, &bytes[from..from + len])
 }
 
 // Is this the representative of the last answer's string?
 fn is_answered(known: u32, answered: u32) -> bool
     ensures { result ≡ (not (eqb known 0) && eqb known answered) }
 {
-    if known == 0 {
-        return false;
-    }
-    known == answered
+    known != 0 && known == answered
 }
 
 // Section 5. `graft_str`. Where the representative is that of the last answer's string, nothing is compared.
@@ -139,22 +113,21 @@ fn graft_str(
     work: &mut [u32],
     strs: &mut [u8],
     p: Plan,
-    m: Mark,
+    m: &mut Mark,
     id: u32,
-) -> Start
+) -> Option<u32>
     requires source { Source tape.now bytes.now st }
     requires indexed { Indexed (lengths_in tape.now) (index_words work.old) × Pairs (resolve_str (source_store tape.now bytes.now)) (pair_words work.old) }
-    requires good { Good work.old strs.old m.state × Named tape.now bytes.now work.old strs.old m }
-    requires id_lt_strings { (id < st.totals.strings) × (m.state.stats.calls < 2 ^ 32) × (p.strings + 2 ^ 12 < 2 ^ 32) }
-    ensures { (out : List ℕ) → StartTold tape.now bytes.now p m out work.old strs.old out work.new strs.new result
-        (graft_str (resolve_str (source_store tape.now bytes.now) id) (layer_from p work.old strs.old m)) }
+    requires good { Good work.old strs.old m.old.state × Named tape.now bytes.now work.old strs.old m.old }
+    requires id_lt_strings { (id < st.totals.strings) × (m.old.state.stats.calls < 2 ^ 32) × (p.strings + 2 ^ 12 < 2 ^ 32) }
+    ensures { (out : List ℕ) → StartTold tape.now bytes.now p m.old out work.old strs.old out work.new strs.new m.new result
+        (graft_str (resolve_str (source_store tape.now bytes.now) id) (layer_from p work.old strs.old m.old)) }
 {
     let known = representatives::representative(&work[16384..work.len()], id);
-    if is_answered(known, m.answered) {
-        let state = m.state;
-        return start_of(m, intern::intern_last(state), known, p.strings);
-    }
-    intern_str(tape, bytes, st, work, strs, p, m, known, id)
+    let is_last = is_answered(known, m.answered);
+    let string = intern_str(tape, bytes, st, work, strs, &mut m.state, is_last, id)?;
+    m.answered = known;
+    Some(p.strings + string)
 }
 
 // A string that may be missing; where there is no string, 0.
@@ -165,80 +138,47 @@ fn graft_string(
     work: &mut [u32],
     strs: &mut [u8],
     p: Plan,
-    m: Mark,
+    m: &mut Mark,
     usage: u8,
     id: u32,
-) -> Start
+) -> Option<u32>
     requires source { Source tape.now bytes.now st }
     requires indexed { Indexed (lengths_in tape.now) (index_words work.old) × Pairs (resolve_str (source_store tape.now bytes.now)) (pair_words work.old) }
-    requires good { Good work.old strs.old m.state × Named tape.now bytes.now work.old strs.old m }
-    requires ok_value { (m.ok ≡ true) × (has_room (length strs.old) m.state.base (state_of work.old strs.old m.state) ≡ true) }
-    requires id_value { (used_well st usage id 0 ≡ true) × (m.state.stats.calls < 2 ^ 32) × (p.strings + 2 ^ 12 < 2 ^ 32) }
-    ensures { (out : List ℕ) → StartTold tape.now bytes.now p m out work.old strs.old out work.new strs.new result
-        (id_from tape.now bytes.now usage id (layer_from p work.old strs.old m)) }
+    requires good { Good work.old strs.old m.old.state × Named tape.now bytes.now work.old strs.old m.old }
+    requires has_room { has_room (length strs.old) m.old.state.base (state_of work.old strs.old m.old.state) ≡ true }
+    requires id_value { (used_well st usage id 0 ≡ true) × (m.old.state.stats.calls < 2 ^ 32) × (p.strings + 2 ^ 12 < 2 ^ 32) }
+    ensures { (out : List ℕ) → StartTold tape.now bytes.now p m.old out work.old strs.old out work.new strs.new m.new result
+        (id_from tape.now bytes.now usage id (layer_from p work.old strs.old m.old)) }
 {
     if usage == 1 {
         return graft_str(tape, bytes, st, work, strs, p, m, id);
     }
     if usage == 2 {
         if id == 4294967295 {
-            return Start {
-                mark: m,
-                at: 4294967295,
-            };
+            return Some(4294967295);
         }
         return graft_str(tape, bytes, st, work, strs, p, m, id);
     }
-    Start { mark: m, at: 0 }
-}
-
-// A word set; behind the last there is none.
-fn set_word(words: [u32; 6], i: usize, v: u32) -> Six
-    ensures { result.words ≡ set words i v }
-{
-    let mut w = words;
-    if i < 6 {
-        w[i] = v;
-        return Six { words: w };
-    }
-    Six { words: w }
+    Some(0)
 }
 
 // The words with a field's own: its id or start, and a range's length.
-fn with_words(words: [u32; 6], i: usize, f: sizes::FieldWords, v: u32) -> Six
+fn with_words(mut words: [u32; 6], i: usize, f: sizes::FieldWords, v: u32) -> [u32; 6]
     requires { i < 6 }
-    ensures { result.words ≡ words_with words i f v }
+    ensures { result ≡ words_with words i f v }
 {
-    if f.usage == 1 {
-        return set_word(words, i, v);
+    if f.usage == 1 || f.usage == 2 {
+        words[i] = v;
+    } else if f.usage == 3 || f.usage == 5 {
+        words[i] = v;
+        if i < 5 {
+            words[i + 1] = f.second;
+        }
     }
-    if f.usage == 2 {
-        return set_word(words, i, v);
-    }
-    if f.usage == 3 {
-        let first = set_word(words, i, v);
-        let w = first.words;
-        return set_word(w, i + 1, f.second);
-    }
-    if f.usage == 5 {
-        let first = set_word(words, i, v);
-        let w = first.words;
-        return set_word(w, i + 1, f.second);
-    }
-    Six { words: words }
+    words
 }
 
 // ---- parts of the walk
-
-fn words_of(mark: Mark, six: Six) -> Words
-    ensures { (result.mark ≡ mark) × (result.words ≡ six.words) }
-{
-    let words = six.words;
-    Words {
-        mark: mark,
-        words: words,
-    }
-}
 
 // How many contents the items of a run push.
 fn inner_contents(tape: &[u8], st: store::Store, at: usize, count: usize, level: u8) -> u32
@@ -247,18 +187,8 @@ fn inner_contents(tape: &[u8], st: store::Store, at: usize, count: usize, level:
     requires count_bound { ((contents_add (inner_adds level tape.now st) tape.now st at count).contents < 2 ^ 32) × ((contents_add (inner_adds level tape.now st) tape.now st at count).segments < 2 ^ 32) }
     ensures { result ≡ (contents_add (inner_adds level tape.now st) tape.now st at count).contents }
 {
-    let room = sizes::Room {
-        contents: 4294967295,
-        segments: 4294967295,
-    };
-    let none = sizes::Sizes {
-        contents: 0,
-        segments: 0,
-        calls: 0,
-        over: false,
-    };
-    let inner = sizes::contents_sizes(tape, st, room, none, at, count, level);
-    inner.contents
+    let inner = sizes::contents_sizes(tape, st, ANY, NONE, at, count, level);
+    inner.unwrap().contents
 }
 
 // How many segments the items of a run push.
@@ -268,54 +198,8 @@ fn inner_segments(tape: &[u8], st: store::Store, at: usize, count: usize, level:
     requires count_bound { ((segments_add (inner_adds level tape.now st) tape.now at count).contents < 2 ^ 32) × ((segments_add (inner_adds level tape.now st) tape.now at count).segments < 2 ^ 32) }
     ensures { result ≡ (segments_add (inner_adds level tape.now st) tape.now at count).segments }
 {
-    let room = sizes::Room {
-        contents: 4294967295,
-        segments: 4294967295,
-    };
-    let none = sizes::Sizes {
-        contents: 0,
-        segments: 0,
-        calls: 0,
-        over: false,
-    };
-    let inner = sizes::segments_sizes(tape, st, room, none, at, count, level);
-    inner.segments
-}
-
-// A run of contents that was pushed, and where it starts.
-fn pushed_contents(p: Plan, r: Mark, to: u32, len: u32) -> Start
-    requires { (p.contents + to < 2 ^ 32) × (to + len < 2 ^ 32) }
-    ensures { result ≡ record { mark = with_contents r (to + len); at = p.contents + to } }
-{
-    let state = r.state;
-    Start {
-        mark: Mark {
-            ok: r.ok,
-            contents: to + len,
-            segments: r.segments,
-            state: state,
-            answered: r.answered,
-        },
-        at: p.contents + to,
-    }
-}
-
-// A run of segments that was pushed, and where it starts.
-fn pushed_segments(p: Plan, r: Mark, to: u32, len: u32) -> Start
-    requires { (p.segments + to < 2 ^ 32) × (to + len < 2 ^ 32) }
-    ensures { result ≡ record { mark = with_segments r (to + len); at = p.segments + to } }
-{
-    let state = r.state;
-    Start {
-        mark: Mark {
-            ok: r.ok,
-            contents: r.contents,
-            segments: to + len,
-            state: state,
-            answered: r.answered,
-        },
-        at: p.segments + to,
-    }
+    let inner = sizes::segments_sizes(tape, st, ANY, NONE, at, count, level);
+    inner.unwrap().segments
 }
 
 // ---- the walk: nine functions that call each other, the level falling on each turn
@@ -330,29 +214,20 @@ pub fn graft_body(
     work: &mut [u32],
     strs: &mut [u8],
     p: Plan,
-    m: Mark,
+    m: &mut Mark,
     at: usize,
     level: u8,
-) -> Words
-    requires ready { Ready tape.now bytes.now st p m out.old work.old strs.old (body_adds level tape.now st (body_at tape.now at)) }
+) -> Option<[u32; 6]>
+    requires ready { Ready tape.now bytes.now st p m.old out.old work.old strs.old (body_adds level tape.now st (body_at tape.now at)) }
     requires at_in_bounds { (at + 34 ≤ length tape.now) × (body_in st (body_at tape.now at) ≡ true) }
-    ensures { WordsTold tape.now bytes.now p m out.old work.old strs.old out.new work.new strs.new result
-        (body_from level tape.now bytes.now p work.old strs.old m (body_at tape.now at) 6) }
+    ensures { WordsTold tape.now bytes.now p m.old out.old work.old strs.old out.new work.new strs.new m.new result
+        (body_from level tape.now bytes.now p work.old strs.old m.old (body_at tape.now at) 6) }
 {
-    let mut u = Words {
-        mark: m,
-        words: [0u32; 6],
-    };
-    let mut j = 0;
-    while j < 6 {
-        u = graft_place(tape, bytes, st, out, work, strs, p, u, at, j, level);
-        let k = u.mark;
-        if !k.ok {
-            return u;
-        }
-        j += 1;
+    let mut words = [0u32; 6];
+    for j in 0..6 {
+        words = graft_place(tape, bytes, st, out, work, strs, p, m, words, at, j, level)?;
     }
-    u
+    Some(words)
 }
 
 // The field at place j: its words set among those so far.
@@ -365,23 +240,21 @@ fn graft_place(
     work: &mut [u32],
     strs: &mut [u8],
     p: Plan,
-    u: Words,
+    m: &mut Mark,
+    words: [u32; 6],
     at: usize,
     j: usize,
     level: u8,
-) -> Words
-    requires ready { Ready tape.now bytes.now st p u.mark out.old work.old strs.old (place_adds (inner_adds level tape.now st) tape.now st (body_at tape.now at) j) }
+) -> Option<[u32; 6]>
+    requires ready { Ready tape.now bytes.now st p m.old out.old work.old strs.old (place_adds (inner_adds level tape.now st) tape.now st (body_at tape.now at) j) }
     requires at_in_bounds { (at + 34 ≤ length tape.now) × (body_in st (body_at tape.now at) ≡ true) × (j < 6) }
-    ensures { WordsTold tape.now bytes.now p u.mark out.old work.old strs.old out.new work.new strs.new result
-        (place_from level tape.now bytes.now (body_at tape.now at) j u.words (layer_from p work.old strs.old u.mark)) }
+    ensures { WordsTold tape.now bytes.now p m.old out.old work.old strs.old out.new work.new strs.new m.new result
+        (place_from level tape.now bytes.now (body_at tape.now at) j words (layer_from p work.old strs.old m.old)) }
 {
     let i = sizes::field_word(tape[at], j);
     let f = sizes::field_at(tape, at, j);
-    let m = u.mark;
-    let words = u.words;
-    let s = graft_field(tape, bytes, st, out, work, strs, p, m, f, level);
-    let k = s.mark;
-    words_of(k, with_words(words, i, f, s.at))
+    let v = graft_field(tape, bytes, st, out, work, strs, p, m, f, level)?;
+    Some(with_words(words, i, f, v))
 }
 
 // An id, no_string, or the start of a run.
@@ -394,14 +267,14 @@ fn graft_field(
     work: &mut [u32],
     strs: &mut [u8],
     p: Plan,
-    m: Mark,
+    m: &mut Mark,
     f: sizes::FieldWords,
     level: u8,
-) -> Start
-    requires ready { Ready tape.now bytes.now st p m out.old work.old strs.old (used_adds (inner_adds level tape.now st) tape.now st f) }
+) -> Option<u32>
+    requires ready { Ready tape.now bytes.now st p m.old out.old work.old strs.old (used_adds (inner_adds level tape.now st) tape.now st f) }
     requires second_value { used_well st f.usage f.first f.second ≡ true }
-    ensures { StartTold tape.now bytes.now p m out.old work.old strs.old out.new work.new strs.new result
-        (field_from level tape.now bytes.now f (layer_from p work.old strs.old m)) }
+    ensures { StartTold tape.now bytes.now p m.old out.old work.old strs.old out.new work.new strs.new m.new result
+        (field_from level tape.now bytes.now f (layer_from p work.old strs.old m.old)) }
 {
     if f.usage == 3 {
         return graft_content_run(
@@ -426,26 +299,23 @@ fn graft_content_run(
     work: &mut [u32],
     strs: &mut [u8],
     p: Plan,
-    m: Mark,
+    m: &mut Mark,
     start: u32,
     len: u32,
     level: u8,
-) -> Start
-    requires ready { Ready tape.now bytes.now st p m out.old work.old strs.old (content_run_adds (inner_adds level tape.now st) tape.now st start len) }
+) -> Option<u32>
+    requires ready { Ready tape.now bytes.now st p m.old out.old work.old strs.old (content_run_adds (inner_adds level tape.now st) tape.now st start len) }
     requires len_value { contents_in st start len ≡ true }
-    ensures { StartTold tape.now bytes.now p m out.old work.old strs.old out.new work.new strs.new result
-        (content_run_from level tape.now bytes.now start len (layer_from p work.old strs.old m)) }
+    ensures { StartTold tape.now bytes.now p m.old out.old work.old strs.old out.new work.new strs.new m.new result
+        (content_run_from level tape.now bytes.now start len (layer_from p work.old strs.old m.old)) }
 {
     if len == 0 {
-        return Start {
-            mark: m,
-            at: p.contents + m.contents,
-        };
+        return Some(p.contents + m.contents);
     }
     let at = store::content_place(st, start);
     let inner = inner_contents(tape, st, at, len as usize, level);
     let to = m.contents + inner;
-    let r = graft_contents(
+    graft_contents(
         tape,
         bytes,
         st,
@@ -458,8 +328,9 @@ fn graft_content_run(
         len as usize,
         to,
         level,
-    );
-    pushed_contents(p, r, to, len)
+    )?;
+    m.contents = to + len;
+    Some(p.contents + to)
 }
 
 // Section 5. The contents of a run, the first at number `to`.
@@ -472,22 +343,20 @@ fn graft_contents(
     work: &mut [u32],
     strs: &mut [u8],
     p: Plan,
-    m: Mark,
+    m: &mut Mark,
     at: usize,
     count: usize,
     to: u32,
     level: u8,
-) -> Mark
-    requires ready { Ready tape.now bytes.now st p m out.old work.old strs.old (contents_add (inner_adds level tape.now st) tape.now st at count) }
+) -> Option<()>
+    requires ready { Ready tape.now bytes.now st p m.old out.old work.old strs.old (contents_add (inner_adds level tape.now st) tape.now st at count) }
     requires count_in_bounds { (at + 10 * count ≤ length tape.now) × (all (content_in st) (records_at content_codec tape.now at count) ≡ true) }
-    requires count_bound { (m.contents + (contents_add (inner_adds level tape.now st) tape.now st at count).contents ≤ to) × (p.contentsat + 10 * (to + count) ≤ p.segmentsat) × (to + count < 2 ^ 32) }
-    ensures { ContentsTold tape.now bytes.now p m to out.old work.old strs.old out.new work.new strs.new result
-        (shown_contents level tape.now bytes.now (records_at content_codec tape.now at count) (layer_from p work.old strs.old m)) }
+    requires count_bound { (m.old.contents + (contents_add (inner_adds level tape.now st) tape.now st at count).contents ≤ to) × (p.contentsat + 10 * (to + count) ≤ p.segmentsat) × (to + count < 2 ^ 32) }
+    ensures { ContentsTold tape.now bytes.now p m.old to out.old work.old strs.old out.new work.new strs.new m.new (is_some result)
+        (shown_contents level tape.now bytes.now (records_at content_codec tape.now at count) (layer_from p work.old strs.old m.old)) }
 {
-    let mut u = m;
-    let mut i = 0;
-    while i < count {
-        u = graft_content(
+    for i in 0..count {
+        graft_content(
             tape,
             bytes,
             st,
@@ -495,17 +364,13 @@ fn graft_contents(
             work,
             strs,
             p,
-            u,
+            m,
             at + 10 * i,
             to + i as u32,
             level,
-        );
-        if !u.ok {
-            return u;
-        }
-        i += 1;
+        )?;
     }
-    u
+    Some(())
 }
 
 // Section 5. `graft_content`, written as content number `to`.
@@ -518,37 +383,29 @@ fn graft_content(
     work: &mut [u32],
     strs: &mut [u8],
     p: Plan,
-    m: Mark,
+    m: &mut Mark,
     at: usize,
     to: u32,
     level: u8,
-) -> Mark
-    requires ready { Ready tape.now bytes.now st p m out.old work.old strs.old (content_adds (inner_adds level tape.now st) tape.now st (record_at content_codec tape.now at)) }
+) -> Option<()>
+    requires ready { Ready tape.now bytes.now st p m.old out.old work.old strs.old (content_adds (inner_adds level tape.now st) tape.now st (record_at content_codec tape.now at)) }
     requires at_in_bounds { (at + 10 ≤ length tape.now) × (content_in st (record_at content_codec tape.now at) ≡ true) }
-    requires at_bound { (m.contents + (content_adds (inner_adds level tape.now st) tape.now st (record_at content_codec tape.now at)).contents ≤ to) × (p.contentsat + 10 * (to + 1) ≤ p.segmentsat) }
-    ensures { ContentsTold tape.now bytes.now p m to out.old work.old strs.old out.new work.new strs.new result
-        (shown_contents level tape.now bytes.now (record_at content_codec tape.now at ∷ []) (layer_from p work.old strs.old m)) }
+    requires at_bound { (m.old.contents + (content_adds (inner_adds level tape.now st) tape.now st (record_at content_codec tape.now at)).contents ≤ to) × (p.contentsat + 10 * (to + 1) ≤ p.segmentsat) }
+    ensures { ContentsTold tape.now bytes.now p m.old to out.old work.old strs.old out.new work.new strs.new m.new (is_some result)
+        (shown_contents level tape.now bytes.now (record_at content_codec tape.now at ∷ []) (layer_from p work.old strs.old m.old)) }
 {
     let c = records::content_at(tape, at);
     let place = p.contentsat + 10 * (to as usize);
     if c.tag == 0 {
-        let s = graft_str(tape, bytes, st, work, strs, p, m, c.first);
-        let k = s.mark;
-        if !k.ok {
-            return k;
-        }
-        put_records::put_content(out, place, 0, s.at, 0);
-        return k;
+        let id = graft_str(tape, bytes, st, work, strs, p, m, c.first)?;
+        put_records::put_content(out, place, 0, id, 0);
+        return Some(());
     }
-    let s = graft_segment_run(
+    let first = graft_segment_run(
         tape, bytes, st, out, work, strs, p, m, c.first, c.second, level,
-    );
-    let k = s.mark;
-    if !k.ok {
-        return k;
-    }
-    put_records::put_content(out, place, 1, s.at, c.second);
-    k
+    )?;
+    put_records::put_content(out, place, 1, first, c.second);
+    Some(())
 }
 
 // Section 5. A run of segments, behind all that its items push: where it starts.
@@ -561,26 +418,23 @@ fn graft_segment_run(
     work: &mut [u32],
     strs: &mut [u8],
     p: Plan,
-    m: Mark,
+    m: &mut Mark,
     start: u32,
     len: u32,
     level: u8,
-) -> Start
-    requires ready { Ready tape.now bytes.now st p m out.old work.old strs.old (segment_run_adds (inner_adds level tape.now st) tape.now st start len) }
+) -> Option<u32>
+    requires ready { Ready tape.now bytes.now st p m.old out.old work.old strs.old (segment_run_adds (inner_adds level tape.now st) tape.now st start len) }
     requires len_value { segments_in st start len ≡ true }
-    ensures { StartTold tape.now bytes.now p m out.old work.old strs.old out.new work.new strs.new result
-        (segment_run_from level tape.now bytes.now start len (layer_from p work.old strs.old m)) }
+    ensures { StartTold tape.now bytes.now p m.old out.old work.old strs.old out.new work.new strs.new m.new result
+        (segment_run_from level tape.now bytes.now start len (layer_from p work.old strs.old m.old)) }
 {
     if len == 0 {
-        return Start {
-            mark: m,
-            at: p.segments + m.segments,
-        };
+        return Some(p.segments + m.segments);
     }
     let at = store::segment_place(st, start);
     let inner = inner_segments(tape, st, at, len as usize, level);
     let to = m.segments + inner;
-    let r = graft_segments(
+    graft_segments(
         tape,
         bytes,
         st,
@@ -593,8 +447,9 @@ fn graft_segment_run(
         len as usize,
         to,
         level,
-    );
-    pushed_segments(p, r, to, len)
+    )?;
+    m.segments = to + len;
+    Some(p.segments + to)
 }
 
 // Section 5. The segments of a run, the first at number `to`.
@@ -607,22 +462,20 @@ fn graft_segments(
     work: &mut [u32],
     strs: &mut [u8],
     p: Plan,
-    m: Mark,
+    m: &mut Mark,
     at: usize,
     count: usize,
     to: u32,
     level: u8,
-) -> Mark
-    requires ready { Ready tape.now bytes.now st p m out.old work.old strs.old (segments_add (inner_adds level tape.now st) tape.now at count) }
+) -> Option<()>
+    requires ready { Ready tape.now bytes.now st p m.old out.old work.old strs.old (segments_add (inner_adds level tape.now st) tape.now at count) }
     requires count_in_bounds { (at + 37 * count ≤ length tape.now) × (all (segment_in st) (records_at segment_codec tape.now at count) ≡ true) }
-    requires count_bound { (m.segments + (segments_add (inner_adds level tape.now st) tape.now at count).segments ≤ to) × (p.segmentsat + 37 * (to + count) ≤ length out.old) × (to + count < 2 ^ 32) }
-    ensures { SegmentsTold tape.now bytes.now p m to out.old work.old strs.old out.new work.new strs.new result
-        (shown_segments level tape.now bytes.now (records_at segment_codec tape.now at count) (layer_from p work.old strs.old m)) }
+    requires count_bound { (m.old.segments + (segments_add (inner_adds level tape.now st) tape.now at count).segments ≤ to) × (p.segmentsat + 37 * (to + count) ≤ length out.old) × (to + count < 2 ^ 32) }
+    ensures { SegmentsTold tape.now bytes.now p m.old to out.old work.old strs.old out.new work.new strs.new m.new (is_some result)
+        (shown_segments level tape.now bytes.now (records_at segment_codec tape.now at count) (layer_from p work.old strs.old m.old)) }
 {
-    let mut u = m;
-    let mut i = 0;
-    while i < count {
-        u = graft_segment(
+    for i in 0..count {
+        graft_segment(
             tape,
             bytes,
             st,
@@ -630,17 +483,13 @@ fn graft_segments(
             work,
             strs,
             p,
-            u,
+            m,
             at + 37 * i,
             to + i as u32,
             level,
-        );
-        if !u.ok {
-            return u;
-        }
-        i += 1;
+        )?;
     }
-    u
+    Some(())
 }
 
 // Section 5. `graft_segment`, written as segment number `to`; its own level is copied. Below level 0 of the walk a body is all zeros.
@@ -653,34 +502,29 @@ fn graft_segment(
     work: &mut [u32],
     strs: &mut [u8],
     p: Plan,
-    m: Mark,
+    m: &mut Mark,
     at: usize,
     to: u32,
     level: u8,
-) -> Mark
-    requires ready { Ready tape.now bytes.now st p m out.old work.old strs.old (inner_adds level tape.now st (record_at segment_codec tape.now at).body) }
+) -> Option<()>
+    requires ready { Ready tape.now bytes.now st p m.old out.old work.old strs.old (inner_adds level tape.now st (record_at segment_codec tape.now at).body) }
     requires at_in_bounds { (at + 37 ≤ length tape.now) × (segment_in st (record_at segment_codec tape.now at) ≡ true) }
-    requires at_bound { (m.segments + (inner_adds level tape.now st (record_at segment_codec tape.now at).body).segments ≤ to) × (p.segmentsat + 37 * (to + 1) ≤ length out.old) }
-    ensures { SegmentsTold tape.now bytes.now p m to out.old work.old strs.old out.new work.new strs.new result
-        (shown_segments level tape.now bytes.now (record_at segment_codec tape.now at ∷ []) (layer_from p work.old strs.old m)) }
+    requires at_bound { (m.old.segments + (inner_adds level tape.now st (record_at segment_codec tape.now at).body).segments ≤ to) × (p.segmentsat + 37 * (to + 1) ≤ length out.old) }
+    ensures { SegmentsTold tape.now bytes.now p m.old to out.old work.old strs.old out.new work.new strs.new m.new (is_some result)
+        (shown_segments level tape.now bytes.now (record_at segment_codec tape.now at ∷ []) (layer_from p work.old strs.old m.old)) }
 {
     let place = p.segmentsat + 37 * (to as usize);
     let tag = tape[at + 1];
     let own = tape[at + 2];
     if level == 0 {
         put_records::put_segment(out, place, tag, own, 0, 0, 0, 0, [0u32; 6]);
-        return m;
+        return Some(());
     }
-    let b = graft_body(tape, bytes, st, out, work, strs, p, m, at + 3, level - 1);
-    let k = b.mark;
-    if !k.ok {
-        return k;
-    }
-    let words = b.words;
+    let words = graft_body(tape, bytes, st, out, work, strs, p, m, at + 3, level - 1)?;
     let first = wire::u32_at(tape, at + 5);
     let second = wire::u32_at(tape, at + 9);
     let kind = tape[at + 3];
     let variant = tape[at + 4];
     put_records::put_segment(out, place, tag, own, kind, variant, first, second, words);
-    k
+    Some(())
 }

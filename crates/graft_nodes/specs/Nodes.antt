@@ -1,7 +1,8 @@
 -- One node: its words, those of its body, of level 33, or none where its class is 2 or 3; and its record.
-use Rattle.std.specs.Prelude.{◌≡◌, ℕ, ◌+◌, ◌≤◌, ◌<◌, true, false, replicate}
+use Rattle.std.specs.Prelude.{◌≡◌, Option, Some, None, ℕ, ◌+◌, ◌≤◌, ◌<◌, true, false, replicate}
 use Rattle.std.proofs.Math.Path.{refl, ap}
 use Rattle.std.proofs.Common.{sym, ◌∙◌}
+use Rattle.std.proofs.lemmas.Option.{same_Some}
 use mathlib.Core.List.{List, [], ◌∷◌}
 use borrow.Author.Tests.{lt-ltb, le-ltb}
 use Rattle.model.specs.Bytes.{byte_at, word_at}
@@ -25,7 +26,6 @@ use Rattle.graft.specs.Answers.{told_none, item_refused, item_made}
 use Rattle.graft.specs.NodeItems.{shown_of, refs_from, NodesTold}
 use Rattle.graft.specs.declared.Plan.{Plan}
 use Rattle.graft.specs.declared.Mark.{Mark}
-use Rattle.graft.specs.declared.Words.{Words}
 
 -- Section 5. The words of a grafted node.
 unfoldable pub node_words : List ℕ → List ℕ → SourceNode → NewLayer → With (List ℕ)
@@ -40,9 +40,9 @@ module _ (t d : List ℕ) (st : Store) (at : ℕ) where
   class_is = refl
 
   module _ {p : Plan} {m : Mark} {out work strs : List ℕ} (y : Ready t d st p m out work strs (node_adds t st found)) where
-    pub node_bare : 2 ≤ byte_at t (at + 1) → WordsTold t d p m out work strs out work strs (record { mark = m; words = replicate 6 0 }) (node_words t d found (layer_from p work strs m))
+    pub node_bare : 2 ≤ byte_at t (at + 1) → WordsTold t d p m out work strs out work strs m (Some (replicate 6 0)) (node_words t d found (layer_from p work strs m))
     unfolding node_words node_fields show_node show_with show_fields graft_node graft_fields
-    node_bare h = rw (class_is, le-ltb (byte_at t (at + 1)) 2 h) (record { told = told_none y; words = λ o. refl })
+    node_bare h = rw (class_is, le-ltb (byte_at t (at + 1)) 2 h) (record { told = told_none y; words = λ ws o. sym (same_Some (replicate 6 0) ws o) })
 
     module _ (h : byte_at t (at + 1) < 2) where
       pub node_ready : Ready t d st p m out work strs (body_adds 33 t st (body_at t (at + 15)))
@@ -61,13 +61,13 @@ module _ (t d : List ℕ) (st : Store) (at : ℕ) where
           (ap (λ (fs : List Field). graft_fields (show_fields (show_inner 33 (source_store t d)) (source_store t d) (body_at t (at + 15)) fs) (replicate 6 0) (layer_from p work strs m))
           (sym (fields_in_order (body_at t (at + 15)).kind (body_at t (at + 15)).tag)))
 
-      pub node_told : {out' work' strs' : List ℕ} {r : Words} → WordsTold t d p m out work strs out' work' strs' r (body_from 33 t d p work strs m (body_at t (at + 15)) 6)
-          → WordsTold t d p m out work strs out' work' strs' r (node_words t d found (layer_from p work strs m))
+      pub node_told : {out' work' strs' : List ℕ} {r : Mark} {ws : Option (List ℕ)} → WordsTold t d p m out work strs out' work' strs' r ws (body_from 33 t d p work strs m (body_at t (at + 15)) 6)
+          → WordsTold t d p m out work strs out' work' strs' r ws (node_words t d found (layer_from p work strs m))
       node_told x = rw whole x
 
   -- ---- its record
 
-  module _ (p : Plan) (m : Mark) (to : ℕ) (out work strs : List ℕ) {out₁ work₁ strs₁ : List ℕ} (r : Words) (x : WordsTold t d p m out work strs out₁ work₁ strs₁ r (node_words t d found (layer_from p work strs m))) where
+  module _ (p : Plan) (m : Mark) (to : ℕ) (out work strs : List ℕ) where
     -- the node with its grafted words
     abbrev ref : SourceNode
     ref = (graft_node_ref (shown_node (source_store t d) found) (layer_from p work strs m)).0
@@ -76,30 +76,30 @@ module _ (t d : List ℕ) (st : Store) (at : ℕ) where
     unfolding shown_of graft_node_refs graft_node_ref shown_node node_words
     one_ref = refl
 
-    pub ref_refused : r.mark.ok ≡ false → NodesTold t d p m to out work strs out₁ work₁ strs₁ r.mark (refs_from p work strs m (shown_of t d (found ∷ [])))
-    ref_refused = item_refused node_codec p m to out work strs x.told one_ref
+    pub ref_refused : {out₁ work₁ strs₁ : List ℕ} {r : Mark} → WordsTold t d p m out work strs out₁ work₁ strs₁ r None (node_words t d found (layer_from p work strs m))
+        → NodesTold t d p m to out work strs out₁ work₁ strs₁ r false (refs_from p work strs m (shown_of t d (found ∷ [])))
+    ref_refused x = item_refused node_codec p m to out work strs x.told one_ref refl
 
-    six : r.mark.ok ≡ true → six_of r.words ≡ (node_words t d found (layer_from p work strs m)).0
-    unfolding node_words
-    six o = ap six_of (x.words o) ∙ six_of_lem (node_words t d found (layer_from p work strs m)).0 (node_six (show_node (source_store t d) found) (layer_from p work strs m)).is
+    module _ {out₁ work₁ strs₁ : List ℕ} {r : Mark} (own : List ℕ) (x : WordsTold t d p m out work strs out₁ work₁ strs₁ r (Some own) (node_words t d found (layer_from p work strs m))) where
+      six : six_of own ≡ (node_words t d found (layer_from p work strs m)).0
+      unfolding node_words
+      six = ap six_of (x.words own refl) ∙ six_of_lem (node_words t d found (layer_from p work strs m)).0 (node_six (show_node (source_store t d) found) (layer_from p work strs m)).is
 
-    same : r.mark.ok ≡ true
-        → node_with (byte_at t (at + 1)) (byte_at t (at + 2)) (word_at t (at + 3)) (word_at t (at + 7)) (word_at t (at + 11)) (byte_at t (at + 15)) (byte_at t (at + 16)) (word_at t (at + 17)) (word_at t (at + 21)) r.words ≡ ref
-    unfolding graft_node_ref shown_node node_words show_node show_with graft_node record_at operands_at node_codec
-    same o =
-        let y = six o in
-        λ i. record {
-          class = byte_at t (at + 1);
-          inline = byte_at t (at + 2);
-          source_span = record { start = word_at t (at + 3); end = word_at t (at + 7) };
-          normalized_offset = word_at t (at + 11);
-          body = record { kind = byte_at t (at + 15); tag = byte_at t (at + 16); plain1 = word_at t (at + 17); plain2 = word_at t (at + 21); words = y i };
-        }
+      same : node_with (byte_at t (at + 1)) (byte_at t (at + 2)) (word_at t (at + 3)) (word_at t (at + 7)) (word_at t (at + 11)) (byte_at t (at + 15)) (byte_at t (at + 16)) (word_at t (at + 17)) (word_at t (at + 21)) own ≡ ref
+      unfolding graft_node_ref shown_node node_words show_node show_with graft_node record_at operands_at node_codec
+      same =
+          let y = six in
+          λ i. record {
+            class = byte_at t (at + 1);
+            inline = byte_at t (at + 2);
+            source_span = record { start = word_at t (at + 3); end = word_at t (at + 7) };
+            normalized_offset = word_at t (at + 11);
+            body = record { kind = byte_at t (at + 15); tag = byte_at t (at + 16); plain1 = word_at t (at + 17); plain2 = word_at t (at + 21); words = y i };
+          }
 
-    pub ref_made : (start stop offset first second : ℕ) → start ≡ word_at t (at + 3) → stop ≡ word_at t (at + 7) → offset ≡ word_at t (at + 11) → first ≡ word_at t (at + 17) → second ≡ word_at t (at + 21)
-        → r.mark.ok ≡ true → {out₂ : List ℕ}
-        → out₂ ≡ overwrite out₁ to (record_bytes node_codec (node_with (byte_at t (at + 1)) (byte_at t (at + 2)) start stop offset (byte_at t (at + 15)) (byte_at t (at + 16)) first second r.words))
-        → NodesTold t d p m to out work strs out₂ work₁ strs₁ r.mark (refs_from p work strs m (shown_of t d (found ∷ [])))
-    ref_made start stop offset first second a b e f g o =
-        item_made node_codec p m to out work strs x.told one_ref
-        (node_with (byte_at t (at + 1)) (byte_at t (at + 2)) start stop offset (byte_at t (at + 15)) (byte_at t (at + 16)) first second r.words) (rw (a, b, e, f, g) (same o))
+      pub ref_made : (start stop offset first second : ℕ) → start ≡ word_at t (at + 3) → stop ≡ word_at t (at + 7) → offset ≡ word_at t (at + 11) → first ≡ word_at t (at + 17) → second ≡ word_at t (at + 21) → {out₂ : List ℕ}
+          → out₂ ≡ overwrite out₁ to (record_bytes node_codec (node_with (byte_at t (at + 1)) (byte_at t (at + 2)) start stop offset (byte_at t (at + 15)) (byte_at t (at + 16)) first second own))
+          → NodesTold t d p m to out work strs out₂ work₁ strs₁ r true (refs_from p work strs m (shown_of t d (found ∷ [])))
+      ref_made start stop offset first second a b e f g =
+          item_made node_codec p m to out work strs x.told one_ref
+          (node_with (byte_at t (at + 1)) (byte_at t (at + 2)) start stop offset (byte_at t (at + 15)) (byte_at t (at + 16)) first second own) (rw (a, b, e, f, g) same)

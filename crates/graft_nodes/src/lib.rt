@@ -1,7 +1,7 @@
 // Document 01 section 5: each node of the reading grafted, in their order: the trees of its body by crate `graft`, then its record.
 #![tactic(auto)]
 
-ghost use Rattle.std.specs.Prelude.{◌≡◌, true, [], ◌∷◌, ◌+◌, ◌*◌, ◌≤◌, ◌<◌, length};
+ghost use Rattle.std.specs.Prelude.{◌≡◌, true, is_some, [], ◌∷◌, ◌+◌, ◌*◌, ◌≤◌, ◌<◌, length};
 ghost use Rattle.model.specs.Lists.{all};
 ghost use Rattle.model.specs.Tape.{record_at, records_at, node_codec};
 ghost use Rattle.ids.specs.Tests.{node_in};
@@ -21,19 +21,16 @@ pub fn graft_node(
     work: &mut [u32],
     strs: &mut [u8],
     p: graft::Plan,
-    m: graft::Mark,
+    m: &mut graft::Mark,
     at: usize,
-) -> graft::Words
-    requires ready { Ready tape.now bytes.now st p m out.old work.old strs.old (node_adds tape.now st (record_at node_codec tape.now at)) }
+) -> Option<[u32; 6]>
+    requires ready { Ready tape.now bytes.now st p m.old out.old work.old strs.old (node_adds tape.now st (record_at node_codec tape.now at)) }
     requires at_in_bounds { (at + 49 ≤ length tape.now) × (node_in st (record_at node_codec tape.now at) ≡ true) }
-    ensures { WordsTold tape.now bytes.now p m out.old work.old strs.old out.new work.new strs.new result
-        (node_words tape.now bytes.now (record_at node_codec tape.now at) (layer_from p work.old strs.old m)) }
+    ensures { WordsTold tape.now bytes.now p m.old out.old work.old strs.old out.new work.new strs.new m.new result
+        (node_words tape.now bytes.now (record_at node_codec tape.now at) (layer_from p work.old strs.old m.old)) }
 {
     if 2 <= tape[at + 1] {
-        return graft::Words {
-            mark: m,
-            words: [0u32; 6],
-        };
+        return Some([0u32; 6]);
     }
     graft::graft_body(tape, bytes, st, out, work, strs, p, m, at + 15, 33)
 }
@@ -47,21 +44,16 @@ fn graft_node_at(
     work: &mut [u32],
     strs: &mut [u8],
     p: graft::Plan,
-    m: graft::Mark,
+    m: &mut graft::Mark,
     at: usize,
     to: usize,
-) -> graft::Mark
-    requires ready { Ready tape.now bytes.now st p m out.old work.old strs.old (node_adds tape.now st (record_at node_codec tape.now at)) }
+) -> Option<()>
+    requires ready { Ready tape.now bytes.now st p m.old out.old work.old strs.old (node_adds tape.now st (record_at node_codec tape.now at)) }
     requires at_in_bounds { (at + 49 ≤ length tape.now) × (node_in st (record_at node_codec tape.now at) ≡ true) × (to + 49 ≤ length out.old) }
-    ensures { NodesTold tape.now bytes.now p m to out.old work.old strs.old out.new work.new strs.new result
-        (refs_from p work.old strs.old m (shown_of tape.now bytes.now (record_at node_codec tape.now at ∷ []))) }
+    ensures { NodesTold tape.now bytes.now p m.old to out.old work.old strs.old out.new work.new strs.new m.new (is_some result)
+        (refs_from p work.old strs.old m.old (shown_of tape.now bytes.now (record_at node_codec tape.now at ∷ []))) }
 {
-    let w = graft_node(tape, bytes, st, out, work, strs, p, m, at);
-    let k = w.mark;
-    if !k.ok {
-        return k;
-    }
-    let words = w.words;
+    let words = graft_node(tape, bytes, st, out, work, strs, p, m, at)?;
     let start = wire::u32_at(tape, at + 3);
     let stop = wire::u32_at(tape, at + 7);
     let offset = wire::u32_at(tape, at + 11);
@@ -81,7 +73,7 @@ fn graft_node_at(
         second,
         words,
     );
-    k
+    Some(())
 }
 
 // Section 5. The nodes of the reading, `count` of them from `at` on, their records from `nodesat` on.
@@ -93,21 +85,19 @@ pub fn graft_nodes(
     work: &mut [u32],
     strs: &mut [u8],
     p: graft::Plan,
-    m: graft::Mark,
+    m: &mut graft::Mark,
     at: usize,
     count: usize,
     nodesat: usize,
-) -> graft::Mark
-    requires ready { Ready tape.now bytes.now st p m out.old work.old strs.old (nodes_add tape.now st at count) }
+) -> Option<()>
+    requires ready { Ready tape.now bytes.now st p m.old out.old work.old strs.old (nodes_add tape.now st at count) }
     requires count_in_bounds { (at + 49 * count ≤ length tape.now) × (all (node_in st) (records_at node_codec tape.now at count) ≡ true) }
-    requires count_bound { (p.segmentsat + 37 * (m.segments + (nodes_add tape.now st at count).segments) ≤ nodesat) × (nodesat + 49 * count ≤ length out.old) }
-    ensures { NodesTold tape.now bytes.now p m nodesat out.old work.old strs.old out.new work.new strs.new result
-        (refs_from p work.old strs.old m (shown_of tape.now bytes.now (records_at node_codec tape.now at count))) }
+    requires count_bound { (p.segmentsat + 37 * (m.old.segments + (nodes_add tape.now st at count).segments) ≤ nodesat) × (nodesat + 49 * count ≤ length out.old) }
+    ensures { NodesTold tape.now bytes.now p m.old nodesat out.old work.old strs.old out.new work.new strs.new m.new (is_some result)
+        (refs_from p work.old strs.old m.old (shown_of tape.now bytes.now (records_at node_codec tape.now at count))) }
 {
-    let mut u = m;
-    let mut i = 0;
-    while i < count {
-        u = graft_node_at(
+    for i in 0..count {
+        graft_node_at(
             tape,
             bytes,
             st,
@@ -115,14 +105,10 @@ pub fn graft_nodes(
             work,
             strs,
             p,
-            u,
+            m,
             at + 49 * i,
             nodesat + 49 * i,
-        );
-        if !u.ok {
-            return u;
-        }
-        i += 1;
+        )?;
     }
-    u
+    Some(())
 }

@@ -1,15 +1,15 @@
 -- Number 4 by the starts that a store remembers: what the code computes for a field, a body and a record, word by word.
-use Rattle.std.specs.Prelude.{◌≡◌, ℕ, zero, suc, ◌+◌, ◌-◌, ◌≤◌, ◌<◌, Bool, true, false, cond, ◌&&◌, ◌||◌, List, [], ◌∷◌, length, get_or, leb, ltb, eqb}
+use Rattle.std.specs.Prelude.{◌≡◌, ℕ, ◌+◌, ◌-◌, ◌≤◌, ◌<◌, Bool, true, false, cond, ◌&&◌, ◌||◌, List, ltb, eqb}
 use Rattle.std.proofs.Math.Path.{refl, sym, ap}
 use Rattle.std.proofs.Common.{◌∙◌, arith}
 use Rattle.std.proofs.Math.Bool.{and-true}
 use borrow.Author.Tests.{eq-eqb, ne_eqb, lt-ltb, le-ltb, ltb-true, ltb-false}
 use Rattle.model.specs.Lists.{all}
-use Rattle.model.specs.Bytes.{byte_at, word_at}
+use Rattle.model.specs.Bytes.{byte_at}
 use Rattle.model.specs.Limits.{no_string}
 use Rattle.model.specs.Types.{Body, Content, Segment, SourceNode}
 use Rattle.model.specs.WellFormed.{word_of}
-use Rattle.model.specs.Tape.{Field, Field.str, Field.opt_str, Field.content_range, Field.seg_range, field_table, fields_of, node_fields, record_at, operands_at, content_codec, segment_codec, node_codec}
+use Rattle.model.specs.Tape.{Field, Field.str, Field.opt_str, Field.content_range, Field.seg_range, field_table, fields_of, node_fields, record_at, operands_at, segment_codec, node_codec}
 use Rattle.wire.specs.Loops.{all_up_to, Passed, all_passed, all_failed, by_bool}
 use Rattle.records.specs.Values.{body_at, segment_body, node_body}
 use Rattle.records.specs.Uses.{word_use, uses_of, use_among}
@@ -17,7 +17,6 @@ use Rattle.records.proofs.Uses.{uses_right, unused_from}
 use Rattle.records.specs.Words.{word_test, all_by_words}
 use Rattle.store.specs.Pools.{range_in}
 use Rattle.store.specs.declared.Store.{Store}
-use Rattle.store.specs.declared.Totals.{Totals}
 
 -- ---- ids and ranges
 
@@ -50,32 +49,6 @@ segment_in st s = body_in st s.body
 
 unfoldable pub node_in : Store → SourceNode → Bool
 node_in st n = all (field_in st n.body) (node_fields n)
-
--- ---- by the starts alone
-
--- a store with these starts; where its strings begin is not asked
-abbrev pub shown : List ℕ → List ℕ → ℕ → Totals → Store
-shown contents segments layers totals = record { layers = layers; strings = []; contents = contents; segments = segments; totals = totals }
-
-module _ (st : Store) where
-  shown_field : (b : Body) (f : Field) → field_in (shown st.contents st.segments st.layers st.totals) b f ≡ field_in st b f
-  unfolding field_in
-  shown_field b (str i) = refl
-  shown_field b (opt_str i) = refl
-  shown_field b (content_range i) = refl
-  shown_field b (seg_range i) = refl
-
-  pub shown_content : (c : Content) → content_in (shown [] st.segments st.layers st.totals) c ≡ content_in st c
-  unfolding content_in
-  shown_content c = refl
-
-  pub shown_segment : (s : Segment) → segment_in (shown st.contents st.segments st.layers st.totals) s ≡ segment_in st s
-  unfolding segment_in body_in
-  shown_segment s = λ j. all (λ (f : Field). shown_field s.body f j) (fields_of s.body)
-
-  pub shown_node_lem : (n : SourceNode) → node_in (shown st.contents st.segments st.layers st.totals) n ≡ node_in st n
-  unfolding node_in
-  shown_node_lem n = λ j. all (λ (f : Field). shown_field n.body f j) (node_fields n)
 
 -- ---- word by word
 

@@ -1,5 +1,5 @@
 -- Number 4 of a whole tape: its layers walked once, then its nodes; and that for the store of the tape it is the model's.
-use Rattle.std.specs.Prelude.{◌≡◌, ℕ, zero, suc, ◌+◌, ◌*◌, ◌≤◌, ◌<◌, Bool, false, ◌&&◌, ◌||◌, List, [], ◌∷◌, length, get_or, drop}
+use Rattle.std.specs.Prelude.{◌≡◌, ℕ, ◌+◌, ◌*◌, ◌≤◌, ◌<◌, Bool, false, ◌&&◌, ◌||◌, List, [], ◌∷◌, length, get_or, drop}
 use Rattle.std.proofs.Math.Path.{refl, sym, ap, ap₂}
 use Rattle.std.proofs.Common.{◌∙◌, arith, add-one, drop_of_length-le, drop-cons}
 use Rattle.std.proofs.Math.Bool.{true, cond}
@@ -9,7 +9,7 @@ use Rattle.model.specs.Bytes.{word_at}
 use Rattle.model.specs.Limits.{no_string}
 use Rattle.model.specs.Types.{Body, Content, Segment, SourceNode, Layer}
 use Rattle.model.specs.WellFormed.{word_of, field_ok, content_ok, segment_ok, node_ok, ids_ok}
-use Rattle.model.specs.Tape.{Field, Field.str, Field.opt_str, Field.content_range, Field.seg_range, fields_of, node_fields, record_at, records_at, content_codec, segment_codec, node_codec}
+use Rattle.model.specs.Tape.{Field, Field.str, Field.opt_str, Field.content_range, Field.seg_range, fields_of, node_fields, records_at, content_codec, segment_codec, node_codec}
 use Rattle.model.specs.Tape.{LayerPlaces, layer_places, places, string_lengths, layer_at, layers_at, book_at}
 use Rattle.places.specs.declared.LayerRuns.{LayerRuns}
 use Rattle.places.specs.declared.Places.{Places}

@@ -4,61 +4,46 @@
 // specs/Whole.antt that for the store of the tape it is the model's `ids_ok`.
 #![tactic(auto)]
 
-ghost use Rattle.std.specs.Prelude.{◌≡◌, ℕ, ◌+◌, ◌*◌, ◌≤◌, ◌<◌, length, List, []};
+ghost use Rattle.std.specs.Prelude.{◌≡◌, ℕ, ◌+◌, ◌*◌, ◌≤◌, ◌<◌, length, List};
 ghost use Rattle.model.specs.WellFormed.{word_of, ids_ok};
 ghost use Rattle.records.specs.Values.{body_at};
 ghost use Rattle.model.specs.Lists.{all};
 ghost use Rattle.model.specs.Tape.{record_at, records_at, content_codec, segment_codec, node_codec, places, book_at};
-ghost use Rattle.ids.specs.Tests.{contents_in, segments_in, shown, used_well, two_runs, body_in, content_in, segment_in, node_in};
+ghost use Rattle.ids.specs.Tests.{contents_in, segments_in, used_well, two_runs, body_in, content_in, segment_in, node_in};
 ghost use Rattle.ids.specs.Whole.{runs_in, layers_in, LayersFit, IdsFit};
+
+// The id of a missing string.
+const NO_STRING: u32 = 4294967295;
 
 // Number 4. A range of contents, and one of segments.
 pub fn contents_in(st: store::Store, start: u32, len: u32) -> bool
     requires { st.layers ≤ 32 }
     ensures { result ≡ contents_in st start len }
 {
-    let starts = st.contents;
-    store::range_ok(&starts, st.layers, st.totals.contents, start, len)
+    store::range_ok(&st.contents, st.layers, st.totals.contents, start, len)
 }
 
 pub fn segments_in(st: store::Store, start: u32, len: u32) -> bool
     requires { st.layers ≤ 32 }
     ensures { result ≡ segments_in st start len }
 {
-    let starts = st.segments;
-    store::range_ok(&starts, st.layers, st.totals.segments, start, len)
+    store::range_ok(&st.segments, st.layers, st.totals.segments, start, len)
 }
 
 // Number 4. A word by its use: an id, an id that may be missing, the start of a range whose length is the next word. From here on
-// the starts are lent: a store is 408 bytes, and copied for each word it costs more than the test.
-fn used_well(
-    contents: &[u32; 32],
-    segments: &[u32; 32],
-    layers: usize,
-    totals: store::Totals,
-    usage: u8,
-    w: u32,
-    next: u32,
-) -> bool
-    requires { layers ≤ 32 }
-    ensures { result ≡ used_well (shown contents.now segments.now layers totals) usage w next }
+// the store is lent: it is 408 bytes, and copied for each word it costs more than the test.
+#[tactic(auto, using(crate::specs::Tests::used_string, crate::specs::Tests::used_missing, crate::specs::Tests::used_optional, crate::specs::Tests::used_contents, crate::specs::Tests::used_segments, crate::specs::Tests::used_not))]
+fn used_well(st: &store::Store, usage: u8, w: u32, next: u32) -> bool
+    requires { st.now.layers ≤ 32 }
+    ensures { result ≡ used_well st.now usage w next }
 {
-    if usage == 3 {
-        return store::range_ok(contents, layers, totals.contents, w, next);
+    match usage {
+        1 => store::id_ok(st.totals.strings, w),
+        2 => w == NO_STRING || store::id_ok(st.totals.strings, w),
+        3 => store::range_ok(&st.contents, st.layers, st.totals.contents, w, next),
+        5 => store::range_ok(&st.segments, st.layers, st.totals.segments, w, next),
+        _ => true,
     }
-    if usage == 1 {
-        return store::id_ok(totals.strings, w);
-    }
-    if usage == 2 {
-        if w == 4294967295 {
-            return true;
-        }
-        return store::id_ok(totals.strings, w);
-    }
-    if usage == 5 {
-        return store::range_ok(segments, layers, totals.segments, w, next);
-    }
-    true
 }
 
 // The word behind word i, 0 behind the last.
@@ -73,180 +58,108 @@ pub fn next_word(tape: &[u8], at: usize, i: usize) -> u32
 }
 
 // Number 4. Word i of the body at `at`, which has that use.
-fn word_ok(
-    tape: &[u8],
-    contents: &[u32; 32],
-    segments: &[u32; 32],
-    layers: usize,
-    totals: store::Totals,
-    usage: u8,
-    at: usize,
-    i: usize,
-) -> bool
-    requires { (at + 34 ≤ length tape.now) × (i < 6) × (layers ≤ 32) }
-    ensures { result ≡ used_well (shown contents.now segments.now layers totals) usage (word_of (body_at tape.now at) i) (word_of (body_at tape.now at) (i + 1)) }
+fn word_ok(tape: &[u8], st: &store::Store, usage: u8, at: usize, i: usize) -> bool
+    requires { (at + 34 ≤ length tape.now) × (i < 6) × (st.now.layers ≤ 32) }
+    ensures { result ≡ used_well st.now usage (word_of (body_at tape.now at) i) (word_of (body_at tape.now at) (i + 1)) }
 {
     let w = records::body_word(tape, at, i);
     let next = next_word(tape, at, i);
-    used_well(contents, segments, layers, totals, usage, w, next)
+    used_well(st, usage, w, next)
 }
 
 // Number 4 of a Ruby: two ranges of contents, its base and its reading.
-fn two_runs_ok(tape: &[u8], contents: &[u32; 32], layers: usize, total: u32, at: usize) -> bool
-    requires { (at + 34 ≤ length tape.now) × (layers ≤ 32) }
-    ensures { result ≡ two_runs contents.now layers total (body_at tape.now at) }
+fn two_runs_ok(tape: &[u8], st: &store::Store, at: usize) -> bool
+    requires { (at + 34 ≤ length tape.now) × (st.now.layers ≤ 32) }
+    ensures { result ≡ two_runs st.now.contents st.now.layers st.now.totals.contents (body_at tape.now at) }
 {
     let base = records::body_word(tape, at, 0);
     let size = records::body_word(tape, at, 1);
-    if !store::range_ok(contents, layers, total, base, size) {
+    if !store::range_ok(&st.contents, st.layers, st.totals.contents, base, size) {
         return false;
     }
     let reading = records::body_word(tape, at, 2);
     let len = records::body_word(tape, at, 3);
-    store::range_ok(contents, layers, total, reading, len)
+    store::range_ok(&st.contents, st.layers, st.totals.contents, reading, len)
 }
 
 // Number 4. Every field of a body: the words up to the first that has no use. Most bodies of a book are Rubies, and are tested
 // without asking for uses.
-fn body_ids_ok(
-    tape: &[u8],
-    contents: &[u32; 32],
-    segments: &[u32; 32],
-    layers: usize,
-    totals: store::Totals,
-    at: usize,
-) -> bool
-    requires { (at + 34 ≤ length tape.now) × (layers ≤ 32) }
-    ensures { result ≡ body_in (shown contents.now segments.now layers totals) (body_at tape.now at) }
+fn body_ids_ok(tape: &[u8], st: &store::Store, at: usize) -> bool
+    requires { (at + 34 ≤ length tape.now) × (st.now.layers ≤ 32) }
+    ensures { result ≡ body_in st.now (body_at tape.now at) }
 {
     if tape[at] == 1 {
-        return two_runs_ok(tape, contents, layers, totals.contents, at);
+        return two_runs_ok(tape, st, at);
     }
     let uses = records::uses_of(tape[at], tape[at + 1]);
-    let mut i = 0;
-    while i < 6 {
+    for i in 0..6 {
         let usage = records::use_in(uses, i);
         if usage == 0 {
             return true;
         }
-        if !word_ok(tape, contents, segments, layers, totals, usage, at, i) {
+        if !word_ok(tape, st, usage, at, i) {
             return false;
         }
-        i += 1;
     }
     true
 }
 
 // Number 4. Plain names a string, Segments a range of segments.
-fn content_ids_ok(
-    tape: &[u8],
-    segments: &[u32; 32],
-    layers: usize,
-    totals: store::Totals,
-    at: usize,
-) -> bool
-    requires { (at + 10 ≤ length tape.now) × (layers ≤ 32) }
-    ensures { result ≡ content_in (shown [] segments.now layers totals) (record_at content_codec tape.now at) }
+fn content_ids_ok(tape: &[u8], st: &store::Store, at: usize) -> bool
+    requires { (at + 10 ≤ length tape.now) × (st.now.layers ≤ 32) }
+    ensures { result ≡ content_in st.now (record_at content_codec tape.now at) }
 {
     let c = records::content_at(tape, at);
     if c.tag == 0 {
-        return store::id_ok(totals.strings, c.first);
+        return store::id_ok(st.totals.strings, c.first);
     }
-    store::range_ok(segments, layers, totals.segments, c.first, c.second)
+    store::range_ok(
+        &st.segments,
+        st.layers,
+        st.totals.segments,
+        c.first,
+        c.second,
+    )
 }
 
-// Number 4 of a run, with the starts taken out of the store once; for segments and nodes, the same.
+// Number 4 of a run; for segments and nodes, the same.
 pub fn contents_ids_ok(tape: &[u8], st: store::Store, at: usize, count: usize) -> bool
     requires { (at + 10 * count ≤ length tape.now) × (st.layers ≤ 32) }
     ensures { result ≡ all (content_in st) (records_at content_codec tape.now at count) }
 {
-    let segments = st.segments;
-    let mut i = 0;
-    while i < count {
-        if !content_ids_ok(tape, &segments, st.layers, st.totals, at + 10 * i) {
-            return false;
-        }
-        i += 1;
-    }
-    true
+    (0..count).all(|i| content_ids_ok(tape, &st, at + 10 * i))
 }
 
-fn segment_ids_ok(
-    tape: &[u8],
-    contents: &[u32; 32],
-    segments: &[u32; 32],
-    layers: usize,
-    totals: store::Totals,
-    at: usize,
-) -> bool
-    requires { (at + 37 ≤ length tape.now) × (layers ≤ 32) }
-    ensures { result ≡ segment_in (shown contents.now segments.now layers totals) (record_at segment_codec tape.now at) }
+fn segment_ids_ok(tape: &[u8], st: &store::Store, at: usize) -> bool
+    requires { (at + 37 ≤ length tape.now) × (st.now.layers ≤ 32) }
+    ensures { result ≡ segment_in st.now (record_at segment_codec tape.now at) }
 {
-    body_ids_ok(tape, contents, segments, layers, totals, at + 3)
+    body_ids_ok(tape, st, at + 3)
 }
 
 pub fn segments_ids_ok(tape: &[u8], st: store::Store, at: usize, count: usize) -> bool
     requires { (at + 37 * count ≤ length tape.now) × (st.layers ≤ 32) }
     ensures { result ≡ all (segment_in st) (records_at segment_codec tape.now at count) }
 {
-    let contents = st.contents;
-    let segments = st.segments;
-    let mut i = 0;
-    while i < count {
-        if !segment_ids_ok(
-            tape,
-            &contents,
-            &segments,
-            st.layers,
-            st.totals,
-            at + 37 * i,
-        ) {
-            return false;
-        }
-        i += 1;
-    }
-    true
+    (0..count).all(|i| segment_ids_ok(tape, &st, at + 37 * i))
 }
 
 // Number 4. A node of class 2 or 3 has no words.
-fn node_ids_ok(
-    tape: &[u8],
-    contents: &[u32; 32],
-    segments: &[u32; 32],
-    layers: usize,
-    totals: store::Totals,
-    at: usize,
-) -> bool
-    requires { (at + 49 ≤ length tape.now) × (layers ≤ 32) }
-    ensures { result ≡ node_in (shown contents.now segments.now layers totals) (record_at node_codec tape.now at) }
+fn node_ids_ok(tape: &[u8], st: &store::Store, at: usize) -> bool
+    requires { (at + 49 ≤ length tape.now) × (st.now.layers ≤ 32) }
+    ensures { result ≡ node_in st.now (record_at node_codec tape.now at) }
 {
     if 2 <= tape[at + 1] {
         return true;
     }
-    body_ids_ok(tape, contents, segments, layers, totals, at + 15)
+    body_ids_ok(tape, st, at + 15)
 }
 
 pub fn nodes_ids_ok(tape: &[u8], st: store::Store, at: usize, count: usize) -> bool
     requires { (at + 49 * count ≤ length tape.now) × (st.layers ≤ 32) }
     ensures { result ≡ all (node_in st) (records_at node_codec tape.now at count) }
 {
-    let contents = st.contents;
-    let segments = st.segments;
-    let mut i = 0;
-    while i < count {
-        if !node_ids_ok(
-            tape,
-            &contents,
-            &segments,
-            st.layers,
-            st.totals,
-            at + 49 * i,
-        ) {
-            return false;
-        }
-        i += 1;
-    }
-    true
+    (0..count).all(|i| node_ids_ok(tape, &st, at + 49 * i))
 }
 
 // Number 4 of one layer, and of all.
@@ -254,10 +167,8 @@ fn layer_ids_ok(tape: &[u8], st: store::Store, l: places::LayerRuns) -> bool
     requires { (l.contents.at + 10 * l.contents.count ≤ length tape.now) × (l.segments.at + 37 * l.segments.count ≤ length tape.now) × (st.layers ≤ 32) }
     ensures { result ≡ runs_in tape.now st l }
 {
-    if !contents_ids_ok(tape, st, l.contents.at, l.contents.count) {
-        return false;
-    }
-    segments_ids_ok(tape, st, l.segments.at, l.segments.count)
+    contents_ids_ok(tape, st, l.contents.at, l.contents.count)
+        && segments_ids_ok(tape, st, l.segments.at, l.segments.count)
 }
 
 fn layers_ids_ok(tape: &[u8], st: store::Store, layers: usize) -> bool
@@ -265,14 +176,12 @@ fn layers_ids_ok(tape: &[u8], st: store::Store, layers: usize) -> bool
     ensures { result ≡ layers_in tape.now st }
 {
     let mut at = 9;
-    let mut i = 0;
-    while i < layers {
+    for _layer in 0..layers {
         let l = places::next_layer(tape, at);
         if !layer_ids_ok(tape, st, l) {
             return false;
         }
         at = l.end;
-        i += 1;
     }
     true
 }
@@ -282,8 +191,5 @@ pub fn ids_ok(tape: &[u8], st: store::Store, p: places::Places) -> bool
     requires { IdsFit tape.now st p }
     ensures { (d : List ℕ) → result ≡ ids_ok (book_at tape.now (places tape.now) d) }
 {
-    if !layers_ids_ok(tape, st, p.layers) {
-        return false;
-    }
-    nodes_ids_ok(tape, st, p.nodes.at, p.nodes.count)
+    layers_ids_ok(tape, st, p.layers) && nodes_ids_ok(tape, st, p.nodes.at, p.nodes.count)
 }

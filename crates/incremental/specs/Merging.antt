@@ -4,23 +4,24 @@ use Rattle.std.proofs.Common.{sym, ◌∙◌}
 use Rattle.std.proofs.Math.Path.{ap}
 use Rattle.model.specs.Refusal.{Checked, Checked.refused, ◌>>=◌}
 use Rattle.model.specs.Region.{Edit}
-use Rattle.model.specs.Merge.{stored_of, Room, IncrementalOutput, room_of, result_checked, merge, Fitted}
+use Rattle.model.specs.Merge.{stored_of, Room, IncrementalOutput, MergeWindow, room_of, result_checked, merge, fitted, Fitted}
 use Rattle.laws.specs.Estimate.{finished, merge_fitted}
-use Rattle.splice.specs.Window.{window_value}
+use Rattle.places.specs.declared.Places.{Places}
+use Rattle.store.specs.declared.Store.{Store}
 use Rattle.output.specs.declared.IncrementalOutput.{IncrementalOutput as Output}
 use Rattle.output.specs.Answer.{Written}
-use Rattle.fitting.specs.Books.{book_in}
-use Rattle.fitting.specs.declared.Fitting.{Fitting}
-use Rattle.fitting.specs.Stages.{Fits, fits_refused, fits_accepted}
+use Rattle.fitting.specs.Books.{Books, book_in}
+use Rattle.fitting.specs.Stages.{books_fitted}
 
-module _ {t d : List ℕ} {e : Edit} {rt rd : List ℕ} {f : Fitting} (h : Fits t d e rt rd f) (room : Room) where
-  pub merge_refused : (f.number ≡ 0 → ⊥) → merge (stored_of t d) e (stored_of rt rd) room ≡ refused f.number
+module _ (t d : List ℕ) (e : Edit) (rt rd : List ℕ) (room : Room) where
+  pub merge_refused : {n : ℕ} → fitted (stored_of t d) e (stored_of rt rd) ≡ refused n → merge (stored_of t d) e (stored_of rt rd) room ≡ refused n
   unfolding ◌>>=◌
-  merge_refused n = merge_fitted (stored_of t d) e (stored_of rt rd) room ∙ ap (λ (x : Checked Fitted). x >>= finished e room) (fits_refused h n)
+  merge_refused f = merge_fitted (stored_of t d) e (stored_of rt rd) room ∙ ap (λ (x : Checked Fitted). x >>= finished e room) f
 
-  pub merge_result : f.number ≡ 0 → merge (stored_of t d) e (stored_of rt rd) room ≡ result_checked (book_in t d) e (book_in rt rd) (window_value f.w) room
+  pub merge_result : {p q : Places} {st own : Store} {w : MergeWindow} → Books t d p st e w rt rd q own
+      → merge (stored_of t d) e (stored_of rt rd) room ≡ result_checked (book_in t d) e (book_in rt rd) w room
   unfolding ◌>>=◌
-  merge_result z = merge_fitted (stored_of t d) e (stored_of rt rd) room ∙ ap (λ (x : Checked Fitted). x >>= finished e room) (fits_accepted h z)
+  merge_result b = merge_fitted (stored_of t d) e (stored_of rt rd) room ∙ ap (λ (x : Checked Fitted). x >>= finished e room) (books_fitted b)
 
 -- the answer of a later stage, whose work words are as many
 pub written_later : {asked : Checked IncrementalOutput} {out text : List ℕ} (work later : List ℕ) (ask : Room → Checked IncrementalOutput) → asked ≡ ask (room_of out text work) → length later ≡ length work

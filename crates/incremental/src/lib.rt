@@ -24,7 +24,7 @@ fn merge_checked(
 ) -> IncrementalOutput
     ensures { Written (merge_of (stored_of tape.now bytes.now) (correction_of start end replacement.now readingtape.now readingbytes.now) (room_of outtape.old outbytes.old work.old)) result outtape.old outbytes.old work.old outtape.new outbytes.new work.new }
 {
-    let f = fitting::fitted(
+    let fitted = fitting::fitted(
         tape,
         bytes,
         start,
@@ -34,9 +34,10 @@ fn merge_checked(
         readingbytes,
         work,
     );
-    if f.number != 0 {
-        return output::refused_output(f.number);
-    }
+    let f = match fitted {
+        Ok(f) => f,
+        Err(refusal) => return output::refused_output(u32::from(refusal)),
+    };
     let book = result::Book {
         tape,
         bytes,

@@ -1,5 +1,5 @@
 -- The returns of the code, and what is known of a book that is not refused.
-use Rattle.std.specs.Prelude.{◌≡◌, ℕ, ◌+◌, ◌-◌, ◌≤◌, ◌<◌, false, cond, ◌&&◌, List, ◌++◌, length, take, drop, leb, ltb, eqb}
+use Rattle.std.specs.Prelude.{Some, ◌≡◌, ℕ, ◌+◌, ◌-◌, ◌≤◌, ◌<◌, false, cond, ◌&&◌, List, ◌++◌, length, take, drop, leb, ltb, eqb}
 use Rattle.std.proofs.Math.Path.{refl}
 use Rattle.std.proofs.Common.{sym, ap, ◌∙◌, arith, append_assoc, length-take}
 use Rattle.std.proofs.Math.Option.{Option, none, some}
@@ -21,13 +21,10 @@ use Rattle.places.specs.declared.Places.{Places}
 use Rattle.places.specs.Found.{places_of}
 use Rattle.store.specs.declared.Store.{Store}
 use Rattle.store.specs.Stored.{StoreFits, store_at}
-use Rattle.tape.specs.Accepted.{Accepted, refusal_of, accepted_book, accepted_found, accepted_store}
+use Rattle.tape.specs.Accepted.{Accepted, refusal_of, accepted_book, accepted_place, accepted_store}
 use Rattle.lines.specs.Text.{numbered}
 use Rattle.lines.specs.Quoted.{quoted}
 use Rattle.listing.specs.Strings.{Printable, text_short}
-use Rattle.region.specs.declared.Chosen.{Chosen}
-use Rattle.region.specs.declared.Chosen.TheVariants.{Refused, Region}
-use Rattle.region.specs.Chosen.{chosen_of}
 use Rattle.inspect.specs.declared.Outcome.{Outcome}
 use Rattle.inspect.specs.Inspect.{tape_in, bytes_in, behind, edit_at, asked_book, asked_edit, asked_behind, asked, mark_of, book_of, passage_line}
 
@@ -181,26 +178,26 @@ module _ (s : List ℕ) {n : ℕ} (e : n ≡ head_number s) where
 
 -- ---- tape and bytes
 
-pub book_refused : (t d : List ℕ) {n : ℕ} → n ≡ number_of (check_book t d) → (n ≡ 0 → ⊥) → {r : Outcome} → r ≡ outcome_of (refused n) → r ≡ outcome_of (asked_book t d)
+pub book_refused : (t d : List ℕ) {n : ℕ} → check_book t d ≡ refused n → outcome_of (refused n) ≡ outcome_of (asked_book t d)
 unfolding asked_book ◌>>=◌
-book_refused t d e h q = q ∙ ap outcome_of (sym (rw (refusal_of (check_book t d) e h) refl))
+book_refused t d e = ap outcome_of (sym (rw e refl))
 
-pub book_shown : (t d : List ℕ) {n : ℕ} → n ≡ number_of (check_book t d) → n ≡ 0 → record { number = 0; mark = record { edit = false; start = 0; end = 0 } } ≡ outcome_of (asked_book t d)
+pub book_shown : {t d : List ℕ} → Accepted t d → record { number = 0; mark = record { edit = false; start = 0; end = 0 } } ≡ outcome_of (asked_book t d)
 unfolding asked_book ◌>>=◌ outcome_of mark_of
-book_shown t d e z = let a = accepted_book t d (sym e ∙ z) in rw a.book refl
+book_shown a = rw a.book refl
 
 -- what a chosen region or a refusal answers
-unfoldable pub told : Chosen → Outcome
-told (Refused n) = outcome_of (refused n)
-told (Region start end) = outcome_of (accepted (some (record { start = start; end = end })))
+abbrev pub told : Checked Span → Outcome
+told (refused n) = outcome_of (refused n)
+told (accepted r) = outcome_of (accepted (some r))
 
-told_chosen : (x : Checked Span) → told (chosen_of x) ≡ outcome_of (x >>= λ r. accepted (some r))
-unfolding told chosen_of ◌>>=◌
+told_chosen : (x : Checked Span) → told x ≡ outcome_of (x >>= λ r. accepted (some r))
+unfolding ◌>>=◌
 told_chosen (refused n) = refl
 told_chosen (accepted r) = refl
 
 pub edit_told : (t d : List ℕ) (s : List ℕ) (p : ℕ) {start end n : ℕ} {w : List ℕ} → start ≡ word_at s p → end ≡ word_at s (p + 4) → n ≡ word_at s (p + 8)
-    → w ≡ part s (p + 12) (p + 12 + n - (p + 12)) → {x : Chosen} → x ≡ chosen_of (choose_region t d (edit_of start end w)) → {r : Outcome} → r ≡ told x
+    → w ≡ part s (p + 12) (p + 12 + n - (p + 12)) → {x : Checked Span} → x ≡ choose_region t d (edit_of start end w) → {r : Outcome} → r ≡ told x
     → r ≡ outcome_of (asked_edit t d (edit_at s p))
 unfolding asked_edit edit_of
 edit_told t d s p {start} {end} {n} e f g h c q =
@@ -299,8 +296,8 @@ unfolding passage_line
 passage_whole b r h p q u v w = w ∙ rw (v, u, q, p, h, append_assoc, append_assoc, append_assoc) refl
 
 -- what the printing of a line asks
-pub shown_store_lem : {t d : List ℕ} → Shown t d → {p : Places} → p ≡ places_of t d → StoreFits t p.layers
-shown_store_lem w {p} e = accepted_store w.passed (accepted_found w.passed p e)
+pub shown_store_lem : {t d : List ℕ} → Shown t d → {p : Places} → Some p ≡ places_of t d → StoreFits t p.layers
+shown_store_lem w {p} e = accepted_store w.passed (accepted_place w.passed e)
 
 pub shown_printable : {t d : List ℕ} → Shown t d → {st : Store} → st ≡ store_at t → Printable t d st
 shown_printable w e = record { passed = w.passed; stored = e; short = w.short }

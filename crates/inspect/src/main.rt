@@ -6,11 +6,15 @@
 ghost use Rattle.std.specs.Prelude.{◌≡◌, ℕ, ◌+◌, ◌≤◌, ◌<◌, List, length, take};
 ghost use Rattle.std.proofs.Math.Option.{some};
 ghost use Rattle.model.specs.Refusal.{Checked.refused, Checked.accepted, number_of};
+ghost use Rattle.refusal.specs.Refusal.{checked, checked_map};
+ghost use Rattle.span.specs.Values.{span_of};
 ghost use Rattle.listing.specs.Coded.{label_bytes};
 ghost use Rattle.listing.specs.Strings.{Printable};
 ghost use Rattle.inspect.specs.Inspect.{tape_in, bytes_in, behind, edit_at, asked_book, asked_edit, asked, book_of, passage_line};
 ghost use Rattle.inspect.specs.Answers.{outcome_of, head_number, edit_number, told, Shown};
 
+use refusal::Refusal;
+use span::Span;
 use std::io;
 use std::io::Write;
 
@@ -105,9 +109,8 @@ fn refused(n: u32) -> Outcome
 fn book_answer(tape: &[u8], bytes: &[u8]) -> Outcome
     ensures { result ≡ outcome_of (asked_book tape.now bytes.now) }
 {
-    let n = tape::check_book(tape, bytes);
-    if n != 0 {
-        return refused(n);
+    if let Err(refusal) = tape::check_book(tape, bytes) {
+        return refused(u32::from(refusal));
     }
     let none = listing::Mark {
         edit: false,
@@ -120,12 +123,12 @@ fn book_answer(tape: &[u8], bytes: &[u8]) -> Outcome
     }
 }
 
-fn told_by(x: region::Chosen) -> Outcome
-    ensures { result ≡ told x }
+fn told_by(x: Result<Span, Refusal>) -> Outcome
+    ensures { result ≡ told (checked_map span_of (checked x)) }
 {
     match x {
-        region::Chosen::Refused(n) => refused(n),
-        region::Chosen::Region(start, end) => marked(start, end),
+        Ok(Span { start, end }) => marked(start, end),
+        Err(refusal) => refused(u32::from(refusal)),
     }
 }
 
@@ -294,7 +297,7 @@ fn print_book<W: Write>(
     requires shown { Shown tape.now bytes.now }
 {
     let labels = listing::labels();
-    let p = places::places_of(tape, bytes);
+    let p = places::places_of(tape, bytes).unwrap();
     let st = store::store_of(tape, p.layers);
     print_lines(writer, out, &labels, tape, bytes, st, m)
 }

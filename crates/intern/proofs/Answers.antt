@@ -1,14 +1,9 @@
 -- The ways of a call. Assumes nothing.
-use mathlib.Core.Path.{◌≡◌, refl, sym, ap, ◌∙◌, subst}
-use mathlib.Core.Bool.{Bool, true, false, cond, ◌&&◌, false≢true}
-use mathlib.Core.Logic.{⊎_elim}
-use mathlib.Core.List.{List, [], ◌∷◌, ◌++◌, flatten}
-use Prim.Native.Nat.{ℕ, suc, ◌+◌, ◌-◌, ◌*◌, ◌<◌, ◌≤◌}
-use native.Mathlib.Omega.{arith}
-use borrow.Author.Tests.{eq-eqb, ne_eqb, lt-ltb, le-ltb}
-use lib.Dec.{leb}
-use lib.ListN.{length, get_or, take, drop, set, length-set, length-append}
-use lib.Seq.{drop-set-lt, drop-drop, get_or-set_other}
+use Rattle.std.specs.Prelude.{◌≡◌, Option, Some, None, Bool, true, false, cond, ◌&&◌, List, [], ◌∷◌, ◌++◌, ℕ, suc, ◌+◌, ◌-◌, ◌*◌, ◌<◌, ◌≤◌, leb, length, get_or, take, drop, set}
+use Rattle.std.proofs.Common.{refl, sym, ap, ◌∙◌, subst, ⊎_elim, arith, eq-eqb, ne_eqb, length-set, length-append, drop-set-lt, drop-drop, get_or-set_other}
+use Rattle.std.proofs.lemmas.Bool.{lt-ltb, le-ltb}
+use Rattle.std.proofs.lemmas.Option.{none-some, same_Some}
+use mathlib.Core.List.{flatten}
 use Rattle.model.specs.Intern.{StrInterner, InternStats, Interned, Probe, holds, grows, table_for, plus_stats, cache_hit, bypass, table_hit, table_alloc, table_call, intern}
 use Rattle.model.specs.Limits.{max_new_strings}
 use Rattle.table.specs.Layout.{wide_words, table_of, starts_of, strings_up_to, Starts, Entries}
@@ -24,39 +19,38 @@ use Rattle.interner.specs.declared.StrInterner.{StrInterner as Interner}
 use Rattle.interner.specs.State.{state_of, Good, has_room, Ready, Alloced, allocated, with_table, with_slots, with_entry, Remembered, first_probe}
 use Rattle.interner.specs.Row.{Row, row_of, far_in, probe_for, row_apart, row_set, row_words}
 use Rattle.interner.specs.Room.{room_same, room_more, count_is}
-use Rattle.intern.specs.declared.Answer.{Answer}
-use Rattle.intern.specs.Told.{Told, known_answer, probed_call}
+use Rattle.intern.specs.Told.{Told, known_state, probed_call}
 
 module _ (work strs : List ℕ) (st : Interner) (g : Good work strs st) where
   abbrev strings : List (List ℕ)
   strings = strings_up_to st.count (starts_of st.count work) strs
 
   -- ---- a string that is there
-  pub known_told : (slot : ℕ) (c : Counters) (one : InternStats) → Adds st.stats c one → slot ≤ st.count → (r : Answer) → r ≡ known_answer st slot c
-      → Told work strs st work strs r (record { id = slot - 1; state = record { strings = strings; table = table_of st.slots work; occupied = st.occupied; last = slot; stats = plus_stats (stats_of st.stats) one } })
+  pub known_told : (slot : ℕ) (c : Counters) (one : InternStats) → Adds st.stats c one → slot ≤ st.count → (u : Interner) → u ≡ known_state st slot c → (r : ℕ) → r ≡ slot - 1
+      → Told work strs st work strs u (Some r) (record { id = slot - 1; state = record { strings = strings; table = table_of st.slots work; occupied = st.occupied; last = slot; stats = plus_stats (stats_of st.stats) one } })
   unfolding has_room
-  known_told slot c one adds le r is =
-      subst (λ (x : Answer). Told work strs st work strs x (record { id = slot - 1; state = record { strings = strings; table = table_of st.slots work; occupied = st.occupied; last = slot; stats = plus_stats (stats_of st.stats) one } })) (sym is)
+  known_told slot c one adds le u is r id =
+      subst (λ (x : Interner). Told work strs st work strs x (Some r) (record { id = slot - 1; state = record { strings = strings; table = table_of st.slots work; occupied = st.occupied; last = slot; stats = plus_stats (stats_of st.stats) one } })) (sym is)
       (record {
-        ok = room_same work strs st g;
-        refused = λ e. absurd (false≢true (sym e));
-        answered = λ _. record {
-          good = record {
-            words = g.words;
-            size = g.size;
-            entries = g.entries;
-            number = g.number;
-            most = g.most;
-            known = le;
-            end = g.end;
-            fits = g.fits;
-            begins = g.begins;
-            laid = g.laid;
-            counts = adds.counted;
-            row = g.row;
-          };
+        good = record {
+          words = g.words;
+          size = g.size;
+          entries = g.entries;
+          number = g.number;
+          most = g.most;
+          known = le;
+          end = g.end;
+          fits = g.fits;
+          begins = g.begins;
+          laid = g.laid;
+          counts = adds.counted;
+          row = g.row;
+        };
+        room = room_same work strs st g;
+        refused = λ e. absurd (none-some r (sym e));
+        answered = λ k e. record {
           state = ap (λ (x : InternStats). record { strings = strings; table = table_of st.slots work; occupied = st.occupied; last = slot; stats = x }) adds.is;
-          id = refl;
+          id_is = sym (same_Some r k e) ∙ id;
           base = refl;
           kept = refl;
           free = refl;
@@ -64,36 +58,30 @@ module _ (work strs : List ℕ) (st : Interner) (g : Good work strs st) where
       })
 
   -- ---- a new string
-  refusal : (work' strs' : List ℕ) (r : Answer) (a : Interned) → r.ok ≡ false → r.id ≡ 0 → r.state ≡ st → r.ok ≡ has_room (length strs) st.base a.state → Told work strs st work' strs' r a
-  refusal work' strs' r a no_room id state ok =
-      record {
-        ok = ok;
-        answered = λ e. absurd (false≢true (sym no_room ∙ e));
-        refused = λ _. record { id = id; state = state ∙ ap (with_slots st) (sym (ap (λ (x : Interner). x.slots) state)) };
-      }
+  refusal : (a : Interned) → false ≡ has_room (length strs) st.base a.state → Told work strs st work strs st None a
+  refusal a no_room = record { good = g; room = no_room; answered = λ k e. absurd (none-some k e); refused = λ _. refl }
 
   module _ (s : List ℕ) (b : Bool) (room : b ≡ (leb (st.count + 1) max_new_strings && leb (st.used + length s) (length strs))) where
-    pub bypass_refused : (work' strs' : List ℕ) (r : Answer) → b ≡ false → r.ok ≡ false → r.id ≡ 0 → r.state ≡ st → Told work strs st work' strs' r (bypass (state_of work strs st) s)
+    pub bypass_refused : b ≡ false → Told work strs st work strs st None (bypass (state_of work strs st) s)
     unfolding bypass
-    bypass_refused work' strs' r hb hr id state = refusal work' strs' r _ hr id state (hr ∙ sym hb ∙ room_more work strs st g b s room _ refl)
+    bypass_refused hb = refusal _ (sym hb ∙ room_more work strs st g b s room _ refl)
 
-    pub alloc_refused : (work' strs' : List ℕ) (r : Answer) (resized : ℕ) (p : Probe) → b ≡ false → r.ok ≡ false → r.id ≡ 0 → r.state ≡ st → Told work strs st work' strs' r (table_alloc (state_of work strs st) (table_of st.slots work) resized p s)
+    pub alloc_refused : (resized : ℕ) (p : Probe) → b ≡ false → Told work strs st work strs st None (table_alloc (state_of work strs st) (table_of st.slots work) resized p s)
     unfolding table_alloc
-    alloc_refused work' strs' r resized p hb hr id state = refusal work' strs' r _ hr id state (hr ∙ sym hb ∙ room_more work strs st g b s room _ refl)
+    alloc_refused resized p hb = refusal _ (sym hb ∙ room_more work strs st g b s room _ refl)
 
-    module _ (has : b ≡ true) (work' strs' : List ℕ) (c : Counters) (one : InternStats) (adds : Adds st.stats c one) (t : Interner) (a : Alloced work strs st s c work' strs' t) where
-      pub bypass_told : (r : Answer) → one ≡ record { calls = 1; cache_hits = 0; table_hits = 0; allocs = 1; long_bypass = 1; resizes = 0; probe_steps = 0 } → r.ok ≡ true → r.id ≡ st.count → r.state ≡ t
-          → Told work strs st work' strs' r (bypass (state_of work strs st) s)
+    module _ (has : b ≡ true) (work' strs' : List ℕ) (c : Counters) (one : InternStats) (adds : Adds st.stats c one) (t : Interner) (a : Alloced work strs st s c work' strs' t) (r : ℕ) (id : r ≡ st.count) where
+      pub bypass_told : one ≡ record { calls = 1; cache_hits = 0; table_hits = 0; allocs = 1; long_bypass = 1; resizes = 0; probe_steps = 0 } → Told work strs st work' strs' t (Some r) (bypass (state_of work strs st) s)
       unfolding bypass
-      bypass_told r hby ok id state =
+      bypass_told hby =
           record {
-            ok = ok ∙ sym has ∙ room_more work strs st g b s room _ refl;
-            refused = λ e. absurd (false≢true (sym e ∙ ok));
-            answered = λ _. record {
-              good = subst (Good work' strs') (sym state) a.good;
-              state = ap (state_of work' strs') state ∙ a.state ∙ ap (allocated (state_of work strs st) s) (adds.is ∙ ap (plus_stats (stats_of st.stats)) hby);
-              id = id ∙ sym (count_is work strs st g);
-              base = ap (λ (x : Interner). x.base) state ∙ a.base;
+            good = a.good;
+            room = sym has ∙ room_more work strs st g b s room _ refl;
+            refused = λ e. absurd (none-some r (sym e));
+            answered = λ k e. record {
+              state = a.state ∙ ap (allocated (state_of work strs st) s) (adds.is ∙ ap (plus_stats (stats_of st.stats)) hby);
+              id_is = sym (same_Some r k e) ∙ id ∙ sym (count_is work strs st g);
+              base = a.base;
               kept = a.kept;
               free = a.free;
             };
@@ -166,22 +154,21 @@ module _ (work strs : List ℕ) (st : Interner) (g : Good work strs st) where
           stats = stats_of t.stats;
         }
 
-        pub alloc_told : (r : Answer) (work'' : List ℕ) (resized : ℕ) (p : Probe) → p.at ≡ at → one ≡ record { calls = 1; cache_hits = 0; table_hits = 0; allocs = 1; long_bypass = 0; resizes = resized; probe_steps = p.steps } → work'' ≡ new
-            → r.ok ≡ true → r.id ≡ st.count → r.state ≡ with_entry t
-            → Told work strs st work'' strs' r (table_alloc (state_of work strs st) (table_of st.slots work) resized p s)
+        pub alloc_told : (u : Interner) (work'' : List ℕ) (resized : ℕ) (p : Probe) → p.at ≡ at → one ≡ record { calls = 1; cache_hits = 0; table_hits = 0; allocs = 1; long_bypass = 0; resizes = resized; probe_steps = p.steps } → work'' ≡ new
+            → u ≡ with_entry t → Told work strs st work'' strs' u (Some r) (table_alloc (state_of work strs st) (table_of st.slots work) resized p s)
         unfolding table_alloc
-        alloc_told r work'' resized p hat hby hw ok id state =
+        alloc_told u work'' resized p hat hby hw state =
             let more : length (strings ++ (s ∷ [])) ≡ suc (length strings) = length-append strings (s ∷ []) ∙ omega arith in
-            subst (λ (w : List ℕ). Told work strs st w strs' r (table_alloc (state_of work strs st) (table_of st.slots work) resized p s)) (sym hw)
+            subst (λ (w : List ℕ). Told work strs st w strs' u (Some r) (table_alloc (state_of work strs st) (table_of st.slots work) resized p s)) (sym hw)
             (record {
-              ok = ok ∙ sym has ∙ room_more work strs st g b s room _ refl;
-              refused = λ e. absurd (false≢true (sym e ∙ ok));
-              answered = λ _. record {
-                good = subst (Good new strs') (sym state) entered_good;
+              good = subst (Good new strs') (sym state) entered_good;
+              room = sym has ∙ room_more work strs st g b s room _ refl;
+              refused = λ e. absurd (none-some r (sym e));
+              answered = λ k e. record {
                 state =
                     ap (state_of new strs') state ∙ entered_state ∙ ap entered a.state
                     ∙ (λ i. record { strings = strings ++ (s ∷ []); table = set (table_of st.slots work) (sym hat i) (more i); occupied = st.occupied + 1; last = suc (length strings); stats = (adds.is ∙ ap (plus_stats (stats_of st.stats)) hby) i });
-                id = id ∙ sym (count_is work strs st g);
+                id_is = sym (same_Some r k e) ∙ id ∙ sym (count_is work strs st g);
                 base = ap (λ (x : Interner). x.base) state ∙ a.base;
                 kept = a.kept;
                 free = drop-set-lt 15360 work' (t.slots - 256 + at) t.count (omega (arith, size_hi a.good.size, lt_t)) ∙ a.free;
@@ -189,20 +176,20 @@ module _ (work strs : List ℕ) (st : Interner) (g : Good work strs st) where
             })
 
   -- ---- words and numbers of the table changed before
-  pub told_over : (w work' strs' : List ℕ) (u : Interner) (r : Answer) (a : Interned) → u ≡ with_slots st u.slots → drop 8192 w ≡ drop 8192 work → Told w strs u work' strs' r a → Told work strs st work' strs' r a
-  told_over w work' strs' u r a is high h =
+  pub told_over : (w work' strs' : List ℕ) (u u' : Interner) (r : Option ℕ) (a : Interned) → u ≡ with_slots st u.slots → drop 8192 w ≡ drop 8192 work → Told w strs u work' strs' u' r a → Told work strs st work' strs' u' r a
+  told_over w work' strs' u u' r a is high h =
       let base : u.base ≡ st.base = ap (λ (x : Interner). x.base) is in
       let used : u.used ≡ st.used = ap (λ (x : Interner). x.used) is in
       let free : drop 15360 w ≡ drop 15360 work = sym (drop-drop 7168 8192 w) ∙ ap (λ (l : List ℕ). drop 7168 l) high ∙ drop-drop 7168 8192 work in
       record {
-        refused = λ e. let q = h.refused e in record { id = q.id; state = q.state ∙ ap (λ (x : Interner). with_slots x r.state.slots) is };
-        ok = h.ok ∙ ap (λ (n : ℕ). has_room (length strs) n a.state) base;
-        answered = λ e.
-            let q = h.answered e in
+        good = h.good;
+        refused = λ e. h.refused e ∙ ap (λ (x : Interner). with_slots x u'.slots) is;
+        room = h.room ∙ ap (λ (n : ℕ). has_room (length strs) n a.state) base;
+        answered = λ k e.
+            let q = h.answered k e in
             record {
-              good = q.good;
               state = q.state;
-              id = q.id;
+              id_is = q.id_is;
               base = q.base ∙ base;
               kept = subst (λ (n : ℕ). take n strs' ≡ take n strs) used q.kept;
               free = q.free ∙ free;
@@ -223,25 +210,25 @@ module _ (work strs : List ℕ) (st : Interner) (g : Good work strs st) where
         let z : (first_probe (state_of work strs st) s).slot ≡ 0 → ⊥ = λ e. ne (ap (λ (q : Probe). q.slot) is ∙ e) in
         ap (λ (q : Probe). table_hit (state_of work strs st) (table_of st.slots work) resized q) is ∙ sym (rw (ne_eqb _ _ z) refl)
 
-    pub hit_told : (c : Counters) → Adds st.stats c (record { calls = 1; cache_hits = 0; table_hits = 1; allocs = 0; long_bypass = 0; resizes = resized; probe_steps = p.steps }) → (r : Answer) → (p.slot ≡ 0 → ⊥) → p.slot ≤ st.count → r ≡ known_answer st p.slot c
-        → Told work strs st work strs r (probed_call (state_of work strs st) resized s)
+    pub hit_told : (c : Counters) → Adds st.stats c (record { calls = 1; cache_hits = 0; table_hits = 1; allocs = 0; long_bypass = 0; resizes = resized; probe_steps = p.steps }) → (p.slot ≡ 0 → ⊥) → p.slot ≤ st.count
+        → (u : Interner) → u ≡ known_state st p.slot c → (r : ℕ) → r ≡ p.slot - 1 → Told work strs st work strs u (Some r) (probed_call (state_of work strs st) resized s)
     unfolding table_hit
-    hit_told c adds r ne le k = subst (λ (a : Interned). Told work strs st work strs r a) (call_hit ne) (known_told p.slot c _ adds le r k)
+    hit_told c adds ne le u k r id = subst (λ (a : Interned). Told work strs st work strs u (Some r) a) (call_hit ne) (known_told p.slot c _ adds le u k r id)
 
   -- ---- the whole call
   module _ (s : List ℕ) (b : Bool) (is_last : b ≡ holds strings st.last s) where
-    pub intern_cached : (c : Counters) → Adds st.stats c (record { calls = 1; cache_hits = 1; table_hits = 0; allocs = 0; long_bypass = 0; resizes = 0; probe_steps = 0 }) → (r : Answer) → b ≡ true → r ≡ known_answer st st.last c
-        → Told work strs st work strs r (intern (state_of work strs st) s)
+    pub intern_cached : (c : Counters) → Adds st.stats c (record { calls = 1; cache_hits = 1; table_hits = 0; allocs = 0; long_bypass = 0; resizes = 0; probe_steps = 0 }) → b ≡ true
+        → (u : Interner) → u ≡ known_state st st.last c → (r : ℕ) → r ≡ st.last - 1 → Told work strs st work strs u (Some r) (intern (state_of work strs st) s)
     unfolding intern cache_hit
-    intern_cached c adds r hb k =
+    intern_cached c adds hb u k r id =
         let e : cache_hit (state_of work strs st) ≡ intern (state_of work strs st) s = sym (rw (sym is_last ∙ hb) refl) in
-        subst (λ (a : Interned). Told work strs st work strs r a) e (known_told st.last c _ adds g.known r k)
+        subst (λ (a : Interned). Told work strs st work strs u (Some r) a) e (known_told st.last c _ adds g.known u k r id)
 
-    pub intern_bypass : (work' strs' : List ℕ) (r : Answer) → b ≡ false → 64 < length s → Told work strs st work' strs' r (bypass (state_of work strs st) s) → Told work strs st work' strs' r (intern (state_of work strs st) s)
+    pub intern_bypass : (work' strs' : List ℕ) (u : Interner) (r : Option ℕ) → b ≡ false → 64 < length s → Told work strs st work' strs' u r (bypass (state_of work strs st) s) → Told work strs st work' strs' u r (intern (state_of work strs st) s)
     unfolding intern
-    intern_bypass work' strs' r hb lt h =
+    intern_bypass work' strs' u r hb lt h =
         let e : bypass (state_of work strs st) s ≡ intern (state_of work strs st) s = sym (rw (sym is_last ∙ hb, lt-ltb 64 (length s) lt) refl) in
-        subst (λ (a : Interned). Told work strs st work' strs' r a) e h
+        subst (λ (a : Interned). Told work strs st work' strs' u r a) e h
 
     intern_table : b ≡ false → length s ≤ 64 → table_call (state_of work strs st) (table_for (state_of work strs st)) s ≡ intern (state_of work strs st) s
     unfolding intern
@@ -253,17 +240,17 @@ module _ (work strs : List ℕ) (st : Interner) (g : Good work strs st) where
         ap (λ (x : StrInterner). probed_call x resized s) y.state
         ∙ ap (λ (n : ℕ). probed_call (with_table (state_of work strs st) (table_for (state_of work strs st))) n s) hr
 
-    pub intern_told : (w work' strs' : List ℕ) (u : Interner) (r : Answer) (resized : ℕ) → b ≡ false → length s ≤ 64 → Ready work strs st w u → resized ≡ cond (grows (state_of work strs st)) 1 0
-        → Told w strs u work' strs' r (probed_call (state_of w strs u) resized s) → Told work strs st work' strs' r (intern (state_of work strs st) s)
-    intern_told w work' strs' u r resized hb le y hr h =
-        subst (λ (a : Interned). Told work strs st work' strs' r a) (ready_call w u resized y hr ∙ intern_table hb le) (told_over w work' strs' u r _ y.is y.high h)
+    pub intern_told : (w work' strs' : List ℕ) (u u' : Interner) (r : Option ℕ) (resized : ℕ) → b ≡ false → length s ≤ 64 → Ready work strs st w u → resized ≡ cond (grows (state_of work strs st)) 1 0
+        → Told w strs u work' strs' u' r (probed_call (state_of w strs u) resized s) → Told work strs st work' strs' u' r (intern (state_of work strs st) s)
+    intern_told w work' strs' u u' r resized hb le y hr h =
+        subst (λ (a : Interned). Told work strs st work' strs' u' r a) (ready_call w u resized y hr ∙ intern_table hb le) (told_over w work' strs' u u' r _ y.is y.high h)
 
 -- ---- a far string
 module _ (work strs : List ℕ) (st : Interner) (g : Good work strs st) (w : List ℕ) (m : Remembered work strs st w) where
   pub learnt_told : (s : List ℕ) (resized : ℕ) (p : Probe) → p ≡ first_probe (state_of work strs st) s
       → (c : Counters) → Adds st.stats c (record { calls = 1; cache_hits = 0; table_hits = 1; allocs = 0; long_bypass = 0; resizes = resized; probe_steps = p.steps })
-      → (r : Answer) → (p.slot ≡ 0 → ⊥) → p.slot ≤ st.count → r ≡ known_answer st p.slot c → Told work strs st w strs r (probed_call (state_of work strs st) resized s)
-  learnt_told s resized p is c adds r ne le k =
-      let h = hit_told w strs st m.good s resized p (is ∙ ap (λ (x : StrInterner). first_probe x s) (sym m.state)) c adds r ne le k in
-      told_over work strs st g w w strs st r (probed_call (state_of work strs st) resized s) refl m.high
-      (subst (λ (x : StrInterner). Told w strs st w strs r (probed_call x resized s)) m.state h)
+      → (p.slot ≡ 0 → ⊥) → p.slot ≤ st.count → (u : Interner) → u ≡ known_state st p.slot c → (r : ℕ) → r ≡ p.slot - 1 → Told work strs st w strs u (Some r) (probed_call (state_of work strs st) resized s)
+  learnt_told s resized p is c adds ne le u k r id =
+      let h = hit_told w strs st m.good s resized p (is ∙ ap (λ (x : StrInterner). first_probe x s) (sym m.state)) c adds ne le u k r id in
+      told_over work strs st g w w strs st u (Some r) (probed_call (state_of work strs st) resized s) refl m.high
+      (subst (λ (x : StrInterner). Told w strs st w strs u (Some r) (probed_call x resized s)) m.state h)

@@ -4,10 +4,9 @@
 // has no limit of 3583 strings, so the numbers of the line 'one more' are those before that call.
 #![tactic(auto)]
 
-ghost use Rattle.std.specs.Prelude.{◌≡◌, true, ◌∷◌, [], ◌+◌, ◌/◌, ◌%◌, ◌≤◌, ◌<◌, length};
+ghost use Rattle.std.specs.Prelude.{◌≡◌, ◌∷◌, [], ◌+◌, ◌/◌, ◌%◌, ◌≤◌, length};
 ghost use Rattle.interner.specs.State.{Good};
 
-use intern::Answer;
 use interner::StrInterner;
 use std::io;
 
@@ -20,13 +19,12 @@ fn put_hash(rt: &impl Print, bytes: &[u8]) -> io::Result<()> {
     println!(rt; "{h:016x}")
 }
 
-// The state behind a call, or that the call was refused.
-fn show(rt: &impl Print, label: &str, a: Answer) -> io::Result<()> {
-    let st = a.state;
+// The state behind a call, and the id that it answered, or that it was refused.
+fn show(rt: &impl Print, label: &str, st: &StrInterner, id: Option<u32>) -> io::Result<()> {
     let c = st.stats;
-    let told = if a.ok { "ok" } else { "refused" };
+    let told = if id.is_some() { "ok" } else { "refused" };
     print!(rt; "{label} {told}")?;
-    put(rt, " id ", a.id as u64)?;
+    put(rt, " id ", id.unwrap_or(0) as u64)?;
     put(rt, " slots ", st.slots as u64)?;
     put(rt, " strings ", st.count as u64)?;
     put(rt, " calls ", c.calls)?;
@@ -39,34 +37,21 @@ fn show(rt: &impl Print, label: &str, a: Answer) -> io::Result<()> {
     println!(rt)
 }
 
-fn begin(work: &mut [u32], strs: &mut [u8]) -> Answer
-    requires { (16384 ≤ length work.old) × (length strs.old < 4294967296) }
-    ensures { result.ok ≡ true → Good work.new strs.new result.state }
+fn begin(work: &mut [u32], strs: &[u8]) -> StrInterner
+    requires { 16384 ≤ length work.old }
+    ensures { Good work.new strs.now result }
 {
-    let st = interner::fresh(work, strs, 0);
-    Answer {
-        ok: true,
-        id: 0,
-        state: st,
-    }
+    StrInterner::new(work, 0)
 }
 
-// The call after the answer a; none after a refusal.
-fn call(work: &mut [u32], strs: &mut [u8], a: Answer, s: &[u8]) -> Answer
-    requires { a.ok ≡ true → Good work.old strs.old a.state }
-    ensures { result.ok ≡ true → Good work.new strs.new result.state }
+fn call(st: &mut StrInterner, work: &mut [u32], strs: &mut [u8], s: &[u8]) -> Option<u32>
+    requires { Good work.old strs.old st.old }
+    ensures { Good work.new strs.new st.new }
 {
-    let st = a.state;
-    let c = st.stats;
-    if a.ok {
-        if c.calls < 4294967296 {
-            return intern::intern(work, strs, st, s);
-        }
-    }
-    Answer {
-        ok: false,
-        id: a.id,
-        state: st,
+    if st.stats.calls < 4294967296 {
+        intern::intern(st, work, strs, s)
+    } else {
+        None
     }
 }
 
@@ -83,18 +68,15 @@ fn digits(i: u32) -> [u8; 4]
 }
 
 // Calls for the strings "0000", "0001" and so on, n of them.
-fn many(work: &mut [u32], strs: &mut [u8], a: Answer, n: u32) -> Answer
-    requires { a.ok ≡ true → Good work.old strs.old a.state }
-    ensures { result.ok ≡ true → Good work.new strs.new result.state }
+fn many(st: &mut StrInterner, work: &mut [u32], strs: &mut [u8], n: u32) -> Option<u32>
+    requires { Good work.old strs.old st.old }
+    ensures { Good work.new strs.new st.new }
 {
-    let mut b = a;
-    let mut i: u32 = 0;
-    while i < n {
-        let s = digits(i);
-        b = call(work, strs, b, &s);
-        i += 1;
+    let mut id = None;
+    for i in 0..n {
+        id = call(st, work, strs, &digits(i));
     }
-    b
+    id
 }
 
 fn hashes(rt: &impl Print) -> io::Result<()> {
@@ -107,75 +89,75 @@ fn hashes(rt: &impl Print) -> io::Result<()> {
 fn probes(rt: &impl Print) -> io::Result<()> {
     let mut work = [0u32; 16384];
     let mut strs = [0u8; 64];
-    let a = begin(&mut work, &mut strs);
-    let b = call(&mut work, &mut strs, a, b"");
-    let c = call(&mut work, &mut strs, b, b"\0");
-    show(rt, "P2", c)
+    let mut st = begin(&mut work, &strs);
+    call(&mut st, &mut work, &mut strs, b"");
+    let id = call(&mut st, &mut work, &mut strs, b"\0");
+    show(rt, "P2", &st, id)
 }
 
 // 224 entries of 256 slots; then one that is there, older than the last.
 fn growth(rt: &impl Print) -> io::Result<()> {
     let mut work = [0u32; 16384];
     let mut strs = [0u8; 1024];
-    let a = begin(&mut work, &mut strs);
-    let b = many(&mut work, &mut strs, a, 224);
-    show(rt, "224 entries", b)?;
-    let c = call(&mut work, &mut strs, b, b"0007");
-    show(rt, "an older one", c)
+    let mut st = begin(&mut work, &strs);
+    let id = many(&mut st, &mut work, &mut strs, 224);
+    show(rt, "224 entries", &st, id)?;
+    let id = call(&mut st, &mut work, &mut strs, b"0007");
+    show(rt, "an older one", &st, id)
 }
 
 // s, another, s, another.
 fn twice(rt: &impl Print, label: &str, s: &[u8]) -> io::Result<()> {
     let mut work = [0u32; 16384];
     let mut strs = [0u8; 1024];
-    let a = begin(&mut work, &mut strs);
-    let b = call(&mut work, &mut strs, a, s);
-    let c = call(&mut work, &mut strs, b, b"x");
-    let d = call(&mut work, &mut strs, c, s);
-    let e = call(&mut work, &mut strs, d, b"x");
-    show(rt, label, e)
+    let mut st = begin(&mut work, &strs);
+    call(&mut st, &mut work, &mut strs, s);
+    call(&mut st, &mut work, &mut strs, b"x");
+    call(&mut st, &mut work, &mut strs, s);
+    let id = call(&mut st, &mut work, &mut strs, b"x");
+    show(rt, label, &st, id)
 }
 
 fn limit(rt: &impl Print) -> io::Result<()> {
     let mut work = [7u32; 16384];
     let mut strs = [0u8; 16384];
-    let a = begin(&mut work, &mut strs);
-    let b = many(&mut work, &mut strs, a, 3583);
-    show(rt, "3583 strings", b)?;
-    let c = call(&mut work, &mut strs, b, b"0007");
-    show(rt, "an older one", c)?;
-    let d = call(&mut work, &mut strs, c, b"3583");
-    show(rt, "one more", d)
+    let mut st = begin(&mut work, &strs);
+    let id = many(&mut st, &mut work, &mut strs, 3583);
+    show(rt, "3583 strings", &st, id)?;
+    let id = call(&mut st, &mut work, &mut strs, b"0007");
+    show(rt, "an older one", &st, id)?;
+    let id = call(&mut st, &mut work, &mut strs, b"3583");
+    show(rt, "one more", &st, id)
 }
 
 // Wish 7. One call, one string: probes are calls × 1.
 fn one(rt: &impl Print) -> io::Result<()> {
     let mut work = [0u32; 16384];
     let mut strs = [0u8; 64];
-    let a = begin(&mut work, &mut strs);
-    let b = call(&mut work, &mut strs, a, b"x");
-    show(rt, "one string", b)
+    let mut st = begin(&mut work, &strs);
+    let id = call(&mut st, &mut work, &mut strs, b"x");
+    show(rt, "one string", &st, id)
 }
 
 // Calls for the three strings of four bytes in s.
-fn three(work: &mut [u32], strs: &mut [u8], a: Answer, s: &[u8]) -> Answer
-    requires good { a.ok ≡ true → Good work.old strs.old a.state }
+fn three(st: &mut StrInterner, work: &mut [u32], strs: &mut [u8], s: &[u8]) -> Option<u32>
+    requires good { Good work.old strs.old st.old }
     requires s_len { length s.now ≡ 12 }
-    ensures { result.ok ≡ true → Good work.new strs.new result.state }
+    ensures { Good work.new strs.new st.new }
 {
-    let b = call(work, strs, a, &s[0..4]);
-    let c = call(work, strs, b, &s[4..8]);
-    call(work, strs, c, &s[8..12])
+    call(st, work, strs, &s[0..4]);
+    call(st, work, strs, &s[4..8]);
+    call(st, work, strs, &s[8..12])
 }
 
-fn nine(work: &mut [u32], strs: &mut [u8], a: Answer, s: &[u8]) -> Answer
-    requires good { a.ok ≡ true → Good work.old strs.old a.state }
+fn nine(st: &mut StrInterner, work: &mut [u32], strs: &mut [u8], s: &[u8]) -> Option<u32>
+    requires good { Good work.old strs.old st.old }
     requires s_len { length s.now ≡ 36 }
-    ensures { result.ok ≡ true → Good work.new strs.new result.state }
+    ensures { Good work.new strs.new st.new }
 {
-    let b = three(work, strs, a, &s[0..12]);
-    let c = three(work, strs, b, &s[12..24]);
-    three(work, strs, c, &s[24..36])
+    three(st, work, strs, &s[0..12]);
+    three(st, work, strs, &s[12..24]);
+    three(st, work, strs, &s[24..36])
 }
 
 // Wish 7. Nine strings of four bytes that begin at one slot: the k-th costs k probes, when it is new and each time that it is found.
@@ -186,16 +168,16 @@ fn one_slot(rt: &impl Print, label: &str, s: &[u8]) -> io::Result<()>
     let ninth = &s[32..36];
     let mut work = [0u32; 16384];
     let mut strs = [0u8; 128];
-    let a = begin(&mut work, &mut strs);
-    let b = nine(&mut work, &mut strs, a, s);
-    show(rt, label, b)?;
-    let c = nine(&mut work, &mut strs, b, s);
-    show(rt, "each again", c)?;
+    let mut st = begin(&mut work, &strs);
+    let id = nine(&mut st, &mut work, &mut strs, s);
+    show(rt, label, &st, id)?;
+    let id = nine(&mut st, &mut work, &mut strs, s);
+    show(rt, "each again", &st, id)?;
     let long = [97u8; 65];
-    let d = call(&mut work, &mut strs, c, &long);
-    show(rt, "a long one", d)?;
-    let e = call(&mut work, &mut strs, d, ninth);
-    show(rt, "the ninth", e)
+    let id = call(&mut st, &mut work, &mut strs, &long);
+    show(rt, "a long one", &st, id)?;
+    let id = call(&mut st, &mut work, &mut strs, ninth);
+    show(rt, "the ninth", &st, id)
 }
 
 // Wish 7. No string of at most 64 bytes: no probes.
@@ -204,12 +186,12 @@ fn only_long(rt: &impl Print) -> io::Result<()> {
     let mut strs = [0u8; 1024];
     let s = [97u8; 65];
     let t = [98u8; 65];
-    let a = begin(&mut work, &mut strs);
-    let b = call(&mut work, &mut strs, a, &s);
-    let c = call(&mut work, &mut strs, b, &t);
-    let d = call(&mut work, &mut strs, c, &s);
-    let e = call(&mut work, &mut strs, d, &t);
-    show(rt, "long strings only", e)
+    let mut st = begin(&mut work, &strs);
+    call(&mut st, &mut work, &mut strs, &s);
+    call(&mut st, &mut work, &mut strs, &t);
+    call(&mut st, &mut work, &mut strs, &s);
+    let id = call(&mut st, &mut work, &mut strs, &t);
+    show(rt, "long strings only", &st, id)
 }
 
 fn main(rt: HostRuntime) -> io::Result<()> {

@@ -1,6 +1,6 @@
 -- Number 15, as the code asks it: a Ruby of the reading and a Referenced Format behind the region, or a Referenced Format of the reading
 -- whose target is the base of a Ruby before the region.
-use Rattle.std.specs.Prelude.{◌≡◌, ℕ, Bool, true, false, ◌&&◌, ◌||◌, List, [], ◌∷◌, ◌++◌}
+use Rattle.std.specs.Prelude.{Option, ◌≡◌, ℕ, Bool, true, false, ◌&&◌, ◌||◌, List, [], ◌∷◌, ◌++◌}
 use Rattle.std.proofs.Math.Path.{refl, ap}
 use Rattle.std.proofs.Common.{sym, ◌∙◌, le-leb, arith}
 use Rattle.std.proofs.Math.Bool.{and-false, and-true}
@@ -17,7 +17,6 @@ use Rattle.wire.specs.Loops.{by_bool}
 use Rattle.store.specs.declared.Store.{Store}
 use Rattle.strings.specs.Starts.{store_in}
 use Rattle.strings.specs.PlainContent.{plain_of, plain_string}
-use Rattle.strings.specs.declared.Plain.{Plain}
 use Rattle.dependency.specs.Bases.{among_bases, among_bases_lem}
 use Rattle.ruby_formats.specs.Sound.{SoundNode, first_contents, plain_first}
 use Rattle.ruby_formats.specs.Asks.{format_from}
@@ -34,7 +33,7 @@ module _ (st : NodeStore) (earlier : List SourceNode) {t : List ℕ} {own : Stor
   unfolding refers_to
   refers_other h = rw (← e, h) refl
 
-  pub refers_target : x ≡ true → {r : Plain} → ((b : List ℕ) → r ≡ plain_of (first_contents t p b)) → {y : Bool} → y ≡ among_bases st earlier (plain_string (store_in t (front ++ back)) r)
+  pub refers_target : x ≡ true → {r : Option ℕ} → ((b : List ℕ) → r ≡ plain_of (first_contents t p b)) → {y : Bool} → y ≡ among_bases st earlier (plain_string (store_in t (front ++ back)) r)
       → y ≡ refers_to st earlier (store_in t (front ++ back)) (record_at node_codec t p)
   unfolding refers_to
   refers_target h f q = rw (← e, h) (q ∙ ap (among_bases st earlier) (sym (plain_first s f)))

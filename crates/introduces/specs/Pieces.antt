@@ -1,21 +1,16 @@
 -- The old nodes some at a time, so that the filter is never crowded: what refers to none of the first nodes and to none of the next refers
 -- to none of both.
-use Rattle.std.specs.Prelude.{◌≡◌, ℕ, zero, suc, ◌+◌, ◌-◌, ◌*◌, ◌≤◌, Bool, ◌&&◌, ◌||◌}
+use Rattle.std.specs.Prelude.{◌≡◌, ℕ, ◌+◌, ◌-◌, ◌*◌, ◌≤◌, Bool, ◌&&◌, ◌||◌}
 use Rattle.std.proofs.Math.Path.{refl, ap₂}
-use Rattle.std.proofs.Common.{sym, ap, ◌∙◌, arith, add-zero}
-use Rattle.std.proofs.Math.Bool.{true, false, or_assoc, and-false}
-use Rattle.std.proofs.Math.Option.{Option, none, some}
-use mathlib.Core.List.{List, [], ◌∷◌, ◌++◌, append_assoc, append-nil}
-use Rattle.model.specs.Lists.{all, any, tabulate}
+use Rattle.std.proofs.Common.{sym, ap, ◌∙◌, arith}
+use Rattle.std.proofs.Math.Bool.{true, false, and-false}
+use mathlib.Core.List.{List, [], ◌∷◌, ◌++◌}
+use Rattle.model.specs.Lists.{any}
 use Rattle.model.specs.Types.{SourceNode}
 use Rattle.model.specs.Store.{NodeStore}
-use Rattle.model.specs.Tape.{record_at, records_at, node_codec}
-use Rattle.model.specs.WellFormed.{node_ok}
+use Rattle.model.specs.Tape.{records_at, node_codec}
 use Rattle.model.specs.Region.{is_referenced_format, first_plain}
-use Rattle.laws.specs.Lists.{all_right}
-use Rattle.wire.specs.Loops.{tabulate_last}
-use Rattle.records.specs.Runs.{run_before, run_none}
-use Rattle.store.specs.declared.Store.{Store}
+use Rattle.records.specs.Runs.{run_none}
 use Rattle.dependency.specs.Bases.{among_bases}
 use Rattle.dependency.specs.Pieces.{run_join, among_join, among_none}
 use Rattle.introduces.specs.Linked.{refers_to}

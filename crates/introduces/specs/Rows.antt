@@ -1,8 +1,8 @@
 -- A target of the reading among the old bases in a row of ids, where the filter is crowded.
-use Rattle.std.specs.Prelude.{◌≡◌, ℕ, ◌+◌, ◌*◌, Bool, true, false, ◌&&◌, ◌||◌, List, [], ◌∷◌, ◌++◌, ltb}
+use Rattle.std.specs.Prelude.{Option, ◌≡◌, ℕ, ◌+◌, ◌*◌, Bool, true, false, ◌&&◌, ◌||◌, List, [], ◌∷◌, ◌++◌, ltb}
 use Rattle.std.proofs.Math.Path.{refl, sym, ap}
 use Rattle.std.proofs.Common.{ap₂, ◌∙◌, ltb-true}
-use Rattle.std.proofs.Math.Option.{Option}
+use Rattle.std.proofs.Math.Option.{Option as ModelOption}
 use Rattle.model.specs.Lists.{any}
 use Rattle.model.specs.Types.{SourceNode}
 use Rattle.model.specs.Store.{NodeStore}
@@ -14,7 +14,6 @@ use Rattle.records.specs.Runs.{test_at}
 use Rattle.store.specs.declared.Store.{Store}
 use Rattle.strings.specs.Starts.{store_in}
 use Rattle.strings.specs.PlainContent.{plain_of, plain_string}
-use Rattle.strings.specs.declared.Plain.{Plain}
 use Rattle.ruby_formats.specs.Sound.{SoundNode, first_contents, plain_first}
 use Rattle.dependency.specs.Rows.{Rowed, among_row, among_row_lem}
 use Rattle.ruby_formats.specs.Named.{named_by, same_plain, same_first, target_again}
@@ -30,7 +29,7 @@ module _ (st : NodeStore) (words : List ℕ) (base m : ℕ) {t : List ℕ} {own 
   unfolding refers_to_row
   row_other h = rw (← e, h) refl
 
-  pub row_target : x ≡ true → {r : Plain} → ((b : List ℕ) → r ≡ plain_of (first_contents t p b)) → {y : Bool} → y ≡ among_row st words base m (plain_string (store_in t (front ++ back)) r)
+  pub row_target : x ≡ true → {r : Option ℕ} → ((b : List ℕ) → r ≡ plain_of (first_contents t p b)) → {y : Bool} → y ≡ among_row st words base m (plain_string (store_in t (front ++ back)) r)
       → y ≡ refers_to_row st words base m (store_in t (front ++ back)) (record_at node_codec t p)
   unfolding refers_to_row
   row_target h f q = rw (← e, h) (q ∙ ap (among_row st words base m) (sym (plain_first s f)))
@@ -75,5 +74,5 @@ module _ (st : NodeStore) (words : List ℕ) (base m : ℕ) (t front back : List
       let z =
       same_first t (front ++ back) (at + 49 * i) (at + 49 * v) parts.2 (or_right (is_ruby (node i)) (is_referenced_format (node i)) q)
       (or_right (is_ruby (node v)) (is_referenced_format (node v)) parts.1) in
-      sym (ap₂ (λ (b : Bool) (o : Option (List ℕ)). b && among_row st words base m o) (q ∙ sym parts.1) z ∙ earlier))
+      sym (ap₂ (λ (b : Bool) (o : ModelOption (List ℕ)). b && among_row st words base m o) (q ∙ sym parts.1) z ∙ earlier))
       (λ q. rw q refl)

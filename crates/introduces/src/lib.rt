@@ -7,7 +7,7 @@
 // of its own.
 #![tactic(auto)]
 
-ghost use Rattle.std.specs.Prelude.{◌≡◌, ◌++◌, ◌+◌, ◌*◌, ◌≤◌, min, length};
+ghost use Rattle.std.specs.Prelude.{◌≡◌, IfSome, ◌++◌, ◌+◌, ◌*◌, ◌≤◌, length};
 ghost use Rattle.model.specs.Lists.{any, keep};
 ghost use Rattle.model.specs.Tape.{record_at, records_at, node_codec, places as places_in, book_at};
 ghost use Rattle.model.specs.Store.{store_of};
@@ -28,26 +28,18 @@ ghost use Rattle.region.specs.Held.{Held};
 ghost use Rattle.introduces.specs.Linked.{refers_to, ruby_for_later};
 ghost use Rattle.dependency.specs.Words.{last_words};
 ghost use Rattle.introduces.specs.Words.{KeptIndexes, BothIndexed};
-ghost use Rattle.ruby_formats.specs.Named.{Naming, Namings};
 ghost use Rattle.introduces.specs.Rows.{refers_to_row};
 ghost use Rattle.records.specs.Runs.{test_at};
 ghost use Rattle.wire.specs.Loops.{Missed};
 
-use strings::Plain;
+use dependency::Answer;
 
 // A Referenced Format that starts at or behind an offset.
 fn any_format_from(tape: &[u8], at: usize, count: usize, from: u32) -> bool
     requires { at + 49 * count ≤ length tape.now }
     ensures { result ≡ any is_referenced_format (keep (starts_at from) (records_at node_codec tape.now at count)) }
 {
-    let mut i = 0;
-    while i < count {
-        if ruby_formats::is_format_from(tape, at + 49 * i, from) {
-            return true;
-        }
-        i += 1;
-    }
-    false
+    (0..count).any(|i| ruby_formats::is_format_from(tape, at + 49 * i, from))
 }
 
 // A Ruby of the reading and a Referenced Format behind the region.
@@ -63,10 +55,7 @@ fn ruby_for_later(
     requires { (at + 49 * count ≤ length tape.now) × (place + 49 * nodes ≤ length reading.now) }
     ensures { result ≡ ruby_for_later (records_at node_codec reading.now place nodes) (records_at node_codec tape.now at count) end }
 {
-    if !ruby_formats::any_ruby(reading, place, nodes) {
-        return false;
-    }
-    any_format_from(tape, at, count, end)
+    ruby_formats::any_ruby(reading, place, nodes) && any_format_from(tape, at, count, end)
 }
 
 // The bases of the Rubies among these nodes, inserted. The words before `base` are kept.
@@ -84,10 +73,8 @@ fn note_rubies<'a>(
     requires base_in_bounds { base ≤ length words.old }
     ensures { (first_words base words.new ≡ first_words base words.old) × Noted (store_in tape.now (old.now ++ new.now)) (records_at node_codec tape.now at count) words.new base }
 {
-    let mut i = 0;
-    while i < count {
+    for i in 0..count {
         dependency::note_ruby(tape, st, words, base, old, new, at + 49 * i);
-        i += 1;
     }
 }
 
@@ -107,7 +94,7 @@ fn note_bases<'a>(
     ensures { (first_words base words.new ≡ first_words base words.old) × Noted (store_in tape.now (old.now ++ new.now)) (records_at node_codec tape.now at count) words.new base }
 {
     let end = words.len();
-    wire::zero_words(&mut words[base..end]);
+    words[base..end].fill(0);
     note_rubies(tape, st, words, base, old, new, at, count);
 }
 
@@ -126,8 +113,8 @@ fn is_base_of<'a, 'b>(
     index: &[u32],
     front: &'b [u8],
     back: &'b [u8],
-    p: Plain,
-) -> u32
+    p: Option<u32>,
+) -> Answer
     requires sound { Sound tape.now st (first_words base words.now) old.now new.now at count }
     requires base_in_bounds { base ≤ length words.now }
     requires noted { Noted (store_in tape.now (old.now ++ new.now)) (records_at node_codec tape.now at count) words.now base }
@@ -136,13 +123,11 @@ fn is_base_of<'a, 'b>(
     ensures { Told result (among_bases (store_in tape.now (old.now ++ new.now)) (records_at node_codec tape.now at count) (plain_string (store_in reading.now (front.now ++ back.now)) p)) }
 {
     match p {
-        Plain::Id(id) => {
+        Some(id) => {
             let s = strings::resolve_str(reading, own, index, front, back, id);
-            return dependency::is_filtered_base(tape, st, words, base, old, new, at, count, s);
+            dependency::is_filtered_base(tape, st, words, base, old, new, at, count, s)
         }
-        Plain::Nothing => {
-            return 0;
-        }
+        None => Answer::No,
     }
 }
 
@@ -162,7 +147,7 @@ fn refers_to<'a, 'b>(
     front: &'b [u8],
     back: &'b [u8],
     place: usize,
-) -> u32
+) -> Answer
     requires sound { Sound tape.now st (first_words base words.now) old.now new.now at count }
     requires base_in_bounds { base ≤ length words.now }
     requires noted { Noted (store_in tape.now (old.now ++ new.now)) (records_at node_codec tape.now at count) words.now base }
@@ -170,7 +155,7 @@ fn refers_to<'a, 'b>(
     ensures { Told result (refers_to (store_in tape.now (old.now ++ new.now)) (records_at node_codec tape.now at count) (store_in reading.now (front.now ++ back.now)) (record_at node_codec reading.now place)) }
 {
     if !ruby_formats::is_referenced_format(reading, place) {
-        return 0;
+        return Answer::No;
     }
     let p = ruby_formats::first_plain(reading, own, place);
     is_base_of(
@@ -178,6 +163,7 @@ fn refers_to<'a, 'b>(
     )
 }
 
+// The same of any of these nodes; None for not known, as in the walk of number 10.
 fn any_refers_to<'a, 'b>(
     tape: &[u8],
     st: store::Store,
@@ -194,45 +180,29 @@ fn any_refers_to<'a, 'b>(
     back: &'b [u8],
     place: usize,
     nodes: usize,
-) -> u32
+) -> Option<bool>
     requires sound { Sound tape.now st (first_words base words.now) old.now new.now at count }
     requires base_in_bounds { base ≤ length words.now }
     requires noted { Noted (store_in tape.now (old.now ++ new.now)) (records_at node_codec tape.now at count) words.now base }
     requires sound_2 { Sound reading.now own index.now front.now back.now place nodes }
-    ensures { Told result (any (refers_to (store_in tape.now (old.now ++ new.now)) (records_at node_codec tape.now at count) (store_in reading.now (front.now ++ back.now))) (records_at node_codec reading.now place nodes)) }
+    ensures { IfSome result (λ r. r ≡ any (refers_to (store_in tape.now (old.now ++ new.now)) (records_at node_codec tape.now at count) (store_in reading.now (front.now ++ back.now))) (records_at node_codec reading.now place nodes)) }
 {
     let mut vain = 0;
-    let mut i = 0;
-    while i < nodes {
-        let r = refers_to(
-            tape,
-            st,
-            words,
-            base,
-            old,
-            new,
-            at,
-            count,
-            reading,
-            own,
-            index,
-            front,
-            back,
-            place + 49 * i,
-        );
-        if r == 1 {
-            return 1;
+    for i in 0..nodes {
+        let here = place + 49 * i;
+        match refers_to(
+            tape, st, words, base, old, new, at, count, reading, own, index, front, back, here,
+        ) {
+            Answer::Yes => return Some(true),
+            Answer::Unknown => return None,
+            Answer::InVain => vain += 1,
+            Answer::No => {}
         }
-        if r == 2 {
-            return 2;
+        if dependency::MOST_IN_VAIN < vain {
+            return None;
         }
-        vain = dependency::in_vain(vain, r);
-        if 128 < vain {
-            return 2;
-        }
-        i += 1;
     }
-    0
+    Some(false)
 }
 
 // The bases of the Rubies among these nodes in a row. Answers how many there are.
@@ -253,10 +223,8 @@ fn row_of<'a>(
         (records_at node_codec tape.now at count) words.new base result }
 {
     let mut m = 0;
-    let mut i = 0;
-    while i < count {
+    for i in 0..count {
         m = dependency::insert_first(tape, st, words, base, m, old, new, at, i, count, first);
-        i += 1;
     }
     m
 }
@@ -274,7 +242,7 @@ fn is_in_row<'a, 'b>(
     index: &[u32],
     front: &'b [u8],
     back: &'b [u8],
-    p: Plain,
+    p: Option<u32>,
 ) -> bool
     requires resolvable { Resolvable tape.now st (first_words base words.now) old.now new.now }
     requires row { Row (store_in tape.now (old.now ++ new.now)) st.totals.strings words.now base m }
@@ -283,13 +251,11 @@ fn is_in_row<'a, 'b>(
     ensures { result ≡ among_row (store_in tape.now (old.now ++ new.now)) words.now base m (plain_string (store_in reading.now (front.now ++ back.now)) p) }
 {
     match p {
-        Plain::Id(id) => {
+        Some(id) => {
             let s = strings::resolve_str(reading, own, index, front, back, id);
-            return sorted_ids::contains(tape, st, words, base, m, old, new, s);
+            sorted_ids::contains(tape, st, words, base, m, old, new, s)
         }
-        Plain::Nothing => {
-            return false;
-        }
+        None => false,
     }
 }
 
@@ -322,46 +288,6 @@ fn refers_to_row<'a, 'b>(
     )
 }
 
-fn note_target(
-    tape: &[u8],
-    st: store::Store,
-    at: usize,
-    i: usize,
-    long: usize,
-    places: &mut [u64],
-    m: usize,
-) -> usize
-    requires naming { Naming tape.now st (at + 49 * i) }
-    requires m_in_bounds { m ≤ length places.old }
-    ensures { result ≤ length places.old }
-{
-    if ruby_formats::is_referenced_format(tape, at + 49 * i) {
-        return dependency::note_place(tape, st, at, i, long, places, m);
-    }
-    m
-}
-
-// The first Format of each long target.
-fn first_targets(
-    tape: &[u8],
-    st: store::Store,
-    at: usize,
-    count: usize,
-    long: usize,
-    places: &mut [u64],
-) -> usize
-    requires { Namings tape.now st at count }
-    ensures { result ≤ length places.old }
-{
-    let mut m = 0;
-    let mut i = 0;
-    while i < count {
-        m = note_target(tape, st, at, i, long, places, m);
-        i += 1;
-    }
-    m
-}
-
 // The same for node i, where no node before it refers to the row: one that has the target of an earlier node by its id is not asked again.
 fn refers_first_to_row<'a, 'b>(
     tape: &[u8],
@@ -387,9 +313,10 @@ fn refers_first_to_row<'a, 'b>(
     ensures { result ≡ refers_to_row (store_in tape.now (old.now ++ new.now)) words.now base m (store_in reading.now (front.now ++ back.now)) (record_at node_codec reading.now (place + 49 * i)) }
 {
     let here = place + 49 * i;
-    let v = dependency::noted_place(reading, own, here, first);
-    if ruby_formats::is_target_again(reading, own, place, i, v) {
-        return false;
+    if let Some(v) = dependency::noted_place(reading, own, here, first) {
+        if ruby_formats::is_target_again(reading, own, place, i, v) {
+            return false;
+        }
     }
     refers_to_row(
         tape, st, words, base, m, old, new, reading, own, index, front, back, here,
@@ -418,14 +345,12 @@ fn any_refers_to_row<'a, 'b>(
     requires sound { Sound reading.now own index.now front.now back.now place nodes }
     ensures { result ≡ any (refers_to_row (store_in tape.now (old.now ++ new.now)) words.now base m (store_in reading.now (front.now ++ back.now))) (records_at node_codec reading.now place nodes) }
 {
-    let mut i = 0;
-    while i < nodes {
+    for i in 0..nodes {
         if refers_first_to_row(
             tape, st, words, base, m, old, new, reading, own, index, front, back, place, i, first,
         ) {
             return true;
         }
-        i += 1;
     }
     false
 }
@@ -453,7 +378,7 @@ fn index_both(
 }
 
 // A Referenced Format of the reading whose target is the base of a Ruby among the old nodes, by words that have both indexes. The indexes
-// are kept. 2 for not known.
+// are kept. None for not known.
 fn refers_by_filter<'a, 'b>(
     tape: &[u8],
     st: store::Store,
@@ -470,11 +395,11 @@ fn refers_by_filter<'a, 'b>(
     back: &'b [u8],
     place: usize,
     nodes: usize,
-) -> u32
+) -> Option<bool>
     requires base_le_middle { (base ≤ middle) × (middle ≤ length words.old) }
     requires sound { Sound tape.now st (first_words base (first_words middle words.old)) old.now new.now at count }
     requires sound_2 { Sound reading.now own (last_words middle words.old) front.now back.now place nodes }
-    ensures { Told result (any (refers_to (store_in tape.now (old.now ++ new.now)) (records_at node_codec tape.now at count) (store_in reading.now (front.now ++ back.now))) (records_at node_codec reading.now place nodes)) × KeptIndexes words.old base middle words.new }
+    ensures { IfSome result (λ r. r ≡ any (refers_to (store_in tape.now (old.now ++ new.now)) (records_at node_codec tape.now at count) (store_in reading.now (front.now ++ back.now))) (records_at node_codec reading.now place nodes)) × KeptIndexes words.old base middle words.new }
 {
     note_bases(tape, st, &mut words[0..middle], base, old, new, at, count);
     any_refers_to(
@@ -576,22 +501,14 @@ fn refers_by_row<'a, 'b>(
 {
     let mut first = [0u64; 4096];
     let mut asked = [0u64; 4096];
-    let a = dependency::first_bases(
-        tape,
-        st,
-        at,
-        count,
-        dependency::long_from(old.len() + new.len()),
-        &mut first,
-    );
-    let z = first_targets(
-        reading,
-        own,
-        place,
-        nodes,
-        dependency::long_from(front.len() + back.len()),
-        &mut asked,
-    );
+    let long = dependency::long_from(old.len() + new.len());
+    let a = dependency::first_places(tape, st, at, count, long, &mut first, |node| {
+        ruby_formats::is_ruby(tape, node)
+    });
+    let long = dependency::long_from(front.len() + back.len());
+    let z = dependency::first_places(reading, own, place, nodes, long, &mut asked, |node| {
+        ruby_formats::is_referenced_format(reading, node)
+    });
     refers_by_places(
         tape,
         st,
@@ -636,25 +553,15 @@ fn refers_to_some<'a, 'b>(
     requires sound_2 { Sound reading.now own (last_words middle words.old) front.now back.now place nodes }
     ensures { (result ≡ any (refers_to (store_in tape.now (old.now ++ new.now)) (records_at node_codec tape.now at count) (store_in reading.now (front.now ++ back.now))) (records_at node_codec reading.now place nodes)) × KeptIndexes words.old base middle words.new }
 {
-    let r = refers_by_filter(
+    match refers_by_filter(
         tape, st, words, base, middle, old, new, at, count, reading, own, front, back, place, nodes,
-    );
-    if r == 2 {
-        return refers_by_row(
+    ) {
+        Some(refers) => refers,
+        None => refers_by_row(
             tape, st, words, base, middle, old, new, at, count, reading, own, front, back, place,
             nodes,
-        );
+        ),
     }
-    r == 1
-}
-
-fn fewer(a: usize, b: usize) -> usize
-    ensures { result ≡ min a b }
-{
-    if a < b {
-        return a;
-    }
-    b
 }
 
 // The same, with half as many old nodes at a time as the filter has words.
@@ -683,7 +590,7 @@ fn refers_by_index<'a, 'b>(
     let size = (middle - base) / 2 + 1;
     let mut i = 0;
     while i < count {
-        let n = fewer(size, count - i);
+        let n = size.min(count - i);
         if refers_to_some(
             tape,
             st,

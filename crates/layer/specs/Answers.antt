@@ -1,5 +1,6 @@
 -- What `graft_layer` answers: a refusal exactly where the layer has no room, else the layer and the nodes as they stand in the two buffers.
-use Rattle.std.specs.Prelude.{◌≡◌, ℕ, ◌+◌, ◌-◌, ◌*◌, ◌≤◌, ◌<◌, ◌^◌, Bool, ◌&&◌, drop, leb}
+use Rattle.std.proofs.lemmas.Option.{none-some, same_Some}
+use Rattle.std.specs.Prelude.{◌≡◌, Option, Some, None, is_some, ℕ, ◌+◌, ◌-◌, ◌*◌, ◌≤◌, ◌<◌, ◌^◌, Bool, ◌&&◌, drop, leb}
 use Rattle.std.proofs.Math.Path.{refl, sym, ap}
 use Rattle.std.proofs.Common.{ap₂, ◌∙◌, arith, length-take-le}
 use Rattle.std.proofs.Math.Bool.{true, false, true≢false}
@@ -41,27 +42,26 @@ pub record LayerMade (out strs out' strs' : List ℕ) (at base : ℕ) (r : Layer
   pub stats : stats_of r.state.stats ≡ g.1.interner.stats
   pub used : r.state.used ≡ base + length (flatten g.1.interner.strings)
 
-pub record LayerTold (out strs out' strs' : List ℕ) (at base : ℕ) (o : Offsets) (r : Layer) (g : With (List SourceNode)) : Type 0 where
-  pub ok : r.ok ≡ layer_ok (length out) (length strs) at base o g
-  pub made : r.ok ≡ true → LayerMade out strs out' strs' at base r g
+pub record LayerTold (out strs out' strs' : List ℕ) (at base : ℕ) (o : Offsets) (r : Option Layer) (g : With (List SourceNode)) : Type 0 where
+  pub room : is_some r ≡ layer_ok (length out) (length strs) at base o g
+  pub made : (l : Layer) → r ≡ Some l → LayerMade out strs out' strs' at base l g
 
 -- What `finish` answers: whether the strings and their records have room, and if so the layer as it was laid out.
 abbrev pub strings_fit : ℕ → ℕ → ℕ → Bool
 strings_fit below count left = leb (below + count) max_pool && leb (5 * count) left
 
-pub record Finished (work : List ℕ) (below at len rest : ℕ) (m : Mark) (out out' : List ℕ) (r : Layer) : Type 0 where
-  pub ok : r.ok ≡ strings_fit below m.state.count (length out - at - len - rest)
-  pub is : r.ok ≡ true → r ≡ layer_by m (len + 5 * m.state.count)
-  pub wrote : r.ok ≡ true → out' ≡ overwrite out at (2 ∷ (records_bytes string_codec (new_lengths work m.state.count) ++ take (len - 1 + rest) (drop (at + 1) out)))
+pub record Finished (work : List ℕ) (below at len rest : ℕ) (m : Mark) (out out' : List ℕ) (r : Option Layer) : Type 0 where
+  pub room : is_some r ≡ strings_fit below m.state.count (length out - at - len - rest)
+  pub is : (l : Layer) → r ≡ Some l → l ≡ layer_by m (len + 5 * m.state.count)
+  pub wrote : is_some r ≡ true → out' ≡ overwrite out at (2 ∷ (records_bytes string_codec (new_lengths work m.state.count) ++ take (len - 1 + rest) (drop (at + 1) out)))
 
-pub finish_refused : {work : List ℕ} {below at len rest : ℕ} {m : Mark} {out out' : List ℕ} {r : Layer} {x : Bool} → x ≡ strings_fit below m.state.count (length out - at - len - rest) → x ≡ false → r.ok ≡ false
-    → Finished work below at len rest m out out' r
-finish_refused e f y = record { ok = y ∙ sym f ∙ e; is = λ o. absurd (true≢false (sym o ∙ y)); wrote = λ o. absurd (true≢false (sym o ∙ y)) }
+pub finish_refused : {work : List ℕ} {below at len rest : ℕ} {m : Mark} {out out' : List ℕ} {x : Bool} → x ≡ strings_fit below m.state.count (length out - at - len - rest) → x ≡ false → Finished work below at len rest m out out' None
+finish_refused e f = record { room = sym f ∙ e; is = λ l o. absurd (none-some l o); wrote = λ o. absurd (true≢false (sym o)) }
 
-pub finish_made : {work : List ℕ} {below at len rest : ℕ} {m : Mark} {out out' : List ℕ} {r : Layer} {x : Bool} → x ≡ strings_fit below m.state.count (length out - at - len - rest) → x ≡ true
-    → r ≡ layer_by m (len + 5 * m.state.count) → out' ≡ overwrite out at (2 ∷ (records_bytes string_codec (new_lengths work m.state.count) ++ take (len - 1 + rest) (drop (at + 1) out)))
-    → Finished work below at len rest m out out' r
-finish_made e f i w = record { ok = ap (λ (v : Layer). v.ok) i ∙ sym f ∙ e; is = λ _. i; wrote = λ _. w }
+pub finish_made : {work : List ℕ} {below at len rest : ℕ} {m : Mark} {out out' : List ℕ} {x : Bool} → x ≡ strings_fit below m.state.count (length out - at - len - rest) → x ≡ true
+    → out' ≡ overwrite out at (2 ∷ (records_bytes string_codec (new_lengths work m.state.count) ++ take (len - 1 + rest) (drop (at + 1) out)))
+    → Finished work below at len rest m out out' (Some (layer_by m (len + 5 * m.state.count)))
+finish_made {len = len} {m = m} e f w = record { room = sym f ∙ e; is = λ l o. sym (same_Some (layer_by m (len + 5 * m.state.count)) l o); wrote = λ _. w }
 
 pub strings_room : (below count left : ℕ) {x : Bool} → x ≡ strings_fit below count left → x ≡ true → (below + count ≤ max_pool) × (5 * count ≤ left)
 strings_room below count left e f =
@@ -81,31 +81,21 @@ pub record Exact (m : Room) (a : Added) (s : Sizes) : Type 0 where
   pub contents_fit : a.contents ≤ m.contents
   pub segments_fit : a.segments ≤ m.segments
 
-module _ (m : Room) (a : Added) {s : Sizes} (e : s ≡ sizes_in m a) where
-  not_over : fits m a ≡ true → s.over ≡ false
+module _ (m : Room) (a : Added) {r : Option Sizes} (e : r ≡ sizes_in m a) where
+  pub is_over_lem : r ≡ None → fits m a ≡ false
   unfolding sizes_in
-  not_over h = ap (λ (x : Sizes). x.over) e ∙ rw h refl
+  is_over_lem n = by_bool (fits m a) (λ y. let q : None ≡ Some (record { contents = a.contents; segments = a.segments; calls = a.calls }) = sym n ∙ e ∙ rw y refl in cc) (λ y. y)
 
-  is_over_lem : fits m a ≡ false → s.over ≡ true
+  pub sizes_exact : {s : Sizes} → r ≡ Some s → Exact m a s
   unfolding sizes_in
-  is_over_lem h = ap (λ (x : Sizes). x.over) e ∙ rw h refl
-
-  pub sizes_exact : s.over ≡ false → Exact m a s
-  unfolding sizes_in
-  sizes_exact x =
-      let h : fits m a ≡ true = by_bool (fits m a) (λ y. y) (λ y. absurd (true≢false (sym (is_over_lem y) ∙ x))) in
+  sizes_exact {s} x =
+      let h : fits m a ≡ true = by_bool (fits m a) (λ y. y) (λ y. let q : Some s ≡ None = sym x ∙ e ∙ rw y refl in cc) in
       let r = fits_room_lem m a h in
-      let q : s ≡ record { contents = a.contents; segments = a.segments; calls = a.calls; over = false } = e ∙ rw h refl in
-      record {
-        contents = ap (λ (y : Sizes). y.contents) q;
-        segments = ap (λ (y : Sizes). y.segments) q;
-        calls = ap (λ (y : Sizes). y.calls) q;
-        contents_fit = r.0;
-        segments_fit = r.1;
-      }
+      let q : Some s ≡ Some (record { contents = a.contents; segments = a.segments; calls = a.calls }) = sym x ∙ e ∙ rw h refl in
+      record { contents = cc; segments = cc; calls = cc; contents_fit = r.0; segments_fit = r.1 }
 
 -- as `reading_sizes` answers in the room that is left
-pub left_sizes : (o : Offsets) (a : Added) {m : Room} {s : Sizes} → m ≡ room_left o → s ≡ sizes_in m a → s ≡ sizes_in (room_left o) a
+pub left_sizes : (o : Offsets) (a : Added) {m : Room} {s : Option Sizes} → m ≡ room_left o → s ≡ sizes_in m a → s ≡ sizes_in (room_left o) a
 left_sizes o a {m} e f = f ∙ ap (λ (x : Room). sizes_in x a) e
 
 pub left_limited : {m : Room} (o : Offsets) {nodes : ℕ} → m ≡ room_left o → nodes ≤ max_list → Limited m nodes
@@ -120,29 +110,29 @@ module _ (out strs : List ℕ) (at base : ℕ) (o : Offsets) (small : OffsetsFit
   abbrev Fits : Type 0
   Fits = LayerFits (length out) (length strs) at base o g
 
-  abbrev Told : List ℕ → List ℕ → Layer → Type 0
+  abbrev Told : List ℕ → List ℕ → Option Layer → Type 0
   Told out' strs' r = LayerTold out strs out' strs' at base o r g
 
-  none_fits : {out' strs' : List ℕ} {r : Layer} → r.ok ≡ false → (Fits → ⊥) → Told out' strs' r
-  none_fits e h = record { ok = e ∙ layer_refused (length out) (length strs) at base o g h; made = λ x. absurd (true≢false (sym x ∙ e)) }
+  none_fits : {out' strs' : List ℕ} → (Fits → ⊥) → Told out' strs' None
+  none_fits h = record { room = layer_refused (length out) (length strs) at base o g h; made = λ l e. absurd (none-some l e) }
 
   -- a pool would pass number 3's limit
-  pub pools_refused : {out' strs' : List ℕ} {r : Layer} {s : Sizes} → s ≡ sizes_in (room_left o) a → s.over ≡ true → r.ok ≡ false → Told out' strs' r
-  pools_refused e x y =
-      none_fits y (λ f. true≢false (sym x ∙ not_over (room_left o) a e (fits_where (room_left o) a (omega (arith, f.contents, z.contents)) (omega (arith, f.segments, z.segments)))))
+  pub pools_refused : {out' strs' : List ℕ} {s : Option Sizes} → s ≡ sizes_in (room_left o) a → s ≡ None → Told out' strs' None
+  pools_refused e x =
+      none_fits (λ f. true≢false (sym (fits_where (room_left o) a (omega (arith, f.contents, z.contents)) (omega (arith, f.segments, z.segments))) ∙ is_over_lem (room_left o) a e x))
 
   -- the strings have no room
-  pub walk_refused : {out' strs' : List ℕ} {r : Layer} {x : Bool} → x ≡ has_room (length strs) base g.1.interner → x ≡ false → r.ok ≡ false → Told out' strs' r
+  pub walk_refused : {out' strs' : List ℕ} → false ≡ has_room (length strs) base g.1.interner → Told out' strs' None
   unfolding has_room
-  walk_refused e h y = none_fits y (λ f. true≢false (
-      sym (rw (le-leb (length g.1.interner.strings) max_new_strings f.few, le-leb (base + length (flatten g.1.interner.strings)) (length strs) f.bytes) refl) ∙ sym e ∙ h))
+  walk_refused e = none_fits (λ f. true≢false (
+      sym (rw (le-leb (length g.1.interner.strings) max_new_strings f.few, le-leb (base + length (flatten g.1.interner.strings)) (length strs) f.bytes) refl) ∙ sym e))
 
   -- ---- where the sizes are known
 
   module _ {s : Sizes} (k : Exact (room_left o) a s) (len rest : ℕ) (e : len ≡ 1 + 10 * s.contents + 37 * s.segments) (f : rest ≡ 49 * nodes) where
     -- the tape is too short without the strings' records
-    pub tape_refused : {out' strs' : List ℕ} {r : Layer} → length out - at < len + rest → r.ok ≡ false → Told out' strs' r
-    tape_refused h y = none_fits y (λ q. omega (arith, q.tape, z.bytes, k.contents, k.segments, e, f, h))
+    pub tape_refused : {out' strs' : List ℕ} → length out - at < len + rest → Told out' strs' None
+    tape_refused h = none_fits (λ q. omega (arith, q.tape, z.bytes, k.contents, k.segments, e, f, h))
 
     module _ (h : at + len + rest ≤ length out) where
       pub walk_room : s.calls < 2 ^ 32 → WalkRoom (plan_of o at s.contents) (at + len) nodes (length out) a
@@ -189,14 +179,14 @@ module _ (out strs : List ℕ) (at base : ℕ) (o : Offsets) (small : OffsetsFit
         pub finish_room : length out₁ ≡ length out → Rising work₁ m.state.count × ((o.strings ≤ max_pool) × (m.state.count ≤ max_new_strings) × (1 ≤ len) × (at + len + rest ≤ length out₁))
         finish_room l = (good_rising w.good, (small.strings, w.good.words.few, omega (arith, e), omega (arith, h, l)))
 
-        module _ {out₂ : List ℕ} {r : Layer} (l : length out₁ ≡ length out) (q : Finished work₁ o.strings at len rest m out₁ out₂ r) where
+        module _ {out₂ : List ℕ} {r : Option Layer} (l : length out₁ ≡ length out) (q : Finished work₁ o.strings at len rest m out₁ out₂ r) where
           left : length out₁ - at - len - rest ≡ length out - (at + len + rest)
           left = omega (arith, l)
 
-          fit : r.ok ≡ true → (o.strings + m.state.count ≤ max_pool) × (5 * m.state.count ≤ length out - (at + len + rest))
-          fit x = rw left at (strings_room o.strings m.state.count (length out₁ - at - len - rest) q.ok x)
+          fit : is_some r ≡ true → (o.strings + m.state.count ≤ max_pool) × (5 * m.state.count ≤ length out - (at + len + rest))
+          fit x = rw left at (strings_room o.strings m.state.count (length out₁ - at - len - rest) q.room x)
 
-          all_written : r.ok ≡ true → out₂ ≡ overwrite out at (layer_records g)
+          all_written : is_some r ≡ true → out₂ ≡ overwrite out at (layer_records g)
           unfolding layer_records layer_bytes layer_of
           all_written x =
               let rs = records_bytes string_codec (map length strings) in
@@ -210,12 +200,12 @@ module _ (out strs : List ℕ) (at base : ℕ) (o : Offsets) (small : OffsetsFit
               (q.wrote x ∙ ap (λ (v : List ℕ). overwrite out₁ at (2 ∷ (v ++ take (len - 1 + rest) (drop (at + 1) out₁)))) b)
               ∙ ap (λ (v : List ℕ). overwrite out at (2 ∷ v)) (same_records rs cs ss ns)
 
-          strings_full : r.ok ≡ false → Fits → ⊥
+          strings_full : is_some r ≡ false → Fits → ⊥
           strings_full x y = true≢false (
               sym (rw (le-leb (o.strings + m.state.count) max_pool (omega (arith, y.strings, count)), le-leb (5 * m.state.count) (length out₁ - at - len - rest) (omega (arith, left, y.tape, z.bytes, e, f, k.contents, k.segments, count))) refl)
-              ∙ sym q.ok ∙ x)
+              ∙ sym q.room ∙ x)
 
-          finish_fits : has_room (length strs) base g.1.interner ≡ true → r.ok ≡ true → Fits
+          finish_fits : has_room (length strs) base g.1.interner ≡ true → is_some r ≡ true → Fits
           unfolding has_room
           finish_fits room x =
               let u = both (leb (length strings) max_new_strings) (leb (base + length (flatten strings)) (length strs)) room in
@@ -228,11 +218,11 @@ module _ (out strs : List ℕ) (at base : ℕ) (o : Offsets) (small : OffsetsFit
                 bytes = leb-true (base + length (flatten strings)) (length strs) u.1;
               }
 
-          layer_made : r.ok ≡ true → LayerMade out strs out₂ strs₁ at base r g
-          layer_made x =
-              let i = q.is x in
+          layer_made : (v : Layer) → r ≡ Some v → LayerMade out strs out₂ strs₁ at base v g
+          layer_made v x =
+              let i = q.is v x in
               record {
-                wrote = all_written x;
+                wrote = all_written (ap is_some x);
                 bytes = strings_there;
                 len = ap (λ (v : Layer). v.len) i ∙ omega (arith, e, z.layer, count, k.contents, k.segments);
                 strings = ap (λ (v : Layer). v.strings) i ∙ count;
@@ -245,6 +235,6 @@ module _ (out strs : List ℕ) (at base : ℕ) (o : Offsets) (small : OffsetsFit
           -- the walk is done, and `finish` has answered
           pub layer_told : has_room (length strs) base g.1.interner ≡ true → Told out₂ strs₁ r
           layer_told room =
-              by_bool r.ok
-              (λ x. record { ok = x ∙ layer_ok_lem (length out) (length strs) at base o g (finish_fits room x); made = layer_made })
-              (λ x. none_fits x (strings_full x))
+              by_bool (is_some r)
+              (λ x. record { room = x ∙ layer_ok_lem (length out) (length strs) at base o g (finish_fits room x); made = layer_made })
+              (λ x. record { room = x ∙ layer_refused (length out) (length strs) at base o g (strings_full x); made = λ v e. absurd (true≢false (sym (ap is_some e) ∙ x)) })

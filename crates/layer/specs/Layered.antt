@@ -75,7 +75,7 @@ abbrev pub plan_of : Offsets → ℕ → ℕ → Plan
 plan_of o at contents = record { strings = o.strings; contents = o.contents; segments = o.segments; contentsat = at + 1; segmentsat = at + 1 + 10 * contents }
 
 abbrev pub layer_by : Mark → ℕ → Layer
-layer_by m len = record { ok = true; len = len; strings = m.state.count; contents = m.contents; segments = m.segments; state = m.state }
+layer_by m len = record { len = len; strings = m.state.count; contents = m.contents; segments = m.segments; state = m.state }
 
 -- ---- a layer above those of a book
 

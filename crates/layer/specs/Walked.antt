@@ -1,5 +1,6 @@
 -- The walk over a source's nodes, from a fresh interner on: what it asks, and what it has done in the terms of the new layer.
-use Rattle.std.specs.Prelude.{◌≡◌, refl, ℕ, ◌+◌, ◌-◌, ◌*◌, ◌≤◌, ◌<◌, ◌^◌, true, length, take, drop}
+use Rattle.std.proofs.lemmas.Option.{none-some, same_Some}
+use Rattle.std.specs.Prelude.{◌≡◌, Option, Some, None, is_some, false, refl, ℕ, ◌+◌, ◌-◌, ◌*◌, ◌≤◌, ◌<◌, ◌^◌, true, length, take, drop}
 use Rattle.std.proofs.Common.{sym, ap, ◌∙◌, subst, length-drop, length-take-le, take_at, drop_at}
 use native.Mathlib.Omega.{arith}
 use mathlib.Core.List.{List, [], ◌++◌}
@@ -39,7 +40,7 @@ offsets_of p = record { strings = p.strings; contents = p.contents; segments = p
 
 -- nothing pushed yet
 abbrev pub fresh_mark : Interner → Mark
-fresh_mark r = record { ok = true; contents = 0; segments = 0; state = r; answered = 0 }
+fresh_mark r = record { contents = 0; segments = 0; state = r; answered = 0 }
 
 -- ---- the index
 
@@ -86,9 +87,9 @@ pub record WalkMade (p : Plan) (base nodesat : ℕ) (out strs out' work' strs' :
   pub kept : take base strs' ≡ take base strs
   pub long : length strs' ≡ length strs
 
-pub record Walked (p : Plan) (base nodesat : ℕ) (out strs out' work' strs' : List ℕ) (r : Mark) (g : With (List SourceNode)) : Type 0 where
-  pub ok : r.ok ≡ has_room (length strs) base g.1.interner
-  pub made : r.ok ≡ true → WalkMade p base nodesat out strs out' work' strs' r g
+pub record Walked (p : Plan) (base nodesat : ℕ) (out strs out' work' strs' : List ℕ) (r : Option Mark) (g : With (List SourceNode)) : Type 0 where
+  pub room : is_some r ≡ has_room (length strs) base g.1.interner
+  pub made : (m : Mark) → r ≡ Some m → WalkMade p base nodesat out strs out' work' strs' m g
 
 module _ {t d : List ℕ} {q : Places} {st : Store} (f : SourceFits t d q st) {work₀ strs work : List ℕ} {base : ℕ} {s : Interner} (b : Fresh work₀ strs base work s) (index : Indexed (lengths_in t) (index_words work₀)) {ps : List ℕ} (stay : pair_words work₀ ≡ ps) (pairs : Pairs (resolve_str (source_store t d)) ps) (p : Plan) (nodesat : ℕ) (out : List ℕ) where
   no_calls : s.stats.calls ≡ 0
@@ -101,7 +102,6 @@ module _ {t d : List ℕ} {q : Places} {st : Store} (f : SourceFits t d q st) {w
     pairs = rw (b.words, start_high work₀ 0 base 15360 (omega arith), stay) pairs;
     good = b.good;
     named = λ n. absurd (n refl);
-    going = refl;
     has = sym (room_same work strs s b.good);
     space = record {
       contents = omega (arith, w.contents);
@@ -128,31 +128,40 @@ module _ {t d : List ℕ} {q : Places} {st : Store} (f : SourceFits t d q st) {w
   same_graft = λ i. graft_node_refs (sym (source_shown f) i) (same_layer i)
 
   module _ {out' work' strs' : List ℕ} {r : Mark} where
-    from_here : {g : With (List SourceNode)} → NodesTold t d p (fresh_mark s) nodesat out work strs out' work' strs' r g → Walked p base nodesat out strs out' work' strs' r g
+    refused_here : {g : With (List SourceNode)} → NodesTold t d p (fresh_mark s) nodesat out work strs out' work' strs' r false g → Walked p base nodesat out strs out' work' strs' None g
+    refused_here {g} k = record { room = k.room ∙ ap (λ (n : ℕ). has_room (length strs) n g.1.interner) b.begins; made = λ m e. absurd (none-some m e) }
+
+    from_here : {g : With (List SourceNode)} → NodesTold t d p (fresh_mark s) nodesat out work strs out' work' strs' r true g → Walked p base nodesat out strs out' work' strs' (Some r) g
     from_here {g} k =
         let x : p.contentsat + 10 * 0 ≡ p.contentsat = omega arith in
         let y : p.segmentsat + 37 * 0 ≡ p.segmentsat = omega arith in
+        let m = k.made refl in
+        let own : WalkMade p base nodesat out strs out' work' strs' r g = record {
+          good = m.made.good;
+          state = m.made.state;
+          begins = m.made.base ∙ b.begins;
+          contents = omega (arith, m.made.contents);
+          segments = omega (arith, m.made.segments);
+          wrote = m.wrote ∙ ap (λ (l : List ℕ). overwrite l nodesat (records_bytes node_codec g.0))
+              (m.made.wrote ∙ (λ i. blocks out (x i) (y i) (records_bytes content_codec g.1.contents) (records_bytes segment_codec g.1.segments)));
+          kept = subst (λ (n : ℕ). take n strs' ≡ take n strs) b.begins m.made.kept;
+          long = m.made.long;
+        } in
         record {
-          ok = k.ok ∙ ap (λ (n : ℕ). has_room (length strs) n g.1.interner) b.begins;
-          made = λ o. (let m = k.made o in record {
-            good = m.made.good;
-            state = m.made.state;
-            begins = m.made.base ∙ b.begins;
-            contents = omega (arith, m.made.contents);
-            segments = omega (arith, m.made.segments);
-            wrote = m.wrote ∙ ap (λ (l : List ℕ). overwrite l nodesat (records_bytes node_codec g.0))
-                (m.made.wrote ∙ (λ i. blocks out (x i) (y i) (records_bytes content_codec g.1.contents) (records_bytes segment_codec g.1.segments)));
-            kept = subst (λ (n : ℕ). take n strs' ≡ take n strs) b.begins m.made.kept;
-            long = m.made.long;
-          });
+          room = k.room ∙ ap (λ (n : ℕ). has_room (length strs) n g.1.interner) b.begins;
+          made = λ n e. subst (λ (v : Mark). WalkMade p base nodesat out strs out' work' strs' v g) (same_Some r n e) own;
         }
 
-    pub walk_told : NodesTold t d p (fresh_mark s) nodesat out work strs out' work' strs' r (refs_from p work strs (fresh_mark s) (shown_of t d (records_at node_codec t q.nodes.at q.nodes.count)))
-        → Walked p base nodesat out strs out' work' strs' r (grafted_into t d (offsets_of p))
+    pub walk_none : NodesTold t d p (fresh_mark s) nodesat out work strs out' work' strs' r false (refs_from p work strs (fresh_mark s) (shown_of t d (records_at node_codec t q.nodes.at q.nodes.count)))
+        → Walked p base nodesat out strs out' work' strs' None (grafted_into t d (offsets_of p))
+    walk_none k = refused_here (rw same_graft at k)
+
+    pub walk_told : NodesTold t d p (fresh_mark s) nodesat out work strs out' work' strs' r true (refs_from p work strs (fresh_mark s) (shown_of t d (records_at node_codec t q.nodes.at q.nodes.count)))
+        → Walked p base nodesat out strs out' work' strs' (Some r) (grafted_into t d (offsets_of p))
     walk_told k = from_here (rw same_graft at k)
 
 -- by the plan of a layer from `at` on
-pub walked_by : (t d : List ℕ) (o : Offsets) (at contents : ℕ) {p : Plan} {base nodesat : ℕ} {out strs out' work' strs' : List ℕ} {r : Mark} → p ≡ plan_of o at contents
+pub walked_by : (t d : List ℕ) (o : Offsets) (at contents : ℕ) {p : Plan} {base nodesat : ℕ} {out strs out' work' strs' : List ℕ} {r : Option Mark} → p ≡ plan_of o at contents
     → Walked p base nodesat out strs out' work' strs' r (grafted_into t d (offsets_of p)) → Walked (plan_of o at contents) base nodesat out strs out' work' strs' r (grafted_into t d o)
 walked_by t d o at contents {base = base} {nodesat = n} {out = out} {strs = strs} {out' = out'} {work' = work'} {strs' = strs'} {r = r} e w =
     subst (λ (q : Plan). Walked q base n out strs out' work' strs' r (grafted_into t d (offsets_of q))) e w

@@ -3,7 +3,7 @@
 // records written into the gap, so that each tree is walked once.
 #![tactic(auto)]
 
-ghost use Rattle.std.specs.Prelude.{◌≡◌, false, ◌&&◌, ◌∷◌, ◌++◌, ◌+◌, ◌-◌, ◌*◌, ◌%◌, ◌^◌, ◌≤◌, ◌<◌, leb, length, take, drop};
+ghost use Rattle.std.specs.Prelude.{◌≡◌, ◌&&◌, ◌∷◌, ◌++◌, ◌+◌, ◌-◌, ◌*◌, ◌%◌, ◌^◌, ◌≤◌, ◌<◌, leb, length, take, drop};
 ghost use Rattle.model.specs.Limits.{max_pool, max_list, max_new_strings, min_work_words};
 ghost use Rattle.model.specs.Tape.{record_bytes, records_bytes, string_codec};
 ghost use Rattle.wire.specs.Overwrite.{overwrite};
@@ -16,32 +16,31 @@ ghost use Rattle.graft.specs.Named.{source_store, pair_words};
 ghost use Rattle.graft.specs.Walk.{index_words};
 ghost use Rattle.layer.specs.Lengths.{new_length, new_lengths, Rising};
 ghost use Rattle.layer.specs.Source.{SourceFits};
-ghost use Rattle.layer.specs.Layered.{OffsetsFit, room_left, layer_by, plan_of, source_adds, grafted_into};
+ghost use Rattle.layer.specs.Layered.{OffsetsFit, room_left, plan_of, source_adds, grafted_into};
 ghost use Rattle.layer.specs.Walked.{offsets_of, WalkRoom, Walked};
 ghost use Rattle.layer.specs.Answers.{Finished, Exact, LayerTold};
 
+use interner::StrInterner;
 use table::STARTS;
 
 const MAX_POOL: usize = 1048575;
 
 // Where the new layer's numbers begin: the counts of the layers below it.
-#[derive(Clone, Copy)]
+#[derive(Clone, Copy, Debug, PartialEq, Eq)]
 pub struct Offsets {
     pub strings: u32,
     pub contents: u32,
     pub segments: u32,
 }
 
-// The layer that was written: the bytes of its records, its command with them, how many items it has, and its interner. Not ok where
-// there is no room: the numbers are then 0.
-#[derive(Clone, Copy)]
+// The layer that was written: the bytes of its records, its command with them, how many items it has, and its interner.
+#[derive(Clone, Copy, Debug, PartialEq, Eq)]
 pub struct Layer {
-    pub ok: bool,
     pub len: usize,
     pub strings: u32,
     pub contents: u32,
     pub segments: u32,
-    pub state: interner::StrInterner,
+    pub state: StrInterner,
 }
 
 // ---- strings
@@ -72,10 +71,8 @@ pub fn put_lengths(out: &mut [u8], at: usize, work: &[u32], count: usize)
     requires count_in_bounds { at + 5 * count ≤ length out.old }
     ensures { out.new ≡ overwrite out.old at (records_bytes string_codec (new_lengths work.now count)) }
 {
-    let mut i = 0;
-    while i < count {
+    for i in 0..count {
         put_string(out, at + 5 * i, string_length(work, i));
-        i += 1;
     }
 }
 
@@ -125,49 +122,10 @@ fn strings_fit(below: u32, count: usize, left: usize) -> bool
     requires { (below ≤ max_pool) × (count ≤ max_new_strings) }
     ensures { result ≡ leb (below + count) max_pool && leb (5 * count) left }
 {
-    if MAX_POOL - (below as usize) < count {
-        return false;
-    }
-    5 * count <= left
+    below as usize + count <= MAX_POOL && 5 * count <= left
 }
 
-// ---- the answer
-
-fn refused() -> Layer
-    ensures { result.ok ≡ false }
-{
-    Layer {
-        ok: false,
-        len: 0,
-        strings: 0,
-        contents: 0,
-        segments: 0,
-        state: interner::StrInterner {
-            slots: 0,
-            occupied: 0,
-            count: 0,
-            base: 0,
-            used: 0,
-            last: 0,
-            stats: stats::none(),
-        },
-    }
-}
-
-fn layer_of(m: graft::Mark, len: usize) -> Layer
-    requires { m.state.count ≤ max_new_strings }
-    ensures { result ≡ layer_by m len }
-{
-    let state = m.state;
-    Layer {
-        ok: true,
-        len: len,
-        strings: state.count as u32,
-        contents: m.contents,
-        segments: m.segments,
-        state: state,
-    }
-}
+// ---- the walk
 
 // Contents go right behind the layer's 2, segments right behind them.
 fn plan_of(o: Offsets, at: usize, contents: u32) -> graft::Plan
@@ -182,8 +140,6 @@ fn plan_of(o: Offsets, at: usize, contents: u32) -> graft::Plan
         segmentsat: at + 1 + 10 * (contents as usize),
     }
 }
-
-// ---- the walk
 
 // An index of the source's strings, in the work words that the interner leaves free.
 fn index_words(tape: &[u8], st: store::Store, room: usize, work: &mut [u32])
@@ -206,19 +162,17 @@ fn walk(
     plan: graft::Plan,
     base: usize,
     nodesat: usize,
-) -> graft::Mark
+) -> Option<graft::Mark>
     requires source_fits { SourceFits tape.now bytes.now p st }
     requires walk_room { WalkRoom plan nodesat p.nodes.count (length out.old) (source_adds tape.now bytes.now) }
     requires min_work_words_in_bounds { (min_work_words ≤ length work.old) × (base ≤ length strs.old) × Pairs (resolve_str (source_store tape.now bytes.now)) (pair_words work.old) }
     ensures { Walked plan base nodesat out.old strs.old out.new work.new strs.new result (grafted_into tape.now bytes.now (offsets_of plan)) }
 {
     index_words(tape, st, bytes.len(), work);
-    let state = interner::fresh(work, strs, base);
-    let m = graft::Mark {
-        ok: true,
+    let mut m = graft::Mark {
         contents: 0,
         segments: 0,
-        state: state,
+        state: StrInterner::new(work, base),
         answered: 0,
     };
     graft_nodes::graft_nodes(
@@ -229,16 +183,17 @@ fn walk(
         work,
         strs,
         plan,
-        m,
+        &mut m,
         p.nodes.at,
         p.nodes.count,
         nodesat,
-    )
+    )?;
+    Some(m)
 }
 
 // ---- the layer
 
-// The strings' records before what a walk wrote, `len` bytes of a layer and `rest` of nodes; not ok where they have no room.
+// The strings' records before what a walk wrote, `len` bytes of a layer and `rest` of nodes; None where they have no room.
 fn finish(
     out: &mut [u8],
     work: &[u32],
@@ -247,18 +202,23 @@ fn finish(
     len: usize,
     rest: usize,
     m: graft::Mark,
-) -> Layer
+) -> Option<Layer>
     requires rising { Rising work.now m.state.count }
     requires below_le_max_pool { (below ≤ max_pool) × (m.state.count ≤ max_new_strings) × (1 ≤ len) × (at + len + rest ≤ length out.old) }
     ensures { Finished work.now below at len rest m out.old out.new result }
 {
-    let state = m.state;
-    let count = state.count;
+    let count = m.state.count;
     if !strings_fit(below, count, out.len() - at - len - rest) {
-        return refused();
+        return None;
     }
     lay_out(out, work, at, len - 1 + rest, count);
-    layer_of(m, len + 5 * count)
+    Some(Layer {
+        len: len + 5 * count,
+        strings: count as u32,
+        contents: m.contents,
+        segments: m.segments,
+        state: m.state,
+    })
 }
 
 // `graft_layer` where the sizes are known, by these words: behind 16384 of them stand pairs of crate `representatives`.
@@ -274,7 +234,7 @@ fn graft_by(
     at: usize,
     base: usize,
     s: sizes::Sizes,
-) -> Layer
+) -> Option<Layer>
     requires source_fits { SourceFits tape.now bytes.now p st × OffsetsFit o × Exact (room_left o) (source_adds tape.now bytes.now) s }
     requires min_work_words_in_bounds { (min_work_words ≤ length work.old) × (base ≤ length strs.old) × (at ≤ length out.old) × Pairs (resolve_str (source_store tape.now bytes.now)) (pair_words work.old) }
     ensures { LayerTold out.old strs.old out.new strs.new at base o result (grafted_into tape.now bytes.now o) }
@@ -282,13 +242,10 @@ fn graft_by(
     let len = layer_length(s.contents, s.segments);
     let rest = nodes_length(p);
     if out.len() - at < len + rest {
-        return refused();
+        return None;
     }
     let plan = plan_of(o, at, s.contents);
-    let m = walk(tape, bytes, p, st, out, work, strs, plan, base, at + len);
-    if !m.ok {
-        return refused();
-    }
+    let m = walk(tape, bytes, p, st, out, work, strs, plan, base, at + len)?;
     finish(out, work, o.strings, at, len, rest, m)
 }
 
@@ -325,7 +282,7 @@ fn graft_paired(
     at: usize,
     base: usize,
     s: sizes::Sizes,
-) -> Layer
+) -> Option<Layer>
     requires source_fits { SourceFits tape.now bytes.now p st × OffsetsFit o × Exact (room_left o) (source_adds tape.now bytes.now) s }
     requires min_work_words_in_bounds { (min_work_words < length words.old) × (base ≤ length strs.old) × (at ≤ length out.old) }
     ensures { LayerTold out.old strs.old out.new strs.new at base o result (grafted_into tape.now bytes.now o) }
@@ -346,7 +303,7 @@ fn graft_long(
     at: usize,
     base: usize,
     s: sizes::Sizes,
-) -> Layer
+) -> Option<Layer>
     requires source_fits { SourceFits tape.now bytes.now p st × OffsetsFit o × Exact (room_left o) (source_adds tape.now bytes.now) s }
     requires base_in_bounds { (base ≤ length strs.old) × (at ≤ length out.old) }
     ensures { LayerTold out.old strs.old out.new strs.new at base o result (grafted_into tape.now bytes.now o) }
@@ -380,7 +337,7 @@ fn graft_sized(
     at: usize,
     base: usize,
     s: sizes::Sizes,
-) -> Layer
+) -> Option<Layer>
     requires source_fits { SourceFits tape.now bytes.now p st × OffsetsFit o × Exact (room_left o) (source_adds tape.now bytes.now) s }
     requires min_work_words_in_bounds { (min_work_words ≤ length work.old) × (base ≤ length strs.old) × (at ≤ length out.old) }
     ensures { LayerTold out.old strs.old out.new strs.new at base o result (grafted_into tape.now bytes.now o) }
@@ -404,7 +361,7 @@ fn graft_sized(
 }
 
 // Sections 3 and 5. The nodes of a source that passed 1 to 7, grafted into one new layer above layers of these counts: the layer's
-// records from `at` on in `out`, the nodes' behind them, the strings' bytes from `base` on in `strs`. Not ok where number 18, or
+// records from `at` on in `out`, the nodes' behind them, the strings' bytes from `base` on in `strs`. None where number 18, or
 // number 3 of a pool, forbids it.
 pub fn graft_layer(
     tape: &[u8],
@@ -417,14 +374,13 @@ pub fn graft_layer(
     o: Offsets,
     at: usize,
     base: usize,
-) -> Layer
+) -> Option<Layer>
     requires source_fits { SourceFits tape.now bytes.now p st × OffsetsFit o }
     requires min_work_words_in_bounds { (min_work_words ≤ length work.old) × (base ≤ length strs.old) × (at ≤ length out.old) }
     ensures { LayerTold out.old strs.old out.new strs.new at base o result (grafted_into tape.now bytes.now o) }
 {
-    let s = sizes::reading_sizes(tape, st, p, room_left(o));
-    if s.over {
-        return refused();
+    match sizes::reading_sizes(tape, st, p, room_left(o)) {
+        Some(s) => graft_sized(tape, bytes, p, st, out, work, strs, o, at, base, s),
+        None => None,
     }
-    graft_sized(tape, bytes, p, st, out, work, strs, o, at, base, s)
 }

@@ -1,9 +1,10 @@
 -- Number 1 whole: the shapes of a tape's records where they stand are the shape of the book that `parse` reads.
-use Rattle.std.specs.Prelude.{◌≡◌, ℕ, zero, suc, ◌+◌, ◌*◌, ◌≤◌, ◌<◌, Bool, true, false, ◌&&◌, List, [], ◌∷◌, length, get_or, drop}
+use Rattle.std.specs.Prelude.{Option, Some, None, ◌≡◌, ℕ, zero, suc, ◌+◌, ◌*◌, ◌≤◌, ◌<◌, Bool, true, false, ◌&&◌, List, [], ◌∷◌, length, get_or, drop}
 use Rattle.std.proofs.Math.Path.{refl, ap}
-use Rattle.std.proofs.Common.{sym, ◌∙◌, arith, add-one, true≢false}
+use Rattle.std.proofs.Common.{sym, ◌∙◌, arith, add-one}
 use Rattle.std.proofs.Math.Bool.{cond}
-use Rattle.std.proofs.Math.Option.{Option, none, some}
+use Rattle.std.proofs.Math.Option.{Option as ModelOption, none, some}
+use Rattle.std.proofs.lemmas.Option.{none-some, same_Some}
 use Rattle.model.specs.Lists.{all, sum}
 use Rattle.model.specs.Bytes.{word_at}
 use Rattle.model.specs.Types.{LexOutput}
@@ -12,8 +13,8 @@ use Rattle.model.specs.Tape.{content_shape, segment_shape, node_shape, pair_shap
 use Rattle.places.specs.declared.LayerRuns.{LayerRuns}
 use Rattle.places.specs.declared.Places.{Places}
 use Rattle.wire.specs.Loops.{by_bool}
-use Rattle.places.specs.Found.{layer_runs, holds, found, no_places, places_of}
-use Rattle.places.specs.Again.{AtLayer, at_first, at_inside, at_here, at_next, at_before, Frame, frame, lists_inside, nodes_inside, Parsed, places_fault, places_parsed}
+use Rattle.places.specs.Found.{layer_runs, holds, found, places_of}
+use Rattle.places.specs.Again.{AtLayer, at_first, at_inside, at_here, at_next, at_before, Frame, frame, lists_inside, nodes_inside, Parsed, places_none, places_parsed}
 
 -- ---- definitions
 
@@ -35,12 +36,12 @@ lists_shape t p =
     && all diagnostic_shape (records_at diagnostic_codec t p.diagnostics.at p.diagnostics.count)
 
 -- the places, if there is a book
-abbrev places_if : List ℕ → Option LexOutput → Places
-places_if t none = no_places
-places_if t (some b) = found t
+abbrev places_if : List ℕ → ModelOption LexOutput → Option Places
+places_if t none = None
+places_if t (some b) = Some (found t)
 
 -- Number 1. Where everything stands, if tape and bytes are a book.
-unfoldable pub layout_of : List ℕ → List ℕ → Places
+unfoldable pub layout_of : List ℕ → List ℕ → Option Places
 layout_of t d = places_if t (parse t d)
 
 -- ---- what the code may ask
@@ -171,53 +172,53 @@ book_shape_lem t d =
 
 -- ---- what `places_of` has shown
 
-module _ (t d : List ℕ) {p : Places} (e : p ≡ places_of t d) where
-  pub layout_fault : {r : Places} → r ≡ no_places → p.fault ≡ true → r ≡ layout_of t d
+pub layout_none : (t d : List ℕ) → places_of t d ≡ None → None ≡ layout_of t d
+unfolding layout_of
+layout_none t d e = rw (places_none t d e) refl
+
+module _ (t d : List ℕ) {p : Places} (e : places_of t d ≡ Some p) where
+  parsed : Parsed t d p
+  parsed = places_parsed t d e
+
+  framing : Frame t d
+  framing = frame t d parsed.holding
+
+  pub layers_fit : LayersFit t p.layers
+  unfolding found
+  layers_fit =
+      let n = nodes_inside t d framing in
+      record { count = ap (λ (x : Places). x.layers) parsed.is; inside = omega (arith, n) }
+
+  pub lists_fit_lem : ListsFit t p
+  unfolding found
+  lists_fit_lem =
+      let l = lists_inside t in
+      rw parsed.is (record {
+        nodes = omega (arith, framing.size, l.nodes, l.pairs, l.containers, l.diagnostics);
+        pairs = omega (arith, framing.size, l.pairs, l.containers, l.diagnostics);
+        diagnostics = omega (arith, framing.size, l.diagnostics);
+      })
+
+  book : parse t d ≡ cond (layers_shape t (places t).layers && lists_shape t p) (some (book_at t (places t) d)) none
+  unfolding if_shaped
+  book =
+      parsed.book ∙ ap (λ (b : Bool). cond b (some (book_at t (places t) d)) none) (book_shape_lem t d
+      ∙ ap (λ (x : Places). layers_shape t (places t).layers && lists_shape t x) (sym parsed.is))
+
+  layout_shaped : layout_of t d ≡ cond (layers_shape t (places t).layers && lists_shape t p) (Some p) None
   unfolding layout_of
-  layout_fault q f = rw (places_fault t d p e f) q
+  layout_shaped = rw book (by_bool (layers_shape t (places t).layers && lists_shape t p) (λ b. rw b (ap (λ (x : Places). Some x) (sym parsed.is))) (λ b. rw b refl))
 
-  module _ (f : p.fault ≡ false) where
-    parsed : Parsed t d p
-    parsed = places_parsed t d p e f
+  module _ {a : Bool} (g : a ≡ layers_shape t (places t).layers) where
+    pub layout_layers : a ≡ false → None ≡ layout_of t d
+    layout_layers h = rw (layout_shaped, ← g, h) refl
 
-    framing : Frame t d
-    framing = frame t d parsed.holding
+    module _ (h : a ≡ true) {b : Bool} (k : b ≡ lists_shape t p) where
+      pub layout_lists : b ≡ false → None ≡ layout_of t d
+      layout_lists m = rw (layout_shaped, ← g, h, ← k, m) refl
 
-    pub layers_fit : LayersFit t p.layers
-    unfolding found
-    layers_fit =
-        let n = nodes_inside t d framing in
-        record { count = ap (λ (x : Places). x.layers) parsed.is; inside = omega (arith, n) }
-
-    pub lists_fit_lem : ListsFit t p
-    unfolding found
-    lists_fit_lem =
-        let l = lists_inside t in
-        rw parsed.is (record {
-          nodes = omega (arith, framing.size, l.nodes, l.pairs, l.containers, l.diagnostics);
-          pairs = omega (arith, framing.size, l.pairs, l.containers, l.diagnostics);
-          diagnostics = omega (arith, framing.size, l.diagnostics);
-        })
-
-    book : parse t d ≡ cond (layers_shape t (places t).layers && lists_shape t p) (some (book_at t (places t) d)) none
-    unfolding if_shaped
-    book =
-        parsed.book ∙ ap (λ (b : Bool). cond b (some (book_at t (places t) d)) none) (book_shape_lem t d
-        ∙ ap (λ (x : Places). layers_shape t (places t).layers && lists_shape t x) (sym parsed.is))
-
-    module _ {a : Bool} (g : a ≡ layers_shape t (places t).layers) where
-      pub layout_layers : {r : Places} → r ≡ no_places → a ≡ false → r ≡ layout_of t d
-      unfolding layout_of
-      layout_layers q h = rw (book, ← g, h) q
-
-      module _ (h : a ≡ true) {b : Bool} (k : b ≡ lists_shape t p) where
-        pub layout_lists : {r : Places} → r ≡ no_places → b ≡ false → r ≡ layout_of t d
-        unfolding layout_of
-        layout_lists q m = rw (book, ← g, h, ← k, m) q
-
-        pub layout_book : b ≡ true → p ≡ layout_of t d
-        unfolding layout_of
-        layout_book m = rw (book, ← g, h, ← k, m) parsed.is
+      pub layout_book : b ≡ true → Some p ≡ layout_of t d
+      layout_book m = rw (layout_shaped, ← g, h, ← k, m) refl
 
 -- ---- what the answer says
 
@@ -240,33 +241,25 @@ module _ (t d : List ℕ) where
   unfolding holds parse
   parse_unframed h = rw h refl
 
-  module _ {p : Places} (e : p ≡ layout_of t d) where
-    none_fault : parse t d ≡ none → p.fault ≡ true
-    unfolding layout_of no_places
-    none_fault n = ap (λ (x : Places). x.fault) (e ∙ ap (places_if t) n)
+  pub layout_laid : {p : Places} → layout_of t d ≡ Some p → Laid t d p
+  unfolding layout_of
+  layout_laid {p} e =
+      by_bool (holds t d)
+      (λ h.
+      by_bool (book_shape (book_at t (places t) d))
+      (λ s.
+      let b = parse_some h s in
+      let q : Some (found t) ≡ Some p = rw b at e in
+      record { is = sym (same_Some (found t) p q); framing = frame t d h; book = b })
+      (λ s. let q : None ≡ Some p = rw (parse_misshapen h s) at e in absurd (none-some p q)))
+      (λ h. let q : None ≡ Some p = rw (parse_unframed h) at e in absurd (none-some p q))
 
-    some_found : (b : LexOutput) → parse t d ≡ some b → p ≡ found t
-    unfolding layout_of
-    some_found b n = e ∙ ap (places_if t) n
-
-    some_sound : (b : LexOutput) → parse t d ≡ some b → p.fault ≡ false
-    unfolding found
-    some_sound b n = ap (λ (x : Places). x.fault) (some_found b n)
-
-    pub layout_laid : p.fault ≡ false → Laid t d p
-    layout_laid f =
-        by_bool (holds t d)
-        (λ h.
-        by_bool (book_shape (book_at t (places t) d))
-        (λ s. let b = parse_some h s in record { is = some_found (book_at t (places t) d) b; framing = frame t d h; book = b })
-        (λ s. absurd (true≢false (sym (none_fault (parse_misshapen h s)) ∙ f))))
-        (λ h. absurd (true≢false (sym (none_fault (parse_unframed h)) ∙ f)))
-
-    pub layout_refused : p.fault ≡ true → parse t d ≡ none
-    layout_refused f =
-        by_bool (holds t d)
-        (λ h.
-        by_bool (book_shape (book_at t (places t) d))
-        (λ s. absurd (true≢false (sym f ∙ some_sound (book_at t (places t) d) (parse_some h s))))
-        (parse_misshapen h))
-        parse_unframed
+  pub layout_refused : layout_of t d ≡ None → parse t d ≡ none
+  unfolding layout_of
+  layout_refused e =
+      by_bool (holds t d)
+      (λ h.
+      by_bool (book_shape (book_at t (places t) d))
+      (λ s. let q : Some (found t) ≡ None = rw (parse_some h s) at e in absurd (none-some (found t) (sym q)))
+      (parse_misshapen h))
+      parse_unframed

@@ -1,5 +1,5 @@
-// Number 1 whole, document 01 section 4: `layout` gives the places of a tape's records where `parse` finds a book, and a fault
-// where it finds none. The frame is `places_of`'s; here every record is asked for its shape where it stands: contents and
+// Number 1 whole, document 01 section 4: `layout` gives the places of a tape's records where `parse` finds a book, and
+// none where it finds none. The frame is `places_of`'s; here every record is asked for its shape where it stands: contents and
 // segments layer by layer, by one walk over the layers, then nodes, pairs and diagnostics (containers have no shape). No shape
 // depends on the byte buffer. specs/Shaped.antt says so, and that no tape is refused that is a book.
 #![tactic(auto)]
@@ -45,19 +45,14 @@ pub fn lists_shaped(tape: &[u8], p: places::Places) -> bool
         && records::all_shaped::<records::Diagnostic>(tape, p.diagnostics.at, p.diagnostics.count)
 }
 
-// Number 1: the places of a book's records, and a fault where tape and bytes are no book.
-pub fn layout(tape: &[u8], bytes: &[u8]) -> places::Places
+// Number 1: the places of a book's records, if tape and bytes are a book.
+pub fn layout(tape: &[u8], bytes: &[u8]) -> Option<places::Places>
     ensures { result ≡ layout_of tape.now bytes.now }
 {
-    let p = places::places_of(tape, bytes);
-    if p.fault {
-        return places::no_places();
+    let p = places::places_of(tape, bytes)?;
+    if layers_shaped(tape, p.layers) && lists_shaped(tape, p) {
+        Some(p)
+    } else {
+        None
     }
-    if !layers_shaped(tape, p.layers) {
-        return places::no_places();
-    }
-    if !lists_shaped(tape, p) {
-        return places::no_places();
-    }
-    p
 }

@@ -20,24 +20,14 @@ pub fn levels_below(tape: &[u8], at: usize, count: usize, level: u8) -> bool
     requires { at + 37 * count ≤ length tape.now }
     ensures { result ≡ all (below level) (records_at segment_codec tape.now at count) }
 {
-    let mut i = 0;
-    while i < count {
-        if !level_below(tape, at + 37 * i, level) {
-            return false;
-        }
-        i += 1;
-    }
-    true
+    (0..count).all(|i| level_below(tape, at + 37 * i, level))
 }
 
 // Section 4. A Node's own level is 1..32.
 pub fn level_in_range(level: u8) -> bool
     ensures { result ≡ (leb 1 level && leb level max_level) }
 {
-    if level < 1 {
-        return false;
-    }
-    level <= 32
+    1 <= level && level <= 32
 }
 
 // Where the blocks around item i end that a table says to be below the level; i where it does not say so.
@@ -70,24 +60,13 @@ pub fn known_end(table: &[u8], i: usize, level: u8) -> usize
     65536 * (i / 65536) + 65536
 }
 
-fn greater(a: u8, b: u8) -> u8
-    ensures { (a ≤ result) × (b ≤ result) }
-{
-    if a < b {
-        return b;
-    }
-    a
-}
-
 fn greatest(table: &[u8], from: usize) -> u8
     requires { from + 16 ≤ length table.now }
     ensures { Greatest table.now from 16 result }
 {
     let mut m = 0;
-    let mut i = 0;
-    while i < 16 {
-        m = greater(m, table[from + i]);
-        i += 1;
+    for i in 0..16 {
+        m = m.max(table[from + i]);
     }
     m
 }
@@ -97,9 +76,7 @@ pub fn put_uppers(table: &mut [u8])
     requires { length table.old ≡ 69904 }
     ensures { Risen table.new 69904 × Kept table.old table.new }
 {
-    let mut k = 65536;
-    while k < 69904 {
+    for k in 65536..69904 {
         table[k] = greatest(table, 16 * (k - 65536));
-        k += 1;
     }
 }

@@ -21,571 +21,492 @@ ghost use Rattle.levels.specs.Below.{segments_below, content_below, contents_bel
 ghost use Rattle.levels.specs.Table.{segment_test, content_test, Step, Said, Filled, Bound, Block, Tops, Tables};
 ghost use Rattle.levels.specs.Whole.{levels_in, Walked};
 
+// A tape and its store, which is lent.
+#[derive(Clone, Copy)]
+struct Book<'a> {
+    tape: &'a [u8],
+    st: &'a store::Store,
+    ghost of_tape: { OfTape tape.now st.now },
+}
+
+// The same with a table of the levels that its segments are below.
+#[derive(Clone, Copy)]
+struct TopTable<'a> {
+    tape: &'a [u8],
+    st: &'a store::Store,
+    tops: &'a [u8],
+    ghost made: { Tops tape.now st.now tops.now },
+}
+
+// The same with a table of the levels that the segments which its contents name are below.
+#[derive(Clone, Copy)]
+struct HeightTable<'a> {
+    tape: &'a [u8],
+    st: &'a store::Store,
+    tops: &'a [u8],
+    heights: &'a [u8],
+    ghost made: { Tables tape.now st.now tops.now heights.now },
+}
+
 // ---- ranges up to 16; 'false' says nothing
 
-fn segments_quick(tape: &[u8], st: store::Store, start: u32, len: u32, level: u8) -> bool
-    requires { OfTape tape.now st }
-    ensures { result ≡ true → segments_below tape.now st level start len ≡ true }
-{
-    if 16 < len {
-        return false;
-    }
-    if !ids::segments_in(st, start, len) {
-        return false;
-    }
-    if len == 0 {
-        return true;
-    }
-    let at = store::segment_place(st, start);
-    level_blocks::levels_below(tape, at, len as usize, level)
-}
-
-fn content_quick(tape: &[u8], st: store::Store, at: usize, level: u8) -> bool
-    requires of_tape { OfTape tape.now st }
-    requires at_in_bounds { at + 10 ≤ length tape.now }
-    ensures { result ≡ true → content_below tape.now st level (record_at content_codec tape.now at) ≡ true }
-{
-    let c = records::content_at(tape, at);
-    if c.tag == 0 {
-        return true;
-    }
-    segments_quick(tape, st, c.first, c.second, level)
-}
-
-fn run_quick(tape: &[u8], st: store::Store, at: usize, count: usize, level: u8) -> bool
-    requires of_tape { OfTape tape.now st }
-    requires count_in_bounds { at + 10 * count ≤ length tape.now }
-    ensures { result ≡ true → all (content_below tape.now st level) (records_at content_codec tape.now at count) ≡ true }
-{
-    let mut i = 0;
-    while i < count {
-        if !content_quick(tape, st, at + 10 * i, level) {
+impl<'a> Book<'a> {
+    fn segments_quick(&self, start: u32, len: u32, level: u8) -> bool
+        ensures { result ≡ true → segments_below self.now.tape.now self.now.st.now level start len ≡ true }
+    {
+        if 16 < len {
             return false;
         }
-        i += 1;
-    }
-    true
-}
-
-fn contents_quick(tape: &[u8], st: store::Store, start: u32, len: u32, level: u8) -> bool
-    requires { OfTape tape.now st }
-    ensures { result ≡ true → contents_below tape.now st level start len ≡ true }
-{
-    if 16 < len {
-        return false;
-    }
-    if !ids::contents_in(st, start, len) {
-        return false;
-    }
-    if len == 0 {
-        return true;
-    }
-    let at = store::content_place(st, start);
-    run_quick(tape, st, at, len as usize, level)
-}
-
-fn used_quick(tape: &[u8], st: store::Store, usage: u8, w: u32, next: u32, level: u8) -> bool
-    requires { OfTape tape.now st }
-    ensures { result ≡ true → used_below tape.now st level usage w next ≡ true }
-{
-    if usage == 3 {
-        return contents_quick(tape, st, w, next, level);
-    }
-    if usage == 5 {
-        return segments_quick(tape, st, w, next, level);
-    }
-    true
-}
-
-// Word i of the body at `at`, which has that use.
-fn word_quick(tape: &[u8], st: store::Store, usage: u8, at: usize, i: usize, level: u8) -> bool
-    requires of_tape { OfTape tape.now st }
-    requires at_in_bounds { (at + 34 ≤ length tape.now) × (i < 6) }
-    ensures { result ≡ true → used_below tape.now st level usage (word_of (body_at tape.now at) i) (word_of (body_at tape.now at) (i + 1)) ≡ true }
-{
-    let w = records::body_word(tape, at, i);
-    let next = ids::next_word(tape, at, i);
-    used_quick(tape, st, usage, w, next, level)
-}
-
-fn body_quick(tape: &[u8], st: store::Store, at: usize, level: u8) -> bool
-    requires of_tape { OfTape tape.now st }
-    requires at_in_bounds { at + 34 ≤ length tape.now }
-    ensures { result ≡ true → body_below tape.now st level (body_at tape.now at) ≡ true }
-{
-    let uses = records::uses_of(tape[at], tape[at + 1]);
-    let mut i = 0;
-    while i < 6 {
-        let usage = records::use_in(uses, i);
-        if usage == 0 {
+        if !ids::segments_in(*self.st, start, len) {
+            return false;
+        }
+        if len == 0 {
             return true;
         }
-        if !word_quick(tape, st, usage, at, i, level) {
+        let at = store::segment_place(*self.st, start);
+        level_blocks::levels_below(self.tape, at, len as usize, level)
+    }
+
+    fn content_quick(&self, at: usize, level: u8) -> bool
+        requires at_in_bounds { at + 10 ≤ length self.now.tape.now }
+        ensures { result ≡ true → content_below self.now.tape.now self.now.st.now level (record_at content_codec self.now.tape.now at) ≡ true }
+    {
+        let c = records::content_at(self.tape, at);
+        if c.tag == 0 {
+            return true;
+        }
+        self.segments_quick(c.first, c.second, level)
+    }
+
+    fn run_quick(&self, at: usize, count: usize, level: u8) -> bool
+        requires count_in_bounds { at + 10 * count ≤ length self.now.tape.now }
+        ensures { result ≡ true → all (content_below self.now.tape.now self.now.st.now level) (records_at content_codec self.now.tape.now at count) ≡ true }
+    {
+        for i in 0..count {
+            if !self.content_quick(at + 10 * i, level) {
+                return false;
+            }
+        }
+        true
+    }
+
+    fn contents_quick(&self, start: u32, len: u32, level: u8) -> bool
+        ensures { result ≡ true → contents_below self.now.tape.now self.now.st.now level start len ≡ true }
+    {
+        if 16 < len {
             return false;
         }
-        i += 1;
-    }
-    true
-}
-
-fn level_quick(tape: &[u8], st: store::Store, at: usize) -> bool
-    requires of_tape { OfTape tape.now st }
-    requires at_in_bounds { at + 37 ≤ length tape.now }
-    ensures { result ≡ true → level_in tape.now st (record_at segment_codec tape.now at) ≡ true }
-{
-    let level = tape[at + 2];
-    if tape[at + 1] < 3 {
-        return level == 0;
-    }
-    if !level_blocks::level_in_range(level) {
-        return false;
-    }
-    body_quick(tape, st, at + 3, level)
-}
-
-fn run_levels_quick(tape: &[u8], st: store::Store, at: usize, count: usize) -> bool
-    requires of_tape { OfTape tape.now st }
-    requires count_in_bounds { at + 37 * count ≤ length tape.now }
-    ensures { result ≡ true → all (level_in tape.now st) (records_at segment_codec tape.now at count) ≡ true }
-{
-    let mut i = 0;
-    while i < count {
-        if !level_quick(tape, st, at + 37 * i) {
+        if !ids::contents_in(*self.st, start, len) {
             return false;
         }
-        i += 1;
+        if len == 0 {
+            return true;
+        }
+        let at = store::content_place(*self.st, start);
+        self.run_quick(at, len as usize, level)
     }
-    true
-}
 
-// The layers behind the first, which was walked and ends at `from`.
-fn levels_quick(tape: &[u8], st: store::Store, from: usize, layers: usize) -> bool
-    requires of_tape { OfTape tape.now st }
-    requires layers_value { layers ≡ length (places tape.now).layers }
-    requires le_layers { (1 ≤ layers) × Walked tape.now st 1 from }
-    ensures { result ≡ true → levels_in tape.now st ≡ true }
-{
-    let mut at = from;
-    let mut i = 1;
-    while i < layers {
-        let l = places::next_layer(tape, at);
-        if !run_levels_quick(tape, st, l.segments.at, l.segments.count) {
+    fn used_quick(&self, usage: u8, w: u32, next: u32, level: u8) -> bool
+        ensures { result ≡ true → used_below self.now.tape.now self.now.st.now level usage w next ≡ true }
+    {
+        match usage {
+            3 => self.contents_quick(w, next, level),
+            5 => self.segments_quick(w, next, level),
+            _ => true,
+        }
+    }
+
+    // Word i of the body at `at`, which has that use.
+    fn word_quick(&self, usage: u8, at: usize, i: usize, level: u8) -> bool
+        requires at_in_bounds { (at + 34 ≤ length self.now.tape.now) × (i < 6) }
+        ensures { result ≡ true → used_below self.now.tape.now self.now.st.now level usage (word_of (body_at self.now.tape.now at) i) (word_of (body_at self.now.tape.now at) (i + 1)) ≡ true }
+    {
+        let w = records::body_word(self.tape, at, i);
+        let next = ids::next_word(self.tape, at, i);
+        self.used_quick(usage, w, next, level)
+    }
+
+    fn body_quick(&self, at: usize, level: u8) -> bool
+        requires at_in_bounds { at + 34 ≤ length self.now.tape.now }
+        ensures { result ≡ true → body_below self.now.tape.now self.now.st.now level (body_at self.now.tape.now at) ≡ true }
+    {
+        let uses = records::uses_of(self.tape[at], self.tape[at + 1]);
+        for i in 0..6 {
+            let usage = records::use_in(uses, i);
+            if usage == 0 {
+                return true;
+            }
+            if !self.word_quick(usage, at, i, level) {
+                return false;
+            }
+        }
+        true
+    }
+
+    fn level_quick(&self, at: usize) -> bool
+        requires at_in_bounds { at + 37 ≤ length self.now.tape.now }
+        ensures { result ≡ true → level_in self.now.tape.now self.now.st.now (record_at segment_codec self.now.tape.now at) ≡ true }
+    {
+        let level = self.tape[at + 2];
+        if self.tape[at + 1] < 3 {
+            return level == 0;
+        }
+        if !level_blocks::level_in_range(level) {
             return false;
         }
-        at = l.end;
-        i += 1;
+        self.body_quick(at + 3, level)
     }
-    true
+
+    fn run_levels_quick(&self, at: usize, count: usize) -> bool
+        requires count_in_bounds { at + 37 * count ≤ length self.now.tape.now }
+        ensures { result ≡ true → all (level_in self.now.tape.now self.now.st.now) (records_at segment_codec self.now.tape.now at count) ≡ true }
+    {
+        for i in 0..count {
+            if !self.level_quick(at + 37 * i) {
+                return false;
+            }
+        }
+        true
+    }
+
+    // The layers behind the first, which was walked and ends at `from`.
+    fn levels_quick(&self, from: usize, layers: usize) -> bool
+        requires layers_value { layers ≡ length (places self.now.tape.now).layers }
+        requires le_layers { (1 ≤ layers) × Walked self.now.tape.now self.now.st.now 1 from }
+        ensures { result ≡ true → levels_in self.now.tape.now self.now.st.now ≡ true }
+    {
+        let mut at = from;
+        for _layer in 1..layers {
+            let l = places::next_layer(self.tape, at);
+            if !self.run_levels_quick(l.segments.at, l.segments.count) {
+                return false;
+            }
+            at = l.end;
+        }
+        true
+    }
 }
 
 // ---- ranges by the tables
 
-// How far the items from i on are below the level, at most to `end`: by the table, or by the segment i itself, which stands at `at`.
-fn segment_step(tape: &[u8], tops: &[u8], at: usize, i: usize, end: usize, level: u8) -> usize
-    requires risen { Risen tops.now 69904 }
-    requires at_in_bounds { (at + 37 ≤ length tape.now) × (i < end) }
-    ensures { Step tops.now level (below level (record_at segment_codec tape.now at)) i end result }
-{
-    let r = level_blocks::known_end(tops, i, level);
-    if end < r {
-        return end;
+impl<'a> TopTable<'a> {
+    // How far the items from i on are below the level, at most to `end`: by the table, or by the segment i itself, which stands at `at`.
+    fn segment_step(&self, at: usize, i: usize, end: usize, level: u8) -> usize
+        requires at_in_bounds { (at + 37 ≤ length self.now.tape.now) × (i < end) }
+        ensures { Step self.now.tops.now level (below level (record_at segment_codec self.now.tape.now at)) i end result }
+    {
+        let r = level_blocks::known_end(self.tops, i, level);
+        if end < r {
+            return end;
+        }
+        if i < r {
+            return r;
+        }
+        if level_blocks::level_below(self.tape, at, level) {
+            return i + 1;
+        }
+        i
     }
-    if i < r {
-        return r;
-    }
-    if level_blocks::level_below(tape, at, level) {
-        return i + 1;
-    }
-    i
-}
 
-fn segments_walk(tape: &[u8], tops: &[u8], at: usize, start: usize, len: usize, level: u8) -> bool
-    requires risen { Risen tops.now 69904 }
-    requires len_in_bounds { (at + 37 * len ≤ length tape.now) × (start + len < 2 ^ 33) }
-    requires said { Said tops.now level start len (test_at segment_codec (below level) tape.now at) }
-    ensures { result ≡ all (below level) (records_at segment_codec tape.now at len) }
-{
-    let mut k = 0;
-    while k < len {
-        let r = segment_step(tape, tops, at + 37 * k, start + k, start + len, level);
-        if r == start + k {
+    fn segments_walk(&self, at: usize, start: usize, len: usize, level: u8) -> bool
+        requires len_in_bounds { (at + 37 * len ≤ length self.now.tape.now) × (start + len < 2 ^ 33) }
+        requires said { Said self.now.tops.now level start len (test_at segment_codec (below level) self.now.tape.now at) }
+        ensures { result ≡ all (below level) (records_at segment_codec self.now.tape.now at len) }
+    {
+        let mut k = 0;
+        // A step says how far it goes: k rises by as much.
+        while k < len {
+            let r = self.segment_step(at + 37 * k, start + k, start + len, level);
+            if r == start + k {
+                return false;
+            }
+            k = r - start;
+        }
+        true
+    }
+
+    // Number 5. Every segment of a range is below a level.
+    fn segments_below(&self, start: u32, len: u32, level: u8) -> bool
+        ensures { result ≡ segments_below self.now.tape.now self.now.st.now level start len }
+    {
+        if !ids::segments_in(*self.st, start, len) {
             return false;
         }
-        k = r - start;
-    }
-    true
-}
-
-// Number 5. Every segment of a range is below a level.
-fn segments_below(
-    tape: &[u8],
-    st: store::Store,
-    tops: &[u8],
-    start: u32,
-    len: u32,
-    level: u8,
-) -> bool
-    requires { Tops tape.now st tops.now }
-    ensures { result ≡ segments_below tape.now st level start len }
-{
-    if !ids::segments_in(st, start, len) {
-        return false;
-    }
-    if len == 0 {
-        return true;
-    }
-    let at = store::segment_place(st, start);
-    segments_walk(tape, tops, at, start as usize, len as usize, level)
-}
-
-fn content_below(tape: &[u8], st: store::Store, tops: &[u8], at: usize, level: u8) -> bool
-    requires tops { Tops tape.now st tops.now }
-    requires at_in_bounds { at + 10 ≤ length tape.now }
-    ensures { result ≡ content_below tape.now st level (record_at content_codec tape.now at) }
-{
-    let c = records::content_at(tape, at);
-    if c.tag == 0 {
-        return true;
-    }
-    segments_below(tape, st, tops, c.first, c.second, level)
-}
-
-// The same as `segment_step`, of the content i at `at`.
-fn content_step(
-    tape: &[u8],
-    st: store::Store,
-    tops: &[u8],
-    heights: &[u8],
-    at: usize,
-    i: usize,
-    end: usize,
-    level: u8,
-) -> usize
-    requires tables { Tables tape.now st tops.now heights.now }
-    requires at_in_bounds { (at + 10 ≤ length tape.now) × (i < end) }
-    ensures { Step heights.now level (content_below tape.now st level (record_at content_codec tape.now at)) i end result }
-{
-    let r = level_blocks::known_end(heights, i, level);
-    if end < r {
-        return end;
-    }
-    if i < r {
-        return r;
-    }
-    if content_below(tape, st, tops, at, level) {
-        return i + 1;
-    }
-    i
-}
-
-fn contents_walk(
-    tape: &[u8],
-    st: store::Store,
-    tops: &[u8],
-    heights: &[u8],
-    at: usize,
-    start: usize,
-    len: usize,
-    level: u8,
-) -> bool
-    requires tables { Tables tape.now st tops.now heights.now }
-    requires len_in_bounds { (at + 10 * len ≤ length tape.now) × (start + len < 2 ^ 33) }
-    requires said { Said heights.now level start len (test_at content_codec (content_below tape.now st level) tape.now at) }
-    ensures { result ≡ all (content_below tape.now st level) (records_at content_codec tape.now at len) }
-{
-    let mut k = 0;
-    while k < len {
-        let r = content_step(
-            tape,
-            st,
-            tops,
-            heights,
-            at + 10 * k,
-            start + k,
-            start + len,
-            level,
-        );
-        if r == start + k {
-            return false;
-        }
-        k = r - start;
-    }
-    true
-}
-
-// Number 5. Every segment that a range of contents names is below a level.
-fn contents_below(
-    tape: &[u8],
-    st: store::Store,
-    tops: &[u8],
-    heights: &[u8],
-    start: u32,
-    len: u32,
-    level: u8,
-) -> bool
-    requires { Tables tape.now st tops.now heights.now }
-    ensures { result ≡ contents_below tape.now st level start len }
-{
-    if !ids::contents_in(st, start, len) {
-        return false;
-    }
-    if len == 0 {
-        return true;
-    }
-    let at = store::content_place(st, start);
-    contents_walk(
-        tape,
-        st,
-        tops,
-        heights,
-        at,
-        start as usize,
-        len as usize,
-        level,
-    )
-}
-
-fn used_below(
-    tape: &[u8],
-    st: store::Store,
-    tops: &[u8],
-    heights: &[u8],
-    usage: u8,
-    w: u32,
-    next: u32,
-    level: u8,
-) -> bool
-    requires { Tables tape.now st tops.now heights.now }
-    ensures { result ≡ used_below tape.now st level usage w next }
-{
-    if usage == 3 {
-        return contents_below(tape, st, tops, heights, w, next, level);
-    }
-    if usage == 5 {
-        return segments_below(tape, st, tops, w, next, level);
-    }
-    true
-}
-
-// Word i of the body at `at`, which has that use.
-fn word_below(
-    tape: &[u8],
-    st: store::Store,
-    tops: &[u8],
-    heights: &[u8],
-    usage: u8,
-    at: usize,
-    i: usize,
-    level: u8,
-) -> bool
-    requires tables { Tables tape.now st tops.now heights.now }
-    requires at_in_bounds { (at + 34 ≤ length tape.now) × (i < 6) }
-    ensures { result ≡ used_below tape.now st level usage (word_of (body_at tape.now at) i) (word_of (body_at tape.now at) (i + 1)) }
-{
-    let w = records::body_word(tape, at, i);
-    let next = ids::next_word(tape, at, i);
-    used_below(tape, st, tops, heights, usage, w, next, level)
-}
-
-fn body_below(
-    tape: &[u8],
-    st: store::Store,
-    tops: &[u8],
-    heights: &[u8],
-    at: usize,
-    level: u8,
-) -> bool
-    requires tables { Tables tape.now st tops.now heights.now }
-    requires at_in_bounds { at + 34 ≤ length tape.now }
-    ensures { result ≡ body_below tape.now st level (body_at tape.now at) }
-{
-    let uses = records::uses_of(tape[at], tape[at + 1]);
-    let mut i = 0;
-    while i < 6 {
-        let usage = records::use_in(uses, i);
-        if usage == 0 {
+        if len == 0 {
             return true;
         }
-        if !word_below(tape, st, tops, heights, usage, at, i, level) {
-            return false;
-        }
-        i += 1;
+        let at = store::segment_place(*self.st, start);
+        self.segments_walk(at, start as usize, len as usize, level)
     }
-    true
+
+    fn content_below(&self, at: usize, level: u8) -> bool
+        requires at_in_bounds { at + 10 ≤ length self.now.tape.now }
+        ensures { result ≡ content_below self.now.tape.now self.now.st.now level (record_at content_codec self.now.tape.now at) }
+    {
+        let c = records::content_at(self.tape, at);
+        if c.tag == 0 {
+            return true;
+        }
+        self.segments_below(c.first, c.second, level)
+    }
 }
 
-// Number 5. The level of the segment at `at`.
-fn level_ok(tape: &[u8], st: store::Store, tops: &[u8], heights: &[u8], at: usize) -> bool
-    requires tables { Tables tape.now st tops.now heights.now }
-    requires at_in_bounds { at + 37 ≤ length tape.now }
-    ensures { result ≡ level_in tape.now st (record_at segment_codec tape.now at) }
-{
-    let level = tape[at + 2];
-    if tape[at + 1] < 3 {
-        return level == 0;
+impl<'a> HeightTable<'a> {
+    // The same as `segment_step`, of the content i at `at`.
+    fn content_step(&self, at: usize, i: usize, end: usize, level: u8) -> usize
+        requires at_in_bounds { (at + 10 ≤ length self.now.tape.now) × (i < end) }
+        ensures { Step self.now.heights.now level (content_below self.now.tape.now self.now.st.now level (record_at content_codec self.now.tape.now at)) i end result }
+    {
+        let r = level_blocks::known_end(self.heights, i, level);
+        if end < r {
+            return end;
+        }
+        if i < r {
+            return r;
+        }
+        let by_tops = TopTable {
+            tape: self.tape,
+            st: self.st,
+            tops: self.tops,
+        };
+        if by_tops.content_below(at, level) {
+            return i + 1;
+        }
+        i
     }
-    if !level_blocks::level_in_range(level) {
-        return false;
-    }
-    body_below(tape, st, tops, heights, at + 3, level)
-}
 
-fn run_levels_ok(
-    tape: &[u8],
-    st: store::Store,
-    tops: &[u8],
-    heights: &[u8],
-    at: usize,
-    count: usize,
-) -> bool
-    requires tables { Tables tape.now st tops.now heights.now }
-    requires count_in_bounds { at + 37 * count ≤ length tape.now }
-    ensures { result ≡ all (level_in tape.now st) (records_at segment_codec tape.now at count) }
-{
-    let mut i = 0;
-    while i < count {
-        if !level_ok(tape, st, tops, heights, at + 37 * i) {
+    fn contents_walk(&self, at: usize, start: usize, len: usize, level: u8) -> bool
+        requires len_in_bounds { (at + 10 * len ≤ length self.now.tape.now) × (start + len < 2 ^ 33) }
+        requires said { Said self.now.heights.now level start len (test_at content_codec (content_below self.now.tape.now self.now.st.now level) self.now.tape.now at) }
+        ensures { result ≡ all (content_below self.now.tape.now self.now.st.now level) (records_at content_codec self.now.tape.now at len) }
+    {
+        let mut k = 0;
+        // A step says how far it goes: k rises by as much.
+        while k < len {
+            let r = self.content_step(at + 10 * k, start + k, start + len, level);
+            if r == start + k {
+                return false;
+            }
+            k = r - start;
+        }
+        true
+    }
+
+    // Number 5. Every segment that a range of contents names is below a level.
+    fn contents_below(&self, start: u32, len: u32, level: u8) -> bool
+        ensures { result ≡ contents_below self.now.tape.now self.now.st.now level start len }
+    {
+        if !ids::contents_in(*self.st, start, len) {
             return false;
         }
-        i += 1;
+        if len == 0 {
+            return true;
+        }
+        let at = store::content_place(*self.st, start);
+        self.contents_walk(at, start as usize, len as usize, level)
     }
-    true
-}
 
-fn levels_by(tape: &[u8], st: store::Store, tops: &[u8], heights: &[u8], layers: usize) -> bool
-    requires tables { Tables tape.now st tops.now heights.now }
-    requires layers_value { layers ≡ length (places tape.now).layers }
-    ensures { result ≡ levels_in tape.now st }
-{
-    let mut at = 9;
-    let mut i = 0;
-    while i < layers {
-        let l = places::next_layer(tape, at);
-        if !run_levels_ok(tape, st, tops, heights, l.segments.at, l.segments.count) {
+    fn used_below(&self, usage: u8, w: u32, next: u32, level: u8) -> bool
+        ensures { result ≡ used_below self.now.tape.now self.now.st.now level usage w next }
+    {
+        let by_tops = TopTable {
+            tape: self.tape,
+            st: self.st,
+            tops: self.tops,
+        };
+        match usage {
+            3 => self.contents_below(w, next, level),
+            5 => by_tops.segments_below(w, next, level),
+            _ => true,
+        }
+    }
+
+    // Word i of the body at `at`, which has that use.
+    fn word_below(&self, usage: u8, at: usize, i: usize, level: u8) -> bool
+        requires at_in_bounds { (at + 34 ≤ length self.now.tape.now) × (i < 6) }
+        ensures { result ≡ used_below self.now.tape.now self.now.st.now level usage (word_of (body_at self.now.tape.now at) i) (word_of (body_at self.now.tape.now at) (i + 1)) }
+    {
+        let w = records::body_word(self.tape, at, i);
+        let next = ids::next_word(self.tape, at, i);
+        self.used_below(usage, w, next, level)
+    }
+
+    fn body_below(&self, at: usize, level: u8) -> bool
+        requires at_in_bounds { at + 34 ≤ length self.now.tape.now }
+        ensures { result ≡ body_below self.now.tape.now self.now.st.now level (body_at self.now.tape.now at) }
+    {
+        let uses = records::uses_of(self.tape[at], self.tape[at + 1]);
+        for i in 0..6 {
+            let usage = records::use_in(uses, i);
+            if usage == 0 {
+                return true;
+            }
+            if !self.word_below(usage, at, i, level) {
+                return false;
+            }
+        }
+        true
+    }
+
+    // Number 5. The level of the segment at `at`.
+    fn level_ok(&self, at: usize) -> bool
+        requires at_in_bounds { at + 37 ≤ length self.now.tape.now }
+        ensures { result ≡ level_in self.now.tape.now self.now.st.now (record_at segment_codec self.now.tape.now at) }
+    {
+        let level = self.tape[at + 2];
+        if self.tape[at + 1] < 3 {
+            return level == 0;
+        }
+        if !level_blocks::level_in_range(level) {
             return false;
         }
-        at = l.end;
-        i += 1;
+        self.body_below(at + 3, level)
     }
-    true
+
+    fn run_levels_ok(&self, at: usize, count: usize) -> bool
+        requires count_in_bounds { at + 37 * count ≤ length self.now.tape.now }
+        ensures { result ≡ all (level_in self.now.tape.now self.now.st.now) (records_at segment_codec self.now.tape.now at count) }
+    {
+        for i in 0..count {
+            if !self.level_ok(at + 37 * i) {
+                return false;
+            }
+        }
+        true
+    }
+
+    fn levels_by(&self, layers: usize) -> bool
+        requires layers_value { layers ≡ length (places self.now.tape.now).layers }
+        ensures { result ≡ levels_in self.now.tape.now self.now.st.now }
+    {
+        let mut at = 9;
+        for _layer in 0..layers {
+            let l = places::next_layer(self.tape, at);
+            if !self.run_levels_ok(l.segments.at, l.segments.count) {
+                return false;
+            }
+            at = l.end;
+        }
+        true
+    }
 }
 
 // ---- the tables made
 
-// The least level, from m on, that segment i is below; 255 above 32.
-fn segment_bound(tape: &[u8], st: store::Store, i: u32, m: u8) -> u8
-    requires of_tape { OfTape tape.now st }
-    requires i_lt_segments { i < st.totals.segments }
-    ensures { Bound (segment_test tape.now st) i m result }
-{
-    let at = store::segment_place(st, i);
-    let v = tape[at + 2];
-    if v < m {
-        return m;
-    }
-    if 32 < v {
-        return 255;
-    }
-    v + 1
-}
-
-fn top_of(tape: &[u8], st: store::Store, k: usize) -> u8
-    requires of_tape { OfTape tape.now st }
-    requires k_bound { k < 65536 }
-    ensures { Block (segment_test tape.now st) st.totals.segments (16 * k) (16 * k + 16) result }
-{
-    let total = st.totals.segments as usize;
-    let mut m = 1;
-    let mut i = 16 * k;
-    while i < 16 * k + 16 {
-        if total <= i {
+impl<'a> Book<'a> {
+    // The least level, from m on, that segment i is below; 255 above 32.
+    fn segment_bound(&self, i: u32, m: u8) -> u8
+        requires i_lt_segments { i < self.now.st.now.totals.segments }
+        ensures { Bound (segment_test self.now.tape.now self.now.st.now) i m result }
+    {
+        let at = store::segment_place(*self.st, i);
+        let v = self.tape[at + 2];
+        if v < m {
             return m;
         }
-        m = segment_bound(tape, st, i as u32, m);
-        i += 1;
-    }
-    m
-}
-
-fn put_tops(tape: &[u8], st: store::Store, tops: &mut [u8])
-    requires of_tape { OfTape tape.now st }
-    requires tops_len { length tops.old ≡ 69904 }
-    ensures { Filled (segment_test tape.now st) st.totals.segments tops.new 65536 }
-{
-    let total = st.totals.segments as usize;
-    let mut k = 0;
-    while k < 65536 {
-        if total <= 16 * k {
-            return;
+        if 32 < v {
+            return 255;
         }
-        tops[k] = top_of(tape, st, k);
-        k += 1;
+        v + 1
     }
-}
 
-// The least level, from m on, that content i is below; 255 above 33.
-fn content_bound(tape: &[u8], st: store::Store, tops: &[u8], i: u32, m: u8) -> u8
-    requires tops { Tops tape.now st tops.now }
-    requires i_lt_contents { i < st.totals.contents }
-    ensures { Bound (content_test tape.now st) i m result }
-{
-    let at = store::content_place(st, i);
-    let mut r = m;
-    while r < 34 {
-        if content_below(tape, st, tops, at, r) {
-            return r;
+    fn top_of(&self, k: usize) -> u8
+        requires k_bound { k < 65536 }
+        ensures { Block (segment_test self.now.tape.now self.now.st.now) self.now.st.now.totals.segments (16 * k) (16 * k + 16) result }
+    {
+        let total = self.st.totals.segments as usize;
+        let mut m = 1;
+        for i in 16 * k..16 * k + 16 {
+            if total <= i {
+                return m;
+            }
+            m = self.segment_bound(i as u32, m);
         }
-        r += 1;
+        m
     }
-    255
-}
 
-fn height_of(tape: &[u8], st: store::Store, tops: &[u8], k: usize) -> u8
-    requires tops { Tops tape.now st tops.now }
-    requires k_bound { k < 65536 }
-    ensures { Block (content_test tape.now st) st.totals.contents (16 * k) (16 * k + 16) result }
-{
-    let total = st.totals.contents as usize;
-    let mut m = 1;
-    let mut i = 16 * k;
-    while i < 16 * k + 16 {
-        if total <= i {
-            return m;
+    fn put_tops(&self, tops: &mut [u8])
+        requires tops_len { length tops.old ≡ 69904 }
+        ensures { Filled (segment_test self.now.tape.now self.now.st.now) self.now.st.now.totals.segments tops.new 65536 }
+    {
+        let total = self.st.totals.segments as usize;
+        for k in 0..65536 {
+            if total <= 16 * k {
+                return;
+            }
+            tops[k] = self.top_of(k);
         }
-        m = content_bound(tape, st, tops, i as u32, m);
-        i += 1;
     }
-    m
 }
 
-fn put_heights(tape: &[u8], st: store::Store, tops: &[u8], heights: &mut [u8])
-    requires tops { Tops tape.now st tops.now }
-    requires heights_len { length heights.old ≡ 69904 }
-    ensures { Filled (content_test tape.now st) st.totals.contents heights.new 65536 }
-{
-    let total = st.totals.contents as usize;
-    let mut k = 0;
-    while k < 65536 {
-        if total <= 16 * k {
-            return;
+impl<'a> TopTable<'a> {
+    // The least level, from m on, that content i is below; 255 above 33.
+    fn content_bound(&self, i: u32, m: u8) -> u8
+        requires i_lt_contents { i < self.now.st.now.totals.contents }
+        ensures { Bound (content_test self.now.tape.now self.now.st.now) i m result }
+    {
+        let at = store::content_place(*self.st, i);
+        for r in m..34 {
+            if self.content_below(at, r) {
+                return r;
+            }
         }
-        heights[k] = height_of(tape, st, tops, k);
-        k += 1;
+        255
+    }
+
+    fn height_of(&self, k: usize) -> u8
+        requires k_bound { k < 65536 }
+        ensures { Block (content_test self.now.tape.now self.now.st.now) self.now.st.now.totals.contents (16 * k) (16 * k + 16) result }
+    {
+        let total = self.st.totals.contents as usize;
+        let mut m = 1;
+        for i in 16 * k..16 * k + 16 {
+            if total <= i {
+                return m;
+            }
+            m = self.content_bound(i as u32, m);
+        }
+        m
+    }
+
+    fn put_heights(&self, heights: &mut [u8])
+        requires heights_len { length heights.old ≡ 69904 }
+        ensures { Filled (content_test self.now.tape.now self.now.st.now) self.now.st.now.totals.contents heights.new 65536 }
+    {
+        let total = self.st.totals.contents as usize;
+        for k in 0..65536 {
+            if total <= 16 * k {
+                return;
+            }
+            heights[k] = self.height_of(k);
+        }
     }
 }
 
-fn levels_tabled(tape: &[u8], st: store::Store, layers: usize) -> bool
-    requires of_tape { OfTape tape.now st }
-    requires layers_value { layers ≡ length (places tape.now).layers }
-    ensures { result ≡ levels_in tape.now st }
-{
-    let mut tops = [0u8; 69904];
-    let mut heights = [0u8; 69904];
-    put_tops(tape, st, &mut tops);
-    level_blocks::put_uppers(&mut tops);
-    put_heights(tape, st, &tops, &mut heights);
-    level_blocks::put_uppers(&mut heights);
-    levels_by(tape, st, &tops, &heights, layers)
+impl<'a> Book<'a> {
+    fn levels_tabled(&self, layers: usize) -> bool
+        requires layers_value { layers ≡ length (places self.now.tape.now).layers }
+        ensures { result ≡ levels_in self.now.tape.now self.now.st.now }
+    {
+        let mut tops = [0u8; 69904];
+        let mut heights = [0u8; 69904];
+        self.put_tops(&mut tops);
+        level_blocks::put_uppers(&mut tops);
+        let by_tops = TopTable {
+            tape: self.tape,
+            st: self.st,
+            tops: &tops,
+        };
+        by_tops.put_heights(&mut heights);
+        level_blocks::put_uppers(&mut heights);
+        let tables = HeightTable {
+            tape: self.tape,
+            st: self.st,
+            tops: &tops,
+            heights: &heights,
+        };
+        tables.levels_by(layers)
+    }
 }
 
 // Number 5, whole. The first layer is asked by itself: called from two places, `levels_tabled` is not made part of its caller, and
@@ -601,12 +522,16 @@ pub fn levels_ok(tape: &[u8], st: store::Store, layers: usize) -> bool
     if layers == 0 {
         return true;
     }
+    let book = Book {
+        tape: tape,
+        st: &st,
+    };
     let l = places::next_layer(tape, 9);
-    if !run_levels_quick(tape, st, l.segments.at, l.segments.count) {
-        return levels_tabled(tape, st, layers);
+    if !book.run_levels_quick(l.segments.at, l.segments.count) {
+        return book.levels_tabled(layers);
     }
-    if levels_quick(tape, st, l.end, layers) {
+    if book.levels_quick(l.end, layers) {
         return true;
     }
-    levels_tabled(tape, st, layers)
+    book.levels_tabled(layers)
 }

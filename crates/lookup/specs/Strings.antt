@@ -1,25 +1,26 @@
 -- Where the string of an id stands in the byte buffer, and that what stands there is the model's answer.
-use Rattle.std.specs.Prelude.{◌≡◌, ℕ, zero, suc, ◌+◌, ◌-◌, ◌≤◌, ◌<◌, ◌^◌, cond, drop, ltb}
+use Rattle.std.specs.Prelude.{◌≡◌, ℕ, suc, ◌+◌, ◌-◌, ◌≤◌, ◌<◌, ◌^◌, cond, drop, ltb, Option, Some, None}
 use Rattle.std.proofs.Math.Path.{refl, sym, ap, ap₂}
 use Rattle.std.proofs.Common.{◌∙◌, drop-drop}
 use native.Mathlib.Omega.{arith}
-use Rattle.std.proofs.Math.Option.{Option, none, some}
-use mathlib.Core.List.{List, [], ◌∷◌, map}
-use Rattle.std.proofs.Math.ListN.{length, get_or, get_elem?, take}
+use Rattle.std.proofs.Math.Option as maybe
+use mathlib.Core.List.{List, [], map}
+use Rattle.std.proofs.Math.ListN.{length, get_or, take}
 use Rattle.std.proofs.lemmas.List.{length-map}
 use borrow.Author.Tests.{lt-ltb, le-ltb, ltb-true, ltb-false}
 use Rattle.model.specs.Lists.{sum}
 use Rattle.model.specs.Bytes.{part, word_at}
 use Rattle.model.specs.Offset.{Span}
 use Rattle.model.specs.Types.{LexOutput}
-use Rattle.model.specs.Refusal.{Checked, Checked.refused, Checked.accepted, number_of}
+use Rattle.model.specs.Refusal.{Checked, Checked.accepted}
 use Rattle.model.specs.Tape.{places, pieces, book_at}
 use Rattle.model.specs.Store.{store_of, string_span}
-use Rattle.model.specs.WellFormed.{check_book}
 use Rattle.model.specs.Lookup.{ask_book, lookup_str, lookup_str_span}
 use Rattle.laws.specs.Lists.{item_in, item_out}
 use Rattle.laws.specs.RoundTrip.{pieces_lengths}
 use Rattle.wire.specs.Loops.{by_bool}
+use Rattle.refusal.specs.Refusal.{checked_map}
+use Rattle.tape.specs.Accepted.{Passed}
 use Rattle.places.specs.declared.Places.{Places}
 use Rattle.places.specs.Found.{found}
 use Rattle.places.specs.Again.{Frame}
@@ -30,32 +31,30 @@ use Rattle.store.specs.Standing.{string_pool, length_pools, strings_pieces, leng
 use Rattle.store.specs.Lengths.{book_lengths}
 use Rattle.strings.specs.Starts.{lengths_in, start_in, Readable, string_bytes_lem, readable, start_most}
 use Rattle.lookup.specs.declared.StrAt.{StrAt}
-use Rattle.lookup.specs.declared.StrAt.TheVariants.{Refused, At, Nothing}
-use Rattle.lookup.specs.Asked.{Asked, ask_refused, ask_accepted, ask_shown}
+use Rattle.lookup.specs.Asked.{ask_accepted, ask_shown}
 use Rattle.lookup.specs.Ranges.{asked_few}
 
 -- ---- answers
 
-unfoldable pub str_if : Option Span → StrAt
-str_if none = Nothing
-str_if (some s) = At s.start s.end
+-- start and end in the byte buffer, or none
+unfoldable pub str_if : maybe.Option Span → Option StrAt
+str_if maybe.none = None
+str_if (maybe.some s) = Some (record { start = s.start; end = s.end })
 
--- A number 1 to 7, start and end in the byte buffer, or none.
-unfoldable pub str_at_of : Checked (Option Span) → StrAt
-str_at_of (refused n) = Refused n
-str_at_of (accepted s) = str_if s
+-- the bytes that an answer names, from start up to end
+unfoldable pub bytes_named : List ℕ → Option StrAt → maybe.Option (List ℕ)
+bytes_named d (Some s) = maybe.some (part d s.start (s.end - s.start))
+bytes_named d None = maybe.none
 
--- What an answer shows: the bytes from start up to end.
-unfoldable pub str_shown : List ℕ → StrAt → Checked (Option (List ℕ))
-str_shown d (Refused n) = refused n
-str_shown d (At start end) = accepted (some (part d start (end - start)))
-str_shown d Nothing = accepted none
+-- What an answer shows: a number 1 to 7, or those bytes.
+abbrev pub str_shown : List ℕ → Checked (Option StrAt) → Checked (maybe.Option (List ℕ))
+str_shown d = checked_map (bytes_named d)
 
 -- the span of an id in a pool of `count` strings with these lengths, whose bytes begin at `from`
-unfoldable pub span_from : ℕ → ℕ → List ℕ → ℕ → Option Span
+unfoldable pub span_from : ℕ → ℕ → List ℕ → ℕ → maybe.Option Span
 span_from count from lengths id =
     let at = string_span lengths id in
-    cond (ltb id count) (some (record { start = from + at.start; end = from + at.end })) none
+    cond (ltb id count) (maybe.some (record { start = from + at.start; end = from + at.end })) maybe.none
 
 -- ---- the strings of a tape's book
 
@@ -99,16 +98,16 @@ module _ (t d : List ℕ) (f : Frame t d) where
 
   -- the model's answer, inside the pool and past it
   pub lookup_in : (id : ℕ) → id < length (lengths_in t)
-      → lookup_str (book_at t (places t) d) id ≡ some (part d (word_at t 1 + word_at t 5 + start_in t id) (get_or (lengths_in t) id 0))
+      → lookup_str (book_at t (places t) d) id ≡ maybe.some (part d (word_at t 1 + word_at t 5 + start_in t id) (get_or (lengths_in t) id 0))
   unfolding lookup_str
-  lookup_in id h = item_in strings id [] (omega (arith, h, strings_many)) ∙ ap {B = Option (List ℕ)} some (string_is id h)
+  lookup_in id h = item_in strings id [] (omega (arith, h, strings_many)) ∙ ap {B = maybe.Option (List ℕ)} maybe.some (string_is id h)
 
-  pub lookup_out : (id : ℕ) → length (lengths_in t) ≤ id → lookup_str (book_at t (places t) d) id ≡ none
+  pub lookup_out : (id : ℕ) → length (lengths_in t) ≤ id → lookup_str (book_at t (places t) d) id ≡ maybe.none
   unfolding lookup_str
   lookup_out id h = item_out strings id (omega (arith, h, strings_many))
 
-  shown_here : (id : ℕ) → str_shown d (str_at_of (accepted (lookup_str_span (book_at t (places t) d) id))) ≡ accepted (lookup_str (book_at t (places t) d) id)
-  unfolding str_shown str_at_of str_if span_from string_span lookup_str
+  shown_here : (id : ℕ) → bytes_named d (str_if (lookup_str_span (book_at t (places t) d) id)) ≡ lookup_str (book_at t (places t) d) id
+  unfolding bytes_named str_if span_from string_span lookup_str
   shown_here id =
       let from = word_at t 1 + word_at t 5 in
       let n = get_or (lengths_in t) id 0 in
@@ -122,28 +121,30 @@ module _ (t d : List ℕ) (f : Frame t d) where
       rw (span_is id, e, item_out strings id (omega (arith, h, strings_many))) refl)
 
 -- An answer of `lookup_str` shows the string asked for.
-pub str_both : (t d : List ℕ) (id : ℕ) {r : StrAt} → r ≡ str_at_of (ask_book t d (λ b. lookup_str_span b id))
-    → (r ≡ str_at_of (ask_book t d (λ b. lookup_str_span b id))) × (str_shown d r ≡ ask_book t d (λ b. lookup_str b id))
-unfolding str_shown str_at_of
+pub str_both : (t d : List ℕ) (id : ℕ) {r : Checked (Option StrAt)} → r ≡ ask_book t d (λ b. str_if (lookup_str_span b id))
+    → (r ≡ ask_book t d (λ b. str_if (lookup_str_span b id))) × (str_shown d r ≡ ask_book t d (λ b. lookup_str b id))
 str_both t d id e = (
   e,
   ap (str_shown d) e
-      ∙ ask_shown t d str_at_of (str_shown d) (λ (b : LexOutput). lookup_str_span b id) (λ (b : LexOutput). lookup_str b id) (λ n. refl) (λ a. shown_here t d a.framing id),
+      ∙ ask_shown t d (bytes_named d) (λ (b : LexOutput). str_if (lookup_str_span b id)) (λ (b : LexOutput). lookup_str b id) (λ a. shown_here t d a.framing id),
 )
 
 -- ---- the returns of `str_in`
 
+abbrev str_from : ℕ → ℕ → Option StrAt
+str_from start end = Some (record { start = start; end = end })
+
 module _ (count from : ℕ) (lengths : List ℕ) (id : ℕ) where
-  pub str_none : count ≤ id → Nothing ≡ str_if (span_from count from lengths id)
+  pub str_none : count ≤ id → None ≡ str_if (span_from count from lengths id)
   unfolding str_if span_from
   str_none h = rw (le-ltb id count h) refl
 
   pub str_there : id < count → {start len : ℕ} → start ≡ sum (take id lengths) → len ≡ get_or lengths id 0
-      → At (from + start) (from + start + len) ≡ str_if (span_from count from lengths id)
+      → Some (record { start = from + start; end = from + start + len }) ≡ str_if (span_from count from lengths id)
   unfolding str_if span_from string_span
   str_there h {start} {len} s n =
       let q : from + start + len ≡ from + (sum (take id lengths) + get_or lengths id 0) = omega (arith, s, n) in
-      rw (lt-ltb id count h) (ap₂ (λ (x y : ℕ). At x y) (ap (λ (x : ℕ). from + x) s) q)
+      rw (lt-ltb id count h) (ap₂ str_from (ap (λ (x : ℕ). from + x) s) q)
 
 -- no string ends behind the bytes
 pub str_inside : {t : List ℕ} {st : Store} {room : ℕ} → Readable t st room → (id : ℕ) {start len : ℕ} → start ≡ start_in t id → len ≡ get_or (lengths_in t) id 0
@@ -152,20 +153,16 @@ str_inside {t} f id s n = let m = start_most f (suc id) in let k = before_next (
 
 -- ---- the returns of `lookup_str`
 
-pub str_refused : (t d : List ℕ) {n : ℕ} → n ≡ number_of (check_book t d) → (n ≡ 0 → ⊥) → (id : ℕ) → Refused n ≡ str_at_of (ask_book t d (λ b. lookup_str_span b id))
-unfolding str_at_of
-str_refused t d e h id = ap str_at_of (ask_refused t d e h (λ (b : LexOutput). lookup_str_span b id))
-
-module _ {t d : List ℕ} {p : Places} (a : Asked t d p) {st : Store} (s : st ≡ store_at t) where
+module _ {t d : List ℕ} {p : Places} (a : Passed t d p) {st : Store} (s : st ≡ store_at t) where
   pub asked_readable : length d < 2 ^ 63 → Readable t st (length d)
-  asked_readable h = readable t d a.passed.framing st s (asked_few a s) h
+  asked_readable h = readable t d a.whole.framing st s (asked_few a s) h
 
-  pub str_said : (id : ℕ) {from : ℕ} → from ≡ p.text + p.normalized → {r : StrAt} → r ≡ str_if (span_from st.totals.strings from (lengths_in t) id)
-      → r ≡ str_at_of (ask_book t d (λ b. lookup_str_span b id))
-  unfolding str_at_of found
+  pub str_said : (id : ℕ) {from : ℕ} → from ≡ p.text + p.normalized → {r : Option StrAt} → r ≡ str_if (span_from st.totals.strings from (lengths_in t) id)
+      → accepted r ≡ ask_book t d (λ b. str_if (lookup_str_span b id))
+  unfolding found
   str_said id {from} g {r} e =
-      let f = a.passed.framing in
+      let f = a.whole.framing in
       let n : st.totals.strings ≡ length (lengths_in t) = (string_pool t st s).all ∙ sym (length_pools t (places t).layers) in
       let q : from ≡ word_at t 1 + word_at t 5 = g ∙ ap (λ (x : Places). x.text + x.normalized) a.is in
-      e ∙ ap₂ (λ (x y : ℕ). str_if (span_from x y (lengths_in t) id)) n q ∙ ap str_if (sym (span_is t d f id))
-      ∙ ap str_at_of (ask_accepted a.passed (λ (b : LexOutput). lookup_str_span b id))
+      ap {B = Checked (Option StrAt)} accepted (e ∙ ap₂ (λ (x y : ℕ). str_if (span_from x y (lengths_in t) id)) n q ∙ ap str_if (sym (span_is t d f id)))
+      ∙ ask_accepted a.whole (λ (b : LexOutput). str_if (lookup_str_span b id))

@@ -15,13 +15,8 @@ pub fn entry_of(place: usize, level: u8) -> usize
     (place % ENTRIES + 97 * (level as usize)) % ENTRIES
 }
 
-fn wide(x: u32) -> usize
-    ensures { result ≡ x }
-{
-    x as usize
-}
-
 // Is entry e there, and of that place and level?
+#[tactic(auto, unfolding(crate::specs::Memo::is_of, crate::specs::Memo::entry_in))]
 pub fn is_of(memo: &[u32], e: usize, place: usize, level: u8) -> bool
     requires { e < 4096 }
     ensures { result ≡ is_of memo.now e place level }
@@ -29,10 +24,7 @@ pub fn is_of(memo: &[u32], e: usize, place: usize, level: u8) -> bool
     if memo.len() < 5 * e + 5 {
         return false;
     }
-    if wide(memo[5 * e]) != place {
-        return false;
-    }
-    memo[5 * e + 1] == level as u32
+    memo[5 * e] as usize == place && memo[5 * e + 1] == u32::from(level)
 }
 
 // Entry e put, if it is there.
@@ -52,7 +44,7 @@ pub fn put(
         return;
     }
     memo[5 * e] = place;
-    memo[5 * e + 1] = level as u32;
+    memo[5 * e + 1] = u32::from(level);
     memo[5 * e + 2] = contents;
     memo[5 * e + 3] = segments;
     memo[5 * e + 4] = calls;

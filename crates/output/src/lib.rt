@@ -6,6 +6,8 @@ ghost use Rattle.model.specs.Bytes.{zeros};
 ghost use Rattle.model.specs.Merge.{padded};
 ghost use Rattle.output.specs.Answer.{refused_output};
 
+use stats::InternStats;
+
 // Section 7. What is returned: a number, or 0 and the region, old nodes kept, the reading's nodes, the seven counts, and how many bytes
 // of the two result buffers the book takes. All is 0 beside a number.
 #[derive(Clone, Copy)]
@@ -15,7 +17,7 @@ pub struct IncrementalOutput {
     pub end: u32,
     pub reused: u32,
     pub reread: u32,
-    pub stats: stats::InternStats,
+    pub stats: InternStats,
     pub tape: usize,
     pub bytes: usize,
 }
@@ -39,7 +41,7 @@ pub fn refused_output(n: u32) -> IncrementalOutput
         end: 0,
         reused: 0,
         reread: 0,
-        stats: stats::none(),
+        stats: InternStats::default(),
         tape: 0,
         bytes: 0,
     }

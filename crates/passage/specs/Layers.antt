@@ -1,7 +1,7 @@
 -- Number 17: a layer for the reading's nodes.
-use Rattle.std.specs.Prelude.{◌≡◌, ℕ, Bool, false, not, ◌&&◌, List, [], ◌∷◌, length, leb, eqb}
+use Rattle.std.specs.Prelude.{◌≡◌, ℕ, Bool, not, ◌&&◌, List, [], ◌∷◌, length, leb, eqb}
 use Rattle.std.proofs.Math.Path.{refl}
-use Rattle.std.proofs.Common.{sym, arith, eq-eqb, ne_eqb}
+use Rattle.std.proofs.Common.{sym, arith, ne_eqb}
 use Rattle.model.specs.Lists.{is_empty}
 use Rattle.model.specs.Limits.{max_layers}
 use Rattle.model.specs.Types.{SourceNode, LexOutput, RegionOutput}
@@ -13,15 +13,6 @@ layer_missing old reading = not (is_empty reading.source_nodes) && leb max_layer
 -- the same, of how many there are of each
 unfoldable pub missing_of : ℕ → ℕ → Bool
 missing_of nodes layers = not (eqb nodes 0) && leb max_layers layers
-
-module _ (nodes layers : ℕ) where
-  pub missing_none : nodes ≡ 0 → false ≡ missing_of nodes layers
-  unfolding missing_of
-  missing_none e = rw (eq-eqb nodes 0 e) refl
-
-  pub missing_full : (nodes ≡ 0 → ⊥) → leb 32 layers ≡ missing_of nodes layers
-  unfolding missing_of
-  missing_full h = rw (ne_eqb nodes 0 h) refl
 
 empty_length : (ns : List SourceNode) → is_empty ns ≡ eqb (length ns) 0
 empty_length [] = refl

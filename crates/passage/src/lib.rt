@@ -38,21 +38,17 @@ pub fn is_region_text(
 }
 
 // Number 16. No cut falls inside a normalized character.
+#[tactic(auto, using(std::proofs::lemmas::Bool::Decides::nat_tests), unfolding(crate::specs::Window::ends_on_boundaries))]
 pub fn cuts_ok(normalized: &[u8], start: usize, end: usize) -> bool
     ensures { result ≡ ends_on_boundaries normalized.now start end }
 {
-    if !utf8::is_char_boundary(normalized, start) {
-        return false;
-    }
-    utf8::is_char_boundary(normalized, end)
+    utf8::is_char_boundary(normalized, start) && utf8::is_char_boundary(normalized, end)
 }
 
 // Number 17. The reading has nodes, and the old book 32 layers.
+#[tactic(auto, using(std::proofs::lemmas::Bool::Decides::nat_tests), unfolding(crate::specs::Layers::missing_of))]
 pub fn layer_missing(nodes: usize, layers: usize) -> bool
     ensures { result ≡ missing_of nodes layers }
 {
-    if nodes == 0 {
-        return false;
-    }
-    32 <= layers
+    nodes != 0 && 32 <= layers
 }

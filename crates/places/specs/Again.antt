@@ -1,9 +1,10 @@
 -- The layers walked again: what a loop over `next_layer` knows at layer i, whose 2 stands at `at`.
-use Rattle.std.specs.Prelude.{◌≡◌, refl, ℕ, zero, suc, ◌+◌, ◌-◌, ◌*◌, ◌≤◌, ◌<◌, Bool, true, false, cond, not, ◌&&◌, List, [], ◌∷◌, map, length, get_or, drop, eqb}
-use Rattle.std.proofs.Common.{sym, ap₂, ◌∙◌, arith, add-one, true≢false, length-drop, eqb-true}
+use Rattle.std.specs.Prelude.{Some, None, ◌≡◌, refl, ℕ, zero, suc, ◌+◌, ◌-◌, ◌*◌, ◌≤◌, ◌<◌, Bool, true, false, cond, not, ◌&&◌, List, [], ◌∷◌, map, length, get_or, drop, eqb}
+use Rattle.std.proofs.Common.{sym, ap₂, ◌∙◌, arith, add-one, length-drop, eqb-true}
 use Rattle.std.proofs.Math.Path.{ap}
 use Rattle.std.proofs.Math.Nat.{sub-zero}
 use Rattle.std.proofs.lemmas.Bool.{false≢true}
+use Rattle.std.proofs.lemmas.Option.{none-some, same_Some}
 use Rattle.std.proofs.Math.Option.{none}
 use Rattle.model.specs.Lists.{sum, is_empty}
 use Rattle.model.specs.Bytes.{byte_at}
@@ -11,7 +12,7 @@ use Rattle.model.specs.Tape.{LayerPlaces, layer_places, layers_from, layers_end,
 use Rattle.laws.specs.Lists.{both}
 use Rattle.wire.specs.Loops.{by_bool}
 use Rattle.laws.specs.RoundTrip.{layer_end}
-use Rattle.places.specs.Found.{layer_runs, strings_in, contents_in, segments_in, two_inside, holds, found, no_places, places_of}
+use Rattle.places.specs.Found.{layer_runs, strings_in, contents_in, segments_in, two_inside, holds, found, places_of}
 use Rattle.places.specs.declared.LayerRuns.{LayerRuns}
 use Rattle.places.specs.declared.Places.{Places}
 
@@ -190,16 +191,16 @@ pub record Parsed (t d : List ℕ) (p : Places) : Type 0 where
   pub is : p ≡ found t
   pub book : parse t d ≡ if_shaped (book_at t (places t) d)
 
-pub places_fault : (t d : List ℕ) (p : Places) → p ≡ places_of t d → p.fault ≡ true → parse t d ≡ none
-unfolding places_of found holds parse
-places_fault t d p e f =
+pub places_none : (t d : List ℕ) → places_of t d ≡ None → parse t d ≡ none
+unfolding places_of holds parse
+places_none t d e =
     by_bool (holds t d)
-    (λ b. let q : p ≡ found t = e ∙ rw b refl in absurd (true≢false (sym f ∙ ap (λ (x : Places). x.fault) q)))
+    (λ b. let q : Some (found t) ≡ None = rw b at e in absurd (none-some (found t) (sym q)))
     (λ b. rw b refl)
 
-pub places_parsed : (t d : List ℕ) (p : Places) → p ≡ places_of t d → p.fault ≡ false → Parsed t d p
-unfolding places_of no_places holds parse
-places_parsed t d p e f =
+pub places_parsed : (t d : List ℕ) {p : Places} → places_of t d ≡ Some p → Parsed t d p
+unfolding places_of holds parse
+places_parsed t d {p} e =
     by_bool (holds t d)
-    (λ b. record { holding = b; is = e ∙ rw b refl; book = rw b refl })
-    (λ b. let q : p ≡ no_places = e ∙ rw b refl in absurd (true≢false (sym (ap (λ (x : Places). x.fault) q) ∙ f)))
+    (λ b. let q : Some (found t) ≡ Some p = rw b at e in record { holding = b; is = sym (same_Some (found t) p q); book = rw b refl })
+    (λ b. let q : None ≡ Some p = rw b at e in absurd (none-some p q))

@@ -1,10 +1,9 @@
 -- What `places_of` finds, in the model's terms.
-use Rattle.std.specs.Prelude.{◌≡◌, Bool, true, false, cond, not, ◌&&◌, List, [], ◌∷◌, map, eqb, leb}
+use Rattle.std.specs.Prelude.{Option, Some, None, ◌≡◌, Bool, true, false, cond, not, ◌&&◌, List, [], ◌∷◌, map, eqb, leb}
 use Rattle.std.proofs.Math.Path.{refl, sym, ap}
 use Rattle.std.proofs.Common.{◌∙◌, lt_of_not-le}
 use Prim.Native.Nat.{ℕ, zero, suc, ◌+◌, ◌-◌, ◌*◌, ◌≤◌, ◌<◌}
 use native.Mathlib.Omega.{arith}
-use Rattle.std.proofs.Math.Bool.{and-false}
 use Rattle.std.proofs.Math.ListN.{length, get_or-eq_default}
 use Rattle.std.proofs.Math.Decide.{dec_le}
 use Rattle.std.proofs.Math.Nat.{sub-zero}
@@ -17,7 +16,6 @@ use Rattle.model.specs.Tape.{LayerPlaces, layer_places, layers_from, layers_end,
 use Rattle.laws.specs.RoundTrip.{layer_end, string_bytes}
 use Rattle.places.specs.Runs.{capped}
 use Rattle.places.specs.Ends.{segments_end, diagnostics_end}
-use Rattle.places.specs.declared.Run.{Run}
 use Rattle.places.specs.declared.LayerRuns.{LayerRuns}
 use Rattle.places.specs.declared.ListRuns.{ListRuns}
 use Rattle.places.specs.declared.Tally.{Tally}
@@ -102,7 +100,6 @@ unfoldable pub found : List ℕ → Places
 found t =
     let p = places t in
     record {
-      fault = false;
       text = word_at t 1;
       normalized = word_at t 5;
       layers = length p.layers;
@@ -116,29 +113,9 @@ found t =
       end = p.end_at;
     }
 
-abbrev pub nothing : Run
-nothing = record { at = 0; count = 0 }
-
-unfoldable pub no_places : Places
-no_places = record {
-  fault = true;
-  text = 0;
-  normalized = 0;
-  layers = 0;
-  strings = 0;
-  contents = 0;
-  segments = 0;
-  nodes = nothing;
-  pairs = nothing;
-  containers = nothing;
-  diagnostics = nothing;
-  end = 0;
-}
-
 -- what the walk has found, put together
 abbrev pub found_by : List ℕ → Tally → ListRuns → Places
 found_by t s l = record {
-  fault = false;
   text = word_at t 1;
   normalized = word_at t 5;
   layers = s.count;
@@ -152,9 +129,9 @@ found_by t s l = record {
   end = l.end;
 }
 
--- Section 4. Where everything stands, on every tape and byte buffer.
-unfoldable pub places_of : List ℕ → List ℕ → Places
-places_of t d = cond (holds t d) (found t) no_places
+-- Section 4. Where everything stands, if the frame holds.
+unfoldable pub places_of : List ℕ → List ℕ → Option Places
+places_of t d = cond (holds t d) (Some (found t)) None
 
 -- ---- how far a layer reaches
 
@@ -314,31 +291,6 @@ pub lists_near : (t : List ℕ) (at : ℕ) → at ≤ length t + 36 → (list_ru
 unfolding list_runs count_at node_codec pair_codec container_codec diagnostic_codec
 lists_near t at h = diagnostics_end t at _ h refl _ refl _ refl _ refl
 
--- ---- the frame, test by test
-
-module _ (t : List ℕ) (s : Tally) (end room : ℕ) where
-  pub frame_head : (b : ℕ) → b ≡ byte_at t 0 → (b ≡ 1 → ⊥) → false ≡ frame_holds t s end room
-  unfolding frame_holds
-  frame_head b e h = rw (← e, ne_eqb b 1 h) refl
-
-  pub frame_tail : (b : ℕ) → b ≡ byte_at t end → (b ≡ 10 → ⊥) → false ≡ frame_holds t s end room
-  unfolding frame_holds
-  frame_tail b e h = rw (← e, ne_eqb b 10 h, and-false) refl
-
-  pub frame_behind : (length t ≡ end + 1 → ⊥) → false ≡ frame_holds t s end room
-  unfolding frame_holds
-  frame_behind h = rw (ne_eqb (length t) (end + 1) h, and-false) refl
-
-  pub frame_layers : s.count ≡ 0 → false ≡ frame_holds t s end room
-  unfolding frame_holds
-  frame_layers h = rw (eq-eqb s.count 0 h, and-false) refl
-
-  pub frame_bytes : (a b x y : ℕ) → a ≡ byte_at t 0 → a ≡ 1 → b ≡ byte_at t end → b ≡ 10 → length t ≡ end + 1 → (s.count ≡ 0 → ⊥) → x ≡ word_at t 1 → y ≡ word_at t 5
-      → eqb room (x + y + s.bytes) ≡ frame_holds t s end room
-  unfolding frame_holds
-  frame_bytes a b x y e f g h k n p q =
-      rw (← e, eq-eqb a 1 f, ← g, eq-eqb b 10 h, eq-eqb (length t) (end + 1) k, ne_eqb s.count 0 n, ← p, ← q) refl
-
 -- ---- the walk is the model's
 
 some_layer : (ls : List LayerPlaces) → not (eqb (0 + length ls) 0) ≡ not (is_empty ls)
@@ -370,13 +322,13 @@ module _ (t d : List ℕ) (s : Tally) (l : ListRuns) (e : s ≡ tallied t (lengt
       let g : 0 + sum (segments_in ls) ≡ sum (segments_in ls) = omega arith in
       rw (c, a, b, g) refl)
 
-  pub walk_found : (p : Places) → p ≡ found_by t s l → frame_holds t s l.end (length d) ≡ true → p ≡ places_of t d
+  pub walk_found : (p : Places) → p ≡ found_by t s l → frame_holds t s l.end (length d) ≡ true → Some p ≡ places_of t d
   unfolding places_of
-  walk_found p g h = rw (sym frame_is ∙ h) (g ∙ found_is)
+  walk_found p g h = rw (sym frame_is ∙ h) (ap (λ (x : Places). Some x) (g ∙ found_is))
 
-  pub walk_fault : (p : Places) → p ≡ no_places → frame_holds t s l.end (length d) ≡ false → p ≡ places_of t d
+  pub walk_none : frame_holds t s l.end (length d) ≡ false → None ≡ places_of t d
   unfolding places_of
-  walk_fault p g h = rw (sym frame_is ∙ h) g
+  walk_none h = rw (sym frame_is ∙ h) refl
 
 -- what the walk's parts may ask of each other
 pub walk_near : (t : List ℕ) (room : ℕ) (s : Tally) → s ≡ tallied t room → s.end ≤ length t + 36

@@ -15,10 +15,8 @@ fn closes_unopened(tape: &[u8], at: usize, blocks: usize, warichu: usize) -> boo
     requires { at + 49 ≤ length tape.now }
     ensures { result ≡ closes_unopened blocks warichu (record_at node_codec tape.now at) }
 {
-    if cuts::closes_nothing(cuts::is_block_close(tape, at), blocks) {
-        return true;
-    }
-    cuts::closes_nothing(cuts::is_warichu_close(tape, at), warichu)
+    cuts::closes_nothing(cuts::is_block_close(tape, at), blocks)
+        || cuts::closes_nothing(cuts::is_warichu_close(tape, at), warichu)
 }
 
 // Number 13. `balanced_nodes`: no close falls below 0, and all that opens is closed.
@@ -28,27 +26,23 @@ pub fn balanced_nodes(tape: &[u8], at: usize, count: usize) -> bool
 {
     let mut blocks: usize = 0;
     let mut warichu: usize = 0;
-    let mut i = 0;
-    while i < count {
+    for i in 0..count {
         let p = at + 49 * i;
         if closes_unopened(tape, p, blocks, warichu) {
             return false;
         }
         blocks = cuts::block_depth(tape, p, blocks);
         warichu = cuts::warichu_depth(tape, p, warichu);
-        i += 1;
     }
     cuts::depths_zero(blocks, warichu)
 }
 
+#[tactic(auto, using(std::proofs::lemmas::Bool::Decides::nat_tests), unfolding(model::specs::Merge::is_unclosed, model::specs::Tape::record_at, model::specs::Tape::operands_at, model::specs::Tape::diagnostic_codec))]
 fn is_unclosed(tape: &[u8], at: usize) -> bool
     requires { at + 18 ≤ length tape.now }
     ensures { result ≡ is_unclosed (record_at diagnostic_codec tape.now at) }
 {
-    if tape[at + 1] == 2 {
-        return true;
-    }
-    tape[at + 1] == 3
+    matches!(tape[at + 1], 2 | 3)
 }
 
 // Number 14. A diagnostic that tells of a bracket left open or of a close left over.
@@ -56,14 +50,7 @@ pub fn has_unclosed(tape: &[u8], at: usize, count: usize) -> bool
     requires { at + 18 * count ≤ length tape.now }
     ensures { result ≡ any is_unclosed (records_at diagnostic_codec tape.now at count) }
 {
-    let mut i = 0;
-    while i < count {
-        if is_unclosed(tape, at + 18 * i) {
-            return true;
-        }
-        i += 1;
-    }
-    false
+    (0..count).any(|i| is_unclosed(tape, at + 18 * i))
 }
 
 // How many nodes end at or before an offset: they are the first ones.
@@ -72,14 +59,12 @@ pub fn nodes_until(tape: &[u8], at: usize, count: usize, offset: u32) -> usize
     requires in_order { InOrder (records_at node_codec tape.now at count) }
     ensures { Until tape.now at count offset result }
 {
-    let mut i = 0;
-    while i < count {
+    for i in 0..count {
         if offset < records::node_end(tape, at + 49 * i) {
             return i;
         }
-        i += 1;
     }
-    i
+    count
 }
 
 // An offset and the drift of the nodes before it.
@@ -87,11 +72,7 @@ fn drifted(offset: u32, images: u64, spans: u64) -> usize
     requires { (images < 9223372036854775808) × (spans < 9223372036854775808) }
     ensures { result ≡ offset + images - spans }
 {
-    let place = offset as u64 + images;
-    if place <= spans {
-        return 0;
-    }
-    (place - spans) as usize
+    (u64::from(offset) + images).saturating_sub(spans) as usize
 }
 
 // `normalized_offset`: the place of a source offset in the normalized text.
@@ -103,12 +84,10 @@ pub fn normalized_offset(tape: &[u8], at: usize, count: usize, offset: u32) -> u
     let n = nodes_until(tape, at, count, offset);
     let mut images: u64 = 0;
     let mut spans: u64 = 0;
-    let mut i = 0;
-    while i < n {
+    for i in 0..n {
         let p = at + 49 * i;
         images += bounds::image_length(tape, p);
         spans += bounds::span_length(tape, p);
-        i += 1;
     }
     drifted(offset, images, spans)
 }

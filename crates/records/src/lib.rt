@@ -27,7 +27,7 @@ pub struct Body {
     pub words: [u32; 6],
 }
 
-#[derive(Clone, Copy)]
+#[derive(Clone, Copy, PartialEq, Eq)]
 pub struct Content {
     pub tag: u8,
     pub first: u32,

@@ -1,7 +1,7 @@
 -- The numbers of `chosen_region`, by the first condition that holds, for each return of the code.
-use Rattle.std.specs.Prelude.{◌≡◌, ℕ, Bool, true, false, cond, not, ◌&&◌, List, length, leb, eqb}
+use Rattle.std.specs.Prelude.{◌≡◌, ℕ, ◌<◌, Bool, true, false, cond, ◌&&◌, length, leb, eqb}
 use Rattle.std.proofs.Math.Path.{refl}
-use Rattle.std.proofs.Common.{sym, ap, ◌∙◌, arith}
+use Rattle.std.proofs.Common.{◌∙◌, arith}
 use borrow.Author.Tests.{eq-eqb, ne_eqb}
 use Rattle.model.specs.Limits.{max_text}
 use Rattle.model.specs.Lists.{same}
@@ -12,13 +12,6 @@ use Rattle.model.specs.Refusal.{Checked, Checked.refused, Checked.accepted, ◌>
 use Rattle.model.specs.Region.{Edit, edited, balanced_region, is_whole, has_ruby_format_dependency, chosen_region}
 use Rattle.wire.specs.Loops.{by_bool}
 use Rattle.edit.specs.Numbers.{within, edit_number, within_ok}
-use Rattle.region.specs.declared.Chosen.{Chosen}
-use Rattle.region.specs.declared.Chosen.TheVariants.{Refused, Region}
-
--- The answer of the code: document 01's number, or the region.
-unfoldable pub chosen_of : Checked Span → Chosen
-chosen_of (refused n) = Refused n
-chosen_of (accepted r) = Region r.start r.end
 
 -- Number 11, by the text's length.
 unfoldable pub whole_text : ℕ → ℕ → ℕ → Bool
@@ -59,9 +52,9 @@ module _ (b : LexOutput) (e : Edit) where
       (λ x. rw (within_ok b e, x) refl)
 
   module _ {n : ℕ} (q : n ≡ edit_number b.sanitized e) where
-    pub chosen_edit : (n ≡ 0 → ⊥) → chosen_region b e ≡ refused n
+    pub chosen_edit : 0 < n → chosen_region b e ≡ refused n
     unfolding chosen_by
-    chosen_edit h = chosen_by_lem ∙ rw (← q, ne_eqb n 0 h) refl
+    chosen_edit h = chosen_by_lem ∙ rw (← q, ne_eqb n 0 (λ z. omega (arith, h, z))) refl
 
     module _ (z : n ≡ 0) {x : Bool} (f : x ≡ has_ruby_format_dependency b e) where
       pub chosen_depends : x ≡ true → chosen_region b e ≡ refused 10

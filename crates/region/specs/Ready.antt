@@ -1,31 +1,28 @@
 -- A book that passed 1 to 7, its places, its store and an index of its strings: what `chosen_region` asks, and what follows for the
 -- code that it calls.
-use Rattle.std.specs.Prelude.{◌≡◌, ℕ, ◌+◌, ◌-◌, ◌*◌, ◌^◌, ◌≤◌, ◌<◌, Bool, true, length, drop}
+use Rattle.std.specs.Prelude.{◌≡◌, ℕ, ◌+◌, ◌-◌, ◌*◌, ◌^◌, ◌≤◌, ◌<◌, Bool, length, drop}
 use Rattle.std.proofs.Math.Path.{refl, ap, ap₂}
 use Rattle.std.proofs.Common.{sym, ◌∙◌, subst, arith, length-drop, take-append-drop, drop-drop, take_all}
 use mathlib.Core.List.{List, [], ◌++◌}
 use Rattle.std.proofs.Math.ListN.{take}
 use Rattle.model.specs.Limits.{max_text}
-use Rattle.model.specs.Lists.{all, sum}
+use Rattle.model.specs.Lists.{sum}
 use Rattle.model.specs.Bytes.{word_at}
-use Rattle.model.specs.Types.{LexOutput}
 use Rattle.model.specs.Store.{store_of}
-use Rattle.model.specs.Tape.{records_at, node_codec, pair_codec, places, layers_at, bytes_needed, book_at}
-use Rattle.model.specs.WellFormed.{content_ok, node_ok}
+use Rattle.model.specs.Tape.{records_at, node_codec, pair_codec, places, bytes_needed, book_at}
 use Rattle.model.specs.Region.{Edit, depends_from, has_ruby_format_dependency}
 use Rattle.laws.specs.Checks.{id_facts, place_facts, limit_facts}
 use Rattle.laws.specs.Layers.{ids_pools}
 use Rattle.places.specs.declared.Places.{Places}
 use Rattle.places.specs.Found.{found, strings_in}
-use Rattle.places.specs.Again.{lists_inside}
 use Rattle.store.specs.declared.Store.{Store}
 use Rattle.store.specs.Pools.{before_most, pool_start_or}
 use Rattle.store.specs.Standing.{string_pool}
-use Rattle.store.specs.Stored.{StoreFits, store_at}
+use Rattle.store.specs.Stored.{store_at}
 use Rattle.store.specs.Lengths.{book_lengths}
-use Rattle.strings.specs.Starts.{lengths_in, start_in, store_in, OfTape, Readable, Between, string_bytes_lem, some_layer, of_tape, readable}
+use Rattle.strings.specs.Starts.{lengths_in, start_in, store_in, Readable, Between, string_bytes_lem, some_layer, of_tape, readable}
 use Rattle.strings.specs.Index.{Indexed}
-use Rattle.strings.specs.Shown.{old_strings, TwoSides, two_sides}
+use Rattle.strings.specs.Shown.{old_strings, two_sides}
 use Rattle.tape.specs.Accepted.{Accepted, accepted_store, accepted_places}
 use Rattle.tape.specs.Numbers.{store_few}
 use Rattle.tape.specs.Placed.{fit_nodes, fit_pairs}

@@ -7,7 +7,7 @@ use Rattle.std.proofs.Math.ListN.{length}
 use Rattle.std.proofs.Math.Dec.{eqb}
 use Rattle.model.specs.Limits.{max_text}
 use Rattle.model.specs.Offset.{Span}
-use Rattle.model.specs.Refusal.{Checked.refused, Checked.accepted}
+use Rattle.model.specs.Refusal.{Checked, Checked.refused, Checked.accepted}
 use Rattle.model.specs.Tape.{records_at, node_codec, pair_codec, places, book_at}
 use Rattle.model.specs.Region.{balanced_region, is_whole, has_ruby_format_dependency, chosen_region, edit_of}
 use Rattle.places.specs.declared.Places.{Places}
@@ -17,8 +17,7 @@ use Rattle.balanced_region.specs.declared.Region.{Region as Cuts}
 use Rattle.balanced_region.specs.Ends.{balanced_in, region_of, balanced_bounds}
 use Rattle.balanced_region.specs.Survives.{search_from, search_bounds, region_of_book}
 use Rattle.cuts.specs.Gaps.{NodesIn}
-use Rattle.region.specs.declared.Chosen.TheVariants.{Refused, Region}
-use Rattle.region.specs.Chosen.{chosen_of, whole_text, chosen_edit, chosen_depends, chosen_whole, chosen_region_lem}
+use Rattle.region.specs.Chosen.{whole_text, chosen_edit, chosen_depends, chosen_whole, chosen_region_lem}
 use Rattle.region.specs.Ready.{Ready, ready_text, ready_length, ready_short, ready_nodes, ready_pairs, ready_order}
 
 module _ {t d : List ℕ} {p : Places} {st : Store} {words : List ℕ} (r : Ready t d p st words) where
@@ -35,14 +34,12 @@ module _ {t d : List ℕ} {p : Places} {st : Store} {words : List ℕ} (r : Read
     number : n ≡ edit_number (book_at t (places t) d).sanitized (edit_of start end replacement)
     number = q ∙ ap (λ (text : List ℕ). edit_number text (edit_of start end replacement)) text_is
 
-    pub stage_edit : (n ≡ 0 → ⊥) → Refused n ≡ chosen_of (chosen_region (book_at t (places t) d) (edit_of start end replacement))
-    unfolding chosen_of
-    stage_edit h = sym (ap chosen_of (chosen_edit (book_at t (places t) d) (edit_of start end replacement) number h))
+    pub stage_edit : 0 < n → refused n ≡ chosen_region (book_at t (places t) d) (edit_of start end replacement)
+    stage_edit h = sym (chosen_edit (book_at t (places t) d) (edit_of start end replacement) number h)
 
     module _ (z : n ≡ 0) {x : Bool} (f : (end : ℕ) (replacement : List ℕ) → x ≡ has_ruby_format_dependency (book_at t (places t) d) (edit_of start end replacement)) where
-      pub stage_depends : x ≡ true → Refused 10 ≡ chosen_of (chosen_region (book_at t (places t) d) (edit_of start end replacement))
-      unfolding chosen_of
-      stage_depends h = sym (ap chosen_of (chosen_depends (book_at t (places t) d) (edit_of start end replacement) number z (f end replacement) h))
+      pub stage_depends : x ≡ true → refused 10 ≡ chosen_region (book_at t (places t) d) (edit_of start end replacement)
+      stage_depends h = sym (chosen_depends (book_at t (places t) d) (edit_of start end replacement) number z (f end replacement) h)
 
       inside : (start ≤ end) × (end ≤ length (take (p.text - 0) d))
       inside = edit_inside (take (p.text - 0) d) start end replacement q z
@@ -80,12 +77,10 @@ module _ {t d : List ℕ} {p : Places} {st : Store} {words : List ℕ} (r : Read
               h ∙ ap (λ (k : ℕ). eqb s.start 0 && eqb s.end k) (sym (ready_length r))
               ∙ ap (λ (y : Span). eqb y.start 0 && eqb y.end (length (book_at t (places t) d).sanitized)) region_is
 
-          pub stage_whole : w ≡ true → Refused 11 ≡ chosen_of (chosen_region (book_at t (places t) d) (edit_of start end replacement))
-          unfolding chosen_of
-          stage_whole k = sym (ap chosen_of (chosen_whole (book_at t (places t) d) (edit_of start end replacement) number z (f end replacement) g whole_is k))
+          pub stage_whole : w ≡ true → refused 11 ≡ chosen_region (book_at t (places t) d) (edit_of start end replacement)
+          stage_whole k = sym (chosen_whole (book_at t (places t) d) (edit_of start end replacement) number z (f end replacement) g whole_is k)
 
-          pub stage_chosen : w ≡ false → Region s.start s.end ≡ chosen_of (chosen_region (book_at t (places t) d) (edit_of start end replacement))
-          unfolding chosen_of
+          pub stage_chosen : w ≡ false → accepted (region_of s) ≡ chosen_region (book_at t (places t) d) (edit_of start end replacement)
           stage_chosen k =
-              ap (λ (y : Span). chosen_of (accepted y)) region_is
-              ∙ sym (ap chosen_of (chosen_region_lem (book_at t (places t) d) (edit_of start end replacement) number z (f end replacement) g whole_is k))
+              ap {B = Checked Span} accepted region_is
+              ∙ sym (chosen_region_lem (book_at t (places t) d) (edit_of start end replacement) number z (f end replacement) g whole_is k)

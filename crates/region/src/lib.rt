@@ -11,15 +11,13 @@ ghost use Rattle.model.specs.Tape.{places as places_in, book_at};
 ghost use Rattle.model.specs.Region.{chosen_region, choose_region, has_ruby_format_dependency, region_text, edit_of};
 ghost use Rattle.strings.specs.Starts.{start_in};
 ghost use Rattle.strings.specs.Shown.{old_strings};
-ghost use Rattle.region.specs.Chosen.{chosen_of, whole_text};
+ghost use Rattle.refusal.specs.Refusal.{checked, checked_map};
+ghost use Rattle.span.specs.Values.{span_of};
+ghost use Rattle.region.specs.Chosen.{whole_text};
 ghost use Rattle.region.specs.Held.{Held};
 
-// The region in offsets of the old text, or a number up to 11.
-#[derive(Clone, Copy)]
-pub enum Chosen {
-    Refused(u32),
-    Region(u32, u32),
-}
+use refusal::Refusal;
+use span::Span;
 
 // Number 11. The region would be the whole text.
 fn is_whole(text: u32, r: balanced_region::Region) -> bool
@@ -67,7 +65,7 @@ fn depends(
     )
 }
 
-// Numbers 8 to 11 of a book that passed 1 to 7. The words may hold anything.
+// Numbers 8 to 11 of a book that passed 1 to 7, or the region in offsets of the old text. The words may hold anything.
 pub fn chosen_region(
     tape: &[u8],
     bytes: &[u8],
@@ -77,17 +75,14 @@ pub fn chosen_region(
     start: u32,
     end: u32,
     replacement: &[u8],
-) -> Chosen
+) -> Result<Span, Refusal>
     requires { Held tape.now bytes.now p st }
-    ensures { result ≡ chosen_of (chosen_region (book_at tape.now (places_in tape.now) bytes.now) (edit_of start end replacement.now)) }
+    ensures { checked_map span_of (checked result) ≡ chosen_region (book_at tape.now (places_in tape.now) bytes.now) (edit_of start end replacement.now) }
 {
     let text = &bytes[0..p.text as usize];
-    let n = edit::edit_refusal(text, start, end, replacement);
-    if n != 0 {
-        return Chosen::Refused(n);
-    }
+    edit::check_edit(text, start, end, replacement)?;
     if depends(tape, bytes, p, st, words, start) {
-        return Chosen::Refused(10);
+        return Err(Refusal::RubyFormatDependency);
     }
     let r = balanced_region::balanced_region(
         tape,
@@ -100,9 +95,12 @@ pub fn chosen_region(
         words,
     );
     if is_whole(p.text, r) {
-        return Chosen::Refused(11);
+        return Err(Refusal::WholeText);
     }
-    Chosen::Region(r.start as u32, r.end as u32)
+    Ok(Span {
+        start: r.start as u32,
+        end: r.end as u32,
+    })
 }
 
 // Numbers 1 to 11; the words are left as they are used.
@@ -113,14 +111,10 @@ fn region_of(
     end: u32,
     replacement: &[u8],
     words: &mut [u32],
-) -> Chosen
-    ensures { (result ≡ chosen_of (choose_region tape.now bytes.now (edit_of start end replacement.now))) × (length words.new ≡ length words.old) }
+) -> Result<Span, Refusal>
+    ensures { (checked_map span_of (checked result) ≡ choose_region tape.now bytes.now (edit_of start end replacement.now)) × (length words.new ≡ length words.old) }
 {
-    let b = tape::checked_book(tape, bytes);
-    if b.number != 0 {
-        return Chosen::Refused(b.number);
-    }
-    let p = b.p;
+    let p = tape::checked_book(tape, bytes)?;
     let st = store::store_of(tape, p.layers);
     chosen_region(tape, bytes, p, st, words, start, end, replacement)
 }
@@ -133,8 +127,8 @@ pub fn choose_region(
     end: u32,
     replacement: &[u8],
     words: &mut [u32],
-) -> Chosen
-    ensures { (result ≡ chosen_of (choose_region tape.now bytes.now (edit_of start end replacement.now))) × (words.new ≡ zeros (length words.old)) }
+) -> Result<Span, Refusal>
+    ensures { (checked_map span_of (checked result) ≡ choose_region tape.now bytes.now (edit_of start end replacement.now)) × (words.new ≡ zeros (length words.old)) }
 {
     let found = region_of(tape, bytes, start, end, replacement, words);
     wire::zero_words(words);

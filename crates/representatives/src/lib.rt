@@ -3,7 +3,7 @@
 // by bisection and looked at before it is used: so it need not be there, and what it says is right wherever it stands (specs/Pairs.antt).
 #![tactic(auto)]
 
-ghost use Rattle.std.specs.Prelude.{◌≡◌, List, [], ◌++◌, ℕ, ◌+◌, ◌-◌, ◌*◌, ◌≤◌, ◌<◌, min, length, get_or, leb};
+ghost use Rattle.std.specs.Prelude.{◌≡◌, List, [], ◌++◌, ℕ, ◌+◌, ◌-◌, ◌*◌, ◌≤◌, ◌<◌, length, get_or, leb};
 ghost use Rattle.model.specs.Store.{resolve_str};
 ghost use Rattle.wire.specs.Loops.{any_up_to};
 ghost use Rattle.wire.specs.Overwrite.{overwrite};
@@ -11,7 +11,7 @@ ghost use Rattle.strings.specs.Starts.{lengths_in, store_in, OfTape};
 ghost use Rattle.strings.specs.Index.{index_in};
 ghost use Rattle.strings.specs.Shown.{Resolvable};
 ghost use Rattle.sorted_ids.specs.Row.{first_words, Row};
-ghost use Rattle.representatives.specs.Long.{long_from, NextLong};
+ghost use Rattle.representatives.specs.Long.{long_from};
 ghost use Rattle.representatives.specs.Pairs.{Pairs, pairs_in, pair_put, Paired};
 ghost use Rattle.representatives.specs.Bisection.{Rising, Split, Known};
 ghost use Rattle.representatives.specs.Ordered.{Ordered};
@@ -26,27 +26,7 @@ const INDEX: usize = 1024;
 pub fn long_from(n: usize) -> usize
     ensures { result ≡ long_from n }
 {
-    let share = n / MOST + 1;
-    if share < LONG {
-        return LONG;
-    }
-    share
-}
-
-// The first string of at least so many bytes, from `from` on; as many as there are if there is none.
-fn next_long(tape: &[u8], st: store::Store, least: usize, from: u32) -> u32
-    requires of_tape { OfTape tape.now st }
-    requires from_le_strings { from ≤ st.totals.strings }
-    ensures { NextLong (lengths_in tape.now) least st.totals.strings from result }
-{
-    let mut i = from;
-    while i < st.totals.strings {
-        if least <= strings::string_length(tape, st, i) {
-            return i;
-        }
-        i += 1;
-    }
-    i
+    LONG.max(n / MOST + 1)
 }
 
 // Is a string of the book so long?
@@ -54,7 +34,7 @@ pub fn any_long(tape: &[u8], st: store::Store, least: usize) -> bool
     requires { OfTape tape.now st }
     ensures { result ≡ any_up_to st.totals.strings (λ (i : ℕ). leb least (get_or (lengths_in tape.now) i 0)) }
 {
-    next_long(tape, st, least, 0) < st.totals.strings
+    (0..st.totals.strings).any(|i| least <= strings::string_length(tape, st, i))
 }
 
 // How many pairs have lower ids, where the ids rise: they are the first.
@@ -64,6 +44,7 @@ fn rank_of(words: &[u32], m: usize, id: u32) -> usize
 {
     let mut lo = 0;
     let mut hi = m;
+    // Pairs of words: std bisects by single items.
     while lo < hi {
         let mid = lo + (hi - lo) / 2;
         if words[2 * mid + 1] < id {
@@ -75,12 +56,6 @@ fn rank_of(words: &[u32], m: usize, id: u32) -> usize
     lo
 }
 
-fn wide(x: u32) -> usize
-    ensures { result ≡ x }
-{
-    x as usize
-}
-
 // How many pairs the words have, and have room for.
 fn pairs_in(words: &[u32]) -> usize
     ensures { result ≡ pairs_in words.now }
@@ -88,12 +63,7 @@ fn pairs_in(words: &[u32]) -> usize
     if words.len() < 3 {
         return 0;
     }
-    let room = (words.len() - 1) / 2;
-    let count = wide(words[0]);
-    if count < room {
-        return count;
-    }
-    room
+    (words[0] as usize).min((words.len() - 1) / 2)
 }
 
 // The representative of a string plus 1, or 0 where none is known. What it says is right in any case, and an id that has a pair is found where the ids rise.
@@ -145,9 +115,8 @@ fn pair_string<'a>(
     ensures ordered_2 { Ordered words.new (n + 1) (id + 1) }
 {
     let s = strings::resolve_str(tape, st, &row[0..INDEX], old, new, id);
-    let k = sorted_ids::find(tape, st, row, INDEX, m, old, new, s);
-    if k != 0 {
-        put_pair(words, n, id, k - 1);
+    if let Some(known) = sorted_ids::find(tape, st, row, INDEX, m, old, new, s) {
+        put_pair(words, n, id, known);
         return m;
     }
     put_pair(words, n, id, id);
@@ -172,26 +141,18 @@ fn pair_all<'a>(
     ensures pairs_2 { Pairs (resolve_str (store_in tape.now (old.now ++ new.now))) words.new }
     ensures rising { Rising words.new (pairs_in words.new) }
 {
-    let mut i = next_long(tape, st, least, 0);
     let mut n = 0;
     let mut m = 0;
-    while i < st.totals.strings {
+    for id in 0..st.totals.strings {
+        if strings::string_length(tape, st, id) < least {
+            continue;
+        }
         if room <= n {
             return;
         }
-        m = pair_string(tape, st, row, m, old, new, words, n, i);
+        m = pair_string(tape, st, row, m, old, new, words, n, id);
         n += 1;
-        i = next_long(tape, st, least, i + 1);
     }
-}
-
-fn lesser(a: usize, b: usize) -> usize
-    ensures { result ≡ min a b }
-{
-    if a < b {
-        return a;
-    }
-    b
 }
 
 // The same, the index in the row's first words.
@@ -211,7 +172,7 @@ fn pair_by_row<'a>(
 {
     strings::index_strings(tape, st, old.len() + new.len(), &mut row[0..INDEX]);
     wire::zero_words(words);
-    let room = lesser(MOST, (words.len() - 1) / 2);
+    let room = MOST.min((words.len() - 1) / 2);
     pair_all(tape, st, row, old, new, words, room, least);
 }
 

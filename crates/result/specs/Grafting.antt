@@ -81,23 +81,24 @@ module _ (t d : List ℕ) (o : Offsets) where
 
   -- ---- nodes
 
-  module _ (out strs : List ℕ) {out' strs' : List ℕ} (at base : ℕ) {l : Layer} (e : is_empty nodes ≡ false) (told : LayerTold out strs out' strs' at base o l (grafted_into t d o)) where
-    pub graft_refused : l.ok ≡ false → GraftTold out strs out' strs' at base o (is_empty nodes) None (grafted_into t d o)
+  module _ (out strs : List ℕ) {out' strs' : List ℕ} (at base : ℕ) (e : is_empty nodes ≡ false) where
+    pub graft_refused : LayerTold out strs out' strs' at base o None (grafted_into t d o) → GraftTold out strs out' strs' at base o (is_empty nodes) None (grafted_into t d o)
     unfolding graft_ok
-    graft_refused f = rw e (record { ok = sym f ∙ told.ok; made = tt })
+    graft_refused told = rw e (record { ok = told.room; made = tt })
 
-    pub graft_some : l.ok ≡ true → (r : Graft) → r.len ≡ l.len → r.bytes ≡ l.state.used - base → r.stats ≡ l.state.stats → GraftTold out strs out' strs' at base o (is_empty nodes) (Some r) (grafted_into t d o)
-    unfolding graft_ok new_layer_bytes new_string_bytes layer_records
-    graft_some f r len bytes stats =
-        let m = told.made f in
-        rw e (record {
-          ok = sym f ∙ told.ok;
-          made = record { wrote = m.wrote; strings = m.bytes; len = len ∙ m.len; bytes = omega (arith, bytes, m.used); stats = ap stats_of stats ∙ m.stats };
-        })
+    module _ (l : Layer) (told : LayerTold out strs out' strs' at base o (Some l) (grafted_into t d o)) where
+      pub graft_some : (r : Graft) → r.len ≡ l.len → r.bytes ≡ l.state.used - base → r.stats ≡ l.state.stats → GraftTold out strs out' strs' at base o (is_empty nodes) (Some r) (grafted_into t d o)
+      unfolding graft_ok new_layer_bytes new_string_bytes layer_records
+      graft_some r len bytes stats =
+          let m = told.made l refl in
+          rw e (record {
+            ok = told.room;
+            made = record { wrote = m.wrote; strings = m.bytes; len = len ∙ m.len; bytes = omega (arith, bytes, m.used); stats = ap stats_of stats ∙ m.stats };
+          })
 
-    -- so that the difference is one
-    pub graft_used : l.ok ≡ true → base ≤ l.state.used
-    graft_used f = let m = told.made f in omega (arith, m.used)
+      -- so that the difference is one
+      pub graft_used : base ≤ l.state.used
+      graft_used = let m = told.made l refl in omega (arith, m.used)
 
   -- where the code counts the nodes
   pub some_nodes : (n : ℕ) → length nodes ≡ n → (n ≡ 0 → ⊥) → is_empty nodes ≡ false

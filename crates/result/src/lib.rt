@@ -18,6 +18,8 @@ ghost use Rattle.merged_lists.specs.Sizes.{lengths_of};
 ghost use Rattle.result.specs.Grafting.{offsets_of, GraftTold};
 ghost use Rattle.result.specs.Stages.{texts_of, StoreTold};
 
+use stats::InternStats;
+
 // The old book or the reading: its tape and bytes, where the records stand, and its store.
 #[derive(Clone, Copy)]
 pub struct Book<'a> {
@@ -64,7 +66,7 @@ fn put_new_texts(out: &mut [u8], book: &Book, edit: &Edit, w: splice::Window, re
 pub struct Graft {
     pub len: usize,
     pub bytes: usize,
-    pub stats: stats::InternStats,
+    pub stats: InternStats,
 }
 
 // The reading's nodes grafted behind the old layers, if it has any: their records from `at` on, new strings from `base` on. None where
@@ -88,7 +90,7 @@ fn graft_reading(
         return Some(Graft {
             len: 0,
             bytes: 0,
-            stats: stats::none(),
+            stats: InternStats::default(),
         });
     }
     let o = layer::Offsets {
@@ -107,15 +109,11 @@ fn graft_reading(
         o,
         at,
         base,
-    );
-    if !l.ok {
-        return None;
-    }
-    let state = l.state;
+    )?;
     Some(Graft {
         len: l.len,
-        bytes: state.used - base,
-        stats: state.stats,
+        bytes: l.state.used - base,
+        stats: l.state.stats,
     })
 }
 

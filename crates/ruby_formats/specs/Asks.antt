@@ -1,5 +1,5 @@
 -- The nodes whose targets number 10 and number 15 ask for.
-use Rattle.std.specs.Prelude.{◌≡◌, Bool, true, false, cond, ◌||◌, ◌&&◌, List, ltb, leb}
+use Rattle.std.specs.Prelude.{◌≡◌, Bool, true, false, cond, ◌||◌, ◌&&◌, List, ltb}
 use Rattle.std.proofs.Math.Path.{refl, sym, ap}
 use Rattle.std.proofs.Common.{◌∙◌}
 use Prim.Native.Nat.{ℕ, zero, suc, ◌+◌, ◌-◌, ◌*◌, ◌≤◌, ◌<◌}
@@ -17,27 +17,9 @@ use Rattle.laws.specs.Nodes.{starts_at}
 unfoldable pub asks_target : ℕ → SourceNode → Bool
 asks_target from n = is_referenced_format n && ltb from n.source_span.end
 
-module _ (from : ℕ) (n : SourceNode) {x : Bool} (e : x ≡ is_referenced_format n) where
-  pub asks_other : x ≡ false → false ≡ asks_target from n
-  unfolding asks_target
-  asks_other h = rw (← e, h) refl
-
-  pub asks_end : x ≡ true → {end : ℕ} → end ≡ n.source_span.end → ltb from end ≡ asks_target from n
-  unfolding asks_target
-  asks_end h f = rw (← e, h, f) refl
-
 -- a Referenced Format that starts at or behind an offset
 unfoldable pub format_from : ℕ → SourceNode → Bool
 format_from o n = is_referenced_format n && starts_at o n
-
-module _ (o : ℕ) (n : SourceNode) {x : Bool} (e : x ≡ is_referenced_format n) where
-  pub format_other : x ≡ false → false ≡ format_from o n
-  unfolding format_from
-  format_other h = rw (← e, h) refl
-
-  pub format_start : x ≡ true → {start : ℕ} → start ≡ n.source_span.start → leb o start ≡ format_from o n
-  unfolding format_from
-  format_start h f = rw (← e, h, f) refl
 
 -- ---- nodes in a run
 

@@ -1,4 +1,3 @@
-pub mod Kinds
 pub mod Asks
 pub mod Sound
 pub mod Named

@@ -1,27 +1,25 @@
 -- Which string a node names, and two nodes that name one by the same id.
-use Rattle.std.specs.Prelude.{◌≡◌, ℕ, ◌+◌, ◌*◌, ◌≤◌, ◌<◌, Bool, ◌||◌, ◌&&◌, List, ltb, eqb, length}
+use Rattle.std.specs.Prelude.{Option, Some, None, ◌≡◌, ℕ, ◌+◌, ◌*◌, ◌≤◌, ◌<◌, Bool, ◌||◌, ◌&&◌, List, ltb, eqb, length}
 use Rattle.std.proofs.Math.Path.{refl, ap}
 use Rattle.std.proofs.Common.{sym, ◌∙◌, arith}
 use Rattle.std.proofs.Math.Bool.{true, false, cond}
 use Rattle.std.proofs.lemmas.Bool.{false≢true}
-use borrow.Author.Tests.{eqb-true, lt-ltb, le-ltb}
+use borrow.Author.Tests.{eqb-true}
 use Rattle.model.specs.Tape.{record_at, node_codec}
 use Rattle.model.specs.Region.{is_referenced_format, is_ruby, first_plain}
 use Rattle.model.specs.WellFormed.{word_of}
 use Rattle.store.specs.declared.Store.{Store}
 use Rattle.strings.specs.Starts.{store_in, OfTape}
 use Rattle.strings.specs.PlainContent.{plain_of, plain_string, plain_string_lem}
-use Rattle.strings.specs.declared.Plain.{Plain}
-use Rattle.strings.specs.declared.Plain.TheVariants.{Id, Nothing}
-use Rattle.ruby_formats.specs.Asks.{asks_target, asks_at}
+use Rattle.ruby_formats.specs.Asks.{asks_at}
 use Rattle.ruby_formats.specs.Sound.{Sound, SoundNode, FirstRange, PlainIn, first_contents, sound_node, ruby_first, target_first, plain_inside}
 
 -- ---- what a node names
 
 -- a Ruby's base, a Referenced Format's target
-unfoldable pub named_by : List ℕ → ℕ → List ℕ → Plain
+unfoldable pub named_by : List ℕ → ℕ → List ℕ → Option ℕ
 named_by t p b =
-    cond (is_ruby (record_at node_codec t p)) (plain_of (first_contents t p b)) (cond (is_referenced_format (record_at node_codec t p)) (plain_of (first_contents t p b)) Nothing)
+    cond (is_ruby (record_at node_codec t p)) (plain_of (first_contents t p b)) (cond (is_referenced_format (record_at node_codec t p)) (plain_of (first_contents t p b)) None)
 
 -- a node of which this can be read
 pub record Naming (t : List ℕ) (st : Store) (p : ℕ) : Type 0 where
@@ -29,7 +27,7 @@ pub record Naming (t : List ℕ) (st : Store) (p : ℕ) : Type 0 where
   pub inside : p + 49 ≤ length t
   pub ruby : is_ruby (record_at node_codec t p) ≡ true → FirstRange t st p
   pub format : is_referenced_format (record_at node_codec t p) ≡ true → FirstRange t st p
-  pub plain : {r : Plain} → ((b : List ℕ) → r ≡ plain_of (first_contents t p b)) → PlainIn st r
+  pub plain : {r : Option ℕ} → ((b : List ℕ) → r ≡ plain_of (first_contents t p b)) → PlainIn st r
 
 pub record Namings (t : List ℕ) (st : Store) (at count : ℕ) : Type 0 where
   pub node : (i : ℕ) → i < count → Naming t st (at + 49 * i)
@@ -43,61 +41,28 @@ sound_namings s = record { node = λ i h. sound_naming (sound_node {i = i} s h) 
 pub namings_before : {t : List ℕ} {st : Store} {at count n : ℕ} → Namings t st at count → n ≤ count → Namings t st at n
 namings_before s h = record { node = λ i g. s.node i (omega (arith, g, h)) }
 
-no_id : (id : ℕ) → Nothing ≡ Id id → ⊥
+no_id : (id : ℕ) → None ≡ Some id → ⊥
 no_id id q = let z : ◌≡◌ {A = ℕ} 1 0 = cc in omega arith
 
-pub nothing_in : {st : Store} → PlainIn st Nothing
+pub nothing_in : {st : Store} → PlainIn st None
 nothing_in = record { inside = λ id q. absurd (no_id id q) }
-
-module _ (t : List ℕ) (p : ℕ) where
-  module _ {x : Bool} (e : x ≡ is_ruby (record_at node_codec t p)) where
-    pub named_ruby : x ≡ true → {r : Plain} → ((b : List ℕ) → r ≡ plain_of (first_contents t p b)) → (b : List ℕ) → r ≡ named_by t p b
-    unfolding named_by
-    named_ruby h q b = rw (← e, h) (q b)
-
-    module _ (h : x ≡ false) {y : Bool} (f : y ≡ is_referenced_format (record_at node_codec t p)) where
-      pub named_format : y ≡ true → {r : Plain} → ((b : List ℕ) → r ≡ plain_of (first_contents t p b)) → (b : List ℕ) → r ≡ named_by t p b
-      unfolding named_by
-      named_format g q b = rw (← e, h, ← f, g) (q b)
-
-      pub named_none : y ≡ false → (b : List ℕ) → Nothing ≡ named_by t p b
-      unfolding named_by
-      named_none g b = rw (← e, h, ← f, g) refl
 
 -- ---- the same id
 
-unfoldable pub is_id : ℕ → Plain → Bool
-is_id id (Id own) = eqb own id
-is_id id Nothing = false
+unfoldable pub is_id : ℕ → Option ℕ → Bool
+is_id id (Some own) = eqb own id
+is_id id None = false
 
-unfoldable pub same_plain : Plain → Plain → Bool
-same_plain p (Id id) = is_id id p
-same_plain p Nothing = false
+unfoldable pub same_plain : Option ℕ → Option ℕ → Bool
+same_plain p (Some id) = is_id id p
+same_plain p None = false
 
-module _ (id : ℕ) {p : Plain} where
-  pub id_some : {own : ℕ} → p ≡ Id own → eqb own id ≡ is_id id p
-  unfolding is_id
-  id_some e = rw e refl
-
-  pub id_none : p ≡ Nothing → false ≡ is_id id p
-  unfolding is_id
-  id_none e = rw e refl
-
-module _ (p : Plain) {q : Plain} where
-  pub same_some : {id : ℕ} → q ≡ Id id → {x : Bool} → x ≡ is_id id p → x ≡ same_plain p q
-  unfolding same_plain
-  same_some e f = rw e f
-
-  pub same_none : q ≡ Nothing → false ≡ same_plain p q
-  unfolding same_plain
-  same_none e = rw e refl
-
-same_is : (p q : Plain) → same_plain p q ≡ true → p ≡ q
+same_is : (p q : Option ℕ) → same_plain p q ≡ true → p ≡ q
 unfolding same_plain is_id
-same_is (Id a) (Id b) e = ap Id (eqb-true a b e)
-same_is Nothing (Id b) e = absurd (false≢true e)
-same_is (Id a) Nothing e = absurd (false≢true e)
-same_is Nothing Nothing e = refl
+same_is (Some a) (Some b) e = ap Some (eqb-true a b e)
+same_is None (Some b) e = absurd (false≢true e)
+same_is (Some a) None e = absurd (false≢true e)
+same_is None None e = refl
 
 -- the strings of two nodes
 module _ (t b : List ℕ) (p q : ℕ) (e : same_plain (named_by t p b) (named_by t q b) ≡ true) where
@@ -109,7 +74,7 @@ module _ (t b : List ℕ) (p q : ℕ) (e : same_plain (named_by t p b) (named_by
   unfolding named_by
   named_is p h = first_is p ∙ ap (plain_string (store_in t b)) (pick (is_ruby (record_at node_codec t p)) (is_referenced_format (record_at node_codec t p)) h)
     where
-      pick : (x y : Bool) → (x || y) ≡ true → plain_of (first_contents t p b) ≡ cond x (plain_of (first_contents t p b)) (cond y (plain_of (first_contents t p b)) Nothing)
+      pick : (x y : Bool) → (x || y) ≡ true → plain_of (first_contents t p b) ≡ cond x (plain_of (first_contents t p b)) (cond y (plain_of (first_contents t p b)) None)
       pick true y h = refl
       pick false true h = refl
       pick false false h = absurd (false≢true h)
@@ -124,61 +89,14 @@ module _ (t b : List ℕ) (p q : ℕ) (e : same_plain (named_by t p b) (named_by
 unfoldable pub base_again : List ℕ → ℕ → ℕ → ℕ → List ℕ → Bool
 base_again t at i v b = ltb v i && is_ruby (record_at node_codec t (at + 49 * v)) && same_plain (named_by t (at + 49 * i) b) (named_by t (at + 49 * v) b)
 
-module _ (t : List ℕ) (at i v : ℕ) where
-  pub base_late : i ≤ v → (b : List ℕ) → false ≡ base_again t at i v b
-  unfolding base_again
-  base_late h b = rw (le-ltb v i h) refl
-
-  module _ (h : v < i) {x : Bool} (e : x ≡ is_ruby (record_at node_codec t (at + 49 * v))) where
-    pub base_other_kind : x ≡ false → (b : List ℕ) → false ≡ base_again t at i v b
-    unfolding base_again
-    base_other_kind f b = rw (lt-ltb v i h, ← e, f) refl
-
-    pub base_same : x ≡ true → {y : Bool} → ((b : List ℕ) → y ≡ same_plain (named_by t (at + 49 * i) b) (named_by t (at + 49 * v) b)) → (b : List ℕ) → y ≡ base_again t at i v b
-    unfolding base_again
-    base_same f q b = rw (lt-ltb v i h, ← e, f) (q b)
-
 -- ---- a target again: of an earlier node
 
 -- a Format before node i with its target by the same id
 unfoldable pub target_again : List ℕ → ℕ → ℕ → ℕ → List ℕ → Bool
 target_again t at i v b = ltb v i && is_referenced_format (record_at node_codec t (at + 49 * v)) && same_plain (named_by t (at + 49 * i) b) (named_by t (at + 49 * v) b)
 
-module _ (t : List ℕ) (at i v : ℕ) where
-  pub target_late : i ≤ v → (b : List ℕ) → false ≡ target_again t at i v b
-  unfolding target_again
-  target_late h b = rw (le-ltb v i h) refl
-
-  module _ (h : v < i) {x : Bool} (e : x ≡ is_referenced_format (record_at node_codec t (at + 49 * v))) where
-    pub target_other : x ≡ false → (b : List ℕ) → false ≡ target_again t at i v b
-    unfolding target_again
-    target_other f b = rw (lt-ltb v i h, ← e, f) refl
-
-    pub target_same : x ≡ true → {y : Bool} → ((b : List ℕ) → y ≡ same_plain (named_by t (at + 49 * i) b) (named_by t (at + 49 * v) b)) → (b : List ℕ) → y ≡ target_again t at i v b
-    unfolding target_again
-    target_same f q b = rw (lt-ltb v i h, ← e, f) (q b)
-
 -- ---- of a later node
 
 -- a later node that asks for the target of node i by the same id
 unfoldable pub asks_again : ℕ → List ℕ → ℕ → ℕ → ℕ → ℕ → List ℕ → Bool
 asks_again from t at i v count b = ltb i v && ltb v count && asks_at from t at v && same_plain (named_by t (at + 49 * i) b) (named_by t (at + 49 * v) b)
-
-module _ (from : ℕ) (t : List ℕ) (at i v count : ℕ) where
-  pub again_before : v ≤ i → (b : List ℕ) → false ≡ asks_again from t at i v count b
-  unfolding asks_again
-  again_before h b = rw (le-ltb i v h) refl
-
-  module _ (h : i < v) where
-    pub again_past : count ≤ v → (b : List ℕ) → false ≡ asks_again from t at i v count b
-    unfolding asks_again
-    again_past g b = rw (lt-ltb i v h, le-ltb v count g) refl
-
-    module _ (g : v < count) {x : Bool} (e : x ≡ asks_target from (record_at node_codec t (at + 49 * v))) where
-      pub again_other : x ≡ false → (b : List ℕ) → false ≡ asks_again from t at i v count b
-      unfolding asks_again asks_at
-      again_other f b = rw (lt-ltb i v h, lt-ltb v count g, ← e, f) refl
-
-      pub again_same : x ≡ true → {y : Bool} → ((b : List ℕ) → y ≡ same_plain (named_by t (at + 49 * i) b) (named_by t (at + 49 * v) b)) → (b : List ℕ) → y ≡ asks_again from t at i v count b
-      unfolding asks_again asks_at
-      again_same f q b = rw (lt-ltb i v h, lt-ltb v count g, ← e, f) (q b)

@@ -1,13 +1,12 @@
 -- What the code asks of a store and its nodes, and what number 4 then says of them: the base of a Ruby and the target of a Format are
 -- ranges of contents, and a Plain content has the id of a string.
-use Rattle.std.specs.Prelude.{◌≡◌, ℕ, ◌+◌, ◌*◌, ◌≤◌, ◌<◌, Bool, true, false, cond, ◌&&◌, List, [], ◌∷◌, ◌++◌, length, drop}
+use Rattle.std.specs.Prelude.{Option, Some, None, ◌≡◌, ℕ, ◌+◌, ◌*◌, ◌≤◌, ◌<◌, Bool, true, false, cond, ◌&&◌, List, [], ◌∷◌, ◌++◌, length, drop}
 use Rattle.std.proofs.Math.Path.{refl, ap₂}
 use Rattle.std.proofs.Common.{sym, ap, ◌∙◌, arith}
-use Rattle.std.proofs.Math.Option.{none}
 use Rattle.std.proofs.Math.ListN.{get_or}
 use Rattle.std.proofs.Math.Dec.{ltb, eqb}
 use borrow.Author.Tests.{eqb-true, ltb-true}
-use Rattle.model.specs.Lists.{all, any, same}
+use Rattle.model.specs.Lists.{all}
 use Rattle.model.specs.Types.{Body, Content, Layer, SourceNode}
 use Rattle.model.specs.Store.{string_counts, content_counts, segment_counts, range_ok, id_ok, resolve_content_range}
 use Rattle.model.specs.Tape.{Field.content_range, record_at, records_at, node_codec, places, layers_at, field_table, fields_of, node_fields}
@@ -24,8 +23,6 @@ use Rattle.strings.specs.Starts.{store_in, lengths_in}
 use Rattle.strings.specs.Index.{index_in}
 use Rattle.strings.specs.Shown.{Resolvable}
 use Rattle.strings.specs.PlainContent.{plain_of, plain_string, plain_string_lem}
-use Rattle.strings.specs.declared.Plain.{Plain}
-use Rattle.strings.specs.declared.Plain.TheVariants.{Id, Nothing}
 use Rattle.ruby_formats.specs.Asks.{asks_target}
 
 -- the layers of a tape with these string bytes
@@ -97,15 +94,15 @@ module _ (ls : List Layer) (n : SourceNode) (h : node_ok ls n ≡ true) where
 
 -- ---- the id of a Plain content
 
-no_id : (i : ℕ) → Id i ≡ Nothing → ⊥
+no_id : (i : ℕ) → Some i ≡ None → ⊥
 no_id i q = let z : ◌≡◌ {A = ℕ} 0 1 = cc in omega arith
 
-plain_ok : (ls : List Layer) (cs : List Content) (id : ℕ) → all (content_ok ls) cs ≡ true → Id id ≡ plain_of cs → id_ok (string_counts ls) id ≡ true
+plain_ok : (ls : List Layer) (cs : List Content) (id : ℕ) → all (content_ok ls) cs ≡ true → Some id ≡ plain_of cs → id_ok (string_counts ls) id ≡ true
 unfolding plain_of content_ok
 plain_ok ls [] id h e = absurd (no_id id e)
 plain_ok ls (c ∷ []) id h e = go (eqb c.tag 0) (range_ok (segment_counts ls) c.first c.second) (both (content_ok ls c) true h).0 e
   where
-    go : (x y : Bool) → cond x (id_ok (string_counts ls) c.first) y ≡ true → Id id ≡ cond x (Id c.first) Nothing → id_ok (string_counts ls) id ≡ true
+    go : (x y : Bool) → cond x (id_ok (string_counts ls) c.first) y ≡ true → Some id ≡ cond x (Some c.first) None → id_ok (string_counts ls) id ≡ true
     go true y a b = let q : id ≡ c.first = cc in ap (id_ok (string_counts ls)) q ∙ a
     go false y a b = absurd (no_id id b)
 plain_ok ls (c ∷ d ∷ cs) id h e = absurd (no_id id e)
@@ -117,8 +114,8 @@ pub record FirstRange (t : List ℕ) (st : Store) (p : ℕ) : Type 0 where
   pub is : range_in st.contents st.layers st.totals.contents (word_of (record_at node_codec t p).body 0) (word_of (record_at node_codec t p).body 1) ≡ true
 
 -- an answer's id is one of the store's
-pub record PlainIn (st : Store) (r : Plain) : Type 0 where
-  pub inside : (id : ℕ) → r ≡ Id id → id < st.totals.strings
+pub record PlainIn (st : Store) (r : Option ℕ) : Type 0 where
+  pub inside : (id : ℕ) → r ≡ Some id → id < st.totals.strings
 
 -- the contents of the range, of any store over these string bytes
 unfoldable pub first_contents : List ℕ → ℕ → List ℕ → List Content
@@ -141,7 +138,7 @@ module _ {t : List ℕ} {st : Store} {words old new : List ℕ} {p : ℕ} (s : S
   format_first from e h =
       target_first refl (both (is_referenced_format (record_at node_codec t p)) (ltb from (record_at node_codec t p).source_span.end) (sym e ∙ h)).0
 
-  module _ {r : Plain} (e : (b : List ℕ) → r ≡ plain_of (first_contents t p b)) where
+  module _ {r : Option ℕ} (e : (b : List ℕ) → r ≡ plain_of (first_contents t p b)) where
     pub plain_first : first_plain (store_in t (old ++ new)) (record_at node_codec t p) ≡ plain_string (store_in t (old ++ new)) r
     unfolding first_plain first_contents
     plain_first = plain_string_lem (store_in t (old ++ new)) (word_of (record_at node_codec t p).body 0) (word_of (record_at node_codec t p).body 1) (e (old ++ new))
@@ -169,7 +166,7 @@ module _ (t : List ℕ) (p : ℕ) {start len : ℕ} (e : start ≡ word_of (body
   pub words_range : {st : Store} → FirstRange t st p → range_in st.contents st.layers st.totals.contents start len ≡ true
   words_range {st} r = ap₂ (λ (x y : ℕ). range_in st.contents st.layers st.totals.contents x y) first_start first_length ∙ r.is
 
-  pub words_plain : {r : Plain} → ((b : List ℕ) → r ≡ plain_of (resolve_content_range (store_in t b) start len)) → (b : List ℕ) → r ≡ plain_of (first_contents t p b)
+  pub words_plain : {r : Option ℕ} → ((b : List ℕ) → r ≡ plain_of (resolve_content_range (store_in t b) start len)) → (b : List ℕ) → r ≡ plain_of (first_contents t p b)
   unfolding first_contents
   words_plain q b = q b ∙ ap₂ (λ (x y : ℕ). plain_of (resolve_content_range (store_in t b) x y)) first_start first_length
 

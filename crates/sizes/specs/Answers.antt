@@ -1,8 +1,6 @@
 -- The walk's answers: what each function has read and added, against the definitions in place.
-use Rattle.std.specs.Prelude.{◌≡◌, refl, true, List}
-use Rattle.std.proofs.Common.{sym, ◌∙◌, arith}
-use Rattle.std.proofs.Math.Path.{ap}
-use Prim.Native.Nat.{ℕ, zero, suc, ◌+◌, ◌-◌, ◌≤◌, ◌<◌}
+use Rattle.std.specs.Prelude.{◌≡◌, refl, List, ℕ, zero, suc, ◌+◌, ◌-◌, ◌≤◌, ◌<◌, Option, Some, None}
+use Rattle.std.proofs.Common.{sym, ap, ◌∙◌, arith}
 use borrow.Author.Tests.{eq-eqb, ne_eqb, lt-ltb, le-ltb}
 use Rattle.model.specs.Bytes.{byte_at}
 use Rattle.model.specs.Types.{Body, Content}
@@ -24,7 +22,7 @@ pub body_sum : (l : ℕ) (tp : List ℕ) (st : Store) (b : Body) → add_from (p
 unfolding body_adds
 body_sum l tp st b = sym (body_places (inner_adds l tp st) tp st b)
 
-module _ (m : Room) (t : Sizes) (inner : Body → Added) (tp : List ℕ) (st : Store) {r : Sizes} where
+module _ (m : Room) (t : Sizes) (inner : Body → Added) (tp : List ℕ) (st : Store) {r : Option Sizes} where
   pub place_read : (b : Body) (j : ℕ) (f : FieldWords) → f ≡ field_words b j → r ≡ plus m t (used_adds inner tp st f) → r ≡ plus m t (place_adds inner tp st b j)
   unfolding place_adds
   place_read b j f e q = q ∙ ap (λ (x : FieldWords). plus m t (used_adds inner tp st x)) e
@@ -64,32 +62,32 @@ no_segments : (inner : Body → Added) (tp : List ℕ) (at n : ℕ) → n ≡ 0 
 unfolding segments_add records_at add_all
 no_segments inner tp at n z = rw z refl
 
-module _ (m : Room) (t : Sizes) (inner : Body → Added) (tp : List ℕ) (st : Store) (start len n : ℕ) {u : Sizes} where
-  module _ (e : n ≡ content_count st start len) (q : u ≡ plus m t (new_contents n)) where
-    pub contents_over : u.over ≡ true → u ≡ plus m t (content_run_adds inner tp st start len)
+module _ (m : Room) (t : Sizes) (inner : Body → Added) (tp : List ℕ) (st : Store) (start len n : ℕ) where
+  module _ (e : n ≡ content_count st start len) where
+    pub contents_over : None ≡ plus m t (new_contents n) → None ≡ plus m t (content_run_adds inner tp st start len)
     unfolding content_run_adds
-    contents_over h = rw (← e) (run_over m t (new_contents n) (contents_add inner tp st (content_place st start) n) q h)
+    contents_over q = rw (← e) (run_over m t (new_contents n) (contents_add inner tp st (content_place st start) n) q)
 
-    pub contents_empty : n ≡ 0 → u ≡ plus m t (content_run_adds inner tp st start len)
+    pub contents_empty : {u : Sizes} → Some u ≡ plus m t (new_contents n) → n ≡ 0 → Some u ≡ plus m t (content_run_adds inner tp st start len)
     unfolding content_run_adds
-    contents_empty z = rw (← e) (run_empty m t (new_contents n) (contents_add inner tp st (content_place st start) n) q (no_contents inner tp st (content_place st start) n z))
+    contents_empty q z = rw (← e) (run_empty m t (new_contents n) (contents_add inner tp st (content_place st start) n) q (no_contents inner tp st (content_place st start) n z))
 
-    pub contents_then : (at : ℕ) {r : Sizes} → at ≡ content_place st start → r ≡ plus m u (contents_add inner tp st at n) → r ≡ plus m t (content_run_adds inner tp st start len)
+    pub contents_then : {u : Sizes} → Some u ≡ plus m t (new_contents n) → (at : ℕ) {r : Option Sizes} → at ≡ content_place st start → r ≡ plus m u (contents_add inner tp st at n) → r ≡ plus m t (content_run_adds inner tp st start len)
     unfolding content_run_adds
-    contents_then at p a = rw (← e, ← p) (run_then m t (new_contents n) (contents_add inner tp st at n) q a)
+    contents_then q at p a = rw (← e, ← p) (run_then m t (new_contents n) (contents_add inner tp st at n) q a)
 
-  module _ (e : n ≡ segment_count st start len) (q : u ≡ plus m t (new_segments n)) where
-    pub segments_over : u.over ≡ true → u ≡ plus m t (segment_run_adds inner tp st start len)
+  module _ (e : n ≡ segment_count st start len) where
+    pub segments_over : None ≡ plus m t (new_segments n) → None ≡ plus m t (segment_run_adds inner tp st start len)
     unfolding segment_run_adds
-    segments_over h = rw (← e) (run_over m t (new_segments n) (segments_add inner tp (segment_place st start) n) q h)
+    segments_over q = rw (← e) (run_over m t (new_segments n) (segments_add inner tp (segment_place st start) n) q)
 
-    pub segments_empty : n ≡ 0 → u ≡ plus m t (segment_run_adds inner tp st start len)
+    pub segments_empty : {u : Sizes} → Some u ≡ plus m t (new_segments n) → n ≡ 0 → Some u ≡ plus m t (segment_run_adds inner tp st start len)
     unfolding segment_run_adds
-    segments_empty z = rw (← e) (run_empty m t (new_segments n) (segments_add inner tp (segment_place st start) n) q (no_segments inner tp (segment_place st start) n z))
+    segments_empty q z = rw (← e) (run_empty m t (new_segments n) (segments_add inner tp (segment_place st start) n) q (no_segments inner tp (segment_place st start) n z))
 
-    pub segments_then : (at : ℕ) {r : Sizes} → at ≡ segment_place st start → r ≡ plus m u (segments_add inner tp at n) → r ≡ plus m t (segment_run_adds inner tp st start len)
+    pub segments_then : {u : Sizes} → Some u ≡ plus m t (new_segments n) → (at : ℕ) {r : Option Sizes} → at ≡ segment_place st start → r ≡ plus m u (segments_add inner tp at n) → r ≡ plus m t (segment_run_adds inner tp st start len)
     unfolding segment_run_adds
-    segments_then at p a = rw (← e, ← p) (run_then m t (new_segments n) (segments_add inner tp at n) q a)
+    segments_then q at p a = rw (← e, ← p) (run_then m t (new_segments n) (segments_add inner tp at n) q a)
 
 -- ---- the level falls
 
@@ -98,11 +96,11 @@ above_zero zero n = absurd (n refl)
 above_zero (suc k) n = omega arith
 
 module _ (m : Room) (t : Sizes) (tp : List ℕ) (st : Store) (at level : ℕ) where
-  pub segment_last : Kept m t → level ≡ 0 → t ≡ plus m t (inner_adds level tp st (record_at segment_codec tp at).body)
+  pub segment_last : Kept m t → level ≡ 0 → Some t ≡ plus m t (inner_adds level tp st (record_at segment_codec tp at).body)
   unfolding inner_adds
   segment_last k z = rw z (sym k.is)
 
-  pub segment_below : (level ≡ 0 → ⊥) → {r : Sizes} → r ≡ plus m t (body_adds (level - 1) tp st (body_at tp (at + 3)))
+  pub segment_below : (level ≡ 0 → ⊥) → {r : Option Sizes} → r ≡ plus m t (body_adds (level - 1) tp st (body_at tp (at + 3)))
       → r ≡ plus m t (inner_adds level tp st (record_at segment_codec tp at).body)
   unfolding inner_adds body_adds
   segment_below z {r} q =
@@ -118,10 +116,10 @@ node_class tp at = refl
 
 module _ (m : Room) (t : Sizes) (tp : List ℕ) (st : Store) (at : ℕ) where
   -- classes 2 and 3 have no words
-  pub node_bare : Kept m t → 2 ≤ byte_at tp (at + 1) → t ≡ plus m t (node_adds tp st (record_at node_codec tp at))
+  pub node_bare : Kept m t → 2 ≤ byte_at tp (at + 1) → Some t ≡ plus m t (node_adds tp st (record_at node_codec tp at))
   unfolding node_adds node_fields fields_add add_all
   node_bare k h = rw (← node_class tp at, le-ltb (byte_at tp (at + 1)) 2 h) (sym k.is)
 
-  pub node_body_read : {r : Sizes} → byte_at tp (at + 1) < 2 → r ≡ plus m t (body_adds 33 tp st (body_at tp (at + 15))) → r ≡ plus m t (node_adds tp st (record_at node_codec tp at))
+  pub node_body_read : {r : Option Sizes} → byte_at tp (at + 1) < 2 → r ≡ plus m t (body_adds 33 tp st (body_at tp (at + 15))) → r ≡ plus m t (node_adds tp st (record_at node_codec tp at))
   unfolding node_adds node_fields body_adds
   node_body_read h q = rw (← node_class tp at, lt-ltb (byte_at tp (at + 1)) 2 h) (q ∙ ap (λ (b : Body). plus m t (body_adds 33 tp st b)) (node_body tp at))

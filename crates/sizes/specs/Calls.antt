@@ -1,8 +1,6 @@
 -- How often `intern` can be called: at most six times for a body, so that below number 3's limits no count of calls is cut.
-use Rattle.std.specs.Prelude.{◌≡◌, refl, Bool, true, false, cond, List, [], ◌∷◌, length, ltb, eqb}
-use Rattle.std.proofs.Math.Path.{ap}
-use Rattle.std.proofs.Common.{◌∙◌, arith}
-use Prim.Native.Nat.{ℕ, zero, suc, ◌+◌, ◌*◌, ◌≤◌, min}
+use Rattle.std.specs.Prelude.{◌≡◌, refl, Bool, true, false, cond, List, [], ◌∷◌, length, ltb, eqb, ℕ, zero, suc, ◌+◌, ◌*◌, ◌≤◌, min, Option, Some}
+use Rattle.std.proofs.Common.{ap, ◌∙◌, arith}
 use Rattle.model.specs.Limits.{no_string, max_pool, max_list}
 use Rattle.model.specs.Types.{Body, Content, Segment, SourceNode}
 use Rattle.model.specs.Tape.{fields_of, node_fields, records_at, content_codec, segment_codec, node_codec, places, book_at}
@@ -129,7 +127,7 @@ not_cut m k a l f =
     (λ h.
     let x = fits_room_lem m a h in
     let z : min a.calls 4294967295 ≡ a.calls = omega (arith, x.0, x.1, l.contents, l.segments, l.few, f.calls) in
-    capped_exact m a h ∙ rw h (λ i. record { contents = a.contents; segments = a.segments; calls = z i; over = false }))
+    capped_exact m a h ∙ rw h (λ i. Some (record { contents = a.contents; segments = a.segments; calls = z i })))
     (λ h. capped_over m a h ∙ rw h refl)
 
 -- ---- a whole tape
@@ -138,7 +136,7 @@ module _ {t : List ℕ} {st : Store} {p : Places} (f : IdsFit t st p) where
   pub reading_levels : OfTape t st
   reading_levels = record { stored = f.stored; few = f.few; inside = (ids_layers f).inside }
 
-  pub reading_answer : (m : Room) {r : Sizes} → ids_in t st ≡ true → Limited m p.nodes.count → r ≡ capped m (nodes_add t st p.nodes.at p.nodes.count)
+  pub reading_answer : (m : Room) {r : Option Sizes} → ids_in t st ≡ true → Limited m p.nodes.count → r ≡ capped m (nodes_add t st p.nodes.at p.nodes.count)
       → (d : List ℕ) → r ≡ sizes_in m (nodes_size (shown_nodes (book_at t (places t) d)))
   unfolding found
   reading_answer m {r} h l e d =

@@ -1,10 +1,8 @@
 -- Sums that end at the room: how what is found in place adds up.
-use Rattle.std.specs.Prelude.{◌≡◌, refl, Bool, true, cond, ◌&&◌, leb}
+use Rattle.std.specs.Prelude.{◌≡◌, refl, ℕ, zero, suc, ◌+◌, ◌-◌, ◌≤◌, ◌<◌, min, Bool, true, false, cond, ◌&&◌, leb, Option, Some, None}
 use Rattle.std.proofs.Math.Path.{sym, ap}
-use Rattle.std.proofs.Common.{ap₂, ◌∙◌, add-zero, true≢false}
-use Prim.Native.Nat.{ℕ, zero, suc, ◌+◌, ◌-◌, ◌≤◌, ◌<◌, min}
-use native.Mathlib.Omega.{arith}
-use Rattle.std.proofs.Math.Bool.{false, and-false}
+use Rattle.std.proofs.Common.{ap₂, ◌∙◌, add-zero, true≢false, arith}
+use Rattle.std.proofs.Math.Bool.{and-false}
 use borrow.Author.Tests.{le-leb, lt-leb, leb-true, leb-false}
 use Rattle.model.specs.Lists.{tabulate}
 use Rattle.laws.specs.Lists.{both}
@@ -18,28 +16,30 @@ unfoldable pub fits : Room → Added → Bool
 fits m a = leb a.contents m.contents && leb a.segments m.segments
 
 abbrev pub no_sizes : Sizes
-no_sizes = record { contents = 0; segments = 0; calls = 0; over = false }
+no_sizes = record { contents = 0; segments = 0; calls = 0 }
 
-abbrev pub over_sizes : Sizes
-over_sizes = record { contents = 0; segments = 0; calls = 0; over = true }
-
--- Number 3. Over exactly if there is not room for so much; else the numbers themselves.
-unfoldable pub sizes_in : Room → Added → Sizes
-sizes_in m a = cond (fits m a) (record { contents = a.contents; segments = a.segments; calls = a.calls; over = false }) over_sizes
+-- Number 3. None exactly if there is not room for so much; else the numbers themselves.
+unfoldable pub sizes_in : Room → Added → Option Sizes
+sizes_in m a = cond (fits m a) (Some (record { contents = a.contents; segments = a.segments; calls = a.calls })) None
 
 -- the same with a count of calls that stops
 abbrev pub exact_sizes : Added → Sizes
-exact_sizes a = record { contents = a.contents; segments = a.segments; calls = min a.calls 4294967295; over = false }
+exact_sizes a = record { contents = a.contents; segments = a.segments; calls = min a.calls 4294967295 }
 
-unfoldable pub capped : Room → Added → Sizes
-capped m a = cond (fits m a) (exact_sizes a) over_sizes
+unfoldable pub capped : Room → Added → Option Sizes
+capped m a = cond (fits m a) (Some (exact_sizes a)) None
 
 abbrev pub added_of : Sizes → Added
 added_of t = record { contents = t.contents; segments = t.segments; calls = t.calls }
 
--- so much more; what is over stays so
-unfoldable pub plus : Room → Sizes → Added → Sizes
-plus m t a = cond t.over t (capped m (add (added_of t) a))
+-- so much more
+unfoldable pub plus : Room → Sizes → Added → Option Sizes
+plus m t a = capped m (add (added_of t) a)
+
+-- an Option is None or Some, and what is shown in both cases holds
+pub by_option : {A X : Type 0} (o : Option A) → (o ≡ None → X) → ((x : A) → o ≡ Some x → X) → X
+by_option None n s = n refl
+by_option (Some x) n s = s x refl
 
 -- ---- sums
 
@@ -70,70 +70,71 @@ fits_left m a b h = by_bool (fits m a) (λ x. x) (λ x. absurd (true≢false (sy
 pub fits_right : (m : Room) (a b : Added) → fits m (add a b) ≡ true → fits m b ≡ true
 fits_right m a b h = fits_left m b a (sym (ap (fits m) (add_comm a b)) ∙ h)
 
-pub capped_exact : (m : Room) (a : Added) → fits m a ≡ true → capped m a ≡ exact_sizes a
+pub capped_exact : (m : Room) (a : Added) → fits m a ≡ true → capped m a ≡ Some (exact_sizes a)
 unfolding capped
 capped_exact m a h = rw h refl
 
-pub capped_over : (m : Room) (a : Added) → fits m a ≡ false → capped m a ≡ over_sizes
+pub capped_over : (m : Room) (a : Added) → fits m a ≡ false → capped m a ≡ None
 unfolding capped
 capped_over m a h = rw h refl
 
-pub plus_going : (m : Room) (t : Sizes) (a : Added) → t.over ≡ false → plus m t a ≡ capped m (add (added_of t) a)
-unfolding plus
-plus_going m t a h = rw h refl
+-- what the answer says
+pub capped_some : (m : Room) (a : Added) {u : Sizes} → Some u ≡ capped m a → (fits m a ≡ true) × (u ≡ exact_sizes a)
+capped_some m a {u} e =
+    by_bool (fits m a)
+    (λ f. (f, let q : Some u ≡ Some (exact_sizes a) = e ∙ capped_exact m a f in cc))
+    (λ f. let q : Some u ≡ None = e ∙ capped_over m a f in cc)
 
--- what is over stays so
-pub plus_over : (m : Room) {t : Sizes} (a : Added) → t.over ≡ true → plus m t a ≡ t
-unfolding plus
-plus_over m a h = rw h refl
+pub capped_none : (m : Room) (a : Added) → None ≡ capped m a → fits m a ≡ false
+capped_none m a e =
+    by_bool (fits m a) (λ f. let q : None ≡ Some (exact_sizes a) = e ∙ capped_exact m a f in cc) (λ f. f)
 
 exact_plus : (m : Room) (x b : Added) → plus m (exact_sizes x) b ≡ capped m (add x b)
 unfolding plus capped add fits
 exact_plus m x b =
     let e : min (min x.calls 4294967295 + b.calls) 4294967295 ≡ min (x.calls + b.calls) 4294967295 = omega arith in
     λ i. cond (leb (x.contents + b.contents) m.contents && leb (x.segments + b.segments) m.segments)
-    (record { contents = x.contents + b.contents; segments = x.segments + b.segments; calls = e i; over = false }) over_sizes
+    (Some (record { contents = x.contents + b.contents; segments = x.segments + b.segments; calls = e i })) None
 
-capped_plus : (m : Room) (x b : Added) → plus m (capped m x) b ≡ capped m (add x b)
-capped_plus m x b =
-    by_bool (fits m x)
-    (λ f. ap (λ (t : Sizes). plus m t b) (capped_exact m x f) ∙ exact_plus m x b)
-    (λ f. ap (λ (t : Sizes). plus m t b) (capped_over m x f) ∙ plus_over m b refl ∙ sym (capped_over m (add x b) (fits_add m x b f)))
+-- so much, and then so much more
+pub plus_then : (m : Room) (t : Sizes) (a : Added) {u : Sizes} → Some u ≡ plus m t a → (b : Added) → plus m u b ≡ plus m t (add a b)
+unfolding plus
+plus_then m t a {u} e b =
+    let w = capped_some m (add (added_of t) a) e in
+    ap (λ (x : Sizes). capped m (add (added_of x) b)) w.1 ∙ exact_plus m (add (added_of t) a) b ∙ ap (capped m) (add_assoc (added_of t) a b)
 
-pub plus_plus : (m : Room) (t : Sizes) (a b : Added) → plus m (plus m t a) b ≡ plus m t (add a b)
-plus_plus m t a b =
-    by_bool t.over
-    (λ e. ap (λ (u : Sizes). plus m u b) (plus_over m a e) ∙ plus_over m b e ∙ sym (plus_over m (add a b) e))
-    (λ e. ap (λ (u : Sizes). plus m u b) (plus_going m t a e) ∙ capped_plus m (add (added_of t) a) b
-    ∙ ap (capped m) (add_assoc (added_of t) a b) ∙ sym (plus_going m t (add a b) e))
+-- where there is no room for so much, there is none for more
+pub plus_stop : (m : Room) (t : Sizes) (a : Added) → None ≡ plus m t a → (b : Added) → None ≡ plus m t (add a b)
+unfolding plus
+plus_stop m t a e b =
+    sym (ap (capped m) (sym (add_assoc (added_of t) a b)) ∙ capped_over m (add (add (added_of t) a) b) (fits_add m (add (added_of t) a) b (capped_none m (add (added_of t) a) e)))
 
 -- ---- the code's answers
 
-module _ (m : Room) (t : Sizes) (a : Added) (h : t.over ≡ false) where
-  pub plus_contents : m.contents < t.contents + a.contents → over_sizes ≡ plus m t a
-  unfolding fits add
-  plus_contents l = sym (plus_going m t a h ∙ capped_over m (add (added_of t) a) (rw (lt-leb (t.contents + a.contents) m.contents l) refl))
+module _ (m : Room) (t : Sizes) (a : Added) where
+  pub plus_contents : m.contents < t.contents + a.contents → None ≡ plus m t a
+  unfolding plus fits add
+  plus_contents l = sym (capped_over m (add (added_of t) a) (rw (lt-leb (t.contents + a.contents) m.contents l) refl))
 
-  pub plus_segments : m.segments < t.segments + a.segments → over_sizes ≡ plus m t a
-  unfolding fits add
-  plus_segments l = sym (plus_going m t a h ∙ capped_over m (add (added_of t) a) (rw (lt-leb (t.segments + a.segments) m.segments l, and-false) refl))
+  pub plus_segments : m.segments < t.segments + a.segments → None ≡ plus m t a
+  unfolding plus fits add
+  plus_segments l = sym (capped_over m (add (added_of t) a) (rw (lt-leb (t.segments + a.segments) m.segments l, and-false) refl))
 
   pub plus_exact : (x y z : ℕ) → x ≡ t.contents + a.contents → x ≤ m.contents → y ≡ t.segments + a.segments → y ≤ m.segments → z ≡ min (t.calls + a.calls) 4294967295
-      → ◌≡◌ {A = Sizes} (record { contents = x; segments = y; calls = z; over = false }) (plus m t a)
-  unfolding fits add
+      → ◌≡◌ {A = Option Sizes} (Some (record { contents = x; segments = y; calls = z })) (plus m t a)
+  unfolding plus fits add
   plus_exact x y z e l f n g =
-      (λ i. record { contents = e i; segments = f i; calls = g i; over = false })
-      ∙ sym (plus_going m t a h
-      ∙ capped_exact m (add (added_of t) a)
+      (λ i. Some (record { contents = e i; segments = f i; calls = g i }))
+      ∙ sym (capped_exact m (add (added_of t) a)
       (rw (le-leb (t.contents + a.contents) m.contents (omega (arith, e, l)), le-leb (t.segments + a.segments) m.segments (omega (arith, f, n))) refl))
 
--- ---- sizes that there is room for, or over
+-- ---- sizes that there is room for
 
 pub record Kept (m : Room) (t : Sizes) : Type 0 where
-  pub is : plus m t nothing ≡ t
+  pub is : plus m t nothing ≡ Some t
 
-pub kept_plus : {m : Room} (t : Sizes) {r : Sizes} (a : Added) → r ≡ plus m t a → Kept m r
-kept_plus {m} t {r} a e = record { is = ap (λ (u : Sizes). plus m u nothing) e ∙ plus_plus m t a nothing ∙ ap (plus m t) (add_nothing a) ∙ sym e }
+pub kept_plus : {m : Room} (t : Sizes) {r : Sizes} (a : Added) → Some r ≡ plus m t a → Kept m r
+kept_plus {m} t {r} a e = record { is = plus_then m t a e nothing ∙ ap (plus m t) (add_nothing a) ∙ sym e }
 
 pub kept_none : (m : Room) → Kept m no_sizes
 unfolding plus capped fits add
@@ -141,19 +142,21 @@ kept_none m = record { is = rw (le-leb 0 m.contents (omega arith), le-leb 0 m.se
 
 -- from none, the sum is what it says
 pub plus_none : (m : Room) (a : Added) → plus m no_sizes a ≡ capped m a
-plus_none m a = plus_going m no_sizes a refl ∙ ap (capped m) (nothing_add a)
+unfolding plus
+plus_none m a = ap (capped m) (nothing_add a)
 
 -- ---- a run: its own items, then what lies below them
 
-module _ (m : Room) (t : Sizes) (own inner : Added) {u : Sizes} (e : u ≡ plus m t own) where
-  pub run_over : u.over ≡ true → u ≡ plus m t (add own inner)
-  run_over h = sym (plus_over m inner h) ∙ ap (λ (x : Sizes). plus m x inner) e ∙ plus_plus m t own inner
+module _ (m : Room) (t : Sizes) (own inner : Added) where
+  pub run_over : None ≡ plus m t own → None ≡ plus m t (add own inner)
+  run_over e = plus_stop m t own e inner
 
-  pub run_empty : inner ≡ nothing → u ≡ plus m t (add own inner)
-  run_empty z = e ∙ sym (ap (λ (x : Added). plus m t (add own x)) z ∙ ap (plus m t) (add_nothing own))
+  module _ {u : Sizes} (e : Some u ≡ plus m t own) where
+    pub run_empty : inner ≡ nothing → Some u ≡ plus m t (add own inner)
+    run_empty z = e ∙ sym (ap (λ (x : Added). plus m t (add own x)) z ∙ ap (plus m t) (add_nothing own))
 
-  pub run_then : {r : Sizes} → r ≡ plus m u inner → r ≡ plus m t (add own inner)
-  run_then q = q ∙ ap (λ (x : Sizes). plus m x inner) e ∙ plus_plus m t own inner
+    pub run_then : {r : Option Sizes} → r ≡ plus m u inner → r ≡ plus m t (add own inner)
+    run_then q = q ∙ plus_then m t own e inner
 
 -- ---- a loop that adds g 0, g 1, ..
 
@@ -169,21 +172,18 @@ pub adding_none : {m : Room} {t : Sizes} (g : ℕ → Added) (n : ℕ) → Kept 
 adding_none {m} {t} g n k = let q : n - 0 ≡ n = omega arith in record { kept = k; left = rw q refl }
 
 module _ {m : Room} {t : Sizes} {g : ℕ → Added} {n i : ℕ} {u : Sizes} (a : Adding m t g n i u) where
-  module _ {r : Sizes} (h : i < n) (e : r ≡ plus m u (g i)) where
-    adding_left : plus m r (add_from g (n - (i + 1)) (i + 1)) ≡ plus m t (add_from g n 0)
+  module _ (h : i < n) where
+    next_left : plus m u (add (g i) (add_from g (n - (i + 1)) (i + 1))) ≡ plus m t (add_from g n 0)
     unfolding add_from
-    adding_left =
-        let q : n - i ≡ suc (n - (i + 1)) = omega arith in
-        ap (λ (x : Sizes). plus m x (add_from g (n - (i + 1)) (i + 1))) e ∙ plus_plus m u (g i) (add_from g (n - (i + 1)) (i + 1))
-        ∙ ap (λ (k : ℕ). plus m u (add_from g k i)) (sym q) ∙ a.left
+    next_left = let q : n - i ≡ suc (n - (i + 1)) = omega arith in ap (λ (k : ℕ). plus m u (add_from g k i)) (sym q) ∙ a.left
 
-    pub adding_more : Adding m t g n (i + 1) r
-    adding_more = record { kept = kept_plus u (g i) e; left = adding_left }
+    pub adding_more : {r : Sizes} → Some r ≡ plus m u (g i) → Adding m t g n (i + 1) r
+    adding_more e = record { kept = kept_plus u (g i) e; left = plus_then m u (g i) e (add_from g (n - (i + 1)) (i + 1)) ∙ next_left }
 
-    pub adding_over : r.over ≡ true → r ≡ plus m t (add_from g n 0)
-    adding_over o = sym (plus_over m (add_from g (n - (i + 1)) (i + 1)) o) ∙ adding_left
+    pub adding_over : None ≡ plus m u (g i) → None ≡ plus m t (add_from g n 0)
+    adding_over e = plus_stop m u (g i) e (add_from g (n - (i + 1)) (i + 1)) ∙ next_left
 
-  pub adding_all : n ≤ i → u ≡ plus m t (add_from g n 0)
+  pub adding_all : n ≤ i → Some u ≡ plus m t (add_from g n 0)
   unfolding add_from
   adding_all h = let q : n - i ≡ 0 = omega arith in sym a.kept.is ∙ ap (λ (k : ℕ). plus m u (add_from g k i)) (sym q) ∙ a.left
 

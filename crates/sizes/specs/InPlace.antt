@@ -1,6 +1,6 @@
 -- What the graft of a body, of a run of contents and of a run of segments adds, by the starts that a store remembers: what the
 -- code computes. A range that does not pass number 4 stands for no items, so that nothing here asks for number 4.
-use Rattle.std.specs.Prelude.{◌≡◌, Bool, true, false, cond, List, length, ltb, eqb}
+use Rattle.std.specs.Prelude.{◌≡◌, Bool, true, false, cond, List, length, ltb, eqb, Option, Some}
 use Rattle.std.proofs.Math.Path.{refl, ap, ap₂}
 use Rattle.std.proofs.Common.{sym, ◌∙◌, arith, zero-add}
 use Prim.Native.Nat.{ℕ, zero, suc, ◌+◌, ◌*◌, ◌≤◌, ◌<◌}
@@ -216,18 +216,18 @@ unfolding body_at
 field_read t p j i u w next e f g h = rw (f, g, h, e) refl
 
 module _ (m : Room) (t : Sizes) (k : Kept m t) (u w : ℕ) where
-  pub string_one : {r : Sizes} → u ≡ 1 → r ≡ plus m t one_call → r ≡ plus m t (string_adds u w)
+  pub string_one : {r : Option Sizes} → u ≡ 1 → r ≡ plus m t one_call → r ≡ plus m t (string_adds u w)
   unfolding string_adds
   string_one e q = rw e q
 
-  pub string_missing : u ≡ 2 → w ≡ no_string → t ≡ plus m t (string_adds u w)
+  pub string_missing : u ≡ 2 → w ≡ no_string → Some t ≡ plus m t (string_adds u w)
   unfolding string_adds
   string_missing e z = rw (e, eq-eqb w no_string z) (sym k.is)
 
-  pub string_optional : {r : Sizes} → u ≡ 2 → (w ≡ no_string → ⊥) → r ≡ plus m t one_call → r ≡ plus m t (string_adds u w)
+  pub string_optional : {r : Option Sizes} → u ≡ 2 → (w ≡ no_string → ⊥) → r ≡ plus m t one_call → r ≡ plus m t (string_adds u w)
   unfolding string_adds
   string_optional e z q = rw (e, ne_eqb w no_string z) q
 
-  pub string_none : (u ≡ 1 → ⊥) → (u ≡ 2 → ⊥) → t ≡ plus m t (string_adds u w)
+  pub string_none : (u ≡ 1 → ⊥) → (u ≡ 2 → ⊥) → Some t ≡ plus m t (string_adds u w)
   unfolding string_adds
   string_none a b = rw (ne_eqb u 1 a, ne_eqb u 2 b) (sym k.is)

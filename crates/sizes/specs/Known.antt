@@ -1,7 +1,7 @@
 -- The memo of the walk: what each entry says of the segment at its place is what the body of that segment adds on that level.
-use Rattle.std.specs.Prelude.{◌≡◌, ℕ, zero, suc, ◌+◌, ◌-◌, ◌≤◌, ◌<◌, min, Bool, true, false, cond, List, [], ◌∷◌, ltb, eqb}
+use Rattle.std.specs.Prelude.{◌≡◌, ℕ, suc, ◌+◌, ◌-◌, ◌≤◌, ◌<◌, min, true, cond, List, ltb, eqb, Option, Some}
 use Rattle.std.proofs.Math.Path.{refl, ap}
-use Rattle.std.proofs.Common.{sym, ◌∙◌, subst, arith}
+use Rattle.std.proofs.Common.{sym, ◌∙◌, arith}
 use borrow.Author.Tests.{lt-ltb, le-ltb, eq-eqb, ne_eqb, eqb-false, ltb-true, ltb-false}
 use Rattle.model.specs.Bytes.{byte_at, zeros}
 use Rattle.model.specs.Types.{Body}
@@ -55,15 +55,15 @@ not_cut a r e n =
     (λ q. let l = ltb-false a 4294967295 q in absurd (n (omega (arith, e, l))))
 
 module _ {t : List ℕ} {st : Store} (m : List ℕ) (k : Known t st m) (e at level : ℕ) (room : Room) (before after : Sizes)
-    (going : before.over ≡ false) (on : after.over ≡ false) (is : after ≡ plus room before (inner_adds level t st (record_at segment_codec t at).body)) where
+    (is : Some after ≡ plus room before (inner_adds level t st (record_at segment_codec t at).body)) where
   abbrev own : Added
   own = inner_adds level t st (record_at segment_codec t at).body
 
   between : (after.calls ≡ 4294967295 → ⊥) → difference before after ≡ own
   between n =
-      let x = exact_contents room before after own going on is in
-      let y = exact_segments room before after own going on is in
-      let z = exact_calls room before after own going on is in
+      let x = exact_contents room before after own is in
+      let y = exact_segments room before after own is in
+      let z = exact_calls room before after own is in
       let full : after.calls ≡ before.calls + own.calls = not_cut (before.calls + own.calls) after.calls z n in
       same_added (omega (arith, x)) (omega (arith, y)) (omega (arith, full))
 
@@ -102,7 +102,7 @@ body_kind : (tp : List ℕ) (at : ℕ) → (record_at segment_codec tp at).body.
 unfolding body_at
 body_kind tp at = ap (λ (b : Body). b.kind) (sym (segment_body tp at))
 
-pub text_adds : (m : Room) (t : Sizes) (tp : List ℕ) (st : Store) (at level : ℕ) {r : Sizes} → (level ≡ 0 → ⊥) → byte_at tp (at + 3) ≡ 0 → r ≡ plus m t one_call
+pub text_adds : (m : Room) (t : Sizes) (tp : List ℕ) (st : Store) (at level : ℕ) {r : Option Sizes} → (level ≡ 0 → ⊥) → byte_at tp (at + 3) ≡ 0 → r ≡ plus m t one_call
     → r ≡ plus m t (inner_adds level tp st (record_at segment_codec tp at).body)
 text_adds m t tp st at level z k q =
     let b = (record_at segment_codec tp at).body in

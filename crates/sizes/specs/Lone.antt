@@ -1,5 +1,5 @@
 -- A run of one segment, in a store of one layer: found without a look at the layers, and walked without the loop.
-use Rattle.std.specs.Prelude.{◌≡◌, ℕ, zero, suc, ◌+◌, ◌*◌, ◌≤◌, ◌<◌, Bool, true, false, cond, ◌&&◌, List, length, get_or, leb, ltb, eqb}
+use Rattle.std.specs.Prelude.{◌≡◌, ℕ, ◌+◌, ◌*◌, ◌≤◌, ◌<◌, true, cond, ◌&&◌, List, length, get_or, ltb, eqb, Option, Some, None}
 use Rattle.std.proofs.Math.Path.{refl}
 use Rattle.std.proofs.Common.{sym, ap, ◌∙◌, arith}
 use borrow.Author.Tests.{lt-ltb, le-ltb, eq-eqb, ne_eqb, eqb-true, ltb-true}
@@ -83,9 +83,9 @@ module _ (m : Room) (t : Sizes) (inner : Body → Added) (tp : List ℕ) (st : S
       let h = segments_inside tp st f start len 1 place (λ q. absurd (omega (arith, q))) counted (found st start place e z).place_is in
       omega (arith, h)
 
-  module _ {u : Sizes} (q : u ≡ plus m t (new_segments 1)) where
-    pub lone_over : u.over ≡ true → u ≡ plus m t (segment_run_adds inner tp st start len)
-    lone_over o = segments_over m t inner tp st start len 1 counted q o
+  pub lone_over : None ≡ plus m t (new_segments 1) → None ≡ plus m t (segment_run_adds inner tp st start len)
+  lone_over q = segments_over m t inner tp st start len 1 counted q
 
-    pub lone_then : {r : Sizes} → r ≡ plus m u (inner (record_at segment_codec tp place).body) → r ≡ plus m t (segment_run_adds inner tp st start len)
-    lone_then a = segments_then m t inner tp st start len 1 counted q place (found st start place e z).place_is (a ∙ ap (plus m u) (sym (one_segment inner tp place)))
+  pub lone_then : {u : Sizes} → Some u ≡ plus m t (new_segments 1) → {r : Option Sizes} → r ≡ plus m u (inner (record_at segment_codec tp place).body)
+      → r ≡ plus m t (segment_run_adds inner tp st start len)
+  lone_then {u} q a = segments_then m t inner tp st start len 1 counted q place (found st start place e z).place_is (a ∙ ap (plus m u) (sym (one_segment inner tp place)))

@@ -1,11 +1,11 @@
 -- Rubies whose base and reading are plain contents of a store of one layer: each content is one call, and nothing lies below.
-use Rattle.std.specs.Prelude.{◌≡◌, ℕ, zero, suc, ◌+◌, ◌*◌, ◌≤◌, ◌<◌, Bool, true, false, cond, ◌&&◌, List, [], ◌∷◌, length, get_or, leb, ltb, eqb}
+use Rattle.std.specs.Prelude.{◌≡◌, ℕ, ◌+◌, ◌*◌, ◌≤◌, ◌<◌, Bool, true, false, ◌&&◌, List, [], ◌∷◌, length, get_or, leb, ltb, eqb, Option, Some, None}
 use Rattle.std.proofs.Math.Path.{refl}
 use Rattle.std.proofs.Common.{sym, ap, ap₂, ◌∙◌, arith}
-use borrow.Author.Tests.{le-leb, lt-leb, eq-eqb, ne_eqb, lt-ltb, le-ltb, leb-true, eqb-true, eqb-false, ltb-true, ltb-false}
+use borrow.Author.Tests.{le-leb, lt-leb, eq-eqb, ne_eqb, lt-ltb, le-ltb, leb-true, eqb-true, eqb-false}
 use Rattle.model.specs.Lists.{all}
 use Rattle.model.specs.Bytes.{byte_at}
-use Rattle.model.specs.Types.{Body, Content, SourceNode}
+use Rattle.model.specs.Types.{Body, Content}
 use Rattle.model.specs.WellFormed.{word_of}
 use Rattle.model.specs.Tape.{record_at, records_at, operands_at, content_codec, node_codec, fields_of, field_table, node_fields}
 use Rattle.laws.specs.Lists.{both}
@@ -17,9 +17,8 @@ use Rattle.store.specs.Standing.{content_place, length_records}
 use Rattle.store.specs.Stored.{OfTape}
 use Rattle.store.specs.declared.Store.{Store}
 use Rattle.ids.specs.Tests.{contents_in}
-use Rattle.sizes.specs.Added.{Added, nothing, one_call, new_contents, add, add_all, add_nothing, same_added}
-use Rattle.sizes.specs.Trees.{run_of_contents}
-use Rattle.sizes.specs.Capped.{plus, plus_plus}
+use Rattle.sizes.specs.Added.{Added, nothing, add, add_all, add_nothing, same_added}
+use Rattle.sizes.specs.Capped.{plus, plus_then, plus_stop}
 use Rattle.sizes.specs.InPlace.{content_count, content_adds, contents_add, content_run_adds, fields_add, field_adds, inner_adds, node_adds, contents_inside, content_count_in}
 use Rattle.sizes.specs.Answers.{above_zero, node_class}
 use Rattle.sizes.specs.OneLayer.{only_range, only_layer}
@@ -124,8 +123,8 @@ kind_at : (t : List ℕ) (p : ℕ) → (body_at t p).kind ≡ byte_at t p
 unfolding body_at
 kind_at t p = refl
 
-pub ruby_adds : (m : Room) (s : Sizes) (t : List ℕ) (st : Store) (p : Run) (w : Whole st p) (at : ℕ) {r : Sizes} → plain_ruby t p at ≡ true
-    → r ≡ plus m (plus m s (plain_adds (word_of (body_at t (at + 15)) 1))) (plain_adds (word_of (body_at t (at + 15)) 3))
+pub ruby_adds : (m : Room) (s : Sizes) (t : List ℕ) (st : Store) (p : Run) (w : Whole st p) (at : ℕ) {r : Option Sizes} → plain_ruby t p at ≡ true
+    → r ≡ plus m s (add (plain_adds (word_of (body_at t (at + 15)) 1)) (plain_adds (word_of (body_at t (at + 15)) 3)))
     → r ≡ plus m s (node_adds t st (record_at node_codec t at))
 unfolding plain_ruby node_adds node_fields
 ruby_adds m s t st p w at h q =
@@ -137,14 +136,20 @@ ruby_adds m s t st p w at h q =
     let body : fields_add inner t st b (fields_of b) ≡ add (plain_adds (word_of b 1)) (plain_adds (word_of b 3)) =
     ruby_fields inner t st b (kind_at t (at + 15) ∙ eqb-true (byte_at t (at + 15)) 1 two.0)
     ∙ ap₂ (λ (x y : Added). add x y) (run_adds inner t st p w (word_of b 0) (word_of b 1) three.0) (run_adds inner t st p w (word_of b 2) (word_of b 3) three.1) in
-    q ∙ plus_plus m s (plain_adds (word_of b 1)) (plain_adds (word_of b 3)) ∙ ap (plus m s) (sym body ∙ ap (λ (x : Body). fields_add inner t st x (fields_of x)) (node_body t at))
+    q ∙ ap (plus m s) (sym body ∙ ap (λ (x : Body). fields_add inner t st x (fields_of x)) (node_body t at))
     ∙ rw (← node_class t at, one.0) refl
 
 -- ---- the code's answers
 
-pub ruby_read : (m : Room) (t : Sizes) (a b : ℕ) {x y : ℕ} {u r : Sizes} → a ≡ x → b ≡ y → u ≡ plus m t (plain_adds a) → r ≡ plus m u (plain_adds b)
-    → r ≡ plus m (plus m t (plain_adds x)) (plain_adds y)
-ruby_read m t a b e f p q = q ∙ ap (λ (v : Sizes). plus m v (plain_adds b)) p ∙ (λ i. plus m (plus m t (plain_adds (e i))) (plain_adds (f i)))
+module _ (m : Room) (t : Sizes) (a b : ℕ) {x y : ℕ} (e : a ≡ x) (f : b ≡ y) where
+  both_read : add (plain_adds a) (plain_adds b) ≡ add (plain_adds x) (plain_adds y)
+  both_read = λ i. add (plain_adds (e i)) (plain_adds (f i))
+
+  pub ruby_over : None ≡ plus m t (plain_adds a) → None ≡ plus m t (add (plain_adds x) (plain_adds y))
+  ruby_over p = plus_stop m t (plain_adds a) p (plain_adds b) ∙ ap (plus m t) both_read
+
+  pub ruby_read : {u : Sizes} → Some u ≡ plus m t (plain_adds a) → {r : Option Sizes} → r ≡ plus m u (plain_adds b) → r ≡ plus m t (add (plain_adds x) (plain_adds y))
+  ruby_read p q = q ∙ plus_then m t (plain_adds a) p (plain_adds b) ∙ ap (plus m t) both_read
 
 pub plain_tag : (t : List ℕ) (at : ℕ) → eqb (byte_at t (at + 1)) 0 ≡ is_plain (record_at content_codec t at)
 unfolding is_plain record_at operands_at content_codec

@@ -1,13 +1,13 @@
 // Document 01 section 5: how many contents, segments and calls of `intern` grafting adds, read in place. One walk goes node →
-// content run → segment run → node, the segment level falling on each turn. Every sum says 'over' once it passes the room that
-// the caller has left under number 3; a run's length is added before the run is walked, and no walk goes on once it is over: a
+// content run → segment run → node, the segment level falling on each turn. A sum is None once it passes the room that
+// the caller has left under number 3; a run's length is added before the run is walked, and no walk goes on from None: a
 // tape of a few hundred bytes whose runs are shared can stand for 2^33 items. What the body of a segment adds is remembered in a memo, so
 // that a shared one is walked once. specs/Trees.antt says what the graft of a tree adds, specs/InPlace.antt what is read, specs/Capped.antt
 // how it is summed, specs/Known.antt what the memo says, and specs/Shown.antt that for the store of the tape it is what the graft of the
 // shown trees adds.
 #![tactic(auto)]
 
-ghost use Rattle.std.specs.Prelude.{◌≡◌, ℕ, ◌+◌, ◌*◌, ◌≤◌, ◌<◌, min, true, false, List, length};
+ghost use Rattle.std.specs.Prelude.{◌≡◌, ℕ, ◌+◌, ◌*◌, ◌≤◌, ◌<◌, min, true, List, length, Option, Some};
 ghost use Rattle.model.specs.Lists.{all};
 ghost use Rattle.model.specs.WellFormed.{word_of};
 ghost use Rattle.model.specs.Tape.{record_at, records_at, content_codec, segment_codec, node_codec, places, book_at};
@@ -18,8 +18,8 @@ ghost use Rattle.ids.specs.Whole.{IdsFit, ids_in};
 ghost use Rattle.store.specs.Stored.{OfTape};
 ghost use Rattle.sizes.specs.Trees.{nodes_size};
 ghost use Rattle.sizes.specs.Order.{field_word};
-ghost use Rattle.sizes.specs.Capped.{over_sizes, no_sizes, capped, sizes_in, plus, Kept};
-ghost use Rattle.sizes.specs.Added.{Added};
+ghost use Rattle.sizes.specs.Capped.{capped, sizes_in, plus, Kept};
+ghost use Rattle.sizes.specs.Added.{Added, add};
 ghost use Rattle.sizes.specs.Again.{times};
 ghost use Rattle.sizes.specs.Calls.{Limited};
 ghost use Rattle.sizes.specs.Known.{Known, added_in, note_in};
@@ -35,14 +35,16 @@ pub struct Room {
     pub segments: u32,
 }
 
-// What grafting adds; if `over`, more than there is room for, and the numbers are 0. Calls stop at 4294967295.
+// What grafting adds. Calls stop at 4294967295.
 #[derive(Clone, Copy)]
 pub struct Sizes {
     pub contents: u32,
     pub segments: u32,
     pub calls: u32,
-    pub over: bool,
 }
+
+// The id of a missing string.
+const NO_STRING: u32 = 4294967295;
 
 // The use of a field, the word at which it begins, and the word behind that.
 #[derive(Clone, Copy)]
@@ -52,71 +54,39 @@ pub struct FieldWords {
     pub second: u32,
 }
 
-fn wide(x: u32) -> usize
-    ensures { result ≡ x }
-{
-    x as usize
-}
-
-fn calls_sum(a: u32, b: u32) -> u32
-    ensures { result ≡ min (a + b) 4294967295 }
-{
-    if b <= 4294967295 - a {
-        return a + b;
-    }
-    4294967295
-}
-
-fn over() -> Sizes
-    ensures { result ≡ over_sizes }
-{
-    Sizes {
-        contents: 0,
-        segments: 0,
-        calls: 0,
-        over: true,
-    }
-}
-
-// So much more; what is over stays so.
-pub fn with_added(room: Room, t: Sizes, contents: u32, segments: u32, calls: u32) -> Sizes
+// So much more; None where there is no room for it.
+pub fn with_added(room: Room, t: Sizes, contents: u32, segments: u32, calls: u32) -> Option<Sizes>
     ensures { result ≡ plus room t (record { contents = contents; segments = segments; calls = calls }) }
 {
-    if t.over {
-        return t;
+    let c = t.contents as usize + contents as usize;
+    let s = t.segments as usize + segments as usize;
+    if (room.contents as usize) < c {
+        return None;
     }
-    let c = wide(t.contents) + wide(contents);
-    let s = wide(t.segments) + wide(segments);
-    if wide(room.contents) < c {
-        return over();
+    if (room.segments as usize) < s {
+        return None;
     }
-    if wide(room.segments) < s {
-        return over();
-    }
-    Sizes {
+    Some(Sizes {
         contents: c as u32,
         segments: s as u32,
-        calls: calls_sum(t.calls, calls),
-        over: false,
-    }
+        calls: t.calls.saturating_add(calls),
+    })
 }
 
 // What was added from `before` to `after`, added k times more: so many items that are alike need not be walked one by one.
-fn again(room: Room, before: Sizes, after: Sizes, k: usize) -> Sizes
-    requires over_value { (before.over ≡ false) × (after.over ≡ false) × Kept room after }
+fn again(room: Room, before: Sizes, after: Sizes, k: usize) -> Option<Sizes>
+    requires kept { Kept room after }
     requires contents_le_contents { (before.contents ≤ after.contents) × (before.segments ≤ after.segments) × (before.calls ≤ after.calls) }
-    ensures { (a : Added) → after ≡ plus room before a → result ≡ plus room after (times a k) }
+    ensures { (a : Added) → Some after ≡ plus room before a → result ≡ plus room after (times a k) }
 {
     let contents = after.contents - before.contents;
     let segments = after.segments - before.segments;
     let calls = after.calls - before.calls;
     let mut u = after;
-    let mut j = 0;
-    while j < k {
-        u = with_added(room, u, contents, segments, calls);
-        j += 1;
+    for _time in 0..k {
+        u = with_added(room, u, contents, segments, calls)?;
     }
-    u
+    Some(u)
 }
 
 // How many contents a range names, and how many segments; none where it is no range.
@@ -125,9 +95,10 @@ fn content_count(st: store::Store, start: u32, len: u32) -> u32
     ensures { result ≡ content_count st start len }
 {
     if ids::contents_in(st, start, len) {
-        return len;
+        len
+    } else {
+        0
     }
-    0
 }
 
 fn segment_count(st: store::Store, start: u32, len: u32) -> u32
@@ -135,35 +106,25 @@ fn segment_count(st: store::Store, start: u32, len: u32) -> u32
     ensures { result ≡ segment_count st start len }
 {
     if ids::segments_in(st, start, len) {
-        return len;
+        len
+    } else {
+        0
     }
-    0
 }
 
 // Section 5. Fields go in the Rust's order: which of the six words comes at place j.
+#[tactic(auto, unfolding(crate::specs::Order::field_word))]
 pub fn field_word(kind: u8, j: usize) -> usize
     requires { j < 6 }
     ensures { (result ≡ field_word kind j) × (result < 6) }
 {
-    if kind == 3 {
-        if j == 0 {
-            return 1;
-        }
-        if j == 1 {
-            return 0;
-        }
-        return j;
+    match (kind, j) {
+        (3, 0) => 1,
+        (3, 1) => 0,
+        (11, 3) => 4,
+        (11, 4) => 3,
+        _ => j,
     }
-    if kind == 11 {
-        if j == 3 {
-            return 4;
-        }
-        if j == 4 {
-            return 3;
-        }
-        return j;
-    }
-    j
 }
 
 pub fn field_at(tape: &[u8], at: usize, j: usize) -> FieldWords
@@ -180,24 +141,23 @@ pub fn field_at(tape: &[u8], at: usize, j: usize) -> FieldWords
 }
 
 // A string is one call, a missing one none; so is a word at which no field begins.
-fn string_sizes(room: Room, t: Sizes, usage: u8, w: u32) -> Sizes
+fn string_sizes(room: Room, t: Sizes, usage: u8, w: u32) -> Option<Sizes>
     requires { Kept room t }
     ensures { result ≡ plus room t (string_adds usage w) }
 {
-    if usage == 1 {
-        return with_added(room, t, 0, 0, 1);
+    match usage {
+        1 => with_added(room, t, 0, 0, 1),
+        2 => if w == NO_STRING {
+            Some(t)
+        } else {
+            with_added(room, t, 0, 0, 1)
+        },
+        _ => Some(t),
     }
-    if usage == 2 {
-        if w == 4294967295 {
-            return t;
-        }
-        return with_added(room, t, 0, 0, 1);
-    }
-    t
 }
 
 // What an entry of the memo says, added.
-fn with_entry(room: Room, t: Sizes, memo: &[u32], e: usize) -> Sizes
+fn with_entry(room: Room, t: Sizes, memo: &[u32], e: usize) -> Option<Sizes>
     requires { 5 * e + 5 ≤ length memo.now }
     ensures { result ≡ plus room t (added_in (entry_in memo.now e)) }
 {
@@ -237,23 +197,18 @@ fn body_sizes(
     t: Sizes,
     at: usize,
     level: u8,
-) -> Sizes
+) -> Option<Sizes>
     requires of_tape { OfTape tape.now st × Known tape.now st memo.old }
     requires kept { Kept room t }
     requires at_in_bounds { at + 34 ≤ length tape.now }
     ensures { (result ≡ plus room t (body_adds level tape.now st (body_at tape.now at))) × Known tape.now st memo.new }
 {
     let mut u = t;
-    let mut j = 0;
-    while j < 6 {
+    for j in 0..6 {
         let f = field_at(tape, at, j);
-        u = field_sizes(tape, st, memo, room, u, f, level);
-        if u.over {
-            return u;
-        }
-        j += 1;
+        u = field_sizes(tape, st, memo, room, u, f, level)?;
     }
-    u
+    Some(u)
 }
 
 #[cycle(tree_sizes)]
@@ -265,18 +220,16 @@ fn field_sizes(
     t: Sizes,
     f: FieldWords,
     level: u8,
-) -> Sizes
+) -> Option<Sizes>
     requires of_tape { OfTape tape.now st × Known tape.now st memo.old }
     requires kept { Kept room t }
     ensures { (result ≡ plus room t (used_adds (inner_adds level tape.now st) tape.now st f)) × Known tape.now st memo.new }
 {
-    if f.usage == 3 {
-        return content_run_sizes(tape, st, memo, room, t, f.first, f.second, level);
+    match f.usage {
+        3 => content_run_sizes(tape, st, memo, room, t, f.first, f.second, level),
+        5 => segment_run_sizes(tape, st, memo, room, t, f.first, f.second, level),
+        _ => string_sizes(room, t, f.usage, f.first),
     }
-    if f.usage == 5 {
-        return segment_run_sizes(tape, st, memo, room, t, f.first, f.second, level);
-    }
-    string_sizes(room, t, f.usage, f.first)
 }
 
 // Section 5. A run of contents that a body of that level names, with what is pushed before it.
@@ -290,18 +243,15 @@ fn content_run_sizes(
     start: u32,
     len: u32,
     level: u8,
-) -> Sizes
+) -> Option<Sizes>
     requires of_tape { OfTape tape.now st × Known tape.now st memo.old }
     requires kept { Kept room t }
     ensures { (result ≡ plus room t (content_run_adds (inner_adds level tape.now st) tape.now st start len)) × Known tape.now st memo.new }
 {
     let n = content_count(st, start, len);
-    let u = with_added(room, t, n, 0, 0);
-    if u.over {
-        return u;
-    }
+    let u = with_added(room, t, n, 0, 0)?;
     if n == 0 {
-        return u;
+        return Some(u);
     }
     let at = store::content_place(st, start);
     contents_walk(tape, st, memo, room, u, at, n as usize, level)
@@ -318,7 +268,7 @@ fn contents_walk(
     at: usize,
     count: usize,
     level: u8,
-) -> Sizes
+) -> Option<Sizes>
     requires of_tape { OfTape tape.now st × Known tape.now st memo.old }
     requires kept { Kept room t }
     requires count_in_bounds { at + 10 * count ≤ length tape.now }
@@ -327,18 +277,12 @@ fn contents_walk(
     let mut u = t;
     let mut i = 0;
     while i < count {
-        let next = content_sizes(tape, st, memo, room, u, at + 10 * i, level);
-        if next.over {
-            return next;
-        }
+        let next = content_sizes(tape, st, memo, room, u, at + 10 * i, level)?;
         let k = alike::contents_alike(tape, at + 10 * i, count - i - 1);
-        u = again(room, u, next, k);
-        if u.over {
-            return u;
-        }
+        u = again(room, u, next, k)?;
         i += 1 + k;
     }
-    u
+    Some(u)
 }
 
 // Where segment i of a store of one layer stands, 0 for any other. By single fields of the store, which costs no copy of it.
@@ -354,7 +298,7 @@ fn lone_place(st: store::Store, i: u32) -> usize
     if st.totals.segments <= i {
         return 0;
     }
-    10 + 5 * wide(st.totals.strings) + 10 * wide(st.totals.contents) + 37 * wide(i)
+    10 + 5 * st.totals.strings as usize + 10 * st.totals.contents as usize + 37 * i as usize
 }
 
 // Section 5. Plain is a string, Segments a run; one of a single segment is that segment.
@@ -367,7 +311,7 @@ fn content_sizes(
     t: Sizes,
     at: usize,
     level: u8,
-) -> Sizes
+) -> Option<Sizes>
     requires of_tape { OfTape tape.now st × Known tape.now st memo.old }
     requires kept { Kept room t }
     requires at_in_bounds { at + 10 ≤ length tape.now }
@@ -384,10 +328,7 @@ fn content_sizes(
     if place == 0 {
         return segment_run_sizes(tape, st, memo, room, t, c.first, c.second, level);
     }
-    let u = with_added(room, t, 0, 1, 0);
-    if u.over {
-        return u;
-    }
+    let u = with_added(room, t, 0, 1, 0)?;
     segment_sizes(tape, st, memo, room, u, place, level)
 }
 
@@ -402,18 +343,15 @@ fn segment_run_sizes(
     start: u32,
     len: u32,
     level: u8,
-) -> Sizes
+) -> Option<Sizes>
     requires of_tape { OfTape tape.now st × Known tape.now st memo.old }
     requires kept { Kept room t }
     ensures { (result ≡ plus room t (segment_run_adds (inner_adds level tape.now st) tape.now st start len)) × Known tape.now st memo.new }
 {
     let n = segment_count(st, start, len);
-    let u = with_added(room, t, 0, n, 0);
-    if u.over {
-        return u;
-    }
+    let u = with_added(room, t, 0, n, 0)?;
     if n == 0 {
-        return u;
+        return Some(u);
     }
     let at = store::segment_place(st, start);
     segments_walk(tape, st, memo, room, u, at, n as usize, level)
@@ -430,7 +368,7 @@ fn segments_walk(
     at: usize,
     count: usize,
     level: u8,
-) -> Sizes
+) -> Option<Sizes>
     requires of_tape { OfTape tape.now st × Known tape.now st memo.old }
     requires kept { Kept room t }
     requires count_in_bounds { at + 37 * count ≤ length tape.now }
@@ -439,18 +377,12 @@ fn segments_walk(
     let mut u = t;
     let mut i = 0;
     while i < count {
-        let next = segment_sizes(tape, st, memo, room, u, at + 37 * i, level);
-        if next.over {
-            return next;
-        }
+        let next = segment_sizes(tape, st, memo, room, u, at + 37 * i, level)?;
         let k = alike::segments_alike(tape, at + 37 * i, count - i - 1);
-        u = again(room, u, next, k);
-        if u.over {
-            return u;
-        }
+        u = again(room, u, next, k)?;
         i += 1 + k;
     }
-    u
+    Some(u)
 }
 
 // The body of a segment is of the level below; below level 0 there is none. A text is one call; what is in the memo is not walked again.
@@ -463,14 +395,14 @@ fn segment_sizes(
     t: Sizes,
     at: usize,
     level: u8,
-) -> Sizes
+) -> Option<Sizes>
     requires of_tape { OfTape tape.now st × Known tape.now st memo.old }
     requires kept { Kept room t }
     requires at_in_bounds { at + 37 ≤ length tape.now }
     ensures { (result ≡ plus room t (inner_adds level tape.now st (record_at segment_codec tape.now at).body)) × Known tape.now st memo.new }
 {
     if level == 0 {
-        return t;
+        return Some(t);
     }
     if tape[at + 3] == 0 {
         return with_added(room, t, 0, 0, 1);
@@ -493,18 +425,15 @@ fn segment_walk(
     at: usize,
     level: u8,
     e: usize,
-) -> Sizes
+) -> Option<Sizes>
     requires of_tape { OfTape tape.now st × Known tape.now st memo.old }
     requires kept { Kept room t }
     requires at_in_bounds { (at + 37 ≤ length tape.now) × (1 ≤ level) × (e < 4096) }
     ensures { (result ≡ plus room t (inner_adds level tape.now st (record_at segment_codec tape.now at).body)) × Known tape.now st memo.new }
 {
-    let r = body_sizes(tape, st, memo, room, t, at + 3, level - 1);
-    if r.over {
-        return r;
-    }
+    let r = body_sizes(tape, st, memo, room, t, at + 3, level - 1)?;
     note(memo, e, at, level, t, r);
-    r
+    Some(r)
 }
 
 // The two walks for a caller that has no memo.
@@ -516,7 +445,7 @@ pub fn contents_sizes(
     at: usize,
     count: usize,
     level: u8,
-) -> Sizes
+) -> Option<Sizes>
     requires of_tape { OfTape tape.now st }
     requires kept { Kept room t }
     requires count_in_bounds { at + 10 * count ≤ length tape.now }
@@ -534,7 +463,7 @@ pub fn segments_sizes(
     at: usize,
     count: usize,
     level: u8,
-) -> Sizes
+) -> Option<Sizes>
     requires of_tape { OfTape tape.now st }
     requires kept { Kept room t }
     requires count_in_bounds { at + 37 * count ≤ length tape.now }
@@ -562,7 +491,7 @@ fn only_contents(st: store::Store) -> places::Run
     }
     places::Run {
         at: store::content_place(st, 0),
-        count: wide(st.totals.contents),
+        count: st.totals.contents as usize,
     }
 }
 
@@ -570,14 +499,7 @@ fn plain_contents(tape: &[u8], at: usize, count: usize) -> bool
     requires { at + 10 * count ≤ length tape.now }
     ensures { result ≡ all is_plain (records_at content_codec tape.now at count) }
 {
-    let mut i = 0;
-    while i < count {
-        if !is_plain(tape, at + 10 * i) {
-            return false;
-        }
-        i += 1;
-    }
-    true
+    (0..count).all(|i| is_plain(tape, at + 10 * i))
 }
 
 fn is_plain(tape: &[u8], at: usize) -> bool
@@ -592,8 +514,8 @@ fn plain_run(tape: &[u8], own: places::Run, start: u32, len: u32) -> bool
     requires { own.at + 10 * own.count ≤ length tape.now }
     ensures { result ≡ plain_run tape.now own start len }
 {
-    let from = wide(start);
-    let n = wide(len);
+    let from = start as usize;
+    let n = len as usize;
     if own.count < from + n {
         return false;
     }
@@ -629,13 +551,13 @@ fn plain_ruby(tape: &[u8], own: places::Run, at: usize) -> bool
 }
 
 // Each content of such a Ruby is one call.
-fn ruby_sizes(tape: &[u8], room: Room, t: Sizes, at: usize) -> Sizes
+fn ruby_sizes(tape: &[u8], room: Room, t: Sizes, at: usize) -> Option<Sizes>
     requires { at + 49 ≤ length tape.now }
-    ensures { result ≡ plus room (plus room t (plain_adds (word_of (body_at tape.now (at + 15)) 1))) (plain_adds (word_of (body_at tape.now (at + 15)) 3)) }
+    ensures { result ≡ plus room t (add (plain_adds (word_of (body_at tape.now (at + 15)) 1)) (plain_adds (word_of (body_at tape.now (at + 15)) 3))) }
 {
     let base = records::body_word(tape, at + 15, 1);
     let reading = records::body_word(tape, at + 15, 3);
-    let u = with_added(room, t, base, 0, base);
+    let u = with_added(room, t, base, 0, base)?;
     with_added(room, u, reading, 0, reading)
 }
 
@@ -648,7 +570,7 @@ fn node_sizes(
     room: Room,
     t: Sizes,
     at: usize,
-) -> Sizes
+) -> Option<Sizes>
     requires of_tape { OfTape tape.now st × Known tape.now st memo.old × Whole st own × (own.at + 10 * own.count ≤ length tape.now) }
     requires kept { Kept room t }
     requires at_in_bounds { at + 49 ≤ length tape.now }
@@ -658,20 +580,9 @@ fn node_sizes(
         return ruby_sizes(tape, room, t, at);
     }
     if 2 <= tape[at + 1] {
-        return t;
+        return Some(t);
     }
     body_sizes(tape, st, memo, room, t, at + 15, 33)
-}
-
-fn none() -> Sizes
-    ensures { result ≡ no_sizes }
-{
-    Sizes {
-        contents: 0,
-        segments: 0,
-        calls: 0,
-        over: false,
-    }
 }
 
 // Section 5. The nodes that stand from `at` on.
@@ -682,26 +593,25 @@ fn nodes_sizes(
     room: Room,
     at: usize,
     count: usize,
-) -> Sizes
+) -> Option<Sizes>
     requires of_tape { OfTape tape.now st × Known tape.now st memo.old }
     requires count_in_bounds { at + 49 * count ≤ length tape.now }
     ensures { result ≡ capped room (nodes_add tape.now st at count) }
 {
     let own = only_contents(st);
-    let mut u = none();
-    let mut i = 0;
-    while i < count {
-        u = node_sizes(tape, st, own, memo, room, u, at + 49 * i);
-        if u.over {
-            return u;
-        }
-        i += 1;
+    let mut u = Sizes {
+        contents: 0,
+        segments: 0,
+        calls: 0,
+    };
+    for i in 0..count {
+        u = node_sizes(tape, st, own, memo, room, u, at + 49 * i)?;
     }
-    u
+    Some(u)
 }
 
 // The same with a memo of our own.
-fn nodes_noted(tape: &[u8], st: store::Store, room: Room, at: usize, count: usize) -> Sizes
+fn nodes_noted(tape: &[u8], st: store::Store, room: Room, at: usize, count: usize) -> Option<Sizes>
     requires of_tape { OfTape tape.now st }
     requires count_in_bounds { at + 49 * count ≤ length tape.now }
     ensures { result ≡ capped room (nodes_add tape.now st at count) }
@@ -711,7 +621,7 @@ fn nodes_noted(tape: &[u8], st: store::Store, room: Room, at: usize, count: usiz
 }
 
 // Without segments there is nothing to remember, and no memo to clear.
-fn nodes_bare(tape: &[u8], st: store::Store, room: Room, at: usize, count: usize) -> Sizes
+fn nodes_bare(tape: &[u8], st: store::Store, room: Room, at: usize, count: usize) -> Option<Sizes>
     requires of_tape { OfTape tape.now st }
     requires count_in_bounds { at + 49 * count ≤ length tape.now }
     ensures { result ≡ capped room (nodes_add tape.now st at count) }
@@ -721,7 +631,7 @@ fn nodes_bare(tape: &[u8], st: store::Store, room: Room, at: usize, count: usize
 }
 
 // Section 5. What the nodes of a tape with these places and this store add, whatever the bytes of its texts are.
-pub fn reading_sizes(tape: &[u8], st: store::Store, p: places::Places, room: Room) -> Sizes
+pub fn reading_sizes(tape: &[u8], st: store::Store, p: places::Places, room: Room) -> Option<Sizes>
     requires ids_fit { IdsFit tape.now st p }
     requires st_value { ids_in tape.now st ≡ true }
     requires limited { Limited room p.nodes.count }

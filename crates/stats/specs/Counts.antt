@@ -17,6 +17,11 @@ stats_of c = record {
 abbrev pub no_stats : InternStats
 no_stats = record { calls = 0; cachehits = 0; tablehits = 0; allocs = 0; longbypass = 0; resizes = 0; probesteps = 0 }
 
+-- the derived default, as its contract has it
+pub default_is : (s : InternStats) → (s.calls ≡ 0) × ((s.cachehits ≡ 0) × ((s.tablehits ≡ 0) × ((s.allocs ≡ 0) × ((s.longbypass ≡ 0) × ((s.resizes ≡ 0) × (s.probesteps ≡ 0)))))) → s ≡ no_stats
+default_is s (calls, (cachehits, (tablehits, (allocs, (longbypass, (resizes, probesteps)))))) =
+    λ i. record { calls = calls i; cachehits = cachehits i; tablehits = tablehits i; allocs = allocs i; longbypass = longbypass i; resizes = resizes i; probesteps = probesteps i }
+
 -- ---- more of one count, the others as they were
 
 abbrev pub plus_call : InternStats → InternStats

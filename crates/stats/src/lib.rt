@@ -1,13 +1,12 @@
-// `InternStats`, section 2 of document 01: the seven counts of the interner. Each thing that is counted has a function to which the record
-// is lent, and which changes its own counts and no other. A call of the interner ends in one of four ways; each is a function by value
-// that lends a local to these.
+// `InternStats`, section 2 of document 01: the seven counts of the interner. Each thing that is counted has a method, which changes its
+// own counts and no other. A call of the interner ends in one of four ways, and each is a method over these.
 #![tactic(auto)]
 
 ghost use Rattle.std.specs.Prelude.{◌≡◌, ◌+◌, ◌^◌, ◌<◌, ◌≤◌};
-ghost use Rattle.stats.specs.Counts.{no_stats, plus_call, plus_cache_hit, plus_bypass, plus_table_hit, plus_alloc, plus_resizes, plus_probes, Counted};
+ghost use Rattle.stats.specs.Counts.{plus_call, plus_cache_hit, plus_bypass, plus_table_hit, plus_alloc, plus_resizes, plus_probes, Counted};
 
-// The Rust's names without their underscores.
-#[derive(Clone, Copy)]
+// The Rust's names without their underscores. By default all are 0, as before the first call.
+#[derive(Clone, Copy, Debug, Default, PartialEq, Eq)]
 pub struct InternStats {
     pub calls: u64,
     pub cachehits: u64,
@@ -18,187 +17,105 @@ pub struct InternStats {
     pub probesteps: u64,
 }
 
-// Before the first call.
-pub fn none() -> InternStats
-    ensures { result ≡ no_stats }
-{
-    InternStats {
-        calls: 0,
-        cachehits: 0,
-        tablehits: 0,
-        allocs: 0,
-        longbypass: 0,
-        resizes: 0,
-        probesteps: 0,
+impl InternStats {
+    // ---- one thing that is counted
+
+    // A call counts itself.
+    pub fn count_call(&mut self)
+        requires { self.old.calls + 1 < 2 ^ 64 }
+        ensures { self.new ≡ plus_call self.old }
+    {
+        self.calls += 1;
     }
-}
 
-// ---- more of one count, by value
+    // The string was the last answer's.
+    pub fn count_cache_hit(&mut self)
+        requires { self.old.cachehits + 1 < 2 ^ 64 }
+        ensures { self.new ≡ plus_cache_hit self.old }
+    {
+        self.cachehits += 1;
+    }
 
-fn plus_call(t: InternStats) -> InternStats
-    requires { t.calls + 1 < 2 ^ 64 }
-    ensures { result ≡ plus_call t }
-{
-    let mut r = t;
-    r.calls = t.calls + 1;
-    r
-}
+    // The string has over 64 bytes: a bypass, and an alloc.
+    pub fn count_bypass(&mut self)
+        requires { (self.old.allocs + 1 < 2 ^ 64) × (self.old.longbypass + 1 < 2 ^ 64) }
+        ensures { self.new ≡ plus_bypass self.old }
+    {
+        self.allocs += 1;
+        self.longbypass += 1;
+    }
 
-fn plus_cache_hit(t: InternStats) -> InternStats
-    requires { t.cachehits + 1 < 2 ^ 64 }
-    ensures { result ≡ plus_cache_hit t }
-{
-    let mut r = t;
-    r.cachehits = t.cachehits + 1;
-    r
-}
+    // The probe ended at an equal string.
+    pub fn count_table_hit(&mut self)
+        requires { self.old.tablehits + 1 < 2 ^ 64 }
+        ensures { self.new ≡ plus_table_hit self.old }
+    {
+        self.tablehits += 1;
+    }
 
-fn plus_bypass(t: InternStats) -> InternStats
-    requires { (t.allocs + 1 < 2 ^ 64) × (t.longbypass + 1 < 2 ^ 64) }
-    ensures { result ≡ plus_bypass t }
-{
-    let mut r = t;
-    r.allocs = t.allocs + 1;
-    r.longbypass = t.longbypass + 1;
-    r
-}
+    // The probe ended at an empty slot.
+    pub fn count_alloc(&mut self)
+        requires { self.old.allocs + 1 < 2 ^ 64 }
+        ensures { self.new ≡ plus_alloc self.old }
+    {
+        self.allocs += 1;
+    }
 
-fn plus_table_hit(t: InternStats) -> InternStats
-    requires { t.tablehits + 1 < 2 ^ 64 }
-    ensures { result ≡ plus_table_hit t }
-{
-    let mut r = t;
-    r.tablehits = t.tablehits + 1;
-    r
-}
+    // The table was doubled so often before the call probed it: once or not.
+    pub fn count_resizes(&mut self, n: u64)
+        requires { self.old.resizes + n < 2 ^ 64 }
+        ensures { self.new ≡ plus_resizes self.old n }
+    {
+        self.resizes += n;
+    }
 
-fn plus_alloc(t: InternStats) -> InternStats
-    requires { t.allocs + 1 < 2 ^ 64 }
-    ensures { result ≡ plus_alloc t }
-{
-    let mut r = t;
-    r.allocs = t.allocs + 1;
-    r
-}
+    // The call inspected so many slots.
+    pub fn count_probes(&mut self, n: u64)
+        requires { self.old.probesteps + n < 2 ^ 64 }
+        ensures { self.new ≡ plus_probes self.old n }
+    {
+        self.probesteps += n;
+    }
 
-fn plus_resizes(t: InternStats, n: u64) -> InternStats
-    requires { t.resizes + n < 2 ^ 64 }
-    ensures { result ≡ plus_resizes t n }
-{
-    let mut r = t;
-    r.resizes = t.resizes + n;
-    r
-}
+    // ---- a call, by the way it ends
 
-fn plus_probes(t: InternStats, n: u64) -> InternStats
-    requires { t.probesteps + n < 2 ^ 64 }
-    ensures { result ≡ plus_probes t n }
-{
-    let mut r = t;
-    r.probesteps = t.probesteps + n;
-    r
-}
+    pub fn cache_hit(mut self) -> InternStats
+        requires { Counted self × (self.calls < 2 ^ 32) }
+        ensures { result ≡ plus_cache_hit (plus_call self) }
+    {
+        self.count_call();
+        self.count_cache_hit();
+        self
+    }
 
-// ---- of a record that is lent
+    pub fn bypass(mut self) -> InternStats
+        requires { Counted self × (self.calls < 2 ^ 32) }
+        ensures { result ≡ plus_bypass (plus_call self) }
+    {
+        self.count_call();
+        self.count_bypass();
+        self
+    }
 
-// A call counts itself.
-pub fn count_call(s: &mut InternStats)
-    requires { s.old.calls + 1 < 2 ^ 64 }
-    ensures { s.new ≡ plus_call s.old }
-{
-    *s = plus_call(*s);
-}
+    pub fn table_hit(mut self, resized: u64, steps: u64) -> InternStats
+        requires { Counted self × (self.calls < 2 ^ 32) × (resized ≤ 1) × (steps ≤ 4096) }
+        ensures { result ≡ plus_table_hit (plus_probes (plus_resizes (plus_call self) resized) steps) }
+    {
+        self.count_call();
+        self.count_resizes(resized);
+        self.count_probes(steps);
+        self.count_table_hit();
+        self
+    }
 
-// The string was the last answer's.
-pub fn count_cache_hit(s: &mut InternStats)
-    requires { s.old.cachehits + 1 < 2 ^ 64 }
-    ensures { s.new ≡ plus_cache_hit s.old }
-{
-    *s = plus_cache_hit(*s);
-}
-
-// The string has over 64 bytes: a bypass, and an alloc.
-pub fn count_bypass(s: &mut InternStats)
-    requires { (s.old.allocs + 1 < 2 ^ 64) × (s.old.longbypass + 1 < 2 ^ 64) }
-    ensures { s.new ≡ plus_bypass s.old }
-{
-    *s = plus_bypass(*s);
-}
-
-// The probe ended at an equal string.
-pub fn count_table_hit(s: &mut InternStats)
-    requires { s.old.tablehits + 1 < 2 ^ 64 }
-    ensures { s.new ≡ plus_table_hit s.old }
-{
-    *s = plus_table_hit(*s);
-}
-
-// The probe ended at an empty slot.
-pub fn count_alloc(s: &mut InternStats)
-    requires { s.old.allocs + 1 < 2 ^ 64 }
-    ensures { s.new ≡ plus_alloc s.old }
-{
-    *s = plus_alloc(*s);
-}
-
-// The table was doubled so often before the call probed it: once or not.
-pub fn count_resizes(s: &mut InternStats, n: u64)
-    requires { s.old.resizes + n < 2 ^ 64 }
-    ensures { s.new ≡ plus_resizes s.old n }
-{
-    *s = plus_resizes(*s, n);
-}
-
-// The call inspected so many slots.
-pub fn count_probes(s: &mut InternStats, n: u64)
-    requires { s.old.probesteps + n < 2 ^ 64 }
-    ensures { s.new ≡ plus_probes s.old n }
-{
-    *s = plus_probes(*s, n);
-}
-
-// ---- a call, by the way it ends
-
-pub fn cache_hit(t: InternStats) -> InternStats
-    requires { Counted t × (t.calls < 2 ^ 32) }
-    ensures { result ≡ plus_cache_hit (plus_call t) }
-{
-    let mut u = t;
-    count_call(&mut u);
-    count_cache_hit(&mut u);
-    u
-}
-
-pub fn bypass(t: InternStats) -> InternStats
-    requires { Counted t × (t.calls < 2 ^ 32) }
-    ensures { result ≡ plus_bypass (plus_call t) }
-{
-    let mut u = t;
-    count_call(&mut u);
-    count_bypass(&mut u);
-    u
-}
-
-pub fn table_hit(t: InternStats, resized: u64, steps: u64) -> InternStats
-    requires { Counted t × (t.calls < 2 ^ 32) × (resized ≤ 1) × (steps ≤ 4096) }
-    ensures { result ≡ plus_table_hit (plus_probes (plus_resizes (plus_call t) resized) steps) }
-{
-    let mut u = t;
-    count_call(&mut u);
-    count_resizes(&mut u, resized);
-    count_probes(&mut u, steps);
-    count_table_hit(&mut u);
-    u
-}
-
-pub fn table_alloc(t: InternStats, resized: u64, steps: u64) -> InternStats
-    requires { Counted t × (t.calls < 2 ^ 32) × (resized ≤ 1) × (steps ≤ 4096) }
-    ensures { result ≡ plus_alloc (plus_probes (plus_resizes (plus_call t) resized) steps) }
-{
-    let mut u = t;
-    count_call(&mut u);
-    count_resizes(&mut u, resized);
-    count_probes(&mut u, steps);
-    count_alloc(&mut u);
-    u
+    pub fn table_alloc(mut self, resized: u64, steps: u64) -> InternStats
+        requires { Counted self × (self.calls < 2 ^ 32) × (resized ≤ 1) × (steps ≤ 4096) }
+        ensures { result ≡ plus_alloc (plus_probes (plus_resizes (plus_call self) resized) steps) }
+    {
+        self.count_call();
+        self.count_resizes(resized);
+        self.count_probes(steps);
+        self.count_alloc();
+        self
+    }
 }

@@ -53,11 +53,6 @@ module _ (count words : ℕ) where
       let m : count / k < words + 1 = (div-lt_iff_lt-mul {k = k} (omega arith)).1 h in
       omega (arith, m)
 
-  -- the returns of `step_of`
-  pub step_is : (a : ℕ) → a ≡ count → a / (words + 1) + 1 ≡ step_of count words
-  unfolding step_of
-  step_is a e = ap (λ (x : ℕ). x / (words + 1) + 1) e
-
 length_index : (lengths : List ℕ) (k : ℕ) → length (string_index lengths k) ≡ length lengths / k
 unfolding string_index
 length_index lengths k = ap length (sym (list_tabulate (length lengths / k) (entry_at lengths k))) ∙ length_list_to (entry_at lengths k) (length lengths / k)
@@ -167,45 +162,42 @@ module _ {t : List ℕ} {st : Store} (f : OfTape t st) {count : ℕ} (e : count 
   pub tape_step : {k : ℕ} (words : List ℕ) → k ≡ step_of count (length words) → k ≡ step_in (lengths_in t) words
   tape_step words q = q ∙ ap (λ (n : ℕ). step_of n (length words)) all_strings
 
-  pub tape_entries : {a : ℕ} (k : ℕ) → a ≡ count → a / k ≡ length (lengths_in t) / k
-  tape_entries k q = ap (λ (n : ℕ). n / k) (q ∙ all_strings)
+  pub tape_entries : (k : ℕ) → count / k ≡ length (lengths_in t) / k
+  tape_entries k = ap (λ (n : ℕ). n / k) all_strings
 
   -- a turn of `index_strings`
-  module _ {first words : List ℕ} {k j from start a : ℕ} (s : Indexing (lengths_in t) first k j from start words)
-      (g : k ≡ step_of count (length first)) (q : a ≡ count) (h : j < a / k) where
+  module _ {first words : List ℕ} {k j from start : ℕ} (s : Indexing (lengths_in t) first k j from start words)
+      (g : k ≡ step_of count (length first)) (h : j < count / k) where
     pub next_between : Between st from (from + k)
     next_between =
         let m = step_some count (length first) in
-        let x = tape_entries k q in
+        let x = tape_entries k in
         let l = indexing_inside s (omega (arith, m, g)) (omega (arith, h, x)) in
         let n = strings_count f in
         record { order = omega arith; inside = omega (arith, l, n) }
 
     pub next_word : j < length first
-    next_word = let m = step_few count (length first) in let x = ap (λ (n : ℕ). n / k) q in let y = ap (λ (n : ℕ). count / n) g in omega (arith, m, x, y, h)
+    next_word = let m = step_few count (length first) in let y = ap (λ (n : ℕ). count / n) g in omega (arith, m, y, h)
 
-  pub index_all : {first words : List ℕ} {k j from start a : ℕ} → Indexing (lengths_in t) first k j from start words
-      → k ≡ step_of count (length first) → a ≡ count → j ≡ a / k → words ≡ overwrite first 0 (index_in (lengths_in t) first)
-  index_all {first} {words} {k} s g q h =
-      indexing_all s (h ∙ tape_entries k q) ∙ ap (λ (n : ℕ). overwrite first 0 (string_index (lengths_in t) n)) (tape_step first g)
+  pub index_all : {first words : List ℕ} {k j from start : ℕ} → Indexing (lengths_in t) first k j from start words
+      → k ≡ step_of count (length first) → j ≡ count / k → words ≡ overwrite first 0 (index_in (lengths_in t) first)
+  index_all {first} {words} {k} s g h =
+      indexing_all s (h ∙ tape_entries k) ∙ ap (λ (n : ℕ). overwrite first 0 (string_index (lengths_in t) n)) (tape_step first g)
 
-  -- `string_start`, whose a is id
-  module _ {words : List ℕ} (s : Indexed (lengths_in t) words) {id k a : ℕ} (h : id < st.totals.strings) (g : k ≡ step_of count (length words)) (q : a ≡ id) where
+  -- `string_start`
+  module _ {words : List ℕ} (s : Indexed (lengths_in t) words) {id k : ℕ} (h : id < st.totals.strings) (g : k ≡ step_of count (length words)) where
     inside : id < length (lengths_in t)
     inside = let n = strings_count f in omega (arith, h, n)
 
-    at_step : a / k ≡ id / k
-    at_step = ap (λ (n : ℕ). n / k) q
+    pub lookup_between : Between st (id / k * k) id
+    lookup_between = record { order = stored_before s inside (tape_step words g) refl; inside = omega (arith, h) }
 
-    pub lookup_between : Between st (a / k * k) id
-    lookup_between = record { order = stored_before s inside (tape_step words g) at_step; inside = omega (arith, h) }
+    module _ (z : id / k ≡ 0 → ⊥) where
+      pub lookup_inside : id / k - 1 < length words
+      lookup_inside = stored_inside s inside (tape_step words g) refl z
 
-    module _ (z : a / k ≡ 0 → ⊥) where
-      pub lookup_inside : a / k - 1 < length words
-      lookup_inside = stored_inside s inside (tape_step words g) at_step z
-
-      pub lookup_start : {v : ℕ} → v ≡ get_or words (a / k - 1) 0 → (v ≡ 4294967295 → ⊥) → v ≡ start_in t (a / k * k)
-      lookup_start = stored_start s inside (tape_step words g) at_step z
+      pub lookup_start : {v : ℕ} → v ≡ get_or words (id / k - 1) 0 → (v ≡ 4294967295 → ⊥) → v ≡ start_in t (id / k * k)
+      lookup_start = stored_start s inside (tape_step words g) refl z
 
 pub span_start : (lengths : List ℕ) (id : ℕ) {r : ℕ} → r ≡ sum (take id lengths) → r ≡ (string_span lengths id).start
 unfolding string_span

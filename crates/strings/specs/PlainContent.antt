@@ -1,9 +1,9 @@
 -- Section 6. `content_range_as_plain`: a range of exactly one Plain content gives its string, all others none.
-use Rattle.std.specs.Prelude.{◌≡◌, ℕ, ◌+◌, ◌≤◌, Bool, true, false, cond, ◌||◌, List, [], ◌∷◌, length, leb, eqb}
+use Rattle.std.specs.Prelude.{Option, Some, None, ◌≡◌, ℕ, ◌+◌, ◌≤◌, Bool, true, false, cond, ◌||◌, List, [], ◌∷◌, length, leb, eqb}
 use Rattle.std.proofs.Math.Path.{refl}
 use Rattle.std.proofs.Common.{sym, ap, ◌∙◌, arith, add-zero}
-use Rattle.std.proofs.Math.Option.{Option, none, some}
-use borrow.Author.Tests.{leb-true, eq-eqb, ne_eqb}
+use Rattle.std.proofs.Math.Option.{Option as ModelOption, none, some}
+use borrow.Author.Tests.{leb-true}
 use Rattle.model.specs.Types.{Content}
 use Rattle.model.specs.Store.{NodeStore, resolve_str, resolve_content_range, as_plain, content_range_as_plain}
 use Rattle.model.specs.Tape.{record_at, records_at, content_codec}
@@ -12,27 +12,25 @@ use Rattle.store.specs.declared.Store.{Store}
 use Rattle.store.specs.Pools.{range_in, in_one}
 use Rattle.store.specs.Standing.{content_place, length_records, content_range_lem, content_inside}
 use Rattle.strings.specs.Starts.{OfTape, store_in}
-use Rattle.strings.specs.declared.Plain.{Plain}
-use Rattle.strings.specs.declared.Plain.TheVariants.{Id, Nothing}
 
 -- the string's id, of exactly one Plain content
-unfoldable pub plain_of : List Content → Plain
-plain_of [] = Nothing
-plain_of (c ∷ []) = cond (eqb c.tag 0) (Id c.first) Nothing
-plain_of (c ∷ d ∷ cs) = Nothing
+unfoldable pub plain_of : List Content → Option ℕ
+plain_of [] = None
+plain_of (c ∷ []) = cond (eqb c.tag 0) (Some c.first) None
+plain_of (c ∷ d ∷ cs) = None
 
 -- the string of an answer
-unfoldable pub plain_string : NodeStore → Plain → Option (List ℕ)
-plain_string st (Id id) = some (resolve_str st id)
-plain_string st Nothing = none
+unfoldable pub plain_string : NodeStore → Option ℕ → ModelOption (List ℕ)
+plain_string st (Some id) = some (resolve_str st id)
+plain_string st None = none
 
 -- The answer's string is the model's.
-pub plain_string_lem : (st : NodeStore) (start len : ℕ) {r : Plain} → r ≡ plain_of (resolve_content_range st start len)
+pub plain_string_lem : (st : NodeStore) (start len : ℕ) {r : Option ℕ} → r ≡ plain_of (resolve_content_range st start len)
     → content_range_as_plain st start len ≡ plain_string st r
 unfolding content_range_as_plain as_plain plain_of plain_string
 plain_string_lem st start len {r} e = go (resolve_content_range st start len) ∙ ap (plain_string st) (sym e)
   where
-    one : (c : Content) (b : Bool) → cond b (some (resolve_str st c.first)) none ≡ plain_string st (cond b (Id c.first) Nothing)
+    one : (c : Content) (b : Bool) → cond b (some (resolve_str st c.first)) none ≡ plain_string st (cond b (Some c.first) None)
     one c true = refl
     one c false = refl
 
@@ -41,20 +39,9 @@ plain_string_lem st start len {r} e = go (resolve_content_range st start len) �
     go (c ∷ []) = one c (eqb c.tag 0)
     go (c ∷ d ∷ cs) = refl
 
--- ---- one content
-
-module _ (c : Content) where
-  pub plain_id : c.tag ≡ 0 → Id c.first ≡ plain_of (c ∷ [])
-  unfolding plain_of
-  plain_id e = rw (eq-eqb c.tag 0 e) refl
-
-  pub plain_other : (c.tag ≡ 0 → ⊥) → Nothing ≡ plain_of (c ∷ [])
-  unfolding plain_of
-  plain_other e = rw (ne_eqb c.tag 0 e) refl
-
 -- ---- a range of a tape's contents
 
-plain_none : (cs : List Content) → (length cs ≡ 1 → ⊥) → Nothing ≡ plain_of cs
+plain_none : (cs : List Content) → (length cs ≡ 1 → ⊥) → None ≡ plain_of cs
 unfolding plain_of
 plain_none [] h = refl
 plain_none (c ∷ []) h = absurd (h refl)
@@ -65,7 +52,7 @@ unfolding records_at content_codec
 one_record t p = ap (λ (k : ℕ). record_at content_codec t k ∷ []) (add-zero p)
 
 module _ {t : List ℕ} {st : Store} (f : OfTape t st) (start len : ℕ) (h : range_in st.contents st.layers st.totals.contents start len ≡ true) where
-  pub range_other : (len ≡ 1 → ⊥) → (b : List ℕ) → Nothing ≡ plain_of (resolve_content_range (store_in t b) start len)
+  pub range_other : (len ≡ 1 → ⊥) → (b : List ℕ) → None ≡ plain_of (resolve_content_range (store_in t b) start len)
   range_other z b =
       let n = length_records content_codec t (content_place st start) len in
       plain_none (records_at content_codec t (content_place st start) len) (λ x. z (sym n ∙ x)) ∙ ap plain_of (sym (content_range_lem t st f.stored b start len h))
@@ -79,7 +66,7 @@ module _ {t : List ℕ} {st : Store} (f : OfTape t st) (start len : ℕ) (h : ra
         let i = content_inside t st f.stored start 1 (omega (arith, m, one)) (omega (arith, m, one)) in
         omega (arith, i, e, f.inside)
 
-    pub range_one : {c : Content} {r : Plain} → c ≡ record_at content_codec t p → r ≡ plain_of (c ∷ []) → (b : List ℕ)
+    pub range_one : {c : Content} {r : Option ℕ} → c ≡ record_at content_codec t p → r ≡ plain_of (c ∷ []) → (b : List ℕ)
         → r ≡ plain_of (resolve_content_range (store_in t b) start len)
     range_one {c} {r} g q b =
         q ∙ ap (λ (x : Content). plain_of (x ∷ [])) g

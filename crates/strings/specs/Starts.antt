@@ -97,19 +97,6 @@ module _ {t : List ℕ} {st : Store} (f : OfTape t st) {id : ℕ} (h : id < st.t
 unfoldable pub run_end : Store → ℕ → ℕ → ℕ
 run_end st i to = min to (string_start st (layer_of st.strings st.layers i + 1))
 
-module _ (st : Store) (i to : ℕ) {k end : ℕ} (e : k ≡ layer_of st.strings st.layers i) (f : end ≡ string_start st (k + 1)) where
-  here : end ≡ string_start st (layer_of st.strings st.layers i + 1)
-  here = f ∙ ap (λ (x : ℕ). string_start st (x + 1)) e
-
-  -- the returns of `run_end_lem`
-  pub run_cut : to < end → to ≡ run_end st i to
-  unfolding run_end
-  run_cut h = rw (← here) (omega (arith, h))
-
-  pub run_whole : end ≤ to → end ≡ run_end st i to
-  unfolding run_end
-  run_whole h = rw (← here) (omega (arith, h))
-
 -- strings i, .. next - 1 of one layer
 pub record InLayer (st : Store) (i next : ℕ) : Type 0 where
   pub after : i < next

@@ -13,18 +13,8 @@ ghost use Rattle.strings.specs.Index.{step_of, index_in, Indexed};
 ghost use Rattle.strings.specs.PlainContent.{plain_of};
 ghost use Rattle.strings.specs.Shown.{old_strings, shown_in, Resolvable, Lies, part_of};
 
-// The id of a Plain content's string.
-#[derive(Clone, Copy)]
-pub enum Plain {
-    Id(u32),
-    Nothing,
-}
-
-fn wide(x: u32) -> usize
-    ensures { result ≡ x }
-{
-    x as usize
-}
+// The word for a start that does not fit one.
+const NOT_STORED: u32 = u32::MAX;
 
 // Section 4. 3: string length.
 pub fn string_length(tape: &[u8], st: store::Store, id: u32) -> usize
@@ -33,10 +23,11 @@ pub fn string_length(tape: &[u8], st: store::Store, id: u32) -> usize
     ensures { result ≡ get_or (lengths_in tape.now) id 0 }
 {
     let at = store::string_place(st, id);
-    wide(wire::u32_at(tape, at + 1))
+    wire::u32_at(tape, at + 1) as usize
 }
 
 // Where the layer of string i ends in the pool, or `to` if that comes first.
+#[tactic(auto, using(store::specs::Pools::layer_few), unfolding(crate::specs::Starts::run_end))]
 fn run_end(st: store::Store, i: u32, to: u32) -> u32
     requires { st.layers ≤ 32 }
     ensures { result ≡ run_end st i to }
@@ -44,10 +35,7 @@ fn run_end(st: store::Store, i: u32, to: u32) -> u32
     let strings = st.strings;
     let k = store::layer_of(&strings, st.layers, i);
     let end = store::start_or(&strings, st.layers, st.totals.strings, k + 1);
-    if to < end {
-        return to;
-    }
-    end
+    to.min(end)
 }
 
 // The start of string `next`, from that of string i of the same layer.
@@ -58,8 +46,7 @@ fn start_after(tape: &[u8], st: store::Store, room: usize, i: u32, next: u32, st
     ensures { result ≡ start_in tape.now next }
 {
     let at = store::string_place(st, i);
-    let count = wide(next - i);
-    start + places::strings_length(tape, at, count, room)
+    start + places::strings_length(tape, at, (next - i) as usize, room)
 }
 
 // The start of string `to`, from that of string `from`: one step a string, and a search for the layer a layer.
@@ -86,28 +73,20 @@ pub fn start_from(
     place
 }
 
-fn count_of(st: store::Store) -> u32
-    ensures { result ≡ st.totals.strings }
-{
-    st.totals.strings
-}
-
 // Every how many strings a start is stored, so that the words hold them all.
+#[tactic(auto, unfolding(crate::specs::Index::step_of))]
 fn step_of(count: u32, words: usize) -> usize
     requires { words < 2 ^ 63 }
     ensures { result ≡ step_of count words }
 {
-    wide(count) / (words + 1) + 1
+    count as usize / (words + 1) + 1
 }
 
-// A start as a word; 4294967295 where it is not below that.
+// A start as a word, if it is below `NOT_STORED`.
 fn entry_of(start: usize) -> u32
     ensures { result ≡ min start 4294967295 }
 {
-    if start < 4294967295 {
-        return start as u32;
-    }
-    4294967295
+    u32::try_from(start).unwrap_or(NOT_STORED)
 }
 
 // Every k-th start, k as small as the words allow; the rest of the words is kept.
@@ -115,18 +94,15 @@ pub fn index_strings(tape: &[u8], st: store::Store, room: usize, words: &mut [u3
     requires { Readable tape.now st room }
     ensures { words.new ≡ overwrite words.old 0 (index_in (lengths_in tape.now) words.old) }
 {
-    let count = count_of(st);
+    let count = st.totals.strings;
     let step = step_of(count, words.len());
-    let entries = wide(count) / step;
-    let mut j = 0;
     let mut from = 0;
     let mut start = 0;
-    while j < entries {
+    for j in 0..count as usize / step {
         let next = from + step;
         start = start_from(tape, st, room, from as u32, next as u32, start);
         words[j] = entry_of(start);
         from = next;
-        j += 1;
     }
 }
 
@@ -137,35 +113,33 @@ pub fn string_start(tape: &[u8], st: store::Store, room: usize, words: &[u32], i
     requires id_lt_strings { id < st.totals.strings }
     ensures { result ≡ (string_span (lengths_in tape.now) id).start }
 {
-    let step = step_of(count_of(st), words.len());
-    let q = wide(id) / step;
+    let step = step_of(st.totals.strings, words.len());
+    let q = id as usize / step;
     if q == 0 {
         return start_from(tape, st, room, 0, id, 0);
     }
     let start = words[q - 1];
-    if start == 4294967295 {
+    if start == NOT_STORED {
         return start_from(tape, st, room, 0, id, 0);
     }
-    start_from(tape, st, room, (q * step) as u32, id, wide(start))
+    start_from(tape, st, room, (q * step) as u32, id, start as usize)
 }
 
-fn plain_of(c: records::Content) -> Plain
+#[tactic(auto, unfolding(crate::specs::PlainContent::plain_of))]
+fn plain_of(c: records::Content) -> Option<u32>
     ensures { result ≡ plain_of (content_of c ∷ []) }
 {
-    if c.tag == 0 {
-        return Plain::Id(c.first);
-    }
-    Plain::Nothing
+    if c.tag == 0 { Some(c.first) } else { None }
 }
 
 // Section 6. A range of exactly one Plain content gives its string, all others none.
-pub fn content_range_as_plain(tape: &[u8], st: store::Store, start: u32, len: u32) -> Plain
+pub fn content_range_as_plain(tape: &[u8], st: store::Store, start: u32, len: u32) -> Option<u32>
     requires of_tape { OfTape tape.now st }
     requires len_value { range_in st.contents st.layers st.totals.contents start len ≡ true }
     ensures { (b : List ℕ) → result ≡ plain_of (resolve_content_range (store_in tape.now b) start len) }
 {
     if len != 1 {
-        return Plain::Nothing;
+        return None;
     }
     let at = store::content_place(st, start);
     plain_of(records::content_at(tape, at))

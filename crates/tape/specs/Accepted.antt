@@ -1,15 +1,17 @@
 -- What is known of a tape and its bytes where `check_book` or `check_reading` answers 0, and what the code that reads them may
 -- ask: the places found, a store, nodes in order.
-use Rattle.std.specs.Prelude.{◌≡◌, refl, ℕ, true, List, length}
+use Rattle.std.specs.Prelude.{Some, ◌≡◌, refl, ℕ, true, List, length}
 use Rattle.std.proofs.Common.{sym, ap, ◌∙◌, subst, arith}
 use Rattle.std.proofs.Math.Option.{Option, some}
-use Rattle.model.specs.Types.{LexOutput}
+use Rattle.std.proofs.lemmas.Option.{same_Some}
+use Rattle.model.specs.Types.{LexOutput, RegionOutput}
 use Rattle.model.specs.Refusal.{Checked, Checked.refused, Checked.accepted, number_of}
 use Rattle.model.specs.Tape.{places, records_at, node_codec, book_at, parse}
 use Rattle.model.specs.WellFormed.{texts_are_utf8, within_limits, ids_ok, levels_ok, places_ok, normalized_length_ok, check_book, check_reading}
 use Rattle.laws.specs.Checks.{WellFormed, checked_book, checked_again, checked_reading, place_facts}
 use Rattle.laws.specs.Numbers.{UpTo, book_up_to, reading_up_to}
 use Rattle.laws.specs.RoundTrip.{parse_laid_out}
+use Rattle.refusal.specs.Refusal.{checked_map, was_accepted}
 use Rattle.places.specs.declared.Places.{Places}
 use Rattle.places.specs.Found.{holds, found, places_of}
 use Rattle.places.specs.Again.{Frame, frame}
@@ -91,12 +93,51 @@ accepted_reading t d z =
       whole = whole t d v.0 c.0 c.2;
     }
 
+-- ---- where `check_book` is passed; the places that `checked_book` and `checked_reading` hand on
+
+-- a book that passed, its records standing there
+pub record Passed (t d : List ℕ) (p : Places) : Type 0 where
+  pub whole : Accepted t d
+  pub is : p ≡ found t
+
+pub record PassedReading (t d : List ℕ) (p : Places) : Type 0 where
+  pub reading : AcceptedReading t d
+  pub is : p ≡ found t
+
+pub passed_whole : {t d : List ℕ} → accepted (tt {0}) ≡ checked_map (λ _. tt {0}) (check_book t d) → Accepted t d
+passed_whole {t} {d} e =
+    let v = was_accepted (λ (b : LexOutput). tt {0}) (check_book t d) e in let c = checked_book t d v.0 v.1 in whole t d v.0 c.0 c.1
+
+module _ {t d : List ℕ} {p : Places} where
+  pub passed_book : accepted p ≡ checked_map (λ _. found t) (check_book t d) → Passed t d p
+  passed_book e =
+      let v = was_accepted (λ (b : LexOutput). found t) (check_book t d) e in
+      let c = checked_book t d v.0 v.1 in
+      record { whole = whole t d v.0 c.0 c.1; is = v.2 }
+
+  pub passed_reading : accepted p ≡ checked_map (λ _. found t) (check_reading t d) → PassedReading t d p
+  passed_reading e =
+      let v = was_accepted (λ (b : RegionOutput). found t) (check_reading t d) e in
+      let c = checked_reading t d v.0 v.1 in
+      let q = (parse_laid_out t d v.0 c.0).1 in
+      record {
+        reading = record {
+          reading = v.1 ∙ ap {B = Checked LexOutput} accepted (sym q);
+          one = ap (λ (b : LexOutput). length b.layers) q ∙ c.1;
+          whole = whole t d v.0 c.0 c.2;
+        };
+        is = v.2;
+      }
+
 -- ---- what the code may ask then
 
 -- `places_of` has found them
-pub accepted_found : {t d : List ℕ} → Accepted t d → (p : Places) → p ≡ places_of t d → p ≡ found t
+pub accepted_found : {t d : List ℕ} → Accepted t d → places_of t d ≡ Some (found t)
 unfolding places_of
-accepted_found a p e = e ∙ rw a.holding refl
+accepted_found a = rw a.holding refl
+
+pub accepted_place : {t d : List ℕ} → Accepted t d → {p : Places} → Some p ≡ places_of t d → p ≡ found t
+accepted_place {t} a {p} e = same_Some p (found t) (e ∙ accepted_found a)
 
 module _ {t d : List ℕ} (a : Accepted t d) {p : Places} (e : p ≡ found t) where
   pub accepted_laid : Laid t d p

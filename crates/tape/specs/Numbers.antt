@@ -1,15 +1,18 @@
 -- The number of an answer by the first condition that holds, for each return of the code.
-use Rattle.std.specs.Prelude.{◌≡◌, ℕ, ◌≤◌, Bool, true, false, cond, List, length, eqb}
+use Rattle.std.specs.Prelude.{◌≡◌, ℕ, ◌<◌, ◌≤◌, Bool, true, false, cond, List, length, eqb}
 use Rattle.std.proofs.Math.Path.{refl, sym, ap}
 use Rattle.std.proofs.Common.{◌∙◌, arith}
 use Rattle.std.proofs.Math.Option.{none, some}
 use borrow.Author.Tests.{eq-eqb, ne_eqb}
 use Rattle.model.specs.Types.{LexOutput}
-use Rattle.model.specs.Refusal.{◌>>=◌, refuse◌if◌, number_of}
+use Rattle.model.specs.Refusal.{Checked.refused, ◌>>=◌, refuse◌if◌, number_of}
 use Rattle.model.specs.Tape.{places, book_at, parse}
 use Rattle.model.specs.WellFormed.{texts_are_utf8, within_limits, ids_ok, levels_ok, places_ok, normalized_length_ok, laid_out, well_formed, check_book, check_reading}
 use Rattle.laws.specs.Checks.{limit_facts}
 use Rattle.wire.specs.Loops.{by_bool}
+use Rattle.refusal.specs.declared.Refusal.{Refusal}
+use Rattle.refusal.specs.declared.Refusal.TheVariants.{Layout}
+use Rattle.refusal.specs.Refusal.{number}
 use Rattle.places.specs.declared.Places.{Places}
 use Rattle.places.specs.Found.{holds, found}
 use Rattle.places.specs.Again.{lists_inside}
@@ -62,22 +65,28 @@ number_well_formed b =
 
 -- ---- the chains
 
-module _ (t d : List ℕ) where
-  pub book_none : parse t d ≡ none → 1 ≡ number_of (check_book t d)
-  unfolding check_book laid_out ◌>>=◌ number_of
-  book_none e = rw e refl
+-- number 1
+pub record IsNoBook (t d : List ℕ) (refusal : Refusal) : Type 0 where
+  pub is : refusal ≡ Layout
+  pub unread : parse t d ≡ none
 
-  pub reading_none : parse t d ≡ none → 1 ≡ number_of (check_reading t d)
-  unfolding check_reading laid_out ◌>>=◌ number_of
-  reading_none e = rw e refl
+module _ (t d : List ℕ) where
+  module _ {refusal : Refusal} (n : IsNoBook t d refusal) where
+    pub book_none : check_book t d ≡ refused (number refusal)
+    unfolding check_book laid_out ◌>>=◌
+    book_none = rw (n.is, n.unread) refl
+
+    pub reading_none : check_reading t d ≡ refused (number refusal)
+    unfolding check_reading laid_out ◌>>=◌
+    reading_none = rw (n.is, n.unread) refl
 
   module _ (b : LexOutput) (e : parse t d ≡ some b) where
     pub book_some : {r : ℕ} → r ≡ book_number b → r ≡ number_of (check_book t d)
     unfolding check_book laid_out ◌>>=◌
     book_some q = rw e (q ∙ sym (number_well_formed b))
 
-    pub reading_layers : (length b.layers ≡ 1 → ⊥) → 1 ≡ number_of (check_reading t d)
-    unfolding check_reading laid_out refuse◌if◌ ◌>>=◌ number_of
+    pub reading_layers : (length b.layers ≡ 1 → ⊥) → check_reading t d ≡ refused 1
+    unfolding check_reading laid_out refuse◌if◌ ◌>>=◌
     reading_layers n = rw (e, ne_eqb (length b.layers) 1 n) refl
 
     pub reading_one : {r : ℕ} → length b.layers ≡ 1 → r ≡ book_number b → r ≡ number_of (check_reading t d)
@@ -123,14 +132,14 @@ module _ (b : LexOutput) where
       (λ u. let q : n ≡ 2 = e ∙ rw u refl in absurd (omega (arith, q, z)))
 
   module _ {n : ℕ} (e : n ≡ texts_number b) where
-    pub book_texts : (n ≡ 0 → ⊥) → n ≡ book_number b
+    pub book_texts : 0 < n → n ≡ book_number b
     unfolding book_number or_else
-    book_texts h = rw (← e, ne_eqb n 0 h) refl
+    book_texts h = rw (← e, ne_eqb n 0 (λ z. omega (arith, h, z))) refl
 
     module _ (z : n ≡ 0) {m : ℕ} (g : m ≡ pools_number b) where
-      pub book_pools : (m ≡ 0 → ⊥) → m ≡ book_number b
+      pub book_pools : 0 < m → m ≡ book_number b
       unfolding book_number or_else
-      book_pools h = rw (← e, eq-eqb n 0 z, ← g, ne_eqb m 0 h) refl
+      book_pools h = rw (← e, eq-eqb n 0 z, ← g, ne_eqb m 0 (λ y. omega (arith, h, y))) refl
 
       pub book_places : m ≡ 0 → {r : ℕ} → r ≡ places_number b → r ≡ book_number b
       unfolding book_number or_else

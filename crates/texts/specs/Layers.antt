@@ -1,10 +1,7 @@
 -- Number 2, the strings of all layers: what a loop over `next_layer` knows before layer i, whose 2 stands at `at` and whose
 -- strings stand at `place`.
-use Rattle.std.specs.Prelude.{◌≡◌, refl, ℕ, suc, ◌+◌, ◌*◌, ◌≤◌, ◌<◌, Bool, true, false, ◌&&◌, length}
-use Rattle.std.proofs.Math.Path.{sym, ap}
-use Rattle.std.proofs.Common.{◌∙◌, arith, add-one, drop_of_length-le, drop-cons, drop-drop}
-use mathlib.Core.List.{List, [], ◌∷◌}
-use Rattle.std.proofs.Math.ListN.{drop}
+use Rattle.std.specs.Prelude.{◌≡◌, refl, ℕ, suc, ◌+◌, ◌*◌, ◌≤◌, ◌<◌, Bool, true, false, ◌&&◌, List, [], ◌∷◌, length, drop, Option, Some}
+use Rattle.std.proofs.Common.{sym, ap, ◌∙◌, arith, add-one, drop_of_length-le, drop-cons, drop-drop}
 use Rattle.model.specs.Lists.{all, sum}
 use Rattle.model.specs.Types.{Layer}
 use Rattle.model.specs.Utf8.{utf8}
@@ -14,7 +11,7 @@ use Rattle.laws.specs.RoundTrip.{layer_end, string_bytes}
 use Rattle.places.specs.declared.LayerRuns.{LayerRuns}
 use Rattle.places.specs.Found.{layer_runs}
 use Rattle.places.specs.Again.{AtLayer, at_first, at_inside, at_here, at_next, at_before}
-use Rattle.texts.specs.Strings.{pieces_behind, strings_end, end_over, end_inside}
+use Rattle.texts.specs.Strings.{pieces_behind, strings_end, end_none, end_some}
 
 -- each string of a layer by itself
 abbrev pub layer_utf8 : Layer → Bool
@@ -97,14 +94,14 @@ module _ {t d : List ℕ} {from i at place : ℕ} (s : LayersLeft t d from i at 
           ∙ ap (λ (x : List ℕ). all utf8 (pieces ns (drop place d)) && layers_utf8 t ls x) (drop-drop (sum ns) place d)
           ∙ ap (λ (x : List ℕ). all utf8 (pieces x (drop place d)) && layers_utf8 t ls (drop (place + sum ns) d)) (sym lengths)
 
-      module _ {end : ℕ} (q : end ≡ strings_end (records_at string_codec t l.strings.at l.strings.count) d place) where
-        pub layers_bad : length d < end → false ≡ layers_utf8 t (places t).layers (drop from d)
-        layers_bad h = sym (split ∙ rw (end_over _ d place q layers_bytes h) refl)
+      module _ {o : Option ℕ} (q : o ≡ strings_end (records_at string_codec t l.strings.at l.strings.count) d place) where
+        pub layers_bad : ((r : ℕ) → o ≡ Some r → ⊥) → false ≡ layers_utf8 t (places t).layers (drop from d)
+        layers_bad n = sym (split ∙ rw (end_none _ d place q n) refl)
 
-        pub layers_more : end ≤ length d → LayersLeft t d from (i + 1) l.end end
-        layers_more h =
+        pub layers_more : {end : ℕ} → o ≡ Some end → LayersLeft t d from (i + 1) l.end end
+        layers_more {end} h =
             let ns = records_at string_codec t l.strings.at l.strings.count in
-            let w = end_inside ns d place q h in
+            let w = end_some ns d place q h in
             let m : end ≡ place + sum (string_lengths t (layer_places t at)) = w.1 ∙ ap (λ (x : List ℕ). place + sum x) lengths in
             record {
               here = at_next s.here inside e;

@@ -1,9 +1,6 @@
 -- Number 2, the strings of one layer: what a loop over them knows before string i, whose bytes stand at `place`.
-use Rattle.std.specs.Prelude.{◌≡◌, ℕ, suc, ◌+◌, ◌≤◌, ◌<◌, Bool, true, false, cond, ◌&&◌, length, get_or, take}
-use Rattle.std.proofs.Math.Path.{refl, ap}
-use Rattle.std.proofs.Common.{sym, ◌∙◌, arith, add-one, drop-cons, drop-drop}
-use mathlib.Core.List.{List, [], ◌∷◌}
-use Rattle.std.proofs.Math.ListN.{drop, drop_of_length-le}
+use Rattle.std.specs.Prelude.{◌≡◌, ℕ, suc, ◌+◌, ◌≤◌, ◌<◌, Bool, true, false, cond, ◌&&◌, List, [], ◌∷◌, length, get_or, take, drop, Option, Some, None}
+use Rattle.std.proofs.Common.{refl, sym, ap, ◌∙◌, arith, add-one, drop-cons, drop-drop, drop_of_length-le}
 use Rattle.model.specs.Lists.{all, sum}
 use Rattle.model.specs.Utf8.{utf8}
 use Rattle.model.specs.Tape.{records_at, record_at, operands_at, string_codec, pieces}
@@ -17,27 +14,28 @@ use Rattle.store.specs.Standing.{length_records}
 abbrev pub pieces_utf8 : List ℕ → List ℕ → Bool
 pieces_utf8 ns b = all utf8 (pieces ns b)
 
--- the place behind strings that stand at `from`; behind all bytes if a string is not UTF-8
-unfoldable pub strings_end : List ℕ → List ℕ → ℕ → ℕ
-strings_end ns d from = cond (pieces_utf8 ns (drop from d)) (from + sum ns) (length d + 1)
+-- the place behind strings that stand at `from`, if each string is UTF-8
+unfoldable pub strings_end : List ℕ → List ℕ → ℕ → Option ℕ
+strings_end ns d from = cond (pieces_utf8 ns (drop from d)) (Some (from + sum ns)) None
 
 module _ (ns d : List ℕ) (from : ℕ) where
-  end_good : pieces_utf8 ns (drop from d) ≡ true → strings_end ns d from ≡ from + sum ns
+  end_good : pieces_utf8 ns (drop from d) ≡ true → strings_end ns d from ≡ Some (from + sum ns)
   unfolding strings_end
   end_good e = rw e refl
 
-  end_bad : pieces_utf8 ns (drop from d) ≡ false → strings_end ns d from ≡ length d + 1
+  end_bad : pieces_utf8 ns (drop from d) ≡ false → strings_end ns d from ≡ None
   unfolding strings_end
   end_bad e = rw e refl
 
   -- what the place says
-  module _ {r : ℕ} (q : r ≡ strings_end ns d from) where
-    pub end_over : from + sum ns ≤ length d → length d < r → pieces_utf8 ns (drop from d) ≡ false
-    end_over m h = by_bool (pieces_utf8 ns (drop from d)) (λ e. let g = end_good e in absurd (omega (arith, q, g, m, h))) (λ e. e)
+  module _ {o : Option ℕ} (q : o ≡ strings_end ns d from) where
+    pub end_none : ((r : ℕ) → o ≡ Some r → ⊥) → pieces_utf8 ns (drop from d) ≡ false
+    end_none n = by_bool (pieces_utf8 ns (drop from d)) (λ e. absurd (n (from + sum ns) (q ∙ end_good e))) (λ e. e)
 
-    pub end_inside : r ≤ length d → (pieces_utf8 ns (drop from d) ≡ true) × (r ≡ from + sum ns)
-    end_inside h =
-        by_bool (pieces_utf8 ns (drop from d)) (λ e. (e, q ∙ end_good e)) (λ e. let g = end_bad e in absurd (omega (arith, q, g, h)))
+    pub end_some : {r : ℕ} → o ≡ Some r → (pieces_utf8 ns (drop from d) ≡ true) × (r ≡ from + sum ns)
+    end_some {r} s =
+        by_bool (pieces_utf8 ns (drop from d)) (λ e. (e, let x : Some r ≡ Some (from + sum ns) = sym s ∙ q ∙ end_good e in cc))
+        (λ e. let x : Some r ≡ None = sym s ∙ q ∙ end_bad e in cc)
 
 -- where each string is UTF-8 the bytes behind them decide
 pub pieces_behind : (ns b : List ℕ) → pieces_utf8 ns b ≡ true → utf8 b ≡ utf8 (drop (sum ns) b)
@@ -86,7 +84,7 @@ module _ {t : List ℕ} {at count : ℕ} {d : List ℕ} {from i place : ℕ} (s 
         s.is ∙ ap (λ (x : List ℕ). all utf8 (pieces x (drop place d))) (lengths_left t at count i n h e)
         ∙ ap (λ (x : List ℕ). utf8 (take n (drop place d)) && all utf8 (pieces ns x)) (drop-drop n place d)
 
-    pub strings_bad : {r : Bool} → r ≡ utf8 (take n (drop place d)) → r ≡ false → length d + 1 ≡ strings_end (records_at string_codec t at count) d from
+    pub strings_bad : {r : Bool} → r ≡ utf8 (take n (drop place d)) → r ≡ false → None ≡ strings_end (records_at string_codec t at count) d from
     strings_bad {r} q f = sym (end_bad _ d from (here ∙ rw (sym q ∙ f) refl))
 
     pub strings_more : {r : Bool} → r ≡ utf8 (take n (drop place d)) → r ≡ true → StringsLeft t at count d from (i + 1) (place + n)
@@ -98,7 +96,7 @@ module _ {t : List ℕ} {at count : ℕ} {d : List ℕ} {from i place : ℕ} (s 
           whole = ap utf8 (sym (drop-drop n place d)) ∙ sym (utf8_behind n (drop place d) (sym q ∙ f)) ∙ s.whole;
         }
 
-  pub strings_all : count ≤ i → place ≡ strings_end (records_at string_codec t at count) d from
+  pub strings_all : count ≤ i → Some place ≡ strings_end (records_at string_codec t at count) d from
   unfolding pieces
   strings_all h =
       let ns = records_at string_codec t at count in
@@ -106,4 +104,5 @@ module _ {t : List ℕ} {at count : ℕ} {d : List ℕ} {from i place : ℕ} (s 
       let none : drop i ns ≡ [] = drop_of_length-le ns {i = i} (omega (arith, l, h)) in
       let g = end_good ns d from (s.is ∙ ap (λ (x : List ℕ). all utf8 (pieces x (drop place d))) none) in
       let z = ap sum none in
-      omega (arith, g, z, s.bytes)
+      let p : place ≡ from + sum ns = omega (arith, z, s.bytes) in
+      ap (λ (x : ℕ). Some x) p ∙ sym g

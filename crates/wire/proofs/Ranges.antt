@@ -29,7 +29,7 @@ module _ {F : Type 0} {g : Mut F (ℕ × Unit {0}) Bool} (s u : Range ℕ) (f : 
 
   pub range_all : (r : Bool)
       → (xs : List ℕ) × (o : Option ℕ) × (j : F) × YieldsThen nat_range_steps s xs o u × FoldsTo (λ p x q. Called g p (x, tt) true q) f xs j
-          × MatchOption o (r ≡ true) (λ x. (r ≡ false) × ((h : F) × Called g j (x, tt) false h))
+      × MatchOption o (r ≡ true) (λ x. (r ≡ false) × ((h : F) × Called g j (x, tt) false h))
       → r ≡ all_up_to n P
   range_all r ran = by r (cases_from_all u f r (λ x. P x ≡ true) (λ x. P x ≡ false) ran (YieldsList-from_range 0 n n is (omega arith))
       (λ x q k. ((gives x true q k).0, sym (gives x true q k).1)) (λ x q k. sym (gives x false q k).1))
@@ -40,7 +40,7 @@ module _ {F : Type 0} {g : Mut F (ℕ × Unit {0}) Bool} (s u : Range ℕ) (f : 
 
   pub range_any : (r : Bool)
       → (xs : List ℕ) × (o : Option ℕ) × (j : F) × YieldsThen nat_range_steps s xs o u × FoldsTo (λ p x q. Called g p (x, tt) false q) f xs j
-          × MatchOption o (r ≡ false) (λ x. (r ≡ true) × ((h : F) × Called g j (x, tt) true h))
+      × MatchOption o (r ≡ false) (λ x. (r ≡ true) × ((h : F) × Called g j (x, tt) true h))
       → r ≡ any_up_to n P
   range_any r ran = by r (cases_from_any u f r (λ x. P x ≡ true) (λ x. P x ≡ false) ran (YieldsList-from_range 0 n n is (omega arith))
       (λ x q k. sym (gives x true q k).1) (λ x q k. ((gives x false q k).0, sym (gives x false q k).1)))

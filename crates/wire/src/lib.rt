@@ -11,16 +11,13 @@ ghost use Rattle.wire.specs.Overwrite.{overwrite};
 pub fn word(a: u8, b: u8, c: u8, d: u8) -> u32
     ensures { result ≡ a + 256 * b + 65536 * c + 16777216 * d }
 {
-    (a as u32) + 256 * (b as u32) + 65536 * (c as u32) + 16777216 * (d as u32)
+    u32::from_le_bytes([a, b, c, d])
 }
 
 pub fn byte_at(s: &[u8], at: usize) -> u8
     ensures { result ≡ byte_at s.now at }
 {
-    if at < s.len() {
-        return s[at];
-    }
-    0
+    s.get(at).copied().unwrap_or(0)
 }
 
 pub fn u32_at(s: &[u8], at: usize) -> u32
@@ -51,16 +48,8 @@ pub fn u32_or_zero(s: &[u8], at: usize) -> u32
 pub fn between<'a>(s: &'a [u8], from: usize, to: usize) -> &'a [u8]
     ensures { result.now ≡ part s.now from (to - from) }
 {
-    if to <= from {
-        return &s[..0];
-    }
-    if s.len() <= from {
-        return &s[..0];
-    }
-    if s.len() < to {
-        return &s[from..];
-    }
-    &s[from..to]
+    let end = to.min(s.len());
+    &s[from.min(end)..end]
 }
 
 pub fn put_u8(out: &mut [u8], at: usize, v: u8)
@@ -74,40 +63,25 @@ pub fn put_u32(out: &mut [u8], at: usize, v: u32)
     requires { at + 4 ≤ length out.old }
     ensures { out.new ≡ overwrite out.old at (word_bytes v) }
 {
-    out[at] = (v % 256) as u8;
-    out[at + 1] = (v / 256 % 256) as u8;
-    out[at + 2] = (v / 65536 % 256) as u8;
-    out[at + 3] = (v / 16777216 % 256) as u8;
+    out[at..at + 4].copy_from_slice(&v.to_le_bytes());
 }
 
 pub fn copy_at(out: &mut [u8], at: usize, s: &[u8])
     requires { at + length s.now ≤ length out.old }
     ensures { out.new ≡ overwrite out.old at s.now }
 {
-    let mut i = 0;
-    while i < s.len() {
-        out[at + i] = s[i];
-        i += 1;
-    }
+    out[at..at + s.len()].copy_from_slice(s);
 }
 
 pub fn zero_from(out: &mut [u8], at: usize)
     requires { at ≤ length out.old }
     ensures { out.new ≡ overwrite out.old at (zeros (length out.old - at)) }
 {
-    let mut i = at;
-    while i < out.len() {
-        out[i] = 0;
-        i += 1;
-    }
+    out[at..].fill(0);
 }
 
 pub fn zero_words(out: &mut [u32])
     ensures { out.new ≡ zeros (length out.old) }
 {
-    let mut k = 0;
-    while k < out.len() {
-        out[k] = 0;
-        k += 1;
-    }
+    out.fill(0);
 }

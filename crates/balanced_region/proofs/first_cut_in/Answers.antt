@@ -10,26 +10,20 @@ loop-c-init c =
 
 pub next_try-next-requires : goal.next_try-next-requires
 next_try-next-requires c =
-    let start = c in
     record {
-      count_in_bounds = (start.requires.count_in_bounds.0, omega (arith, start.requires.count_in_bounds.1));
+      count_in_bounds = (c.requires.count_in_bounds.0, omega (arith, c.requires.count_in_bounds.1));
       window = c.loop-c.invariant.1;
     }
 
 pub shape_of-words-then-next-c : goal.shape_of-words-then-next-c
 shape_of-words-then-next-c c =
-    let at-next-try = c in
-    let turn = at-next-try in
-    at-next-try.next_try-next.auto.words ∙ turn.loop-c.invariant.2
+    c.next_try-next.auto.words ∙ c.loop-c.invariant.2
 
 pub returns-then-next-c : goal.returns-then-next-c
 returns-then-next-c c =
-    let at-next-try = c in
-    let at-loop-test = at-next-try in
-    let turn = at-loop-test in
     record {
-      value = tried_found _ _ turn.loop-c.invariant.0 _ at-next-try.next_try-next.ensures.value _ at-loop-test.loop-c-test.true c.if-next-c.true;
-      window_2 = at-next-try.next_try-next.ensures.window_2;
+      value = tried_found _ _ c.loop-c.invariant.0 _ c.next_try-next.ensures.value _ c.loop-c-test.true c.if-next-c.true;
+      window_2 = c.next_try-next.ensures.window_2;
     }
 
 pub loop-c-smaller : goal.loop-c-smaller
@@ -38,9 +32,7 @@ loop-c-smaller c =
 
 pub loop-c-preserved : goal.loop-c-preserved
 loop-c-preserved c =
-    let at-next-try = c in
-    let turn = at-next-try in
-    (tried_more _ _ turn.loop-c.invariant.0 _ at-next-try.next_try-next.ensures.value, at-next-try.next_try-next.ensures.window_2, at-next-try.next_try-next.auto.words ∙ turn.loop-c.invariant.2)
+    (tried_more _ _ c.loop-c.invariant.0 _ c.next_try-next.ensures.value, c.next_try-next.ensures.window_2, c.next_try-next.auto.words ∙ c.loop-c.invariant.2)
 
 pub shape_of-words : goal.shape_of-words
 shape_of-words c =

@@ -3,17 +3,14 @@ use Rattle.balanced_region.proofs.gap_last.Goals as goal
 
 pub returns-then-not-depths_zero : goal.returns-then-not-depths_zero
 returns-then-not-depths_zero c =
-    let start = c in
     record {
       value = last_closed _ _ _ _ _ _ _ _ c.depths_zero.ensures c.if-not-depths_zero.true;
-      window_2 = start.requires.window;
+      window_2 = c.requires.window;
     }
 
 pub returns : goal.returns
 returns c =
-    let at-if1 = c in
-    let at-depths-zero = at-if1 in
     record {
-      value = last_open _ _ _ _ _ _ _ _ at-depths-zero.depths_zero.ensures at-if1.if-not-depths_zero.false _ c.last_cut_in.ensures.value;
+      value = last_open _ _ _ _ _ _ _ _ c.depths_zero.ensures c.if-not-depths_zero.false _ c.last_cut_in.ensures.value;
       window_2 = c.last_cut_in.ensures.window_2;
     }

@@ -2,12 +2,8 @@ use Rattle.cuts.specs.Window.{Window}
 use Rattle.cuts.specs.Pairs.{pairs_of}
 use Rattle.balanced_region.specs.Walks.{EndWalk}
 use mathlib.Core.Path.{◌≡◌}
-use Prim.Native.Nat.{◌-◌}
 use lib.ListN.{length}
 use Rattle.balanced_region.proofs.region_end.Given as goal
 
 abbrev pub invariant-loop-i : goal.invariant-loop-i
 invariant-loop-i l = EndWalk l.text l.tape l.nodes l.pairs l.o l.i l.from l.blocks l.warichu × Window (pairs_of l.tape l.pairs) l.words × (length l.words ≡ length l.initial.words)
-
-abbrev pub decreases-loop-i : goal.decreases-loop-i
-decreases-loop-i l = l.nodes.count - l.i

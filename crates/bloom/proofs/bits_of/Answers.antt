@@ -1,4 +1,4 @@
-use mathlib.Core.Path.{refl}
+use Rattle.std.proofs.Common.{refl}
 use Rattle.bloom.specs.Filter.{hash_bits}
 use Rattle.bloom.proofs.bits_of.Goals as goal
 

@@ -1,5 +1,4 @@
-use native.Mathlib.Omega.{arith}
-use lib.ListN.{length}
+use Rattle.std.proofs.Common.{length, arith}
 use Rattle.bloom.specs.Filter.{place_inside, has_at}
 use Rattle.bloom.proofs.has_bits.Goals as goal
 
@@ -12,5 +11,4 @@ bounds-words-i c =
     let p = place_inside c.args.base (length c.args.words.now) c.args.x c.requires.0 c.requires.1 in omega (arith, p, c.place_of-i.ensures)
 
 pub returns : goal.returns
-returns c =
-    has_at c.args.words.now c.args.base c.args.x c.args.bits c.place_of-i.ensures
+returns c = has_at c.args.words.now c.args.base c.args.x c.args.bits c.place_of-i.ensures

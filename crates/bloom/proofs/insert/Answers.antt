@@ -1,4 +1,4 @@
-use mathlib.Core.Path.{sym}
+use Rattle.std.proofs.Common.{sym}
 use Rattle.bloom.specs.Filter.{inserted_none, inserted_both, with_inside, half_small}
 use Rattle.bloom.proofs.insert.Goals as goal
 

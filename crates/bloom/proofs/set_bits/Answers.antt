@@ -1,5 +1,4 @@
-use native.Mathlib.Omega.{arith}
-use lib.ListN.{length}
+use Rattle.std.proofs.Common.{length, arith}
 use Rattle.bloom.specs.Filter.{place_inside, with_at}
 use Rattle.bloom.proofs.set_bits.Goals as goal
 
@@ -11,14 +10,9 @@ pub bounds-words-i : goal.bounds-words-i
 bounds-words-i c =
     let p = place_inside c.args.base (length c.args.words.now) c.args.x c.requires.0 c.requires.1 in omega (arith, p, c.place_of-i.ensures)
 
-pub offset_bounds-words-i-2 : goal.offset_bounds-words-i-2
-offset_bounds-words-i-2 c =
-    let p = place_inside c.args.base (length c.args.words.now) c.args.x c.requires.0 c.requires.1 in omega (arith, p, c.place_of-i.ensures)
-
 pub bounds-words-i-2 : goal.bounds-words-i-2
 bounds-words-i-2 c =
     let p = place_inside c.args.base (length c.args.words.now) c.args.x c.requires.0 c.requires.1 in omega (arith, p, c.place_of-i.ensures)
 
 pub returns : goal.returns
-returns c =
-    with_at c.args.words.now c.args.base c.args.x c.args.bits c.place_of-i.ensures
+returns c = with_at c.args.words.now c.args.base c.args.x c.args.bits c.place_of-i.ensures

@@ -5,4 +5,4 @@ use Rattle.book_answers.proofs.lookup_contents.Goals as goal
 
 pub returns : goal.returns
 returns c =
-    range_told _ _ _ _ _ c.range_answer.ensures (range_shown content_codec _) c.lookup_contents.ensures
+    range_told _ c.from.ensures (range_shown content_codec _) c.lookup_contents.ensures

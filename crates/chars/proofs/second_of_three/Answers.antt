@@ -1,19 +1,16 @@
+use Rattle.std.proofs.Common.{arith, refl}
 use Rattle.model.specs.Utf8.{utf8_step}
 use Rattle.chars.specs.Leads.{lead_3, lead_e0, lead_ed}
-use mathlib.Core.Path.{refl}
 use Rattle.chars.proofs.second_of_three.Goals as goal
 
-pub returns-then-a-eq224 : goal.returns-then-a-eq224
+pub returns-in-224 : goal.returns-in-224
 unfolding utf8_step
-returns-then-a-eq224 c =
-    rw (lead_e0 _ c.if-a-eq224.true, c.within.ensures) refl
+returns-in-224 c = rw (lead_e0 _ c.in-224.is, c.within.ensures) refl
 
-pub returns-then-a-eq237 : goal.returns-then-a-eq237
+pub returns-in-237 : goal.returns-in-237
 unfolding utf8_step
-returns-then-a-eq237 c =
-    rw (lead_ed _ c.if-a-eq237.true, c.within-then-a-eq237.ensures) refl
+returns-in-237 c = rw (lead_ed _ c.in-237.is, c.within-in-237.ensures) refl
 
-pub returns : goal.returns
+pub returns-in_default : goal.returns-in_default
 unfolding utf8_step
-returns c =
-    rw (lead_3 _ c.requires.0 c.requires.1 c.if-a-eq224.false c.if-a-eq237.false, c.within-2.ensures) refl
+returns-in_default c = rw (lead_3 _ c.requires.0 c.requires.1 (λ e. omega arith) (λ e. omega arith), c.within-in_default.ensures) refl

@@ -1,13 +1,11 @@
-use mathlib.Core.Path.{refl}
+use Rattle.std.proofs.Common.{refl}
 use Rattle.cuts.specs.Gaps.{closes_nothing}
 use Rattle.cuts.proofs.closes_nothing.Goals as goal
 
-pub returns-then-not-closes : goal.returns-then-not-closes
+pub returns-then-closes : goal.returns-then-closes
 unfolding closes_nothing
-returns-then-not-closes c =
-    rw c.if-not-closes.true refl
+returns-then-closes c = rw c.if-closes.true refl
 
-pub returns : goal.returns
+pub returns-else-closes : goal.returns-else-closes
 unfolding closes_nothing
-returns c =
-    rw c.if-not-closes.false refl
+returns-else-closes c = rw c.if-closes.false refl

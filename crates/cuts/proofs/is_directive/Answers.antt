@@ -1,19 +1,13 @@
-use mathlib.Core.Path.{refl}
-use borrow.Author.Tests.{lt-ltb, le-ltb, eq-eqb, ne_eqb}
+use Rattle.std.proofs.Common.{arith}
+use Rattle.std.proofs.lemmas.Grind.{common_steps}
+use Rattle.std.proofs.lemmas.Bool.Decides.{nat_tests}
 use Rattle.model.specs.Tape.{record_at, operands_at, node_codec}
 use Rattle.cuts.proofs.is_directive.Goals as goal
 
-pub returns-then-tape-at-ge2 : goal.returns-then-tape-at-ge2
+pub returns-then-tape-at-eq13 : goal.returns-then-tape-at-eq13
 unfolding record_at operands_at node_codec
-returns-then-tape-at-ge2 c =
-    rw (le-ltb _ 2 c.if-tape-at-ge2.true) refl
+returns-then-tape-at-eq13 c = grind (arith, common_steps, nat_tests)
 
-pub returns-then-tape-at-ne13 : goal.returns-then-tape-at-ne13
+pub returns-else-tape-at-eq13 : goal.returns-else-tape-at-eq13
 unfolding record_at operands_at node_codec
-returns-then-tape-at-ne13 c =
-    rw (lt-ltb _ 2 c.if-tape-at-ge2.false, ne_eqb _ 13 c.if-tape-at-ne13.true) refl
-
-pub returns : goal.returns
-unfolding record_at operands_at node_codec
-returns c =
-    rw (lt-ltb _ 2 c.if-tape-at-ge2.false, eq-eqb _ 13 c.if-tape-at-ne13.false) refl
+returns-else-tape-at-eq13 c = grind (arith, common_steps, nat_tests)

@@ -1,19 +1,14 @@
-use Rattle.std.proofs.Common.{◌≡◌, ◌-◌, ◌≤◌, min, ◌++◌, length}
+use Rattle.std.proofs.Common.{◌≡◌, ◌≤◌, ◌++◌, min}
 use Rattle.model.specs.Tape.{records_at, node_codec}
 use Rattle.strings.specs.Starts.{store_in}
-use Rattle.dependency.specs.Parts.{refers_among}
-use Rattle.dependency.specs.Later.{Left}
 use Rattle.sorted_ids.specs.Row.{first_words}
+use Rattle.dependency.specs.Later.{Left}
+use Rattle.dependency.specs.Parts.{refers_among}
 use Rattle.dependency.specs.Rows.{Rowed}
 use Rattle.dependency.proofs.any_refers_sorted.Given as goal
 
 abbrev pub invariant-loop-i : goal.invariant-loop-i
-invariant-loop-i l = (l.i ≤ l.count)
-    × (length l.words ≡ length l.initial.words)
-    × (first_words l.base l.words ≡ first_words l.base l.initial.words)
+invariant-loop-i l = (first_words l.base l.words ≡ first_words l.base l.initial.words)
     × (l.m ≤ l.i)
     × Rowed (store_in l.tape (l.old ++ l.new)) l.st.totals.strings (records_at node_codec l.tape l.at (min l.n l.i)) l.words l.base l.m
     × Left (refers_among (store_in l.tape (l.old ++ l.new)) l.from l.tape l.at l.n) l.count l.i
-
-abbrev pub decreases-loop-i : goal.decreases-loop-i
-decreases-loop-i l = l.count - l.i

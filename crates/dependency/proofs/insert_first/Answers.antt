@@ -10,8 +10,8 @@ returns-then-n-i c =
     let start = c in
     (refl, omega (arith, start.requires.m_le_i), rowed_past _ _ _ _ _ _ start.requires.rowed c.if-n-i.true)
 
-pub noted_place-v-requires : goal.noted_place-v-requires
-noted_place-v-requires c =
+pub noted_place-requires : goal.noted_place-requires
+noted_place-requires c =
     let start = c in
     sound_naming (sound_last start.args.i start.requires.sound)
 

@@ -8,13 +8,13 @@ insert-requires c =
       resolvable = start.requires.resolvable;
       row = start.requires.row;
       m_in_bounds = start.requires.m_in_bounds;
-      id_lt_strings = (start.requires.plain_in.inside _ c.in-Id.is);
+      id_lt_strings = (start.requires.plain_in.inside _ c.in-Some.is);
     }
 
-pub returns-in-Id : goal.returns-in-Id
-returns-in-Id c =
-    row_some _ c.in-Id.is c.insert.ensures
+pub returns-in-Some : goal.returns-in-Some
+returns-in-Some c =
+    row_some _ c.in-Some.is c.insert.ensures
 
-pub returns-in-Nothing : goal.returns-in-Nothing
-returns-in-Nothing c =
-    row_none c.requires.row c.in-Nothing.is
+pub returns-in-None : goal.returns-in-None
+returns-in-None c =
+    row_none c.requires.row c.in-None.is

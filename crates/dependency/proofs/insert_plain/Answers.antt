@@ -7,13 +7,12 @@ pub resolve_str-s-requires : goal.resolve_str-s-requires
 resolve_str-s-requires c =
     record {
       resolvable = c.requires.resolvable;
-      id_lt_strings = (c.requires.plain_in.inside _ c.in-Id.is);
+      id_lt_strings = (c.requires.plain_in.inside _ c.in-Some.is);
     }
 
-pub returns-in-Id : goal.returns-in-Id
-returns-in-Id c =
-    insert_some _ _ _ _ c.in-Id.is (c.resolve_str-s.ensures ∙ shown_str c.requires.resolvable.sides _ (c.requires.plain_in.inside _ c.in-Id.is)) c.filter_key-h.ensures c.insert.ensures
+pub returns-in-Some : goal.returns-in-Some
+returns-in-Some c =
+    insert_some _ _ _ _ c.in-Some.is (c.resolve_str-s.ensures ∙ shown_str c.requires.resolvable.sides _ (c.requires.plain_in.inside _ c.in-Some.is)) c.filter_key-h.ensures c.insert.ensures
 
-pub returns-in-Nothing : goal.returns-in-Nothing
-returns-in-Nothing c =
-    insert_none _ _ _ c.in-Nothing.is
+pub returns-in_default : goal.returns-in_default
+returns-in_default c = insert_none _ _ _ c.in_default.is

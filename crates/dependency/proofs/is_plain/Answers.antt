@@ -5,13 +5,13 @@ pub is_string-requires : goal.is_string-requires
 is_string-requires c =
     record {
       resolvable = c.requires.resolvable;
-      id_lt_strings = c.requires.plain_in.inside _ c.in-Id.is;
+      id_lt_strings = c.requires.plain_in.inside _ c.in-Some.is;
     }
 
-pub returns-in-Id : goal.returns-in-Id
-returns-in-Id c =
-    plain_some _ _ _ _ c.in-Id.is c.is_string.ensures
+pub returns-in-Some : goal.returns-in-Some
+returns-in-Some c =
+    plain_some _ _ _ _ c.in-Some.is c.is_string.ensures
 
-pub returns-in-Nothing : goal.returns-in-Nothing
-returns-in-Nothing c =
-    plain_none _ _ _ c.in-Nothing.is
+pub returns-in-None : goal.returns-in-None
+returns-in-None c =
+    plain_none _ _ _ c.in-None.is

@@ -8,15 +8,15 @@ resolve_str-s-requires c =
     let start = c in
     record {
       resolvable = start.requires.resolvable;
-      id_lt_strings = (start.requires.plain_in.inside _ c.in-Id.is);
+      id_lt_strings = (start.requires.plain_in.inside _ c.in-Some.is);
     }
 
-pub returns-in-Id : goal.returns-in-Id
-returns-in-Id c =
+pub returns-in-Some : goal.returns-in-Some
+returns-in-Some c =
     let at_p = c in
     let start = at_p in
-    among_some _ _ _ _ _ _ at_p.in-Id.is (c.resolve_str-s.ensures ∙ shown_str start.requires.resolvable.sides _ (start.requires.plain_in.inside _ at_p.in-Id.is)) c.contains.ensures
+    among_some _ _ _ _ _ _ at_p.in-Some.is (c.resolve_str-s.ensures ∙ shown_str start.requires.resolvable.sides _ (start.requires.plain_in.inside _ at_p.in-Some.is)) c.contains.ensures
 
-pub returns-in-Nothing : goal.returns-in-Nothing
-returns-in-Nothing c =
-    among_nothing _ _ _ _ _ c.in-Nothing.is
+pub returns-in-None : goal.returns-in-None
+returns-in-None c =
+    among_nothing _ _ _ _ _ c.in-None.is

@@ -1,5 +1,5 @@
-use Rattle.dependency.specs.Rows.{told_as, told_no}
-use Rattle.std.proofs.Common.{sym, refl, arith}
+use Rattle.dependency.specs.Rows.{told_as, told_is}
+use Rattle.std.proofs.Common.{refl, arith}
 use Rattle.ruby_formats.specs.Sound.{sound_last, sound_before, format_first, plain_inside}
 use Rattle.dependency.specs.Parts.{refers_other, refers_target, noted_few}
 use Rattle.dependency.proofs.refers_among.Goals as goal
@@ -7,7 +7,7 @@ use Rattle.dependency.proofs.refers_among.Goals as goal
 pub returns-then-not-asks_target : goal.returns-then-not-asks_target
 returns-then-not-asks_target c =
     let start = c in
-    told_no (sym (refers_other _ _ _ _ refl (sound_last start.args.i start.requires.sound) c.asks_target.ensures c.if-not-asks_target.true))
+    told_is _ (refers_other _ _ _ _ refl (sound_last start.args.i start.requires.sound) c.asks_target.ensures c.if-not-asks_target.true)
 
 pub first_plain-p-requires : goal.first_plain-p-requires
 first_plain-p-requires c =
@@ -20,9 +20,9 @@ first_plain-p-requires c =
 pub is_target_base-requires : goal.is_target_base-requires
 is_target_base-requires c =
     let start = c in record {
-      sound = sound_before start.requires.sound (omega (arith, c.smaller-k.ensures));
+      sound = sound_before start.requires.sound (omega (arith, c.min.ensures));
       base_in_bounds = start.requires.base_in_bounds;
-      noted = noted_few _ _ _ _ _ _ _ start.requires.noted _ c.smaller-k.ensures;
+      noted = noted_few _ _ _ _ _ _ _ start.requires.noted _ c.min.ensures;
       plain_in = plain_inside (sound_last start.args.i start.requires.sound) c.first_plain-p.ensures;
     }
 
@@ -32,4 +32,4 @@ returns c =
     let at-if1 = at-first-plain in
     let at-asks-target = at-if1 in
     let start = at-asks-target in
-    told_as c.is_target_base.ensures (refers_target _ _ _ _ refl (sound_last start.args.i start.requires.sound) at-asks-target.asks_target.ensures at-if1.if-not-asks_target.false at-first-plain.first_plain-p.ensures c.smaller-k.ensures refl)
+    told_as c.is_target_base.ensures (refers_target _ _ _ _ refl (sound_last start.args.i start.requires.sound) at-asks-target.asks_target.ensures at-if1.if-not-asks_target.false at-first-plain.first_plain-p.ensures c.min.ensures refl)

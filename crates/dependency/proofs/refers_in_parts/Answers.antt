@@ -2,7 +2,7 @@ use Rattle.ruby_formats.specs.Sound.{sound_index}
 use Rattle.dependency.specs.Pieces.{sound_piece}
 use Rattle.dependency.specs.Parts.{parts_none, parts_more, parts_found, parts_all}
 use Rattle.strings.specs.Starts.{store_in}
-use Rattle.std.proofs.Common.{◌+◌, ◌-◌, ◌++◌, refl, ◌∙◌, arith}
+use Rattle.std.proofs.Common.{◌++◌, refl, ◌∙◌, arith}
 use Rattle.dependency.proofs.refers_in_parts.Goals as goal
 
 pub overflow_sub-size : goal.overflow_sub-size
@@ -27,10 +27,6 @@ pub overflow_sub-count : goal.overflow_sub-count
 overflow_sub-count c =
     omega arith
 
-pub smaller-n-requires : goal.smaller-n-requires
-smaller-n-requires c =
-    tt
-
 pub overflow_mul-i : goal.overflow_mul-i
 overflow_mul-i c =
     omega (arith, c.requires.sound.inside)
@@ -48,7 +44,7 @@ refers_to_part-requires c =
     let turn = c in
     let start = turn in record {
       sound = sound_piece (sound_index turn.loop-i.invariant.2 start.requires.sound) turn.loop-i.i _ (omega (arith, c.loop-i-test.true));
-      n_le_count = (omega (arith, c.smaller-n.ensures), omega (arith, c.smaller-n.ensures, turn.loop-i.invariant.4, turn.loop-i.invariant.1));
+      n_le_count = (omega (arith, c.min-n.ensures), omega (arith, c.min-n.ensures, turn.loop-i.invariant.4, turn.loop-i.invariant.1));
     }
 
 pub shape_of-words-then-refers_to_part : goal.shape_of-words-then-refers_to_part
@@ -67,25 +63,25 @@ returns-then-refers_to_part c =
 
 pub overflow_add-i : goal.overflow_add-i
 overflow_add-i c =
-    let at-smaller = c in
-    let at-loop-test = at-smaller in
+    let at-min = c in
+    let at-loop-test = at-min in
     let turn = at-loop-test in
     let start = turn in
-    omega (arith, at-smaller.smaller-n.ensures, turn.loop-i.invariant.0, at-loop-test.loop-i-test.true, start.requires.sound.inside)
+    omega (arith, at-min.min-n.ensures, turn.loop-i.invariant.0, at-loop-test.loop-i-test.true, start.requires.sound.inside)
 
 pub loop-i-smaller : goal.loop-i-smaller
 loop-i-smaller c =
-    let at-smaller = c in
-    let at-loop-test = at-smaller in
-    omega (arith, at-smaller.smaller-n.ensures, at-loop-test.loop-i-test.true)
+    let at-min = c in
+    let at-loop-test = at-min in
+    omega (arith, at-min.min-n.ensures, at-loop-test.loop-i-test.true)
 
 pub loop-i-preserved : goal.loop-i-preserved
 loop-i-preserved c =
     let at-refers-to-part = c in
-    let at-smaller = at-refers-to-part in
-    let turn = at-smaller in
+    let at-min = at-refers-to-part in
+    let turn = at-min in
     let start = turn in (
-      omega (arith, at-smaller.smaller-n.ensures, turn.loop-i.invariant.0),
+      omega (arith, at-min.min-n.ensures, turn.loop-i.invariant.0),
       at-refers-to-part.refers_to_part.auto.words ∙ turn.loop-i.invariant.1,
       at-refers-to-part.refers_to_part.ensures.1 ∙ turn.loop-i.invariant.2,
       parts_more (store_in start.args.tape.now (start.args.old.now ++ start.args.new.now)) start.args.from start.args.tape.now

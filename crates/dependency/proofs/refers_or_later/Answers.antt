@@ -7,8 +7,8 @@ use Rattle.strings.specs.Starts.{store_in}
 use Rattle.std.proofs.Common.{◌++◌}
 use Rattle.dependency.proofs.refers_or_later.Goals as goal
 
-pub noted_place-v-requires : goal.noted_place-v-requires
-noted_place-v-requires c =
+pub noted_place-requires : goal.noted_place-requires
+noted_place-requires c =
     let start = c in
     sound_naming (sound_node start.requires.sound start.requires.i_lt_count.0)
 

@@ -1,16 +1,15 @@
+use Rattle.refusal.specs.Refusal.{handed_on}
 use Rattle.estimate.specs.Pricing.{estimate_none, estimate_some}
 use Rattle.estimate.proofs.estimate_checked.Goals as goal
 
-pub returns-then-f-ne0 : goal.returns-then-f-ne0
-returns-then-f-ne0 c =
-    let at-fitted = c in
-    estimate_none at-fitted.fitted-f.ensures c.if-f-ne0.true c.refused.ensures
+pub returns-in_err-f : goal.returns-in_err-f
+returns-in_err-f c =
+    rw (handed_on _ c.from_residual.ensures.1) (estimate_none _ _ _ _ _ c.in_err-f.ensures)
 
 pub price_fitted-requires : goal.price_fitted-requires
 price_fitted-requires c =
-    c.fitted-f.ensures.books c.if-f-ne0.false
+    c.in_ok-f.ensures
 
 pub returns : goal.returns
 returns c =
-    let at-fitted = c in
-    estimate_some at-fitted.fitted-f.ensures c.if-f-ne0.false c.price_fitted.ensures
+    estimate_some _ _ _ _ _ c.in_ok-f.ensures c.price_fitted.ensures

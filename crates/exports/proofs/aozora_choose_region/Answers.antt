@@ -1,7 +1,7 @@
-use mathlib.Core.Path.{ap, ◌∙◌}
+use Rattle.std.proofs.Common.{ap, ◌∙◌}
 use Rattle.answers.specs.Answers.{region_answer}
 use Rattle.exports.proofs.aozora_choose_region.Goals as goal
 
 pub returns : goal.returns
 returns c =
-    (c.region_answer.ensures ∙ ap region_answer c.choose_region.ensures.0, c.choose_region.ensures.1)
+    (c.from.ensures ∙ ap region_answer c.choose_region.ensures.0, c.choose_region.ensures.1)

@@ -1,14 +1,7 @@
+use Rattle.refusal.specs.Refusal.{handed_on}
 use Rattle.fitting.specs.Stages.{target_refused}
 use Rattle.fitting.proofs.fitted.Goals as goal
 
-pub returns-then-b-ne0 : goal.returns-then-b-ne0
-returns-then-b-ne0 c =
-    target_refused c.target_of-b.ensures c.if-b-ne0.true _ _ c.not_fitting.ensures
-
-pub fitting_reading-requires : goal.fitting_reading-requires
-fitting_reading-requires c =
-    c.target_of-b.ensures.given c.if-b-ne0.false
-
-pub returns : goal.returns
-returns c =
-    c.fitting_reading.ensures
+pub returns-in_err-b : goal.returns-in_err-b
+returns-in_err-b c =
+    rw (handed_on _ c.from_residual.ensures.1) (target_refused _ _ _ c.in_err-b.ensures _ _)

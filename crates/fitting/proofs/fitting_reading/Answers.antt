@@ -1,65 +1,43 @@
-use native.Mathlib.Omega.{arith}
+use Rattle.std.proofs.Common.{arith, refl}
 use Rattle.model.specs.Region.{edit_of}
+use Rattle.refusal.specs.Refusal.{handed_on, was_refused, number_bounds}
+use Rattle.tape.specs.Accepted.{passed_reading}
 use Rattle.fitting.specs.Stages.{reading_refused, reading_store_lem, reading_read, read_refused}
-use Rattle.fitting.specs.Merging.{window_read, window_offsets, window_refused, window_fits}
+use Rattle.fitting.specs.Merging.{window_read, window_offsets, window_refused, window_books}
 use Rattle.fitting.proofs.fitting_reading.Goals as goal
 
-pub returns-then-n-ne0 : goal.returns-then-n-ne0
-returns-then-n-ne0 c =
-    let start = c in
-    reading_refused start.requires _ _ c.check_reading-n.ensures c.if-n-ne0.true c.not_fitting.ensures
+pub returns-in_err-q : goal.returns-in_err-q
+returns-in_err-q c =
+    rw (handed_on _ c.from_residual.ensures.1) (reading_refused c.requires _ _ (was_refused _ _ c.in_err-q.ensures))
 
 pub store_of-own-requires : goal.store_of-own-requires
 store_of-own-requires c =
-    let start = c in
-    reading_store_lem start.requires _ _ c.check_reading-n.ensures c.if-n-ne0.false c.places_of-q.ensures
+    reading_store_lem (passed_reading c.in_ok-q.ensures)
 
 pub region_window-w-requires : goal.region_window-w-requires
 region_window-w-requires c =
     c.requires
 
-pub reading_refusal-k-requires : goal.reading_refusal-k-requires
+pub check_fitting-requires : goal.check_fitting-requires
 unfolding edit_of
-reading_refusal-k-requires c =
-    let at-region-window = c in
-    let at-store-of = at-region-window in
-    let at-places-of = at-store-of in
-    let at-if1 = at-places-of in
-    let at-check-reading = at-if1 in
-    let start = at-check-reading in
-    let read = reading_read start.requires _ _ at-check-reading.check_reading-n.ensures at-if1.if-n-ne0.false at-places-of.places_of-q.ensures at-store-of.store_of-own.ensures in
+check_fitting-requires c =
+    let read = reading_read (passed_reading c.in_ok-q.ensures) c.requires c.store_of-own.ensures in
     record {
-      read = window_read read at-region-window.region_window-w.result at-region-window.region_window-w.ensures;
-      nstart_value = window_offsets read at-region-window.region_window-w.result at-region-window.region_window-w.ensures;
+      read = window_read read c.region_window-w.result c.region_window-w.ensures;
+      nstart_value = window_offsets read c.region_window-w.result c.region_window-w.ensures;
     }
 
-pub returns-then-k-ne0 : goal.returns-then-k-ne0
+pub returns-in_err-check_fitting : goal.returns-in_err-check_fitting
 unfolding edit_of
-returns-then-k-ne0 c =
-    let at-reading-refusal = c in
-    let at-region-window = at-reading-refusal in
-    let at-store-of = at-region-window in
-    let at-places-of = at-store-of in
-    let at-if1 = at-places-of in
-    let at-check-reading = at-if1 in
-    let start = at-check-reading in
-    let read = reading_read start.requires _ _ at-check-reading.check_reading-n.ensures at-if1.if-n-ne0.false at-places-of.places_of-q.ensures at-store-of.store_of-own.ensures in
-    read_refused start.requires _ _ at-check-reading.check_reading-n.ensures at-if1.if-n-ne0.false
-    (window_refused read at-region-window.region_window-w.result at-region-window.region_window-w.ensures at-reading-refusal.reading_refusal-k.ensures c.if-k-ne0.true) c.if-k-ne0.true
-    c.not_fitting-then-k-ne0.ensures
+returns-in_err-check_fitting c =
+    let a = passed_reading c.in_ok-q.ensures in
+    let read = reading_read a c.requires c.store_of-own.ensures in
+    rw (handed_on _ c.from_residual-in_err-check_fitting.ensures.1)
+    (read_refused c.requires _ _ a.reading (window_refused read c.region_window-w.result c.region_window-w.ensures c.in_err-check_fitting.ensures (number_bounds _).0))
 
 pub returns : goal.returns
 unfolding edit_of
 returns c =
-    let at-reading-refusal = c in
-    let at-region-window = at-reading-refusal in
-    let at-store-of = at-region-window in
-    let at-places-of = at-store-of in
-    let at-if1 = at-places-of in
-    let at-check-reading = at-if1 in
-    let at-shared-slice-known4 = at-check-reading in
-    let at-shared-slice-known = at-shared-slice-known4 in
-    let start = at-shared-slice-known in
-    window_fits (reading_read start.requires _ _ at-check-reading.check_reading-n.ensures at-if1.if-n-ne0.false at-places-of.places_of-q.ensures at-store-of.store_of-own.ensures)
-    at-region-window.region_window-w.result at-region-window.region_window-w.ensures at-reading-refusal.reading_refusal-k.ensures c.if-k-ne0.false
-    (record { byte = λ i h. omega (arith, at-shared-slice-known.type_inv.tape i) }) (record { byte = λ i h. omega (arith, at-shared-slice-known4.type_inv.readingtape i) })
+    let read = reading_read (passed_reading c.in_ok-q.ensures) c.requires c.store_of-own.ensures in
+    window_books read c.region_window-w.result c.region_window-w.ensures c.in_ok-check_fitting.ensures refl
+    (record { byte = λ i h. omega (arith, c.type_inv.tape i) }) (record { byte = λ i h. omega (arith, c.type_inv.readingtape i) })

@@ -1,34 +1,26 @@
+use Rattle.std.proofs.Common.{sym}
+use Rattle.refusal.specs.Refusal.{handed_on, was_refused}
+use Rattle.tape.specs.Accepted.{passed_book}
 use Rattle.region.specs.Entry.{choose_store, choose_held}
-use Rattle.fitting.specs.Stages.{book_refused, edit_refused, edit_found}
+use Rattle.fitting.specs.Stages.{book_refused, edit_refused}
 use Rattle.fitting.proofs.target_of.Goals as goal
 
-pub returns-then-b-ne0 : goal.returns-then-b-ne0
-returns-then-b-ne0 c =
-    book_refused _ _ c.checked_book-b.ensures.0 c.if-b-ne0.true _ c.no_target.ensures
+pub returns-in_err-p : goal.returns-in_err-p
+returns-in_err-p c =
+    rw (handed_on _ c.from_residual.ensures.1) (book_refused _ _ _ (was_refused _ _ c.in_err-p.ensures))
 
 pub store_of-st-requires : goal.store_of-st-requires
 store_of-st-requires c =
-    let at-if1 = c in
-    let book = at-if1.checked_book-b.ensures in
-    choose_store _ _ book.0 at-if1.if-b-ne0.false (book.1 at-if1.if-b-ne0.false)
+    choose_store (passed_book c.in_ok-p.ensures)
 
-pub chosen_region-found-requires : goal.chosen_region-found-requires
-chosen_region-found-requires c =
-    let at-if1 = c in
-    let book = at-if1.checked_book-b.ensures in
-    choose_held _ _ book.0 at-if1.if-b-ne0.false (book.1 at-if1.if-b-ne0.false) c.store_of-st.ensures
+pub chosen_region-requires : goal.chosen_region-requires
+chosen_region-requires c =
+    choose_held (passed_book c.in_ok-p.ensures) c.store_of-st.ensures
 
-pub returns-in-Refused : goal.returns-in-Refused
-returns-in-Refused c =
-    let at-chosen-region = c in
-    let at-if1 = at-chosen-region in
-    let book = at-if1.checked_book-b.ensures in
-    edit_refused _ _ book.0 at-if1.if-b-ne0.false _ at-chosen-region.chosen_region-found.ensures c.in-Refused.is c.no_target-in-Refused.ensures
+pub returns-in_err-region : goal.returns-in_err-region
+returns-in_err-region c =
+    rw (handed_on _ c.from_residual-in_err-region.ensures.1) (edit_refused _ _ _ (passed_book c.in_ok-p.ensures).whole c.in_err-region.ensures)
 
-pub returns-in-Region : goal.returns-in-Region
-returns-in-Region c =
-    let at-chosen-region = c in
-    let at-store-of = at-chosen-region in
-    let at-if1 = at-store-of in
-    let book = at-if1.checked_book-b.ensures in
-    edit_found _ _ book.0 at-if1.if-b-ne0.false _ at-chosen-region.chosen_region-found.ensures c.in-Region.is (book.1 at-if1.if-b-ne0.false) at-store-of.store_of-st.ensures
+pub returns : goal.returns
+returns c =
+    record { held = choose_held (passed_book c.in_ok-p.ensures) c.store_of-st.ensures; chosen = sym c.in_ok-region.ensures }

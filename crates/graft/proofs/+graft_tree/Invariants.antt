@@ -1,21 +1,16 @@
-use mathlib.Core.Path.{◌≡◌}
-use lib.ListN.{length}
+use Rattle.std.proofs.Common.{◌+◌, ◌*◌}
+use Rattle.model.specs.Tape.{content_codec, segment_codec}
 use Rattle.records.specs.Values.{body_at}
 use Rattle.graft.specs.Fields.{BodySoFar}
-use Rattle.model.specs.Tape.{content_codec, segment_codec}
 use Rattle.graft.specs.Walk.{shown_contents, shown_segments}
 use Rattle.graft.specs.Loop.{ItemsUpTo}
-use Prim.Native.Nat.{◌+◌, ◌-◌, ◌*◌, ◌≤◌}
 use Rattle.graft.proofs.+graft_tree.Given as goal
 
 abbrev pub decreases-graft_body : goal.decreases-graft_body
 decreases-graft_body l = l.level * 9 + 8
 
 abbrev pub invariant-graft_body-loop-j : goal.invariant-graft_body-loop-j
-invariant-graft_body-loop-j l = (l.j ≤ 6) × BodySoFar l.level l.tape l.bytes l.p l.initial.u.mark (body_at l.tape l.at) l.initial.out l.initial.work l.initial.strs l.out l.work l.strs l.u l.j × (length l.work ≡ length l.initial.work) × (length l.strs ≡ length l.initial.strs)
-
-abbrev pub decreases-graft_body-loop-j : goal.decreases-graft_body-loop-j
-decreases-graft_body-loop-j l = 6 - l.j
+invariant-graft_body-loop-j l = BodySoFar l.level l.tape l.bytes l.p l.initial.m (body_at l.tape l.at) l.initial.out l.initial.work l.initial.strs l.out l.work l.strs l.m l.words l.j
 
 abbrev pub decreases-graft_content : goal.decreases-graft_content
 decreases-graft_content l = l.level * 9 + 3
@@ -27,10 +22,7 @@ abbrev pub decreases-graft_contents : goal.decreases-graft_contents
 decreases-graft_contents l = l.level * 9 + 4
 
 abbrev pub invariant-graft_contents-loop-i : goal.invariant-graft_contents-loop-i
-invariant-graft_contents-loop-i l = (l.i ≤ l.count) × ItemsUpTo l.tape l.bytes content_codec (shown_contents l.level l.tape l.bytes) l.p l.initial.u l.at (l.p.contentsat + 10 * l.to) l.initial.out l.initial.work l.initial.strs l.out l.work l.strs l.u l.i × (length l.work ≡ length l.initial.work) × (length l.strs ≡ length l.initial.strs)
-
-abbrev pub decreases-graft_contents-loop-i : goal.decreases-graft_contents-loop-i
-decreases-graft_contents-loop-i l = l.count - l.i
+invariant-graft_contents-loop-i l = ItemsUpTo l.tape l.bytes content_codec (shown_contents l.level l.tape l.bytes) l.p l.initial.m l.at (l.p.contentsat + 10 * l.to) l.initial.out l.initial.work l.initial.strs l.out l.work l.strs l.m l.i
 
 abbrev pub decreases-graft_field : goal.decreases-graft_field
 decreases-graft_field l = l.level * 9 + 6
@@ -48,7 +40,4 @@ abbrev pub decreases-graft_segments : goal.decreases-graft_segments
 decreases-graft_segments l = l.level * 9 + 1
 
 abbrev pub invariant-graft_segments-loop-i : goal.invariant-graft_segments-loop-i
-invariant-graft_segments-loop-i l = (l.i ≤ l.count) × ItemsUpTo l.tape l.bytes segment_codec (shown_segments l.level l.tape l.bytes) l.p l.initial.u l.at (l.p.segmentsat + 37 * l.to) l.initial.out l.initial.work l.initial.strs l.out l.work l.strs l.u l.i × (length l.work ≡ length l.initial.work) × (length l.strs ≡ length l.initial.strs)
-
-abbrev pub decreases-graft_segments-loop-i : goal.decreases-graft_segments-loop-i
-decreases-graft_segments-loop-i l = l.count - l.i
+invariant-graft_segments-loop-i l = ItemsUpTo l.tape l.bytes segment_codec (shown_segments l.level l.tape l.bytes) l.p l.initial.m l.at (l.p.segmentsat + 37 * l.to) l.initial.out l.initial.work l.initial.strs l.out l.work l.strs l.m l.i

@@ -1,16 +1,19 @@
-use Rattle.graft.specs.Inner.{wide_room, contents_exact}
+use Rattle.graft.specs.Inner.{wide_room, inner_some, contents_exact}
 use Rattle.sizes.specs.Capped.{kept_none}
 use Rattle.sizes.specs.InPlace.{inner_adds, contents_add}
 use Rattle.graft.proofs.inner_contents.Goals as goal
 
-pub contents_sizes-inner-requires : goal.contents_sizes-inner-requires
-contents_sizes-inner-requires c =
+pub contents_sizes-requires : goal.contents_sizes-requires
+contents_sizes-requires c =
     record {
       of_tape = c.requires.of_tape;
       kept = kept_none wide_room;
       count_in_bounds = c.requires.count_in_bounds;
     }
 
+pub unwrap-requires : goal.unwrap-requires
+unwrap-requires c = inner_some (contents_add (inner_adds c.args.level c.args.tape.now c.args.st) c.args.tape.now c.args.st c.args.at c.args.count) c.requires.count_bound.0 c.requires.count_bound.1 c.contents_sizes-inner.ensures
+
 pub returns : goal.returns
 returns c =
-    contents_exact (contents_add (inner_adds c.args.level c.args.tape.now c.args.st) c.args.tape.now c.args.st c.args.at c.args.count) c.requires.count_bound.0 c.requires.count_bound.1 c.contents_sizes-inner.result c.contents_sizes-inner.ensures
+    contents_exact (contents_add (inner_adds c.args.level c.args.tape.now c.args.st) c.args.tape.now c.args.st c.args.at c.args.count) c.requires.count_bound.0 c.requires.count_bound.1 c.contents_sizes-inner.ensures c.unwrap.ensures

@@ -1,6 +1,21 @@
-use Rattle.graft.specs.Strings.{source_tape, part_inside, part_shows, id_small, str_answer_lem}
-use native.Mathlib.Omega.{arith}
+use Rattle.std.proofs.Common.{sym, ap, ◌∙◌, subst, List, ℕ, arith}
+use Rattle.model.specs.Intern.{intern}
+use Rattle.interner.specs.State.{state_of}
+use Rattle.interner.specs.Lookups.{last_there}
+use Rattle.intern.specs.Told.{Told}
+use Rattle.graft.specs.Strings.{source_tape, part_inside, part_shows}
 use Rattle.graft.proofs.intern_str.Goals as goal
+
+pub intern_last-requires : goal.intern_last-requires
+intern_last-requires c =
+    record {
+      last_nonzero = (last_there c.args.work.now c.args.strs.now c.args.state.now c.requires.good _ (c.requires.last c.if-is_last.true), omega (arith, c.requires.good.known, c.requires.good.words.few));
+      counted = (c.requires.good.counts, c.requires.id_lt_strings.1);
+    }
+
+pub returns-then-is_last : goal.returns-then-is_last
+returns-then-is_last c =
+    c.intern_last.ensures c.args.work.now c.args.strs.now _ c.requires.good (c.requires.last c.if-is_last.true)
 
 pub string_from-from-requires : goal.string_from-from-requires
 string_from-from-requires c =
@@ -25,10 +40,6 @@ pub slice_bounds-intern-end : goal.slice_bounds-intern-end
 slice_bounds-intern-end c =
     omega (arith, part_inside c.args.tape.now c.args.bytes.now c.args.st c.requires.source c.args.id c.requires.id_lt_strings.0 c.string_from-from.result c.string_length-len.result c.string_from-from.ensures c.string_length-len.ensures)
 
-pub start_of-requires : goal.start_of-requires
-start_of-requires c =
-    omega (arith, id_small c.args.p c.args.m c.args.work.now c.args.strs.now c.intern-a.new.work c.intern-a.new.strs _ c.intern-a.result c.intern-a.ensures, c.requires.id_lt_strings.2)
-
 pub returns : goal.returns
 returns c =
-    λ out. str_answer_lem c.args.p c.args.m c.args.work.now c.args.strs.now c.intern-a.new.work c.intern-a.new.strs _ c.intern-a.result c.intern-a.ensures c.requires.good c.intern-a.auto.strs c.args.tape.now c.args.bytes.now out c.args.known c.args.id c.requires.shows_as _ c.start_of.ensures (part_shows c.args.tape.now c.args.bytes.now c.args.st c.requires.source c.args.id c.requires.id_lt_strings.0 c.string_from-from.result c.string_length-len.result c.string_from-from.ensures c.string_length-len.ensures)
+    rw (part_shows c.args.tape.now c.args.bytes.now c.args.st c.requires.source c.args.id c.requires.id_lt_strings.0 c.string_from-from.result c.string_length-len.result c.string_from-from.ensures c.string_length-len.ensures) at c.intern.ensures

@@ -1,4 +1,4 @@
-use Rattle.std.proofs.Common.{◌≡◌, ℕ, ◌+◌, ◌<◌, ◌≤◌, List, length, get_or, drop, sym, refl, ap, ◌∙◌, add-one, arith, drop_of_length-le, drop-cons, rules}
+use Rattle.std.proofs.Common.{◌≡◌, ℕ, ◌+◌, ◌<◌, ◌≤◌, List, length, get_or, drop, sym, refl, ap, ◌∙◌, add-one, drop_of_length-le, drop-cons}
 use Rattle.model.specs.Intern.{fx_step, fx_from, fx_hash}
 use Rattle.hash.proofs.fx_hash.Goals as goal
 
@@ -10,21 +10,15 @@ done : (h i : ℕ) (bs : List ℕ) → length bs ≤ i → fx_from h (drop i bs)
 unfolding fx_from
 done h i bs le = rw (drop_of_length-le bs le) refl
 
-pub loop-i-init : goal.loop-i-init
-loop-i-init c =
-    (omega arith, refl)
-
-pub loop-i-preserved : goal.loop-i-preserved
-loop-i-preserved c =
-    let l = c.loop-i in
-    let bs = c.args.bytes.now in (
-      search rules,
-      ap (λ (k : ℕ). fx_from k (drop (l.i + 1) bs)) c.fx_step-h.ensures
-          ∙ turn l.h l.i bs c.loop-i-test.true
-          ∙ l.invariant.1,
-    )
+pub loop-b-preserved : goal.loop-b-preserved
+loop-b-preserved c =
+    let l = c.loop-b in
+    let bs = c.args.bytes.now in
+    ap (λ (k : ℕ). fx_from k (drop (l.b-index + 1) bs)) c.fx_step-h.ensures
+    ∙ turn l.h l.b-index bs c.loop-b-test.true
+    ∙ l.invariant
 
 pub returns : goal.returns
 unfolding fx_hash
 returns c =
-    sym (done _ _ _ c.loop-i-test.false) ∙ c.loop-i.invariant.1
+    sym (done _ _ _ c.loop-b-test.false) ∙ c.loop-b.invariant

@@ -1,6 +1,6 @@
+use Rattle.std.proofs.Common.{ap, ◌∙◌}
 use Rattle.ids.specs.Tests.{content_in, content_plain, content_segments_lem}
 use Rattle.records.specs.Values.{content_of}
-use mathlib.Core.Path.{ap, ◌∙◌}
 use Rattle.ids.proofs.content_ids_ok.Goals as goal
 
 pub returns-then-c-eq0 : goal.returns-then-c-eq0

@@ -7,5 +7,4 @@ returns-then-not-range_ok c =
 
 pub returns : goal.returns
 returns c =
-    let first = c in
-    runs_passed _ _ _ _ first.body_word-base.ensures first.body_word-size.ensures first.range_ok.ensures c.if-not-range_ok.false c.body_word-reading.ensures c.body_word-len.ensures c.range_ok-2.ensures
+    runs_passed _ _ _ _ c.body_word-base.ensures c.body_word-size.ensures c.range_ok.ensures c.if-not-range_ok.false c.body_word-reading.ensures c.body_word-len.ensures c.range_ok-2.ensures

@@ -1,22 +1,21 @@
+use Rattle.std.proofs.Common.{refl, sym, ◌∙◌}
+use Rattle.stats.specs.Ways.{adds_bypass}
 use Rattle.interner.specs.Room.{room_there}
 use Rattle.intern.proofs.Answers.{bypass_told, bypass_refused}
-use mathlib.Core.Path.{refl, sym, ◌∙◌}
-use Prim.Native.Nat.{◌-◌}
-use Rattle.stats.specs.Ways.{adds_bypass}
 use Rattle.intern.proofs.bypass.Goals as goal
 
-pub alloc-t-requires : goal.alloc-t-requires
-alloc-t-requires c =
+pub returns-then-not-has_room : goal.returns-then-not-has_room
+returns-then-not-has_room c =
+    bypass_refused c.args.work.now c.args.strs.now c.args.st.now c.requires.good c.args.s.now _ c.has_room.ensures c.if-not-has_room.true
+
+pub alloc-requires : goal.alloc-requires
+alloc-requires c =
     record {
       good = c.requires.good;
-      count_bound = room_there _ _ _ _ (sym c.has_room.ensures ∙ c.if-has_room.true);
-      counted = (adds_bypass _ _ c.requires.good.counts c.bypass.ensures).counted;
+      count_bound = room_there _ _ _ _ (sym c.has_room.ensures ∙ c.if-not-has_room.false);
+      counted = (adds_bypass _ _ c.requires.good.counts c.bypass-stats.ensures).counted;
     }
-
-pub returns-then-has_room : goal.returns-then-has_room
-returns-then-has_room c =
-    bypass_told c.args.work.now c.args.strs.now c.args.st c.requires.good c.args.s.now _ c.has_room.ensures c.if-has_room.true _ _ _ _ (adds_bypass _ _ c.requires.good.counts c.bypass.ensures) _ c.alloc-t.ensures _ refl refl refl refl
 
 pub returns : goal.returns
 returns c =
-    bypass_refused c.args.work.now c.args.strs.now c.args.st c.requires.good c.args.s.now _ c.has_room.ensures _ _ _ c.if-has_room.false refl refl refl
+    bypass_told c.args.work.now c.args.strs.now c.args.st.now c.requires.good c.args.s.now _ c.has_room.ensures c.if-not-has_room.false _ _ _ _ (adds_bypass _ _ c.requires.good.counts c.bypass-stats.ensures) _ c.alloc.ensures _ refl refl

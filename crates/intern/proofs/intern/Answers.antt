@@ -1,19 +1,15 @@
-use mathlib.Core.Bool.{Bool}
+use Rattle.std.proofs.Common.{sym, ap, ◌∙◌, Bool, cond, arith}
 use Rattle.table.specs.Sizes.{is_due, size_hi, one_or_none}
 use Rattle.interner.specs.declared.StrInterner.{StrInterner as Interner}
 use Rattle.interner.specs.Lookups.{last_there}
-use Rattle.intern.proofs.Answers.{intern_bypass, intern_told}
 use Rattle.interner.specs.Tables.{grows_is}
-use mathlib.Core.Bool.{cond}
-use mathlib.Core.Path.{sym, ap, ◌∙◌}
-use Prim.Native.Nat.{◌-◌}
-use native.Mathlib.Omega.{arith}
+use Rattle.intern.proofs.Answers.{intern_bypass, intern_told}
 use Rattle.intern.proofs.intern.Goals as goal
 
 pub intern_last-requires : goal.intern_last-requires
 intern_last-requires c =
     record {
-      last_nonzero = (last_there c.args.work.now c.args.strs.now c.args.st c.requires.good c.args.s.now (sym c.is_last.ensures ∙ c.if-is_last.true), omega (arith, c.requires.good.known, c.requires.good.words.few));
+      last_nonzero = (last_there c.args.work.now c.args.strs.now c.args.st.now c.requires.good c.args.s.now (sym c.is_last.ensures ∙ c.if-is_last.true), omega (arith, c.requires.good.known, c.requires.good.words.few));
       counted = (c.requires.good.counts, c.requires.calls_bound);
     }
 
@@ -23,7 +19,7 @@ returns-then-is_last c =
 
 pub returns-then-s-gt-INTERN_LENGTH_LIMIT : goal.returns-then-s-gt-INTERN_LENGTH_LIMIT
 returns-then-s-gt-INTERN_LENGTH_LIMIT c =
-    intern_bypass c.args.work.now c.args.strs.now c.args.st c.requires.good c.args.s.now _ c.is_last.ensures _ _ _ c.if-is_last.false c.if-s-gt-INTERN_LENGTH_LIMIT.true c.bypass.ensures
+    intern_bypass c.args.work.now c.args.strs.now c.args.st.now c.requires.good c.args.s.now _ c.is_last.ensures _ _ _ _ c.if-is_last.false c.if-s-gt-INTERN_LENGTH_LIMIT.true c.bypass.ensures
 
 pub resizes-resized-requires : goal.resizes-resized-requires
 resizes-resized-requires c =
@@ -31,13 +27,13 @@ resizes-resized-requires c =
 
 pub table_call-requires : goal.table_call-requires
 table_call-requires c =
-    let y = c.table_for-t.ensures in
+    let y = c.table_for.ensures in
     record {
       good = y.good;
       slots_nonzero = (y.some, y.roomy);
-      calls_bound = (omega (arith, ap (λ (x : Interner). x.stats.calls) y.is, c.requires.calls_bound), omega (arith, c.resizes-resized.ensures, one_or_none (is_due c.args.st.slots c.args.st.occupied)));
+      calls_bound = (omega (arith, ap (λ (x : Interner). x.stats.calls) y.is, c.requires.calls_bound), omega (arith, c.resizes-resized.ensures, one_or_none (is_due c.args.st.now.slots c.args.st.now.occupied)));
     }
 
 pub returns : goal.returns
 returns c =
-    intern_told c.args.work.now c.args.strs.now c.args.st c.requires.good c.args.s.now _ c.is_last.ensures _ _ _ _ _ _ c.if-is_last.false c.if-s-gt-INTERN_LENGTH_LIMIT.false c.table_for-t.ensures (c.resizes-resized.ensures ∙ ap (λ (b : Bool). cond b 1 0) (sym (grows_is c.args.work.now c.args.strs.now c.args.st c.requires.good))) c.table_call.ensures
+    intern_told c.args.work.now c.args.strs.now c.args.st.now c.requires.good c.args.s.now _ c.is_last.ensures _ _ _ _ _ _ _ c.if-is_last.false c.if-s-gt-INTERN_LENGTH_LIMIT.false c.table_for.ensures (c.resizes-resized.ensures ∙ ap (λ (b : Bool). cond b 1 0) (sym (grows_is c.args.work.now c.args.strs.now c.args.st.now c.requires.good))) c.table_call.ensures

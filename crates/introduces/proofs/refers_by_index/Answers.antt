@@ -3,7 +3,6 @@ use Rattle.dependency.specs.Pieces.{sound_piece}
 use Rattle.introduces.specs.Pieces.{unreferred_none, unreferred_more, unreferred_all, referred_here}
 use Rattle.ruby_formats.specs.Sound.{sound_index}
 use mathlib.Core.Path.{◌∙◌}
-use Prim.Native.Nat.{◌-◌}
 use native.Mathlib.Omega.{arith}
 use Rattle.introduces.proofs.refers_by_index.Goals as goal
 
@@ -25,10 +24,6 @@ pub overflow_sub-count : goal.overflow_sub-count
 overflow_sub-count c =
     omega (arith, c.loop-i-test.true)
 
-pub fewer-n-requires : goal.fewer-n-requires
-fewer-n-requires c =
-    tt
-
 pub overflow_mul-i : goal.overflow_mul-i
 overflow_mul-i c =
     let start = c in
@@ -43,9 +38,9 @@ pub refers_to_some-requires : goal.refers_to_some-requires
 refers_to_some-requires c =
     let turn = c in
     let start = turn in record {
-      count_bound = (omega (arith, c.fewer-n.ensures, turn.loop-i.invariant.3), omega (arith, turn.loop-i.invariant.1.size, start.requires.base_bound.1));
+      count_bound = (omega (arith, c.min-n.ensures, turn.loop-i.invariant.3), omega (arith, turn.loop-i.invariant.1.size, start.requires.base_bound.1));
       sound = sound_piece (sound_index turn.loop-i.invariant.1.first start.requires.sound) _ _ (omega
-          (arith, c.fewer-n.ensures, turn.loop-i.invariant.0));
+          (arith, c.min-n.ensures, turn.loop-i.invariant.0));
       sound_2 = sound_index turn.loop-i.invariant.1.last start.requires.sound_2;
     }
 
@@ -58,29 +53,29 @@ shape_of-words-then-refers_to_some c =
 pub returns-then-refers_to_some : goal.returns-then-refers_to_some
 returns-then-refers_to_some c =
     let at-refers-to-some = c in
-    let at-fewer = at-refers-to-some in
-    let turn = at-fewer in
-    referred_here turn.loop-i.invariant.2 _ at-refers-to-some.refers_to_some.ensures.0 c.if-refers_to_some.true _ (omega (arith, at-fewer.fewer-n.ensures, turn.loop-i.invariant.0))
+    let at-min = at-refers-to-some in
+    let turn = at-min in
+    referred_here turn.loop-i.invariant.2 _ at-refers-to-some.refers_to_some.ensures.0 c.if-refers_to_some.true _ (omega (arith, at-min.min-n.ensures, turn.loop-i.invariant.0))
 
 pub overflow_add-i : goal.overflow_add-i
 overflow_add-i c =
-    let at-fewer = c in
-    let turn = at-fewer in
+    let at-min = c in
+    let turn = at-min in
     let start = turn in
-    omega (arith, at-fewer.fewer-n.ensures, turn.loop-i.invariant.0, start.requires.sound.inside)
+    omega (arith, at-min.min-n.ensures, turn.loop-i.invariant.0, start.requires.sound.inside)
 
 pub loop-i-smaller : goal.loop-i-smaller
 loop-i-smaller c =
-    let at-fewer = c in
-    let at-loop-test = at-fewer in
-    omega (arith, at-fewer.fewer-n.ensures, at-loop-test.loop-i-test.true)
+    let at-min = c in
+    let at-loop-test = at-min in
+    omega (arith, at-min.min-n.ensures, at-loop-test.loop-i-test.true)
 
 pub loop-i-preserved : goal.loop-i-preserved
 loop-i-preserved c =
     let at-refers-to-some = c in
-    let at-fewer = at-refers-to-some in
-    let turn = at-fewer in (
-      omega (arith, at-fewer.fewer-n.ensures, turn.loop-i.invariant.0),
+    let at-min = at-refers-to-some in
+    let turn = at-min in (
+      omega (arith, at-min.min-n.ensures, turn.loop-i.invariant.0),
       kept_more turn.loop-i.invariant.1 at-refers-to-some.refers_to_some.ensures.1,
       unreferred_more turn.loop-i.invariant.2 _ at-refers-to-some.refers_to_some.ensures.0 c.if-refers_to_some.false,
       turn.loop-i.invariant.3,

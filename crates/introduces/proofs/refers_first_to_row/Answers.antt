@@ -3,8 +3,8 @@ use Rattle.ruby_formats.specs.Named.{sound_naming, sound_namings}
 use Rattle.ruby_formats.specs.Sound.{sound_last}
 use Rattle.introduces.proofs.refers_first_to_row.Goals as goal
 
-pub noted_place-v-requires : goal.noted_place-v-requires
-noted_place-v-requires c =
+pub noted_place-requires : goal.noted_place-requires
+noted_place-requires c =
     let start = c in
     sound_naming (sound_last start.args.i start.requires.sound)
 

@@ -1,5 +1,5 @@
-use Rattle.dependency.specs.Rows.{told_as, told_no}
-use mathlib.Core.Path.{refl, sym}
+use Rattle.dependency.specs.Rows.{told_as, told_is}
+use mathlib.Core.Path.{refl}
 use Rattle.introduces.specs.Linked.{refers_other, refers_target}
 use Rattle.ruby_formats.specs.Sound.{target_first, plain_inside}
 use Rattle.introduces.proofs.refers_to.Goals as goal
@@ -11,7 +11,7 @@ is_referenced_format-requires c =
 pub returns-then-not-is_referenced_format : goal.returns-then-not-is_referenced_format
 returns-then-not-is_referenced_format c =
     let start = c in
-    told_no (sym (refers_other _ _ start.requires.sound_node c.is_referenced_format.ensures c.if-not-is_referenced_format.true))
+    told_is _ (refers_other _ _ start.requires.sound_node c.is_referenced_format.ensures c.if-not-is_referenced_format.true)
 
 pub first_plain-p-requires : goal.first_plain-p-requires
 first_plain-p-requires c =

@@ -6,7 +6,7 @@ use Rattle.layer.proofs.finish.Goals as goal
 
 pub returns-then-not-strings_fit : goal.returns-then-not-strings_fit
 returns-then-not-strings_fit c =
-    finish_refused c.strings_fit.ensures c.if-not-strings_fit.true c.refused.ensures
+    finish_refused c.strings_fit.ensures c.if-not-strings_fit.true
 
 pub lay_out-requires : goal.lay_out-requires
 lay_out-requires c =
@@ -17,4 +17,4 @@ lay_out-requires c =
 
 pub returns : goal.returns
 returns c =
-    finish_made c.strings_fit.ensures c.if-not-strings_fit.false c.layer_of.ensures c.lay_out.ensures
+    finish_made c.strings_fit.ensures c.if-not-strings_fit.false c.lay_out.ensures

@@ -1,4 +1,4 @@
-use borrow.Author.Tests.{not-true, not-false}
+use Rattle.std.proofs.Common.{refl}
 use Rattle.layer.specs.Answers.{tape_refused, walk_room, walk_refused, finish_room, layer_told}
 use Rattle.layer.specs.Walked.{WalkRoom, walked_by, source_sizes}
 use Rattle.layer.specs.Layered.{source_adds}
@@ -21,26 +21,28 @@ overflow_add-len c =
 
 pub returns-then-out-at : goal.returns-then-out-at
 returns-then-out-at c =
-    tape_refused c.args.out.now c.args.strs.now c.args.at c.args.base c.args.o c.requires.source_fits.1 _ (source_sizes c.requires.source_fits.0 c.args.o) c.requires.source_fits.2 c.layer_length-len.result c.nodes_length-rest.result c.layer_length-len.ensures c.nodes_length-rest.ensures c.if-out-at.true c.refused.ensures
+    tape_refused c.args.out.now c.args.strs.now c.args.at c.args.base c.args.o c.requires.source_fits.1 _ (source_sizes c.requires.source_fits.0 c.args.o) c.requires.source_fits.2 c.layer_length-len.result c.nodes_length-rest.result c.layer_length-len.ensures c.nodes_length-rest.ensures c.if-out-at.true
 
-pub walk-m-requires : goal.walk-m-requires
-walk-m-requires c =
+pub walk-requires : goal.walk-requires
+walk-requires c =
     record {
       source_fits = c.requires.source_fits.0;
       walk_room = subst (λ (v : Plan). WalkRoom v (c.args.at + c.layer_length-len.result) c.args.p.nodes.count (length c.args.out.now) (source_adds c.args.tape.now c.args.bytes.now)) (sym c.plan_of-plan.ensures) (walk_room c.args.out.now c.args.strs.now c.args.at c.args.base c.args.o c.requires.source_fits.1 _ (source_sizes c.requires.source_fits.0 c.args.o) c.requires.source_fits.2 c.layer_length-len.result c.nodes_length-rest.result c.layer_length-len.ensures c.nodes_length-rest.ensures (omega (arith, c.if-out-at.false, c.requires.min_work_words_in_bounds.2)) (omega (arith, c.well_formed.1.1.1.1.1.1.1.1.1.1.0)));
       min_work_words_in_bounds = (c.requires.min_work_words_in_bounds.0, c.requires.min_work_words_in_bounds.1, c.requires.min_work_words_in_bounds.3);
     }
 
-pub returns-then-not-m : goal.returns-then-not-m
-returns-then-not-m c =
-    let w = walked_by c.args.tape.now c.args.bytes.now c.args.o c.args.at c.args.s.contents c.plan_of-plan.ensures c.walk-m.ensures in walk_refused c.args.out.now c.args.strs.now c.args.at c.args.base c.args.o c.requires.source_fits.1 _ (source_sizes c.requires.source_fits.0 c.args.o) w.ok (not-true _ c.if-not-m.true) c.refused-then-not-m.ensures
+pub returns-in_err-m : goal.returns-in_err-m
+returns-in_err-m c =
+    let w = walked_by c.args.tape.now c.args.bytes.now c.args.o c.args.at c.args.s.contents c.plan_of-plan.ensures c.in_err-m.ensures in
+    rw c.from_residual.ensures (walk_refused c.args.out.now c.args.strs.now c.args.at c.args.base c.args.o c.requires.source_fits.1 _ (source_sizes c.requires.source_fits.0 c.args.o) w.room)
 
 pub finish-requires : goal.finish-requires
 finish-requires c =
-    let w = walked_by c.args.tape.now c.args.bytes.now c.args.o c.args.at c.args.s.contents c.plan_of-plan.ensures c.walk-m.ensures in
-    let r = finish_room c.args.out.now c.args.strs.now c.args.at c.args.base c.args.o c.requires.source_fits.1 _ (source_sizes c.requires.source_fits.0 c.args.o) c.requires.source_fits.2 c.layer_length-len.result c.nodes_length-rest.result c.layer_length-len.ensures c.nodes_length-rest.ensures (omega (arith, c.if-out-at.false, c.requires.min_work_words_in_bounds.2)) (w.made (not-false _ c.if-not-m.false)) c.walk-m.auto.out in
+    let w = walked_by c.args.tape.now c.args.bytes.now c.args.o c.args.at c.args.s.contents c.plan_of-plan.ensures c.in_ok-m.ensures in
+    let r = finish_room c.args.out.now c.args.strs.now c.args.at c.args.base c.args.o c.requires.source_fits.1 _ (source_sizes c.requires.source_fits.0 c.args.o) c.requires.source_fits.2 c.layer_length-len.result c.nodes_length-rest.result c.layer_length-len.ensures c.nodes_length-rest.ensures (omega (arith, c.if-out-at.false, c.requires.min_work_words_in_bounds.2)) (w.made c.in_ok-m.m refl) c.walk.auto.out in
     record { rising = r.0; below_le_max_pool = r.1 }
 
 pub returns : goal.returns
 returns c =
-    let w = walked_by c.args.tape.now c.args.bytes.now c.args.o c.args.at c.args.s.contents c.plan_of-plan.ensures c.walk-m.ensures in layer_told c.args.out.now c.args.strs.now c.args.at c.args.base c.args.o c.requires.source_fits.1 _ (source_sizes c.requires.source_fits.0 c.args.o) c.requires.source_fits.2 c.layer_length-len.result c.nodes_length-rest.result c.layer_length-len.ensures c.nodes_length-rest.ensures (omega (arith, c.if-out-at.false, c.requires.min_work_words_in_bounds.2)) (w.made (not-false _ c.if-not-m.false)) c.walk-m.auto.out c.finish.ensures (sym w.ok ∙ (not-false _ c.if-not-m.false))
+    let w = walked_by c.args.tape.now c.args.bytes.now c.args.o c.args.at c.args.s.contents c.plan_of-plan.ensures c.in_ok-m.ensures in
+    layer_told c.args.out.now c.args.strs.now c.args.at c.args.base c.args.o c.requires.source_fits.1 _ (source_sizes c.requires.source_fits.0 c.args.o) c.requires.source_fits.2 c.layer_length-len.result c.nodes_length-rest.result c.layer_length-len.ensures c.nodes_length-rest.ensures (omega (arith, c.if-out-at.false, c.requires.min_work_words_in_bounds.2)) (w.made c.in_ok-m.m refl) c.walk.auto.out c.finish.ensures (sym w.room)

@@ -1,4 +1,4 @@
-use Rattle.layer.specs.Walked.{walk_ready, walk_low, walk_told}
+use Rattle.layer.specs.Walked.{walk_ready, walk_low, walk_none, walk_told}
 use Rattle.layer.specs.Source.{source_readable, source_inside, source_nodes_lem}
 use Prim.Native.Nat.{◌-◌}
 use native.Mathlib.Omega.{arith}
@@ -14,11 +14,15 @@ index_words-requires c =
 pub graft_nodes-requires : goal.graft_nodes-requires
 graft_nodes-requires c =
     record {
-      ready = walk_ready c.requires.source_fits c.fresh-state.ensures c.index_words.ensures.0 c.index_words.ensures.1 c.requires.min_work_words_in_bounds.2 c.args.plan c.args.nodesat c.args.out.now c.requires.walk_room;
+      ready = walk_ready c.requires.source_fits (c.new.ensures c.args.strs.now c.requires.min_work_words_in_bounds.1) c.index_words.ensures.0 c.index_words.ensures.1 c.requires.min_work_words_in_bounds.2 c.args.plan c.args.nodesat c.args.out.now c.requires.walk_room;
       count_in_bounds = (source_inside c.requires.source_fits, source_nodes_lem c.requires.source_fits);
-      count_bound = (walk_low c.requires.source_fits c.fresh-state.ensures c.index_words.ensures.0 c.index_words.ensures.1 c.requires.min_work_words_in_bounds.2 c.args.plan c.args.nodesat c.args.out.now c.requires.walk_room, c.requires.walk_room.records);
+      count_bound = (walk_low c.requires.source_fits (c.new.ensures c.args.strs.now c.requires.min_work_words_in_bounds.1) c.index_words.ensures.0 c.index_words.ensures.1 c.requires.min_work_words_in_bounds.2 c.args.plan c.args.nodesat c.args.out.now c.requires.walk_room, c.requires.walk_room.records);
     }
+
+pub returns-in_err-graft_nodes : goal.returns-in_err-graft_nodes
+returns-in_err-graft_nodes c =
+    rw c.from_residual.ensures (walk_none c.requires.source_fits (c.new.ensures c.args.strs.now c.requires.min_work_words_in_bounds.1) c.index_words.ensures.0 c.index_words.ensures.1 c.requires.min_work_words_in_bounds.2 c.args.plan c.args.nodesat c.args.out.now c.in_err-graft_nodes.ensures)
 
 pub returns : goal.returns
 returns c =
-    walk_told c.requires.source_fits c.fresh-state.ensures c.index_words.ensures.0 c.index_words.ensures.1 c.requires.min_work_words_in_bounds.2 c.args.plan c.args.nodesat c.args.out.now c.graft_nodes.ensures
+    walk_told c.requires.source_fits (c.new.ensures c.args.strs.now c.requires.min_work_words_in_bounds.1) c.index_words.ensures.0 c.index_words.ensures.1 c.requires.min_work_words_in_bounds.2 c.args.plan c.args.nodesat c.args.out.now c.in_ok-graft_nodes.ensures

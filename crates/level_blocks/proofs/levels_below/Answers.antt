@@ -1,46 +1,12 @@
-use Rattle.model.specs.Tape.{segment_codec}
-use Rattle.wire.specs.Loops.{passed_none}
-use Rattle.records.specs.Runs.{run_more, run_failed, run_passed}
+use Rattle.std.proofs.Common.{◌+◌, ◌*◌, rules, tests, refl, ◌∙◌}
+use Rattle.model.specs.Tape.{record_at, segment_codec}
+use Rattle.wire.proofs.Ranges.{range_all}
+use Rattle.records.specs.Runs.{run_all}
 use Rattle.level_blocks.specs.Level.{below}
-use mathlib.Core.Path.{refl}
-use Prim.Native.Nat.{◌-◌}
-use native.Mathlib.Omega.{arith}
 use Rattle.level_blocks.proofs.levels_below.Goals as goal
 
-pub loop-i-init : goal.loop-i-init
-loop-i-init c =
-    (omega arith, passed_none _)
-
-pub overflow_mul-i : goal.overflow_mul-i
-overflow_mul-i c =
-    omega arith
-
-pub overflow_add-at : goal.overflow_add-at
-overflow_add-at c =
-    omega arith
-
-pub level_below-requires : goal.level_below-requires
-level_below-requires c =
-    omega arith
-
-pub returns-then-not-level_below : goal.returns-then-not-level_below
-unfolding segment_codec
-returns-then-not-level_below c =
-    run_failed segment_codec (below c.args.level) c.args.tape.now c.args.at c.loop-i.i _ refl _ c.level_below.ensures _ c.loop-i-test.true c.if-not-level_below.true
-
-pub overflow_add-i : goal.overflow_add-i
-overflow_add-i c =
-    omega arith
-
-pub loop-i-smaller : goal.loop-i-smaller
-loop-i-smaller c =
-    omega arith
-
-pub loop-i-preserved : goal.loop-i-preserved
-unfolding segment_codec
-loop-i-preserved c =
-    (omega arith, run_more segment_codec (below c.args.level) c.args.tape.now c.args.at c.loop-i.i _ refl _ c.level_below.ensures c.if-not-level_below.false c.loop-i.invariant.1)
-
 pub returns : goal.returns
+unfolding segment_codec
 returns c =
-    run_passed segment_codec (below c.args.level) c.args.tape.now c.args.at _ c.loop-i.i (omega arith) c.loop-i.invariant.1
+    range_all _ _ _ _ (λ i. below c.args.level (record_at segment_codec c.args.tape.now (c.args.at + 37 * i))) refl (λ x b q k. search (rules, tests)) _ c.all.ensures.ran
+    ∙ run_all segment_codec (below c.args.level) c.args.tape.now c.args.at c.args.count 37 refl

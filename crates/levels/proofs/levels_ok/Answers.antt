@@ -1,6 +1,5 @@
+use Rattle.std.proofs.Common.{refl, sym, arith}
 use Rattle.levels.specs.Whole.{no_segments, walked_none, walked_inside, walked_fits, walked_more, walked_all}
-use mathlib.Core.Path.{refl, sym}
-use native.Mathlib.Omega.{arith}
 use Rattle.levels.proofs.levels_ok.Goals as goal
 
 pub returns-then-st-eq0 : goal.returns-then-st-eq0
@@ -17,15 +16,13 @@ next_layer-l-requires c =
 
 pub run_levels_quick-requires : goal.run_levels_quick-requires
 run_levels_quick-requires c =
-    let start = c in
     record {
-      of_tape = start.requires.of_tape;
-      count_in_bounds = walked_fits (walked_none _ _) start.requires.layers_value (omega (arith, c.if-layers-eq0.false)) c.next_layer-l.ensures start.requires.of_tape;
+      count_in_bounds = walked_fits (walked_none _ _) c.requires.layers_value (omega (arith, c.if-layers-eq0.false)) c.next_layer-l.ensures c.requires.of_tape;
     }
 
 pub levels_tabled-requires : goal.levels_tabled-requires
 levels_tabled-requires c =
-    record { of_tape = c.requires.of_tape; layers_value = c.requires.layers_value }
+    record { layers_value = c.requires.layers_value }
 
 pub returns-then-not-run_levels_quick : goal.returns-then-not-run_levels_quick
 returns-then-not-run_levels_quick c =
@@ -33,14 +30,11 @@ returns-then-not-run_levels_quick c =
 
 pub levels_quick-requires : goal.levels_quick-requires
 levels_quick-requires c =
-    let start = c in
-    let if2 = c.if-layers-eq0 in
     let passed = c.run_levels_quick.ensures c.if-not-run_levels_quick.false in
-    let first = walked_more (walked_none _ _) start.requires.layers_value (omega (arith, if2.false)) c.next_layer-l.ensures (sym passed) refl in
+    let first = walked_more (walked_none _ _) c.requires.layers_value (omega (arith, c.if-layers-eq0.false)) c.next_layer-l.ensures (sym passed) refl in
     record {
-      of_tape = start.requires.of_tape;
-      layers_value = start.requires.layers_value;
-      le_layers = (omega (arith, if2.false), first);
+      layers_value = c.requires.layers_value;
+      le_layers = (omega (arith, c.if-layers-eq0.false), first);
     }
 
 pub returns-then-levels_quick : goal.returns-then-levels_quick
@@ -49,7 +43,7 @@ returns-then-levels_quick c =
 
 pub levels_tabled-requires-2 : goal.levels_tabled-requires-2
 levels_tabled-requires-2 c =
-    record { of_tape = c.requires.of_tape; layers_value = c.requires.layers_value }
+    record { layers_value = c.requires.layers_value }
 
 pub returns : goal.returns
 returns c =

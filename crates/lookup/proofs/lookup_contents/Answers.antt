@@ -1,19 +1,21 @@
-use Rattle.lookup.specs.Ranges.{asked_store, asked_few, range_refused, contents_both, contents_said}
-use Rattle.lookup.specs.Asked.{asked}
+use Rattle.refusal.specs.Refusal.{handed_on, was_refused}
+use Rattle.tape.specs.Accepted.{passed_book}
+use Rattle.lookup.specs.Asked.{ask_refused}
+use Rattle.lookup.specs.Ranges.{asked_store, asked_few, contents_both, contents_said}
 use Rattle.lookup.proofs.lookup_contents.Goals as goal
 
-pub returns-then-n-ne0 : goal.returns-then-n-ne0
-returns-then-n-ne0 c =
-    contents_both _ _ _ _ (range_refused _ _ c.check_book-n.ensures c.if-n-ne0.true _ _ _)
+pub returns-in_err-p : goal.returns-in_err-p
+returns-in_err-p c =
+    rw (handed_on _ c.from_residual.ensures.1) (contents_both _ _ _ _ (ask_refused _ _ (was_refused _ _ c.in_err-p.ensures) _))
 
 pub store_of-requires : goal.store_of-requires
 store_of-requires c =
-    asked_store (asked _ _ c.check_book-n.ensures c.if-n-ne0.false c.places_of-p.ensures)
+    asked_store (passed_book c.in_ok-p.ensures)
 
 pub contents_in-requires : goal.contents_in-requires
 contents_in-requires c =
-    asked_few (asked _ _ c.check_book-n.ensures c.if-n-ne0.false c.places_of-p.ensures) c.store_of.ensures
+    asked_few (passed_book c.in_ok-p.ensures) c.store_of.ensures
 
 pub returns : goal.returns
 returns c =
-    contents_both _ _ _ _ (contents_said (asked _ _ c.check_book-n.ensures c.if-n-ne0.false c.places_of-p.ensures) c.store_of.ensures _ _ c.contents_in.ensures)
+    contents_both _ _ _ _ (contents_said (passed_book c.in_ok-p.ensures) c.store_of.ensures _ _ c.contents_in.ensures)

@@ -1,19 +1,17 @@
-use mathlib.Core.Path.{◌∙◌}
+use Rattle.refusal.specs.Refusal.{handed_on, was_refused}
+use Rattle.tape.specs.Accepted.{passed_book}
 use Rattle.tape.specs.Placed.{fit_nodes}
-use Rattle.lookup.specs.Asked.{asked, asked_places, asked_order, node_refused, node_said}
+use Rattle.lookup.specs.Asked.{ask_refused, asked_places, asked_order, node_said}
 use Rattle.lookup.proofs.node_at_source.Goals as goal
 
-pub returns-then-n-ne0 : goal.returns-then-n-ne0
-returns-then-n-ne0 c =
-    node_refused _ _ c.check_book-n.ensures c.if-n-ne0.true _
+pub returns-in_err-nodes : goal.returns-in_err-nodes
+returns-in_err-nodes c =
+    rw (handed_on _ c.from_residual.ensures.1) (ask_refused _ _ (was_refused _ _ c.in_err-nodes.ensures) _)
 
 pub node_at_source-requires : goal.node_at_source-requires
 node_at_source-requires c =
-    record {
-      count_in_bounds = fit_nodes (asked_places (asked _ _ c.check_book-n.ensures c.if-n-ne0.false c.places_of-p.ensures));
-      in_order = asked_order (asked _ _ c.check_book-n.ensures c.if-n-ne0.false c.places_of-p.ensures);
-    }
+    let a = passed_book c.in_ok-nodes.ensures in record { count_in_bounds = fit_nodes (asked_places a); in_order = asked_order a }
 
 pub returns : goal.returns
 returns c =
-    c.node_found.ensures ∙ node_said (asked _ _ c.check_book-n.ensures c.if-n-ne0.false c.places_of-p.ensures) _ c.node_at_source.ensures
+    node_said (passed_book c.in_ok-nodes.ensures) _ c.node_at_source.ensures

@@ -1,5 +1,4 @@
-use native.Mathlib.Omega.{arith}
-use lib.ListN.{length-set}
+use Rattle.std.proofs.Common.{arith, length-set}
 use Rattle.memo.specs.Memo.{put_none, put_there}
 use Rattle.memo.proofs.put.Goals as goal
 
@@ -25,4 +24,5 @@ bounds-memo-e-5 c =
 
 pub returns : goal.returns
 returns c =
-    put_there c.args.memo.now c.args.e (record { place = c.args.place; level = c.args.level; contents = c.args.contents; segments = c.args.segments; calls = c.args.calls }) c.if-memo-e.false
+    rw c.from.ensures
+    (put_there c.args.memo.now c.args.e (record { place = c.args.place; level = c.args.level; contents = c.args.contents; segments = c.args.segments; calls = c.args.calls }) c.if-memo-e.false)

@@ -1,6 +1,7 @@
-use mathlib.Core.Path.{refl}
+use Rattle.std.proofs.Common.{refl}
+use Rattle.stats.specs.Counts.{default_is}
 use Rattle.output.proofs.refused_output.Goals as goal
 
 pub returns : goal.returns
 returns c =
-    rw c.none.ensures refl
+    rw (default_is c.default.result c.default.ensures) refl

@@ -1,4 +1,4 @@
-use Rattle.places.specs.Found.{walk_near, walk_bytes, walk_lists, walk_found, walk_fault}
+use Rattle.places.specs.Found.{walk_near, walk_bytes, walk_lists, walk_found, walk_none}
 use mathlib.Core.Path.{sym, ◌∙◌}
 use native.Mathlib.Omega.{arith}
 use Rattle.places.proofs.places_of.Goals as goal
@@ -15,6 +15,6 @@ pub returns-then-frame_holds : goal.returns-then-frame_holds
 returns-then-frame_holds c =
     walk_found _ _ _ _ c.all_layers-s.ensures c.lists_at-l.ensures _ c.found_places.ensures (sym c.frame_holds.ensures ∙ c.if-frame_holds.true)
 
-pub returns : goal.returns
-returns c =
-    walk_fault _ _ _ _ c.all_layers-s.ensures c.lists_at-l.ensures _ c.no_places.ensures (sym c.frame_holds.ensures ∙ c.if-frame_holds.false)
+pub returns-else-frame_holds : goal.returns-else-frame_holds
+returns-else-frame_holds c =
+    walk_none _ _ _ _ c.all_layers-s.ensures c.lists_at-l.ensures (sym c.frame_holds.ensures ∙ c.if-frame_holds.false)

@@ -1,9 +1,5 @@
 use Rattle.reading.specs.Balance.{Balanced}
-use Prim.Native.Nat.{◌-◌}
 use Rattle.reading.proofs.balanced_nodes.Given as goal
 
 abbrev pub invariant-loop-i : goal.invariant-loop-i
 invariant-loop-i l = Balanced l.tape l.at l.count l.i l.blocks l.warichu
-
-abbrev pub decreases-loop-i : goal.decreases-loop-i
-decreases-loop-i l = l.count - l.i

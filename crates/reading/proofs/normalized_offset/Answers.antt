@@ -1,11 +1,6 @@
 use Rattle.reading.specs.Until.{summed_none, summed_image, summed_span, summed_more, summed_sums, summed_offset}
-use Prim.Native.Nat.{◌-◌}
 use native.Mathlib.Omega.{arith}
 use Rattle.reading.proofs.normalized_offset.Goals as goal
-
-pub nodes_until-n-requires : goal.nodes_until-n-requires
-nodes_until-n-requires c =
-    record { count_in_bounds = c.requires.count_in_bounds; in_order = c.requires.in_order }
 
 pub loop-i-init : goal.loop-i-init
 loop-i-init c =
@@ -34,14 +29,6 @@ span_length-spans-requires c =
 pub overflow_add-spans : goal.overflow_add-spans
 overflow_add-spans c =
     omega (arith, summed_span c.loop-i.invariant c.loop-i-test.true c.image_length-images.ensures c.span_length-spans.ensures c.requires.in_order c.nodes_until-n.ensures)
-
-pub overflow_add-i : goal.overflow_add-i
-overflow_add-i c =
-    omega arith
-
-pub loop-i-smaller : goal.loop-i-smaller
-loop-i-smaller c =
-    omega arith
 
 pub loop-i-preserved : goal.loop-i-preserved
 loop-i-preserved c =

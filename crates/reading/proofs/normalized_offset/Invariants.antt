@@ -1,9 +1,5 @@
 use Rattle.reading.specs.Until.{Summed}
-use Prim.Native.Nat.{◌-◌}
 use Rattle.reading.proofs.normalized_offset.Given as goal
 
 abbrev pub invariant-loop-i : goal.invariant-loop-i
 invariant-loop-i l = Summed l.tape l.at l.n l.i l.images l.spans
-
-abbrev pub decreases-loop-i : goal.decreases-loop-i
-decreases-loop-i l = l.n - l.i

@@ -1,25 +1,21 @@
-use mathlib.Core.Path.{refl}
+use Rattle.std.proofs.Common.{refl}
+use Rattle.refusal.specs.Refusal.{handed_on, was_refused}
+use Rattle.tape.specs.Accepted.{passed_book}
 use Rattle.region.specs.Entry.{choose_refused, choose_accepted, choose_store, choose_held}
 use Rattle.region.proofs.region_of.Goals as goal
 
-pub returns-then-b-ne0 : goal.returns-then-b-ne0
-returns-then-b-ne0 c =
-    (choose_refused _ _ c.checked_book-b.ensures.0 _ c.if-b-ne0.true, refl)
+pub returns-in_err-p : goal.returns-in_err-p
+returns-in_err-p c =
+    (rw (handed_on _ c.from_residual.ensures.1) (choose_refused _ _ _ (was_refused _ _ c.in_err-p.ensures)), refl)
 
 pub store_of-st-requires : goal.store_of-st-requires
 store_of-st-requires c =
-    let at-if1 = c in
-    let book = at-if1.checked_book-b.ensures in
-    choose_store _ _ book.0 at-if1.if-b-ne0.false (book.1 at-if1.if-b-ne0.false)
+    choose_store (passed_book c.in_ok-p.ensures)
 
 pub chosen_region-requires : goal.chosen_region-requires
 chosen_region-requires c =
-    let at-if1 = c in
-    let book = at-if1.checked_book-b.ensures in
-    choose_held _ _ book.0 at-if1.if-b-ne0.false (book.1 at-if1.if-b-ne0.false) c.store_of-st.ensures
+    choose_held (passed_book c.in_ok-p.ensures) c.store_of-st.ensures
 
 pub returns : goal.returns
 returns c =
-    let at-chosen-region = c in
-    let at-if1 = at-chosen-region in
-    (choose_accepted _ _ at-if1.checked_book-b.ensures.0 at-if1.if-b-ne0.false _ at-chosen-region.chosen_region.ensures, at-chosen-region.chosen_region.auto.words)
+    (choose_accepted _ _ _ (passed_book c.in_ok-p.ensures).whole c.chosen_region.ensures, c.chosen_region.auto.words)

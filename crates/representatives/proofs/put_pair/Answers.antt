@@ -1,5 +1,4 @@
-use native.Mathlib.Omega.{arith}
-use lib.ListN.{length-set}
+use Rattle.std.proofs.Common.{arith, length-set}
 use Rattle.representatives.proofs.put_pair.Goals as goal
 
 pub bounds-words-n : goal.bounds-words-n

@@ -1,4 +1,4 @@
-use Prim.Native.Nat.{◌-◌}
+use Rattle.std.proofs.Common.{◌-◌}
 use Rattle.representatives.specs.Bisection.{Split}
 use Rattle.representatives.proofs.rank_of.Given as goal
 

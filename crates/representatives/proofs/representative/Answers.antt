@@ -1,5 +1,4 @@
-use mathlib.Core.Path.{refl}
-use native.Mathlib.Omega.{arith}
+use Rattle.std.proofs.Common.{refl, arith}
 use Rattle.representatives.specs.Pairs.{pair_found}
 use Rattle.representatives.specs.Bisection.{known_end, known_other, known_here}
 use Rattle.representatives.proofs.representative.Goals as goal

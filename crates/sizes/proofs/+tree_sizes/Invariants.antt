@@ -1,10 +1,8 @@
-use mathlib.Core.Path.{◌≡◌}
-use Prim.Native.Nat.{◌+◌, ◌-◌, ◌*◌}
+use Rattle.std.specs.Prelude.{◌≡◌, ◌+◌, ◌-◌, ◌*◌, length}
 use Rattle.records.specs.Values.{body_at}
 use Rattle.sizes.specs.Known.{Known}
 use Rattle.sizes.specs.InPlace.{inner_adds, place_adds, content_from, segment_from}
 use Rattle.sizes.specs.Capped.{Adding}
-use lib.ListN.{length}
 use Rattle.sizes.proofs.+tree_sizes.Given as goal
 
 abbrev pub decreases-body_sizes : goal.decreases-body_sizes
@@ -12,9 +10,6 @@ decreases-body_sizes l = l.level * 9 + 8
 
 abbrev pub invariant-body_sizes-loop-j : goal.invariant-body_sizes-loop-j
 invariant-body_sizes-loop-j l = Adding l.room l.initial.u (place_adds (inner_adds l.level l.tape l.st) l.tape l.st (body_at l.tape l.at)) 6 l.j l.u × Known l.tape l.st l.memo × (length l.memo ≡ length l.initial.memo)
-
-abbrev pub decreases-body_sizes-loop-j : goal.decreases-body_sizes-loop-j
-decreases-body_sizes-loop-j l = 6 - l.j
 
 abbrev pub decreases-content_run_sizes : goal.decreases-content_run_sizes
 decreases-content_run_sizes l = l.level * 9 + 6

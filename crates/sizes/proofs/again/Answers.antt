@@ -1,20 +1,20 @@
-use native.Mathlib.Omega.{arith}
-use Prim.Native.Nat.{◌-◌}
-use Rattle.sizes.specs.Again.{times_none, times_more, times_end, again_is}
+use Rattle.std.proofs.Common.{ap, ◌≡◌, ◌∙◌, arith}
+use Rattle.sizes.specs.Capped.{plus}
+use Rattle.sizes.specs.Again.{times, times_none, times_more, times_over, times_agree}
 use Rattle.sizes.proofs.again.Goals as goal
 
-pub loop-j-init : goal.loop-j-init
-loop-j-init c =
-    (omega arith, times_none _ c.requires.over_value.2)
+pub loop-time-init : goal.loop-time-init
+loop-time-init c = times_none _ c.requires.kept
 
-pub loop-j-smaller : goal.loop-j-smaller
-loop-j-smaller c =
-    omega (arith, c.loop-j-test.true)
+pub returns-in_err-u : goal.returns-in_err-u
+returns-in_err-u c = λ a e.
+    c.from_residual.ensures ∙ times_over c.args.room c.args.after _ c.loop-time._time c.args.k c.loop-time-test.true c.loop-time.invariant c.in_err-u.ensures
+    ∙ times_agree c.args.before c.args.after a e c.requires.kept c.args.k
 
-pub loop-j-preserved : goal.loop-j-preserved
-loop-j-preserved c =
-    (omega (arith, c.loop-j-test.true), times_more _ _ _ _ c.loop-j.invariant.1 c.with_added-u.ensures)
+pub loop-time-preserved : goal.loop-time-preserved
+loop-time-preserved c = c.in_ok-u.ensures ∙ times_more c.args.room c.args.after _ c.loop-time._time c.loop-time.invariant
 
 pub returns : goal.returns
-returns c =
-    again_is c.args.before c.args.after c.requires.over_value.0 c.requires.over_value.1 c.requires.over_value.2 c.args.k (times_end c.args.room c.args.after _ c.loop-j.j c.args.k c.loop-j.invariant.0 c.loop-j-test.false c.loop-j.invariant.1)
+returns c = λ a e.
+    let n : c.loop-time._time ≡ c.args.k = omega arith in
+    c.loop-time.invariant ∙ times_agree c.args.before c.args.after a e c.requires.kept c.loop-time._time ∙ ap (λ k. plus c.args.room c.args.after (times a k)) n

@@ -1,4 +1,4 @@
-use native.Mathlib.Omega.{arith}
+use Rattle.std.proofs.Common.{arith}
 use Rattle.sizes.specs.Lone.{lone_layers, lone_later, lone_none, lone_found}
 use Rattle.sizes.proofs.lone_place.Goals as goal
 
@@ -16,4 +16,4 @@ returns-then-st-i c =
 
 pub returns : goal.returns
 returns c =
-    lone_found c.args.st c.args.i c.if-st-ne1.false c.if-st-ne0.false c.if-st-i.false (omega (arith, c.wide.ensures, c.wide-2.ensures, c.wide-3.ensures))
+    lone_found c.args.st c.args.i c.if-st-ne1.false c.if-st-ne0.false c.if-st-i.false (omega arith)

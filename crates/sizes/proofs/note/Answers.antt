@@ -1,4 +1,4 @@
-use mathlib.Core.Path.{refl}
+use Rattle.std.proofs.Common.{refl}
 use Rattle.sizes.specs.Known.{note_far, note_cut, note_put}
 use Rattle.sizes.proofs.note.Goals as goal
 

@@ -1,4 +1,4 @@
-use mathlib.Core.Path.{refl}
+use Rattle.std.proofs.Common.{refl}
 use Rattle.sizes.specs.Plain.{whole_none, whole_only}
 use Rattle.sizes.proofs.only_contents.Goals as goal
 
@@ -16,4 +16,4 @@ returns-then-st-eq0 c =
 
 pub returns : goal.returns
 returns c =
-    whole_only c.args.st c.if-st-ne1.false c.if-st-ne0.false _ c.content_place.ensures c.wide.ensures c.if-st-eq0.false
+    whole_only c.args.st c.if-st-ne1.false c.if-st-ne0.false _ c.content_place.ensures refl c.if-st-eq0.false

@@ -1,4 +1,4 @@
-use mathlib.Core.Path.{sym, ◌∙◌}
+use Rattle.std.proofs.Common.{sym, ◌∙◌}
 use Rattle.sizes.specs.Plain.{ruby_class, ruby_other, ruby_base, ruby_told}
 use Rattle.sizes.proofs.plain_ruby.Goals as goal
 

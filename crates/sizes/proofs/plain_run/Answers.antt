@@ -1,16 +1,9 @@
+use Rattle.std.proofs.Common.{arith, refl}
 use Rattle.sizes.specs.Plain.{plain_over, plain_told}
-use native.Mathlib.Omega.{arith}
 use Rattle.sizes.proofs.plain_run.Goals as goal
 
 pub returns-then-own-from : goal.returns-then-own-from
-returns-then-own-from c =
-    let at_wide = c in
-    let start = at_wide in
-    plain_over start.args.tape.now start.args.own start.args.start start.args.len (omega (arith, c.if-own-from.true, at_wide.wide-from.ensures, c.wide-n.ensures))
+returns-then-own-from c = plain_over c.args.tape.now c.args.own c.args.start c.args.len (omega arith)
 
 pub returns : goal.returns
-returns c =
-    let at-wide2 = c in
-    let at_wide = at-wide2 in
-    let start = at_wide in
-    plain_told start.args.tape.now start.args.own start.args.start start.args.len _ _ (omega (arith, at_wide.wide-from.ensures)) at-wide2.wide-n.ensures (omega (arith, c.if-own-from.false, at_wide.wide-from.ensures, at-wide2.wide-n.ensures)) c.plain_contents.ensures
+returns c = plain_told c.args.tape.now c.args.own c.args.start c.args.len _ _ refl refl (omega arith) c.plain_contents.ensures

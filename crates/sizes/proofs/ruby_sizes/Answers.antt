@@ -1,8 +1,11 @@
-use Rattle.sizes.specs.Plain.{ruby_read}
+use Rattle.std.proofs.Common.{◌∙◌}
+use Rattle.sizes.specs.Plain.{ruby_over, ruby_read}
 use Rattle.sizes.proofs.ruby_sizes.Goals as goal
+
+pub returns-in_err-u : goal.returns-in_err-u
+returns-in_err-u c =
+    c.from_residual.ensures ∙ ruby_over c.args.room c.args.t c.body_word-base.result c.body_word-reading.result c.body_word-base.ensures c.body_word-reading.ensures c.in_err-u.ensures
 
 pub returns : goal.returns
 returns c =
-    let at-body-word = c in
-    let start = at-body-word in
-    ruby_read start.args.room start.args.t at-body-word.body_word-base.result c.body_word-reading.result at-body-word.body_word-base.ensures c.body_word-reading.ensures c.with_added-u.ensures c.with_added.ensures
+    ruby_read c.args.room c.args.t c.body_word-base.result c.body_word-reading.result c.body_word-base.ensures c.body_word-reading.ensures c.in_ok-u.ensures c.with_added-2.ensures

@@ -1,18 +1,16 @@
+use Rattle.std.proofs.Common.{arith}
 use Rattle.sizes.specs.InPlace.{string_one, string_missing, string_optional, string_none}
 use Rattle.sizes.proofs.string_sizes.Goals as goal
 
-pub returns-then-usage-eq1 : goal.returns-then-usage-eq1
-returns-then-usage-eq1 c =
-    string_one c.args.room c.args.t c.requires c.args.usage c.args.w c.if-usage-eq1.true c.with_added.ensures
+pub returns-in-1 : goal.returns-in-1
+returns-in-1 c = string_one c.args.room c.args.t c.requires c.args.usage c.args.w c.in-1.is c.with_added.ensures
 
-pub returns-then-w-eq4294967295 : goal.returns-then-w-eq4294967295
-returns-then-w-eq4294967295 c =
-    string_missing c.args.room c.args.t c.requires c.args.usage c.args.w c.if-usage-eq2.true c.if-w-eq4294967295.true
+pub returns-then-w-eq-NO_STRING : goal.returns-then-w-eq-NO_STRING
+returns-then-w-eq-NO_STRING c = string_missing c.args.room c.args.t c.requires c.args.usage c.args.w c.in-2.is c.if-w-eq-NO_STRING.true
 
-pub returns-then-usage-eq2 : goal.returns-then-usage-eq2
-returns-then-usage-eq2 c =
-    string_optional c.args.room c.args.t c.requires c.args.usage c.args.w c.if-usage-eq2.true c.if-w-eq4294967295.false c.with_added-then-usage-eq2.ensures
+pub returns-else-w-eq-NO_STRING : goal.returns-else-w-eq-NO_STRING
+returns-else-w-eq-NO_STRING c =
+    string_optional c.args.room c.args.t c.requires c.args.usage c.args.w c.in-2.is c.if-w-eq-NO_STRING.false c.with_added-else-w-eq-NO_STRING.ensures
 
-pub returns : goal.returns
-returns c =
-    string_none c.args.room c.args.t c.requires c.args.usage c.args.w c.if-usage-eq1.false c.if-usage-eq2.false
+pub returns-in_default : goal.returns-in_default
+returns-in_default c = string_none c.args.room c.args.t c.requires c.args.usage c.args.w (λ e. omega arith) (λ e. omega arith)

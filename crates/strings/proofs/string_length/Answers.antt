@@ -1,4 +1,3 @@
-use mathlib.Core.Path.{◌∙◌}
 use native.Mathlib.Omega.{arith}
 use Rattle.strings.specs.Starts.{length_inside, length_word}
 use Rattle.strings.proofs.string_length.Goals as goal
@@ -13,4 +12,4 @@ u32_at-requires c =
 
 pub returns : goal.returns
 returns c =
-    length_word c.requires.of_tape c.requires.id_lt_strings c.string_place-at.ensures (c.wide.ensures ∙ c.u32_at.ensures)
+    length_word c.requires.of_tape c.requires.id_lt_strings c.string_place-at.ensures c.u32_at.ensures

@@ -1,5 +1,5 @@
 use Rattle.laws.specs.Utf8.{part_utf8}
-use mathlib.Core.Path.{◌∙◌}
+use Rattle.std.proofs.Common.{◌∙◌}
 use Rattle.texts.proofs.part_utf8.Goals as goal
 
 pub returns : goal.returns

@@ -1,6 +1,5 @@
 use Rattle.texts.specs.Texts.{texts_fit, texts_inside, bytes_bad, text_bad, text_behind, normalized_bad, texts_behind, texts_strings}
-use mathlib.Core.Path.{sym, ◌∙◌}
-use native.Mathlib.Omega.{arith}
+use Rattle.std.proofs.Common.{sym, ◌∙◌, arith}
 use Rattle.texts.proofs.texts_utf8.Goals as goal
 
 pub returns-then-not-is_utf8 : goal.returns-then-not-is_utf8

@@ -1,8 +1,7 @@
-use mathlib.Core.Path.{refl}
+use Rattle.std.proofs.Common.{refl}
 use Rattle.texts.specs.Limits.{few_enough}
 use Rattle.texts.proofs.within_limits.Goals as goal
 
 pub returns : goal.returns
 unfolding few_enough
-returns c =
-    refl
+returns c = refl

@@ -1,6 +1,5 @@
 use Rattle.utf8.specs.Skips.{skipped_none, skipped_more, skip_ascii}
 use mathlib.Core.Path.{sym, ◌∙◌}
-use Prim.Native.Nat.{◌-◌}
 use native.Mathlib.Omega.{arith}
 use Rattle.utf8.proofs.ascii_blocks.Goals as goal
 

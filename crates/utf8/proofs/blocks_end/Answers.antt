@@ -1,5 +1,4 @@
 use Rattle.utf8.specs.Blocks.{blocks_none, blocks_more, len_least, len_most}
-use Prim.Native.Nat.{◌-◌}
 use native.Mathlib.Omega.{arith}
 use Rattle.utf8.proofs.blocks_end.Goals as goal
 

@@ -1,14 +1,12 @@
+use Rattle.std.proofs.Common.{refl, le-leb}
+use Rattle.std.proofs.lemmas.Bool.{lt-leb}
 use Rattle.model.specs.Utf8.{is_char_boundary}
-use borrow.Author.Tests.{le-leb, lt-leb}
-use mathlib.Core.Path.{refl}
 use Rattle.utf8.proofs.is_char_boundary.Goals as goal
 
-pub returns-then-s-at : goal.returns-then-s-at
+pub returns-then-at-s : goal.returns-then-at-s
 unfolding is_char_boundary
-returns-then-s-at c =
-    rw (lt-leb _ _ c.if-s-at.true) refl
+returns-then-at-s c = rw (le-leb _ _ c.if-at-s.true, c.within.ensures, c.byte_at.ensures) refl
 
-pub returns : goal.returns
+pub returns-else-at-s : goal.returns-else-at-s
 unfolding is_char_boundary
-returns c =
-    rw (le-leb _ _ c.if-s-at.false, c.within.ensures, c.byte_at.ensures) refl
+returns-else-at-s c = rw (lt-leb _ _ c.if-at-s.false) refl

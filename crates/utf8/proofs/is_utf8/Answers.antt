@@ -1,7 +1,6 @@
 use Rattle.chars.specs.Chars.{utf8_end}
 use Rattle.utf8.specs.Skips.{skipped_more, skipped_none, step_on}
 use mathlib.Core.Path.{sym, ◌∙◌}
-use Prim.Native.Nat.{◌-◌}
 use native.Mathlib.Omega.{arith}
 use Rattle.utf8.proofs.is_utf8.Goals as goal
 

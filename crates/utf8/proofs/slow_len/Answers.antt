@@ -1,5 +1,4 @@
 use Rattle.utf8.specs.Skips.{skipped_none, step_skipped, step_on, step_stop}
-use Prim.Native.Nat.{◌-◌}
 use native.Mathlib.Omega.{arith}
 use Rattle.utf8.proofs.slow_len.Goals as goal
 

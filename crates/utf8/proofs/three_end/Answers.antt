@@ -1,6 +1,5 @@
 use Rattle.utf8.specs.Skips.{skipped_none, skipped_more, skip_three}
 use mathlib.Core.Path.{sym, ◌∙◌}
-use Prim.Native.Nat.{◌-◌}
 use native.Mathlib.Omega.{arith}
 use Rattle.utf8.proofs.three_end.Goals as goal
 

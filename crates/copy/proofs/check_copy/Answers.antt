@@ -1,0 +1,21 @@
+use Rattle.std.proofs.Common.{arith}
+use Rattle.refusal.specs.Refusal.{handed_on, map_refused, map_accepted, was_refused}
+use Rattle.tape.specs.Accepted.{passed_whole}
+use Rattle.copy.specs.Copying.{copy_refused, copy_no_tape, copy_no_bytes, copy_there}
+use Rattle.copy.proofs.check_copy.Goals as goal
+
+pub returns-in_err-check_book : goal.returns-in_err-check_book
+returns-in_err-check_book c =
+    rw (handed_on _ c.from_residual.ensures.1) (map_refused _ (copy_refused _ _ _ _ (was_refused _ _ c.in_err-check_book.ensures)))
+
+pub returns-then-taperoom-tape : goal.returns-then-taperoom-tape
+returns-then-taperoom-tape c =
+    map_refused _ (copy_no_tape _ _ _ _ (record { byte = λ i h. omega (arith, c.type_inv.tape i) }) (passed_whole c.in_ok-check_book.ensures) c.if-taperoom-tape.true)
+
+pub returns-then-bytesroom-bytes : goal.returns-then-bytesroom-bytes
+returns-then-bytesroom-bytes c =
+    map_refused _ (copy_no_bytes _ _ _ _ (record { byte = λ i h. omega (arith, c.type_inv.tape i) }) (passed_whole c.in_ok-check_book.ensures) c.if-bytesroom-bytes.true)
+
+pub returns : goal.returns
+returns c =
+    map_accepted _ (copy_there _ _ _ _ (record { byte = λ i h. omega (arith, c.type_inv.tape i) }) (passed_whole c.in_ok-check_book.ensures) c.if-taperoom-tape.false c.if-bytesroom-bytes.false)

@@ -1,0 +1,97 @@
+use native.Mathlib.Omega.{arith}
+use Rattle.model.specs.Region.{edit_of}
+use Rattle.fitting.specs.Reading.{held_texts, held_nodes, held_diagnostics, region_asked, passage_asked, refused_12, refused_13, refused_14, refused_cut}
+use Rattle.fitting.proofs.check_fitting.Goals as goal
+
+pub slice_bounds-text-end : goal.slice_bounds-text-end
+slice_bounds-text-end c =
+    let start = c in
+    omega (arith, held_texts start.requires.read.given.held)
+
+pub slice_bounds-own_text-end : goal.slice_bounds-own_text-end
+slice_bounds-own_text-end c =
+    let start = c in
+    omega (arith, held_texts start.requires.read.held)
+
+pub overflow_sub-first : goal.overflow_sub-first
+unfolding edit_of
+overflow_sub-first c =
+    let start = c in
+    omega (arith, region_asked start.requires.read)
+
+pub overflow_sub-last : goal.overflow_sub-last
+unfolding edit_of
+overflow_sub-last c =
+    let start = c in
+    omega (arith, region_asked start.requires.read)
+
+pub overflow_cast-last : goal.overflow_cast-last
+overflow_cast-last c =
+    let at-fits = c in
+    omega (arith, at-fits.ranges.end)
+
+pub is_region_text-requires : goal.is_region_text-requires
+unfolding edit_of
+is_region_text-requires c =
+    let at-region-text = c in
+    let start = at-region-text in
+    passage_asked start.requires.read at-region-text.region_text-old_text.ensures
+
+pub returns-then-not-is_region_text : goal.returns-then-not-is_region_text
+unfolding edit_of
+returns-then-not-is_region_text c =
+    let at-region-text = c in
+    let start = at-region-text in
+    refused_12 start.requires.read at-region-text.region_text-old_text.ensures c.is_region_text.ensures c.if-not-is_region_text.true
+
+pub balanced_nodes-requires : goal.balanced_nodes-requires
+balanced_nodes-requires c =
+    let start = c in
+    held_nodes start.requires.read.held
+
+pub returns-then-not-balanced_nodes : goal.returns-then-not-balanced_nodes
+unfolding edit_of
+returns-then-not-balanced_nodes c =
+    let at-is-region-text = c in
+    let at-region-text = at-is-region-text in
+    let start = at-region-text in
+    refused_13 start.requires.read at-region-text.region_text-old_text.ensures at-is-region-text.is_region_text.ensures c.if-not-is_region_text.false c.balanced_nodes.ensures
+    c.if-not-balanced_nodes.true
+
+pub has_unclosed-requires : goal.has_unclosed-requires
+has_unclosed-requires c =
+    let start = c in
+    held_diagnostics start.requires.read.held
+
+pub returns-then-has_unclosed : goal.returns-then-has_unclosed
+unfolding edit_of
+returns-then-has_unclosed c =
+    let at-balanced-nodes = c in
+    let at-if1 = at-balanced-nodes in
+    let at-is-region-text = at-if1 in
+    let at-region-text = at-is-region-text in
+    let start = at-region-text in
+    refused_14 start.requires.read at-region-text.region_text-old_text.ensures at-is-region-text.is_region_text.ensures at-if1.if-not-is_region_text.false at-balanced-nodes.balanced_nodes.ensures
+    c.if-not-balanced_nodes.false c.has_unclosed.ensures c.if-has_unclosed.true
+
+pub check_cuts-requires : goal.check_cuts-requires
+check_cuts-requires c =
+    let start = c in
+    record {
+      held = (start.requires.read.given.held, start.requires.read.held);
+      nstart_value = start.requires.nstart_value;
+    }
+
+pub returns : goal.returns
+unfolding edit_of
+returns c =
+    let at-if3 = c in
+    let at-has-unclosed = at-if3 in
+    let at-if2 = at-has-unclosed in
+    let at-balanced-nodes = at-if2 in
+    let at-if1 = at-balanced-nodes in
+    let at-is-region-text = at-if1 in
+    let at-region-text = at-is-region-text in
+    let start = at-region-text in
+    refused_cut start.requires.read at-region-text.region_text-old_text.ensures at-is-region-text.is_region_text.ensures at-if1.if-not-is_region_text.false at-balanced-nodes.balanced_nodes.ensures
+    at-if2.if-not-balanced_nodes.false at-has-unclosed.has_unclosed.ensures at-if3.if-has_unclosed.false (c.check_cuts.ensures _)

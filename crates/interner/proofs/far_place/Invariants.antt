@@ -1,9 +1,0 @@
-use Prim.Native.Nat.{◌-◌, ◌≤◌}
-use Rattle.interner.specs.Row.{far_in}
-use Rattle.interner.proofs.far_place.Given as goal
-
-abbrev pub invariant-loop-lo : goal.invariant-loop-lo
-invariant-loop-lo l = (l.lo ≤ l.hi) × (l.hi ≤ far_in l.work)
-
-abbrev pub decreases-loop-lo : goal.decreases-loop-lo
-decreases-loop-lo l = l.hi - l.lo

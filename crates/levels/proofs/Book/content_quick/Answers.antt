@@ -1,0 +1,14 @@
+use Rattle.std.proofs.Common.{sym, ap, ◌∙◌, true}
+use Rattle.levels.specs.Below.{content_below, content_plain, content_segments_lem}
+use Rattle.records.specs.Values.{content_of}
+use Rattle.levels.proofs.Book.content_quick.Goals as goal
+
+pub returns-then-c-eq0 : goal.returns-then-c-eq0
+returns-then-c-eq0 c =
+    let content = content_of c.content_at-c.result in
+    λ e. sym (content_plain c.args.self.now.tape.now c.args.self.now.st.now c.args.level content c.if-c-eq0.true ∙ ap (content_below c.args.self.now.tape.now c.args.self.now.st.now c.args.level) c.content_at-c.ensures)
+
+pub returns : goal.returns
+returns c =
+    let content = content_of c.content_at-c.result in
+    λ e. sym (content_segments_lem c.args.self.now.tape.now c.args.self.now.st.now c.args.level content true c.if-c-eq0.false (sym (c.segments_quick.ensures e)) ∙ ap (content_below c.args.self.now.tape.now c.args.self.now.st.now c.args.level) c.content_at-c.ensures)

@@ -1,0 +1,19 @@
+use Rattle.std.proofs.Common.{refl, sym, true, arith}
+use Rattle.levels.specs.Below.{level_in}
+use Rattle.wire.specs.Loops.{passed_none}
+use Rattle.records.specs.Runs.{run_more, run_passed}
+use Rattle.model.specs.Tape.{segment_codec}
+use Rattle.levels.proofs.Book.run_levels_quick.Goals as goal
+
+pub loop-i-init : goal.loop-i-init
+loop-i-init c =
+    passed_none _
+
+pub loop-i-preserved : goal.loop-i-preserved
+unfolding segment_codec
+loop-i-preserved c =
+    run_more segment_codec (level_in c.args.self.now.tape.now c.args.self.now.st.now) c.args.self.now.tape.now c.args.at c.loop-i.i _ refl true (sym (c.level_quick.ensures c.if-not-level_quick.false)) refl c.loop-i.invariant
+
+pub returns : goal.returns
+returns c =
+    λ e. sym (run_passed segment_codec (level_in c.args.self.now.tape.now c.args.self.now.st.now) c.args.self.now.tape.now c.args.at _ c.loop-i.i (omega arith) c.loop-i.invariant)
