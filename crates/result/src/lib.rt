@@ -98,7 +98,7 @@ fn graft_reading(
         contents: below.contents,
         segments: below.segments,
     };
-    let l = layer::graft_layer(
+    match layer::graft_layer(
         reading.tape,
         reading.bytes,
         p,
@@ -109,12 +109,14 @@ fn graft_reading(
         o,
         at,
         base,
-    )?;
-    Some(Graft {
-        len: l.len,
-        bytes: l.state.used - base,
-        stats: l.state.stats,
-    })
+    ) {
+        None => None,
+        Some(l) => Some(Graft {
+            len: l.len,
+            bytes: l.state.used - base,
+            stats: l.state.stats,
+        }),
+    }
 }
 
 // Both texts and the strings; the head and the layers, the grafted nodes behind them.
