@@ -1,5 +1,6 @@
 -- The reading's nodes grafted behind the old layers: nothing where there are none, else one new layer; and both buffers up to them.
-use Rattle.std.specs.Prelude.{◌≡◌, Some, None, ℕ, ◌+◌, ◌-◌, ◌≤◌, Bool, false, length}
+use Rattle.std.specs.Prelude.{◌≡◌, ℕ, ◌+◌, ◌-◌, ◌≤◌, Bool, false, length, Option, Some, None, IfSome}
+use Rattle.std.specs.Option.{is_some}
 use Rattle.std.proofs.Math.Path.{refl, sym, ap}
 use Rattle.std.proofs.Common.{◌∙◌, arith, add-zero, true≢false}
 use Rattle.std.proofs.Math.Bool.{true}
@@ -44,9 +45,9 @@ pub record GraftMade (out strs out' strs' : List ℕ) (at base : ℕ) (none : Bo
   pub bytes : r.bytes ≡ length (new_string_bytes none g.1)
   pub stats : stats_of r.stats ≡ g.1.interner.stats
 
-pub record GraftTold (out strs out' strs' : List ℕ) (at base : ℕ) (o : Offsets) (none : Bool) (r : Graft) (g : With (List SourceNode)) : Type 0 where
-  pub ok : r.ok ≡ graft_ok none (length out) (length strs) at base o g
-  pub made : r.ok ≡ true → GraftMade out strs out' strs' at base none r g
+pub record GraftTold (out strs out' strs' : List ℕ) (at base : ℕ) (o : Offsets) (none : Bool) (r : Option Graft) (g : With (List SourceNode)) : Type 0 where
+  pub ok : is_some r ≡ graft_ok none (length out) (length strs) at base o g
+  pub made : IfSome r (λ x. GraftMade out strs out' strs' at base none x g)
 
 -- ---- no nodes
 
@@ -63,13 +64,13 @@ module _ (t d : List ℕ) (o : Offsets) where
       go (n ∷ ns) q = absurd (true≢false (sym q))
 
   -- nothing is written
-  pub graft_none : (out strs : List ℕ) (at base : ℕ) → base ≤ length strs → is_empty nodes ≡ true → (r : Graft) → r.ok ≡ true → r.len ≡ 0 → r.bytes ≡ 0 → r.stats ≡ no_stats
-      → GraftTold out strs out strs at base o (is_empty nodes) r (grafted_into t d o)
+  pub graft_none : (out strs : List ℕ) (at base : ℕ) → base ≤ length strs → is_empty nodes ≡ true → (r : Graft) → r.len ≡ 0 → r.bytes ≡ 0 → r.stats ≡ no_stats
+      → GraftTold out strs out strs at base o (is_empty nodes) (Some r) (grafted_into t d o)
   unfolding graft_ok new_layer_bytes new_string_bytes new_layer records_bytes flatten
-  graft_none out strs at base h e r ok len bytes stats =
+  graft_none out strs at base h e r len bytes stats =
       rw (e, no_nodes e) (record {
-        ok = ok;
-        made = λ q. record {
+        ok = refl;
+        made = record {
           wrote = overwrite_nil out at;
           strings = ap (λ (k : ℕ). take k strs) (add-zero base) ∙ sym (append-nil (take base strs));
           len = len;
@@ -81,18 +82,18 @@ module _ (t d : List ℕ) (o : Offsets) where
   -- ---- nodes
 
   module _ (out strs : List ℕ) {out' strs' : List ℕ} (at base : ℕ) (e : is_empty nodes ≡ false) where
-    pub graft_refused : LayerTold out strs out' strs' at base o None (grafted_into t d o) → (r : Graft) → r.ok ≡ false → GraftTold out strs out' strs' at base o (is_empty nodes) r (grafted_into t d o)
+    pub graft_refused : LayerTold out strs out' strs' at base o None (grafted_into t d o) → GraftTold out strs out' strs' at base o (is_empty nodes) None (grafted_into t d o)
     unfolding graft_ok
-    graft_refused told r g = rw e (record { ok = g ∙ told.room; made = λ q. absurd (true≢false (sym q ∙ g)) })
+    graft_refused told = rw e (record { ok = told.room; made = tt })
 
     module _ (l : Layer) (told : LayerTold out strs out' strs' at base o (Some l) (grafted_into t d o)) where
-      pub graft_some : (r : Graft) → r.ok ≡ true → r.len ≡ l.len → r.bytes ≡ l.state.used - base → r.stats ≡ l.state.stats → GraftTold out strs out' strs' at base o (is_empty nodes) r (grafted_into t d o)
+      pub graft_some : (r : Graft) → r.len ≡ l.len → r.bytes ≡ l.state.used - base → r.stats ≡ l.state.stats → GraftTold out strs out' strs' at base o (is_empty nodes) (Some r) (grafted_into t d o)
       unfolding graft_ok new_layer_bytes new_string_bytes layer_records
-      graft_some r g len bytes stats =
+      graft_some r len bytes stats =
           let m = told.made l refl in
           rw e (record {
-            ok = g ∙ told.room;
-            made = λ q. record { wrote = m.wrote; strings = m.bytes; len = len ∙ m.len; bytes = omega (arith, bytes, m.used); stats = ap stats_of stats ∙ m.stats };
+            ok = told.room;
+            made = record { wrote = m.wrote; strings = m.bytes; len = len ∙ m.len; bytes = omega (arith, bytes, m.used); stats = ap stats_of stats ∙ m.stats };
           })
 
       -- so that the difference is one

@@ -1,5 +1,5 @@
 -- The returns of `merge_books`: number 18 where a test fails, else the merged book and what is returned beside it.
-use Rattle.std.specs.Prelude.{◌≡◌, ℕ, ◌+◌, ◌≤◌, ◌<◌, Bool, true, false, List}
+use Rattle.std.specs.Prelude.{◌≡◌, ℕ, ◌+◌, ◌≤◌, ◌<◌, Bool, true, false, List, Some, None}
 use Rattle.std.proofs.Math.Path.{refl, sym, ap}
 use Rattle.std.proofs.Common.{◌∙◌, arith, true≢false, length-append}
 use Rattle.std.proofs.Math.ListN.{length}
@@ -82,18 +82,18 @@ module _ {t d : List ℕ} {p : Places} {st : Store} {e : Edit} {w : MergeWindow}
         written_refused asked out text work
         (refused_is b kept sizes room (λ g. absurd (true≢false (sym (room_ok l k q p.nodes.at (length out) (length text) (length work) (needed_room b kept sizes room g)) ∙ sym y ∙ f)))) z refl refl refl
 
-    module _ {out' text' : List ℕ} {r : Graft} (s : StoreTold old e read w out text out' text' p.nodes.at l.base (offsets_of st.totals) r)
-        (long : length out' ≡ length out) (long' : length text' ≡ length text) where
-      pub no_graft : {work' : List ℕ} → length work' ≡ length work → r.ok ≡ false → {x : Output} → x ≡ refused_output 18 → Written asked x out text work out' text' work'
-      no_graft long'' f z =
-          written_refused asked out text work (refused_is b kept sizes room (λ g. absurd (true≢false (sym (needed_graft b kept sizes room g) ∙ sym s.ok ∙ f)))) z long long' long''
+    pub no_graft : {out' text' work' : List ℕ} → StoreTold old e read w out text out' text' p.nodes.at l.base (offsets_of st.totals) None → length out' ≡ length out → length text' ≡ length text → length work' ≡ length work
+        → {x : Output} → x ≡ refused_output 18 → Written asked x out text work out' text' work'
+    no_graft s long long' long'' z = written_refused asked out text work (refused_is b kept sizes room (λ g. absurd (true≢false (sym (needed_graft b kept sizes room g) ∙ sym s.ok)))) z long long' long''
 
-      module _ (ok : r.ok ≡ true) {at : ℕ} (here : at ≡ p.nodes.at + r.len) where
+    module _ {out' text' : List ℕ} {r : Graft} (s : StoreTold old e read w out text out' text' p.nodes.at l.base (offsets_of st.totals) (Some r))
+        (long : length out' ≡ length out) (long' : length text' ≡ length text) where
+      module _ {at : ℕ} (here : at ≡ p.nodes.at + r.len) where
         at_is : at ≡ length (up_to old e read w)
-        at_is = here ∙ (s.made ok).len
+        at_is = here ∙ s.made.len
 
         pub at_small : at ≤ length out
-        at_small = let m = s.made ok in omega (arith, at_is, m.room, length-append (up_to old e read w) (records_bytes node_codec (grafted old read).0))
+        at_small = let m = s.made in omega (arith, at_is, m.room, length-append (up_to old e read w) (records_bytes node_codec (grafted old read).0))
 
         pub no_size : {work' : List ℕ} → length work' ≡ length work → {n : ℕ} → n ≡ lists_end at k q → length out < n → {x : Output} → x ≡ refused_output 18 → Written asked x out text work out' text' work'
         no_size long'' y h z =
@@ -101,7 +101,7 @@ module _ {t d : List ℕ} {p : Places} {st : Store} {e : Edit} {w : MergeWindow}
 
         module _ {x : Bool} (y : x ≡ room_for l k q p.nodes.at (length out) (length text) (length work)) (f : x ≡ true) {n : ℕ} (size : n ≡ lists_end at k q) (fits : n ≤ length out) where
           facts : ResultFacts room (grafted old read) (merge_of old e read w)
-          facts = enough b kept sizes room (room_facts l k q p.nodes.at (length out) (length text) (length work) (sym y ∙ f)) (sym s.ok ∙ ok) at_is (omega (arith, size, fits))
+          facts = enough b kept sizes room (room_facts l k q p.nodes.at (length out) (length text) (length work) (sym y ∙ f)) (sym s.ok) at_is (omega (arith, size, fits))
 
           pub lists_ready : Lists t p w k rt q (length out') at
           lists_ready = record {
@@ -114,14 +114,14 @@ module _ {t d : List ℕ} {p : Places} {st : Store} {e : Edit} {w : MergeWindow}
           }
 
           pub bytes_small : l.base + r.bytes ≤ length text
-          bytes_small = let m = s.made ok in let g = facts in omega (arith, m.size, g.bytes)
+          bytes_small = let m = s.made in let g = facts in omega (arith, m.size, g.bytes)
 
           pub merged : {work' : List ℕ} → length work' ≡ length work → {out'' : List ℕ} → out'' ≡ overwrite out' at (lists_of w t p rt q (records_at node_codec out' at q.nodes.count)) → length out'' ≡ length out
               → {v : Output} → v ≡ output_by w.source.start w.source.end (k.nodes.before + k.nodes.behind) q.nodes.count r.stats n (l.base + r.bytes)
               → Written asked v out text work out'' text' work'
           unfolding answer stored_book kept_of
           merged long'' {out''} w₂ z v =
-              let m = s.made ok in
+              let m = s.made in
               let c = lengths_read b in
               let new = merge_of old e read w in
               let u : k.nodes.before + k.nodes.behind ≡ length (kept_before node_located w old.source_nodes) + length (kept_behind node_located w old.source_nodes) = rw (kept, kept_nodes b) refl in

@@ -1,5 +1,6 @@
 -- What each stage of the merge's writing leaves, and the answer.
-use Rattle.std.specs.Prelude.{◌≡◌, ℕ, ◌+◌, ◌-◌, ◌≤◌, Bool, take, drop}
+use Rattle.std.specs.Prelude.{◌≡◌, ℕ, ◌+◌, ◌-◌, ◌≤◌, Bool, take, drop, Option, Some, None, IfSome}
+use Rattle.std.specs.Option.{is_some}
 use Rattle.std.proofs.Math.Path.{refl, sym, ap₂}
 use Rattle.std.proofs.Common.{ap, ◌∙◌, subst, arith, zero-add, true≢false, length-append, length-drop, take_all, length-take-le}
 use Rattle.std.proofs.Math.Nat.{sub-zero}
@@ -34,7 +35,7 @@ use Rattle.result.specs.Parts.{old_layer_bytes, old_string_bytes, new_layer_byte
 use Rattle.fitting.specs.Books.{Books, book_in}
 use Rattle.result.specs.Books.{merge_of, lengths_read, new_text, new_normalized, new_bytes}
 use Rattle.merged_lists.specs.Sizes.{lengths_of}
-use Rattle.result.specs.Grafting.{offsets_of, graft_ok, GraftTold}
+use Rattle.result.specs.Grafting.{offsets_of, graft_ok, GraftMade, GraftTold}
 use Rattle.result.specs.Whole.{above, text_is, normalized_is, base_is, node_bytes_lem}
 
 -- ---- both texts and the old strings
@@ -87,9 +88,9 @@ pub record StoreMade (old : LexOutput) (e : Edit) (read : RegionOutput) (w : Mer
   pub len : at + r.len ≡ length (up_to old e read w)
   pub stats : stats_of r.stats ≡ (grafted old read).1.interner.stats
 
-pub record StoreTold (old : LexOutput) (e : Edit) (read : RegionOutput) (w : MergeWindow) (out text out' text' : List ℕ) (at base : ℕ) (o : Offsets) (r : Graft) : Type 0 where
-  pub ok : r.ok ≡ graft_ok (is_empty read.source_nodes) (length out) (length text) at base o (grafted old read)
-  pub made : r.ok ≡ true → StoreMade old e read w out out' text' at base r
+pub record StoreTold (old : LexOutput) (e : Edit) (read : RegionOutput) (w : MergeWindow) (out text out' text' : List ℕ) (at base : ℕ) (o : Offsets) (r : Option Graft) : Type 0 where
+  pub ok : is_some r ≡ graft_ok (is_empty read.source_nodes) (length out) (length text) at base o (grafted old read)
+  pub made : IfSome r (λ x. StoreMade old e read w out out' text' at base x)
 
 module _ {t d : List ℕ} {p : Places} {st : Store} {e : Edit} {w : MergeWindow} {rt rd : List ℕ} {q : Places} {rst : Store} (b : Books t d p st e w rt rd q rst) where
   abbrev old : LexOutput
@@ -131,7 +132,7 @@ module _ {t d : List ℕ} {p : Places} {st : Store} {e : Edit} {w : MergeWindow}
       go false z v = (layer_fits_lem size room at base (offsets_of st.totals) (grafted old read) v).tape
 
   module _ {l : Lengths} (sizes : l ≡ lengths_of p q e.start e.end (length e.replacement) w.normalized.start w.normalized.end (length d)) where
-    pub store_told : (out text : List ℕ) {out₁ text₁ out₂ text₂ : List ℕ} {r : Graft} → p.nodes.at ≤ length out → l.base ≤ length text
+    pub store_told : (out text : List ℕ) {out₁ text₁ out₂ text₂ : List ℕ} {r : Option Graft} → p.nodes.at ≤ length out → l.base ≤ length text
         → text₁ ≡ overwrite text 0 (texts_of p q e.start e.end e.replacement w.normalized.start w.normalized.end d rd)
         → out₁ ≡ overwrite out 0 (head_bytes l.text l.normalized ++ part t 9 (p.nodes.at - 9))
         → GraftTold out₁ text₁ out₂ text₂ p.nodes.at l.base (offsets_of st.totals) none r (grafted_into rt rd (offsets_of st.totals))
@@ -152,35 +153,37 @@ module _ {t d : List ℕ} {p : Places} {st : Store} {e : Edit} {w : MergeWindow}
         let n₁ : length xs ≡ at = length-append hd (old_layer_bytes old) ∙ (let i = head_length (length new.sanitized) (length new.normalized) in let j = old_layers_length b.bytes b.book b.old_places in omega (arith, i, j)) in
         let m₁ : length out₁ ≡ length out = ap length v₂ ∙ length_overwrite out 0 xs (omega (arith, n₁, h)) in
         let m₂ : length text₁ ≡ length text = ap length v₁ ∙ length_overwrite text 0 ts (omega (arith, base_is b sizes, k)) in
-        let ok : r.ok ≡ graft_ok none (length out) (length text) at l.base o g = c'.ok ∙ ap₂ (λ (i j : ℕ). graft_ok none i j at l.base o g) m₁ m₂ in
+        let ok : is_some r ≡ graft_ok none (length out) (length text) at l.base o g = c'.ok ∙ ap₂ (λ (i j : ℕ). graft_ok none i j at l.base o g) m₁ m₂ in
+        let made : (x : Graft) → is_some r ≡ true → GraftMade out₁ text₁ out₂ text₂ at l.base none x g → StoreMade old e read w out out₂ text₂ at l.base x =
+        λ x y m.
+        let i = graft_room (length out) (length text) at l.base h (sym ok ∙ y) in
+        let n₂ = length-append nl ns in
+        let n₃ = length-append (xs ++ nl) ns in
+        let n₄ = length-append xs nl in
+        let s = new_string_bytes none g.1 in
+        let z : bytes_of new ≡ ts ++ s = new_bytes b in
+        let n₅ = length-append ts s in
+        let n₆ : length (bytes_of new) ≡ l.base + length s = ap length z ∙ n₅ ∙ ap (λ (n : ℕ). n + length s) (sym (base_is b sizes)) in
         record {
-          ok = ok;
-          made = λ y.
-              let m = c'.made y in
-              let i = graft_room (length out) (length text) at l.base h (sym ok ∙ y) in
-              let n₂ = length-append nl ns in
-              let n₃ = length-append (xs ++ nl) ns in
-              let n₄ = length-append xs nl in
-              let s = new_string_bytes none g.1 in
-              let z : bytes_of new ≡ ts ++ s = new_bytes b in
-              let n₅ = length-append ts s in
-              let n₆ : length (bytes_of new) ≡ l.base + length s = ap length z ∙ n₅ ∙ ap (λ (n : ℕ). n + length s) (sym (base_is b sizes)) in
-              record {
-                wrote =
-                    m.wrote ∙ ap (λ (x : List ℕ). overwrite x at (nl ++ ns)) v₂
-                    ∙ overwrite_next out 0 xs (omega (arith, n₁, h)) at (nl ++ ns) (omega (arith, n₁)) i
-                    ∙ ap (overwrite out 0) (sym (append_assoc xs nl ns));
-                room = omega (arith, i, n₁, n₂, n₃, n₄);
-                bytes =
-                    ap (λ (n : ℕ). take n text₂) n₆ ∙ m.strings
-                    ∙ ap (λ (x : List ℕ). x ++ s)
-                    (ap (take l.base) v₁ ∙ ap (λ (n : ℕ). take n (overwrite text 0 ts)) (base_is b sizes ∙ sym (zero-add (length ts))) ∙ take_overwrite text 0 ts (omega (arith, base_is b sizes, k)))
-                    ∙ sym z;
-                size = omega (arith, m.bytes, n₆);
-                len = omega (arith, m.len, n₁, n₄);
-                stats = m.stats;
-              };
-        }
+          wrote =
+              m.wrote ∙ ap (λ (x : List ℕ). overwrite x at (nl ++ ns)) v₂
+              ∙ overwrite_next out 0 xs (omega (arith, n₁, h)) at (nl ++ ns) (omega (arith, n₁)) i
+              ∙ ap (overwrite out 0) (sym (append_assoc xs nl ns));
+          room = omega (arith, i, n₁, n₂, n₃, n₄);
+          bytes =
+              ap (λ (n : ℕ). take n text₂) n₆ ∙ m.strings
+              ∙ ap (λ (x : List ℕ). x ++ s)
+              (ap (take l.base) v₁ ∙ ap (λ (n : ℕ). take n (overwrite text 0 ts)) (base_is b sizes ∙ sym (zero-add (length ts))) ∙ take_overwrite text 0 ts (omega (arith, base_is b sizes, k)))
+              ∙ sym z;
+          size = omega (arith, m.bytes, n₆);
+          len = omega (arith, m.len, n₁, n₄);
+          stats = m.stats;
+        } in
+        record { ok = ok; made = if_made r made c'.made }
+      where
+        if_made : (o : Option Graft) {P Q : Graft → Type 0} → ((x : Graft) → is_some o ≡ true → P x → Q x) → IfSome o P → IfSome o Q
+        if_made None f h = tt
+        if_made (Some x) f h = f x refl h
 
 -- ---- the answer
 

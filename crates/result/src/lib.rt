@@ -61,16 +61,16 @@ fn put_new_texts(out: &mut [u8], book: &Book, edit: &Edit, w: splice::Window, re
     );
 }
 
-// What grafting wrote: the bytes of the new layer's records and of its strings, and the counts. Not ok where there is no room.
+// What grafting wrote: the bytes of the new layer's records and of its strings, and the counts.
 #[derive(Clone, Copy)]
 pub struct Graft {
-    pub ok: bool,
     pub len: usize,
     pub bytes: usize,
     pub stats: InternStats,
 }
 
-// The reading's nodes grafted behind the old layers, if it has any: their records from `at` on, new strings from `base` on.
+// The reading's nodes grafted behind the old layers, if it has any: their records from `at` on, new strings from `base` on. None where
+// there is no room.
 fn graft_reading(
     reading: &Book,
     below: store::Totals,
@@ -79,7 +79,7 @@ fn graft_reading(
     strs: &mut [u8],
     at: usize,
     base: usize,
-) -> Graft
+) -> Option<Graft>
     requires source_fits { SourceFits reading.now.tape.now reading.now.bytes.now reading.now.places reading.now.store }
     requires strings_le_max_pool { (below.strings ≤ max_pool) × (below.contents ≤ max_pool) × (below.segments ≤ max_pool) }
     requires min_work_words_in_bounds { (min_work_words ≤ length work.old) × (base ≤ length strs.old) × (at ≤ length out.old) }
@@ -87,12 +87,11 @@ fn graft_reading(
 {
     let p = reading.places;
     if p.nodes.count == 0 {
-        return Graft {
-            ok: true,
+        return Some(Graft {
             len: 0,
             bytes: 0,
             stats: InternStats::default(),
-        };
+        });
     }
     let o = layer::Offsets {
         strings: below.strings,
@@ -111,18 +110,12 @@ fn graft_reading(
         at,
         base,
     ) {
-        None => Graft {
-            ok: false,
-            len: 0,
-            bytes: 0,
-            stats: InternStats::default(),
-        },
-        Some(l) => Graft {
-            ok: true,
+        None => None,
+        Some(l) => Some(Graft {
             len: l.len,
             bytes: l.state.used - base,
             stats: l.state.stats,
-        },
+        }),
     }
 }
 
@@ -136,7 +129,7 @@ fn put_store(
     outtape: &mut [u8],
     outbytes: &mut [u8],
     work: &mut [u32],
-) -> Graft
+) -> Option<Graft>
     requires books { Books book.now.tape.now book.now.bytes.now book.now.places book.now.store (edit_of edit.now.start edit.now.end edit.now.replacement.now) (window_value w) reading.now.tape.now reading.now.bytes.now reading.now.places reading.now.store }
     requires l_value { l ≡ lengths_of book.now.places reading.now.places edit.now.start edit.now.end (length edit.now.replacement.now) w.nstart w.nend (length book.now.bytes.now) }
     requires min_work_words_in_bounds { (min_work_words ≤ length work.old) × (l.normalized ≤ max_text) × (l.base ≤ length outbytes.old) × (book.now.places.nodes.at ≤ length outtape.old) }
@@ -193,10 +186,9 @@ pub fn merge_books(
     ) {
         return output::refused_output(18);
     }
-    let g = put_store(book, edit, w, reading, l, outtape, outbytes, work);
-    if !g.ok {
+    let Some(g) = put_store(book, edit, w, reading, l, outtape, outbytes, work) else {
         return output::refused_output(18);
-    }
+    };
     let at = p.nodes.at + g.len;
     let size = merged_lists::lists_end(at, k, q);
     if outtape.len() < size {

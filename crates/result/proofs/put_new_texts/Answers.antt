@@ -1,20 +1,8 @@
 use Rattle.result.specs.Stages.{texts_sliced, texts_asked}
+use Rattle.std.proofs.Common.{◌+◌}
 use mathlib.Core.Path.{refl}
-use Prim.Native.Nat.{◌+◌}
 use native.Mathlib.Omega.{arith}
 use Rattle.result.proofs.put_new_texts.Goals as goal
-
-pub slice_bounds-put_texts-end-3 : goal.slice_bounds-put_texts-end-3
-slice_bounds-put_texts-end-3 c =
-    omega (arith, c.requires.normalized_in_bounds.1)
-
-pub slice_bounds-put_texts-count-4 : goal.slice_bounds-put_texts-count-4
-slice_bounds-put_texts-count-4 c =
-    omega (arith, c.requires.normalized_in_bounds.0)
-
-pub slice_bounds-put_texts-start-4 : goal.slice_bounds-put_texts-start-4
-slice_bounds-put_texts-start-4 c =
-    omega (arith, c.requires.normalized_in_bounds.0)
 
 pub put_texts-requires : goal.put_texts-requires
 put_texts-requires c =
