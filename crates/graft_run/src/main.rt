@@ -3,7 +3,7 @@
 // tools/cases/make writes the cases, and from document 01 the output that is stored beside them.
 #![tactic(auto)]
 
-ghost use Rattle.std.specs.Prelude.{◌≡◌, IfSome, false, ◌+◌, ◌*◌, ◌≤◌, length};
+ghost use Rattle.std.specs.Prelude.{◌≡◌, IfSome, true, ◌+◌, ◌*◌, ◌≤◌, length};
 ghost use Rattle.tape.specs.Accepted.{Accepted};
 ghost use Rattle.layer.specs.Layered.{OffsetsFit};
 
