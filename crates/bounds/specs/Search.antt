@@ -1,8 +1,8 @@
 -- The node at an offset, by halves.
-use Rattle.std.specs.Prelude.{ℕ, zero, suc, ◌+◌, ◌*◌, ◌≤◌, ◌<◌, ◌≡◌, refl, Bool, true, false, cond, ◌&&◌, List, length, ltb}
+use Rattle.std.specs.Prelude.{Option, Some, None, ℕ, zero, suc, ◌+◌, ◌*◌, ◌≤◌, ◌<◌, ◌≡◌, refl, Bool, true, false, cond, ◌&&◌, List, length, ltb}
 use Rattle.std.proofs.Common.{arith, eq-or-lt_of_le, le_trans, le_refl, lt_of_lt_of_le, ⊎_elim, ◌∙◌}
 use Rattle.std.proofs.Math.Path.{sym, ap}
-use Rattle.std.proofs.Math.Option.{Option, none, some}
+use Rattle.std.proofs.Math.Option.{Option as ModelOption, none, some}
 use Rattle.std.proofs.Math.ListN.{get_elem?}
 use Rattle.std.proofs.Math.Dec.{leb}
 use borrow.Author.Tests.{le-leb, lt-leb, lt-ltb, le-ltb, leb-true, ltb-true}
@@ -14,12 +14,11 @@ use Rattle.model.specs.Lookup.{node_at_source, last_of, ends_behind}
 use Rattle.laws.specs.Lists.{both}
 use Rattle.laws.specs.Checks.{PlaceFacts}
 use Rattle.bounds.specs.Walk.{node_inside, nodes_in_place}
-use Rattle.bounds.specs.declared.Found.{Found}
-use Rattle.bounds.specs.declared.Found.TheVariants.{At, Nothing}
 
-unfoldable pub found_of : Option ℕ → Found
-found_of none = Nothing
-found_of (some i) = At i
+-- the model's answer as the code's
+unfoldable pub found_of : ModelOption ℕ → Option ℕ
+found_of none = None
+found_of (some i) = Some i
 
 -- where the node numbered i of the run starts
 unfoldable pub start_of : List ℕ → ℕ → ℕ → ℕ
@@ -119,7 +118,7 @@ module _ (t : List ℕ) (at : ℕ) {count o r : ℕ} (l : Split (start_of t at) 
       kept_count (λ (n : SourceNode). leb n.source_span.start o) count r (λ (i : ℕ). record_at node_codec t (at + 49 * i)) l.within
       (λ k h. le-leb _ _ (l.by k h)) (λ k a b. lt-leb _ _ (l.behind k a b))
 
-  pub node_none : r ≡ 0 → Nothing ≡ found_of (node_at_source (records_at node_codec t at count) o)
+  pub node_none : r ≡ 0 → None ≡ found_of (node_at_source (records_at node_codec t at count) o)
   unfolding node_at_source last_of found_of
   node_none e = sym (ap (λ (k : ℕ). found_of (last_of (records_at node_codec t at count) o k)) (met ∙ e))
 
@@ -132,11 +131,11 @@ module _ (t : List ℕ) (at : ℕ) {count o r : ℕ} (l : Split (start_of t at) 
 
   -- the code has i and the node's end
   module _ (i : ℕ) (e : r ≡ suc i) (end : ℕ) (q : end ≡ (record_at node_codec t (at + 49 * i)).source_span.end) where
-    pub node_there : o < end → At i ≡ found_of (node_at_source (records_at node_codec t at count) o)
+    pub node_there : o < end → Some i ≡ found_of (node_at_source (records_at node_codec t at count) o)
     unfolding found_of
     node_there h = sym (ap found_of (last_one i e) ∙ rw (← q, lt-ltb o end h) refl)
 
-    pub node_past : end ≤ o → Nothing ≡ found_of (node_at_source (records_at node_codec t at count) o)
+    pub node_past : end ≤ o → None ≡ found_of (node_at_source (records_at node_codec t at count) o)
     unfolding found_of
     node_past h = sym (ap found_of (last_one i e) ∙ rw (← q, le-ltb o end h) refl)
 

@@ -2,12 +2,12 @@
 use Prim.Native.Nat.{ℕ, suc, ◌+◌, ◌-◌, ◌*◌, ◌≤◌, ◌<◌}
 use native.Mathlib.Omega.{arith}
 use Rattle.std.proofs.Common.{add-zero, add_assoc, zero-add, sym, ◌∙◌}
-use Rattle.std.specs.Prelude.{◌≡◌, Bool, false, cond, ◌&&◌, ltb, eqb}
+use Rattle.std.specs.Prelude.{◌≡◌, Option, Some, None, Bool, false, cond, ◌&&◌, ltb, eqb}
 use Rattle.std.proofs.Math.Path.{refl, ap, ap₂}
 use Rattle.std.proofs.Math.Bool.{true, and-false}
 use mathlib.Core.List.{List, [], ◌∷◌}
 use Rattle.std.proofs.Math.Dec.{leb}
-use borrow.Author.Tests.{le-leb, lt-leb, leb-true, ltb-true}
+use borrow.Author.Tests.{leb-true, ltb-true}
 use Rattle.model.specs.Lists.{all}
 use Rattle.model.specs.Types.{SourceNode}
 use Rattle.model.specs.Tape.{record_at, records_at, node_codec}
@@ -16,8 +16,7 @@ use Rattle.laws.specs.Lists.{both}
 use Rattle.records.specs.Runs.{run_cons, run_none}
 use Rattle.wire.specs.Loops.{by_bool}
 use Rattle.bounds.specs.Spans.{span_of}
-use Rattle.bounds.specs.declared.Drift.{Drift}
-use Rattle.bounds.specs.declared.Drift.TheVariants.{Misplaced, Placed}
+use Rattle.bounds.specs.declared.Sums.{Sums}
 
 -- ---- one node
 
@@ -47,27 +46,18 @@ unfoldable pub node_placed : ℕ → ℕ → ℕ → ℕ → SourceNode → Bool
 node_placed size from images spans n =
     span_ok size n.source_span && leb from n.source_span.start && in_image n.source_span.start n.normalized_offset (image_length n) images spans
 
--- the code's answers, with the node's numbers that it has read
-module _ (size from im sp : ℕ) (n : SourceNode) (start : ℕ) (q : start ≡ n.source_span.start) where
-  pub placed_before : start < from → false ≡ node_placed size from im sp n
-  unfolding node_placed
-  placed_before h = rw (← q, lt-leb from start h, and-false) refl
-
-  module _ (end : ℕ) (q₁ : end ≡ n.source_span.end) (r : Bool) (span : r ≡ span_ok size (span_of start end)) where
-    span_here : span_ok size n.source_span ≡ r
-    span_here = sym (span ∙ ap₂ (λ (a b : ℕ). span_ok size (span_of a b)) q q₁)
-
-    pub placed_span : r ≡ false → false ≡ node_placed size from im sp n
-    unfolding node_placed
-    placed_span f = rw (span_here, f) refl
-
-    pub placed_image : from ≤ start → r ≡ true → (offset image : ℕ) → offset ≡ n.normalized_offset → image ≡ image_length n
-        → in_image start offset image im sp ≡ node_placed size from im sp n
-    unfolding node_placed
-    placed_image h f offset image q₂ q₃ =
-        let a : leb from n.source_span.start ≡ true = ap (leb from) (sym q) ∙ le-leb from start h in
-        let b : in_image start offset image im sp ≡ in_image n.source_span.start n.normalized_offset (image_length n) im sp = rw (q, q₂, q₃) refl in
-        b ∙ rw (span_here, f, a) refl
+-- its three tests in the code's order
+pub placed_parts : (size from im sp : ℕ) (n : SourceNode)
+    → node_placed size from im sp n
+    ≡ (leb from n.source_span.start
+    && (span_ok size (span_of n.source_span.start n.source_span.end) && in_image n.source_span.start n.normalized_offset (image_length n) im sp))
+unfolding node_placed
+placed_parts size from im sp n =
+    and_swap (span_ok size n.source_span) (leb from n.source_span.start) (in_image n.source_span.start n.normalized_offset (image_length n) im sp)
+  where
+    and_swap : (a b c : Bool) → a && b && c ≡ b && (a && c)
+    and_swap true b c = refl
+    and_swap false b c = sym (and-false b)
 
 -- what a node in place tells of its span
 pub placed_facts : (size from im sp : ℕ) (n : SourceNode) → node_placed size from im sp n ≡ true
@@ -90,24 +80,28 @@ node_inside size n = span_ok size n.source_span
 abbrev pub nodes_in_place : ℕ → List SourceNode → Bool
 nodes_in_place size ns = all (node_inside size) ns && ordered 0 ns && offsets_ok 0 0 ns
 
+-- the sums that the walk answers
+abbrev pub placed : ℕ → ℕ → Option Sums
+placed images spans = Some (record { images = images; spans = spans })
+
 -- what the walk answers
-unfoldable pub drift_of : ℕ → List SourceNode → Drift
-drift_of size ns = cond (nodes_in_place size ns) (Placed (images ns) (spans ns)) Misplaced
+unfoldable pub sums_if_placed : ℕ → List SourceNode → Option Sums
+sums_if_placed size ns = cond (nodes_in_place size ns) (placed (images ns) (spans ns)) None
 
 -- the walk from a node on
-unfoldable pub walk : ℕ → ℕ → ℕ → ℕ → List SourceNode → Drift
-walk size from images spans [] = Placed images spans
+unfoldable pub walk : ℕ → ℕ → ℕ → ℕ → List SourceNode → Option Sums
+walk size from images spans [] = placed images spans
 walk size from images spans (n ∷ ns) =
     let more = walk size n.source_span.end (images + image_length n) (spans + span_length n) ns in
-    cond (node_placed size from images spans n) more Misplaced
+    cond (node_placed size from images spans n) more None
 
 -- past a node in place
-walk_on : (size from im sp : ℕ) (n : SourceNode) (ns : List SourceNode) {d : Drift} → node_placed size from im sp n ≡ true → walk size from im sp (n ∷ ns) ≡ d
+walk_on : (size from im sp : ℕ) (n : SourceNode) (ns : List SourceNode) {d : Option Sums} → node_placed size from im sp n ≡ true → walk size from im sp (n ∷ ns) ≡ d
     → walk size n.source_span.end (im + image_length n) (sp + span_length n) ns ≡ d
 unfolding walk
 walk_on size from im sp n ns e h = rw e at h
 
-cond_and : (a b : Bool) (x : Drift) → cond (a && b) x Misplaced ≡ cond a (cond b x Misplaced) Misplaced
+cond_and : (a b : Bool) (x : Option Sums) → cond (a && b) x None ≡ cond a (cond b x None) None
 cond_and true b x = refl
 cond_and false b x = refl
 
@@ -120,7 +114,7 @@ shuffle true true true true x y z = refl
 
 -- the walk's answer from a node on, by the three tests of what is left
 walk_is : (size from im sp : ℕ) (ns : List SourceNode)
-    → walk size from im sp ns ≡ cond (all (node_inside size) ns && ordered from ns && offsets_ok im sp ns) (Placed (im + images ns) (sp + spans ns)) Misplaced
+    → walk size from im sp ns ≡ cond (all (node_inside size) ns && ordered from ns && offsets_ok im sp ns) (placed (im + images ns) (sp + spans ns)) None
 unfolding walk ordered offsets_ok images spans node_placed in_image
 walk_is size from im sp [] = rw (add-zero, add-zero) refl
 walk_is size from im sp (n ∷ ns) =
@@ -131,26 +125,25 @@ walk_is size from im sp (n ∷ ns) =
     let x : Bool = all (node_inside size) ns in
     let y : Bool = ordered end ns in
     let z : Bool = offsets_ok (im + image_length n) (sp + span_length n) ns in
-    let sums : Placed (im + image_length n + images ns) (sp + span_length n + spans ns) ≡ Placed (im + (image_length n + images ns)) (sp + (span_length n + spans ns))
-    = ap₂ (λ (a b : ℕ). Placed a b) (add_assoc im (image_length n) (images ns)) (add_assoc sp (span_length n) (spans ns)) in
-    let placed : Drift = Placed (im + (image_length n + images ns)) (sp + (span_length n + spans ns)) in
-    ap (λ (w : Drift). cond (node_placed size from im sp n) w Misplaced)
-    (walk_is size end (im + image_length n) (sp + span_length n) ns ∙ ap (λ (w : Drift). cond (x && y && z) w Misplaced) sums)
-    ∙ sym (cond_and (node_placed size from im sp n) (x && y && z) placed)
-    ∙ ap (λ (b : Bool). cond b placed Misplaced) (sym (shuffle (node_inside size n) (leb from start) low high x y z))
+    let sums : placed (im + image_length n + images ns) (sp + span_length n + spans ns) ≡ placed (im + (image_length n + images ns)) (sp + (span_length n + spans ns))
+    = ap₂ (λ (a b : ℕ). placed a b) (add_assoc im (image_length n) (images ns)) (add_assoc sp (span_length n) (spans ns)) in
+    let whole : Option Sums = placed (im + (image_length n + images ns)) (sp + (span_length n + spans ns)) in
+    ap (λ (w : Option Sums). cond (node_placed size from im sp n) w None)
+    (walk_is size end (im + image_length n) (sp + span_length n) ns ∙ ap (λ (w : Option Sums). cond (x && y && z) w None) sums)
+    ∙ sym (cond_and (node_placed size from im sp n) (x && y && z) whole)
+    ∙ ap (λ (b : Bool). cond b whole None) (sym (shuffle (node_inside size n) (leb from start) low high x y z))
 
-walk_whole : (size : ℕ) (ns : List SourceNode) → walk size 0 0 0 ns ≡ drift_of size ns
-unfolding drift_of
+walk_whole : (size : ℕ) (ns : List SourceNode) → walk size 0 0 0 ns ≡ sums_if_placed size ns
+unfolding sums_if_placed
 walk_whole size ns = walk_is size 0 0 0 ns ∙ rw (zero-add, zero-add) refl
 
 -- ---- the loop: i nodes are passed, and what is left answers as the whole
 
 pub record Walked (t : List ℕ) (at count size i from im sp : ℕ) : Type 0 where
-  pub within : i ≤ count
   pub images_small : im ≤ 7 * i
   pub spans_small : sp ≤ from
   pub from_small : from < 4294967296
-  pub rest : walk size from im sp (records_at node_codec t (at + 49 * i) (count - i)) ≡ drift_of size (records_at node_codec t at count)
+  pub rest : walk size from im sp (records_at node_codec t (at + 49 * i) (count - i)) ≡ sums_if_placed size (records_at node_codec t at count)
 
 module _ (t : List ℕ) (at count size : ℕ) where
   pub walked_none : Walked t at count size 0 0 0 0
@@ -158,7 +151,6 @@ module _ (t : List ℕ) (at count size : ℕ) where
       let e₁ : at + 49 * 0 ≡ at = omega arith in
       let e₂ : count - 0 ≡ count = omega arith in
       record {
-        within = omega arith;
         images_small = omega arith;
         spans_small = omega arith;
         from_small = omega arith;
@@ -174,7 +166,7 @@ module _ (t : List ℕ) (at count size : ℕ) where
       ap (λ (k : ℕ). records_at node_codec t (at + 49 * i) k) e ∙ run_cons node_codec t (count - (i + 1)) (at + 49 * i) (at + 49 * (i + 1)) (omega arith)
 
 module _ {t : List ℕ} {at count size i from im sp : ℕ} (w : Walked t at count size i from im sp) where
-  pub walked_done : i ≡ count → Placed im sp ≡ drift_of size (records_at node_codec t at count)
+  pub walked_done : i ≡ count → placed im sp ≡ sums_if_placed size (records_at node_codec t at count)
   unfolding walk
   walked_done e =
       let z : count - i ≡ 0 = omega arith in
@@ -182,10 +174,10 @@ module _ {t : List ℕ} {at count size i from im sp : ℕ} (w : Walked t at coun
       ap (walk size from im sp) (sym none) ∙ w.rest
 
   module _ (h : i < count) where
-    walk_next : walk size from im sp (record_at node_codec t (at + 49 * i) ∷ records_at node_codec t (at + 49 * (i + 1)) (count - (i + 1))) ≡ drift_of size (records_at node_codec t at count)
+    walk_next : walk size from im sp (record_at node_codec t (at + 49 * i) ∷ records_at node_codec t (at + 49 * (i + 1)) (count - (i + 1))) ≡ sums_if_placed size (records_at node_codec t at count)
     walk_next = ap (walk size from im sp) (sym (nodes_cons t at count size i h)) ∙ w.rest
 
-    pub walked_fails : node_placed size from im sp (record_at node_codec t (at + 49 * i)) ≡ false → Misplaced ≡ drift_of size (records_at node_codec t at count)
+    pub walked_fails : node_placed size from im sp (record_at node_codec t (at + 49 * i)) ≡ false → None ≡ sums_if_placed size (records_at node_codec t at count)
     unfolding walk
     walked_fails e = rw e at walk_next
 
@@ -196,7 +188,6 @@ module _ {t : List ℕ} {at count size i from im sp : ℕ} (w : Walked t at coun
         let n = record_at node_codec t (at + 49 * i) in
         let f = placed_facts size from im sp n e in
         record {
-          within = omega arith;
           images_small = omega (arith, image_small n, w.images_small);
           spans_small = omega (arith, f.0, f.1, f.2, w.spans_small);
           from_small = b;
@@ -208,23 +199,3 @@ module _ (n : SourceNode) (start end : ℕ) (q : start ≡ n.source_span.start) 
   pub span_length_lem : end - start ≡ span_length n
   unfolding span_length
   span_length_lem = ap₂ (λ (a b : ℕ). a - b) q₁ q
-
-  pub span_length_none : end ≤ start → 0 ≡ span_length n
-  span_length_none h = let e : 0 ≡ end - start = omega arith in e ∙ span_length_lem
-
--- ---- what the answer tells
-
-module _ (size : ℕ) (ns : List SourceNode) where
-  not_placed : (im sp : ℕ) → Misplaced ≡ Placed im sp → ⊥
-  not_placed im sp e = let z : ◌≡◌ {A = ℕ} 0 1 = cc in omega arith
-
-  pub drift_placed : (im sp : ℕ) → drift_of size ns ≡ Placed im sp → (nodes_in_place size ns ≡ true) × (images ns ≡ im) × (spans ns ≡ sp)
-  unfolding drift_of
-  drift_placed im sp e =
-      by_bool (nodes_in_place size ns)
-      (λ b. let p : Placed (images ns) (spans ns) ≡ Placed im sp = rw b at e in (b, cc, cc))
-      (λ b. absurd (not_placed im sp (rw b at e)))
-
-  pub drift_misplaced : drift_of size ns ≡ Misplaced → nodes_in_place size ns ≡ false
-  unfolding drift_of
-  drift_misplaced e = by_bool (nodes_in_place size ns) (λ b. absurd (not_placed (images ns) (spans ns) (sym (rw b at e)))) (λ b. b)

@@ -1,52 +1,70 @@
 // One case after the other out of a stream of them. A case is six words: the lengths of its label, its tape and its bytes, a start,
-// an end, the length of its replacement; then those four parts. Every place is taken: what the input does not hold of a case is
-// left out of it, and the next one begins at the input's end.
+// an end, the length of its replacement; then those four parts. What the input does not hold of a case is left out of it.
 #![tactic(auto)]
 
-ghost use Rattle.std.specs.Prelude.{◌≡◌};
-ghost use Rattle.cases.specs.Stream.{behind as place_behind, case_at};
+ghost use Rattle.std.specs.Prelude.{◌≡◌, take, drop};
 
-const HEAD: u32 = 24;
-
-// Where the label, the tape, the bytes, the replacement and the next case begin, and the two offsets.
 #[derive(Clone, Copy)]
-pub struct Case {
-    pub label: usize,
-    pub tape: usize,
-    pub bytes: usize,
-    pub replacement: usize,
-    pub next: usize,
+pub struct Case<'a> {
+    pub label: &'a [u8],
+    pub tape: &'a [u8],
+    pub bytes: &'a [u8],
+    pub replacement: &'a [u8],
     pub start: u32,
     pub end: u32,
 }
 
-fn behind(input: &[u8], at: usize, len: u32) -> usize
-    ensures { result ≡ place_behind input.now at len }
-{
-    if input.len() <= at {
-        return input.len();
+// What is left of the input.
+#[derive(Drop)]
+pub struct Cases<'a>(&'a [u8]);
+
+impl<'a> Cases<'a> {
+    ghost use Rattle.cases.specs.Stream.{left};
+
+    pub fn new(input: &'a [u8]) -> Self
+        ensures { left result ≡ input.now }
+    {
+        Cases(input)
     }
-    if input.len() - at < len as usize {
-        return input.len();
+
+    // The next bytes, or as many as are left.
+    fn part(&mut self, len: u32) -> &'a [u8]
+        ensures part { result.now ≡ take len (left self.old) }
+        ensures rest { left self.new ≡ drop len (left self.old) }
+    {
+        let (part, rest) = self.0.split_at((len as usize).min(self.0.len()));
+        self.0 = rest;
+        part
     }
-    at + len as usize
 }
 
-pub fn case_at(input: &[u8], at: usize) -> Case
-    ensures { result ≡ case_at input.now at }
-{
-    let label = behind(input, at, HEAD);
-    let head = wire::between(input, at, label);
-    let tape = behind(input, label, wire::u32_or_zero(head, 0));
-    let bytes = behind(input, tape, wire::u32_or_zero(head, 4));
-    let replacement = behind(input, bytes, wire::u32_or_zero(head, 8));
-    Case {
-        label: label,
-        tape: tape,
-        bytes: bytes,
-        replacement: replacement,
-        next: behind(input, replacement, wire::u32_or_zero(head, 20)),
-        start: wire::u32_or_zero(head, 12),
-        end: wire::u32_or_zero(head, 16),
+impl<'a> Iterator for Cases<'a> {
+    ghost use Rattle.std.specs.Prelude.{length};
+    ghost use Rattle.std.specs.Iterator.{at_most};
+    ghost use Rattle.cases.specs.Stream.{left, GivesCase};
+
+    type Item = Case<'a>;
+
+    ghost next_gives = { GivesCase };
+
+    ghost remaining = { λ s. at_most (length (left s)) };
+
+    fn next(&mut self) -> Option<Case<'a>> {
+        if self.0.is_empty() {
+            return None;
+        }
+        let head = self.part(24);
+        let label = self.part(wire::u32_or_zero(head, 0));
+        let tape = self.part(wire::u32_or_zero(head, 4));
+        let bytes = self.part(wire::u32_or_zero(head, 8));
+        let replacement = self.part(wire::u32_or_zero(head, 20));
+        Some(Case {
+            label,
+            tape,
+            bytes,
+            replacement,
+            start: wire::u32_or_zero(head, 12),
+            end: wire::u32_or_zero(head, 16),
+        })
     }
 }

@@ -9,14 +9,13 @@ ghost use Rattle.model.specs.Tape.{places};
 ghost use Rattle.layout.specs.Shaped.{runs_shape, layers_shape, lists_shape, layout_of, RunsFit, LayersFit, ListsFit};
 
 // Section 4. The shapes of a layer's contents and segments.
+#[tactic(auto, unfolding(crate::specs::Shaped::runs_shape))]
 pub fn layer_shaped(tape: &[u8], l: places::LayerRuns) -> bool
     requires { RunsFit tape.now l }
     ensures { result ≡ runs_shape tape.now l }
 {
-    if !records::contents_shaped(tape, l.contents.at, l.contents.count) {
-        return false;
-    }
-    records::segments_shaped(tape, l.segments.at, l.segments.count)
+    records::all_shaped::<records::Content>(tape, l.contents.at, l.contents.count)
+        && records::all_shaped::<records::Segment>(tape, l.segments.at, l.segments.count)
 }
 
 // Section 4. The shapes of every layer.
@@ -25,30 +24,25 @@ pub fn layers_shaped(tape: &[u8], layers: usize) -> bool
     ensures { result ≡ layers_shape tape.now (places tape.now).layers }
 {
     let mut at = 9;
-    let mut i = 0;
-    while i < layers {
+    for _layer in 0..layers {
         let l = places::next_layer(tape, at);
         if !layer_shaped(tape, l) {
             return false;
         }
         at = l.end;
-        i += 1;
     }
     true
 }
 
 // Section 4. The shapes of nodes, pairs and diagnostics.
+#[tactic(auto, unfolding(crate::specs::Shaped::lists_shape))]
 pub fn lists_shaped(tape: &[u8], p: places::Places) -> bool
     requires { ListsFit tape.now p }
     ensures { result ≡ lists_shape tape.now p }
 {
-    if !records::nodes_shaped(tape, p.nodes.at, p.nodes.count) {
-        return false;
-    }
-    if !records::pairs_shaped(tape, p.pairs.at, p.pairs.count) {
-        return false;
-    }
-    records::diagnostics_shaped(tape, p.diagnostics.at, p.diagnostics.count)
+    records::all_shaped::<records::SourceNode>(tape, p.nodes.at, p.nodes.count)
+        && records::all_shaped::<records::PairLink>(tape, p.pairs.at, p.pairs.count)
+        && records::all_shaped::<records::Diagnostic>(tape, p.diagnostics.at, p.diagnostics.count)
 }
 
 // Number 1: the places of a book's records, and a fault where tape and bytes are no book.

@@ -1,9 +1,9 @@
 -- What is asked of a book, 1 to 7 first: the answers of `diagnostics_allow_incremental` and `node_at_source`, and the laws by
 -- which each entry goes from `check_book` to its answer.
-use Rattle.std.specs.Prelude.{◌≡◌, ℕ, Bool, true, false, List, eqb}
+use Rattle.std.specs.Prelude.{Option, Some, None, ◌≡◌, ℕ, Bool, true, false, List, eqb}
 use Rattle.std.proofs.Math.Path.{refl, ap}
 use Rattle.std.proofs.Common.{sym, ◌∙◌, eqb-true}
-use Rattle.std.proofs.Math.Option.{Option, none, some}
+use Rattle.std.proofs.Math.Option.{Option as ModelOption, none, some}
 use Rattle.std.proofs.lemmas.Bool.{eqb-false}
 use Rattle.model.specs.Types.{LexOutput}
 use Rattle.model.specs.Refusal.{Checked, Checked.refused, Checked.accepted, ◌>>=◌, number_of}
@@ -13,8 +13,6 @@ use Rattle.model.specs.Lookup.{ask_book, diagnostics_allow_incremental, node_at_
 use Rattle.wire.specs.Loops.{by_bool}
 use Rattle.places.specs.declared.Places.{Places}
 use Rattle.places.specs.Found.{found, places_of}
-use Rattle.bounds.specs.declared.Found.{Found}
-use Rattle.bounds.specs.declared.Found.TheVariants as found-variants
 use Rattle.bounds.specs.Search.{InOrder, found_of}
 use Rattle.tape.specs.Accepted.{Accepted, refusal_of, accepted_book, accepted_found, accepted_places, accepted_order}
 use Rattle.tape.specs.Placed.{PlacesFit}
@@ -32,15 +30,15 @@ allowed_of (accepted true) = allowed.Yes
 allowed_of (accepted false) = allowed.No
 
 -- A number 1 to 7, the node's place in the list, or none.
-unfoldable pub node_at_of : Checked (Option ℕ) → NodeAt
+unfoldable pub node_at_of : Checked (ModelOption ℕ) → NodeAt
 node_at_of (refused n) = Node-at.Refused n
 node_at_of (accepted (some i)) = Node-at.Node i
 node_at_of (accepted none) = Node-at.Nothing
 
 -- what a search in the list tells
-unfoldable pub node_found : Found → NodeAt
-node_found (found-variants.At i) = Node-at.Node i
-node_found found-variants.Nothing = Node-at.Nothing
+unfoldable pub node_found : Option ℕ → NodeAt
+node_found (Some i) = Node-at.Node i
+node_found None = Node-at.Nothing
 
 -- ---- 1 to 7
 
@@ -77,7 +75,7 @@ ask_shown t d of show f g h k =
 
 -- ---- the two entries
 
-node_same : (x : Option ℕ) → node_found (found_of x) ≡ node_at_of (accepted x)
+node_same : (x : ModelOption ℕ) → node_found (found_of x) ≡ node_at_of (accepted x)
 unfolding node_found found_of node_at_of
 node_same none = refl
 node_same (some i) = refl
@@ -120,7 +118,7 @@ module _ {t d : List ℕ} {p : Places} (a : Asked t d p) where
   pub asked_order : InOrder (records_at node_codec t p.nodes.at p.nodes.count)
   asked_order = accepted_order a.passed a.is
 
-  pub node_said : (o : ℕ) {f : Found} → f ≡ found_of (node_at_source (records_at node_codec t p.nodes.at p.nodes.count) o)
+  pub node_said : (o : ℕ) {f : Option ℕ} → f ≡ found_of (node_at_source (records_at node_codec t p.nodes.at p.nodes.count) o)
       → node_found f ≡ node_at_of (ask_book t d (λ b. node_at_source b.source_nodes o))
   node_said o {f} e =
       ap node_found e ∙ node_same (node_at_source (records_at node_codec t p.nodes.at p.nodes.count) o)

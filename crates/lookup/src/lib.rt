@@ -59,12 +59,12 @@ pub fn diagnostics_allow_incremental(tape: &[u8], bytes: &[u8]) -> Allowed
     Allowed::No
 }
 
-fn node_found(f: bounds::Found) -> NodeAt
+fn node_found(f: Option<usize>) -> NodeAt
     ensures { result ≡ node_found f }
 {
     match f {
-        bounds::Found::At(i) => NodeAt::Node(i),
-        bounds::Found::Nothing => NodeAt::Nothing,
+        Some(i) => NodeAt::Node(i),
+        None => NodeAt::Nothing,
     }
 }
 

@@ -17,7 +17,8 @@ use Rattle.laws.specs.Fits.{record_fits}
 use Rattle.laws.specs.Records.{diagnostic_lawful}
 use Rattle.wire.specs.Overwrite.{overwrite, length_overwrite, overwrite_next, drop_overwrite, Wrote, wrote_next}
 use Rattle.records.specs.Runs.{run_length}
-use Rattle.splice.specs.Spliced.{spliced_length, spliced_written, records_stand}
+use Rattle.splice.specs.Parts.{Kind}
+use Rattle.splice.specs.Spliced.{before_long, placed_long, behind_long, spliced_length, spliced_written, records_stand}
 use Rattle.diagnostics.specs.Sorted.{sort_length}
 use Rattle.diagnostics.specs.Runs.{Diagnostics, written_diagnostics}
 use Rattle.wire.specs.Apart.{overwrite_covered, overwrite_part}
@@ -69,20 +70,33 @@ pub record Lists (t : List ℕ) (p : Places) (w : MergeWindow) (k : Kept) (rt : 
   pub room : lists_end at k q ≤ size
   pub diagnostics : all (record_fits diagnostic_codec) (spliced diagnostic_located w (old_diagnostics t p) (old_diagnostics rt q)) ≡ true
 
--- ---- three parts of a list whose records have z bytes
+-- ---- three parts of a list of any kind of record
 
-module _ {A : Type 0} (c : Codec A) (l : Located A) (z : ℕ) (width : (xs : List A) → length (records_bytes c xs) ≡ z * length xs) (w : MergeWindow) (old : List A) (rt : List ℕ) (rat n : ℕ)
-    (d : List ℕ) (to before : ℕ) (e : before ≡ length (kept_before l w old)) (room : to + z * total_of (sides_of l w old) n ≤ length d) where
-  pub parts_written : {d₁ d₂ d₃ : List ℕ} → d₁ ≡ overwrite d to (records_bytes c (kept_before l w old)) → d₂ ≡ overwrite d₁ (to + z * before) (records_bytes c (map (l.placed w) (records_at c rt rat n)))
-      → d₃ ≡ overwrite d₂ (to + z * before + z * n) (records_bytes c (map (l.moved w) (kept_behind l w old))) → d₃ ≡ overwrite d to (records_bytes c (spliced l w old (records_at c rt rat n)))
+module _ {A : Type 0} {c : Codec A} {l : Located A} {z : ℕ} (k : Kind c l z) (w : MergeWindow) (t : List ℕ) (at m : ℕ) (rt : List ℕ) (rat n : ℕ) (d : List ℕ) (to before : ℕ)
+    (e : before ≡ length (kept_before l w (records_at c t at m))) (room : to + z * total_of (sides_of l w (records_at c t at m)) n ≤ length d) where
+  abbrev old : List A
+  old = records_at c t at m
+
+  abbrev new : List A
+  new = records_at c rt rat n
+
+  abbrev after : ℕ
+  after = length (kept_behind l w old)
+
+  -- the room of each part
+  pub parts_room : (z * before ≡ z * length (kept_before l w old)) × (to + z * before + z * n + z * after ≤ length d)
+  parts_room =
+      let u = ap (λ (j : ℕ). z * j) e in
+      let v : z * total_of (sides_of l w old) n ≡ z * length (kept_before l w old) + z * n + z * after = simp mul-add in
+      (u, omega (arith, u, v, room))
+
+  pub parts_written : {d₁ d₂ d₃ : List ℕ} → d₁ ≡ overwrite d to (records_bytes c (kept_before l w old)) → d₂ ≡ overwrite d₁ (to + z * before) (records_bytes c (map (l.placed w) new))
+      → d₃ ≡ overwrite d₂ (to + z * before + z * n) (records_bytes c (map (l.moved w) (kept_behind l w old))) → d₃ ≡ overwrite d to (records_bytes c (spliced l w old new))
   parts_written w₁ w₂ w₃ =
-      let new = records_at c rt rat n in
-      let x = width (kept_before l w old) ∙ ap (λ (k : ℕ). z * k) (sym e) in
-      let y = width (map (l.placed w) new) ∙ ap (λ (k : ℕ). z * k) (length-map new (l.placed w) ∙ run_length c rt rat n) in
-      let v = width (map (l.moved w) (kept_behind l w old)) ∙ ap (λ (k : ℕ). z * k) (length-map (kept_behind l w old) (l.moved w)) in
-      let m : z * total_of (sides_of l w old) n ≡ z * length (kept_before l w old) + z * n + z * length (kept_behind l w old) = simp mul-add in
-      let u = ap (λ (k : ℕ). z * k) e in
-      spliced_written c l w old new d to (to + z * before) (to + z * before + z * n) w₁ (omega (arith, x)) w₂ (omega (arith, y)) w₃ (omega (arith, v, m, u, room))
+      let x = before_long k w t at m in
+      let y = placed_long k w rt rat n in
+      let v = behind_long k w t at m in
+      spliced_written c l w old new d to (to + z * before) (to + z * before + z * n) w₁ (omega (arith, x, parts_room.0)) w₂ (omega (arith, y)) w₃ (omega (arith, v, parts_room.1))
 
 pub total_is : {A : Type 0} (c : Codec A) (l : Located A) (w : MergeWindow) (old : List A) (rt : List ℕ) (rat n : ℕ) {all : ℕ} → all ≡ total_of (sides_of l w old) n → all ≡ length (spliced l w old (records_at c rt rat n))
 total_is c l w old rt rat n e = let x = spliced_length c l w old (records_at c rt rat n) in let y = run_length c rt rat n in omega (arith, e, x, y)

@@ -2,18 +2,16 @@
 // gets, number 18 as far as it is known before the graft, and the lists written one behind the other.
 #![tactic(auto)]
 
-ghost use Rattle.std.specs.Prelude.{◌≡◌, true, ◌+◌, ◌-◌, ◌*◌, ◌^◌, ◌≤◌, ◌<◌, length, leb};
-ghost use Rattle.laws.specs.Splice.{splice};
+ghost use Rattle.std.specs.Prelude.{◌≡◌, true, ◌+◌, ◌-◌, ◌*◌, ◌^◌, ◌≤◌, ◌<◌, length};
 ghost use Rattle.wire.specs.Overwrite.{overwrite};
 ghost use Rattle.model.specs.Lists.{all as all_of};
-ghost use Rattle.model.specs.Limits.{max_list};
-ghost use Rattle.model.specs.Tape.{records_at, node_codec, pair_codec, container_codec, diagnostic_codec};
-ghost use Rattle.model.specs.Merge.{kept_before, spliced, node_located, pair_located, container_located, diagnostic_located};
+ghost use Rattle.model.specs.Tape.{records_at, records_bytes, node_codec, diagnostic_codec};
+ghost use Rattle.model.specs.Merge.{kept_before, spliced, node_located, diagnostic_located};
 ghost use Rattle.laws.specs.Fits.{record_fits};
 ghost use Rattle.splice.specs.Window.{window_value};
 ghost use Rattle.tape.specs.Placed.{PlacesFit};
 ghost use Rattle.merged_lists.specs.Sizes.{sides_of, kept_of, Few, Small, total_of, lists_fit, room_for, lengths_of, lists_end};
-ghost use Rattle.merged_lists.specs.Lists.{lists_of, Lists, node_bytes, pair_bytes, container_bytes, diagnostic_bytes};
+ghost use Rattle.merged_lists.specs.Lists.{lists_of, Lists, node_bytes, diagnostic_bytes};
 ghost use Rattle.output.specs.Answer.{output_by};
 
 const MAX_TEXT: usize = 16777215;
@@ -27,6 +25,18 @@ const MIN_WORK_WORDS: usize = 16384;
 pub struct Sides {
     pub before: usize,
     pub behind: usize,
+}
+
+impl Sides {
+    ghost use Rattle.merged_lists.specs.Sizes.{Few, total_of};
+
+    // How long the merged list is, with so many of the reading between them.
+    fn total(self, reading: usize) -> usize
+        requires { Few self reading }
+        ensures { (result ≡ total_of self reading) × (total_of self reading ≤ 786429) }
+    {
+        self.before + reading + self.behind
+    }
 }
 
 #[derive(Clone, Copy)]
@@ -63,38 +73,26 @@ pub fn new_lengths(
     let normalized = from as usize + q.normalized as usize + (p.normalized as usize - to as usize);
     let strings = size - (p.text as usize + p.normalized as usize);
     Lengths {
-        text: text,
-        normalized: normalized,
+        text,
+        normalized,
         base: text + normalized + strings,
     }
 }
 
-// Number 3 of a list.
-fn list_fits(s: Sides, reading: usize) -> bool
-    requires { Few s reading }
-    ensures { result ≡ leb (s.before + reading + s.behind) max_list }
-{
-    s.before + reading + s.behind <= MAX_LIST
-}
-
+#[tactic(auto, using(std::proofs::lemmas::Bool::Decides::nat_tests), unfolding(crate::specs::Sizes::lists_fit))]
 fn lists_fit(k: Kept, q: places::Places) -> bool
     requires { Small k q }
     ensures { result ≡ lists_fit k q }
 {
-    if !list_fits(k.nodes, q.nodes.count) {
-        return false;
-    }
-    if !list_fits(k.pairs, q.pairs.count) {
-        return false;
-    }
-    if !list_fits(k.containers, q.containers.count) {
-        return false;
-    }
-    list_fits(k.diagnostics, q.diagnostics.count)
+    k.nodes.total(q.nodes.count) <= MAX_LIST
+        && k.pairs.total(q.pairs.count) <= MAX_LIST
+        && k.containers.total(q.containers.count) <= MAX_LIST
+        && k.diagnostics.total(q.diagnostics.count) <= MAX_LIST
 }
 
 // Number 18 as far as it is known before the graft: work words, number 3 of the new normalized text and of the lists, room for both texts
 // and the old strings, and for the head and the old layers.
+#[tactic(auto, using(std::proofs::lemmas::Bool::Decides::nat_tests), unfolding(crate::specs::Sizes::room_for))]
 pub fn room_for(
     l: Lengths,
     k: Kept,
@@ -107,26 +105,11 @@ pub fn room_for(
     requires { Small k q }
     ensures { result ≡ room_for l k q nodesat tape bytes work }
 {
-    if work < MIN_WORK_WORDS {
-        return false;
-    }
-    if MAX_TEXT < l.normalized {
-        return false;
-    }
-    if bytes < l.base {
-        return false;
-    }
-    if tape < nodesat {
-        return false;
-    }
-    lists_fit(k, q)
-}
-
-fn total(s: Sides, reading: usize) -> usize
-    requires { Few s reading }
-    ensures { (result ≡ s.before + reading + s.behind) × (s.before + reading + s.behind ≤ 786429) }
-{
-    s.before + reading + s.behind
+    MIN_WORK_WORDS <= work
+        && l.normalized <= MAX_TEXT
+        && l.base <= bytes
+        && nodesat <= tape
+        && lists_fit(k, q)
 }
 
 // Where a tape ends whose lists begin at `at`.
@@ -135,11 +118,21 @@ pub fn lists_end(at: usize, k: Kept, q: places::Places) -> usize
     requires at_bound { at < 2 ^ 63 }
     ensures { result ≡ lists_end at k q }
 {
-    let nodes = total(k.nodes, q.nodes.count);
-    let pairs = total(k.pairs, q.pairs.count);
-    let containers = total(k.containers, q.containers.count);
-    let diagnostics = total(k.diagnostics, q.diagnostics.count);
+    let nodes = k.nodes.total(q.nodes.count);
+    let pairs = k.pairs.total(q.pairs.count);
+    let containers = k.containers.total(q.containers.count);
+    let diagnostics = k.diagnostics.total(q.diagnostics.count);
     at + 49 * nodes + 18 * pairs + 13 * containers + 18 * diagnostics + 1
+}
+
+fn sides_in<K: splice::Spliced>(tape: &[u8], run: places::Run, w: splice::Window) -> Sides
+    requires { run.at + K.SIZE * run.count ≤ length tape.now }
+    ensures { result ≡ sides_of K.located (window_value w) (records_at K.codec tape.now run.at run.count) }
+{
+    Sides {
+        before: splice::count_before::<K>(tape, run.at, run.count, w),
+        behind: splice::count_behind::<K>(tape, run.at, run.count, w),
+    }
 }
 
 pub fn kept_in(tape: &[u8], p: places::Places, w: splice::Window) -> Kept
@@ -147,22 +140,10 @@ pub fn kept_in(tape: &[u8], p: places::Places, w: splice::Window) -> Kept
     ensures { result ≡ kept_of (window_value w) tape.now p }
 {
     Kept {
-        nodes: Sides {
-            before: splice_nodes::kept_before_nodes(tape, p.nodes.at, p.nodes.count, w),
-            behind: splice_nodes::kept_behind_nodes(tape, p.nodes.at, p.nodes.count, w),
-        },
-        pairs: Sides {
-            before: splice::kept_before_pairs(tape, p.pairs.at, p.pairs.count, w),
-            behind: splice::kept_behind_pairs(tape, p.pairs.at, p.pairs.count, w),
-        },
-        containers: Sides {
-            before: splice::kept_before_containers(tape, p.containers.at, p.containers.count, w),
-            behind: splice::kept_behind_containers(tape, p.containers.at, p.containers.count, w),
-        },
-        diagnostics: Sides {
-            before: splice::kept_before_diagnostics(tape, p.diagnostics.at, p.diagnostics.count, w),
-            behind: splice::kept_behind_diagnostics(tape, p.diagnostics.at, p.diagnostics.count, w),
-        },
+        nodes: sides_in::<splice_nodes::Nodes>(tape, p.nodes, w),
+        pairs: sides_in::<splice_lists::Pairs>(tape, p.pairs, w),
+        containers: sides_in::<splice_lists::Containers>(tape, p.containers, w),
+        diagnostics: sides_in::<splice_lists::Diagnostics>(tape, p.diagnostics, w),
     }
 }
 
@@ -182,9 +163,9 @@ fn put_nodes(
     ensures { out.new ≡ overwrite out.old to (node_bytes (window_value w) (records_at node_codec tape.now run.at run.count) (records_at node_codec out.old to reading)) }
 {
     moves::move_up(out, to, 49 * reading, 49 * before);
-    splice_nodes::put_before_nodes(tape, run.at, run.count, w, out, to);
+    splice::put_before::<splice_nodes::Nodes>(tape, run.at, run.count, w, out, to);
     splice_nodes::place_nodes(out, to + 49 * before, reading, w);
-    splice_nodes::put_behind_nodes(
+    splice::put_behind::<splice_nodes::Nodes>(
         tape,
         run.at,
         run.count,
@@ -194,8 +175,8 @@ fn put_nodes(
     );
 }
 
-// `merge_pairs`
-fn put_pairs(
+// `merge_pairs`, `merge_container_pairs`, and `merge_diagnostics` before its sort.
+fn put_list<K: splice::Spliced>(
     tape: &[u8],
     run: places::Run,
     w: splice::Window,
@@ -205,63 +186,16 @@ fn put_pairs(
     out: &mut [u8],
     to: usize,
 )
-    requires count_in_bounds { (run.at + 18 * run.count ≤ length tape.now) × (reading.at + 18 * reading.count ≤ length readingtape.now) }
-    requires before_value { before ≡ length (kept_before pair_located (window_value w) (records_at pair_codec tape.now run.at run.count)) }
-    requires count_in_bounds_2 { to + 18 * total_of (sides_of pair_located (window_value w) (records_at pair_codec tape.now run.at run.count)) reading.count ≤ length out.old }
-    ensures { out.new ≡ overwrite out.old to (pair_bytes (window_value w) (records_at pair_codec tape.now run.at run.count) (records_at pair_codec readingtape.now reading.at reading.count)) }
+    requires runs_in_bounds { (run.at + K.SIZE * run.count ≤ length tape.now) × (reading.at + K.SIZE * reading.count ≤ length readingtape.now) }
+    requires before_value { before ≡ length (kept_before K.located (window_value w) (records_at K.codec tape.now run.at run.count)) }
+    requires list_in_bounds { to + K.SIZE * total_of (sides_of K.located (window_value w) (records_at K.codec tape.now run.at run.count)) reading.count ≤ length out.old }
+    ensures { out.new ≡ overwrite out.old to (records_bytes K.codec (spliced K.located (window_value w) (records_at K.codec tape.now run.at run.count) (records_at K.codec readingtape.now reading.at reading.count))) }
 {
-    splice_lists::put_before_pairs(tape, run.at, run.count, w, out, to);
-    splice_lists::put_placed_pairs(
-        readingtape,
-        reading.at,
-        reading.count,
-        w,
-        out,
-        to + 18 * before,
-    );
-    splice_lists::put_behind_pairs(
-        tape,
-        run.at,
-        run.count,
-        w,
-        out,
-        to + 18 * before + 18 * reading.count,
-    );
-}
-
-// `merge_container_pairs`
-fn put_containers(
-    tape: &[u8],
-    run: places::Run,
-    w: splice::Window,
-    before: usize,
-    readingtape: &[u8],
-    reading: places::Run,
-    out: &mut [u8],
-    to: usize,
-)
-    requires count_in_bounds { (run.at + 13 * run.count ≤ length tape.now) × (reading.at + 13 * reading.count ≤ length readingtape.now) }
-    requires before_value { before ≡ length (kept_before container_located (window_value w) (records_at container_codec tape.now run.at run.count)) }
-    requires count_in_bounds_2 { to + 13 * total_of (sides_of container_located (window_value w) (records_at container_codec tape.now run.at run.count)) reading.count ≤ length out.old }
-    ensures { out.new ≡ overwrite out.old to (container_bytes (window_value w) (records_at container_codec tape.now run.at run.count) (records_at container_codec readingtape.now reading.at reading.count)) }
-{
-    splice_lists::put_before_containers(tape, run.at, run.count, w, out, to);
-    splice_lists::put_placed_containers(
-        readingtape,
-        reading.at,
-        reading.count,
-        w,
-        out,
-        to + 13 * before,
-    );
-    splice_lists::put_behind_containers(
-        tape,
-        run.at,
-        run.count,
-        w,
-        out,
-        to + 13 * before + 13 * reading.count,
-    );
+    let readingto = to + K::SIZE * before;
+    let behindto = readingto + K::SIZE * reading.count;
+    splice::put_before::<K>(tape, run.at, run.count, w, out, to);
+    splice::put_reading::<K>(readingtape, reading.at, reading.count, w, out, readingto);
+    splice::put_behind::<K>(tape, run.at, run.count, w, out, behindto);
 }
 
 // `merge_diagnostics`: `all` of them, sorted.
@@ -282,23 +216,7 @@ fn put_diagnostics(
     requires count_value { all_of (record_fits diagnostic_codec) (spliced diagnostic_located (window_value w) (records_at diagnostic_codec tape.now run.at run.count) (records_at diagnostic_codec readingtape.now reading.at reading.count)) ≡ true }
     ensures { out.new ≡ overwrite out.old to (diagnostic_bytes (window_value w) (records_at diagnostic_codec tape.now run.at run.count) (records_at diagnostic_codec readingtape.now reading.at reading.count)) }
 {
-    splice_lists::put_before_diagnostics(tape, run.at, run.count, w, out, to);
-    splice_lists::put_placed_diagnostics(
-        readingtape,
-        reading.at,
-        reading.count,
-        w,
-        out,
-        to + 18 * before,
-    );
-    splice_lists::put_behind_diagnostics(
-        tape,
-        run.at,
-        run.count,
-        w,
-        out,
-        to + 18 * before + 18 * reading.count,
-    );
+    put_list::<splice_lists::Diagnostics>(tape, run, w, before, readingtape, reading, out, to);
     diagnostic_slice::sort_diagnostics(out, to, all);
 }
 
@@ -320,12 +238,12 @@ pub fn put_lists(
     let pairs = k.pairs;
     let containers = k.containers;
     let diagnostics = k.diagnostics;
-    let pairsat = at + 49 * total(nodes, q.nodes.count);
-    let containersat = pairsat + 18 * total(pairs, q.pairs.count);
-    let diagnosticsat = containersat + 13 * total(containers, q.containers.count);
-    let count = total(diagnostics, q.diagnostics.count);
+    let pairsat = at + 49 * nodes.total(q.nodes.count);
+    let containersat = pairsat + 18 * pairs.total(q.pairs.count);
+    let diagnosticsat = containersat + 13 * containers.total(q.containers.count);
+    let count = diagnostics.total(q.diagnostics.count);
     put_nodes(tape, p.nodes, w, nodes.before, q.nodes.count, out, at);
-    put_pairs(
+    put_list::<splice_lists::Pairs>(
         tape,
         p.pairs,
         w,
@@ -335,7 +253,7 @@ pub fn put_lists(
         out,
         pairsat,
     );
-    put_containers(
+    put_list::<splice_lists::Containers>(
         tape,
         p.containers,
         w,
@@ -377,8 +295,8 @@ pub fn output_of(
         end: w.end,
         reused: (s.before + s.behind) as u32,
         reread: reread as u32,
-        stats: stats,
-        tape: tape,
-        bytes: bytes,
+        stats,
+        tape,
+        bytes,
     }
 }

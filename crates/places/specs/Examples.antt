@@ -1,5 +1,5 @@
 -- Small tapes, by computation: what is found, and what is a fault.
-use Rattle.std.specs.Prelude.{◌≡◌, refl, ℕ, true, false, List, [], ◌∷◌, ◌++◌, replicate}
+use Rattle.std.specs.Prelude.{◌≡◌, refl, ℕ, true, List, [], ◌∷◌, ◌++◌, replicate}
 use Rattle.model.specs.Bytes.{word_at}
 use Rattle.model.specs.Tape.{operands_at, record_at, records_at, records_in, count_at, layer_places, layers_from, layers_end, places, framed, string_lengths, bytes_needed}
 use Rattle.model.specs.Tape.{string_codec, content_codec, segment_codec, node_codec, pair_codec, container_codec, diagnostic_codec}

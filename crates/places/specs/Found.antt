@@ -4,7 +4,6 @@ use Rattle.std.proofs.Math.Path.{refl, sym, ap}
 use Rattle.std.proofs.Common.{◌∙◌, lt_of_not-le}
 use Prim.Native.Nat.{ℕ, zero, suc, ◌+◌, ◌-◌, ◌*◌, ◌≤◌, ◌<◌}
 use native.Mathlib.Omega.{arith}
-use Rattle.std.proofs.Math.Bool.{and-false}
 use Rattle.std.proofs.Math.ListN.{length, get_or-eq_default}
 use Rattle.std.proofs.Math.Decide.{dec_le}
 use Rattle.std.proofs.Math.Nat.{sub-zero}
@@ -313,31 +312,6 @@ tallied_near t room = rw (tallied_totals t room) (layers_near t (length t) 9 (om
 pub lists_near : (t : List ℕ) (at : ℕ) → at ≤ length t + 36 → (list_runs t at).end ≤ length t + 48
 unfolding list_runs count_at node_codec pair_codec container_codec diagnostic_codec
 lists_near t at h = diagnostics_end t at _ h refl _ refl _ refl _ refl
-
--- ---- the frame, test by test
-
-module _ (t : List ℕ) (s : Tally) (end room : ℕ) where
-  pub frame_head : (b : ℕ) → b ≡ byte_at t 0 → (b ≡ 1 → ⊥) → false ≡ frame_holds t s end room
-  unfolding frame_holds
-  frame_head b e h = rw (← e, ne_eqb b 1 h) refl
-
-  pub frame_tail : (b : ℕ) → b ≡ byte_at t end → (b ≡ 10 → ⊥) → false ≡ frame_holds t s end room
-  unfolding frame_holds
-  frame_tail b e h = rw (← e, ne_eqb b 10 h, and-false) refl
-
-  pub frame_behind : (length t ≡ end + 1 → ⊥) → false ≡ frame_holds t s end room
-  unfolding frame_holds
-  frame_behind h = rw (ne_eqb (length t) (end + 1) h, and-false) refl
-
-  pub frame_layers : s.count ≡ 0 → false ≡ frame_holds t s end room
-  unfolding frame_holds
-  frame_layers h = rw (eq-eqb s.count 0 h, and-false) refl
-
-  pub frame_bytes : (a b x y : ℕ) → a ≡ byte_at t 0 → a ≡ 1 → b ≡ byte_at t end → b ≡ 10 → length t ≡ end + 1 → (s.count ≡ 0 → ⊥) → x ≡ word_at t 1 → y ≡ word_at t 5
-      → eqb room (x + y + s.bytes) ≡ frame_holds t s end room
-  unfolding frame_holds
-  frame_bytes a b x y e f g h k n p q =
-      rw (← e, eq-eqb a 1 f, ← g, eq-eqb b 10 h, eq-eqb (length t) (end + 1) k, ne_eqb s.count 0 n, ← p, ← q) refl
 
 -- ---- the walk is the model's
 

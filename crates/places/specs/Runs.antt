@@ -13,7 +13,7 @@ use Rattle.model.specs.Lists.{sum}
 use Rattle.model.specs.Bytes.{byte_at, word_at}
 use Rattle.model.specs.Tape.{records_in, records_at, record_at, operands_at, string_codec}
 use Rattle.laws.specs.Lists.{both}
-use Rattle.wire.specs.Loops.{sum_to, sum_mono, sum_tabulate}
+use Rattle.wire.specs.Loops.{sum_to, sum_tabulate}
 
 -- a sum that is known only up to room: over, it is room + 1
 abbrev pub capped : ℕ → ℕ → ℕ
@@ -153,11 +153,6 @@ pub lengths_sum : (t : List ℕ) (at count : ℕ) → sum (records_at string_cod
 unfolding records_at record_at operands_at string_codec
 lengths_sum t at count = sym (sum_tabulate count (length_at t at))
 
-module _ (t : List ℕ) (at count room : ℕ) where
-  pub lengths_over : (i total n : ℕ) → i < count → total ≡ sum_to i (length_at t at) → n ≡ length_at t at i → room < total + n
-      → room + 1 ≡ capped room (sum (records_at string_codec t at count))
-  lengths_over i total n h e f g = let m = sum_mono (length_at t at) count i h in omega (arith, lengths_sum t at count, m, e, f)
-
-  pub lengths_in_lem : (i total : ℕ) → i ≡ count → total ≡ sum_to i (length_at t at) → total ≤ room
-      → total ≡ capped room (sum (records_at string_codec t at count))
-  lengths_in_lem i total h e g = let f = ap (λ (k : ℕ). sum_to k (length_at t at)) h in omega (arith, lengths_sum t at count, e, f)
+pub lengths_all : (t : List ℕ) (at count room i total : ℕ) → i ≡ count → total ≡ capped room (sum_to i (length_at t at))
+    → total ≡ capped room (sum (records_at string_codec t at count))
+lengths_all t at count room i total h e = let f = ap (λ (k : ℕ). sum_to k (length_at t at)) h in omega (arith, lengths_sum t at count, e, f)

@@ -63,6 +63,7 @@ pub struct Places {
 }
 
 // Whether eight records begin with the command, the first at `at`: one answer for all, so that a long run costs one branch for eight.
+#[tactic(auto, unfolding(crate::specs::Runs::eight_at))]
 fn eight_at(tape: &[u8], at: usize, command: u8, size: usize) -> bool
     requires { at + 7 * size < length tape.now }
     ensures { result ≡ eight_at command size tape.now at }
@@ -82,10 +83,7 @@ fn eights_at(tape: &[u8], at: usize, command: u8, size: usize) -> usize
     requires { 1 ≤ size }
     ensures { Counted command size tape.now at result (at + result * size) × (at + result * size ≤ max at (length tape.now)) }
 {
-    if tape.len() < at {
-        return 0;
-    }
-    if 64 <= size {
+    if tape.len() < at || 64 <= size {
         return 0;
     }
     let step = 8 * size;
@@ -127,14 +125,9 @@ pub fn strings_length(tape: &[u8], at: usize, count: usize, room: usize) -> usiz
     ensures { result ≡ capped room (sum (records_at string_codec tape.now at count)) }
 {
     let mut total = 0;
-    let mut i = 0;
-    while i < count {
+    for i in 0..count {
         let n = wire::u32_or_zero(tape, at + 5 * i + 1) as usize;
-        if room - total < n {
-            return room + 1;
-        }
-        total += n;
-        i += 1;
+        total = (total + n).min(room + 1);
     }
     total
 }
@@ -166,19 +159,6 @@ pub fn next_layer(tape: &[u8], at: usize) -> LayerRuns
     }
 }
 
-fn capped_sum(a: usize, b: usize, room: usize) -> usize
-    requires { (a ≤ room + 1) × (b ≤ room + 1) × (room < 2 ^ 63) }
-    ensures { result ≡ capped room (a + b) }
-{
-    if room < a {
-        return room + 1;
-    }
-    if room - a < b {
-        return room + 1;
-    }
-    a + b
-}
-
 fn with_layer(tape: &[u8], s: Tally, room: usize) -> Tally
     requires small { Small tape.now room s }
     requires end_in_bounds { (s.end < length tape.now) × (room < 2 ^ 63) }
@@ -191,7 +171,7 @@ fn with_layer(tape: &[u8], s: Tally, room: usize) -> Tally
         strings: s.strings + l.strings.count,
         contents: s.contents + l.contents.count,
         segments: s.segments + l.segments.count,
-        bytes: capped_sum(s.bytes, bytes, room),
+        bytes: s.bytes.saturating_add(bytes).min(room + 1),
         end: l.end,
     }
 }
@@ -227,10 +207,7 @@ pub fn lists_at(tape: &[u8], at: usize) -> ListRuns
     let diagnostics_at = containers_at + 13 * containers;
     let diagnostics = count_at(tape, diagnostics_at, 9, 18);
     ListRuns {
-        nodes: Run {
-            at: at,
-            count: nodes,
-        },
+        nodes: Run { at, count: nodes },
         pairs: Run {
             at: pairs_at,
             count: pairs,
@@ -248,25 +225,18 @@ pub fn lists_at(tape: &[u8], at: usize) -> ListRuns
 }
 
 // Number 1, without the records' shapes: 1 at the head, 10 at `end` and nothing behind it, a layer, the byte buffer's length.
+#[tactic(auto, using(std::proofs::lemmas::Bool::Decides::nat_tests), unfolding(crate::specs::Found::frame_holds))]
 fn frame_holds(tape: &[u8], s: Tally, end: usize, room: usize) -> bool
     requires { (s.bytes ≤ room + 1) × (room < 2 ^ 63) × (end ≤ length tape.now + 48) }
     ensures { result ≡ frame_holds tape.now s end room }
 {
-    if wire::byte_at(tape, 0) != 1 {
-        return false;
-    }
-    if wire::byte_at(tape, end) != 10 {
-        return false;
-    }
-    if tape.len() != end + 1 {
-        return false;
-    }
-    if s.count == 0 {
-        return false;
-    }
     let text = wire::u32_or_zero(tape, 1) as usize;
     let normalized = wire::u32_or_zero(tape, 5) as usize;
-    room == text + normalized + s.bytes
+    wire::byte_at(tape, 0) == 1
+        && wire::byte_at(tape, end) == 10
+        && tape.len() == end + 1
+        && s.count != 0
+        && room == text + normalized + s.bytes
 }
 
 pub fn no_places() -> Places
@@ -292,10 +262,6 @@ pub fn no_places() -> Places
 fn found_places(tape: &[u8], s: Tally, l: ListRuns) -> Places
     ensures { result ≡ found_by tape.now s l }
 {
-    let nodes = l.nodes;
-    let pairs = l.pairs;
-    let containers = l.containers;
-    let diagnostics = l.diagnostics;
     Places {
         fault: false,
         text: wire::u32_or_zero(tape, 1),
@@ -304,10 +270,10 @@ fn found_places(tape: &[u8], s: Tally, l: ListRuns) -> Places
         strings: s.strings,
         contents: s.contents,
         segments: s.segments,
-        nodes: nodes,
-        pairs: pairs,
-        containers: containers,
-        diagnostics: diagnostics,
+        nodes: l.nodes,
+        pairs: l.pairs,
+        containers: l.containers,
+        diagnostics: l.diagnostics,
         end: l.end,
     }
 }

@@ -3,3 +3,4 @@ pub mod Uses
 pub mod Shapes
 pub mod Words
 pub mod Runs
+pub mod Sizes

@@ -1,7 +1,7 @@
 -- A test of every record of a run, one law for every kind and every test.
 use Prim.Native.Nat.{ℕ, zero, suc, ◌+◌, ◌*◌, ◌≤◌, ◌<◌}
 use Rattle.std.proofs.Common.{arith, add-zero, mul-suc, ◌∙◌}
-use Rattle.std.proofs.Math.Nat.{mul-zero}
+use Rattle.std.proofs.Math.Nat.{mul-zero, mul-le-mul_left}
 use Rattle.std.specs.Prelude.{◌≡◌, Bool, true, false}
 use Rattle.std.proofs.Math.Path.{refl, sym, ap}
 use mathlib.Core.List.{List, [], ◌∷◌}
@@ -24,6 +24,15 @@ module _ {A : Type 0} (c : Codec A) (p : A → Bool) (t : List ℕ) (at : ℕ) w
   pub any-records_at : (n : ℕ) → any p (records_at c t at n) ≡ any_up_to n test_at
   unfolding records_at test_at
   any-records_at n = sym (any_tabulate p n (λ (i : ℕ). record_at c t (at + record_size c * i)))
+
+  -- the same by the code's number for the size of a record
+  pub run_all : (n size : ℕ) → record_size c ≡ size → all_up_to n (λ (i : ℕ). p (record_at c t (at + size * i))) ≡ all p (records_at c t at n)
+  unfolding test_at
+  run_all n size e = ap (λ (s : ℕ). all_up_to n (λ (i : ℕ). p (record_at c t (at + s * i)))) (sym e) ∙ sym (all-records_at n)
+
+  pub run_any : (n size : ℕ) → record_size c ≡ size → any_up_to n (λ (i : ℕ). p (record_at c t (at + size * i))) ≡ any p (records_at c t at n)
+  unfolding test_at
+  run_any n size e = ap (λ (s : ℕ). any_up_to n (λ (i : ℕ). p (record_at c t (at + s * i)))) (sym e) ∙ sym (any-records_at n)
 
   -- the code's answer r of the record at its place q
   module _ (i q : ℕ) (place : q ≡ at + record_size c * i) (r : Bool) (answer : r ≡ p (record_at c t q)) where
@@ -49,6 +58,10 @@ module _ {A : Type 0} (c : Codec A) (p : A → Bool) (t : List ℕ) (at : ℕ) w
 
   pub run_passed : (n i : ℕ) → i ≡ n → Passed test_at i → true ≡ all p (records_at c t at n)
   run_passed n i e passed = sym (ap (λ (k : ℕ). all p (records_at c t at k)) (sym e) ∙ all-records_at i ∙ all_passed test_at i passed)
+
+-- a record of the run lies within it
+pub record_within : (size n i : ℕ) → i < n → size * i + size ≤ size * n
+record_within size n i h = let m = mul-le-mul_left {m = suc i} {n = n} size h in omega (arith, m, mul-suc size i)
 
 -- ---- a run as a list
 

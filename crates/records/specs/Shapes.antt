@@ -1,24 +1,12 @@
 -- The shapes of records in the parts that the code tests, in its order.
-use Rattle.std.specs.Prelude.{ℕ, ◌<◌, ◌≤◌, List, get_or, ◌≡◌, Bool, true, false, cond, ◌&&◌, ◌||◌, leb, ltb, eqb}
+use Rattle.std.specs.Prelude.{ℕ, ◌≡◌, Bool, true, false, cond, ◌&&◌, ◌||◌, leb, ltb, eqb}
 use Rattle.std.proofs.Math.Path.{refl}
-use Rattle.std.proofs.Common.{sym, ◌∙◌}
 use Rattle.std.proofs.Math.Bool.{or-false}
-use borrow.Author.Tests.{ne_eqb, eqb-true, lt-ltb, le-ltb, ltb-true, ltb-false, le-leb, lt-leb}
-use Rattle.wire.specs.Loops.{by_bool, all_up_to, all_at}
-use Rattle.model.specs.Types.{Body, Content, Segment, SourceNode}
-use Rattle.model.specs.Tape.{Field, tag_counts, unused_zero, fields_of, node_fields, body_shape, content_shape, segment_shape, node_shape}
+use borrow.Author.Tests.{eqb-true, ltb-true, ltb-false, le-leb, lt-leb}
+use Rattle.wire.specs.Loops.{by_bool}
+use Rattle.model.specs.Types.{Segment, SourceNode}
+use Rattle.model.specs.Tape.{fields_of, node_fields, body_shape, segment_shape, node_shape}
 use Rattle.records.specs.Uses.{fields_for}
-
--- ---- contents
-
-module _ (c : Content) where
-  pub content_plain : c.tag ≡ 0 → eqb c.second 0 ≡ content_shape c
-  unfolding content_shape
-  content_plain e = rw (e, or-false) refl
-
-  pub content_other : (c.tag ≡ 0 → ⊥) → eqb c.tag 1 ≡ content_shape c
-  unfolding content_shape
-  content_other n = rw (ne_eqb c.tag 0 n) refl
 
 -- ---- segments
 
@@ -37,15 +25,9 @@ segment_head_lem tag kind =
     (λ d. rw d (by_bool (eqb tag 3) (λ e. rw e refl) (λ e. rw e refl)))))))
 
 module _ (s : Segment) where
-  segment_parts : segment_shape s ≡ (segment_head s.tag s.body.kind && body_shape (fields_for true s.body.kind s.body.tag) s.body)
+  pub segment_parts : segment_shape s ≡ (segment_head s.tag s.body.kind && body_shape (fields_for true s.body.kind s.body.tag) s.body)
   unfolding segment_shape fields_of fields_for
   segment_parts = rw (segment_head_lem s.tag s.body.kind) refl
-
-  pub segment_fails : segment_head s.tag s.body.kind ≡ false → segment_shape s ≡ false
-  segment_fails e = segment_parts ∙ rw e refl
-
-  pub segment_goes_on : segment_head s.tag s.body.kind ≡ true → segment_shape s ≡ body_shape (fields_for true s.body.kind s.body.tag) s.body
-  segment_goes_on e = segment_parts ∙ rw e refl
 
 -- ---- nodes
 
@@ -63,38 +45,6 @@ node_head_lem class inline kind =
     (by_bool (ltb class 4) (λ f. rw (f, lt-leb 4 class (ltb-true class 4 f)) (by_bool (eqb kind 0) (λ g. rw g refl) (λ g. rw g refl))) (λ f. rw (f, le-leb 4 class (ltb-false class 4 f)) refl)))
 
 module _ (n : SourceNode) where
-  node_parts : node_shape n ≡ (node_head n.class n.inline n.body.kind && body_shape (fields_for (ltb n.class 2) n.body.kind n.body.tag) n.body)
+  pub node_parts : node_shape n ≡ (node_head n.class n.inline n.body.kind && body_shape (fields_for (ltb n.class 2) n.body.kind n.body.tag) n.body)
   unfolding node_shape node_fields fields_of fields_for
   node_parts = rw (node_head_lem n.class n.inline n.body.kind) refl
-
-  pub node_fails : node_head n.class n.inline n.body.kind ≡ false → node_shape n ≡ false
-  node_fails e = node_parts ∙ rw e refl
-
-  pub node_goes_on : node_head n.class n.inline n.body.kind ≡ true
-      → node_shape n ≡ body_shape (fields_for (ltb n.class 2) n.body.kind n.body.tag) n.body
-  node_goes_on e = node_parts ∙ rw e refl
-
--- ---- bodies
-
--- kinds other than these have one tag
-unfoldable one_tag : ℕ → Bool
-one_tag k = eqb k 2 || (eqb k 3 || (eqb k 11 || (eqb k 13 || eqb (get_or tag_counts k 0) 1)))
-
-all_one_tag : all_up_to 16 one_tag ≡ true
-unfolding all_up_to one_tag tag_counts
-all_one_tag = refl
-
-pub one_tag_lem : (k : ℕ) → k < 16 → (k ≡ 2 → ⊥) → (k ≡ 3 → ⊥) → (k ≡ 11 → ⊥) → (k ≡ 13 → ⊥) → 1 ≡ get_or tag_counts k 0
-unfolding one_tag
-one_tag_lem k h a b d e =
-    sym (eqb-true (get_or tag_counts k 0) 1 (rw (ne_eqb k 2 a, ne_eqb k 3 b, ne_eqb k 11 d, ne_eqb k 13 e) at (all_at one_tag 16 k all_one_tag h)))
-
-module _ (fs : List Field) (b : Body) (count : ℕ) (e : count ≡ get_or tag_counts b.kind 0) where
-  -- no such kind or no such tag of it
-  pub body_fails : count ≤ b.tag → body_shape fs b ≡ false
-  unfolding body_shape
-  body_fails h = rw (← e, le-ltb b.tag count h) refl
-
-  pub body_goes_on : b.tag < count → unused_zero fs 0 b.words ≡ body_shape fs b
-  unfolding body_shape
-  body_goes_on h = rw (← e, lt-ltb b.tag count h) refl

@@ -1,14 +1,12 @@
 -- What a word of a body is for: the rule from model's table of fields, the code's table, and that it follows the rule.
-use Rattle.std.specs.Prelude.{ℕ, zero, suc, ◌+◌, ◌*◌, ◌/◌, ◌%◌, ◌^◌, ◌<◌, ◌≤◌, ◌≡◌, Bool, not, ◌&&◌, ◌||◌, List, [], ◌∷◌, length, get_or, drop, ltb, eqb}
+use Rattle.std.specs.Prelude.{ℕ, zero, suc, ◌+◌, ◌*◌, ◌/◌, ◌%◌, ◌^◌, ◌<◌, ◌≡◌, Bool, not, ◌&&◌, ◌||◌, List, [], ◌∷◌, length, get_or, ltb, eqb}
 use native.Mathlib.Omega.{arith}
-use Rattle.std.proofs.Math.Numerals.{add-one}
 use Rattle.std.proofs.Math.Path.{refl}
-use Rattle.std.proofs.Common.{sym, ap, ◌∙◌, true≢false, drop_of_length-le, ltb-true, ltb-false, eqb-true, eq-eqb, ne_eqb}
+use Rattle.std.proofs.Common.{sym, ap, ◌∙◌, true≢false, ltb-true, ltb-false, eqb-true, eq-eqb, ne_eqb}
 use Rattle.std.proofs.Math.Bool.{true, false, cond}
-use Rattle.std.proofs.Math.Seq.{drop-cons}
-use Rattle.model.specs.Lists.{any}
+use Rattle.model.specs.Lists.{all, any, tabulate}
 use Rattle.model.specs.Tape.{Field, Field.str, Field.opt_str, Field.content_range, Field.seg_range, field_table, uses_word, unused_zero}
-use Rattle.wire.specs.Loops.{by_bool}
+use Rattle.wire.specs.Loops.{by_bool, all_up_to, all_tabulate}
 
 -- ---- the rule
 
@@ -114,21 +112,22 @@ uses_word_lem i (f ∷ fs) =
 
 -- ---- the words in their order
 
-module _ (fs : List Field) (ws : List ℕ) (i : ℕ) (h : i < length ws) where
-  -- what is left from word i on: its test, and what is left behind it
-  fits_step : unused_zero fs i (drop i ws) ≡ (word_fits fs i (get_or ws i 0) && unused_zero fs (i + 1) (drop (i + 1) ws))
+module _ (fs : List Field) where
+  words_from : (j : ℕ) (ws : List ℕ) → all (λ b. b) (tabulate (length ws) (λ (i : ℕ). word_fits fs (j + i) (get_or ws i 0))) ≡ unused_zero fs j ws
   unfolding unused_zero word_fits
-  fits_step = rw (add-one, drop-cons ws i 0 h) (rw add-one refl)
+  words_from j [] = refl
+  words_from j (w ∷ ws) =
+      let first : j + 0 ≡ j = omega arith in
+      let next = λ (i : ℕ). (let e : j + suc i ≡ j + 1 + i = omega arith in e) in
+      rw first (ap (λ (f : ℕ → Bool). word_fits fs j w && all (λ b. b) (tabulate (length ws) f)) (λ k i. word_fits fs (next i k) (get_or ws i 0))
+      ∙ ap (λ (b : Bool). word_fits fs j w && b) (words_from (j + 1) ws))
 
-  pub fits_turn : word_fits fs i (get_or ws i 0) ≡ true → unused_zero fs i (drop i ws) ≡ unused_zero fs (i + 1) (drop (i + 1) ws)
-  fits_turn e = fits_step ∙ rw e refl
-
-  pub fits_fails : word_fits fs i (get_or ws i 0) ≡ false → unused_zero fs i (drop i ws) ≡ false
-  fits_fails e = fits_step ∙ rw e refl
-
-pub fits_done : (fs : List Field) (ws : List ℕ) (i : ℕ) → length ws ≤ i → unused_zero fs i (drop i ws) ≡ true
-unfolding unused_zero
-fits_done fs ws i h = rw (drop_of_length-le ws h) refl
+  pub words_all : (ws : List ℕ) → all_up_to (length ws) (λ (i : ℕ). word_fits fs i (get_or ws i 0)) ≡ unused_zero fs 0 ws
+  words_all ws =
+      let from = λ (i : ℕ). (let e : i ≡ 0 + i = omega arith in e) in
+      all_tabulate (λ b. b) (length ws) (λ (i : ℕ). word_fits fs i (get_or ws i 0))
+      ∙ ap (λ (f : ℕ → Bool). all (λ b. b) (tabulate (length ws) f)) (λ k i. word_fits fs (from i k) (get_or ws i 0))
+      ∙ words_from 0 ws
 
 -- ---- the code's answers
 

@@ -4,9 +4,10 @@
 // crate model, over the record that model reads at the place.
 #![tactic(auto)]
 
-ghost use Rattle.std.specs.Prelude.{◌≡◌, ◌+◌, ◌*◌, ◌≤◌, ◌<◌, length, get_or};
+ghost use Rattle.std.specs.Prelude.{◌≡◌, Bool, ℕ, ◌+◌, ◌*◌, ◌≤◌, ◌<◌, length, get_or};
 ghost use Rattle.model.specs.Lists.{all};
-ghost use Rattle.model.specs.Tape.{record_at, records_at, tag_counts, unused_zero, body_shape};
+ghost use Rattle.model.specs.Types as Types;
+ghost use Rattle.model.specs.Tape.{Codec, record_size, record_at, records_at, tag_counts, unused_zero, body_shape};
 ghost use Rattle.model.specs.Tape.{content_codec, segment_codec, node_codec, pair_codec, container_codec, diagnostic_codec};
 ghost use Rattle.model.specs.Tape.{content_shape, segment_shape, node_shape, pair_shape, diagnostic_shape};
 ghost use Rattle.model.specs.WellFormed.{word_of};
@@ -14,6 +15,7 @@ ghost use Rattle.records.specs.Values.{body_of, content_of, segment_of, source_n
 ghost use Rattle.records.specs.Values.{body_at};
 ghost use Rattle.records.specs.Uses.{format_uses, mencode_uses, image_uses, uses_of, use_among, word_use, fields_for, uses_fit};
 ghost use Rattle.records.specs.Shapes.{segment_head, node_head};
+ghost use Rattle.records.specs.Sizes.{content_size, segment_size, node_size, pair_size, diagnostic_size};
 
 // Section 4. A body: what a `Node` or a text holds.
 #[derive(Clone, Copy)]
@@ -25,7 +27,7 @@ pub struct Body {
     pub words: [u32; 6],
 }
 
-#[derive(Clone, Copy)]
+#[derive(Clone, Copy, PartialEq, Eq)]
 pub struct Content {
     pub tag: u8,
     pub first: u32,
@@ -92,7 +94,7 @@ pub fn body_at(tape: &[u8], at: usize) -> Body
         tag: tape[at + 1],
         plain1: wire::u32_at(tape, at + 2),
         plain2: wire::u32_at(tape, at + 6),
-        words: words,
+        words,
     }
 }
 
@@ -123,7 +125,7 @@ pub fn segment_at(tape: &[u8], at: usize) -> Segment
     Segment {
         tag: tape[at + 1],
         level: tape[at + 2],
-        body: body,
+        body,
     }
 }
 
@@ -138,7 +140,7 @@ pub fn node_at(tape: &[u8], at: usize) -> SourceNode
         start: wire::u32_at(tape, at + 3),
         end: wire::u32_at(tape, at + 7),
         offset: wire::u32_at(tape, at + 11),
-        body: body,
+        body,
     }
 }
 
@@ -201,99 +203,62 @@ pub fn diagnostic_at(tape: &[u8], at: usize) -> Diagnostic
     }
 }
 
-// Section 4. How many tags each kind has. By ifs, as a table of constants would be written to the stack at each call.
+// Section 4. How many tags each kind has.
+#[tactic(auto, using(std::proofs::lemmas::Bool::Decides::nat_tests), unfolding(model::specs::Tape::tag_counts))]
 fn tag_count(kind: u8) -> u8
     ensures { result ≡ get_or tag_counts kind 0 }
 {
-    if 16 <= kind {
-        return 0;
+    match kind {
+        2 => 16,
+        3 | 11 => 3,
+        13 => 14,
+        0..=15 => 1,
+        _ => 0,
     }
-    if kind == 2 {
-        return 16;
-    }
-    if kind == 3 {
-        return 3;
-    }
-    if kind == 11 {
-        return 3;
-    }
-    if kind == 13 {
-        return 14;
-    }
-    1
 }
 
 // What the six words of a body are for, three bits a word from the lowest on: 0 unused, 1 a string, 2 a string that may be missing,
 // 3 and 4 start and length of contents, 5 and 6 start and length of segments. Plain numbers, as for `tag_count`.
 
 // Format's tag is origin × 4 + payload, and only the payload matters here.
+#[tactic(auto, using(std::proofs::lemmas::Bool::Decides::nat_tests), unfolding(crate::specs::Uses::format_uses))]
 fn format_uses(tag: u8) -> u32
     ensures { result ≡ format_uses tag }
 {
-    if tag % 4 < 2 {
-        return 35;
-    }
-    99
+    if tag % 4 < 2 { 35 } else { 99 }
 }
 
+#[tactic(auto, using(std::proofs::lemmas::Bool::Decides::nat_tests), unfolding(crate::specs::Uses::mencode_uses))]
 fn mencode_uses(tag: u8) -> u32
     ensures { result ≡ mencode_uses tag }
 {
-    if tag == 2 {
-        return 17;
-    }
-    1
+    if tag == 2 { 17 } else { 1 }
 }
 
+#[tactic(auto, using(std::proofs::lemmas::Bool::Decides::nat_tests), unfolding(crate::specs::Uses::image_uses))]
 fn image_uses(tag: u8) -> u32
     ensures { result ≡ image_uses tag }
 {
-    if tag == 1 {
-        return 5265;
+    match tag {
+        1 => 5265,
+        2 => 218257,
+        _ => 1169,
     }
-    if tag == 2 {
-        return 218257;
-    }
-    1169
 }
 
+#[tactic(auto, using(std::proofs::lemmas::Bool::Decides::nat_tests), unfolding(crate::specs::Uses::uses_of, crate::specs::Uses::other_uses))]
 pub fn uses_of(kind: u8, tag: u8) -> u32
     ensures { result ≡ uses_of kind tag }
 {
-    if kind == 2 {
-        return format_uses(tag);
+    match kind {
+        2 => format_uses(tag),
+        3 => mencode_uses(tag),
+        11 => image_uses(tag),
+        0 | 10 | 12 | 13 => 1,
+        1 | 15 => 2275,
+        9 | 14 => 35,
+        _ => 0,
     }
-    if kind == 3 {
-        return mencode_uses(tag);
-    }
-    if kind == 11 {
-        return image_uses(tag);
-    }
-    if kind == 0 {
-        return 1;
-    }
-    if kind == 1 {
-        return 2275;
-    }
-    if kind == 9 {
-        return 35;
-    }
-    if kind == 10 {
-        return 1;
-    }
-    if kind == 12 {
-        return 1;
-    }
-    if kind == 13 {
-        return 1;
-    }
-    if kind == 14 {
-        return 35;
-    }
-    if kind == 15 {
-        return 2275;
-    }
-    0
 }
 
 pub fn use_in(uses: u32, i: usize) -> u8
@@ -312,108 +277,77 @@ pub fn word_use(kind: u8, tag: u8, i: usize) -> u8
 }
 
 // Section 4. Unused words are 0; a body that is not `used`, of a node of class 2 or 3, has no words.
+#[tactic(auto, using(std::proofs::lemmas::Bool::Decides::nat_tests), unfolding(crate::specs::Uses::uses_fit))]
 fn word_fits(used: bool, uses: u32, i: usize, w: u32) -> bool
     requires { i < 6 }
     ensures { result ≡ uses_fit used uses i w }
 {
-    if w == 0 {
-        return true;
-    }
-    if !used {
-        return false;
-    }
-    use_in(uses, i) != 0
+    w == 0 || used && use_in(uses, i) != 0
 }
 
 fn words_fit(used: bool, kind: u8, tag: u8, words: [u32; 6]) -> bool
     ensures { result ≡ unused_zero (fields_for used kind tag) 0 words }
 {
     let uses = uses_of(kind, tag);
-    let mut i = 0;
-    while i < 6 {
-        if !word_fits(used, uses, i, words[i]) {
-            return false;
-        }
-        i += 1;
-    }
-    true
+    (0..6).all(|i| word_fits(used, uses, i, words[i]))
 }
 
+#[tactic(auto, using(std::proofs::lemmas::Bool::Decides::nat_tests), unfolding(model::specs::Tape::body_shape))]
 pub fn body_shape(b: Body, used: bool) -> bool
     ensures { result ≡ body_shape (fields_for used b.kind b.tag) (body_of b) }
 {
-    if tag_count(b.kind) <= b.tag {
-        return false;
-    }
-    let words = b.words;
-    words_fit(used, b.kind, b.tag, words)
+    b.tag < tag_count(b.kind) && words_fit(used, b.kind, b.tag, b.words)
 }
 
+#[tactic(auto, using(std::proofs::lemmas::Bool::Decides::nat_tests), unfolding(model::specs::Tape::content_shape))]
 pub fn content_shape(c: Content) -> bool
     ensures { result ≡ content_shape (content_of c) }
 {
-    if c.tag == 0 {
-        return c.second == 0;
+    match c.tag {
+        0 => c.second == 0,
+        1 => true,
+        _ => false,
     }
-    c.tag == 1
 }
 
 // Section 4. Segment tags 0, 1 and 2 carry kinds 0, 3 and 13; tag 3 carries 1..15.
+#[tactic(auto, using(std::proofs::lemmas::Bool::Decides::nat_tests), unfolding(crate::specs::Shapes::segment_head))]
 fn segment_head(tag: u8, kind: u8) -> bool
     ensures { result ≡ segment_head tag kind }
 {
-    if tag == 0 {
-        return kind == 0;
+    match tag {
+        0 => kind == 0,
+        1 => kind == 3,
+        2 => kind == 13,
+        3 => 1 <= kind,
+        _ => false,
     }
-    if tag == 1 {
-        return kind == 3;
-    }
-    if tag == 2 {
-        return kind == 13;
-    }
-    if tag == 3 {
-        return 1 <= kind;
-    }
-    false
 }
 
+#[tactic(auto, using(std::proofs::lemmas::Bool::Decides::nat_tests, crate::specs::Shapes::segment_parts))]
 pub fn segment_shape(s: Segment) -> bool
     ensures { result ≡ segment_shape (segment_of s) }
 {
-    let body = s.body;
-    if !segment_head(s.tag, body.kind) {
-        return false;
-    }
-    body_shape(body, true)
+    segment_head(s.tag, s.body.kind) && body_shape(s.body, true)
 }
 
 // Section 4. Classes 0 and 1 carry 1..15 and inline 0; classes 2 and 3 carry 0, and inline is 0 or 1.
+#[tactic(auto, using(std::proofs::lemmas::Bool::Decides::nat_tests), unfolding(crate::specs::Shapes::node_head))]
 fn node_head(class: u8, inline: u8, kind: u8) -> bool
     ensures { result ≡ node_head class inline kind }
 {
-    if class < 2 {
-        if kind < 1 {
-            return false;
-        }
-        return inline == 0;
+    match class {
+        0 | 1 => 1 <= kind && inline == 0,
+        2 | 3 => kind == 0 && inline < 2,
+        _ => false,
     }
-    if 4 <= class {
-        return false;
-    }
-    if kind != 0 {
-        return false;
-    }
-    inline < 2
 }
 
+#[tactic(auto, using(std::proofs::lemmas::Bool::Decides::nat_tests, crate::specs::Shapes::node_parts))]
 pub fn node_shape(n: SourceNode) -> bool
     ensures { result ≡ node_shape (source_node_of n) }
 {
-    let body = n.body;
-    if !node_head(n.class, n.inline, body.kind) {
-        return false;
-    }
-    body_shape(body, n.class < 2)
+    node_head(n.class, n.inline, n.body.kind) && body_shape(n.body, n.class < 2)
 }
 
 pub fn pair_shape(p: PairLink) -> bool
@@ -428,109 +362,125 @@ pub fn diagnostic_shape(d: Diagnostic) -> bool
     d.kind < 5
 }
 
-// Each kind where it stands, and a run of `count` records from `at` on.
+// A kind of record of which the shape is tested where it stands.
+pub trait Shaped {
+    // how crate model reads one, and its test
+    ghost Value: { Type 0 };
 
-pub fn content_shaped(tape: &[u8], at: usize) -> bool
-    requires { at + 10 ≤ length tape.now }
-    ensures { result ≡ content_shape (record_at content_codec tape.now at) }
-{
-    content_shape(content_at(tape, at))
+    ghost codec: { Codec Value };
+
+    ghost test: { Value → Bool };
+
+    ghost SIZE: { ℕ };
+
+    // How many bytes one has on the tape.
+    const SIZE: usize;
+
+    fn shaped(tape: &[u8], at: usize) -> bool
+        requires { at + SIZE ≤ length tape.now }
+        ensures { result ≡ test (record_at codec tape.now at) };
+
+    ghost size: { record_size codec ≡ SIZE };
 }
 
-pub fn contents_shaped(tape: &[u8], at: usize, count: usize) -> bool
-    requires { at + 10 * count ≤ length tape.now }
-    ensures { result ≡ all content_shape (records_at content_codec tape.now at count) }
+// The shapes of a run of `count` records from `at` on.
+pub fn all_shaped<R: Shaped>(tape: &[u8], at: usize, count: usize) -> bool
+    requires { at + R.SIZE * count ≤ length tape.now }
+    ensures { result ≡ all R.test (records_at R.codec tape.now at count) }
 {
-    let mut i = 0;
-    while i < count {
-        if !content_shaped(tape, at + 10 * i) {
-            return false;
-        }
-        i += 1;
+    (0..count).all(
+        |i|
+            requires { at + R.SIZE * i + R.SIZE ≤ length tape.now }
+        { R::shaped(tape, at + R::SIZE * i) },
+    )
+}
+
+impl Shaped for Content {
+    ghost Value = { Types.Content };
+
+    ghost codec = { content_codec };
+
+    ghost test = { content_shape };
+
+    ghost SIZE = { 10 };
+
+    const SIZE: usize = 10;
+
+    ghost size = { content_size };
+
+    fn shaped(tape: &[u8], at: usize) -> bool {
+        content_shape(content_at(tape, at))
     }
-    true
 }
 
-pub fn segment_shaped(tape: &[u8], at: usize) -> bool
-    requires { at + 37 ≤ length tape.now }
-    ensures { result ≡ segment_shape (record_at segment_codec tape.now at) }
-{
-    segment_shape(segment_at(tape, at))
-}
+impl Shaped for Segment {
+    ghost Value = { Types.Segment };
 
-pub fn segments_shaped(tape: &[u8], at: usize, count: usize) -> bool
-    requires { at + 37 * count ≤ length tape.now }
-    ensures { result ≡ all segment_shape (records_at segment_codec tape.now at count) }
-{
-    let mut i = 0;
-    while i < count {
-        if !segment_shaped(tape, at + 37 * i) {
-            return false;
-        }
-        i += 1;
+    ghost codec = { segment_codec };
+
+    ghost test = { segment_shape };
+
+    ghost SIZE = { 37 };
+
+    const SIZE: usize = 37;
+
+    ghost size = { segment_size };
+
+    fn shaped(tape: &[u8], at: usize) -> bool {
+        segment_shape(segment_at(tape, at))
     }
-    true
 }
 
-pub fn node_shaped(tape: &[u8], at: usize) -> bool
-    requires { at + 49 ≤ length tape.now }
-    ensures { result ≡ node_shape (record_at node_codec tape.now at) }
-{
-    node_shape(node_at(tape, at))
-}
+impl Shaped for SourceNode {
+    ghost Value = { Types.SourceNode };
 
-pub fn nodes_shaped(tape: &[u8], at: usize, count: usize) -> bool
-    requires { at + 49 * count ≤ length tape.now }
-    ensures { result ≡ all node_shape (records_at node_codec tape.now at count) }
-{
-    let mut i = 0;
-    while i < count {
-        if !node_shaped(tape, at + 49 * i) {
-            return false;
-        }
-        i += 1;
+    ghost codec = { node_codec };
+
+    ghost test = { node_shape };
+
+    ghost SIZE = { 49 };
+
+    const SIZE: usize = 49;
+
+    ghost size = { node_size };
+
+    fn shaped(tape: &[u8], at: usize) -> bool {
+        node_shape(node_at(tape, at))
     }
-    true
 }
 
-pub fn pair_shaped(tape: &[u8], at: usize) -> bool
-    requires { at + 18 ≤ length tape.now }
-    ensures { result ≡ pair_shape (record_at pair_codec tape.now at) }
-{
-    tape[at + 1] < 5
-}
+impl Shaped for PairLink {
+    ghost Value = { Types.PairLink };
 
-pub fn pairs_shaped(tape: &[u8], at: usize, count: usize) -> bool
-    requires { at + 18 * count ≤ length tape.now }
-    ensures { result ≡ all pair_shape (records_at pair_codec tape.now at count) }
-{
-    let mut i = 0;
-    while i < count {
-        if !pair_shaped(tape, at + 18 * i) {
-            return false;
-        }
-        i += 1;
+    ghost codec = { pair_codec };
+
+    ghost test = { pair_shape };
+
+    ghost SIZE = { 18 };
+
+    const SIZE: usize = 18;
+
+    ghost size = { pair_size };
+
+    fn shaped(tape: &[u8], at: usize) -> bool {
+        pair_shape(pair_at(tape, at))
     }
-    true
 }
 
-pub fn diagnostic_shaped(tape: &[u8], at: usize) -> bool
-    requires { at + 18 ≤ length tape.now }
-    ensures { result ≡ diagnostic_shape (record_at diagnostic_codec tape.now at) }
-{
-    tape[at + 1] < 5
-}
+impl Shaped for Diagnostic {
+    ghost Value = { Types.Diagnostic };
 
-pub fn diagnostics_shaped(tape: &[u8], at: usize, count: usize) -> bool
-    requires { at + 18 * count ≤ length tape.now }
-    ensures { result ≡ all diagnostic_shape (records_at diagnostic_codec tape.now at count) }
-{
-    let mut i = 0;
-    while i < count {
-        if !diagnostic_shaped(tape, at + 18 * i) {
-            return false;
-        }
-        i += 1;
+    ghost codec = { diagnostic_codec };
+
+    ghost test = { diagnostic_shape };
+
+    ghost SIZE = { 18 };
+
+    const SIZE: usize = 18;
+
+    ghost size = { diagnostic_size };
+
+    fn shaped(tape: &[u8], at: usize) -> bool {
+        diagnostic_shape(diagnostic_at(tape, at))
     }
-    true
 }

@@ -1,11 +1,8 @@
 -- Laws of shifts, by the amount's sign: one for each way that the code returns.
-use Prim.Native.Nat.{ℕ, zero, suc, ◌+◌, ◌-◌, ◌≤◌, ◌<◌, ◌^◌, min}
-use Rattle.std.specs.Prelude.{◌≡◌, Bool, true, false, cond, leb, pos, negsuc, ◌-ℤ◌}
-use Rattle.std.proofs.Math.Path.{refl}
-use Rattle.std.proofs.Common.{sym, ◌∙◌, add-zero}
+use Rattle.std.specs.Prelude.{ℕ, zero, suc, ◌+◌, ◌-◌, ◌≤◌, ◌<◌, ◌^◌, min, ◌≡◌, Bool, true, false, cond, leb, pos, negsuc, ◌-ℤ◌}
+use Rattle.std.proofs.Common.{refl, sym, ◌∙◌, arith, add-zero, leb-true}
 use Rattle.std.proofs.Math.Bool.{and-false}
 use Rattle.std.proofs.Math.Option.{none, some}
-use native.Mathlib.Omega.{arith}
 use borrow.Author.Tests.{lt-ltb, le-ltb, le-leb, lt-leb}
 use Rattle.std.proofs.Math.Nat.{sub-zero}
 use Rattle.std.proofs.Math.IntN.{sub_ℕ}
@@ -21,6 +18,11 @@ clamp_small : (b : Bool) (s : ℕ) → clamp_u32 (cond b min_i64 (negsuc s)) ≡
 unfolding clamp_u32
 clamp_small true s = refl
 clamp_small false s = refl
+
+clamp_sum : (b : Bool) (s : ℕ) → leb (2 ^ 63 - 1) s ≡ b → clamp_u32 (cond b max_i64 (pos s)) ≡ min s max_u32
+unfolding clamp_u32
+clamp_sum true s t = omega (arith, leb-true (2 ^ 63 - 1) s t)
+clamp_sum false s t = refl
 
 module _ (x n : ℕ) where
   pub clamp_in : x + n ≤ max_u32 → shift_clamp x (pos n) ≡ x + n
@@ -38,6 +40,11 @@ module _ (x n : ℕ) where
   pub clamp_under : x ≤ n → shift_clamp x (negsuc n) ≡ 0
   unfolding shift_clamp saturating_add
   clamp_under h = rw (lt-ltb x (suc n) (omega arith)) (clamp_small (leb (2 ^ 63 - 1) (suc n - suc x)) (suc n - suc x))
+
+  -- both in one
+  pub clamped : shift_clamp x (pos n) ≡ min (x + n) max_u32
+  unfolding shift_clamp saturating_add
+  clamped = clamp_sum (leb (2 ^ 63 - 1) (n + x)) (n + x) refl ∙ omega arith
 
   pub shift_in : x + n ≤ max_u32 → shift_u32 x (pos n) ≡ some (x + n)
   unfolding shift_u32 clamp_u32

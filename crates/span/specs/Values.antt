@@ -1,16 +1,15 @@
 -- The model's value of each type of this crate.
-use Rattle.std.specs.Prelude.{ℕ, ℤ, pos, negsuc}
-use Rattle.std.proofs.Math.Option.{Option, none, some}
+use Rattle.std.specs.Prelude.{◌≡◌, ℕ, ◌≤◌, ℤ, pos, negsuc, Option, Some, None, Result, MatchResult}
+use Rattle.std.proofs.Math.Option as maybe
 use Rattle.model.specs.Offset as model
 use Rattle.model.specs.Types as model-types
 use Rattle.span.specs.declared.Span.{Span}
 use Rattle.span.specs.declared.PairLink.{PairLink}
 use Rattle.span.specs.declared.Amount.{Amount}
 use Rattle.span.specs.declared.Amount.TheVariants.{Forward, Back}
-use Rattle.span.specs.declared.OptionU32.{OptionU32}
-use Rattle.span.specs.declared.OptionU32.TheVariants.{Some, None}
 use Rattle.span.specs.declared.PairKind.{PairKind}
 use Rattle.span.specs.declared.PairKind.TheVariants.{Bracket, Ruby, AngleQuote, Tortoise, Quote}
+use Rattle.span.specs.declared.UnknownPairKind.{UnknownPairKind}
 
 abbrev pub span_of : Span → model.Span
 span_of s = record { start = s.start; end = s.end }
@@ -20,9 +19,9 @@ abbrev pub value_of : Amount → ℤ
 value_of (Forward n) = pos n
 value_of (Back n) = negsuc n
 
-abbrev pub option_of : OptionU32 → Option ℕ
-option_of (Some n) = some n
-option_of None = none
+abbrev pub option_of : Option ℕ → maybe.Option ℕ
+option_of (Some n) = maybe.some n
+option_of None = maybe.none
 
 -- Section 4, command 7: 0..4 in `PairKind` order
 abbrev pub kind_number : PairKind → ℕ
@@ -31,6 +30,10 @@ kind_number Ruby = 1
 kind_number AngleQuote = 2
 kind_number Tortoise = 3
 kind_number Quote = 4
+
+-- the kind of a number, or an error where no kind has it
+abbrev pub IsKindOf : ℕ → Result PairKind UnknownPairKind → Type 0
+IsKindOf n r = MatchResult r (λ k. kind_number k ≡ n) (λ e. 5 ≤ n)
 
 abbrev pub pair_of : PairLink → model-types.PairLink
 pair_of p = record { kind = kind_number p.kind; opening = span_of p.opening; closing = span_of p.closing }

@@ -6,74 +6,25 @@
 
 ghost use Rattle.std.specs.Prelude.{◌≡◌, ◌-◌, ◌<◌, eqb, pos, ◌-ℤ◌};
 ghost use Rattle.model.specs.Offset as model;
-ghost use Rattle.span.specs.Values.{span_of, value_of, option_of, kind_number};
+ghost use Rattle.span.specs.Values.{span_of, value_of, option_of, kind_number, IsKindOf};
 
 // An offset in the bytes of a source text.
-#[derive(Clone, Copy)]
+#[derive(Clone, Copy, Debug, PartialEq, Eq, PartialOrd, Ord, Hash)]
 pub struct SourceOffset(pub u32);
 
 // An offset in the bytes of a normalized text.
-#[derive(Clone, Copy)]
+#[derive(Clone, Copy, Debug, PartialEq, Eq, PartialOrd, Ord, Hash)]
 pub struct NormalizedOffset(pub u32);
 
 // The number of a string of a store.
-#[derive(Clone, Copy)]
+#[derive(Clone, Copy, Debug, PartialEq, Eq, PartialOrd, Ord, Hash)]
 pub struct StrId(pub u32);
 
-impl SourceOffset {
-    pub fn new(v: u32) -> Self
-        ensures { result.0 ≡ v }
-    {
-        SourceOffset(v)
-    }
-
-    pub fn get(self) -> u32
-        ensures { result ≡ self.0 }
-    {
-        self.0
-    }
-}
-
-impl NormalizedOffset {
-    pub fn new(v: u32) -> Self
-        ensures { result.0 ≡ v }
-    {
-        NormalizedOffset(v)
-    }
-
-    pub fn get(self) -> u32
-        ensures { result ≡ self.0 }
-    {
-        self.0
-    }
-}
-
-impl StrId {
-    pub fn new(v: u32) -> Self
-        ensures { result.0 ≡ v }
-    {
-        StrId(v)
-    }
-
-    pub fn get(self) -> u32
-        ensures { result ≡ self.0 }
-    {
-        self.0
-    }
-}
-
 // A signed amount: Forward(n) is n, Back(n) is -(n + 1).
-#[derive(Clone, Copy)]
+#[derive(Clone, Copy, Debug, PartialEq, Eq, Hash)]
 pub enum Amount {
     Forward(u64),
     Back(u64),
-}
-
-// `Option<u32>`.
-#[derive(Clone, Copy)]
-pub enum OptionU32 {
-    Some(u32),
-    None,
 }
 
 // Only this function touches a signed number.
@@ -102,17 +53,12 @@ pub fn shift_clamp(endpoint: u32, by: Amount) -> u32
     ensures { result ≡ model.shift_clamp endpoint (value_of by) }
 {
     match by {
-        Amount::Forward(n) => {
-            let room = 4294967295 - (endpoint as u64);
-            if n <= room {
-                (endpoint as u64 + n) as u32
-            } else {
-                4294967295
-            }
-        }
+        Amount::Forward(n) => u64::from(endpoint)
+            .saturating_add(n)
+            .min(u64::from(u32::MAX)) as u32,
         Amount::Back(n) => {
-            if n < endpoint as u64 {
-                (endpoint as u64 - n - 1) as u32
+            if n < u64::from(endpoint) {
+                (u64::from(endpoint) - n - 1) as u32
             } else {
                 0
             }
@@ -121,35 +67,22 @@ pub fn shift_clamp(endpoint: u32, by: Amount) -> u32
 }
 
 // `shift_u32` by an amount that is taken apart already.
-pub fn shift_by(value: u32, by: Amount) -> OptionU32
+pub fn shift_by(value: u32, by: Amount) -> Option<u32>
     ensures { option_of result ≡ model.shift_u32 value (value_of by) }
 {
     match by {
-        Amount::Forward(n) => {
-            let room = 4294967295 - (value as u64);
-            if n <= room {
-                OptionU32::Some((value as u64 + n) as u32)
-            } else {
-                OptionU32::None
-            }
-        }
-        Amount::Back(n) => {
-            if n < value as u64 {
-                OptionU32::Some((value as u64 - n - 1) as u32)
-            } else {
-                OptionU32::None
-            }
-        }
+        Amount::Forward(n) => value.checked_add(u32::try_from(n).ok()?),
+        Amount::Back(n) => value.checked_sub(u32::try_from(n).ok()?)?.checked_sub(1),
     }
 }
 
-pub fn shift_u32(value: u32, delta: i64) -> OptionU32
+pub fn shift_u32(value: u32, delta: i64) -> Option<u32>
     ensures { option_of result ≡ model.shift_u32 value delta }
 {
     shift_by(value, amount_of(delta))
 }
 
-#[derive(Clone, Copy)]
+#[derive(Clone, Copy, Debug, PartialEq, Eq, Hash)]
 pub struct Span {
     pub start: u32,
     pub end: u32,
@@ -166,10 +99,7 @@ impl Span {
     pub fn len(self) -> u32
         ensures { result ≡ self.end - self.start }
     {
-        if self.end < self.start {
-            return 0;
-        }
-        self.end - self.start
+        self.end.saturating_sub(self.start)
     }
 
     pub fn is_empty(self) -> bool
@@ -196,7 +126,7 @@ impl Span {
 }
 
 // The family of two delimiters.
-#[derive(Clone, Copy)]
+#[derive(Clone, Copy, Debug, PartialEq, Eq, Hash)]
 pub enum PairKind {
     Bracket,
     Ruby,
@@ -205,11 +135,15 @@ pub enum PairKind {
     Quote,
 }
 
-impl PairKind {
-    pub fn number(self) -> u8
-        ensures { result ≡ kind_number self }
-    {
-        match self {
+// A number that no pair kind has.
+#[derive(Clone, Copy, Debug, PartialEq, Eq, Hash)]
+pub struct UnknownPairKind(pub u8);
+
+impl From<PairKind> for u8 {
+    ghost from_gives = { λ kind n. n ≡ kind_number kind };
+
+    fn from(kind: PairKind) -> u8 {
+        match kind {
             PairKind::Bracket => 0,
             PairKind::Ruby => 1,
             PairKind::AngleQuote => 2,
@@ -217,29 +151,43 @@ impl PairKind {
             PairKind::Quote => 4,
         }
     }
+}
 
+impl TryFrom<u8> for PairKind {
+    type Error = UnknownPairKind;
+
+    ghost try_from_gives = { IsKindOf };
+
+    fn try_from(n: u8) -> Result<Self, UnknownPairKind> {
+        match n {
+            0 => Ok(PairKind::Bracket),
+            1 => Ok(PairKind::Ruby),
+            2 => Ok(PairKind::AngleQuote),
+            3 => Ok(PairKind::Tortoise),
+            4 => Ok(PairKind::Quote),
+            _ => Err(UnknownPairKind(n)),
+        }
+    }
+}
+
+impl PairKind {
+    pub fn number(self) -> u8
+        ensures { result ≡ kind_number self }
+    {
+        self.into()
+    }
+
+    // `try_from` of a number that is known to be one.
     pub fn from_number(n: u8) -> Self
         requires { n < 5 }
         ensures { kind_number result ≡ n }
     {
-        if n == 0 {
-            return PairKind::Bracket;
-        }
-        if n == 1 {
-            return PairKind::Ruby;
-        }
-        if n == 2 {
-            return PairKind::AngleQuote;
-        }
-        if n == 3 {
-            return PairKind::Tortoise;
-        }
-        PairKind::Quote
+        PairKind::try_from(n).unwrap()
     }
 }
 
 // `open` and `close` in the Rust; `open` is a word of antt.
-#[derive(Clone, Copy)]
+#[derive(Clone, Copy, Debug, PartialEq, Eq, Hash)]
 pub struct PairLink {
     pub kind: PairKind,
     pub opening: Span,

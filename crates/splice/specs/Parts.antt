@@ -1,5 +1,5 @@
 -- Section 7's three parts of a merged list as one definition, and a loop that writes one of them, whatever kind its records are.
-use Rattle.std.specs.Prelude.{◌≡◌, Bool, true, false, leb}
+use Rattle.std.specs.Prelude.{◌≡◌, Bool, true, false, cond, leb}
 use Rattle.std.proofs.Math.Path.{refl, sym, ap}
 use Rattle.std.proofs.Common.{◌∙◌, mul-zero, mul-one, mul-suc, mul-le-mul_left}
 use Prim.Native.Nat.{ℕ, zero, suc, ◌+◌, ◌*◌, ◌≤◌, ◌<◌}
@@ -112,6 +112,21 @@ module _ {A : Type 0} {c : Codec A} {l : Located A} {z : ℕ} (k : Kind c l z) (
       let r = records_parts c t at i n h in
       let e = ap length (ap (part_of l w p) r.is ∙ part_append l w p (records_at c t at i) r.rest) ∙ length-append (items i) (part_of l w p r.rest) in
       omega (arith, e)
+
+  -- the loop that counts
+  pub count_first : 0 ≡ length (items 0)
+  unfolding records_at part_of
+  count_first = refl
+
+  module _ (i : ℕ) {m : ℕ} (h : m ≡ length (items i)) (q : ℕ) (e : q ≡ at + z * i) {b : Bool} (a : b ≡ is_in l w p (record_at c t q)) where
+    counted : b ≡ is_in l w p (item i)
+    counted = a ∙ ap (λ (k : ℕ). is_in l w p (record_at c t k)) (rw k.size e)
+
+    pub count_more : {x : ℕ} → x ≡ cond b 1 0 → m + x ≡ length (items (i + 1))
+    count_more f =
+        let one : length (part_of l w p (item i ∷ [])) ≡ cond b 1 0 =
+        by_bool b (λ y. rw y (ap length (one_kept l w p (item i) (sym counted ∙ y)))) (λ y. rw y (ap length (one_left l w p (item i) (sym counted ∙ y)))) in
+        omega (arith, h, f, one, ap length (items_more i), length-append (items i) (part_of l w p (item i ∷ [])))
 
   bytes_more : (i : ℕ) → records_bytes c (items (i + 1)) ≡ records_bytes c (items i) ++ item_bytes c l w p (item i)
   unfolding item_bytes

@@ -3,14 +3,14 @@
 // where their offsets stand there; crate splice_lists writes pairs, containers and diagnostics, crate splice_nodes the nodes.
 #![tactic(auto)]
 
-ghost use Rattle.std.specs.Prelude.{◌≡◌, true, cond, ◌+◌, ◌*◌, ◌%◌, ◌≤◌, length};
-ghost use Rattle.model.specs.Lists.{keep};
-ghost use Rattle.model.specs.Tape.{record_at, records_at, pair_codec, container_codec, diagnostic_codec};
-ghost use Rattle.model.specs.Merge.{kept_before, kept_behind, pair_located, container_located, diagnostic_located, moved_offset};
+ghost use Rattle.std.specs.Prelude.{◌≡◌, ℕ, ◌+◌, ◌*◌, ◌%◌, ◌≤◌, length, map};
+ghost use Rattle.model.specs.Tape.{Codec, record_at, records_at, record_bytes, records_bytes, pair_codec, container_codec, diagnostic_codec};
+ghost use Rattle.model.specs.Merge.{Located, kept_before, kept_behind, pair_located, container_located, diagnostic_located, moved_offset};
+ghost use Rattle.wire.specs.Overwrite.{overwrite};
 ghost use Rattle.span.specs.Values.{value_of};
-ghost use Rattle.splice.specs.Parts.{span_in, is_in, part_of};
+ghost use Rattle.splice.specs.Parts.{Kind, span_in, is_in, as_in, part_of};
 ghost use Rattle.splice.specs.Window.{window_value, source_in, normalized_in};
-ghost use Rattle.splice.specs.Counted.{row_in, places_from};
+ghost use Rattle.splice.specs.Counted.{row_in};
 
 // The region in both texts, and how far what lies behind it moves in each: `MergeWindow`.
 #[derive(Clone, Copy)]
@@ -34,6 +34,7 @@ pub enum Part {
 // ---- records of any kind
 
 // Whether what lies from `start` to `stop` is in a part, the region lying from `from` to `to`.
+#[tactic(auto, unfolding(crate::specs::Parts::span_in))]
 fn span_in(part: Part, start: usize, stop: usize, from: usize, to: usize) -> bool
     ensures { result ≡ span_in part start stop from to }
 {
@@ -63,86 +64,37 @@ pub fn row_in(
     span_in(part, start, stop, from as usize, to as usize)
 }
 
-// 1 for true.
-fn number(b: bool) -> usize
-    ensures { result ≡ cond b 1 0 }
-{
-    if b {
-        return 1;
-    }
-    0
-}
-
-// How many records of a run are in a part.
-pub fn count_in(
-    tape: &[u8],
-    at: usize,
-    count: usize,
-    size: usize,
-    first: usize,
-    last: usize,
-    extra: u32,
-    from: u32,
-    to: u32,
-    part: Part,
-) -> usize
-    requires { (at + size * count ≤ length tape.now) × (first + 4 ≤ size) × (last + 4 ≤ size) }
-    ensures { result ≡ length (keep (row_in tape.now first last extra from to part) (places_from at size count)) }
-{
-    let mut n = 0;
-    let mut i = 0;
-    let mut place = at;
-    while i < count {
-        n += number(row_in(tape, place, first, last, extra, from, to, part));
-        place += size;
-        i += 1;
-    }
-    n
-}
+// ---- where offsets stand
 
 // Where an offset in the source text stands in a part.
+#[tactic(auto, unfolding(crate::specs::Window::source_in))]
 pub fn source_in(v: u32, w: Window, part: Part) -> u32
     ensures { result ≡ source_in (window_value w) part v }
 {
     match part {
         Part::Before => v,
         Part::Reading => span::shift_clamp(v, span::Amount::Forward(w.start as u64)),
-        Part::Behind => {
-            let by = w.by;
-            span::shift_clamp(v, by)
-        }
+        Part::Behind => span::shift_clamp(v, w.by),
     }
-}
-
-// A sum, or its low 32 bits where it passes a word: a record's bytes hold no more of it.
-fn plus(o: u32, start: u32) -> u32
-    ensures { result ≡ (o + start) % 4294967296 }
-{
-    ((o as u64 + start as u64) % 4294967296) as u32
 }
 
 // `shift_u32`, and 0 where it has no answer.
 fn moved_offset(o: u32, by: span::Amount) -> u32
     ensures { result ≡ moved_offset o (value_of by) }
 {
-    let moved = span::shift_by(o, by);
-    match moved {
-        span::OptionU32::Some(n) => n,
-        span::OptionU32::None => 0,
-    }
+    span::shift_by(o, by).unwrap_or(0)
 }
 
 // Where an offset in the normalized text stands in a part.
+#[tactic(auto, unfolding(crate::specs::Window::normalized_in))]
 pub fn normalized_in(v: u32, w: Window, part: Part) -> u32
     ensures { result ≡ normalized_in (window_value w) part v }
 {
     match part {
         Part::Before => v,
-        Part::Reading => plus(v, w.nstart),
-        Part::Behind => {
-            let by = w.nby;
-            moved_offset(v, by)
-        }
+        // A sum's low 32 bits where it passes a word: a record's bytes hold no more of it.
+        Part::Reading => v.wrapping_add(w.nstart),
+        Part::Behind => moved_offset(v, w.nby),
     }
 }
 
@@ -155,27 +107,6 @@ pub fn pair_in(tape: &[u8], at: usize, w: Window, part: Part) -> bool
     row_in(tape, at, 2, 14, 0, w.start, w.end, part)
 }
 
-fn count_pairs(tape: &[u8], at: usize, count: usize, w: Window, part: Part) -> usize
-    requires { at + 18 * count ≤ length tape.now }
-    ensures { result ≡ length (part_of pair_located (window_value w) part (records_at pair_codec tape.now at count)) }
-{
-    count_in(tape, at, count, 18, 2, 14, 0, w.start, w.end, part)
-}
-
-pub fn kept_before_pairs(tape: &[u8], at: usize, count: usize, w: Window) -> usize
-    requires { at + 18 * count ≤ length tape.now }
-    ensures { result ≡ length (kept_before pair_located (window_value w) (records_at pair_codec tape.now at count)) }
-{
-    count_pairs(tape, at, count, w, Part::Before)
-}
-
-pub fn kept_behind_pairs(tape: &[u8], at: usize, count: usize, w: Window) -> usize
-    requires { at + 18 * count ≤ length tape.now }
-    ensures { result ≡ length (kept_behind pair_located (window_value w) (records_at pair_codec tape.now at count)) }
-{
-    count_pairs(tape, at, count, w, Part::Behind)
-}
-
 // ---- containers, `merge_container_pairs`: in the normalized text; one ends behind its close
 
 pub fn container_in(tape: &[u8], at: usize, w: Window, part: Part) -> bool
@@ -183,27 +114,6 @@ pub fn container_in(tape: &[u8], at: usize, w: Window, part: Part) -> bool
     ensures { result ≡ is_in container_located (window_value w) part (record_at container_codec tape.now at) }
 {
     row_in(tape, at, 5, 9, 1, w.nstart, w.nend, part)
-}
-
-fn count_containers(tape: &[u8], at: usize, count: usize, w: Window, part: Part) -> usize
-    requires { at + 13 * count ≤ length tape.now }
-    ensures { result ≡ length (part_of container_located (window_value w) part (records_at container_codec tape.now at count)) }
-{
-    count_in(tape, at, count, 13, 5, 9, 1, w.nstart, w.nend, part)
-}
-
-pub fn kept_before_containers(tape: &[u8], at: usize, count: usize, w: Window) -> usize
-    requires { at + 13 * count ≤ length tape.now }
-    ensures { result ≡ length (kept_before container_located (window_value w) (records_at container_codec tape.now at count)) }
-{
-    count_containers(tape, at, count, w, Part::Before)
-}
-
-pub fn kept_behind_containers(tape: &[u8], at: usize, count: usize, w: Window) -> usize
-    requires { at + 13 * count ≤ length tape.now }
-    ensures { result ≡ length (kept_behind container_located (window_value w) (records_at container_codec tape.now at count)) }
-{
-    count_containers(tape, at, count, w, Part::Behind)
 }
 
 // ---- diagnostics, `merge_diagnostics`
@@ -215,23 +125,124 @@ pub fn diagnostic_in(tape: &[u8], at: usize, w: Window, part: Part) -> bool
     row_in(tape, at, 6, 10, 0, w.start, w.end, part)
 }
 
-fn count_diagnostics(tape: &[u8], at: usize, count: usize, w: Window, part: Part) -> usize
-    requires { at + 18 * count ≤ length tape.now }
-    ensures { result ≡ length (part_of diagnostic_located (window_value w) part (records_at diagnostic_codec tape.now at count)) }
-{
-    count_in(tape, at, count, 18, 6, 10, 0, w.start, w.end, part)
+// ---- lists of any kind of record
+
+// A kind of record whose lists are spliced.
+pub trait Spliced {
+    // How many bytes a record has.
+    const SIZE: usize;
+
+    ghost SIZE: { ℕ };
+
+    ghost Value: { Type 0 };
+
+    ghost codec: { Codec Value };
+
+    ghost located: { Located Value };
+
+    // Whether the record at a place is in a part.
+    fn is_in(tape: &[u8], at: usize, w: Window, part: Part) -> bool
+        requires { at + SIZE ≤ length tape.now }
+        ensures { result ≡ is_in located (window_value w) part (record_at codec tape.now at) };
+
+    // The record at a place, written as it stands in a part.
+    fn put(tape: &[u8], at: usize, w: Window, part: Part, out: &mut [u8], to: usize)
+        requires { (at + SIZE ≤ length tape.now) × (to + SIZE ≤ length out.old) }
+        ensures { out.new ≡ overwrite out.old to (record_bytes codec (as_in located (window_value w) part (record_at codec tape.now at))) };
+
+    ghost kind: { Kind codec located SIZE };
 }
 
-pub fn kept_before_diagnostics(tape: &[u8], at: usize, count: usize, w: Window) -> usize
-    requires { at + 18 * count ≤ length tape.now }
-    ensures { result ≡ length (kept_before diagnostic_located (window_value w) (records_at diagnostic_codec tape.now at count)) }
+// How many records of a run are in a part.
+fn count_part<K: Spliced>(tape: &[u8], at: usize, count: usize, w: Window, part: Part) -> usize
+    requires { at + K.SIZE * count ≤ length tape.now }
+    ensures { result ≡ length (part_of K.located (window_value w) part (records_at K.codec tape.now at count)) }
 {
-    count_diagnostics(tape, at, count, w, Part::Before)
+    let mut n = 0;
+    for i in 0..count {
+        n += usize::from(K::is_in(tape, at + K::SIZE * i, w, part));
+    }
+    n
 }
 
-pub fn kept_behind_diagnostics(tape: &[u8], at: usize, count: usize, w: Window) -> usize
-    requires { at + 18 * count ≤ length tape.now }
-    ensures { result ≡ length (kept_behind diagnostic_located (window_value w) (records_at diagnostic_codec tape.now at count)) }
+pub fn count_before<K: Spliced>(tape: &[u8], at: usize, count: usize, w: Window) -> usize
+    requires { at + K.SIZE * count ≤ length tape.now }
+    ensures { result ≡ length (kept_before K.located (window_value w) (records_at K.codec tape.now at count)) }
 {
-    count_diagnostics(tape, at, count, w, Part::Behind)
+    count_part::<K>(tape, at, count, w, Part::Before)
+}
+
+pub fn count_behind<K: Spliced>(tape: &[u8], at: usize, count: usize, w: Window) -> usize
+    requires { at + K.SIZE * count ≤ length tape.now }
+    ensures { result ≡ length (kept_behind K.located (window_value w) (records_at K.codec tape.now at count)) }
+{
+    count_part::<K>(tape, at, count, w, Part::Behind)
+}
+
+// The records of a run that are in a part, written as they stand there.
+fn put_part<K: Spliced>(
+    tape: &[u8],
+    at: usize,
+    count: usize,
+    w: Window,
+    part: Part,
+    out: &mut [u8],
+    to: usize,
+)
+    requires run_in_bounds { at + K.SIZE * count ≤ length tape.now }
+    requires part_in_bounds { to + K.SIZE * length (part_of K.located (window_value w) part (records_at K.codec tape.now at count)) ≤ length out.old }
+    ensures { out.new ≡ overwrite out.old to (records_bytes K.codec (part_of K.located (window_value w) part (records_at K.codec tape.now at count))) }
+{
+    let mut next = to;
+    for i in 0..count {
+        let place = at + K::SIZE * i;
+        if K::is_in(tape, place, w, part) {
+            K::put(tape, place, w, part, out, next);
+            next += K::SIZE;
+        }
+    }
+}
+
+pub fn put_before<K: Spliced>(
+    tape: &[u8],
+    at: usize,
+    count: usize,
+    w: Window,
+    out: &mut [u8],
+    to: usize,
+)
+    requires run_in_bounds { at + K.SIZE * count ≤ length tape.now }
+    requires part_in_bounds { to + K.SIZE * length (kept_before K.located (window_value w) (records_at K.codec tape.now at count)) ≤ length out.old }
+    ensures { out.new ≡ overwrite out.old to (records_bytes K.codec (kept_before K.located (window_value w) (records_at K.codec tape.now at count))) }
+{
+    put_part::<K>(tape, at, count, w, Part::Before, out, to);
+}
+
+pub fn put_reading<K: Spliced>(
+    tape: &[u8],
+    at: usize,
+    count: usize,
+    w: Window,
+    out: &mut [u8],
+    to: usize,
+)
+    requires { (at + K.SIZE * count ≤ length tape.now) × (to + K.SIZE * count ≤ length out.old) }
+    ensures { out.new ≡ overwrite out.old to (records_bytes K.codec (map (K.located.placed (window_value w)) (records_at K.codec tape.now at count))) }
+{
+    put_part::<K>(tape, at, count, w, Part::Reading, out, to);
+}
+
+pub fn put_behind<K: Spliced>(
+    tape: &[u8],
+    at: usize,
+    count: usize,
+    w: Window,
+    out: &mut [u8],
+    to: usize,
+)
+    requires run_in_bounds { at + K.SIZE * count ≤ length tape.now }
+    requires part_in_bounds { to + K.SIZE * length (kept_behind K.located (window_value w) (records_at K.codec tape.now at count)) ≤ length out.old }
+    ensures { out.new ≡ overwrite out.old to (records_bytes K.codec (map (K.located.moved (window_value w)) (kept_behind K.located (window_value w) (records_at K.codec tape.now at count)))) }
+{
+    put_part::<K>(tape, at, count, w, Part::Behind, out, to);
 }

@@ -6,7 +6,7 @@ use Rattle.std.proofs.Common.{sym, ap₂, ◌∙◌, add-one, add-zero, zero-add
 use Prim.Native.Nat.{ℕ, zero, suc, ◌+◌, ◌-◌, ◌≤◌, ◌<◌}
 use native.Mathlib.Omega.{arith}
 use Rattle.std.proofs.Math.ListN.{get_or-append}
-use borrow.Author.Tests.{le-leb, lt-leb, eq-eqb, ne_eqb, leb-true, leb-false, ltb-true, ltb-false}
+use borrow.Author.Tests.{le-leb, lt-leb, leb-true, leb-false, ltb-true, ltb-false}
 use Rattle.model.specs.Lists.{sum, any, tabulate}
 use Rattle.model.specs.Bytes.{zeros}
 use Rattle.model.specs.Store.{layer_starts, in_one_layer, range_ok, id_ok}
@@ -57,21 +57,6 @@ layer_few starts (suc n) i = go (layer_few starts n i) (leb (get_or starts n 0) 
 pub layer_none : (starts : List ℕ) (k i : ℕ) → k ≡ 0 → layer_of starts k i ≡ 0
 unfolding layer_of
 layer_none starts k i e = rw e refl
-
--- ---- the returns of `range_ok`, whose a, b and g are start, len and total
-
-module _ (starts : List ℕ) (layers total start len a b g : ℕ) (e : a ≡ start) (f : b ≡ len) (h : g ≡ total) where
-  pub range_over : g < a + b → false ≡ range_in starts layers total start len
-  unfolding range_in
-  range_over l = rw (lt-leb (start + len) total (omega (arith, l, e, f, h))) refl
-
-  pub range_empty : a + b ≤ g → len ≡ 0 → true ≡ range_in starts layers total start len
-  unfolding range_in
-  range_empty l z = rw (le-leb (start + len) total (omega (arith, l, e, f, h)), eq-eqb len 0 z) refl
-
-  pub range_one : (r : Bool) → a + b ≤ g → (len ≡ 0 → ⊥) → r ≡ in_one starts layers total a (a + b) → r ≡ range_in starts layers total start len
-  unfolding range_in
-  range_one r l z q = rw (le-leb (start + len) total (omega (arith, l, e, f, h)), ne_eqb len 0 z, ← e, ← f) q
 
 -- ---- the counts that starts stand for
 

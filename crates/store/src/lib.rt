@@ -27,23 +27,16 @@ pub struct Store {
     pub totals: Totals,
 }
 
-fn wide(x: u32) -> usize
-    ensures { result ≡ x }
-{
-    x as usize
-}
-
 // Where layer i of a pool begins; past the last layer, where the pool ends.
+#[tactic(auto, using(std::proofs::lemmas::Bool::Decides::nat_tests))]
 pub fn start_or(starts: &[u32; 32], layers: usize, total: u32, i: usize) -> u32
     requires { layers ≤ 32 }
     ensures { result ≡ start_or starts.now layers total i }
 {
-    if i < layers {
-        return starts[i];
-    }
-    total
+    if i < layers { starts[i] } else { total }
 }
 
+#[tactic(auto, using(std::proofs::lemmas::Bool::Decides::nat_tests), unfolding(crate::specs::Pools::in_layer))]
 fn in_layer(
     starts: &[u32; 32],
     layers: usize,
@@ -55,40 +48,25 @@ fn in_layer(
     requires { (layers ≤ 32) × (i < layers) }
     ensures { result ≡ in_layer starts.now layers total start end i }
 {
-    if start < wide(starts[i]) {
-        return false;
-    }
-    end <= wide(start_or(starts, layers, total, i + 1))
+    starts[i] as usize <= start && end <= start_or(starts, layers, total, i + 1) as usize
 }
 
 fn in_one_layer(starts: &[u32; 32], layers: usize, total: u32, start: usize, end: usize) -> bool
     requires { layers ≤ 32 }
     ensures { result ≡ in_one starts.now layers total start end }
 {
-    let mut i = 0;
-    while i < layers {
-        if in_layer(starts, layers, total, start, end, i) {
-            return true;
-        }
-        i += 1;
-    }
-    false
+    (0..layers).any(|i| in_layer(starts, layers, total, start, end, i))
 }
 
 // Section 3. Start plus length is at most the pool's count, and a range of length above 0 lies in one layer.
+#[tactic(auto, using(std::proofs::lemmas::Bool::Decides::nat_tests), unfolding(crate::specs::Pools::range_in))]
 pub fn range_ok(starts: &[u32; 32], layers: usize, total: u32, start: u32, len: u32) -> bool
     requires { layers ≤ 32 }
     ensures { result ≡ range_in starts.now layers total start len }
 {
-    let from = wide(start);
-    let end = from + wide(len);
-    if wide(total) < end {
-        return false;
-    }
-    if len == 0 {
-        return true;
-    }
-    in_one_layer(starts, layers, total, from, end)
+    let from = start as usize;
+    let end = from + len as usize;
+    end <= total as usize && (len == 0 || in_one_layer(starts, layers, total, from, end))
 }
 
 pub fn id_ok(total: u32, id: u32) -> bool
@@ -102,9 +80,7 @@ pub fn layer_of(starts: &[u32; 32], layers: usize, i: u32) -> usize
     requires { layers ≤ 32 }
     ensures { result ≡ layer_of starts.now layers i }
 {
-    let mut k = layers;
-    while 0 < k {
-        k -= 1;
+    for k in (0..layers).rev() {
         if starts[k] <= i {
             return k;
         }
@@ -137,61 +113,53 @@ pub fn store_of(tape: &[u8], layers: usize) -> Store
         segments: 0,
     };
     let mut at = 9;
-    let mut i = 0;
-    while i < layers {
+    for i in 0..layers {
         let l = places::next_layer(tape, at);
         strings[i] = totals.strings;
         contents[i] = totals.contents;
         segments[i] = totals.segments;
         totals = with_layer(totals, l);
         at = l.end;
-        i += 1;
     }
     Store {
-        layers: layers,
-        strings: strings,
-        contents: contents,
-        segments: segments,
-        totals: totals,
+        layers,
+        strings,
+        contents,
+        segments,
+        totals,
     }
 }
 
 // Section 4. Where the string record of that number stands; for contents and segments, the same.
+#[tactic(auto, using(crate::specs::Pools::layer_few), unfolding(crate::specs::Standing::string_place))]
 pub fn string_place(st: Store, i: u32) -> usize
     requires { st.layers ≤ 32 }
     ensures { result ≡ string_place st i }
 {
-    let strings = st.strings;
-    let contents = st.contents;
-    let segments = st.segments;
-    let k = layer_of(&strings, st.layers, i);
-    let b = wide(start_or(&contents, st.layers, st.totals.contents, k));
-    let g = wide(start_or(&segments, st.layers, st.totals.segments, k));
-    10 + k + 5 * wide(i) + 10 * b + 37 * g
+    let k = layer_of(&st.strings, st.layers, i);
+    let b = start_or(&st.contents, st.layers, st.totals.contents, k) as usize;
+    let g = start_or(&st.segments, st.layers, st.totals.segments, k) as usize;
+    10 + k + 5 * i as usize + 10 * b + 37 * g
 }
 
+#[tactic(auto, using(crate::specs::Pools::layer_few), unfolding(crate::specs::Standing::content_place))]
 pub fn content_place(st: Store, i: u32) -> usize
     requires { st.layers ≤ 32 }
     ensures { result ≡ content_place st i }
 {
-    let strings = st.strings;
-    let contents = st.contents;
-    let segments = st.segments;
-    let k = layer_of(&contents, st.layers, i);
-    let a = wide(start_or(&strings, st.layers, st.totals.strings, k + 1));
-    let g = wide(start_or(&segments, st.layers, st.totals.segments, k));
-    10 + k + 5 * a + 10 * wide(i) + 37 * g
+    let k = layer_of(&st.contents, st.layers, i);
+    let a = start_or(&st.strings, st.layers, st.totals.strings, k + 1) as usize;
+    let g = start_or(&st.segments, st.layers, st.totals.segments, k) as usize;
+    10 + k + 5 * a + 10 * i as usize + 37 * g
 }
 
+#[tactic(auto, using(crate::specs::Pools::layer_few), unfolding(crate::specs::Standing::segment_place))]
 pub fn segment_place(st: Store, i: u32) -> usize
     requires { st.layers ≤ 32 }
     ensures { result ≡ segment_place st i }
 {
-    let strings = st.strings;
-    let contents = st.contents;
-    let segments = st.segments;
-    let k = layer_of(&segments, st.layers, i);
-    let a = wide(start_or(&strings, st.layers, st.totals.strings, k + 1));
-    let b = wide(start_or(&contents, st.layers, st.totals.contents, k + 1));
-    10 + k + 5 * a + 10 * b + 37 * wide(i)
+    let k = layer_of(&st.segments, st.layers, i);
+    let a = start_or(&st.strings, st.layers, st.totals.strings, k + 1) as usize;
+    let b = start_or(&st.contents, st.layers, st.totals.contents, k + 1) as usize;
+    10 + k + 5 * a + 10 * b + 37 * i as usize
 }

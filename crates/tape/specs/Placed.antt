@@ -1,5 +1,5 @@
 -- Numbers 6 and 7 of a tape's book: what the code tests, by the places that were found, and that it is the model's.
-use Rattle.std.specs.Prelude.{◌≡◌, ℕ, ◌+◌, ◌-◌, ◌*◌, ◌≤◌, ◌<◌, Bool, true, false, cond, ◌&&◌, List, length, eqb}
+use Rattle.std.specs.Prelude.{Option, Some, None, ◌≡◌, ℕ, ◌+◌, ◌-◌, ◌*◌, ◌≤◌, ◌<◌, Bool, true, false, cond, ◌&&◌, List, length, eqb}
 use Rattle.std.proofs.Math.Path.{refl, sym}
 use Rattle.std.proofs.Common.{ap, ◌∙◌, arith, eqb-true, eq-eqb, ne_eqb}
 use Rattle.std.proofs.Math.Bool.{and-false}
@@ -13,9 +13,8 @@ use Rattle.places.specs.Found.{found}
 use Rattle.places.specs.Again.{Frame, lists_inside}
 use Rattle.store.specs.Lengths.{book_lengths}
 use Rattle.bounds.specs.Spans.{diagnostic_inside}
-use Rattle.bounds.specs.Walk.{nodes_in_place, drift_of}
-use Rattle.bounds.specs.declared.Drift.{Drift}
-use Rattle.bounds.specs.declared.Drift.TheVariants.{Misplaced, Placed}
+use Rattle.bounds.specs.Walk.{nodes_in_place, sums_if_placed}
+use Rattle.bounds.specs.declared.Sums.{Sums}
 
 -- ---- definitions
 
@@ -28,9 +27,9 @@ unfoldable pub lengths_agree : ℕ → ℕ → ℕ → ℕ → Bool
 lengths_agree text normalized images spans = eqb (normalized + spans) (text + images)
 
 -- what the walk over the nodes tells
-unfoldable pub drift_number : ℕ → ℕ → Drift → ℕ
-drift_number text normalized Misplaced = 6
-drift_number text normalized (Placed images spans) = cond (lengths_agree text normalized images spans) 0 7
+unfoldable pub drift_number : ℕ → ℕ → Option Sums → ℕ
+drift_number text normalized None = 6
+drift_number text normalized (Some s) = cond (lengths_agree text normalized s.images s.spans) 0 7
 
 -- Number 6 of pairs, containers and diagnostics.
 unfoldable pub lists_placed : List ℕ → Places → Bool
@@ -91,16 +90,6 @@ module _ (text normalized images spans : ℕ) where
 
 -- ---- the answers of the code
 
-module _ (text normalized : ℕ) (d : Drift) where
-  module _ {im sp : ℕ} (e : d ≡ Placed im sp) {x : Bool} (g : x ≡ lengths_agree text normalized im sp) where
-    pub drift_seven : x ≡ false → 7 ≡ drift_number text normalized d
-    unfolding drift_number
-    drift_seven q = rw (e, ← g, q) refl
-
-    pub drift_none : x ≡ true → 0 ≡ drift_number text normalized d
-    unfolding drift_number
-    drift_none q = rw (e, ← g, q) refl
-
 module _ (t : List ℕ) (p : Places) {x : Bool} (e : x ≡ all (pair_ok p.text) (records_at pair_codec t p.pairs.at p.pairs.count)) where
   pub pairs_bad : x ≡ false → false ≡ lists_placed t p
   unfolding lists_placed
@@ -139,8 +128,8 @@ module _ (b : LexOutput) where
   lists_six f = rw (places_split, f, and-false) refl
 
   lists_drift : lists_ok (length b.sanitized) (length b.normalized) b ≡ true
-      → drift_number (length b.sanitized) (length b.normalized) (drift_of (length b.sanitized) b.source_nodes) ≡ places_number b
-  unfolding places_number drift_number drift_of lengths_agree normalized_length_ok
+      → drift_number (length b.sanitized) (length b.normalized) (sums_if_placed (length b.sanitized) b.source_nodes) ≡ places_number b
+  unfolding places_number drift_number sums_if_placed lengths_agree normalized_length_ok
   lists_drift f =
       by_bool (nodes_in_place (length b.sanitized) b.source_nodes) (λ n. rw (places_split, f, n) refl) (λ n. rw (places_split, f, n) refl)
 
@@ -159,10 +148,10 @@ module _ (t d : List ℕ) {p : Places} (f : Frame t d) (e : p ≡ found t) where
   pub places_six : {x : Bool} → x ≡ lists_placed t p → x ≡ false → 6 ≡ places_number (book_at t (places t) d)
   places_six g h = lists_six (book_at t (places t) d) (sym lists_are ∙ sym g ∙ h)
 
-  pub places_drift : {x : Bool} {r : ℕ} → x ≡ lists_placed t p → x ≡ true → (k : Drift) → k ≡ drift_of p.text (records_at node_codec t p.nodes.at p.nodes.count)
+  pub places_drift : {x : Bool} {r : ℕ} → x ≡ lists_placed t p → x ≡ true → (k : Option Sums) → k ≡ sums_if_placed p.text (records_at node_codec t p.nodes.at p.nodes.count)
       → r ≡ drift_number p.text p.normalized k → r ≡ places_number (book_at t (places t) d)
   places_drift g h k m q =
       let l = book_lengths t d p f e in
       let a = lists_drift (book_at t (places t) d) (sym lists_are ∙ sym g ∙ h) in
-      let n : k ≡ drift_of p.text (book_at t (places t) d).source_nodes = m ∙ ap (drift_of p.text) nodes_are in
+      let n : k ≡ sums_if_placed p.text (book_at t (places t) d).source_nodes = m ∙ ap (sums_if_placed p.text) nodes_are in
       q ∙ ap (drift_number p.text p.normalized) n ∙ (rw (l.text, l.normalized) at a)

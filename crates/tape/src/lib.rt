@@ -61,19 +61,14 @@ fn lengths_agree(text: u32, normalized: u32, images: u64, spans: u64) -> bool
 }
 
 // Number 6 where a node is out of place, else number 7.
-fn drift_refusal(text: u32, normalized: u32, d: bounds::Drift) -> u32
-    ensures { result ≡ drift_number text normalized d }
+#[tactic(auto, unfolding(crate::specs::Placed::drift_number))]
+fn drift_refusal(text: u32, normalized: u32, sums: Option<bounds::Sums>) -> u32
+    ensures { result ≡ drift_number text normalized sums }
 {
-    match d {
-        bounds::Drift::Misplaced => {
-            return 6;
-        }
-        bounds::Drift::Placed(images, spans) => {
-            if lengths_agree(text, normalized, images, spans) {
-                return 0;
-            }
-            return 7;
-        }
+    match sums {
+        None => 6,
+        Some(s) if lengths_agree(text, normalized, s.images, s.spans) => 0,
+        Some(_) => 7,
     }
 }
 
@@ -104,8 +99,8 @@ pub fn places_refusal(tape: &[u8], p: places::Places) -> u32
     if !lists_placed(tape, p) {
         return 6;
     }
-    let d = bounds::nodes_placed(tape, p.nodes.at, p.nodes.count, p.text as usize);
-    drift_refusal(p.text, p.normalized, d)
+    let sums = bounds::nodes_placed(tape, p.nodes.at, p.nodes.count, p.text as usize);
+    drift_refusal(p.text, p.normalized, sums)
 }
 
 // Numbers 2 to 7 of a tape that is laid out.

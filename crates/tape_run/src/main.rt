@@ -4,29 +4,18 @@
 #![tactic(auto)]
 
 use std::io;
-
-fn say(rt: &impl Print, s: &[u8]) -> io::Result<()> {
-    rt.write_all(s)
-}
-
-fn put(rt: &impl Print, label: &str, n: u64) -> io::Result<()> {
-    print!(rt; "{label}{n}")
-}
-
-fn put_byte(rt: &impl Print, b: u8) -> io::Result<()> {
-    print!(rt; "{b:02x}")
-}
+use std::io::Read;
 
 fn put_hex(rt: &impl Print, s: &[u8]) -> io::Result<()> {
     for b in s {
-        put_byte(rt, *b)?;
+        print!(rt; "{b:02x}")?;
     }
     Ok(())
 }
 
 fn put_copied(rt: &impl Print, a: copy::Copied) -> io::Result<()> {
     match a {
-        copy::Copied::Refused(n) => put(rt, "refused ", n as u64),
+        copy::Copied::Refused(n) => print!(rt; "refused {n}"),
         copy::Copied::Copied(tape, bytes) => print!(rt; "{tape} {bytes}"),
     }
 }
@@ -49,7 +38,7 @@ fn copy(rt: &impl Print, tape: &[u8], bytes: &[u8]) -> io::Result<()> {
 
 fn put_allowed(rt: &impl Print, a: lookup::Allowed) -> io::Result<()> {
     match a {
-        lookup::Allowed::Refused(n) => put(rt, "refused ", n as u64),
+        lookup::Allowed::Refused(n) => print!(rt; "refused {n}"),
         lookup::Allowed::Yes => print!(rt; "yes"),
         lookup::Allowed::No => print!(rt; "no"),
     }
@@ -57,7 +46,7 @@ fn put_allowed(rt: &impl Print, a: lookup::Allowed) -> io::Result<()> {
 
 fn put_node(rt: &impl Print, a: lookup::NodeAt) -> io::Result<()> {
     match a {
-        lookup::NodeAt::Refused(n) => put(rt, "refused ", n as u64),
+        lookup::NodeAt::Refused(n) => print!(rt; "refused {n}"),
         lookup::NodeAt::Node(i) => print!(rt; "{i}"),
         lookup::NodeAt::Nothing => print!(rt; "none"),
     }
@@ -67,7 +56,7 @@ fn put_node(rt: &impl Print, a: lookup::NodeAt) -> io::Result<()> {
 fn put_records(rt: &impl Print, place: usize, n: u32) -> io::Result<()> {
     print!(rt; "{n}")?;
     if n != 0 {
-        put(rt, " at ", place as u64)?;
+        print!(rt; " at {place}")?;
     }
     Ok(())
 }
@@ -75,28 +64,34 @@ fn put_records(rt: &impl Print, place: usize, n: u32) -> io::Result<()> {
 // A string with the bytes between two places of the byte buffer.
 fn put_string(rt: &impl Print, bytes: &[u8], start: usize, end: usize) -> io::Result<()> {
     print!(rt; "\"")?;
-    say(rt, wire::between(bytes, start, end))?;
+    rt.write_all(wire::between(bytes, start, end))?;
     print!(rt; "\"")
 }
 
 fn put_str(rt: &impl Print, bytes: &[u8], a: lookup::StrAt) -> io::Result<()> {
     match a {
-        lookup::StrAt::Refused(n) => put(rt, "refused ", n as u64),
+        lookup::StrAt::Refused(n) => print!(rt; "refused {n}"),
         lookup::StrAt::At(start, end) => put_string(rt, bytes, start, end),
         lookup::StrAt::Nothing => print!(rt; "none"),
     }
 }
 
-fn put_range(rt: &impl Print, start: u32, end: u32, a: lookup::RangeAt) -> io::Result<()> {
-    print!(rt; "{start} {end}: ")?;
+fn put_range(rt: &impl Print, a: lookup::RangeAt) -> io::Result<()> {
     match a {
-        lookup::RangeAt::Refused(n) => put(rt, "refused ", n as u64),
+        lookup::RangeAt::Refused(n) => print!(rt; "refused {n}"),
         lookup::RangeAt::At(place, n) => put_records(rt, place, n),
         lookup::RangeAt::Nothing => print!(rt; "none"),
     }
 }
 
-fn ask(rt: &impl Print, tape: &[u8], bytes: &[u8], start: u32, end: u32) -> io::Result<()> {
+fn ask(rt: &impl Print, c: cases::Case) -> io::Result<()> {
+    let cases::Case {
+        tape,
+        bytes,
+        start,
+        end,
+        ..
+    } = c;
     copy(rt, tape, bytes)?;
     print!(rt; "  diagnostics: ")?;
     put_allowed(rt, lookup::diagnostics_allow_incremental(tape, bytes))?;
@@ -104,65 +99,29 @@ fn ask(rt: &impl Print, tape: &[u8], bytes: &[u8], start: u32, end: u32) -> io::
     put_node(rt, lookup::node_at_source(tape, bytes, start))?;
     print!(rt; "\n  string {start}: ")?;
     put_str(rt, bytes, lookup::lookup_str(tape, bytes, start))?;
-    print!(rt; "\n  contents ")?;
-    put_range(
-        rt,
-        start,
-        end,
-        lookup::lookup_contents(tape, bytes, start, end),
-    )?;
-    print!(rt; "\n  segments ")?;
-    put_range(
-        rt,
-        start,
-        end,
-        lookup::lookup_segments(tape, bytes, start, end),
-    )?;
+    print!(rt; "\n  contents {start} {end}: ")?;
+    put_range(rt, lookup::lookup_contents(tape, bytes, start, end))?;
+    print!(rt; "\n  segments {start} {end}: ")?;
+    put_range(rt, lookup::lookup_segments(tape, bytes, start, end))?;
     println!(rt)
 }
 
-fn show(
-    rt: &impl Print,
-    label: &[u8],
-    tape: &[u8],
-    bytes: &[u8],
-    start: u32,
-    end: u32,
-) -> io::Result<()> {
-    let n = tape::check_book(tape, bytes);
-    say(rt, label)?;
-    put(rt, ": check ", n as u64)?;
-    put(rt, ", reading ", tape::check_reading(tape, bytes) as u64)?;
-    println!(rt)?;
-    if n == 0 {
-        ask(rt, tape, bytes, start, end)?;
-    }
-    Ok(())
-}
-
-fn show_case(rt: &impl Print, input: &[u8], c: cases::Case) -> io::Result<()> {
-    show(
-        rt,
-        wire::between(input, c.label, c.tape),
-        wire::between(input, c.tape, c.bytes),
-        wire::between(input, c.bytes, c.replacement),
-        c.start,
-        c.end,
-    )
-}
-
-fn show_all(rt: &impl Print, input: &[u8]) -> io::Result<()> {
-    let mut at = 0;
-    while at < input.len() {
-        let c = cases::case_at(input, at);
-        show_case(rt, input, c)?;
-        at = c.next;
+fn show(rt: &impl Print, c: cases::Case) -> io::Result<()> {
+    let book = tape::check_book(c.tape, c.bytes);
+    let reading = tape::check_reading(c.tape, c.bytes);
+    rt.write_all(c.label)?;
+    println!(rt; ": check {book}, reading {reading}")?;
+    if book == 0 {
+        ask(rt, c)?;
     }
     Ok(())
 }
 
 fn main(rt: HostRuntime) -> io::Result<()> {
-    let mut input = [0u8; 65536];
-    let n = stream::read_full(&mut rt.stdin(), &mut input)?;
-    show_all(&rt, &input[..n])
+    let mut input = Vec::new(rt.alloc());
+    rt.stdin().read_to_end(&mut input)?;
+    for c in cases::Cases::new(&input) {
+        show(&rt, c)?;
+    }
+    Ok(())
 }

@@ -1,7 +1,7 @@
 use Rattle.model.specs.Tape.{record_at, node_codec}
 use Rattle.bounds.specs.Walk.{walked_none, walked_more, walked_fails, walked_done, image_small, placed_facts}
 use mathlib.Core.Path.{sym, ◌∙◌}
-use Prim.Native.Nat.{◌+◌, ◌-◌, ◌*◌}
+use Prim.Native.Nat.{◌+◌, ◌*◌}
 use native.Mathlib.Omega.{arith}
 use Rattle.bounds.proofs.nodes_placed.Goals as goal
 
@@ -9,49 +9,17 @@ pub loop-i-init : goal.loop-i-init
 loop-i-init c =
     walked_none _ _ _ _
 
-pub overflow_mul-p : goal.overflow_mul-p
-overflow_mul-p c =
-    omega arith
-
-pub overflow_add-p : goal.overflow_add-p
-overflow_add-p c =
-    omega arith
-
-pub node_placed-requires : goal.node_placed-requires
-node_placed-requires c =
-    omega arith
-
 pub returns-then-not-node_placed : goal.returns-then-not-node_placed
 returns-then-not-node_placed c =
     walked_fails c.loop-i.invariant c.loop-i-test.true (sym c.node_placed.ensures ∙ c.if-not-node_placed.true)
-
-pub image_length-images-requires : goal.image_length-images-requires
-image_length-images-requires c =
-    omega arith
 
 pub overflow_add-images : goal.overflow_add-images
 overflow_add-images c =
     omega (arith, c.image_length-images.ensures, image_small (record_at node_codec c.args.tape.now (c.args.at + 49 * c.loop-i.i)))
 
-pub span_length-spans-requires : goal.span_length-spans-requires
-span_length-spans-requires c =
-    omega arith
-
 pub overflow_add-spans : goal.overflow_add-spans
 overflow_add-spans c =
     let f = placed_facts _ _ _ _ _ (sym c.node_placed.ensures ∙ c.if-not-node_placed.false) in omega (arith, c.span_length-spans.ensures, f.0, f.1, f.2, f.3)
-
-pub node_end-from-requires : goal.node_end-from-requires
-node_end-from-requires c =
-    omega arith
-
-pub overflow_add-i : goal.overflow_add-i
-overflow_add-i c =
-    omega arith
-
-pub loop-i-smaller : goal.loop-i-smaller
-loop-i-smaller c =
-    omega arith
 
 pub loop-i-preserved : goal.loop-i-preserved
 loop-i-preserved c =

@@ -1,9 +1,5 @@
 use Rattle.bounds.specs.Walk.{Walked}
-use Prim.Native.Nat.{◌-◌}
 use Rattle.bounds.proofs.nodes_placed.Given as goal
 
 abbrev pub invariant-loop-i : goal.invariant-loop-i
 invariant-loop-i l = Walked l.tape l.at l.count l.size l.i l.from l.images l.spans
-
-abbrev pub decreases-loop-i : goal.decreases-loop-i
-decreases-loop-i l = l.count - l.i

@@ -3,12 +3,12 @@ use Rattle.lookup.specs.Asked.{node_found}
 use borrow.Author.Rules.{rules}
 use Rattle.lookup.proofs.node_found.Goals as goal
 
-pub returns-in-At : goal.returns-in-At
+pub returns-in-Some : goal.returns-in-Some
 unfolding node_found
-returns-in-At c =
-    rw c.in-At.is refl
+returns-in-Some c =
+    rw c.in-Some.is refl
 
-pub returns-in-Nothing : goal.returns-in-Nothing
+pub returns-in-None : goal.returns-in-None
 unfolding node_found
-returns-in-Nothing c =
+returns-in-None c =
     search rules

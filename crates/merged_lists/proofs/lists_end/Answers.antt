@@ -1,5 +1,4 @@
 use Rattle.merged_lists.specs.Sizes.{lists_end}
-use Prim.Native.Nat.{◌-◌}
 use native.Mathlib.Omega.{arith}
 use Rattle.merged_lists.proofs.lists_end.Goals as goal
 

@@ -1,6 +1,5 @@
 use Rattle.places.specs.Found.{walked_none, walked_more, walked_all, walked_rises, two_inside}
 use mathlib.Core.Path.{sym, ◌∙◌}
-use Prim.Native.Nat.{◌-◌}
 use native.Mathlib.Omega.{arith}
 use Rattle.places.proofs.all_layers.Goals as goal
 

@@ -1,5 +1,4 @@
 use Rattle.places.specs.Runs.{counted_more, counted_other, counted_past}
-use Prim.Native.Nat.{◌-◌}
 use native.Mathlib.Omega.{arith}
 use Rattle.places.proofs.count_at.Goals as goal
 

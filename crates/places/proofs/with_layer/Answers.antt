@@ -18,10 +18,6 @@ pub overflow_add-result-4 : goal.overflow_add-result-4
 overflow_add-result-4 c =
     let l = layer_small c.args.tape.now c.args.s.end c.next_layer-l.result c.next_layer-l.ensures c.requires.end_in_bounds.0 in omega (arith, l.counts, l.near, c.requires.small.counts)
 
-pub capped_sum-requires : goal.capped_sum-requires
-capped_sum-requires c =
-    (omega (arith, c.requires.small.bytes), omega (arith, c.strings_length-bytes.ensures), c.requires.end_in_bounds.1)
-
 pub returns : goal.returns
 returns c =
-    layer_added _ _ c.args.s _ _ _ _ c.next_layer-l.ensures c.strings_length-bytes.ensures c.capped_sum.ensures
+    layer_added _ _ c.args.s _ _ _ _ c.next_layer-l.ensures c.strings_length-bytes.ensures (omega (arith, c.requires, c.saturating_add.ensures, c.min.ensures))

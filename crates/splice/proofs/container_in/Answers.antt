@@ -1,6 +1,7 @@
 use Rattle.splice.specs.Kinds.{container_in}
 use Rattle.splice.specs.Window.{window_value}
-use mathlib.Core.Path.{sym, ◌∙◌}
+use Rattle.std.proofs.Common.{◌∙◌}
+use mathlib.Core.Path.{sym}
 use Rattle.splice.proofs.container_in.Goals as goal
 
 pub returns : goal.returns

@@ -1,11 +1,13 @@
+use Rattle.std.proofs.Common.{◌≡◌, ℕ, ℤ, Option, Some, None, unwrap_or, ◌∙◌}
+use Rattle.model.specs.Offset.{shift_u32}
+use Rattle.model.specs.Merge.{moved_offset}
+use Rattle.span.specs.Values.{option_of}
 use Rattle.splice.specs.Written.{moved_some, moved_none}
-use Rattle.span.specs.Values.{value_of}
 use Rattle.splice.proofs.moved_offset.Goals as goal
 
-pub returns-in-Some : goal.returns-in-Some
-returns-in-Some c =
-    moved_some c.args.o (value_of c.args.by) _ (rw c.in-Some.is at c.shift_by-moved.ensures)
+moved : (o : ℕ) (by : ℤ) (r : Option ℕ) → option_of r ≡ shift_u32 o by → unwrap_or r 0 ≡ moved_offset o by
+moved o by (Some n) e = moved_some o by n e
+moved o by None e = moved_none o by e
 
-pub returns-in-None : goal.returns-in-None
-returns-in-None c =
-    moved_none c.args.o (value_of c.args.by) (rw c.in-None.is at c.shift_by-moved.ensures)
+pub returns : goal.returns
+returns c = c.unwrap_or.ensures ∙ moved _ _ _ c.shift_by.ensures

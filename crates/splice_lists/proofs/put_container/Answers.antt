@@ -2,8 +2,7 @@ use Rattle.splice.specs.Written.{container_written}
 use Rattle.wire.specs.Words.{length_word_bytes}
 use Rattle.wire.specs.Overwrite.{Wrote, wrote_next}
 use Rattle.model.specs.Bytes.{word_bytes}
-use mathlib.Core.List.{[], ◌∷◌}
-use Prim.Native.Nat.{◌+◌}
+use Rattle.std.proofs.Common.{[], ◌∷◌, ◌+◌}
 use native.Mathlib.Omega.{arith}
 use lib.ListN.{length-append}
 use Rattle.splice_lists.proofs.put_container.Goals as goal

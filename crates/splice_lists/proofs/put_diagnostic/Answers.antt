@@ -1,6 +1,7 @@
 use Rattle.splice.specs.Written.{diagnostic_bytes_lem}
 use Rattle.wire.specs.Overwrite.{overwrite}
-use mathlib.Core.Path.{ap, ◌∙◌}
+use Rattle.std.proofs.Common.{◌∙◌}
+use mathlib.Core.Path.{ap}
 use Rattle.splice_lists.proofs.put_diagnostic.Goals as goal
 
 pub returns : goal.returns

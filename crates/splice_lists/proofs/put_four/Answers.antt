@@ -1,10 +1,9 @@
+use Rattle.std.proofs.Common.{[], ◌∷◌, ◌+◌}
 use lib.ListN.{length-append}
 use Rattle.splice.specs.Written.{four_written}
 use Rattle.wire.specs.Words.{length_word_bytes}
 use Rattle.wire.specs.Overwrite.{Wrote, wrote_next}
 use Rattle.model.specs.Bytes.{word_bytes}
-use mathlib.Core.List.{[], ◌∷◌}
-use Prim.Native.Nat.{◌+◌}
 use native.Mathlib.Omega.{arith}
 use Rattle.splice_lists.proofs.put_four.Goals as goal
 

@@ -1,6 +1,7 @@
 use Rattle.splice.specs.Written.{pair_bytes_lem}
 use Rattle.wire.specs.Overwrite.{overwrite}
-use mathlib.Core.Path.{ap, ◌∙◌}
+use Rattle.std.proofs.Common.{◌∙◌}
+use mathlib.Core.Path.{ap}
 use Rattle.splice_lists.proofs.put_pair.Goals as goal
 
 pub returns : goal.returns

@@ -6,7 +6,8 @@ use Rattle.model.specs.Tape.{record_bytes, node_codec}
 use Rattle.splice_nodes.specs.Placed.{six_read}
 use Rattle.records.specs.Values.{source_node_of}
 use Rattle.splice.specs.Window.{window_value}
-use mathlib.Core.Path.{ap, ◌∙◌}
+use Rattle.std.proofs.Common.{◌∙◌}
+use mathlib.Core.Path.{ap}
 use native.Mathlib.Omega.{arith}
 use Rattle.splice_nodes.proofs.place_node.Goals as goal
 

@@ -1,15 +1,14 @@
 use Rattle.store.specs.Stored.{filling_none, filling_inside, filling_fits, filling_more, filling_all}
-use Prim.Native.Nat.{◌-◌}
 use native.Mathlib.Omega.{arith}
 use Rattle.store.proofs.store_of.Goals as goal
 
 pub loop-i-init : goal.loop-i-init
 loop-i-init c =
-    (omega arith, filling_none _)
+    filling_none _
 
 pub next_layer-l-requires : goal.next_layer-l-requires
 next_layer-l-requires c =
-    filling_inside c.loop-i.invariant.1 c.requires c.loop-i-test.true
+    filling_inside c.loop-i.invariant c.requires c.loop-i-test.true
 
 pub offset_bounds-strings-i : goal.offset_bounds-strings-i
 offset_bounds-strings-i c =
@@ -37,20 +36,12 @@ bounds-segments-i c =
 
 pub with_layer-totals-requires : goal.with_layer-totals-requires
 with_layer-totals-requires c =
-    filling_fits c.loop-i.invariant.1 c.requires c.loop-i-test.true c.next_layer-l.ensures
-
-pub overflow_add-i : goal.overflow_add-i
-overflow_add-i c =
-    omega arith
-
-pub loop-i-smaller : goal.loop-i-smaller
-loop-i-smaller c =
-    omega arith
+    filling_fits c.loop-i.invariant c.requires c.loop-i-test.true c.next_layer-l.ensures
 
 pub loop-i-preserved : goal.loop-i-preserved
 loop-i-preserved c =
-    (omega arith, filling_more c.loop-i.invariant.1 c.requires c.loop-i-test.true c.next_layer-l.ensures c.with_layer-totals.ensures)
+    filling_more c.loop-i.invariant c.requires c.loop-i-test.true c.next_layer-l.ensures c.with_layer-totals.ensures
 
 pub returns : goal.returns
 returns c =
-    filling_all c.loop-i.invariant.1 c.requires (omega arith)
+    filling_all c.loop-i.invariant c.requires (omega arith)

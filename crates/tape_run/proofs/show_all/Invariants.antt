@@ -1,6 +1,0 @@
--- Each case takes a byte at least.
-use Rattle.std.proofs.Common.{length, ◌-◌}
-use Rattle.tape_run.proofs.show_all.Given as goal
-
-abbrev pub decreases-loop-at : goal.decreases-loop-at
-decreases-loop-at g l = length l.input - l.at
