@@ -698,6 +698,7 @@ fn refers_in_parts<'a>(
     ensures { result ≡ depends_from (store_in tape.now (old.now ++ new.now)) from [] (records_at node_codec tape.now at count) }
 {
     let size = (words.len() - base) / 2 + 1;
+    // From part to part, and the last may be shorter.
     let mut i = 0;
     while i < count {
         let n = size.min(count - i);

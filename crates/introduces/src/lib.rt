@@ -588,6 +588,7 @@ fn refers_by_index<'a, 'b>(
     ensures { result ≡ any (refers_to (store_in tape.now (old.now ++ new.now)) (records_at node_codec tape.now at count) (store_in reading.now (front.now ++ back.now))) (records_at node_codec reading.now place nodes) }
 {
     let size = (middle - base) / 2 + 1;
+    // From part to part, and the last may be shorter.
     let mut i = 0;
     while i < count {
         let n = size.min(count - i);

@@ -60,6 +60,7 @@ pub fn asked_nodes(tape: &[u8], at: usize, count: usize, from: u32) -> usize
     requires { at + 49 * count ≤ length tape.now }
     ensures { result ≡ count_to_last count (asks_at from tape.now at) }
 {
+    // From the last on; a chain over a reversed range says less plainly how many there are.
     let mut n = count;
     while 0 < n {
         if asks_target(tape, at + 49 * (n - 1), from) {

@@ -3,12 +3,11 @@ use Rattle.dependency.proofs.insert_id.Goals as goal
 
 pub insert-requires : goal.insert-requires
 insert-requires c =
-    let start = c in
     record {
-      resolvable = start.requires.resolvable;
-      row = start.requires.row;
-      m_in_bounds = start.requires.m_in_bounds;
-      id_lt_strings = (start.requires.plain_in.inside _ c.in-Some.is);
+      resolvable = c.requires.resolvable;
+      row = c.requires.row;
+      m_in_bounds = c.requires.m_in_bounds;
+      id_lt_strings = (c.requires.plain_in.inside _ c.in-Some.is);
     }
 
 pub returns-in-Some : goal.returns-in-Some

@@ -1,6 +1,6 @@
+use Rattle.std.proofs.Common.{sym, ◌∙◌}
 use Rattle.dependency.specs.Noted.{base_absent}
 use Rattle.dependency.specs.Rows.{told_is, told_not}
-use Rattle.std.proofs.Common.{sym, ◌∙◌}
 use Rattle.dependency.proofs.is_filtered_base.Goals as goal
 
 pub returns-then-not-may_contain : goal.returns-then-not-may_contain

@@ -1,35 +1,30 @@
-use Rattle.dependency.specs.Rows.{told_as, told_is}
 use Rattle.std.proofs.Common.{refl, arith}
+use Rattle.dependency.specs.Rows.{told_as, told_is}
 use Rattle.ruby_formats.specs.Sound.{sound_last, sound_before, format_first, plain_inside}
 use Rattle.dependency.specs.Parts.{refers_other, refers_target, noted_few}
 use Rattle.dependency.proofs.refers_among.Goals as goal
 
 pub returns-then-not-asks_target : goal.returns-then-not-asks_target
 returns-then-not-asks_target c =
-    let start = c in
-    told_is _ (refers_other _ _ _ _ refl (sound_last start.args.i start.requires.sound) c.asks_target.ensures c.if-not-asks_target.true)
+    told_is _ (refers_other _ _ _ _ refl (sound_last c.args.i c.requires.sound) c.asks_target.ensures c.if-not-asks_target.true)
 
 pub first_plain-p-requires : goal.first_plain-p-requires
 first_plain-p-requires c =
-    let start = c in record {
-      of_tape = start.requires.sound.strings.sides.store;
-      at_in_bounds = (sound_last start.args.i start.requires.sound).inside;
-      first_range = format_first (sound_last start.args.i start.requires.sound) _ c.asks_target.ensures c.if-not-asks_target.false;
+    record {
+      of_tape = c.requires.sound.strings.sides.store;
+      at_in_bounds = (sound_last c.args.i c.requires.sound).inside;
+      first_range = format_first (sound_last c.args.i c.requires.sound) _ c.asks_target.ensures c.if-not-asks_target.false;
     }
 
 pub is_target_base-requires : goal.is_target_base-requires
 is_target_base-requires c =
-    let start = c in record {
-      sound = sound_before start.requires.sound (omega (arith, c.min.ensures));
-      base_in_bounds = start.requires.base_in_bounds;
-      noted = noted_few _ _ _ _ _ _ _ start.requires.noted _ c.min.ensures;
-      plain_in = plain_inside (sound_last start.args.i start.requires.sound) c.first_plain-p.ensures;
+    record {
+      sound = sound_before c.requires.sound (omega (arith, c.min.ensures));
+      base_in_bounds = c.requires.base_in_bounds;
+      noted = noted_few _ _ _ _ _ _ _ c.requires.noted _ c.min.ensures;
+      plain_in = plain_inside (sound_last c.args.i c.requires.sound) c.first_plain-p.ensures;
     }
 
 pub returns : goal.returns
 returns c =
-    let at-first-plain = c in
-    let at-if1 = at-first-plain in
-    let at-asks-target = at-if1 in
-    let start = at-asks-target in
-    told_as c.is_target_base.ensures (refers_target _ _ _ _ refl (sound_last start.args.i start.requires.sound) at-asks-target.asks_target.ensures at-if1.if-not-asks_target.false at-first-plain.first_plain-p.ensures c.min.ensures refl)
+    told_as c.is_target_base.ensures (refers_target _ _ _ _ refl (sound_last c.args.i c.requires.sound) c.asks_target.ensures c.if-not-asks_target.false c.first_plain-p.ensures c.min.ensures refl)

@@ -10,15 +10,13 @@ index_strings-requires c =
 
 pub refers_in_parts-requires : goal.refers_in_parts-requires
 refers_in_parts-requires c =
-    let at-index-strings = c in
-    let start = c in
-    let base = length start.args.words.now / 4 in record {
-      sound = sound_own start.requires.sound start.args.words.now base (omega arith) at-index-strings.index_strings.new.words
-          at-index-strings.index_strings.auto.words at-index-strings.index_strings.ensures;
+    let base = length c.args.words.now / 4 in record {
+      sound = sound_own c.requires.sound c.args.words.now base (omega arith) c.index_strings.new.words
+          c.index_strings.auto.words c.index_strings.ensures;
       base_in_bounds = omega (
         arith,
-        first_length start.args.words.now base (omega arith)
-            at-index-strings.index_strings.new.words at-index-strings.index_strings.auto.words,
-        start.requires.in_bounds,
+        first_length c.args.words.now base (omega arith)
+            c.index_strings.new.words c.index_strings.auto.words,
+        c.requires.in_bounds,
       );
     }

@@ -1,8 +1,8 @@
+use Rattle.std.proofs.Common.{◌≡◌, ◌+◌, ◌-◌, ◌≤◌, ◌++◌, length}
 use Rattle.dependency.specs.Noted.{first_words}
 use Rattle.dependency.specs.Parts.{refers_among}
 use Rattle.strings.specs.Starts.{store_in}
 use Rattle.wire.specs.Loops.{Missed}
-use Rattle.std.proofs.Common.{◌≡◌, ◌+◌, ◌-◌, ◌≤◌, ◌++◌, length}
 use Rattle.dependency.proofs.refers_in_parts.Given as goal
 
 abbrev pub invariant-loop-i : goal.invariant-loop-i

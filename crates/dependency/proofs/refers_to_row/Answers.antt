@@ -4,30 +4,25 @@ use Rattle.dependency.proofs.refers_to_row.Goals as goal
 
 pub returns-then-not-asks_target : goal.returns-then-not-asks_target
 returns-then-not-asks_target c =
-    let start = c in
-    row_asks_not start.requires.sound_node _ _ _ _ c.asks_target.ensures c.if-not-asks_target.true
+    row_asks_not c.requires.sound_node _ _ _ _ c.asks_target.ensures c.if-not-asks_target.true
 
 pub first_plain-p-requires : goal.first_plain-p-requires
 first_plain-p-requires c =
-    let start = c in
     record {
-      of_tape = start.requires.sound_node.strings.sides.store;
-      at_in_bounds = start.requires.sound_node.inside;
-      first_range = format_first start.requires.sound_node _ c.asks_target.ensures c.if-not-asks_target.false;
+      of_tape = c.requires.sound_node.strings.sides.store;
+      at_in_bounds = c.requires.sound_node.inside;
+      first_range = format_first c.requires.sound_node _ c.asks_target.ensures c.if-not-asks_target.false;
     }
 
 pub is_plain_in_row-requires : goal.is_plain_in_row-requires
 is_plain_in_row-requires c =
-    let start = c in
     record {
-      resolvable = start.requires.sound_node.strings;
-      base_in_bounds = start.requires.base_in_bounds;
-      row = start.requires.row;
-      plain_in = plain_inside start.requires.sound_node c.first_plain-p.ensures;
+      resolvable = c.requires.sound_node.strings;
+      base_in_bounds = c.requires.base_in_bounds;
+      row = c.requires.row;
+      plain_in = plain_inside c.requires.sound_node c.first_plain-p.ensures;
     }
 
 pub returns : goal.returns
 returns c =
-    let at-asks-target = c in
-    let start = at-asks-target in
-    row_target start.requires.sound_node _ _ _ _ at-asks-target.asks_target.ensures c.if-not-asks_target.false c.first_plain-p.ensures c.is_plain_in_row.ensures
+    row_target c.requires.sound_node _ _ _ _ c.asks_target.ensures c.if-not-asks_target.false c.first_plain-p.ensures c.is_plain_in_row.ensures

@@ -33,8 +33,8 @@ loop-i-preserved c =
     let a = c.args in
     let test = refers_to (store_in a.tape.now (a.old.now ++ a.new.now)) (records_at node_codec a.tape.now a.at a.count) (store_in a.reading.now (a.front.now ++ a.back.now)) in (
       elim c.match-refers_to.branch [
-        in-InVain w ↦ run_missed node_codec test a.reading.now a.place c.loop-i.i _ refl _ (vain_told w.in-InVain.ensures) refl c.loop-i.invariant.0
-      | in-No w ↦ run_missed node_codec test a.reading.now a.place c.loop-i.i _ refl _ (no_told w.in-No.ensures) refl c.loop-i.invariant.0
+        | in-InVain w ↦ run_missed node_codec test a.reading.now a.place c.loop-i.i _ refl _ (vain_told w.in-InVain.ensures) refl c.loop-i.invariant.0
+        | in-No w ↦ run_missed node_codec test a.reading.now a.place c.loop-i.i _ refl _ (no_told w.in-No.ensures) refl c.loop-i.invariant.0
       ],
       omega arith,
     )

@@ -1,23 +1,20 @@
+use Rattle.std.proofs.Common.{refl, ◌∙◌}
 use Rattle.dependency.specs.Rows.{told_as, told_is}
-use mathlib.Core.Path.{refl, ◌∙◌}
 use Rattle.strings.specs.Shown.{shown_str}
 use Rattle.dependency.specs.Compared.{target_some, target_none}
 use Rattle.introduces.proofs.is_base_of.Goals as goal
 
 pub resolve_str-s-requires : goal.resolve_str-s-requires
 resolve_str-s-requires c =
-    let start = c in
     record {
-      resolvable = start.requires.resolvable;
-      id_lt_strings = start.requires.plain_in.inside _ c.in-Some.is;
+      resolvable = c.requires.resolvable;
+      id_lt_strings = c.requires.plain_in.inside _ c.in-Some.is;
     }
 
 pub returns-in-Some : goal.returns-in-Some
 returns-in-Some c =
-    let at_p = c in
-    let start = at_p in
-    told_as c.is_filtered_base.ensures (target_some _ _ _ _ at_p.in-Some.is (c.resolve_str-s.ensures ∙ shown_str start.requires.resolvable.sides _
-    (start.requires.plain_in.inside _ at_p.in-Some.is)) refl)
+    told_as c.is_filtered_base.ensures (target_some _ _ _ _ c.in-Some.is (c.resolve_str-s.ensures ∙ shown_str c.requires.resolvable.sides _
+    (c.requires.plain_in.inside _ c.in-Some.is)) refl)
 
 pub returns-in-None : goal.returns-in-None
 returns-in-None c =

@@ -1,6 +1,6 @@
+use Rattle.std.proofs.Common.{refl, ◌∙◌}
 use Rattle.dependency.specs.Words.{last_first, last_inside}
 use Rattle.ruby_formats.specs.Sound.{sound_index}
-use mathlib.Core.Path.{refl, ◌∙◌}
 use Rattle.introduces.proofs.note_bases.Goals as goal
 
 pub note_rubies-requires : goal.note_rubies-requires

@@ -1,11 +1,10 @@
+use Rattle.std.proofs.Common.{refl, ap, ◌∙◌, arith}
 use Rattle.introduces.specs.Books.{refers_by}
 use Rattle.region.specs.Held.{ready_held, ready_in_order}
 use Rattle.region.specs.Ready.{ready_runs, ready_cut, ready_sound, ready_store, ready_nodes}
 use Rattle.ruby_formats.specs.Sound.{sound_before}
 use Rattle.model.specs.Lists.{keep}
 use Rattle.laws.specs.Nodes.{ends_by}
-use mathlib.Core.Path.{refl, ap, ◌∙◌}
-use native.Mathlib.Omega.{arith}
 use Rattle.introduces.proofs.refers_before.Goals as goal
 
 pub nodes_until-n-requires : goal.nodes_until-n-requires

@@ -1,9 +1,8 @@
+use Rattle.std.proofs.Common.{◌∙◌, arith}
 use Rattle.introduces.specs.Words.{kept_none, kept_more}
 use Rattle.dependency.specs.Pieces.{sound_piece}
 use Rattle.introduces.specs.Pieces.{unreferred_none, unreferred_more, unreferred_all, referred_here}
 use Rattle.ruby_formats.specs.Sound.{sound_index}
-use mathlib.Core.Path.{◌∙◌}
-use native.Mathlib.Omega.{arith}
 use Rattle.introduces.proofs.refers_by_index.Goals as goal
 
 pub overflow_sub-size : goal.overflow_sub-size
@@ -12,13 +11,11 @@ overflow_sub-size c =
 
 pub overflow_add-size : goal.overflow_add-size
 overflow_add-size c =
-    let start = c in
-    omega (arith, start.requires.base_bound, start.well_formed)
+    omega (arith, c.requires.base_bound, c.well_formed)
 
 pub loop-i-init : goal.loop-i-init
 loop-i-init c =
-    let start = c in
-    (omega arith, kept_none _ _ _, unreferred_none _ _ _ _ _, omega (arith, start.requires.base_bound))
+    (omega arith, kept_none _ _ _, unreferred_none _ _ _ _ _, omega (arith, c.requires.base_bound))
 
 pub overflow_sub-count : goal.overflow_sub-count
 overflow_sub-count c =
@@ -26,60 +23,44 @@ overflow_sub-count c =
 
 pub overflow_mul-i : goal.overflow_mul-i
 overflow_mul-i c =
-    let start = c in
-    omega (arith, start.requires.sound.inside, c.loop-i-test.true)
+    omega (arith, c.requires.sound.inside, c.loop-i-test.true)
 
 pub overflow_add-at : goal.overflow_add-at
 overflow_add-at c =
-    let start = c in
-    omega (arith, start.requires.sound.inside, c.loop-i-test.true)
+    omega (arith, c.requires.sound.inside, c.loop-i-test.true)
 
 pub refers_to_some-requires : goal.refers_to_some-requires
 refers_to_some-requires c =
-    let turn = c in
-    let start = turn in record {
-      count_bound = (omega (arith, c.min-n.ensures, turn.loop-i.invariant.3), omega (arith, turn.loop-i.invariant.1.size, start.requires.base_bound.1));
-      sound = sound_piece (sound_index turn.loop-i.invariant.1.first start.requires.sound) _ _ (omega
-          (arith, c.min-n.ensures, turn.loop-i.invariant.0));
-      sound_2 = sound_index turn.loop-i.invariant.1.last start.requires.sound_2;
+    record {
+      count_bound = (omega (arith, c.min-n.ensures, c.loop-i.invariant.3), omega (arith, c.loop-i.invariant.1.size, c.requires.base_bound.1));
+      sound = sound_piece (sound_index c.loop-i.invariant.1.first c.requires.sound) _ _ (omega
+          (arith, c.min-n.ensures, c.loop-i.invariant.0));
+      sound_2 = sound_index c.loop-i.invariant.1.last c.requires.sound_2;
     }
 
 pub shape_of-words-then-refers_to_some : goal.shape_of-words-then-refers_to_some
 shape_of-words-then-refers_to_some c =
-    let at-refers-to-some = c in
-    let turn = at-refers-to-some in
-    at-refers-to-some.refers_to_some.ensures.1.size ∙ turn.loop-i.invariant.1.size
+    c.refers_to_some.ensures.1.size ∙ c.loop-i.invariant.1.size
 
 pub returns-then-refers_to_some : goal.returns-then-refers_to_some
 returns-then-refers_to_some c =
-    let at-refers-to-some = c in
-    let at-min = at-refers-to-some in
-    let turn = at-min in
-    referred_here turn.loop-i.invariant.2 _ at-refers-to-some.refers_to_some.ensures.0 c.if-refers_to_some.true _ (omega (arith, at-min.min-n.ensures, turn.loop-i.invariant.0))
+    referred_here c.loop-i.invariant.2 _ c.refers_to_some.ensures.0 c.if-refers_to_some.true _ (omega (arith, c.min-n.ensures, c.loop-i.invariant.0))
 
 pub overflow_add-i : goal.overflow_add-i
 overflow_add-i c =
-    let at-min = c in
-    let turn = at-min in
-    let start = turn in
-    omega (arith, at-min.min-n.ensures, turn.loop-i.invariant.0, start.requires.sound.inside)
+    omega (arith, c.min-n.ensures, c.loop-i.invariant.0, c.requires.sound.inside)
 
 pub loop-i-smaller : goal.loop-i-smaller
 loop-i-smaller c =
-    let at-min = c in
-    let at-loop-test = at-min in
-    omega (arith, at-min.min-n.ensures, at-loop-test.loop-i-test.true)
+    omega (arith, c.min-n.ensures, c.loop-i-test.true)
 
 pub loop-i-preserved : goal.loop-i-preserved
-loop-i-preserved c =
-    let at-refers-to-some = c in
-    let at-min = at-refers-to-some in
-    let turn = at-min in (
-      omega (arith, at-min.min-n.ensures, turn.loop-i.invariant.0),
-      kept_more turn.loop-i.invariant.1 at-refers-to-some.refers_to_some.ensures.1,
-      unreferred_more turn.loop-i.invariant.2 _ at-refers-to-some.refers_to_some.ensures.0 c.if-refers_to_some.false,
-      turn.loop-i.invariant.3,
-    )
+loop-i-preserved c = (
+  omega (arith, c.min-n.ensures, c.loop-i.invariant.0),
+  kept_more c.loop-i.invariant.1 c.refers_to_some.ensures.1,
+  unreferred_more c.loop-i.invariant.2 _ c.refers_to_some.ensures.0 c.if-refers_to_some.false,
+  c.loop-i.invariant.3,
+)
 
 pub shape_of-words : goal.shape_of-words
 shape_of-words c =

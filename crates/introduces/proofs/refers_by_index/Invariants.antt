@@ -1,9 +1,8 @@
+use Rattle.std.proofs.Common.{◌++◌, ◌+◌, ◌≤◌, ◌-◌}
 use Rattle.introduces.specs.Words.{KeptIndexes}
 use Rattle.introduces.specs.Pieces.{Unreferred}
 use Rattle.strings.specs.Starts.{store_in}
 use Rattle.model.specs.Tape.{records_at, node_codec}
-use mathlib.Core.List.{◌++◌}
-use Prim.Native.Nat.{◌+◌, ◌≤◌, ◌-◌}
 use Rattle.introduces.proofs.refers_by_index.Given as goal
 
 abbrev pub invariant-loop-i : goal.invariant-loop-i

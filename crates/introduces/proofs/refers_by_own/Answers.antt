@@ -3,8 +3,8 @@ use Rattle.introduces.proofs.refers_by_own.Goals as goal
 
 pub refers_by_words-requires : goal.refers_by_words-requires
 refers_by_words-requires c =
-    let start = c in record {
-      held = start.requires.held;
-      held_2 = start.requires.held_2;
+    record {
+      held = c.requires.held;
+      held_2 = c.requires.held_2;
       in_bounds = search rules;
     }

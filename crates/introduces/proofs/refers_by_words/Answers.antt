@@ -1,5 +1,5 @@
+use Rattle.std.proofs.Common.{arith}
 use Rattle.region.specs.Held.{held_readable, held_ready}
-use native.Mathlib.Omega.{arith}
 use Rattle.introduces.proofs.refers_by_words.Goals as goal
 
 pub overflow_sub-middle : goal.overflow_sub-middle
@@ -8,20 +8,18 @@ overflow_sub-middle c =
 
 pub index_both-requires : goal.index_both-requires
 index_both-requires c =
-    let start = c in
     record {
-      readable = held_readable start.requires.held (omega arith);
-      readable_2 = held_readable start.requires.held_2 (omega arith);
+      readable = held_readable c.requires.held (omega arith);
+      readable_2 = held_readable c.requires.held_2 (omega arith);
       base_le_middle = (omega arith, omega arith);
     }
 
 pub refers_before-requires : goal.refers_before-requires
 refers_before-requires c =
-    let at-index-both = c in
-    let start = at-index-both in record {
-      base_bound = (omega (arith, start.requires.in_bounds), omega (arith, at-index-both.index_both.auto.words));
-      ready = held_ready start.requires.held at-index-both.index_both.ensures.first;
-      ready_2 = held_ready start.requires.held_2 at-index-both.index_both.ensures.last;
+    record {
+      base_bound = (omega (arith, c.requires.in_bounds), omega (arith, c.index_both.auto.words));
+      ready = held_ready c.requires.held c.index_both.ensures.first;
+      ready_2 = held_ready c.requires.held_2 c.index_both.ensures.last;
     }
 
 pub returns : goal.returns

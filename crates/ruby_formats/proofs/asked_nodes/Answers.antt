@@ -1,6 +1,5 @@
+use Rattle.std.proofs.Common.{◌≡◌, refl, sym, ap, ◌∙◌, arith}
 use Rattle.ruby_formats.specs.Asks.{asks_at, count_to_last, last_here, last_before, last_none}
-use mathlib.Core.Path.{◌≡◌, refl, sym, ap, ◌∙◌}
-use native.Mathlib.Omega.{arith}
 use Rattle.ruby_formats.proofs.asked_nodes.Goals as goal
 
 pub loop-n-init : goal.loop-n-init

@@ -1,6 +1,5 @@
+use Rattle.std.proofs.Common.{◌≡◌, ◌≤◌}
 use Rattle.ruby_formats.specs.Asks.{asks_at, count_to_last}
-use mathlib.Core.Path.{◌≡◌}
-use Prim.Native.Nat.{◌≤◌}
 use Rattle.ruby_formats.proofs.asked_nodes.Given as goal
 
 abbrev pub invariant-loop-n : goal.invariant-loop-n

@@ -1,5 +1,4 @@
-use mathlib.Core.Path.{refl}
-use native.Mathlib.Omega.{arith}
+use Rattle.std.proofs.Common.{refl, arith}
 use Rattle.strings.specs.Shown.{cut_old, cut_new}
 use Rattle.strings.proofs.resolve.Goals as goal
 

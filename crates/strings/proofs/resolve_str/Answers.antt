@@ -1,4 +1,4 @@
-use mathlib.Core.Path.{◌∙◌}
+use Rattle.std.proofs.Common.{◌∙◌}
 use Rattle.strings.specs.Shown.{string_lies, string_shown, span_of_start, sides_readable}
 use Rattle.strings.specs.Starts.{lengths_in}
 use Rattle.strings.proofs.resolve_str.Goals as goal

@@ -1,4 +1,4 @@
-use native.Mathlib.Omega.{arith}
+use Rattle.std.proofs.Common.{arith}
 use Rattle.strings.specs.Starts.{length_inside, length_word}
 use Rattle.strings.proofs.string_length.Goals as goal
 

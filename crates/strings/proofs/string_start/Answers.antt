@@ -1,7 +1,5 @@
+use Rattle.std.proofs.Common.{length, refl, arith}
 use Rattle.strings.specs.Starts.{lengths_in}
-use lib.ListN.{length}
-use mathlib.Core.Path.{refl}
-use native.Mathlib.Omega.{arith}
 use Rattle.strings.specs.Index.{step_some, lookup_between, lookup_inside, lookup_start, span_start}
 use Rattle.strings.proofs.string_start.Goals as goal
 
