@@ -10,8 +10,7 @@ use Rattle.places.specs.Found.{found}
 use Rattle.store.specs.declared.Store.{Store}
 use Rattle.store.specs.Stored.{store_at}
 use Rattle.strings.specs.Starts.{lengths_in, start_in, Readable, strings_count}
-use Rattle.tape.specs.Accepted.{Accepted}
-use Rattle.lookup.specs.Asked.{Asked}
+use Rattle.tape.specs.Accepted.{Accepted, Passed}
 use Rattle.lookup.specs.Strings.{asked_readable, lookup_in, lookup_out}
 use Rattle.std.specs.Fmt.{decimal as printed}
 use Rattle.model.specs.Runs.{decimal}
@@ -33,7 +32,7 @@ text_short d p n h e = let a = part_short d p n in let b = ap length e in omega 
 module _ {t d : List ℕ} {st : Store} (f : Printable t d st) where
   pub printable_readable : Readable t st (length d)
   printable_readable =
-      let a : Asked t d (found t) = record { passed = f.passed; is = refl } in
+      let a : Passed t d (found t) = record { whole = f.passed; is = refl } in
       asked_readable a f.stored (omega (arith, f.short))
 
   pub string_there : (id : ℕ) → id < st.totals.strings → {a b start n : ℕ} → a ≡ word_at t 1 → b ≡ word_at t 5 → start ≡ start_in t id → n ≡ get_or (lengths_in t) id 0
