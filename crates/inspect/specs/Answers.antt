@@ -1,14 +1,13 @@
 -- The returns of the code, and what is known of a book that is not refused.
-use Rattle.std.specs.Prelude.{Some, ◌≡◌, ℕ, ◌+◌, ◌-◌, ◌^◌, ◌≤◌, ◌<◌, false, cond, ◌&&◌, List, ◌++◌, length, drop, leb, ltb, eqb}
+use Rattle.std.specs.Prelude.{Some, ◌≡◌, ℕ, ◌+◌, ◌-◌, ◌≤◌, ◌<◌, false, cond, ◌&&◌, List, ◌++◌, length, take, drop, leb, ltb, eqb}
 use Rattle.std.proofs.Math.Path.{refl}
 use Rattle.std.proofs.Common.{sym, ap, ◌∙◌, arith, append_assoc, length-take}
 use Rattle.std.proofs.Math.Option.{Option, none, some}
+use Rattle.std.proofs.lemmas.List.{length-replicate}
 use borrow.Author.Tests.{leb-true, ltb-false, eqb-true, eqb-false, lt-ltb, le-ltb, le-leb, lt-leb, eq-eqb, ne_eqb}
-use Rattle.std.specs.Fmt.{decimal as printed}
 use Rattle.model.specs.Lists.{ascii}
-use Rattle.model.specs.Runs.{decimal}
 use Rattle.model.specs.Limits.{max_part}
-use Rattle.model.specs.Bytes.{word_at, part}
+use Rattle.model.specs.Bytes.{word_at, part, zeros}
 use Rattle.model.specs.Offset.{Span}
 use Rattle.model.specs.Types.{LexOutput}
 use Rattle.model.specs.Tape.{book_at}
@@ -23,10 +22,9 @@ use Rattle.places.specs.Found.{places_of}
 use Rattle.store.specs.declared.Store.{Store}
 use Rattle.store.specs.Stored.{StoreFits, store_at}
 use Rattle.tape.specs.Accepted.{Accepted, refusal_of, accepted_book, accepted_place, accepted_store}
-use Rattle.lines.specs.Decimal.{printed_decimal}
 use Rattle.lines.specs.Text.{numbered}
 use Rattle.lines.specs.Quoted.{quoted}
-use Rattle.listing.specs.Strings.{Printable}
+use Rattle.listing.specs.Strings.{Printable, text_short}
 use Rattle.inspect.specs.declared.Outcome.{Outcome}
 use Rattle.inspect.specs.Inspect.{tape_in, bytes_in, behind, edit_at, asked_book, asked_edit, asked_behind, asked, mark_of, book_of, passage_line}
 
@@ -284,16 +282,18 @@ pub book_text : (t d : List ℕ) {n : ℕ} → n ≡ word_at t 1 → {x : List �
 unfolding book_at
 book_text t d {n} e q = let z : n - 0 ≡ n = omega arith in q ∙ rw (z, e) refl
 
-regrouped : (a b c d e f g : List ℕ) → ((a ++ (b ++ (c ++ (d ++ e)))) ++ f) ++ g ≡ (a ++ b) ++ ((c ++ d) ++ (e ++ (f ++ g)))
-regrouped a b c d e f g = simp append_assoc
+pub passage_short : (t d : List ℕ) (r : Span) → length d ≤ 65536 → {x : List ℕ} → x ≡ region_text (book_of t d) r → length x ≤ 65536
+unfolding region_text book_at
+passage_short t d r h e =
+    let text = take (word_at t 1) d in
+    let k = text_short text r.start (r.end - r.start) in
+    k (let l = length-take (word_at t 1) d in omega (arith, l, h)) e
 
 -- its parts, one behind the other
-pub passage_whole : (b : LexOutput) (r : Span) → r.start < 2 ^ 64 → r.end < 2 ^ 64 → {text : List ℕ} → text ≡ region_text b r
-    → ((ascii "passage " ++ (printed r.start ++ (ascii " " ++ (printed r.end ++ ascii " ")))) ++ quoted text) ++ ascii "\n" ≡ passage_line b r
-unfolding passage_line numbered
-passage_whole b r f g h =
-    rw (printed_decimal r.start f, printed_decimal r.end g, h)
-    (regrouped (ascii "passage ") (decimal r.start) (ascii " ") (decimal r.end) (ascii " ") (quoted (region_text b r)) (ascii "\n"))
+pub passage_whole : (b : LexOutput) (r : Span) {text a c d e f : List ℕ} → text ≡ region_text b r → a ≡ numbered (ascii "passage ") r.start → c ≡ a ++ numbered (ascii " ") r.end
+    → d ≡ c ++ ascii " " → e ≡ d ++ quoted text → f ≡ e ++ ascii "\n" → f ≡ passage_line b r
+unfolding passage_line
+passage_whole b r h p q u v w = w ∙ rw (v, u, q, p, h, append_assoc, append_assoc, append_assoc) refl
 
 -- what the printing of a line asks
 pub shown_store_lem : {t d : List ℕ} → Shown t d → {p : Places} → Some p ≡ places_of t d → StoreFits t p.layers
@@ -301,3 +301,10 @@ shown_store_lem w {p} e = accepted_store w.passed (accepted_place w.passed e)
 
 pub shown_printable : {t d : List ℕ} → Shown t d → {st : Store} → st ≡ store_at t → Printable t d st
 shown_printable w e = record { passed = w.passed; stored = e; short = w.short }
+
+-- a buffer of zeros is as long as it was made; stated of every length, since no list of that many is to be written out
+pub zeros_length : (n : ℕ) → n ≡ length (zeros n)
+zeros_length n = sym (length-replicate n 0)
+
+pub zeros_room : (n : ℕ) → n ≤ length (zeros n)
+zeros_room n = let e : length (zeros n) ≡ n = length-replicate n 0 in omega (arith, e)

@@ -1,12 +1,14 @@
 -- How much of the input has to be read.
-use Rattle.std.specs.Prelude.{◌≡◌, refl, ℕ, ◌+◌, ◌≤◌, Bool, true, false, cond, ◌&&◌, List, [], ◌∷◌, length, take, leb, ltb, eqb}
+use Rattle.std.specs.Prelude.{◌≡◌, refl, ℕ, ◌+◌, ◌≤◌, ◌<◌, Bool, true, false, cond, not, ◌&&◌, List, [], ◌∷◌, length, take, leb, ltb, eqb}
 use Rattle.std.proofs.Common.{sym, ap, ◌∙◌, arith, length-take-le}
+use Rattle.std.proofs.Math.Option.{Option}
 use Rattle.std.proofs.Math.ListN.{length-take}
 use Rattle.std.proofs.Math.Seq.{take_all}
 use borrow.Author.Tests.{leb-true, leb-false, le-ltb, ne_eqb}
 use Rattle.model.specs.Limits.{max_part}
 use Rattle.model.specs.Bytes.{word_at}
-use Rattle.model.specs.Refusal.{Checked.refused, ◌>>=◌, refuse◌if◌, number_of}
+use Rattle.model.specs.Offset.{Span}
+use Rattle.model.specs.Refusal.{Checked, Checked.refused, ◌>>=◌, refuse◌if◌, number_of}
 use Rattle.laws.specs.Lists.{both}
 use Rattle.wire.specs.Loops.{by_bool}
 use Rattle.lines.specs.Text.{refused_line}

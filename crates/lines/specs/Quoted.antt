@@ -1,15 +1,12 @@
 -- A string in quotes, as a reader of a line sees it.
 use Rattle.std.specs.Prelude.{◌≡◌, ℕ, ◌+◌, ◌/◌, ◌%◌, ◌<◌, Bool, true, false, cond, ◌&&◌, not, length, get_or, take, leb, eqb}
 use Rattle.std.proofs.Math.Path.{refl}
-use Rattle.std.proofs.Common.{arith, sym, ap, ◌∙◌, add-one, take-suc}
-use mathlib.Core.List.{List, [], ◌∷◌, ◌++◌, map, flatten, append_assoc}
+use Rattle.std.proofs.Common.{sym, ap, ◌∙◌, add-one, take-suc}
+use mathlib.Core.List.{List, [], ◌∷◌, ◌++◌, map, flatten, append_assoc, append-nil}
 use borrow.Author.Tests.{ne_eqb}
-use Rattle.std.proofs.lemmas.Bool.Decides.{nat_tests}
-use Rattle.std.proofs.lemmas.Fmt.{hex_byte}
 use Rattle.model.specs.Lists.{ascii}
 use Rattle.laws.specs.Lists.{map_append, flatten_snoc}
-use Rattle.std.specs.Fmt.{digit_glyph, digits, format_spec, padded_integral}
-use Rattle.std.specs.Char.{IsAsciiControl, IsNotAsciiControl}
+use Rattle.io.specs.Digits.{hex_digit_ascii}
 
 -- A byte that stands for itself: not a control character. UTF-8 is left as it is.
 unfoldable pub is_plain : ℕ → Bool
@@ -21,7 +18,7 @@ escaped b =
     cond (eqb b 10) (ascii "\\n")
     (cond (eqb b 34) (ascii "\\\"")
     (cond (eqb b 92) (ascii "\\\\")
-    (cond (is_plain b) (b ∷ []) (ascii "\\x" ++ (digit_glyph false (b / 16) ∷ digit_glyph false (b % 16) ∷ [])))))
+    (cond (is_plain b) (b ∷ []) (ascii "\\x" ++ (hex_digit_ascii (b / 16) ∷ hex_digit_ascii (b % 16) ∷ [])))))
 
 unfoldable pub escapes : List ℕ → List ℕ
 escapes s = flatten (map escaped s)
@@ -29,32 +26,47 @@ escapes s = flatten (map escaped s)
 unfoldable pub quoted : List ℕ → List ℕ
 quoted s = ascii "\"" ++ (escapes s ++ ascii "\"")
 
+-- ---- the returns of the code
+
+module _ (b : ℕ) where
+  pub escaped_newline : b ≡ 10 → ascii "\\n" ≡ escaped b
+  unfolding escaped
+  escaped_newline e = rw e refl
+
+  pub escaped_quote : b ≡ 34 → ascii "\\\"" ≡ escaped b
+  unfolding escaped
+  escaped_quote e = rw e refl
+
+  pub escaped_backslash : b ≡ 92 → ascii "\\\\" ≡ escaped b
+  unfolding escaped
+  escaped_backslash e = rw e refl
+
+  module _ (p : b ≡ 10 → ⊥) (q : b ≡ 34 → ⊥) (r : b ≡ 92 → ⊥) {x : Bool} (e : x ≡ is_plain b) where
+    pub escaped_plain : x ≡ true → b ∷ [] ≡ escaped b
+    unfolding escaped
+    escaped_plain g = rw (ne_eqb b 10 p, ne_eqb b 34 q, ne_eqb b 92 r, ← e, g) refl
+
+    pub escaped_control : x ≡ false → {y : List ℕ} → y ≡ ascii "\\x" ++ (hex_digit_ascii (b / 16) ∷ hex_digit_ascii (b % 16) ∷ []) → y ≡ escaped b
+    unfolding escaped
+    escaped_control g h = h ∙ rw (ne_eqb b 10 p, ne_eqb b 34 q, ne_eqb b 92 r, ← e, g) refl
+
 -- ---- the loop
 
-pub escapes_more : (before s : List ℕ) (i : ℕ) → i < length s → (before ++ escapes (take i s)) ++ escaped (get_or s i 0) ≡ before ++ escapes (take (i + 1) s)
+pub escapes_none : {l : List ℕ} → l ≡ l ++ escapes []
+unfolding escapes flatten
+escapes_none {l} = sym (append-nil l)
+
+pub escapes_more : (before s : List ℕ) (i : ℕ) → i < length s → {l l' : List ℕ} → l ≡ before ++ escapes (take i s) → l' ≡ l ++ escaped (get_or s i 0)
+    → l' ≡ before ++ escapes (take (i + 1) s)
 unfolding escapes
-escapes_more before s i h =
-    append_assoc before (flatten (map escaped (take i s))) (escaped (get_or s i 0))
+escapes_more before s i h e q =
+    q ∙ ap (λ (x : List ℕ). x ++ escaped (get_or s i 0)) e
+    ∙ append_assoc before (flatten (map escaped (take i s))) (escaped (get_or s i 0))
     ∙ ap (λ (x : List ℕ). before ++ x)
     (sym (flatten_snoc (map escaped (take i s)) (escaped (get_or s i 0)))
     ∙ ap flatten (sym (map_append escaped (take i s) (get_or s i 0 ∷ [])) ∙ ap (map escaped) (sym (take-suc s i 0 h) ∙ ap (λ (k : ℕ). take k s) (sym (add-one i)))))
 
--- ---- the returns of `write_escaped`
-
-plain_itself : (b : ℕ) → IsNotAsciiControl b → is_plain b ≡ true
-unfolding is_plain
-plain_itself b h = grind (arith, nat_tests)
-
-control_not_plain : (b : ℕ) → IsAsciiControl b → is_plain b ≡ false
-unfolding is_plain
-control_not_plain b h = grind (arith, nat_tests)
-
-module _ (b : ℕ) (p : b ≡ 10 → ⊥) (q : b ≡ 34 → ⊥) (r : b ≡ 92 → ⊥) where
-  pub escaped_plain : IsNotAsciiControl b → b ∷ [] ≡ escaped b
-  unfolding escaped
-  escaped_plain h = rw (ne_eqb b 10 p, ne_eqb b 34 q, ne_eqb b 92 r, plain_itself b h) refl
-
-  -- `\\x{b:02x}`
-  pub escaped_control : IsAsciiControl b → b < 256 → ascii "\\x" ++ padded_integral (format_spec 32 0 4 2 18446744073709551615) false [] (digits 16 false b) ≡ escaped b
-  unfolding escaped
-  escaped_control h s = rw (hex_byte false b s, ne_eqb b 10 p, ne_eqb b 34 q, ne_eqb b 92 r, control_not_plain b h) refl
+-- a quote, the string, a quote
+pub quoted_whole : (before s : List ℕ) {a b c : List ℕ} → a ≡ before ++ ascii "\"" → b ≡ a ++ escapes s → c ≡ b ++ ascii "\"" → c ≡ before ++ quoted s
+unfolding quoted
+quoted_whole before s p q r = r ∙ rw (q, p, append_assoc, append_assoc) refl

@@ -1,13 +1,11 @@
--- The line of a refusal; a number stands behind its label.
-use Rattle.std.specs.Prelude.{◌≡◌, OnOk, refl, ℕ, ◌^◌, ◌<◌, List, ◌++◌}
-use Rattle.std.proofs.Common.{Result, Ok, Err, append_assoc, subst}
-use Rattle.std.proofs.KnownBytes.{Appends-trans}
-use Rattle.std.specs.declared.option.Option.{Option}
-use Rattle.std.specs.Io.KnownBytes.{Appends}
-use Rattle.std.specs.Fmt.{decimal as printed}
+-- The buffer of a line: what stands before a place, and what is put there.
+use Rattle.std.specs.Prelude.{◌≡◌, ℕ, ◌+◌, ◌≤◌, List, ◌++◌, length, take}
+use Rattle.std.proofs.Common.{ap, ap₂, ◌∙◌, append_assoc}
 use Rattle.model.specs.Lists.{ascii}
 use Rattle.model.specs.Runs.{decimal}
-use Rattle.lines.specs.Decimal.{printed_decimal}
+use Rattle.wire.specs.Overwrite.{overwrite, take_overwrite}
+use Rattle.io.specs.Digits.{last_digits as Digits·digits, IsDigitCount}
+use Rattle.lines.specs.Decimal.{decimal_digits}
 
 -- a label and a number
 unfoldable pub numbered : List ℕ → ℕ → List ℕ
@@ -17,18 +15,15 @@ numbered label n = label ++ decimal n
 unfoldable pub refused_line : ℕ → List ℕ
 refused_line n = numbered (ascii "refused ") n ++ ascii "\n"
 
-pub refused_printed : (n : ℕ) → n < 2 ^ 64 → ascii "refused " ++ (printed n ++ ascii "\n") ≡ refused_line n
-unfolding refused_line numbered
-refused_printed n h = rw (printed_decimal n h, append_assoc) refl
+pub refused_line_lem : (n : ℕ) {a b : List ℕ} → a ≡ numbered (ascii "refused ") n → b ≡ a ++ ascii "\n" → b ≡ refused_line n
+unfolding refused_line
+refused_line_lem n p q = q ∙ ap (λ (x : List ℕ). x ++ ascii "\n") p
 
--- what was added, by another name
-pub added : (a b : Option (List ℕ)) {x y : List ℕ} → x ≡ y → Appends a b x → Appends a b y
-added a b e h = subst (λ (z : List ℕ). Appends a b z) e h
+pub put_text : (d : List ℕ) (at : ℕ) (bs : List ℕ) {l : List ℕ} → at + length bs ≤ length d → l ≡ overwrite d at bs → take (at + length bs) l ≡ take at d ++ bs
+put_text d at bs h e = ap (take (at + length bs)) e ∙ take_overwrite d at bs h
 
-pub adds : {A E : Type 0} (r : Result A E) (a b : Option (List ℕ)) {x y : List ℕ} → x ≡ y → OnOk r (Appends a b x) → OnOk r (Appends a b y)
-adds r a b e h = subst (λ (z : List ℕ). OnOk r (Appends a b z)) e h
-
--- and then more
-pub adds_more : {A E : Type 0} (r : Result A E) (a b c : Option (List ℕ)) (x y : List ℕ) {z : List ℕ} → x ++ y ≡ z → Appends a b x → OnOk r (Appends b c y) → OnOk r (Appends a c z)
-adds_more (Ok v) a b c x y e p h = added a c e (Appends-trans a b c x y p h)
-adds_more (Err v) a b c x y e p h = tt
+-- a label, and the digits behind it
+pub put_number : (before label : List ℕ) (n k : ℕ) {labelled all digits : List ℕ} → labelled ≡ before ++ label → all ≡ labelled ++ digits
+    → digits ≡ Digits·digits 10 k n → IsDigitCount 10 1 n k → all ≡ before ++ numbered label n
+unfolding numbered
+put_number before label n k p q e f = q ∙ ap₂ (λ (u v : List ℕ). u ++ v) p (e ∙ decimal_digits k n f) ∙ append_assoc before label (decimal n)

@@ -1,5 +1,5 @@
 -- The code's items, as the items of Listing.antt.
-use Rattle.std.specs.Prelude.{◌≡◌, ℕ, ◌+◌, ◌*◌, ◌≤◌, ◌<◌, List, [], get_or}
+use Rattle.std.specs.Prelude.{◌≡◌, ℕ, ◌+◌, ◌*◌, ◌≤◌, ◌<◌, cond, List, [], get_or, eqb}
 use Rattle.std.proofs.Math.Path.{refl}
 use Rattle.std.proofs.Common.{◌∙◌}
 use borrow.Author.Tests.{ne_eqb, le-leb, lt-leb}
@@ -8,19 +8,14 @@ use Rattle.records.specs.Uses.{word_use}
 use Rattle.listing.specs.declared.Mark.{Mark}
 use Rattle.listing.specs.Coded.{edit_shows, shows_of}
 use Rattle.listing.specs.declared.Piece.{Piece}
-use Rattle.listing.specs.declared.Value.{Value as Shown}
-use Rattle.listing.specs.declared.Value.TheVariants.{Nothing, Number, Str, Text}
 use Rattle.listing.specs.Table.{labels, word_labels}
 use Rattle.listing.specs.Listing.{Value, Value.no_value, Value.number, Value.string, Value.text, Item, item, part_of, word_item, shown}
 
-abbrev pub value_of : Shown → Value
-value_of Nothing = no_value
-value_of (Number n) = number n
-value_of (Str id) = string id
-value_of (Text from to) = text from to
+unfoldable pub value_of : ℕ → ℕ → ℕ → Value
+value_of kind a b = cond (eqb kind 1) (number a) (cond (eqb kind 2) (string a) (cond (eqb kind 3) (text a b) no_value))
 
 unfoldable pub piece_item : Piece → Item
-piece_item x = item (get_or labels x.label []) (value_of x.value)
+piece_item x = item (get_or labels x.label []) (value_of x.kind x.a x.b)
 
 -- ---- the returns of the code, by what the piece that is made is known to be
 

@@ -1,5 +1,5 @@
 -- A book that passed 1 to 7 and its store: what the code that prints it asks, and the string of an id.
-use Rattle.std.specs.Prelude.{◌≡◌, refl, ℕ, ◌+◌, ◌-◌, ◌^◌, ◌≤◌, ◌<◌, List, ◌++◌, length, get_or, drop}
+use Rattle.std.specs.Prelude.{◌≡◌, refl, ℕ, ◌+◌, ◌-◌, ◌≤◌, ◌<◌, List, [], ◌++◌, length, get_or, drop}
 use Rattle.std.proofs.Common.{sym, ap, ◌∙◌, arith, append_assoc, length-take, length-drop}
 use Rattle.std.proofs.Math.Option.{Option, none, some}
 use Rattle.model.specs.Lists.{ascii}
@@ -12,9 +12,7 @@ use Rattle.store.specs.Stored.{store_at}
 use Rattle.strings.specs.Starts.{lengths_in, start_in, Readable, strings_count}
 use Rattle.tape.specs.Accepted.{Accepted, Passed}
 use Rattle.lookup.specs.Strings.{asked_readable, lookup_in, lookup_out}
-use Rattle.std.specs.Fmt.{decimal as printed}
-use Rattle.model.specs.Runs.{decimal}
-use Rattle.lines.specs.Decimal.{printed_decimal}
+use Rattle.lines.specs.Text.{numbered}
 use Rattle.lines.specs.Quoted.{quoted}
 use Rattle.listing.specs.Listing.{string_bytes}
 
@@ -48,12 +46,13 @@ module _ {t d : List ℕ} {st : Store} (f : Printable t d st) where
   pub string_none : (id : ℕ) → st.totals.strings ≤ id → lookup_str (book_at t (places t) d) id ≡ none
   string_none id h = lookup_out t d f.passed.framing id (omega (arith, h, strings_count printable_readable.store))
 
--- ---- the returns of `write_string`
+-- ---- the returns of `put_string`
 
 pub none_bytes : (id : ℕ) {o : Option (List ℕ)} → o ≡ none → ascii "none" ≡ string_bytes id o
 unfolding string_bytes
 none_bytes id e = rw e refl
 
-pub some_bytes : (id : ℕ) → id < 2 ^ 64 → {o : Option (List ℕ)} {s : List ℕ} → o ≡ some s → (printed id ++ ascii " ") ++ quoted s ≡ string_bytes id o
-unfolding string_bytes
-some_bytes id h {s = s} e = rw (printed_decimal id h, e) (append_assoc (decimal id) (ascii " ") (quoted s))
+pub some_bytes : (before : List ℕ) (id : ℕ) {o : Option (List ℕ)} {s a b c : List ℕ} → o ≡ some s → a ≡ before ++ numbered [] id → b ≡ a ++ ascii " " → c ≡ b ++ quoted s
+    → c ≡ before ++ string_bytes id o
+unfolding string_bytes numbered
+some_bytes before id e p q r = r ∙ rw (q, p, e, append_assoc, append_assoc) refl

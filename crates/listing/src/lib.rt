@@ -1,29 +1,25 @@
 // The lines of a book, as the program `inspect` prints them: a line a record, in tape order. What a line shows is a table of fields
-// (specs/Table.antt); the book has passed 1 to 7. `first_line` and `next_line` go from record to record, `write_line` writes a record's line.
+// (specs/Table.antt); the book has passed 1 to 7. `first_line` and `next_line` go from record to record, `put_line` puts a record's line.
 #![tactic(auto)]
 
 mod tables;
 
-ghost use Rattle.std.specs.Prelude.{◌≡◌, [], ◌++◌, ℕ, ◌+◌, ◌-◌, ◌*◌, ◌≤◌, ◌<◌, length, get_or, OnOk};
-ghost use Rattle.std.specs.Io.KnownBytes.{Appends};
+ghost use Rattle.std.specs.Prelude.{◌≡◌, [], ◌++◌, ℕ, ◌+◌, ◌-◌, ◌*◌, ◌≤◌, ◌<◌, length, take, get_or};
 ghost use Rattle.std.proofs.Math.Option.{some};
 ghost use Rattle.model.specs.Bytes.{byte_at, word_at, part};
 ghost use Rattle.model.specs.Tape.{places as places_in, book_at};
 ghost use Rattle.model.specs.Lookup.{lookup_str};
 ghost use Rattle.records.specs.Uses.{word_use};
 ghost use Rattle.listing.specs.Table.{labels, word_labels};
-ghost use Rattle.listing.specs.Coded.{row_starts, label_starts, coded_field, shows_of, edit_shows};
-ghost use Rattle.listing.specs.Listing.{item, string_bytes, word_item, part_of, shown, row_for, row_of, number_in, field_bytes, line_at, first_line, next_line, item_bytes, value_bytes};
+ghost use Rattle.listing.specs.Coded.{row_starts, label_bytes, label_starts, coded_field, shows_of, edit_shows};
+ghost use Rattle.listing.specs.Listing.{item, string_bytes, Value.no_value, Value.number, Value.string, Value.text, word_item, part_of, shown, row_for, row_of, number_in, field_bytes, line_at, first_line, next_line, item_bytes, value_bytes};
 ghost use Rattle.listing.specs.Pieces.{value_of, piece_item};
 ghost use Rattle.listing.specs.Strings.{Printable};
 ghost use Rattle.listing.specs.Lines.{fields_from};
 ghost use Rattle.listing.specs.Walk.{Counted};
 
-use std::io;
-use std::io::Write;
 use tables::{
-    FIELD_LABELS, FIELD_NUMBERS, FIELD_PLACES, FIELD_SHOWS, LABEL_STARTS, LABELS, ROWS, SIZES,
-    WORD_LABELS,
+    FIELD_LABELS, FIELD_NUMBERS, FIELD_PLACES, FIELD_SHOWS, LABEL_STARTS, ROWS, SIZES, WORD_LABELS,
 };
 
 // The region of an edit, where there is one.
@@ -41,22 +37,83 @@ pub struct Cursor {
     pub seen: [usize; 11],
 }
 
-// ---- what a field shows
-
-// Nothing, a number, the string of an id, or the bytes of the buffer from one place up to another.
-#[derive(Clone, Copy)]
-pub enum Value {
-    Nothing,
-    Number(usize),
-    Str(usize),
-    Text(usize, usize),
+fn wide8(x: u8) -> usize
+    ensures { result ≡ x }
+{
+    x as usize
 }
 
-// A label by its number, and what stands behind it.
+fn wide16(x: u16) -> usize
+    ensures { result ≡ x }
+{
+    x as usize
+}
+
+fn label_number(x: u8) -> u16
+    ensures { result ≡ x }
+{
+    x as u16
+}
+
+fn wide(x: u32) -> usize
+    ensures { result ≡ x }
+{
+    x as usize
+}
+
+// ---- what a field shows
+
+// A label by its number, and behind it: 0 nothing, 1 the number a, 2 the string of id a, 3 the bytes of the buffer from a up to b.
 #[derive(Clone, Copy)]
 pub struct Piece {
     pub label: u16,
-    pub value: Value,
+    pub kind: u8,
+    pub a: usize,
+    pub b: usize,
+}
+
+fn label_only(label: u16) -> Piece
+    ensures { piece_item result ≡ item (get_or labels label []) no_value }
+{
+    Piece {
+        label: label,
+        kind: 0,
+        a: 0,
+        b: 0,
+    }
+}
+
+fn number_piece(label: u16, n: usize) -> Piece
+    ensures { piece_item result ≡ item (get_or labels label []) (number n) }
+{
+    Piece {
+        label: label,
+        kind: 1,
+        a: n,
+        b: 0,
+    }
+}
+
+fn string_piece(label: u16, id: usize) -> Piece
+    ensures { piece_item result ≡ item (get_or labels label []) (string id) }
+{
+    Piece {
+        label: label,
+        kind: 2,
+        a: id,
+        b: 0,
+    }
+}
+
+fn text_piece(label: u16, from: usize, to: usize) -> Piece
+    ensures { piece_item result ≡ item (get_or labels label []) (text from to) }
+{
+    Piece {
+        label: label,
+        kind: 3,
+        a: from,
+        b: to,
+    }
 }
 
 fn word_label(kind: u8, i: usize) -> u16
@@ -66,8 +123,8 @@ fn word_label(kind: u8, i: usize) -> u16
     if 16 <= kind {
         return 0;
     }
-    let n = 6 * usize::from(kind) + i;
-    u16::from(WORD_LABELS[n])
+    let n = 6 * wide8(kind) + i;
+    label_number(WORD_LABELS[n])
 }
 
 // Word i of the body at a place, by its use: an unused word is not shown.
@@ -79,69 +136,47 @@ fn word_piece(tape: &[u8], body: usize, i: usize) -> Piece
     let tag = wire::byte_at(tape, body + 1);
     let used = records::word_use(kind, tag, i);
     if used == 0 {
-        return Piece {
-            label: 0,
-            value: Value::Nothing,
-        };
+        return label_only(0);
     }
     let label = word_label(kind, i);
-    let w = wire::u32_or_zero(tape, body + 10 + 4 * i) as usize;
+    let w = wide(wire::u32_or_zero(tape, body + 10 + 4 * i));
     if used <= 2 {
-        return Piece {
-            label,
-            value: Value::Str(w),
-        };
+        return string_piece(label, w);
     }
-    Piece {
-        label,
-        value: Value::Number(w),
-    }
+    number_piece(label, w)
 }
 
 // A part of the text of `size` bytes: 0 before the region, 1 the region, 2 behind it, 3 all.
 fn part_piece(m: Mark, label: u16, size: usize, k: usize) -> Piece
     ensures { piece_item result ≡ item (get_or labels label []) (part_of m size k) }
 {
-    let start = m.start as usize;
-    let end = m.end as usize;
-    match k {
-        0 => Piece {
-            label,
-            value: Value::Text(0, start),
-        },
-        1 => Piece {
-            label,
-            value: Value::Text(start, end),
-        },
-        2 => Piece {
-            label,
-            value: Value::Text(end, size),
-        },
-        _ => Piece {
-            label,
-            value: Value::Text(0, size),
-        },
+    let start = wide(m.start);
+    let end = wide(m.end);
+    if k == 0 {
+        return text_piece(label, 0, start);
     }
+    if k == 1 {
+        return text_piece(label, start, end);
+    }
+    if k == 2 {
+        return text_piece(label, end, size);
+    }
+    text_piece(label, 0, size)
 }
 
 fn edit_piece(tape: &[u8], m: Mark, label: u16, shows: u8, k: usize) -> Piece
     ensures { (p n : ℕ) → piece_item result ≡ shown tape.now m p n (get_or labels label []) (edit_shows shows k) }
 {
-    match shows {
-        8 => Piece {
-            label,
-            value: Value::Number(m.start as usize),
-        },
-        9 => Piece {
-            label,
-            value: Value::Number(m.end as usize),
-        },
-        10 => part_piece(m, label, wire::u32_or_zero(tape, 1) as usize, k),
-        _ => Piece {
-            label,
-            value: Value::Nothing,
-        },
+    if shows == 8 {
+        return number_piece(label, wide(m.start));
     }
+    if shows == 9 {
+        return number_piece(label, wide(m.end));
+    }
+    if shows == 10 {
+        return part_piece(m, label, wide(wire::u32_or_zero(tape, 1)), k);
+    }
+    label_only(label)
 }
 
 // Of the record at a place, the n-th of its command.
@@ -158,36 +193,28 @@ fn shown_piece(
     requires { (at < length tape.now) × (k < 256) × (shows ≡ 7 → more < 6) }
     ensures { piece_item result ≡ shown tape.now m at n (get_or labels label []) (shows_of shows k more) }
 {
-    let byte = wire::byte_at(tape, at + k);
-    let word = wire::u32_or_zero(tape, at + k) as usize;
-    match shows {
-        1 => Piece {
-            label,
-            value: Value::Number(n),
-        },
-        2 => Piece {
-            label,
-            value: Value::Str(n),
-        },
-        3 => Piece {
-            label,
-            value: Value::Number(usize::from(byte)),
-        },
-        4 => Piece {
-            label,
-            value: Value::Number(word),
-        },
-        5 => Piece {
-            label: u16::from(more) + u16::from(byte),
-            value: Value::Nothing,
-        },
-        6 => Piece {
-            label,
-            value: Value::Str(word),
-        },
-        7 => word_piece(tape, at + k, usize::from(more)),
-        _ => edit_piece(tape, m, label, shows, k),
+    if shows == 1 {
+        return number_piece(label, n);
     }
+    if shows == 2 {
+        return string_piece(label, n);
+    }
+    if shows == 3 {
+        return number_piece(label, wide8(wire::byte_at(tape, at + k)));
+    }
+    if shows == 4 {
+        return number_piece(label, wide(wire::u32_or_zero(tape, at + k)));
+    }
+    if shows == 5 {
+        return label_only(label_number(more) + label_number(wire::byte_at(tape, at + k)));
+    }
+    if shows == 6 {
+        return string_piece(label, wide(wire::u32_or_zero(tape, at + k)));
+    }
+    if shows == 7 {
+        return word_piece(tape, at + k, wide8(more));
+    }
+    edit_piece(tape, m, label, shows, k)
 }
 
 fn field_piece(tape: &[u8], m: Mark, at: usize, n: usize, f: usize) -> Piece
@@ -199,9 +226,9 @@ fn field_piece(tape: &[u8], m: Mark, at: usize, n: usize, f: usize) -> Piece
         m,
         at,
         n,
-        u16::from(FIELD_LABELS[f]),
+        label_number(FIELD_LABELS[f]),
         FIELD_SHOWS[f],
-        usize::from(FIELD_PLACES[f]),
+        wide8(FIELD_PLACES[f]),
         FIELD_NUMBERS[f],
     )
 }
@@ -246,7 +273,7 @@ fn row_start(row: usize) -> usize
     requires { row < 15 }
     ensures { result ≡ get_or row_starts row 0 }
 {
-    usize::from(ROWS[row])
+    wide8(ROWS[row])
 }
 
 // ---- an item put behind a line's other items
@@ -257,15 +284,18 @@ fn label_start(i: usize) -> usize
     if 77 <= i {
         return 612;
     }
-    usize::from(LABEL_STARTS[i])
+    wide16(LABEL_STARTS[i])
 }
 
-fn write_label<W: Write>(writer: &mut W, i: u16) -> io::Result<()>
-    ensures { OnOk result (Appends (W.contents writer.old) (W.contents writer.new) (get_or labels i [])) }
+// The label of a number; `text` holds all of them.
+fn put_label(out: &mut [u8], at: usize, text: &[u8], i: u16) -> usize
+    requires at_in_bounds { at + 24 ≤ length out.old }
+    requires text_value { text.now ≡ label_bytes }
+    ensures { (result ≤ at + 24) × (take result out.new ≡ take at out.old ++ get_or labels i []) }
 {
-    let from = label_start(usize::from(i));
-    let to = label_start(usize::from(i) + 1);
-    writer.write_all(wire::between(&LABELS, from, to))
+    let from = label_start(wide16(i));
+    let to = label_start(wide16(i) + 1);
+    lines::put_text(out, at, wire::between(text, from, to))
 }
 
 // The string of an id: behind both texts and the strings before it.
@@ -274,66 +304,81 @@ fn string_bytes<'a>(tape: &[u8], bytes: &'a [u8], st: store::Store, id: u32) -> 
     requires id_lt_strings { id < st.totals.strings }
     ensures { (length result.now ≤ 65536) × (lookup_str (book_at tape.now (places_in tape.now) bytes.now) id ≡ some result.now) }
 {
-    let from = wire::u32_or_zero(tape, 1) as usize + wire::u32_or_zero(tape, 5) as usize;
+    let from = wide(wire::u32_or_zero(tape, 1)) + wide(wire::u32_or_zero(tape, 5));
     let start = from + strings::start_from(tape, st, bytes.len(), 0, id, 0);
     let len = strings::string_length(tape, st, id);
     wire::between(bytes, start, start + len)
 }
 
 // An id with its string; `none` for an id that shows none, as a missing one.
-fn write_string<W: Write>(
-    writer: &mut W,
+fn put_string(
+    out: &mut [u8],
+    at: usize,
     tape: &[u8],
     bytes: &[u8],
     st: store::Store,
     id: usize,
-) -> io::Result<()>
-    requires { Printable tape.now bytes.now st }
-    ensures { OnOk result (Appends (W.contents writer.old) (W.contents writer.new) (string_bytes id (lookup_str (book_at tape.now (places_in tape.now) bytes.now) id))) }
+) -> usize
+    requires at_in_bounds { at + 262167 ≤ length out.old }
+    requires printable { Printable tape.now bytes.now st }
+    ensures { (result ≤ at + 262167) × (take result out.new ≡ take at out.old ++ string_bytes id (lookup_str (book_at tape.now (places_in tape.now) bytes.now) id)) }
 {
-    let strings = st.totals.strings as usize;
-    if strings <= id {
-        return writer.write_all(b"none");
+    if wide(st.totals.strings) <= id {
+        return lines::put_text(out, at, b"none");
     }
-    write!(writer, "{id} ")?;
-    lines::write_quoted(writer, string_bytes(tape, bytes, st, id as u32))
+    let behind = lines::put_number(out, at, b"", id as u64);
+    let quote = lines::put_text(out, behind, b" ");
+    lines::put_quoted(out, quote, string_bytes(tape, bytes, st, id as u32))
 }
 
-fn write_value<W: Write>(
-    writer: &mut W,
-    tape: &[u8],
-    bytes: &[u8],
-    st: store::Store,
-    value: Value,
-) -> io::Result<()>
-    requires { Printable tape.now bytes.now st }
-    ensures { OnOk result (Appends (W.contents writer.old) (W.contents writer.new) (value_bytes (book_at tape.now (places_in tape.now) bytes.now) bytes.now (value_of value))) }
-{
-    match value {
-        Value::Nothing => Ok(()),
-        Value::Number(n) => write!(writer, "{n}"),
-        Value::Str(id) => write_string(writer, tape, bytes, st, id),
-        Value::Text(from, to) => lines::write_quoted(writer, wire::between(bytes, from, to)),
-    }
-}
-
-fn write_piece<W: Write>(
-    writer: &mut W,
+// What a piece shows behind its label; at most 65536 bytes are quoted.
+fn put_value(
+    out: &mut [u8],
+    at: usize,
     tape: &[u8],
     bytes: &[u8],
     st: store::Store,
     x: Piece,
-) -> io::Result<()>
-    requires { Printable tape.now bytes.now st }
-    ensures { OnOk result (Appends (W.contents writer.old) (W.contents writer.new) (item_bytes (book_at tape.now (places_in tape.now) bytes.now) bytes.now (piece_item x))) }
+) -> usize
+    requires at_in_bounds { at + 262167 ≤ length out.old }
+    requires printable { Printable tape.now bytes.now st }
+    ensures { (result ≤ at + 262167) × (take result out.new ≡ take at out.old ++ value_bytes (book_at tape.now (places_in tape.now) bytes.now) bytes.now (value_of x.kind x.a x.b)) }
 {
-    write_label(writer, x.label)?;
-    write_value(writer, tape, bytes, st, x.value)
+    if x.kind == 1 {
+        return lines::put_number(out, at, b"", x.a as u64);
+    }
+    if x.kind == 2 {
+        return put_string(out, at, tape, bytes, st, x.a);
+    }
+    if x.kind == 3 {
+        return lines::put_quoted(out, at, wire::between(bytes, x.a, x.b));
+    }
+    at
+}
+
+fn put_piece(
+    out: &mut [u8],
+    at: usize,
+    text: &[u8],
+    tape: &[u8],
+    bytes: &[u8],
+    st: store::Store,
+    x: Piece,
+) -> usize
+    requires at_in_bounds { at + 262191 ≤ length out.old }
+    requires text_value { text.now ≡ label_bytes }
+    requires printable { Printable tape.now bytes.now st }
+    ensures { (result ≤ at + 262191) × (take result out.new ≡ take at out.old ++ item_bytes (book_at tape.now (places_in tape.now) bytes.now) bytes.now (piece_item x)) }
+{
+    let behind = put_label(out, at, text, x.label);
+    put_value(out, behind, tape, bytes, st, x)
 }
 
 // Field f of the tables, of the record at p, the n-th of its command.
-fn write_field<W: Write>(
-    writer: &mut W,
+fn put_field(
+    out: &mut [u8],
+    at: usize,
+    text: &[u8],
     tape: &[u8],
     bytes: &[u8],
     st: store::Store,
@@ -341,12 +386,21 @@ fn write_field<W: Write>(
     p: usize,
     n: usize,
     f: usize,
-) -> io::Result<()>
-    requires in_bounds { (p < length tape.now) × (f < 70) }
+) -> usize
+    requires at_in_bounds { (at + 262191 ≤ length out.old) × (p < length tape.now) × (f < 70) }
+    requires text_value { text.now ≡ label_bytes }
     requires printable { Printable tape.now bytes.now st }
-    ensures { OnOk result (Appends (W.contents writer.old) (W.contents writer.new) (field_bytes tape.now bytes.now m p n (coded_field f))) }
+    ensures { (result ≤ at + 262191) × (take result out.new ≡ take at out.old ++ field_bytes tape.now bytes.now m p n (coded_field f)) }
 {
-    write_piece(writer, tape, bytes, st, field_piece(tape, m, p, n, f))
+    put_piece(
+        out,
+        at,
+        text,
+        tape,
+        bytes,
+        st,
+        field_piece(tape, m, p, n, f),
+    )
 }
 
 // ---- a line
@@ -359,11 +413,12 @@ fn number_in(tape: &[u8], c: Cursor) -> usize
         return 0;
     }
     let seen = c.seen;
-    seen[usize::from(command)]
+    seen[wide8(command)]
 }
 
-fn write_fields<W: Write>(
-    writer: &mut W,
+fn put_fields(
+    out: &mut [u8],
+    text: &[u8],
     tape: &[u8],
     bytes: &[u8],
     st: store::Store,
@@ -372,39 +427,52 @@ fn write_fields<W: Write>(
     n: usize,
     from: usize,
     to: usize,
-) -> io::Result<()>
-    requires in_bounds { (p < length tape.now) × (from ≤ to) × (to ≤ 70) }
+) -> usize
+    requires in_bounds { (3932866 ≤ length out.old) × (p < length tape.now) × (from ≤ to) × (to ≤ 70) × (to ≤ from + 15) }
+    requires text_value { text.now ≡ label_bytes }
     requires printable { Printable tape.now bytes.now st }
-    ensures { OnOk result (Appends (W.contents writer.old) (W.contents writer.new) (fields_from tape.now bytes.now m p n from (to - from))) }
+    ensures { (result ≤ 3932865) × (take result out.new ≡ fields_from tape.now bytes.now m p n from (to - from)) }
 {
-    for f in from..to {
-        write_field(writer, tape, bytes, st, m, p, n, f)?;
+    let mut at = 0;
+    let mut f = from;
+    while f < to {
+        at = put_field(out, at, text, tape, bytes, st, m, p, n, f);
+        f += 1;
     }
-    Ok(())
+    at
 }
 
-// The line of the record at a cursor.
-pub fn write_line<W: Write>(
-    writer: &mut W,
+// The line of the record at a cursor, in the first bytes of the buffer: 15 fields of at most 262191 bytes each, and a newline. `text` holds
+// all labels.
+pub fn put_line(
+    out: &mut [u8],
+    text: &[u8],
     tape: &[u8],
     bytes: &[u8],
     st: store::Store,
     m: Mark,
     c: Cursor,
-) -> io::Result<()>
-    requires in_bounds { c.at < length tape.now }
+) -> usize
+    requires in_bounds { (3932866 ≤ length out.old) × (c.at < length tape.now) }
+    requires text_value { text.now ≡ label_bytes }
     requires printable { Printable tape.now bytes.now st }
-    ensures { OnOk result (Appends (W.contents writer.old) (W.contents writer.new) (line_at tape.now bytes.now m c)) }
+    ensures { (result ≤ length out.new) × (take result out.new ≡ line_at tape.now bytes.now m c) }
 {
     let row = row_of(tape, m.edit, c.at);
     let n = number_in(tape, c);
     let from = row_start(row);
     let to = row_start(row + 1);
-    write_fields(writer, tape, bytes, st, m, c.at, n, from, to)?;
-    writer.write_all(b"\n")
+    let end = put_fields(out, text, tape, bytes, st, m, c.at, n, from, to);
+    lines::put_text(out, end, b"\n")
 }
 
 // ---- from record to record
+
+pub fn labels() -> [u8; 612]
+    ensures { result ≡ label_bytes }
+{
+    *b" Text Gaiji Directive Node Inline BlockLeaf BlockOpen BlockClose Bracket Ruby AngleQuote Tortoise Quote UnresolvedGaiji NonCanonicalDirective UnclosedBracket UnmatchedClose Other text Ruby Format Gaiji Line PageBreak SectionBreak BodyEnd ForcedBreak Heading HeadingHint Illustration Kaeriten Directive AngleQuote MarginNotetext  normalized  layer string content  plain segment  level  tag node .. at pair container  open  close diagnostic  code end region  |  segments  inline  string  base  reading  target  payload  hint  mencode  text  file  number  dimensions  description  caption  mark  raw  content  note "
+}
 
 pub fn first_line() -> Cursor
     ensures { result ≡ first_line }
@@ -427,10 +495,10 @@ pub fn next_line(tape: &[u8], c: Cursor) -> Cursor
         };
     }
     let n = number_in(tape, c);
-    let k = usize::from(command);
+    let k = wide8(command);
     seen[k] = n + 1;
     Cursor {
-        at: c.at + usize::from(SIZES[k]),
+        at: c.at + wide8(SIZES[k]),
         seen: seen,
     }
 }

@@ -1,6 +1,6 @@
 // The rows of specs/Table.antt as numbers; specs/Coded.antt has the same numbers and proves that they hold the rows. Where each row's fields begin;
 // of each field its label, what it shows, a place and a second number; the labels of a body's six words, kind after kind; where each label begins
-// in `LABELS`; the size of each command's record.
+// in `labels`; the size of each command's record.
 pub const ROWS: [u8; 15] = [0, 0, 3, 4, 5, 7, 20, 35, 41, 45, 51, 52, 59, 62, 70];
 
 pub const FIELD_LABELS: [u8; 70] = [
@@ -33,9 +33,6 @@ pub const WORD_LABELS: [u8; 96] = [
     0, 62, 0, 0, 0, 0, 0, 67, 68, 69, 70, 71, 37, 72, 0, 0, 0, 0, 0, 73, 0, 0, 0, 0, 0, 74, 37, 0,
     0, 0, 0, 60, 37, 75, 37, 0, 0,
 ];
-
-pub const LABELS: [u8; 612] =
-    *b" Text Gaiji Directive Node Inline BlockLeaf BlockOpen BlockClose Bracket Ruby AngleQuote Tortoise Quote UnresolvedGaiji NonCanonicalDirective UnclosedBracket UnmatchedClose Other text Ruby Format Gaiji Line PageBreak SectionBreak BodyEnd ForcedBreak Heading HeadingHint Illustration Kaeriten Directive AngleQuote MarginNotetext  normalized  layer string content  plain segment  level  tag node .. at pair container  open  close diagnostic  code end region  |  segments  inline  string  base  reading  target  payload  hint  mencode  text  file  number  dimensions  description  caption  mark  raw  content  note ";
 
 pub const LABEL_STARTS: [u16; 77] = [
     0, 0, 5, 11, 21, 26, 33, 43, 53, 64, 72, 77, 88, 97, 103, 119, 141, 157, 172, 178, 183, 188,

@@ -9,7 +9,7 @@ ghost use Rattle.output.specs.Answer.{output_of};
 ghost use Rattle.runs.specs.Input.{Whole};
 
 use std::io;
-use std::io::{BufWriter, Read, Write};
+use std::io::{Read, Write};
 
 // The merge that an input of the right length asks for.
 fn merge_parts(
@@ -57,20 +57,35 @@ fn answer(
     merge_parts(input, outtape, outbytes, work)
 }
 
-// The answer to a stream: `n` of its bytes stand in the buffer, all of them or as many as it holds. That is enough (`program_cut` in crate
+// The line of an input, in the first bytes of the buffer.
+fn run(
+    input: &[u8],
+    outtape: &mut [u8],
+    outbytes: &mut [u8],
+    work: &mut [u32],
+    out: &mut [u8],
+) -> usize
+    requires { (length outtape.old ≡ 65536) × (length outbytes.old ≡ 65536) × (length work.old ≡ 16384) × (160 ≤ length out.old) }
+    ensures { (result ≤ length out.new) × (take result out.new ≡ line (program input.now)) }
+{
+    runs::put_line(out, answer(input, outtape, outbytes, work))
+}
+
+// The line of a stream: `n` of its bytes stand in the buffer, all of them or as many as it holds. That is enough (`program_cut` in crate
 // `runs`), for a buffer of this size: 28, five parts of 65536, and one that shows a surplus.
-fn answer_read(
+fn run_read(
     input: &[u8],
     n: usize,
     outtape: &mut [u8],
     outbytes: &mut [u8],
     work: &mut [u32],
-) -> output::IncrementalOutput
+    out: &mut [u8],
+) -> usize
     requires input_len { (length input.now ≡ 327709) × (n ≤ length input.now) }
-    requires outtape_len { (length outtape.old ≡ 65536) × (length outbytes.old ≡ 65536) × (length work.old ≡ 16384) }
-    ensures { (s : List ℕ) → take (length input.now) s ≡ take n input.now → result ≡ output_of (program s) }
+    requires outtape_len { (length outtape.old ≡ 65536) × (length outbytes.old ≡ 65536) × (length work.old ≡ 16384) × (160 ≤ length out.old) }
+    ensures { (result ≤ length out.new) × ((s : List ℕ) → take (length input.now) s ≡ take n input.now → take result out.new ≡ line (program s)) }
 {
-    answer(&input[..n], outtape, outbytes, work)
+    run(&input[..n], outtape, outbytes, work, out)
 }
 
 // The program: the line of the stream that the reader gives goes to the writer.
@@ -81,13 +96,12 @@ fn answer_stream<R: Read, W: Write>(reader: &mut R, writer: &mut W) -> io::Resul
     let mut outtape = [0u8; 65536];
     let mut outbytes = [0u8; 65536];
     let mut work = [0u32; 16384];
+    let mut out = [0u8; 160];
     let n = stream::read_full(reader, &mut input)?;
-    let answered = answer_read(&input, n, &mut outtape, &mut outbytes, &mut work);
-    runs::write_line(writer, answered)
+    let k = run_read(&input, n, &mut outtape, &mut outbytes, &mut work, &mut out);
+    writer.write_all(&out[..k])
 }
 
 fn main(rt: HostRuntime) -> io::Result<()> {
-    let mut out = BufWriter::new(rt.alloc(), rt.stdout())?;
-    answer_stream(&mut rt.stdin(), &mut out)?;
-    out.flush()
+    answer_stream(&mut rt.stdin(), &mut rt.stdout())
 }

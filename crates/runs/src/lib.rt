@@ -1,13 +1,10 @@
 // The input and the line of document 01's 'Runs': seven words and five parts, and the line of P5 or the number of the refusal.
 #![tactic(auto)]
 
-ghost use Rattle.std.specs.Prelude.{◌≡◌, [], ◌∷◌, OnOk};
-ghost use Rattle.std.specs.Io.KnownBytes.{Appends};
+ghost use Rattle.std.specs.Prelude.{◌≡◌, [], ◌∷◌, ◌+◌, ◌≤◌, length, take};
+ghost use Rattle.model.specs.Runs.{line};
 ghost use Rattle.runs.specs.Input.{parts_fit, input_number};
 ghost use Rattle.runs.specs.Line.{accepted_line, line_of};
-
-use std::io;
-use std::io::Write;
 
 // seven words
 pub const HEAD: usize = 28;
@@ -18,12 +15,19 @@ const MAX_PART: u32 = 65536;
 fn parts_fit(oldtape: u32, oldbytes: u32, replacement: u32, newtape: u32, newbytes: u32) -> bool
     ensures { result ≡ parts_fit (oldtape ∷ oldbytes ∷ replacement ∷ newtape ∷ newbytes ∷ []) }
 {
-    let longest = oldtape
-        .max(oldbytes)
-        .max(replacement)
-        .max(newtape)
-        .max(newbytes);
-    longest <= MAX_PART
+    if MAX_PART < oldtape {
+        return false;
+    }
+    if MAX_PART < oldbytes {
+        return false;
+    }
+    if MAX_PART < replacement {
+        return false;
+    }
+    if MAX_PART < newtape {
+        return false;
+    }
+    newbytes <= MAX_PART
 }
 
 // Numbers 1 and 3 of the input, which precede all else; 0 for neither.
@@ -54,22 +58,26 @@ pub fn input_refusal(input: &[u8]) -> u32
 }
 
 // P5's line: region start, end; kept, reread nodes; intern calls, slots probed.
-fn write_accepted<W: Write>(writer: &mut W, a: output::IncrementalOutput) -> io::Result<()>
-    ensures { OnOk result (Appends (W.contents writer.old) (W.contents writer.new) (accepted_line a)) }
+fn put_accepted(out: &mut [u8], a: output::IncrementalOutput) -> usize
+    requires { 160 ≤ length out.old }
+    ensures { (result ≤ length out.new) × (take result out.new ≡ accepted_line a) }
 {
-    write!(writer, "region {} {} reused {}", a.start, a.end, a.reused)?;
-    writeln!(
-        writer,
-        " reread {} calls {} probes {}",
-        a.reread, a.stats.calls, a.stats.probesteps,
-    )
+    let c = a.stats;
+    let start = lines::put_number(out, 0, b"region ", a.start as u64);
+    let end = lines::put_number(out, start, b" ", a.end as u64);
+    let reused = lines::put_number(out, end, b" reused ", a.reused as u64);
+    let reread = lines::put_number(out, reused, b" reread ", a.reread as u64);
+    let calls = lines::put_number(out, reread, b" calls ", c.calls);
+    let probes = lines::put_number(out, calls, b" probes ", c.probesteps);
+    lines::put_text(out, probes, b"\n")
 }
 
-pub fn write_line<W: Write>(writer: &mut W, a: output::IncrementalOutput) -> io::Result<()>
-    ensures { OnOk result (Appends (W.contents writer.old) (W.contents writer.new) (line_of a)) }
+pub fn put_line(out: &mut [u8], a: output::IncrementalOutput) -> usize
+    requires { 160 ≤ length out.old }
+    ensures { (result ≤ length out.new) × (take result out.new ≡ line_of a) }
 {
     if a.number != 0 {
-        return lines::write_refused(writer, a.number);
+        return lines::put_refused(out, a.number);
     }
-    write_accepted(writer, a)
+    put_accepted(out, a)
 }

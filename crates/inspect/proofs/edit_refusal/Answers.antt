@@ -12,8 +12,8 @@ returns-then-replacement-gt-MAX_PART c =
 
 pub returns-then-input-at-2 : goal.returns-then-input-at-2
 returns-then-input-at-2 c =
-    edit_size _ _ c.if-input-at.false c.u32_at-replacement.ensures c.if-replacement-gt-MAX_PART.false (λ e. c.if-input-at-2.true (omega (arith, e)))
+    edit_size _ _ c.if-input-at.false c.u32_at-replacement.ensures c.if-replacement-gt-MAX_PART.false (λ e. c.if-input-at-2.true (omega (arith, e, c.wide.ensures)))
 
 pub returns : goal.returns
 returns c =
-    edit_none _ _ c.if-input-at.false c.u32_at-replacement.ensures c.if-replacement-gt-MAX_PART.false (omega (arith, c.if-input-at-2.false))
+    edit_none _ _ c.if-input-at.false c.u32_at-replacement.ensures c.if-replacement-gt-MAX_PART.false (omega (arith, c.if-input-at-2.false, c.wide.ensures))

@@ -9,8 +9,8 @@ use Rattle.listing.proofs.field_piece.Goals as goal
 
 pub shown_piece-requires : goal.shown_piece-requires
 shown_piece-requires c =
-    (c.requires.0, omega (arith, place_small c.args.f, c.from-2.ensures), word_number _ c.requires.1)
+    (c.requires.0, omega (arith, place_small c.args.f, c.wide8.ensures), word_number _ c.requires.1)
 
 pub returns : goal.returns
 returns c =
-    field_read c.args.f c.from.ensures refl c.from-2.ensures refl (λ (l : List ℕ) (s : Shows). shown c.args.tape.now c.args.m c.args.at c.args.n l s) c.shown_piece.ensures
+    field_read c.args.f c.label_number.ensures refl c.wide8.ensures refl (λ (l : List ℕ) (s : Shows). shown c.args.tape.now c.args.m c.args.at c.args.n l s) c.shown_piece.ensures

@@ -8,4 +8,4 @@ returns-then-i-ge77 c =
 
 pub returns : goal.returns
 returns c =
-    start_read c.args.i (omega (arith, c.if-i-ge77.false)) c.from.ensures
+    start_read c.args.i (omega (arith, c.if-i-ge77.false)) c.wide16.ensures

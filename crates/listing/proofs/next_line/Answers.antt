@@ -15,9 +15,9 @@ overflow_add-seen c =
 pub overflow_add-result-2 : goal.overflow_add-result-2
 unfolding sizes
 overflow_add-result-2 c =
-    omega (arith, size_small c.from-k.result, c.from.ensures, c.requires.at_in_bounds)
+    omega (arith, size_small c.wide8-k.result, c.wide8.ensures, c.requires.at_in_bounds)
 
 pub returns : goal.returns
 unfolding sizes
 returns c =
-    next_read _ _ c.byte_at-command.ensures c.if-command-gt10.false c.from-k.ensures c.number_in-n.ensures c.from.ensures
+    next_read _ _ c.byte_at-command.ensures c.if-command-gt10.false c.wide8-k.ensures c.number_in-n.ensures c.wide8.ensures

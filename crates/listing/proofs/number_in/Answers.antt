@@ -8,4 +8,4 @@ returns-then-command-gt10 c =
 
 pub returns : goal.returns
 returns c =
-    number_read _ _ c.byte_at-command.ensures c.if-command-gt10.false c.from.ensures refl
+    number_read _ _ c.byte_at-command.ensures c.if-command-gt10.false c.wide8.ensures refl

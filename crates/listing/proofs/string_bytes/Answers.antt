@@ -1,7 +1,7 @@
 use Rattle.strings.specs.Starts.{start_most}
 use Rattle.lookup.specs.Strings.{str_inside}
 use Rattle.listing.specs.Strings.{printable_readable, string_there}
-use mathlib.Core.Path.{refl}
+use mathlib.Core.Path.{refl, ◌∙◌}
 use native.Mathlib.Omega.{arith}
 use Rattle.listing.proofs.string_bytes.Goals as goal
 
@@ -30,4 +30,4 @@ overflow_add-start-2 c =
 
 pub returns : goal.returns
 returns c =
-    string_there c.requires.printable _ c.requires.id_lt_strings c.u32_or_zero.ensures c.u32_or_zero-2.ensures c.start_from.ensures c.string_length-len.ensures c.between.ensures
+    string_there c.requires.printable _ c.requires.id_lt_strings (c.wide.ensures ∙ c.u32_or_zero.ensures) (c.wide-2.ensures ∙ c.u32_or_zero-2.ensures) c.start_from.ensures c.string_length-len.ensures c.between.ensures

@@ -8,4 +8,4 @@ returns-then-kind-ge16 c =
 
 pub returns : goal.returns
 returns c =
-    rw (c.from-2.ensures, c.from.ensures) (word_coded _ _ (omega (arith, c.if-kind-ge16.false)) c.requires)
+    rw (c.label_number.ensures, c.wide8.ensures) (word_coded _ _ (omega (arith, c.if-kind-ge16.false)) c.requires)

@@ -1,0 +1,11 @@
+use borrow.Author.Tests.{lt-ltb, le-ltb}
+use mathlib.Core.Path.{refl}
+use Rattle.lines.proofs.hex_digit.Goals as goal
+
+pub returns-then-d-lt10 : goal.returns-then-d-lt10
+returns-then-d-lt10 c =
+    rw (lt-ltb _ 10 c.if-d-lt10.true) refl
+
+pub returns : goal.returns
+returns c =
+    rw (le-ltb _ 10 c.if-d-lt10.false) refl
