@@ -162,7 +162,7 @@ fn profile(c: &Case, seconds: u32) -> Profile {
 const DOES: [(&str, &str); 7] = [
     ("utf8::is_utf8", "number 2: UTF-8 of both texts and of every string of the old book and of the reading"),
     ("incremental::merge", "the merge with all that is inlined into it: the result is written (texts, strings, layers, nodes and the other lists copied, offsets moved), numbers 12 to 16 tested"),
-    ("tape::book_refusal", "numbers 3 to 7 of each record: limits, ids and ranges, levels, places, drift"),
+    ("tape::check_laid_out", "numbers 3 to 7 of each record: limits, ids and ranges, levels, places, drift"),
     ("places::places_of", "number 1: where each list begins"),
     ("layout::layout", "number 1: the shape of each record"),
     ("region::chosen_region", "the edit and the region, numbers 8 to 11"),
