@@ -3,8 +3,8 @@ use Rattle.sizes.specs.Capped.{kept_none}
 use Rattle.sizes.specs.InPlace.{inner_adds, contents_add}
 use Rattle.graft.proofs.inner_contents.Goals as goal
 
-pub contents_sizes-requires : goal.contents_sizes-requires
-contents_sizes-requires c =
+pub contents_sizes-inner-requires : goal.contents_sizes-inner-requires
+contents_sizes-inner-requires c =
     record {
       of_tape = c.requires.of_tape;
       kept = kept_none wide_room;

@@ -3,8 +3,8 @@ use Rattle.sizes.specs.Capped.{kept_none}
 use Rattle.sizes.specs.InPlace.{inner_adds, segments_add}
 use Rattle.graft.proofs.inner_segments.Goals as goal
 
-pub segments_sizes-requires : goal.segments_sizes-requires
-segments_sizes-requires c =
+pub segments_sizes-inner-requires : goal.segments_sizes-inner-requires
+segments_sizes-inner-requires c =
     record {
       of_tape = c.requires.of_tape;
       kept = kept_none wide_room;
