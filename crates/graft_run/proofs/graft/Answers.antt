@@ -1,10 +1,10 @@
-use Rattle.std.proofs.Common.{sym, ◌∙◌}
+use Rattle.std.proofs.Common.{refl, sym, ◌∙◌}
 use Rattle.tape.specs.Accepted.{accepted_found, accepted_place, accepted_store}
 use Rattle.graft_run.specs.Inside.{source_fits, records_inside}
 use Rattle.graft_run.proofs.graft.Goals as goal
 
 pub unwrap-p-requires : goal.unwrap-p-requires
-unwrap-p-requires g c = rw (c.places_of.ensures, accepted_found c.requires.accepted) tt
+unwrap-p-requires g c = rw (c.places_of.ensures, accepted_found c.requires.accepted) refl
 
 pub store_of-st-requires : goal.store_of-st-requires
 store_of-st-requires g c = accepted_store c.requires.accepted (accepted_place c.requires.accepted (sym c.unwrap-p.ensures ∙ c.places_of.ensures))
