@@ -122,18 +122,20 @@ impl Error for Refusal {}
 #[cfg(test)]
 mod tests {
     use super::*;
+    use std::test::Fail;
 
     // the first and the last of document 01's table, and the words of one
     #[test]
-    fn told(rt: HostRuntime) {
+    fn told(rt: HostRuntime) -> Result<(), Fail> {
         assert_eq!(rt; u32::from(Refusal::Layout), 1);
         assert_eq!(rt; u32::from(Refusal::NoRoom), 18);
         assert!(rt; Refusal::Edit == Refusal::Edit);
         assert!(rt; Refusal::Edit != Refusal::SameText);
-        let told = format!(in rt.alloc(); "{}", Refusal::SameText).unwrap();
+        let told = format!(in rt.alloc(); "{}", Refusal::SameText)?;
         assert!(rt;
             told.as_str()
                 == "the edit changes nothing: the replacement is what stands there already"
         );
+        Ok(())
     }
 }
