@@ -146,7 +146,7 @@ fn pair_by_words(strings: &Strings, lent: &mut [u32], words: &mut [u32], least: 
     ensures rising { Rising words.new (pairs_in words.new) }
 {
     let (index, row) = lent.split_at_mut(INDEX);
-    strings.index(index);
+    strings.write_index(index);
     let indexed = Strings {
         tape: strings.tape,
         store: strings.store,

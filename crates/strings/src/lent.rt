@@ -43,7 +43,7 @@ impl<'a> Strings<'a> {
     }
 
     // An index of these strings in any words, as `index_strings` makes it.
-    pub fn index(&self, words: &mut [u32])
+    pub fn write_index(&self, words: &mut [u32])
         ensures { words.new ≡ overwrite words.old 0 (index_in (lengths_in self.now.tape.now) words.old) }
     {
         crate::index_strings(
