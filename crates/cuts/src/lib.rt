@@ -7,12 +7,22 @@ ghost use Rattle.model.specs.Types.{PairLink};
 ghost use Rattle.model.specs.Tape.{record_at, node_codec, pair_codec};
 ghost use Rattle.model.specs.Region.{blank_line_before, is_block_open, is_block_close, is_directive, is_warichu_open, is_warichu_close, depth_behind};
 ghost use Rattle.model.specs.Region.{nodes_allow_cut, pairs_allow_cut};
-ghost use Rattle.bounds.specs.Search.{InOrder};
 ghost use Rattle.cuts.specs.Safe.{cut_allowed, safe_cut_in};
 ghost use Rattle.cuts.specs.Pairs.{reach_of, reach, pairs_of};
 ghost use Rattle.cuts.specs.Window.{noted, Noted, Risen, Reaches, Window, next_size};
-ghost use Rattle.cuts.specs.Gaps.{depths_zero, nodes_of};
-ghost use Rattle.cuts.specs.Gaps.{closes_nothing};
+ghost use Rattle.cuts.specs.Gaps.{NodesApart, depths_zero, nodes_of, closes_nothing};
+
+// A book's text, and the records of its tape that lie over it: nodes, one behind the other, and pairs.
+#[derive(Clone, Copy)]
+pub struct Source<'a> {
+    pub tape: &'a [u8],
+    pub text: &'a [u8],
+    pub nodes: places::Run,
+    pub pairs: places::Run,
+    pub ghost nodes_inside: { nodes.at + 49 * nodes.count ≤ length tape.now },
+    pub ghost pairs_inside: { pairs.at + 18 * pairs.count ≤ length tape.now },
+    pub ghost nodes_apart: { NodesApart (nodes_of tape.now nodes) },
+}
 
 // Section 6. Two newline bytes before an offset.
 pub fn blank_line_before(text: &[u8], o: usize) -> bool
@@ -108,73 +118,10 @@ fn reach_of(start: u32, end: u32, o: usize) -> u32
     if (start as usize) < o { end } else { 0 }
 }
 
-// How far the pairs reach that start before an offset: the greatest end. From the last pair to the first, as `reach` goes over them.
-pub fn reach(tape: &[u8], pairs: places::Run, o: usize) -> u32
-    requires { pairs.at + 18 * pairs.count ≤ length tape.now }
-    ensures { result ≡ reach (pairs_of tape.now pairs) o }
-{
-    let mut far = 0;
-    let mut i = pairs.count;
-    while 0 < i {
-        i -= 1;
-        let p = pairs.at + 18 * i;
-        far = far.max(reach_of(pair_start(tape, p), pair_end(tape, p), o));
-    }
-    far
-}
-
-// Section 6. No pair with open start < offset < close end.
-pub fn pairs_allow_cut(tape: &[u8], pairs: places::Run, o: usize) -> bool
-    requires { pairs.at + 18 * pairs.count ≤ length tape.now }
-    ensures { result ≡ pairs_allow_cut (pairs_of tape.now pairs) o }
-{
-    (reach(tape, pairs, o) as usize) <= o
-}
-
 pub fn depths_zero(blocks: usize, warichu: usize) -> bool
     ensures { result ≡ depths_zero blocks warichu }
 {
     blocks == 0 && warichu == 0
-}
-
-// Section 6. No node across; block and warichu depths 0 (falls below 0 count as 0).
-pub fn nodes_allow_cut(tape: &[u8], nodes: places::Run, o: usize) -> bool
-    requires count_in_bounds { nodes.at + 49 * nodes.count ≤ length tape.now }
-    requires in_order { InOrder (nodes_of tape.now nodes) }
-    ensures { result ≡ nodes_allow_cut (nodes_of tape.now nodes) o }
-{
-    let mut blocks: usize = 0;
-    let mut warichu: usize = 0;
-    for i in 0..nodes.count {
-        let p = nodes.at + 49 * i;
-        if o <= records::node_start(tape, p) as usize {
-            return depths_zero(blocks, warichu);
-        }
-        if o < records::node_end(tape, p) as usize {
-            return false;
-        }
-        blocks = block_depth(tape, p, blocks);
-        warichu = warichu_depth(tape, p, warichu);
-    }
-    depths_zero(blocks, warichu)
-}
-
-// Text, nodes and pairs allow a cut.
-fn cut_allowed(tape: &[u8], text: &[u8], nodes: places::Run, pairs: places::Run, o: usize) -> bool
-    requires count_in_bounds { (nodes.at + 49 * nodes.count ≤ length tape.now) × (pairs.at + 18 * pairs.count ≤ length tape.now) × (o ≤ length text.now) }
-    requires in_order { InOrder (nodes_of tape.now nodes) }
-    ensures { result ≡ cut_allowed text.now (nodes_of tape.now nodes) (pairs_of tape.now pairs) o }
-{
-    blank_line_before(text, o) && nodes_allow_cut(tape, nodes, o) && pairs_allow_cut(tape, pairs, o)
-}
-
-// Section 6. `safe_cut`: 0 and the length always; elsewhere text, nodes and pairs allow it.
-pub fn safe_cut(tape: &[u8], text: &[u8], nodes: places::Run, pairs: places::Run, o: usize) -> bool
-    requires count_in_bounds { (nodes.at + 49 * nodes.count ≤ length tape.now) × (pairs.at + 18 * pairs.count ≤ length tape.now) × (o ≤ length text.now) }
-    requires in_order { InOrder (nodes_of tape.now nodes) }
-    ensures { result ≡ safe_cut_in text.now (nodes_of tape.now nodes) (pairs_of tape.now pairs) o }
-{
-    o == 0 || o == text.len() || cut_allowed(tape, text, nodes, pairs, o)
 }
 
 pub fn closes_nothing(closes: bool, depth: usize) -> bool
@@ -204,20 +151,6 @@ fn note(slots: &mut [u32], from: usize, start: u32, end: u32)
     }
 }
 
-// Each pair's end at the first offset behind its start, the greatest where several are. From the last pair to the first, as `Noted` says.
-fn note_pairs(tape: &[u8], pairs: places::Run, slots: &mut [u32], from: usize)
-    requires { (pairs.at + 18 * pairs.count ≤ length tape.now) × (from < 4294967296) }
-    ensures { Noted (pairs_of tape.now pairs) from slots.new }
-{
-    wire::zero_words(slots);
-    let mut i = pairs.count;
-    while 0 < i {
-        i -= 1;
-        let p = pairs.at + 18 * i;
-        note(slots, from, pair_start(tape, p), pair_end(tape, p));
-    }
-}
-
 // The greatest so far at each.
 fn run_up(slots: &mut [u32])
     ensures { Risen slots.old slots.new }
@@ -229,28 +162,12 @@ fn run_up(slots: &mut [u32])
     }
 }
 
-fn fill_slots(tape: &[u8], pairs: places::Run, slots: &mut [u32], from: usize)
-    requires { (pairs.at + 18 * pairs.count ≤ length tape.now) × (from < 4294967296) }
-    ensures { Reaches (pairs_of tape.now pairs) from slots.new }
-{
-    note_pairs(tape, pairs, slots, from);
-    run_up(slots);
-}
-
 fn put_bounds(words: &mut [u32], from: usize, size: usize)
     requires { (from < 4294967296) × (size < 4294967296) × (2 ≤ length words.old) }
     ensures { words.new ≡ set (set words.old 0 from) 1 size }
 {
     words[0] = from as u32;
     words[1] = size as u32;
-}
-
-fn fill(tape: &[u8], pairs: places::Run, words: &mut [u32], from: usize, size: usize)
-    requires { (pairs.at + 18 * pairs.count ≤ length tape.now) × (from < 4294967296) × (size < 4294967296) × (2 + size ≤ length words.old) }
-    ensures { Window (pairs_of tape.now pairs) words.new × (get_or words.new 0 0 ≡ from) × (get_or words.new 1 0 ≡ size) }
-{
-    put_bounds(words, from, size);
-    fill_slots(tape, pairs, &mut words[2..2 + size], from);
 }
 
 // How many offsets the next window has.
@@ -280,40 +197,134 @@ fn room_in(len: usize) -> usize
     (len - 2).min(16777216)
 }
 
-// The reach at an offset, by a new window with that offset in it. Windows begin at multiples of their size, to serve both ways.
-fn refill(tape: &[u8], pairs: places::Run, o: usize, words: &mut [u32], size: u32) -> u32
-    requires { (pairs.at + 18 * pairs.count ≤ length tape.now) × (o < 4294967296) × (3 ≤ length words.old) }
-    ensures value { result ≡ reach (pairs_of tape.now pairs) o }
-    ensures window { Window (pairs_of tape.now pairs) words.new }
-{
-    let n = next_size(room_in(words.len()), size);
-    let j = o % n;
-    fill(tape, pairs, words, o - j, n);
-    words[2 + j]
-}
-
-// The reach at an offset, by the window in the words.
-pub fn reach_at(tape: &[u8], pairs: places::Run, o: usize, words: &mut [u32]) -> u32
-    requires count_in_bounds { pairs.at + 18 * pairs.count ≤ length tape.now }
-    requires window { Window (pairs_of tape.now pairs) words.old }
-    ensures value { result ≡ reach (pairs_of tape.now pairs) o }
-    ensures window_2 { Window (pairs_of tape.now pairs) words.new }
-{
-    if words.len() < 3 || 4294967295 < o {
-        return reach(tape, pairs, o);
-    }
-    let size = words[1];
-    match word_of(words[0], size, o) {
-        Some(k) => words[k],
-        None => refill(tape, pairs, o, words, size),
-    }
-}
-
 // No window yet.
 pub fn no_window(words: &mut [u32])
     ensures { (ps : List PairLink) → Window ps words.new }
 {
     if 2 <= words.len() {
         words[1] = 0;
+    }
+}
+
+impl<'a> Source<'a> {
+    // How far the pairs reach that start before an offset: the greatest end. From the last pair to the first, as `reach` goes over them.
+    pub fn reach(&self, o: usize) -> u32
+        ensures { result ≡ reach (pairs_of self.now.tape.now self.now.pairs) o }
+    {
+        let mut far = 0;
+        let mut i = self.pairs.count;
+        while 0 < i {
+            i -= 1;
+            let p = self.pairs.at + 18 * i;
+            far = far.max(reach_of(pair_start(self.tape, p), pair_end(self.tape, p), o));
+        }
+        far
+    }
+
+    // Section 6. No pair with open start < offset < close end.
+    pub fn pairs_allow_cut(&self, o: usize) -> bool
+        ensures { result ≡ pairs_allow_cut (pairs_of self.now.tape.now self.now.pairs) o }
+    {
+        (self.reach(o) as usize) <= o
+    }
+
+    // Section 6. No node across; block and warichu depths 0 (falls below 0 count as 0).
+    pub fn nodes_allow_cut(&self, o: usize) -> bool
+        ensures { result ≡ nodes_allow_cut (nodes_of self.now.tape.now self.now.nodes) o }
+    {
+        let mut blocks: usize = 0;
+        let mut warichu: usize = 0;
+        for i in 0..self.nodes.count {
+            let p = self.nodes.at + 49 * i;
+            if o <= records::node_start(self.tape, p) as usize {
+                return depths_zero(blocks, warichu);
+            }
+            if o < records::node_end(self.tape, p) as usize {
+                return false;
+            }
+            blocks = block_depth(self.tape, p, blocks);
+            warichu = warichu_depth(self.tape, p, warichu);
+        }
+        depths_zero(blocks, warichu)
+    }
+
+    // Text, nodes and pairs allow a cut.
+    fn cut_allowed(&self, o: usize) -> bool
+        requires { o ≤ length self.now.text.now }
+        ensures { result ≡ cut_allowed self.now.text.now (nodes_of self.now.tape.now self.now.nodes) (pairs_of self.now.tape.now self.now.pairs) o }
+    {
+        blank_line_before(self.text, o) && self.nodes_allow_cut(o) && self.pairs_allow_cut(o)
+    }
+
+    // Section 6. `safe_cut`: 0 and the length always; elsewhere text, nodes and pairs allow it.
+    pub fn safe_cut(&self, o: usize) -> bool
+        requires { o ≤ length self.now.text.now }
+        ensures { result ≡ safe_cut_in self.now.text.now (nodes_of self.now.tape.now self.now.nodes) (pairs_of self.now.tape.now self.now.pairs) o }
+    {
+        o == 0 || o == self.text.len() || self.cut_allowed(o)
+    }
+
+    // Each pair's end at the first offset behind its start, the greatest where several are. From the last pair to the first, as `Noted` says.
+    fn note_pairs(&self, slots: &mut [u32], from: usize)
+        requires { from < 4294967296 }
+        ensures { Noted (pairs_of self.now.tape.now self.now.pairs) from slots.new }
+    {
+        wire::zero_words(slots);
+        let mut i = self.pairs.count;
+        while 0 < i {
+            i -= 1;
+            let p = self.pairs.at + 18 * i;
+            note(
+                slots,
+                from,
+                pair_start(self.tape, p),
+                pair_end(self.tape, p),
+            );
+        }
+    }
+
+    fn fill_slots(&self, slots: &mut [u32], from: usize)
+        requires { from < 4294967296 }
+        ensures { Reaches (pairs_of self.now.tape.now self.now.pairs) from slots.new }
+    {
+        self.note_pairs(slots, from);
+        run_up(slots);
+    }
+
+    fn fill(&self, words: &mut [u32], from: usize, size: usize)
+        requires { (from < 4294967296) × (size < 4294967296) × (2 + size ≤ length words.old) }
+        ensures { Window (pairs_of self.now.tape.now self.now.pairs) words.new × (get_or words.new 0 0 ≡ from) × (get_or words.new 1 0 ≡ size) }
+    {
+        put_bounds(words, from, size);
+        self.fill_slots(&mut words[2..2 + size], from);
+    }
+
+    // The reach at an offset, by a new window with that offset in it. Windows begin at multiples of their size, to serve both ways.
+    fn refill(&self, o: usize, words: &mut [u32], size: u32) -> u32
+        requires { (o < 4294967296) × (3 ≤ length words.old) }
+        ensures value { result ≡ reach (pairs_of self.now.tape.now self.now.pairs) o }
+        ensures window { Window (pairs_of self.now.tape.now self.now.pairs) words.new }
+    {
+        let n = next_size(room_in(words.len()), size);
+        let j = o % n;
+        self.fill(words, o - j, n);
+        words[2 + j]
+    }
+
+    // The reach at an offset, by the window in the words. The words are lent to each call: where a struct holds them, each of its methods has to
+    // say that they, their length and the source stay the same, in place of the one fact that they are a window.
+    pub fn reach_at(&self, o: usize, words: &mut [u32]) -> u32
+        requires window { Window (pairs_of self.now.tape.now self.now.pairs) words.old }
+        ensures value { result ≡ reach (pairs_of self.now.tape.now self.now.pairs) o }
+        ensures window_2 { Window (pairs_of self.now.tape.now self.now.pairs) words.new }
+    {
+        if words.len() < 3 || 4294967295 < o {
+            return self.reach(o);
+        }
+        let size = words[1];
+        match word_of(words[0], size, o) {
+            Some(k) => words[k],
+            None => self.refill(o, words, size),
+        }
     }
 }

@@ -1,5 +1,5 @@
 use Rattle.cuts.specs.Window.{reaches_of}
-use Rattle.cuts.proofs.fill_slots.Goals as goal
+use Rattle.cuts.proofs.Source.fill_slots.Goals as goal
 
 pub returns : goal.returns
 returns c =

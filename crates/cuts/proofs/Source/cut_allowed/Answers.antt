@@ -1,7 +1,7 @@
 use Rattle.std.proofs.Common.{◌≡◌, Bool, true, false, ◌&&◌, refl, sym, ◌∙◌, true≢false}
 use Rattle.cuts.specs.Safe.{cut_allowed}
-use Rattle.cuts.proofs.cut_allowed.Goals as goal
-use Rattle.cuts.proofs.cut_allowed.Goals.{then-blank_line_before, else-blank_line_before}
+use Rattle.cuts.proofs.Source.cut_allowed.Goals as goal
+use Rattle.cuts.proofs.Source.cut_allowed.Goals.{then-blank_line_before, else-blank_line_before}
 
 -- by what the code knows: text and nodes allow it; the text or the nodes do not
 both : (x y z : Bool) → x ≡ true → y ≡ true → z ≡ (x && y && z)

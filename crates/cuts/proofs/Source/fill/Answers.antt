@@ -2,7 +2,7 @@ use Rattle.cuts.specs.Window.{window_filled}
 use mathlib.Core.Path.{refl, ◌∙◌}
 use native.Mathlib.Omega.{arith}
 use lib.ListN.{length-take, length-drop}
-use Rattle.cuts.proofs.fill.Goals as goal
+use Rattle.cuts.proofs.Source.fill.Goals as goal
 
 pub returns : goal.returns
 returns c =

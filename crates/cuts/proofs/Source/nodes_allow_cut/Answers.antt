@@ -1,9 +1,9 @@
-use Rattle.cuts.specs.Gaps.{upto_none, upto_gap, upto_across, upto_more, upto_rest}
-use Rattle.cuts.proofs.nodes_allow_cut.Goals as goal
+use Rattle.cuts.specs.Gaps.{apart_in_order, upto_none, upto_gap, upto_across, upto_more, upto_rest}
+use Rattle.cuts.proofs.Source.nodes_allow_cut.Goals as goal
 
 pub loop-i-init : goal.loop-i-init
 loop-i-init c =
-    upto_none _ _ _ c.requires.in_order
+    upto_none _ _ _ (apart_in_order c.args.self.now.nodes_apart)
 
 pub returns-then-o-node_start : goal.returns-then-o-node_start
 returns-then-o-node_start c =

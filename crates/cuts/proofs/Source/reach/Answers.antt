@@ -2,7 +2,7 @@ use Rattle.std.proofs.Common.{rules}
 use Rattle.cuts.specs.Pairs.{reach_none, reach_more}
 use mathlib.Core.Path.{refl}
 use native.Mathlib.Omega.{arith}
-use Rattle.cuts.proofs.reach.Goals as goal
+use Rattle.cuts.proofs.Source.reach.Goals as goal
 
 pub loop-i-init : goal.loop-i-init
 loop-i-init c =

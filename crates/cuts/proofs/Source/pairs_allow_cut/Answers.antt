@@ -1,5 +1,5 @@
 use Rattle.cuts.specs.Pairs.{reach_allows}
-use Rattle.cuts.proofs.pairs_allow_cut.Goals as goal
+use Rattle.cuts.proofs.Source.pairs_allow_cut.Goals as goal
 
 pub returns : goal.returns
 returns c =

@@ -2,7 +2,7 @@ use Rattle.cuts.specs.Window.{noted_start, noted_pairs}
 use mathlib.Core.Path.{refl}
 use native.Mathlib.Omega.{arith}
 use lib.ListN.{length}
-use Rattle.cuts.proofs.note_pairs.Goals as goal
+use Rattle.cuts.proofs.Source.note_pairs.Goals as goal
 
 pub loop-i-init : goal.loop-i-init
 loop-i-init c =
