@@ -4,3 +4,4 @@ pub mod Pairs
 pub mod Window
 pub mod Gaps
 pub mod Examples
+pub mod Sources

@@ -8,7 +8,7 @@ ghost use Rattle.model.specs.Tape.{record_at, node_codec, pair_codec};
 ghost use Rattle.model.specs.Region.{blank_line_before, is_block_open, is_block_close, is_directive, is_warichu_open, is_warichu_close, depth_behind};
 ghost use Rattle.model.specs.Region.{nodes_allow_cut, pairs_allow_cut};
 ghost use Rattle.cuts.specs.Safe.{cut_allowed, safe_cut_in};
-ghost use Rattle.cuts.specs.Pairs.{reach_of, reach, pairs_of};
+ghost use Rattle.cuts.specs.Pairs.{reach_of, reach};
 ghost use Rattle.cuts.specs.Window.{noted, Noted, Risen, Reaches, Window, next_size};
 ghost use Rattle.cuts.specs.Gaps.{NodesApart, depths_zero, nodes_of, closes_nothing};
 
@@ -207,9 +207,11 @@ pub fn no_window(words: &mut [u32])
 }
 
 impl<'a> Source<'a> {
+    ghost use Rattle.cuts.specs.Sources.{nodes_in, pairs_in};
+
     // How far the pairs reach that start before an offset: the greatest end. From the last pair to the first, as `reach` goes over them.
     pub fn reach(&self, o: usize) -> u32
-        ensures { result ≡ reach (pairs_of self.now.tape.now self.now.pairs) o }
+        ensures { result ≡ reach (pairs_in self.now) o }
     {
         let mut far = 0;
         let mut i = self.pairs.count;
@@ -223,14 +225,14 @@ impl<'a> Source<'a> {
 
     // Section 6. No pair with open start < offset < close end.
     pub fn pairs_allow_cut(&self, o: usize) -> bool
-        ensures { result ≡ pairs_allow_cut (pairs_of self.now.tape.now self.now.pairs) o }
+        ensures { result ≡ pairs_allow_cut (pairs_in self.now) o }
     {
         (self.reach(o) as usize) <= o
     }
 
     // Section 6. No node across; block and warichu depths 0 (falls below 0 count as 0).
     pub fn nodes_allow_cut(&self, o: usize) -> bool
-        ensures { result ≡ nodes_allow_cut (nodes_of self.now.tape.now self.now.nodes) o }
+        ensures { result ≡ nodes_allow_cut (nodes_in self.now) o }
     {
         let mut blocks: usize = 0;
         let mut warichu: usize = 0;
@@ -251,7 +253,7 @@ impl<'a> Source<'a> {
     // Text, nodes and pairs allow a cut.
     fn cut_allowed(&self, o: usize) -> bool
         requires { o ≤ length self.now.text.now }
-        ensures { result ≡ cut_allowed self.now.text.now (nodes_of self.now.tape.now self.now.nodes) (pairs_of self.now.tape.now self.now.pairs) o }
+        ensures { result ≡ cut_allowed self.now.text.now (nodes_in self.now) (pairs_in self.now) o }
     {
         blank_line_before(self.text, o) && self.nodes_allow_cut(o) && self.pairs_allow_cut(o)
     }
@@ -259,7 +261,7 @@ impl<'a> Source<'a> {
     // Section 6. `safe_cut`: 0 and the length always; elsewhere text, nodes and pairs allow it.
     pub fn safe_cut(&self, o: usize) -> bool
         requires { o ≤ length self.now.text.now }
-        ensures { result ≡ safe_cut_in self.now.text.now (nodes_of self.now.tape.now self.now.nodes) (pairs_of self.now.tape.now self.now.pairs) o }
+        ensures { result ≡ safe_cut_in self.now.text.now (nodes_in self.now) (pairs_in self.now) o }
     {
         o == 0 || o == self.text.len() || self.cut_allowed(o)
     }
@@ -267,7 +269,7 @@ impl<'a> Source<'a> {
     // Each pair's end at the first offset behind its start, the greatest where several are. From the last pair to the first, as `Noted` says.
     fn note_pairs(&self, slots: &mut [u32], from: usize)
         requires { from < 4294967296 }
-        ensures { Noted (pairs_of self.now.tape.now self.now.pairs) from slots.new }
+        ensures { Noted (pairs_in self.now) from slots.new }
     {
         wire::zero_words(slots);
         let mut i = self.pairs.count;
@@ -285,7 +287,7 @@ impl<'a> Source<'a> {
 
     fn fill_slots(&self, slots: &mut [u32], from: usize)
         requires { from < 4294967296 }
-        ensures { Reaches (pairs_of self.now.tape.now self.now.pairs) from slots.new }
+        ensures { Reaches (pairs_in self.now) from slots.new }
     {
         self.note_pairs(slots, from);
         run_up(slots);
@@ -293,7 +295,7 @@ impl<'a> Source<'a> {
 
     fn fill(&self, words: &mut [u32], from: usize, size: usize)
         requires { (from < 4294967296) × (size < 4294967296) × (2 + size ≤ length words.old) }
-        ensures { Window (pairs_of self.now.tape.now self.now.pairs) words.new × (get_or words.new 0 0 ≡ from) × (get_or words.new 1 0 ≡ size) }
+        ensures { Window (pairs_in self.now) words.new × (get_or words.new 0 0 ≡ from) × (get_or words.new 1 0 ≡ size) }
     {
         put_bounds(words, from, size);
         self.fill_slots(&mut words[2..2 + size], from);
@@ -302,8 +304,8 @@ impl<'a> Source<'a> {
     // The reach at an offset, by a new window with that offset in it. Windows begin at multiples of their size, to serve both ways.
     fn refill(&self, o: usize, words: &mut [u32], size: u32) -> u32
         requires { (o < 4294967296) × (3 ≤ length words.old) }
-        ensures value { result ≡ reach (pairs_of self.now.tape.now self.now.pairs) o }
-        ensures window { Window (pairs_of self.now.tape.now self.now.pairs) words.new }
+        ensures value { result ≡ reach (pairs_in self.now) o }
+        ensures window { Window (pairs_in self.now) words.new }
     {
         let n = next_size(room_in(words.len()), size);
         let j = o % n;
@@ -314,9 +316,9 @@ impl<'a> Source<'a> {
     // The reach at an offset, by the window in the words. The words are lent to each call: where a struct holds them, each of its methods has to
     // say that they, their length and the source stay the same, in place of the one fact that they are a window.
     pub fn reach_at(&self, o: usize, words: &mut [u32]) -> u32
-        requires window { Window (pairs_of self.now.tape.now self.now.pairs) words.old }
-        ensures value { result ≡ reach (pairs_of self.now.tape.now self.now.pairs) o }
-        ensures window_2 { Window (pairs_of self.now.tape.now self.now.pairs) words.new }
+        requires window { Window (pairs_in self.now) words.old }
+        ensures value { result ≡ reach (pairs_in self.now) o }
+        ensures window_2 { Window (pairs_in self.now) words.new }
     {
         if words.len() < 3 || 4294967295 < o {
             return self.reach(o);

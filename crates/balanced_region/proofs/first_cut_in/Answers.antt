@@ -11,7 +11,7 @@ loop-c-init c =
 pub next_try-next-requires : goal.next_try-next-requires
 next_try-next-requires c =
     record {
-      count_in_bounds = (c.requires.count_in_bounds.0, omega (arith, c.requires.count_in_bounds.1));
+      inside = omega (arith, c.requires.inside);
       window = c.loop-c.invariant.1;
     }
 

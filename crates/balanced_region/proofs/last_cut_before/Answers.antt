@@ -1,4 +1,5 @@
 use Rattle.balanced_region.specs.Walks.{last_walk_none, last_walk_stop, last_walk_more, last_walk_done}
+use Rattle.cuts.specs.Gaps.{apart_in_order}
 use mathlib.Core.Path.{refl, ◌∙◌}
 use Prim.Native.Nat.{◌-◌}
 use native.Mathlib.Omega.{arith}
@@ -6,12 +7,12 @@ use Rattle.balanced_region.proofs.last_cut_before.Goals as goal
 
 pub loop-i-init : goal.loop-i-init
 loop-i-init c =
-    (last_walk_none _ _ _ _ _ c.requires.in_order, c.requires.window, refl)
+    (last_walk_none _ _ _ _ _ (apart_in_order c.args.source.now.nodes_apart), c.requires.window, refl)
 
 pub gap_last-requires : goal.gap_last-requires
 gap_last-requires c =
     record {
-      count_in_bounds = (c.requires.count_in_bounds.1, omega (arith, c.requires.count_in_bounds.2));
+      inside = omega (arith, c.requires.inside);
       window = c.loop-i.invariant.1;
     }
 
@@ -29,7 +30,7 @@ returns-then-bound-start c =
 pub gap_last-last-requires : goal.gap_last-last-requires
 gap_last-last-requires c =
     record {
-      count_in_bounds = (c.requires.count_in_bounds.1, omega (arith, c.requires.count_in_bounds.2, c.if-bound-start.false));
+      inside = omega (arith, c.requires.inside, c.if-bound-start.false);
       window = c.loop-i.invariant.1;
     }
 
@@ -44,7 +45,7 @@ loop-i-preserved c = (
 pub gap_last-requires-2 : goal.gap_last-requires-2
 gap_last-requires-2 c =
     record {
-      count_in_bounds = (c.requires.count_in_bounds.1, omega (arith, c.requires.count_in_bounds.2));
+      inside = omega (arith, c.requires.inside);
       window = c.loop-i.invariant.1;
     }
 

@@ -12,7 +12,7 @@ loop-c-init c =
 pub text_pairs_allow-requires : goal.text_pairs_allow-requires
 text_pairs_allow-requires c =
     record {
-      count_in_bounds = (c.requires.count_in_bounds.0, omega (arith, c.requires.count_in_bounds.1, c.loop-c.invariant.0));
+      inside = omega (arith, c.requires.inside, c.loop-c.invariant.0);
       window = c.loop-c.invariant.2;
     }
 

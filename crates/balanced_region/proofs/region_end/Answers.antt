@@ -11,7 +11,7 @@ loop-i-init c =
 pub gap_first-c-requires : goal.gap_first-c-requires
 gap_first-c-requires c =
     record {
-      count_in_bounds = (c.requires.count_in_bounds.1, end_walk_inside c.loop-i.invariant.0 c.loop-i-test.true _ c.node_start-start.ensures, c.requires.count_in_bounds.2);
+      inside = (end_walk_inside c.loop-i.invariant.0 c.loop-i-test.true _ c.node_start-start.ensures, c.requires.inside);
       window = c.loop-i.invariant.1;
     }
 
@@ -22,7 +22,7 @@ shape_of-words-then-c-start c =
 pub returns-then-c-start : goal.returns-then-c-start
 returns-then-c-start c =
     record {
-      value = end_walk_found c.loop-i.invariant.0 c.loop-i-test.true _ c.node_start-start.ensures _ c.gap_first-c.ensures.value c.requires.count_in_bounds.2 c.if-c-start.true;
+      value = end_walk_found c.loop-i.invariant.0 c.loop-i-test.true _ c.node_start-start.ensures _ c.gap_first-c.ensures.value c.requires.inside c.if-c-start.true;
       window_2 = c.gap_first-c.ensures.window_2;
     }
 
@@ -37,7 +37,7 @@ loop-i-preserved c = (
 pub gap_first-requires : goal.gap_first-requires
 gap_first-requires c =
     record {
-      count_in_bounds = (c.requires.count_in_bounds.1, omega arith, c.requires.count_in_bounds.2);
+      inside = (omega arith, c.requires.inside);
       window = c.loop-i.invariant.1;
     }
 
@@ -48,6 +48,6 @@ shape_of-words c =
 pub returns : goal.returns
 returns c =
     record {
-      value = end_walk_done c.loop-i.invariant.0 c.loop-i-test.false c.requires.count_in_bounds.2 _ c.gap_first.ensures.value;
+      value = end_walk_done c.loop-i.invariant.0 c.loop-i-test.false c.requires.inside _ c.gap_first.ensures.value;
       window_2 = c.gap_first.ensures.window_2;
     }

@@ -1,24 +1,22 @@
-use Rattle.cuts.specs.Gaps.{nodes_in_order}
 use Rattle.balanced_region.specs.Ends.{balanced_in}
 use Rattle.balanced_region.specs.Survives.{search_bounds}
 use mathlib.Core.Path.{refl}
 use native.Mathlib.Omega.{arith}
-use Rattle.balanced_region.proofs.region_in.Goals as goal
+use Rattle.balanced_region.proofs.Edited.region_in.Goals as goal
 
 pub region_start-from-requires : goal.region_start-from-requires
 region_start-from-requires c =
     record {
-      count_in_bounds = (c.requires.count_in_bounds.0, c.requires.count_in_bounds.1, c.requires.start_in_bounds.0);
-      in_order = nodes_in_order c.requires.nodes_in;
+      inside = c.args.self.now.start_inside;
       window = c.no_window.ensures _;
     }
 
 pub region_end-to-requires : goal.region_end-to-requires
 region_end-to-requires c =
-    let b = (search_bounds c.args.text.now c.args.start c.args.end c.args.replacement.now c.requires.start_in_bounds.1).1 in
+    let b = (search_bounds c.args.self.now.source.text.now c.args.self.now.start c.args.self.now.end c.args.self.now.replacement.now c.args.self.now.end_inside).1 in
     record {
-      count_in_bounds = (c.requires.count_in_bounds.0, c.requires.count_in_bounds.1, omega (arith, b, c.search_from-behind.ensures));
-      nodes_in = c.requires.nodes_in;
+      inside = omega (arith, b, c.search_from-behind.ensures);
+      nodes_in = c.args.self.now.nodes_in;
       window = c.no_window-2.ensures _;
     }
 
