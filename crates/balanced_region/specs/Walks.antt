@@ -2,7 +2,6 @@
 use Rattle.std.specs.Prelude.{ℕ, ◌+◌, ◌-◌, ◌≤◌, ◌<◌, max, min, ◌≡◌, refl, Bool, false, List, length, ltb}
 use Rattle.std.proofs.Common.{arith, sym, ap, ◌∙◌, ltb-true, ltb-false}
 use Rattle.std.proofs.Math.Logic.{inl}
-use Rattle.model.specs.Tape.{records_at, node_codec}
 use Rattle.model.specs.Region.{is_block_open, is_block_close, is_warichu_open, is_warichu_close, depth_behind, nodes_allow_cut}
 use Rattle.bounds.specs.Search.{InOrder}
 use Rattle.places.specs.declared.Run.{Run}

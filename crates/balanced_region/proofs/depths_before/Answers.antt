@@ -1,4 +1,3 @@
-use Prim.Native.Nat.{◌-◌}
 use native.Mathlib.Omega.{arith}
 use Rattle.balanced_region.specs.Unmatched.{passing_none, passing_stop, passing_more, passing_done, past_count}
 use Rattle.balanced_region.proofs.depths_before.Goals as goal

@@ -1,6 +1,5 @@
 use Rattle.balanced_region.specs.EndSearch.{tried_start, tried_found, try_rises, tried_more, tried_none}
 use mathlib.Core.Path.{refl, ◌∙◌}
-use Prim.Native.Nat.{◌-◌}
 use native.Mathlib.Omega.{arith}
 use Rattle.balanced_region.proofs.first_cut_in.Goals as goal
 

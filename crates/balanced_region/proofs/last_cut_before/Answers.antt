@@ -1,7 +1,6 @@
 use Rattle.balanced_region.specs.Walks.{last_walk_none, last_walk_stop, last_walk_more, last_walk_done}
 use Rattle.cuts.specs.Gaps.{apart_in_order}
 use mathlib.Core.Path.{refl, ◌∙◌}
-use Prim.Native.Nat.{◌-◌}
 use native.Mathlib.Omega.{arith}
 use Rattle.balanced_region.proofs.last_cut_before.Goals as goal
 

@@ -1,7 +1,5 @@
 use Rattle.cuts.specs.Offsets.{last_stop, last_turn, last_done}
-use Rattle.balanced_region.specs.EndSearch.{text_pairs_allow}
 use mathlib.Core.Path.{refl, sym, ◌∙◌}
-use Prim.Native.Nat.{◌-◌}
 use native.Mathlib.Omega.{arith}
 use Rattle.balanced_region.proofs.last_cut_in.Goals as goal
 

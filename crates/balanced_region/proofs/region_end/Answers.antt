@@ -1,6 +1,5 @@
 use Rattle.balanced_region.specs.Walks.{end_walk_none, end_walk_inside, end_walk_found, end_walk_more, end_walk_done}
 use mathlib.Core.Path.{refl, ◌∙◌}
-use Prim.Native.Nat.{◌-◌}
 use native.Mathlib.Omega.{arith}
 use Rattle.balanced_region.proofs.region_end.Goals as goal
 
