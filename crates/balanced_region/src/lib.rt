@@ -9,7 +9,6 @@
 
 ghost use Rattle.std.specs.Prelude.{◌≡◌, ◌+◌, ◌-◌, ◌*◌, ◌≤◌, ◌<◌, max, min, length};
 ghost use Rattle.model.specs.Tape.{record_at, node_codec};
-ghost use Rattle.model.specs.Region.{is_block_open, is_block_close, is_warichu_open, is_warichu_close, depth_behind};
 ghost use Rattle.balanced_region.specs.Ends.{region_end_in, region_start_in, region_of};
 ghost use Rattle.balanced_region.specs.Survives.{newline_kept, search_from};
 ghost use Rattle.cuts.specs.Offsets.{first_in, last_from};
@@ -17,10 +16,10 @@ ghost use Rattle.cuts.specs.Window.{Window};
 ghost use Rattle.cuts.specs.Gaps.{nodes_of, NodesIn};
 ghost use Rattle.cuts.specs.Sources.{nodes_in, pairs_in};
 ghost use Rattle.balanced_region.specs.EndSearch.{next_try, text_pairs_allow, gap_first};
-ghost use Rattle.balanced_region.specs.Unmatched.{is_unmatched, last_unmatched, depths_past, depths_before, no_depths, gap_from, Front};
+ghost use Rattle.balanced_region.specs.Unmatched.{last_unmatched, depths_past, depths_before, no_depths, gap_from, Front};
 ghost use Rattle.balanced_region.specs.StartSearch.{gap_last, last_cut, ends_behind_newline};
 
-use cuts::Source;
+use cuts::{Depths, Source};
 
 // The next offset to try for a cut that text and pairs allow: where a pair lies across, all up to its end are refused.
 fn next_try(source: &Source, o: usize, words: &mut [u32]) -> usize
@@ -59,16 +58,15 @@ fn gap_first(
     from: usize,
     o: usize,
     hi: usize,
-    blocks: usize,
-    warichu: usize,
+    depths: Depths,
     words: &mut [u32],
 ) -> usize
     requires inside { (hi ≤ length source.now.text.now) × (o ≤ length source.now.text.now) }
     requires window { Window (pairs_in source.now) words.old }
-    ensures value { result ≡ gap_first source.now.text.now (pairs_in source.now) blocks warichu (max from (o + 1)) hi }
+    ensures value { result ≡ gap_first source.now.text.now (pairs_in source.now) depths.blocks depths.warichu (max from (o + 1)) hi }
     ensures window_2 { Window (pairs_in source.now) words.new }
 {
-    if !cuts::depths_zero(blocks, warichu) {
+    if !depths.are_zero() {
         return hi;
     }
     first_cut_in(source, from.max(o + 1), hi, words)
@@ -83,95 +81,61 @@ pub fn region_end(source: &Source, o: usize, words: &mut [u32]) -> usize
     ensures window_2 { Window (pairs_in source.now) words.new }
 {
     let mut from: usize = 0;
-    let mut blocks: usize = 0;
-    let mut warichu: usize = 0;
+    let mut depths = Depths::NONE;
     for i in 0..source.nodes.count {
         let p = source.nodes.at + 49 * i;
         let start = records::node_start(source.tape, p) as usize;
-        let c = gap_first(source, from, o, start + 1, blocks, warichu, words);
+        let c = gap_first(source, from, o, start + 1, depths, words);
         if c <= start {
             return c;
         }
         from = records::node_end(source.tape, p) as usize;
-        blocks = cuts::block_depth(source.tape, p, blocks);
-        warichu = cuts::warichu_depth(source.tape, p, warichu);
+        depths = depths.past(source.tape, p);
     }
-    gap_first(source, from, o, source.text.len(), blocks, warichu, words)
-}
-
-// The depths counted backwards: the same over a node with open and close exchanged, unless the node closes at depth 0.
-fn block_before(tape: &[u8], at: usize, depth: usize) -> usize
-    requires { (at + 49 ≤ length tape.now) × (depth < 9223372036854775808) }
-    ensures { result ≡ depth_behind is_block_close is_block_open depth (record_at node_codec tape.now at) }
-{
-    cuts::depth_behind(
-        cuts::is_block_close(tape, at),
-        cuts::is_block_open(tape, at),
-        depth,
-    )
-}
-
-fn warichu_before(tape: &[u8], at: usize, depth: usize) -> usize
-    requires { (at + 49 ≤ length tape.now) × (depth < 9223372036854775808) }
-    ensures { result ≡ depth_behind is_warichu_close is_warichu_open depth (record_at node_codec tape.now at) }
-{
-    cuts::depth_behind(
-        cuts::is_warichu_close(tape, at),
-        cuts::is_warichu_open(tape, at),
-        depth,
-    )
+    gap_first(source, from, o, source.text.len(), depths, words)
 }
 
 // What a number of nodes leave: both depths, and how many there are up to and with the last that closes at depth 0. Behind that
 // one every close has its open.
 #[derive(Clone, Copy, Debug, PartialEq, Eq)]
-pub struct Depths {
+pub struct Passed {
     pub count: usize,
-    pub blocks: usize,
-    pub warichu: usize,
+    pub depths: Depths,
     pub unmatched: usize,
 }
 
-// Is the node a close without an open?
-fn is_unmatched(tape: &[u8], at: usize, d: Depths) -> bool
-    requires { at + 49 ≤ length tape.now }
-    ensures { result ≡ is_unmatched d (record_at node_codec tape.now at) }
-{
-    cuts::closes_nothing(cuts::is_block_close(tape, at), d.blocks)
-        || cuts::closes_nothing(cuts::is_warichu_close(tape, at), d.warichu)
-}
-
-fn last_unmatched(tape: &[u8], at: usize, d: Depths) -> usize
-    requires { (at + 49 ≤ length tape.now) × (d.count < 9223372036854775808) }
-    ensures { result ≡ last_unmatched d (record_at node_codec tape.now at) }
-{
-    if is_unmatched(tape, at, d) {
-        d.count + 1
-    } else {
-        d.unmatched
+impl Passed {
+    fn unmatched_past(self, tape: &[u8], at: usize) -> usize
+        requires { (at + 49 ≤ length tape.now) × (self.count < 9223372036854775808) }
+        ensures { result ≡ last_unmatched self (record_at node_codec tape.now at) }
+    {
+        if self.depths.closes_unopened(tape, at) {
+            self.count + 1
+        } else {
+            self.unmatched
+        }
     }
-}
 
-fn depths_past(tape: &[u8], at: usize, d: Depths) -> Depths
-    requires { (at + 49 ≤ length tape.now) × (d.count < 9223372036854775808) × (d.blocks < 9223372036854775808) × (d.warichu < 9223372036854775808) }
-    ensures { result ≡ depths_past d (record_at node_codec tape.now at) }
-{
-    Depths {
-        count: d.count + 1,
-        blocks: cuts::block_depth(tape, at, d.blocks),
-        warichu: cuts::warichu_depth(tape, at, d.warichu),
-        unmatched: last_unmatched(tape, at, d),
+    // The same and the node at `at`.
+    fn past(self, tape: &[u8], at: usize) -> Passed
+        requires { (at + 49 ≤ length tape.now) × (self.count < 9223372036854775808) × (self.depths.blocks < 9223372036854775808) × (self.depths.warichu < 9223372036854775808) }
+        ensures { result ≡ depths_past self (record_at node_codec tape.now at) }
+    {
+        Passed {
+            count: self.count + 1,
+            depths: self.depths.past(tape, at),
+            unmatched: self.unmatched_past(tape, at),
+        }
     }
 }
 
 // The depths behind the nodes that start before `bound`. How many they are is a part of the depths: a `for` would count twice.
-fn depths_before(source: &Source, bound: usize) -> Depths
+fn depths_before(source: &Source, bound: usize) -> Passed
     ensures { result ≡ depths_before bound no_depths (nodes_in source.now) }
 {
-    let mut d = Depths {
+    let mut d = Passed {
         count: 0,
-        blocks: 0,
-        warichu: 0,
+        depths: Depths::NONE,
         unmatched: 0,
     };
     while d.count < source.nodes.count {
@@ -179,7 +143,7 @@ fn depths_before(source: &Source, bound: usize) -> Depths
         if bound <= records::node_start(source.tape, p) as usize {
             return d;
         }
-        d = depths_past(source.tape, p, d);
+        d = d.past(source.tape, p);
     }
     d
 }
@@ -216,17 +180,16 @@ fn gap_last(
     source: &Source,
     lo: usize,
     hi: usize,
-    blocks: usize,
-    warichu: usize,
+    depths: Depths,
     d: usize,
     words: &mut [u32],
 ) -> usize
     requires inside { hi ≤ length source.now.text.now + 1 }
     requires window { Window (pairs_in source.now) words.old }
-    ensures value { result ≡ gap_last source.now.text.now (pairs_in source.now) blocks warichu lo hi d }
+    ensures value { result ≡ gap_last source.now.text.now (pairs_in source.now) depths.blocks depths.warichu lo hi d }
     ensures window_2 { Window (pairs_in source.now) words.new }
 {
-    if !cuts::depths_zero(blocks, warichu) {
+    if !depths.are_zero() {
         return d;
     }
     last_cut_in(source, lo, hi, d, words)
@@ -244,7 +207,7 @@ fn gap_from(source: &Source, i: usize) -> usize
 }
 
 // The last cut at or before `bound`, behind the last unmatched close, else 0. What the walk stops at is looked at behind the loop.
-fn last_cut(source: &Source, d: Depths, bound: usize, words: &mut [u32]) -> usize
+fn last_cut(source: &Source, d: Passed, bound: usize, words: &mut [u32]) -> usize
     requires inside { bound ≤ length source.now.text.now }
     requires front { Front source.now.tape.now source.now.nodes bound d }
     requires window { Window (pairs_in source.now) words.old }
@@ -252,23 +215,21 @@ fn last_cut(source: &Source, d: Depths, bound: usize, words: &mut [u32]) -> usiz
     ensures window_2 { Window (pairs_in source.now) words.new }
 {
     let mut i = d.count;
-    let mut blocks = d.blocks;
-    let mut warichu = d.warichu;
+    let mut depths = d.depths;
     let mut hi = bound;
     while d.unmatched < i {
         let lo = gap_from(source, i);
-        let c = gap_last(source, lo, hi + 1, blocks, warichu, hi.min(lo - 1), words);
+        let c = gap_last(source, lo, hi + 1, depths, hi.min(lo - 1), words);
         if lo <= c {
             return c;
         }
         i -= 1;
         let p = source.nodes.at + 49 * i;
         hi = c.min(records::node_start(source.tape, p) as usize);
-        blocks = block_before(source.tape, p, blocks);
-        warichu = warichu_before(source.tape, p, warichu);
+        depths = depths.before(source.tape, p);
     }
     let lo = gap_from(source, i);
-    let c = gap_last(source, lo, hi + 1, blocks, warichu, hi.min(lo - 1), words);
+    let c = gap_last(source, lo, hi + 1, depths, hi.min(lo - 1), words);
     if lo <= c {
         return c;
     }
@@ -283,21 +244,19 @@ fn last_cut_before(source: &Source, bound: usize, words: &mut [u32]) -> usize
     ensures window_2 { Window (pairs_in source.now) words.new }
 {
     let mut from: usize = 0;
-    let mut blocks: usize = 0;
-    let mut warichu: usize = 0;
+    let mut depths = Depths::NONE;
     let mut last: usize = 0;
     for i in 0..source.nodes.count {
         let p = source.nodes.at + 49 * i;
         let start = records::node_start(source.tape, p) as usize;
         if bound <= start {
-            return gap_last(source, from, bound + 1, blocks, warichu, last, words);
+            return gap_last(source, from, bound + 1, depths, last, words);
         }
-        last = gap_last(source, from, start + 1, blocks, warichu, last, words);
+        last = gap_last(source, from, start + 1, depths, last, words);
         from = records::node_end(source.tape, p) as usize;
-        blocks = cuts::block_depth(source.tape, p, blocks);
-        warichu = cuts::warichu_depth(source.tape, p, warichu);
+        depths = depths.past(source.tape, p);
     }
-    gap_last(source, from, bound + 1, blocks, warichu, last, words)
+    gap_last(source, from, bound + 1, depths, last, words)
 }
 
 // The length behind a newline.

@@ -5,3 +5,4 @@ pub mod Window
 pub mod Gaps
 pub mod Examples
 pub mod Sources
+pub mod Depths

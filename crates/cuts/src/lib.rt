@@ -2,15 +2,16 @@
 // answers by a walk over the nodes and one over the pairs.
 #![tactic(auto)]
 
-ghost use Rattle.std.specs.Prelude.{◌≡◌, SomeIff, cond, ◌+◌, ◌-◌, ◌*◌, ◌≤◌, ◌<◌, max, min, List, length, get_or, set};
+ghost use Rattle.std.specs.Prelude.{◌≡◌, SomeIff, ◌+◌, ◌-◌, ◌*◌, ◌≤◌, ◌<◌, max, min, List, length, get_or, set};
 ghost use Rattle.model.specs.Types.{PairLink};
 ghost use Rattle.model.specs.Tape.{record_at, node_codec, pair_codec};
-ghost use Rattle.model.specs.Region.{blank_line_before, is_block_open, is_block_close, is_directive, is_warichu_open, is_warichu_close, depth_behind};
+ghost use Rattle.model.specs.Region.{blank_line_before, is_block_open, is_block_close, is_warichu_open, is_warichu_close, depth_behind};
 ghost use Rattle.model.specs.Region.{nodes_allow_cut, pairs_allow_cut};
 ghost use Rattle.cuts.specs.Safe.{cut_allowed, safe_cut_in};
 ghost use Rattle.cuts.specs.Pairs.{reach_of, reach};
 ghost use Rattle.cuts.specs.Window.{noted, Noted, Risen, Reaches, Window, next_size};
-ghost use Rattle.cuts.specs.Gaps.{NodesApart, depths_zero, nodes_of, closes_nothing};
+ghost use Rattle.cuts.specs.Depths.{effect_of, behind, before, is_unopened, closes_unopened};
+ghost use Rattle.cuts.specs.Gaps.{NodesApart, depths_zero, nodes_of};
 
 // A book's text, and the records of its tape that lie over it: nodes, one behind the other, and pairs.
 #[derive(Clone, Copy)]
@@ -32,69 +33,145 @@ pub fn blank_line_before(text: &[u8], o: usize) -> bool
     2 <= o && text[o - 2] == b'\n' && text[o - 1] == b'\n'
 }
 
-// What a node is, and the depth behind it; a fall below 0 counts as 0.
-
-pub fn is_block_open(tape: &[u8], at: usize) -> bool
-    requires { at + 49 ≤ length tape.now }
-    ensures { result ≡ is_block_open (record_at node_codec tape.now at) }
-{
-    tape[at + 1] == 2
+// What a node does to a depth.
+#[derive(Clone, Copy, Debug, PartialEq, Eq)]
+pub enum Effect {
+    Opens,
+    Closes,
+    Neither,
 }
 
-pub fn is_block_close(tape: &[u8], at: usize) -> bool
-    requires { at + 49 ≤ length tape.now }
-    ensures { result ≡ is_block_close (record_at node_codec tape.now at) }
-{
-    tape[at + 1] == 3
-}
+impl Effect {
+    // The depth behind the node; a fall below 0 counts as 0.
+    #[tactic(auto, unfolding(crate::specs::Depths::behind))]
+    fn behind(self, depth: usize) -> usize
+        requires { depth < 9223372036854775808 }
+        ensures { result ≡ behind self depth }
+    {
+        match self {
+            Effect::Opens => depth + 1,
+            Effect::Closes => depth.saturating_sub(1),
+            Effect::Neither => depth,
+        }
+    }
 
-fn is_directive(tape: &[u8], at: usize, kind: u8) -> bool
-    requires { at + 49 ≤ length tape.now }
-    ensures { result ≡ is_directive kind (record_at node_codec tape.now at) }
-{
-    tape[at + 1] < 2 && tape[at + 15] == 13 && tape[at + 16] == kind
-}
+    // The same over a node with open and close exchanged: the depth before it, unless it closes at depth 0.
+    #[tactic(auto, unfolding(crate::specs::Depths::before))]
+    fn before(self, depth: usize) -> usize
+        requires { depth < 9223372036854775808 }
+        ensures { result ≡ before self depth }
+    {
+        match self {
+            Effect::Opens => depth.saturating_sub(1),
+            Effect::Closes => depth + 1,
+            Effect::Neither => depth,
+        }
+    }
 
-pub fn is_warichu_open(tape: &[u8], at: usize) -> bool
-    requires { at + 49 ≤ length tape.now }
-    ensures { result ≡ is_warichu_open (record_at node_codec tape.now at) }
-{
-    is_directive(tape, at, 4)
-}
-
-pub fn is_warichu_close(tape: &[u8], at: usize) -> bool
-    requires { at + 49 ≤ length tape.now }
-    ensures { result ≡ is_warichu_close (record_at node_codec tape.now at) }
-{
-    is_directive(tape, at, 5)
-}
-
-// The depth behind something that opens or closes.
-pub fn depth_behind(opens: bool, closes: bool, depth: usize) -> usize
-    requires { depth < 9223372036854775808 }
-    ensures { result ≡ cond opens (depth + 1) (cond closes (depth - 1) depth) }
-{
-    if opens {
-        depth + 1
-    } else if closes {
-        depth.saturating_sub(1)
-    } else {
-        depth
+    // A close at depth 0.
+    #[tactic(auto, unfolding(crate::specs::Depths::is_unopened))]
+    fn is_unopened(self, depth: usize) -> bool
+        ensures { result ≡ is_unopened self depth }
+    {
+        match self {
+            Effect::Closes => depth == 0,
+            Effect::Opens | Effect::Neither => false,
+        }
     }
 }
 
-pub fn block_depth(tape: &[u8], at: usize, depth: usize) -> usize
-    requires { (at + 49 ≤ length tape.now) × (depth < 9223372036854775808) }
-    ensures { result ≡ depth_behind is_block_open is_block_close depth (record_at node_codec tape.now at) }
+// Classes of nodes: the first and the last one of a block.
+const BLOCK_OPEN: u8 = 2;
+
+const BLOCK_CLOSE: u8 = 3;
+
+// The kind of a Directive, and the tags of those about a warichu.
+const DIRECTIVE: u8 = 13;
+
+const WARICHU_OPEN: u8 = 4;
+
+const WARICHU_CLOSE: u8 = 5;
+
+// Blocks are opened and closed by nodes of their own, by class.
+#[tactic(auto, using(std::proofs::lemmas::Bool::Decides::nat_tests), unfolding(crate::specs::Depths::effect_of, model::specs::Tape::record_at, model::specs::Tape::operands_at, model::specs::Tape::node_codec))]
+pub fn block_effect(tape: &[u8], at: usize) -> Effect
+    requires { at + 49 ≤ length tape.now }
+    ensures { result ≡ effect_of is_block_open is_block_close (record_at node_codec tape.now at) }
 {
-    depth_behind(is_block_open(tape, at), is_block_close(tape, at), depth)
+    match tape[at + 1] {
+        BLOCK_OPEN => Effect::Opens,
+        BLOCK_CLOSE => Effect::Closes,
+        _ => Effect::Neither,
+    }
 }
 
-pub fn warichu_depth(tape: &[u8], at: usize, depth: usize) -> usize
-    requires { (at + 49 ≤ length tape.now) × (depth < 9223372036854775808) }
-    ensures { result ≡ depth_behind is_warichu_open is_warichu_close depth (record_at node_codec tape.now at) }
+// A warichu by a Directive, Inline or BlockLeaf.
+#[tactic(auto, using(std::proofs::lemmas::Bool::Decides::nat_tests), unfolding(crate::specs::Depths::effect_of, model::specs::Tape::record_at, model::specs::Tape::operands_at, model::specs::Tape::node_codec))]
+pub fn warichu_effect(tape: &[u8], at: usize) -> Effect
+    requires { at + 49 ≤ length tape.now }
+    ensures { result ≡ effect_of is_warichu_open is_warichu_close (record_at node_codec tape.now at) }
 {
-    depth_behind(is_warichu_open(tape, at), is_warichu_close(tape, at), depth)
+    if BLOCK_OPEN <= tape[at + 1] || tape[at + 15] != DIRECTIVE {
+        return Effect::Neither;
+    }
+    match tape[at + 16] {
+        WARICHU_OPEN => Effect::Opens,
+        WARICHU_CLOSE => Effect::Closes,
+        _ => Effect::Neither,
+    }
+}
+
+// How many blocks are open, and how many warichus.
+#[derive(Clone, Copy, Debug, PartialEq, Eq)]
+pub struct Depths {
+    pub blocks: usize,
+    pub warichu: usize,
+}
+
+impl Depths {
+    pub const NONE: Depths = Depths {
+        blocks: 0,
+        warichu: 0,
+    };
+
+    pub fn are_zero(self) -> bool
+        ensures { result ≡ depths_zero self.blocks self.warichu }
+    {
+        self.blocks == 0 && self.warichu == 0
+    }
+
+    // Behind the node at `at`.
+    pub fn past(self, tape: &[u8], at: usize) -> Depths
+        requires { (at + 49 ≤ length tape.now) × (self.blocks < 9223372036854775808) × (self.warichu < 9223372036854775808) }
+        ensures block_depth { result.blocks ≡ depth_behind is_block_open is_block_close self.blocks (record_at node_codec tape.now at) }
+        ensures warichu_depth { result.warichu ≡ depth_behind is_warichu_open is_warichu_close self.warichu (record_at node_codec tape.now at) }
+    {
+        Depths {
+            blocks: block_effect(tape, at).behind(self.blocks),
+            warichu: warichu_effect(tape, at).behind(self.warichu),
+        }
+    }
+
+    // Before the node at `at`, counted backwards.
+    pub fn before(self, tape: &[u8], at: usize) -> Depths
+        requires { (at + 49 ≤ length tape.now) × (self.blocks < 9223372036854775808) × (self.warichu < 9223372036854775808) }
+        ensures block_depth { result.blocks ≡ depth_behind is_block_close is_block_open self.blocks (record_at node_codec tape.now at) }
+        ensures warichu_depth { result.warichu ≡ depth_behind is_warichu_close is_warichu_open self.warichu (record_at node_codec tape.now at) }
+    {
+        Depths {
+            blocks: block_effect(tape, at).before(self.blocks),
+            warichu: warichu_effect(tape, at).before(self.warichu),
+        }
+    }
+
+    // Does the node at `at` close what none has opened?
+    pub fn closes_unopened(self, tape: &[u8], at: usize) -> bool
+        requires { at + 49 ≤ length tape.now }
+        ensures { result ≡ closes_unopened self.blocks self.warichu (record_at node_codec tape.now at) }
+    {
+        block_effect(tape, at).is_unopened(self.blocks)
+            || warichu_effect(tape, at).is_unopened(self.warichu)
+    }
 }
 
 fn pair_start(tape: &[u8], at: usize) -> u32
@@ -116,18 +193,6 @@ fn reach_of(start: u32, end: u32, o: usize) -> u32
     ensures { result ≡ reach_of start end o }
 {
     if (start as usize) < o { end } else { 0 }
-}
-
-pub fn depths_zero(blocks: usize, warichu: usize) -> bool
-    ensures { result ≡ depths_zero blocks warichu }
-{
-    blocks == 0 && warichu == 0
-}
-
-pub fn closes_nothing(closes: bool, depth: usize) -> bool
-    ensures { result ≡ closes_nothing closes depth }
-{
-    closes && depth == 0
 }
 
 // The reach at many offsets: one walk over the pairs fills a window. Word 0 has its first offset, word 1 how many offsets it has,
@@ -234,20 +299,18 @@ impl<'a> Source<'a> {
     pub fn nodes_allow_cut(&self, o: usize) -> bool
         ensures { result ≡ nodes_allow_cut (nodes_in self.now) o }
     {
-        let mut blocks: usize = 0;
-        let mut warichu: usize = 0;
+        let mut depths = Depths::NONE;
         for i in 0..self.nodes.count {
             let p = self.nodes.at + 49 * i;
             if o <= records::node_start(self.tape, p) as usize {
-                return depths_zero(blocks, warichu);
+                return depths.are_zero();
             }
             if o < records::node_end(self.tape, p) as usize {
                 return false;
             }
-            blocks = block_depth(self.tape, p, blocks);
-            warichu = warichu_depth(self.tape, p, warichu);
+            depths = depths.past(self.tape, p);
         }
-        depths_zero(blocks, warichu)
+        depths.are_zero()
     }
 
     // Text, nodes and pairs allow a cut.

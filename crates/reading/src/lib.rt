@@ -7,34 +7,24 @@ ghost use Rattle.model.specs.Lists.{any};
 ghost use Rattle.model.specs.Tape.{record_at, records_at, node_codec, diagnostic_codec};
 ghost use Rattle.model.specs.Merge.{balanced_nodes, is_unclosed, normalized_offset};
 ghost use Rattle.bounds.specs.Search.{InOrder};
-ghost use Rattle.reading.specs.Balance.{closes_unopened};
 ghost use Rattle.reading.specs.Until.{Until};
 
-// A node that closes what none has opened.
-fn closes_unopened(tape: &[u8], at: usize, blocks: usize, warichu: usize) -> bool
-    requires { at + 49 ≤ length tape.now }
-    ensures { result ≡ closes_unopened blocks warichu (record_at node_codec tape.now at) }
-{
-    cuts::closes_nothing(cuts::is_block_close(tape, at), blocks)
-        || cuts::closes_nothing(cuts::is_warichu_close(tape, at), warichu)
-}
+use cuts::Depths;
 
 // Number 13. `balanced_nodes`: no close falls below 0, and all that opens is closed.
 pub fn balanced_nodes(tape: &[u8], nodes: places::Run) -> bool
     requires { nodes.at + 49 * nodes.count ≤ length tape.now }
     ensures { result ≡ balanced_nodes (records_at node_codec tape.now nodes.at nodes.count) }
 {
-    let mut blocks: usize = 0;
-    let mut warichu: usize = 0;
+    let mut depths = Depths::NONE;
     for i in 0..nodes.count {
         let p = nodes.at + 49 * i;
-        if closes_unopened(tape, p, blocks, warichu) {
+        if depths.closes_unopened(tape, p) {
             return false;
         }
-        blocks = cuts::block_depth(tape, p, blocks);
-        warichu = cuts::warichu_depth(tape, p, warichu);
+        depths = depths.past(tape, p);
     }
-    cuts::depths_zero(blocks, warichu)
+    depths.are_zero()
 }
 
 #[tactic(auto, using(std::proofs::lemmas::Bool::Decides::nat_tests), unfolding(model::specs::Merge::is_unclosed, model::specs::Tape::record_at, model::specs::Tape::operands_at, model::specs::Tape::diagnostic_codec))]

@@ -12,11 +12,11 @@ returns-then-bound-node_start c =
 
 pub loop-d-smaller : goal.loop-d-smaller
 loop-d-smaller c =
-    omega (arith, past_count _ _ _ c.depths_past-d.ensures)
+    omega (arith, past_count _ _ _ c.past-d.ensures)
 
 pub loop-d-preserved : goal.loop-d-preserved
 loop-d-preserved c =
-    passing_more c.loop-d.invariant c.loop-d-test.true _ c.node_start.ensures c.if-bound-node_start.false _ c.depths_past-d.ensures
+    passing_more c.loop-d.invariant c.loop-d-test.true _ c.node_start.ensures c.if-bound-node_start.false _ c.past-d.ensures
 
 pub returns : goal.returns
 returns c =

@@ -32,15 +32,15 @@ returns-then-lo-c c =
       window_2 = c.gap_last-c.ensures.window_2;
     }
 
-pub warichu_before-warichu-requires : goal.warichu_before-warichu-requires
-warichu_before-warichu-requires c =
+pub before-depths-requires : goal.before-depths-requires
+before-depths-requires c =
     omega (arith, c.args.source.now.nodes_inside, c.loop-i.invariant.0.upto, c.requires.front.within, c.loop-i-test.true, c.loop-i.invariant.0.warichu_small)
 
 pub loop-i-preserved : goal.loop-i-preserved
 loop-i-preserved c = (
   down_more (apart_in_order c.args.source.now.nodes_apart) c.requires.front c.loop-i.invariant.0 _ c.gap_from-lo.ensures _ (search rules) _ c.gap_last-c.ensures.value
-      c.if-lo-c.false _ refl c.loop-i-test.true _ c.node_start.ensures _ (search rules) _ _ c.block_before-blocks.ensures
-      c.warichu_before-warichu.ensures,
+      c.if-lo-c.false _ refl c.loop-i-test.true _ c.node_start.ensures _ (search rules) _ _ c.before-depths.ensures.block_depth
+      c.before-depths.ensures.warichu_depth,
   c.gap_last-c.ensures.window_2,
   c.gap_last-c.auto.words ∙ c.loop-i.invariant.2,
 )

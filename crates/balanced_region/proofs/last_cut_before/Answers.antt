@@ -36,7 +36,7 @@ gap_last-last-requires c =
 pub loop-i-preserved : goal.loop-i-preserved
 loop-i-preserved c = (
   last_walk_more c.loop-i.invariant.0 c.loop-i-test.true _ c.node_start-start.ensures c.if-bound-start.false _ c.gap_last-last.ensures.value _
-      c.node_end-from.ensures _ _ c.block_depth-blocks.ensures c.warichu_depth-warichu.ensures,
+      c.node_end-from.ensures _ _ c.past-depths.ensures.block_depth c.past-depths.ensures.warichu_depth,
   c.gap_last-last.ensures.window_2,
   c.gap_last-last.auto.words ∙ c.loop-i.invariant.2,
 )

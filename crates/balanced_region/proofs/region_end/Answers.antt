@@ -28,7 +28,7 @@ returns-then-c-start c =
 pub loop-i-preserved : goal.loop-i-preserved
 loop-i-preserved c = (
   end_walk_more c.loop-i.invariant.0 c.loop-i-test.true _ c.node_start-start.ensures _ c.gap_first-c.ensures.value c.if-c-start.false _
-      c.node_end-from.ensures _ _ c.block_depth-blocks.ensures c.warichu_depth-warichu.ensures,
+      c.node_end-from.ensures _ _ c.past-depths.ensures.block_depth c.past-depths.ensures.warichu_depth,
   c.gap_first-c.ensures.window_2,
   c.gap_first-c.auto.words ∙ c.loop-i.invariant.2,
 )

@@ -7,7 +7,7 @@ loop-i-init c =
 
 pub returns-then-o-node_start : goal.returns-then-o-node_start
 returns-then-o-node_start c =
-    upto_gap c.loop-i.invariant c.loop-i-test.true _ c.node_start.ensures c.if-o-node_start.true _ c.depths_zero.ensures
+    upto_gap c.loop-i.invariant c.loop-i-test.true _ c.node_start.ensures c.if-o-node_start.true _ c.are_zero.ensures
 
 pub returns-then-o-node_end : goal.returns-then-o-node_end
 returns-then-o-node_end c =
@@ -15,8 +15,8 @@ returns-then-o-node_end c =
 
 pub loop-i-preserved : goal.loop-i-preserved
 loop-i-preserved c =
-    upto_more c.loop-i.invariant c.loop-i-test.true _ c.node_start.ensures _ c.node_end.ensures c.if-o-node_end.false _ _ c.block_depth-blocks.ensures c.warichu_depth-warichu.ensures
+    upto_more c.loop-i.invariant c.loop-i-test.true _ c.node_start.ensures _ c.node_end.ensures c.if-o-node_end.false _ _ c.past-depths.ensures.block_depth c.past-depths.ensures.warichu_depth
 
 pub returns : goal.returns
 returns c =
-    upto_rest c.loop-i.invariant c.loop-i-test.false _ c.depths_zero-2.ensures
+    upto_rest c.loop-i.invariant c.loop-i-test.false _ c.are_zero-2.ensures
