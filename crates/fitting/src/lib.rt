@@ -61,7 +61,7 @@ fn normalized_cut(tape: &[u8], nodes: places::Run, cut: SourceOffset) -> Normali
     requires cut_bound { normalized_offset (records_at node_codec tape.now nodes.at nodes.count) cut.0 < 2 ^ 32 }
     ensures { result.0 ≡ normalized_offset (records_at node_codec tape.now nodes.at nodes.count) cut.0 }
 {
-    let at = reading::normalized_offset(tape, nodes.at, nodes.count, cut.0);
+    let at = reading::normalized_offset(tape, nodes, cut.0);
     NormalizedOffset(at as u32)
 }
 
@@ -188,10 +188,10 @@ fn check_fitting(
     if !passage::is_region_text(old_text, first, last, replacement, own_text) {
         return Err(Refusal::OtherText);
     }
-    if !reading::balanced_nodes(readingtape, q.nodes.at, q.nodes.count) {
+    if !reading::balanced_nodes(readingtape, q.nodes) {
         return Err(Refusal::Unbalanced);
     }
-    if reading::has_unclosed(readingtape, q.diagnostics.at, q.diagnostics.count) {
+    if reading::has_unclosed(readingtape, q.diagnostics) {
         return Err(Refusal::Unclosed);
     }
     check_cuts(tape, bytes, readingtape, readingbytes, f, work)

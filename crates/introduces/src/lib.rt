@@ -636,7 +636,7 @@ fn refers_before(
     requires ready_2 { Ready reading.now letters.now q own (last_words middle words.old) }
     ensures { result ≡ any (refers_to (store_of (book_at tape.now (places_in tape.now) bytes.now).layers) (keep (ends_by start) (book_at tape.now (places_in tape.now) bytes.now).source_nodes) (store_of (book_at reading.now (places_in reading.now) letters.now).layers)) (book_at reading.now (places_in reading.now) letters.now).source_nodes }
 {
-    let n = reading::nodes_until(tape, p.nodes.at, p.nodes.count, start);
+    let n = reading::nodes_until(tape, p.nodes, start);
     let first = p.text as usize + p.normalized as usize;
     let cut = region::last_strings_at(tape, bytes, p, st);
     let begin = q.text as usize + q.normalized as usize;

@@ -16,6 +16,8 @@ ghost use Rattle.span.specs.Values.{span_of};
 ghost use Rattle.region.specs.Chosen.{whole_text};
 ghost use Rattle.region.specs.Held.{Held};
 
+use balanced_region::Edited;
+use cuts::Source;
 use refusal::Refusal;
 use span::Span;
 
@@ -66,15 +68,15 @@ fn depends(
 }
 
 // Numbers 8 to 11 of a book that passed 1 to 7, or the region in offsets of the old text. The words may hold anything.
-pub fn chosen_region(
-    tape: &[u8],
-    bytes: &[u8],
+pub fn chosen_region<'a>(
+    tape: &'a [u8],
+    bytes: &'a [u8],
     p: places::Places,
     st: store::Store,
     words: &mut [u32],
     start: u32,
     end: u32,
-    replacement: &[u8],
+    replacement: &'a [u8],
 ) -> Result<Span, Refusal>
     requires { Held tape.now bytes.now p st }
     ensures { checked_map span_of (checked result) ≡ chosen_region (book_at tape.now (places_in tape.now) bytes.now) (edit_of start end replacement.now) }
@@ -84,16 +86,18 @@ pub fn chosen_region(
     if depends(tape, bytes, p, st, words, start) {
         return Err(Refusal::RubyFormatDependency);
     }
-    let r = balanced_region::balanced_region(
-        tape,
-        text,
-        p.nodes,
-        p.pairs,
-        start as usize,
-        end as usize,
+    let edited = Edited {
+        source: Source {
+            tape,
+            text,
+            nodes: p.nodes,
+            pairs: p.pairs,
+        },
+        start: start as usize,
+        end: end as usize,
         replacement,
-        words,
-    );
+    };
+    let r = edited.balanced_region(words);
     if is_whole(p.text, r) {
         return Err(Refusal::WholeText);
     }

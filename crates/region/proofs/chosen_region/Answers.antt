@@ -1,5 +1,6 @@
 use Rattle.std.proofs.Common.{arith, refl}
 use Rattle.refusal.specs.Refusal.{handed_on, number_bounds}
+use Rattle.cuts.specs.Gaps.{nodes_apart}
 use Rattle.region.specs.Held.{held_without}
 use Rattle.region.specs.Ready.{ready_inside, ready_runs}
 use Rattle.region.specs.Stage.{stage_short, stage_edit, stage_depends, stage_region, stage_nodes, stage_fits, stage_whole, stage_chosen}
@@ -21,13 +22,29 @@ pub returns-then-depends : goal.returns-then-depends
 returns-then-depends c =
     stage_depends (held_without c.requires) _ _ _ c.in_ok-check_edit.ensures refl c.depends.ensures c.if-depends.true
 
-pub balanced_region-r-requires : goal.balanced_region-r-requires
-balanced_region-r-requires c =
-    record {
-      count_in_bounds = ready_runs (held_without c.requires);
-      start_in_bounds = stage_region (held_without c.requires) _ _ _ c.in_ok-check_edit.ensures refl c.depends.ensures;
-      nodes_in = stage_nodes (held_without c.requires) _ _ _ c.in_ok-check_edit.ensures refl c.depends.ensures;
-    }
+pub invariant_of-edited-clause-nodes_inside : goal.invariant_of-edited-clause-nodes_inside
+invariant_of-edited-clause-nodes_inside c =
+    (ready_runs (held_without c.requires)).0
+
+pub invariant_of-edited-clause-pairs_inside : goal.invariant_of-edited-clause-pairs_inside
+invariant_of-edited-clause-pairs_inside c =
+    (ready_runs (held_without c.requires)).1
+
+pub invariant_of-edited-clause-nodes_apart : goal.invariant_of-edited-clause-nodes_apart
+invariant_of-edited-clause-nodes_apart c =
+    nodes_apart (stage_nodes (held_without c.requires) _ _ _ c.in_ok-check_edit.ensures refl c.depends.ensures)
+
+pub invariant_of-edited-2-clause-nodes_in : goal.invariant_of-edited-2-clause-nodes_in
+invariant_of-edited-2-clause-nodes_in c =
+    stage_nodes (held_without c.requires) _ _ _ c.in_ok-check_edit.ensures refl c.depends.ensures
+
+pub invariant_of-edited-2-clause-start_inside : goal.invariant_of-edited-2-clause-start_inside
+invariant_of-edited-2-clause-start_inside c =
+    (stage_region (held_without c.requires) _ _ _ c.in_ok-check_edit.ensures refl c.depends.ensures).0
+
+pub invariant_of-edited-2-clause-end_inside : goal.invariant_of-edited-2-clause-end_inside
+invariant_of-edited-2-clause-end_inside c =
+    (stage_region (held_without c.requires) _ _ _ c.in_ok-check_edit.ensures refl c.depends.ensures).1
 
 pub returns-then-is_whole : goal.returns-then-is_whole
 returns-then-is_whole c =
