@@ -438,6 +438,7 @@ fn refers_by_words(nodes: &Nodes, words: &mut [u32], from: u32) -> bool
 {
     let (index, words) = words.split_at_mut(words.len() / 4);
     nodes.strings.write_index(index);
+    // Field by field: a method that lends the index and the rest at one lifetime is not to be called with this one.
     let indexed = Nodes {
         strings: Strings {
             tape: nodes.strings.tape,

@@ -15,8 +15,7 @@ use Rattle.store.specs.declared.Store.{Store}
 use Rattle.store.specs.Pools.{before_mono, before_next, before_most, pool_start_or}
 use Rattle.store.specs.Standing.{string_start, string_pool, length_at, string_at_lem}
 use Rattle.strings.specs.Starts.{lengths_in, start_in, store_in, OfTape, Readable, sum_between, strings_count}
-use Rattle.wire.specs.Overwrite.{overwrite}
-use Rattle.strings.specs.Index.{Indexed, index_in, index_written}
+use Rattle.strings.specs.Index.{Indexed}
 
 -- ---- definitions
 
@@ -172,7 +171,7 @@ span_of_start lengths id e = e
 pub sides_readable : {t : List ℕ} {st : Store} {words old new : List ℕ} → Resolvable t st words old new → Readable t st (length old + length new)
 sides_readable r = record { store = r.sides.store; bytes = omega (arith, r.sides.whole); small = r.small }
 
--- by the index that `index_strings` leaves in any words
-pub resolvable_by : {t : List ℕ} {st : Store} {words old new : List ℕ} → Resolvable t st words old new → (first : List ℕ) {index : List ℕ}
-    → index ≡ overwrite first 0 (index_in (lengths_in t) first) → Resolvable t st index old new
-resolvable_by {t} r first e = record { sides = r.sides; indexed = index_written (lengths_in t) first e; small = r.small }
+-- by another index
+pub by_index : {t : List ℕ} {st : Store} {words old new : List ℕ} → Resolvable t st words old new → {index : List ℕ} → Indexed (lengths_in t) index
+    → Resolvable t st index old new
+by_index r i = record { sides = r.sides; indexed = i; small = r.small }

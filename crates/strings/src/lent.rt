@@ -5,7 +5,7 @@ ghost use Rattle.std.specs.Prelude.{◌≡◌, ◌++◌, ◌<◌, get_or};
 ghost use Rattle.model.specs.Store.{resolve_str};
 ghost use Rattle.strings.specs.Starts.{lengths_in, store_in};
 ghost use Rattle.wire.specs.Overwrite.{overwrite};
-ghost use Rattle.strings.specs.Index.{index_in};
+ghost use Rattle.strings.specs.Index.{index_in, Indexed};
 ghost use Rattle.strings.specs.Shown.{Resolvable, shown_in};
 
 use store::Store;
@@ -44,7 +44,8 @@ impl<'a> Strings<'a> {
 
     // An index of these strings in any words, as `index_strings` makes it.
     pub fn write_index(&self, words: &mut [u32])
-        ensures { words.new ≡ overwrite words.old 0 (index_in (lengths_in self.now.tape.now) words.old) }
+        ensures indexed { Indexed (lengths_in self.now.tape.now) words.new }
+        ensures value { words.new ≡ overwrite words.old 0 (index_in (lengths_in self.now.tape.now) words.old) }
     {
         crate::index_strings(
             self.tape,
