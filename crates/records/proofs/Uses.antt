@@ -23,7 +23,7 @@ row_right n = all_up_to 6 (uses_at n)
 
 -- all of them
 rows_right : all_up_to 64 row_right ≡ true
-unfolding row_right uses_at all_up_to word_use use_in use_of field_table use_among uses_of format_uses gaiji_uses image_uses other_uses
+unfolding row_right uses_at all_up_to word_use use_in use_of field_table uses_of format_uses gaiji_uses image_uses other_uses
 rows_right = refl
 
 same_uses : (k t : ℕ) → uses_of k t ≡ uses_of k (variant_of k t)
@@ -68,7 +68,7 @@ uses_none k t h =
     ) refl
 
 none_used : (i : ℕ) → use_among (other_uses 16) i ≡ 0
-unfolding use_among other_uses
+unfolding other_uses
 none_used zero = refl
 none_used (suc zero) = refl
 none_used (suc (suc zero)) = refl

@@ -48,7 +48,7 @@ use_number Segments = 5
 use_number SegmentsLen = 6
 
 -- the number of word i
-unfoldable pub use_among : List Use → ℕ → ℕ
+abbrev pub use_among : List Use → ℕ → ℕ
 use_among us i = use_number (get_or us i Unused)
 
 -- six words

@@ -6,6 +6,5 @@ use Rattle.records.proofs.Uses.{uses_right}
 use Rattle.records.proofs.word_use.Goals as goal
 
 pub returns : goal.returns
-unfolding use_among
 returns c =
     ap (λ (us : List Use). use_among us c.args.i) c.uses_of.ensures ∙ uses_right c.args.kind c.args.tag c.args.i c.requires

@@ -5,7 +5,6 @@ use Rattle.records.proofs.Uses.{words_fit_all}
 use Rattle.records.proofs.words_fit.Goals as goal
 
 pub returns : goal.returns
-unfolding use_among
 returns c =
     let a = c.args in
     range_all _ _ _ _ (λ (i : ℕ). use_fits a.used (use_among (uses_of a.kind a.tag) i) (get_or a.words i 0)) refl (λ x b q k. search rules) _ c.all.ensures.ran
