@@ -14,7 +14,7 @@ use Rattle.sizes.specs.InPlace.{content_count, segment_count, segments_add, segm
 use Rattle.sizes.specs.InPlace.{field_words, string_adds, used_adds, place_adds, body_places}
 use Rattle.sizes.specs.declared.Room.{Room}
 use Rattle.sizes.specs.declared.Sizes.{Sizes}
-use Rattle.sizes.specs.declared.FieldWords.{FieldWords}
+use Rattle.sizes.specs.Words.{UsedWords}
 
 -- ---- bodies
 
@@ -23,11 +23,11 @@ unfolding body_adds
 body_sum l tp st b = sym (body_places (inner_adds l tp st) tp st b)
 
 module _ (m : Room) (t : Sizes) (inner : Body → Added) (tp : List ℕ) (st : Store) {r : Option Sizes} where
-  pub place_read : (b : Body) (j : ℕ) (f : FieldWords) → f ≡ field_words b j → r ≡ plus m t (used_adds inner tp st f) → r ≡ plus m t (place_adds inner tp st b j)
+  pub place_read : (b : Body) (j : ℕ) (f : UsedWords) → f ≡ field_words b j → r ≡ plus m t (used_adds inner tp st f) → r ≡ plus m t (place_adds inner tp st b j)
   unfolding place_adds
-  place_read b j f e q = q ∙ ap (λ (x : FieldWords). plus m t (used_adds inner tp st x)) e
+  place_read b j f e q = q ∙ ap (λ (x : UsedWords). plus m t (used_adds inner tp st x)) e
 
-  module _ (f : FieldWords) where
+  module _ (f : UsedWords) where
     pub used_contents : f.usage ≡ 3 → r ≡ plus m t (content_run_adds inner tp st f.first f.second) → r ≡ plus m t (used_adds inner tp st f)
     unfolding used_adds
     used_contents e q = rw (eq-eqb f.usage 3 e) q
