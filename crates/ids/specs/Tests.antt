@@ -67,6 +67,23 @@ pub no_seventh : (t : List ℕ) (p i : ℕ) → 5 ≤ i → i < 6 → 0 ≡ word
 unfolding body_at
 no_seventh t p i h l = let e : i ≡ 5 = omega arith in rw e refl
 
+module _ (st : Store) (u w next : ℕ) where
+  pub used_string : u ≡ 1 → used_well st u w next ≡ string_in st w
+  unfolding used_well
+  used_string e = rw e refl
+
+  pub used_optional : u ≡ 2 → (w ≡ no_string → ⊥) → used_well st u w next ≡ string_in st w
+  unfolding used_well
+  used_optional e n = rw (e, ne_eqb w no_string n) refl
+
+  pub used_contents : u ≡ 3 → used_well st u w next ≡ contents_in st w next
+  unfolding used_well
+  used_contents e = rw e refl
+
+  pub used_segments : u ≡ 5 → used_well st u w next ≡ segments_in st w next
+  unfolding used_well
+  used_segments e = rw e refl
+
 -- word i by its use, as the code has it
 module _ (st : Store) (t : List ℕ) (p i : ℕ) {us : List Use} (e : us ≡ uses_of (byte_at t p) (byte_at t (p + 1))) (h : i < 6) where
   use_read : use_among us i ≡ word_use (byte_at t p) (byte_at t (p + 1)) i

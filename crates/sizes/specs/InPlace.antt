@@ -227,7 +227,3 @@ module _ (m : Room) (t : Sizes) (k : Kept m t) (u w : ℕ) where
   pub string_optional : {r : Option Sizes} → u ≡ 2 → (w ≡ no_string → ⊥) → r ≡ plus m t one_call → r ≡ plus m t (string_adds u w)
   unfolding string_adds
   string_optional e z q = rw (e, ne_eqb w no_string z) q
-
-  pub string_none : (u ≡ 1 → ⊥) → (u ≡ 2 → ⊥) → Some t ≡ plus m t (string_adds u w)
-  unfolding string_adds
-  string_none a b = rw (ne_eqb u 1 a, ne_eqb u 2 b) (sym k.is)

@@ -145,6 +145,7 @@ pub fn field_at(tape: &[u8], at: usize, j: usize) -> FieldWords
 }
 
 // A string is one call, a missing one none; so is a word at which no field begins.
+#[tactic(auto, using(std::proofs::lemmas::Bool::Decides::nat_tests), unfolding(crate::specs::InPlace::string_adds))]
 fn string_sizes(room: Room, t: Sizes, usage: Use, w: u32) -> Option<Sizes>
     requires { Kept room t }
     ensures { result ≡ plus room t (string_adds (use_number usage) w) }
@@ -216,6 +217,7 @@ fn body_sizes(
 }
 
 #[cycle(tree_sizes)]
+#[tactic(auto, using(std::proofs::lemmas::Bool::Decides::nat_tests), unfolding(crate::specs::InPlace::used_adds))]
 fn field_sizes(
     tape: &[u8],
     st: store::Store,
