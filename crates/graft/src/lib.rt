@@ -22,7 +22,6 @@ ghost use Rattle.graft.specs.Walk.{Ready, body_from, place_from, content_run_fro
 ghost use Rattle.graft.specs.Named.{source_store, pair_words, Named, ShowsAs};
 ghost use Rattle.representatives.specs.Pairs.{Pairs};
 ghost use Rattle.graft.specs.Walk.{Source, index_words, string_from, shown_contents, shown_segments, StartTold, id_from, WordsTold, ContentsTold, SegmentsTold};
-
 ghost use Rattle.records.specs.Uses.{use_number};
 ghost use Rattle.sizes.specs.Words.{words_of};
 

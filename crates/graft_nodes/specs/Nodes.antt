@@ -51,7 +51,7 @@ module _ (t d : List ℕ) (st : Store) (at : ℕ) where
           rw (node_body t at) z
 
       pub node_known : node_in st found ≡ true → body_in st (body_at t (at + 15)) ≡ true
-      node_known k = node_answer_lem st t at {body_in st (body_at t (at + 15))} h refl ∙ k
+      node_known k = node_answer_lem st t at h refl ∙ k
 
       whole : node_words t d found (layer_from p work strs m) ≡ body_from 33 t d p work strs m (body_at t (at + 15)) 6
       unfolding node_words node_fields show_node show_with graft_node body_from show_inner fields_of

@@ -98,22 +98,14 @@ fn content_count(st: store::Store, start: u32, len: u32) -> u32
     requires { st.layers ≤ 32 }
     ensures { result ≡ content_count st start len }
 {
-    if st.has_contents(start, len) {
-        len
-    } else {
-        0
-    }
+    if st.has_contents(start, len) { len } else { 0 }
 }
 
 fn segment_count(st: store::Store, start: u32, len: u32) -> u32
     requires { st.layers ≤ 32 }
     ensures { result ≡ segment_count st start len }
 {
-    if st.has_segments(start, len) {
-        len
-    } else {
-        0
-    }
+    if st.has_segments(start, len) { len } else { 0 }
 }
 
 // Section 5. Fields go in the Rust's order: which of the six words comes at place j.
