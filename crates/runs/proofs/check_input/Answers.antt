@@ -1,5 +1,5 @@
 use Rattle.runs.specs.Input.{number_short, number_part, number_size, number_none}
-use Rattle.runs.proofs.input_refusal.Goals as goal
+use Rattle.runs.proofs.check_input.Goals as goal
 
 pub returns-then-input-lt-HEAD : goal.returns-then-input-lt-HEAD
 returns-then-input-lt-HEAD c =
