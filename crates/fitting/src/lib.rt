@@ -15,6 +15,7 @@ ghost use Rattle.fitting.specs.Numbers.{cut_number, reading_number};
 ghost use Rattle.fitting.specs.Window.{window_from};
 ghost use Rattle.fitting.specs.Stages.{Given, Read, TargetFound, Fits, region_of};
 
+use edit::Edit;
 use refusal::Refusal;
 use span::{NormalizedOffset, SourceOffset, Span};
 use splice::Window;
@@ -50,7 +51,12 @@ fn target_of(
 {
     let p = tape::checked_book(tape, bytes)?;
     let st = store::store_of(tape, p.layers);
-    let region = region::chosen_region(tape, bytes, p, st, work, start, end, replacement)?;
+    let edit = Edit {
+        start,
+        end,
+        replacement,
+    };
+    let region = region::chosen_region(tape, bytes, p, st, &edit, work)?;
     Ok(Target { p, st, region })
 }
 

@@ -18,6 +18,7 @@ ghost use Rattle.region.specs.Held.{Held};
 
 use balanced_region::Edited;
 use cuts::Source;
+use edit::Edit;
 use refusal::Refusal;
 use span::Span;
 
@@ -73,17 +74,15 @@ pub fn chosen_region<'a>(
     bytes: &'a [u8],
     p: places::Places,
     st: store::Store,
+    edit: &Edit<'a>,
     words: &mut [u32],
-    start: u32,
-    end: u32,
-    replacement: &'a [u8],
 ) -> Result<Span, Refusal>
     requires { Held tape.now bytes.now p st }
-    ensures { checked_map span_of (checked result) ≡ chosen_region (book_at tape.now (places_in tape.now) bytes.now) (edit_of start end replacement.now) }
+    ensures { checked_map span_of (checked result) ≡ chosen_region (book_at tape.now (places_in tape.now) bytes.now) (edit_of edit.now.start edit.now.end edit.now.replacement.now) }
 {
     let text = &bytes[0..p.text as usize];
-    edit::check_edit(text, start, end, replacement)?;
-    if depends(tape, bytes, p, st, words, start) {
+    edit::check_edit(text, edit)?;
+    if depends(tape, bytes, p, st, words, edit.start) {
         return Err(Refusal::RubyFormatDependency);
     }
     let edited = Edited {
@@ -93,9 +92,9 @@ pub fn chosen_region<'a>(
             nodes: p.nodes,
             pairs: p.pairs,
         },
-        start: start as usize,
-        end: end as usize,
-        replacement,
+        start: edit.start as usize,
+        end: edit.end as usize,
+        replacement: edit.replacement,
     };
     let r = edited.balanced_region(words);
     if is_whole(p.text, r) {
@@ -108,19 +107,12 @@ pub fn chosen_region<'a>(
 }
 
 // Numbers 1 to 11; the words are left as they are used.
-fn region_of(
-    tape: &[u8],
-    bytes: &[u8],
-    start: u32,
-    end: u32,
-    replacement: &[u8],
-    words: &mut [u32],
-) -> Result<Span, Refusal>
-    ensures { (checked_map span_of (checked result) ≡ choose_region tape.now bytes.now (edit_of start end replacement.now)) × (length words.new ≡ length words.old) }
+fn region_of(tape: &[u8], bytes: &[u8], edit: &Edit, words: &mut [u32]) -> Result<Span, Refusal>
+    ensures { (checked_map span_of (checked result) ≡ choose_region tape.now bytes.now (edit_of edit.now.start edit.now.end edit.now.replacement.now)) × (length words.new ≡ length words.old) }
 {
     let p = tape::checked_book(tape, bytes)?;
     let st = store::store_of(tape, p.layers);
-    chosen_region(tape, bytes, p, st, words, start, end, replacement)
+    chosen_region(tape, bytes, p, st, edit, words)
 }
 
 // `choose_region`: choosing the region alone runs up to 11. The words come back as zeros.
@@ -134,7 +126,12 @@ pub fn choose_region(
 ) -> Result<Span, Refusal>
     ensures { (checked_map span_of (checked result) ≡ choose_region tape.now bytes.now (edit_of start end replacement.now)) × (words.new ≡ zeros (length words.old)) }
 {
-    let found = region_of(tape, bytes, start, end, replacement, words);
+    let edit = Edit {
+        start,
+        end,
+        replacement,
+    };
+    let found = region_of(tape, bytes, &edit, words);
     wire::zero_words(words);
     found
 }
