@@ -15,7 +15,6 @@ ghost use Rattle.fitting.specs.Numbers.{cut_number, reading_number};
 ghost use Rattle.fitting.specs.Window.{window_from};
 ghost use Rattle.fitting.specs.Stages.{Given, Read, TargetFound, Fits, region_of};
 
-use edit::Edit;
 use refusal::Refusal;
 use span::{NormalizedOffset, SourceOffset, Span};
 use splice::Window;
@@ -51,7 +50,7 @@ fn target_of(
 {
     let p = tape::checked_book(tape, bytes)?;
     let st = store::store_of(tape, p.layers);
-    let edit = Edit {
+    let edit = edit::Edit {
         start,
         end,
         replacement,
