@@ -13,11 +13,17 @@ ghost use Rattle.splice.specs.Kinds.{node_kind};
 ghost use Rattle.splice.specs.Parts.{is_in, as_in};
 ghost use Rattle.splice.specs.declared.Part.TheVariants.{Reading};
 
+const NODE: splice::Extent = splice::Extent {
+    first: 3,
+    last: 7,
+    past: 0,
+};
+
 fn node_in(tape: &[u8], at: usize, w: splice::Window, part: splice::Part) -> bool
     requires { at + 49 ≤ length tape.now }
     ensures { result ≡ is_in node_located (window_value w) part (record_at node_codec tape.now at) }
 {
-    splice::row_in(tape, at, 3, 7, 0, w.start, w.end, part)
+    splice::row_in(tape, at, NODE, w.source(), part)
 }
 
 fn node_as_in(n: records::SourceNode, w: splice::Window, part: splice::Part) -> records::SourceNode
