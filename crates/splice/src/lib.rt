@@ -4,8 +4,8 @@
 #![tactic(auto)]
 
 ghost use Rattle.std.specs.Prelude.{◌≡◌, ℕ, ◌+◌, ◌*◌, ◌%◌, ◌≤◌, length, map};
-ghost use Rattle.model.specs.Tape.{Codec, record_at, records_at, record_bytes, records_bytes, pair_codec, container_codec, diagnostic_codec};
-ghost use Rattle.model.specs.Merge.{Located, kept_before, kept_behind, pair_located, container_located, diagnostic_located, moved_offset};
+ghost use Rattle.model.specs.Tape.{Codec, record_at, records_at, record_bytes, records_bytes, pair_codec, container_codec, diagnostic_codec, node_codec};
+ghost use Rattle.model.specs.Merge.{Located, kept_before, kept_behind, pair_located, container_located, diagnostic_located, node_located, moved_offset};
 ghost use Rattle.wire.specs.Overwrite.{overwrite};
 ghost use Rattle.span.specs.Values.{value_of};
 ghost use Rattle.splice.specs.Parts.{Kind, span_in, is_in, as_in, part_of};
@@ -26,8 +26,8 @@ pub struct Window {
 }
 
 impl Window {
-    pub fn source(&self) -> Span
-        ensures { (result.start ≡ self.now.start) × (result.end ≡ self.now.end) }
+    fn source(self) -> Span
+        ensures { (result.start ≡ self.start) × (result.end ≡ self.end) }
     {
         Span {
             start: self.start,
@@ -35,8 +35,8 @@ impl Window {
         }
     }
 
-    pub fn normalized(&self) -> Span
-        ensures { (result.start ≡ self.now.nstart) × (result.end ≡ self.now.nend) }
+    fn normalized(self) -> Span
+        ensures { (result.start ≡ self.nstart) × (result.end ≡ self.nend) }
     {
         Span {
             start: self.nstart,
@@ -69,14 +69,14 @@ fn span_in(part: Part, start: usize, stop: usize, from: usize, to: usize) -> boo
 
 // Where the words of a kind of record stand that say from where to where it goes, and how far behind the second it ends.
 #[derive(Clone, Copy)]
-pub struct Extent {
-    pub first: usize,
-    pub last: usize,
-    pub past: u32,
+struct Extent {
+    first: usize,
+    last: usize,
+    past: u32,
 }
 
 // The same of the record at a place.
-pub fn row_in(tape: &[u8], at: usize, extent: Extent, region: Span, part: Part) -> bool
+fn row_in(tape: &[u8], at: usize, extent: Extent, region: Span, part: Part) -> bool
     requires { (at + extent.first + 4 ≤ length tape.now) × (at + extent.last + 4 ≤ length tape.now) }
     ensures { result ≡ row_in tape.now extent.first extent.last extent.past region.start region.end part at }
 {
@@ -168,6 +168,21 @@ pub fn diagnostic_in(tape: &[u8], at: usize, w: Window, part: Part) -> bool
     ensures { result ≡ is_in diagnostic_located (window_value w) part (record_at diagnostic_codec tape.now at) }
 {
     row_in(tape, at, DIAGNOSTIC, w.source(), part)
+}
+
+// ---- nodes, `merge_source_nodes`
+
+const NODE: Extent = Extent {
+    first: 3,
+    last: 7,
+    past: 0,
+};
+
+pub fn node_in(tape: &[u8], at: usize, w: Window, part: Part) -> bool
+    requires { at + 49 ≤ length tape.now }
+    ensures { result ≡ is_in node_located (window_value w) part (record_at node_codec tape.now at) }
+{
+    row_in(tape, at, NODE, w.source(), part)
 }
 
 // ---- lists of any kind of record

@@ -2,7 +2,7 @@ use Rattle.splice.specs.Kinds.{node_in_lem}
 use Rattle.splice.specs.Window.{window_value}
 use Rattle.std.proofs.Common.{◌∙◌}
 use mathlib.Core.Path.{sym}
-use Rattle.splice_nodes.proofs.node_in.Goals as goal
+use Rattle.splice.proofs.node_in.Goals as goal
 
 pub returns : goal.returns
 returns c =
