@@ -35,7 +35,7 @@ pub fn blank_line_before(text: &[u8], o: usize) -> bool
 
 // What a node does to a depth.
 #[derive(Clone, Copy, Debug, PartialEq, Eq)]
-pub enum Effect {
+enum Effect {
     Opens,
     Closes,
     Neither,
@@ -94,7 +94,7 @@ const WARICHU_CLOSE: u8 = 5;
 
 // Blocks are opened and closed by nodes of their own, by class.
 #[tactic(auto, using(std::proofs::lemmas::Bool::Decides::nat_tests), unfolding(crate::specs::Depths::effect_of, model::specs::Tape::record_at, model::specs::Tape::operands_at, model::specs::Tape::node_codec))]
-pub fn block_effect(tape: &[u8], at: usize) -> Effect
+fn block_effect(tape: &[u8], at: usize) -> Effect
     requires { at + 49 ≤ length tape.now }
     ensures { result ≡ effect_of is_block_open is_block_close (record_at node_codec tape.now at) }
 {
@@ -107,7 +107,7 @@ pub fn block_effect(tape: &[u8], at: usize) -> Effect
 
 // A warichu by a Directive, Inline or BlockLeaf.
 #[tactic(auto, using(std::proofs::lemmas::Bool::Decides::nat_tests), unfolding(crate::specs::Depths::effect_of, model::specs::Tape::record_at, model::specs::Tape::operands_at, model::specs::Tape::node_codec))]
-pub fn warichu_effect(tape: &[u8], at: usize) -> Effect
+fn warichu_effect(tape: &[u8], at: usize) -> Effect
     requires { at + 49 ≤ length tape.now }
     ensures { result ≡ effect_of is_warichu_open is_warichu_close (record_at node_codec tape.now at) }
 {

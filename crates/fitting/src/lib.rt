@@ -50,7 +50,12 @@ fn target_of(
 {
     let p = tape::checked_book(tape, bytes)?;
     let st = store::store_of(tape, p.layers);
-    let region = region::chosen_region(tape, bytes, p, st, work, start, end, replacement)?;
+    let edit = edit::Edit {
+        start,
+        end,
+        replacement,
+    };
+    let region = region::chosen_region(tape, bytes, p, st, &edit, work)?;
     Ok(Target { p, st, region })
 }
 

@@ -18,6 +18,7 @@ ghost use Rattle.region.specs.Books.{book_of};
 use balanced_region::Edited;
 pub use book::Book;
 use cuts::Source;
+use edit::Edit;
 use refusal::Refusal;
 use span::Span;
 
@@ -34,16 +35,14 @@ fn is_whole(text: u32, r: balanced_region::Region) -> bool
 // Numbers 8 to 11 of a book that passed 1 to 7, or the region in offsets of the old text. The words may hold anything.
 pub fn chosen_region<'a>(
     book: &Book<'a>,
+    edit: &Edit<'a>,
     words: &mut [u32],
-    start: u32,
-    end: u32,
-    replacement: &'a [u8],
 ) -> Result<Span, Refusal>
-    ensures { checked_map span_of (checked result) ≡ chosen_region (book_of book.now) (edit_of start end replacement.now) }
+    ensures { checked_map span_of (checked result) ≡ chosen_region (book_of book.now) (edit_of edit.now.start edit.now.end edit.now.replacement.now) }
 {
     let text = &book.bytes[0..book.places.text as usize];
-    edit::check_edit(text, start, end, replacement)?;
-    if dependency::has_ruby_format_dependency(&book.nodes(), words, start) {
+    edit::check_edit(text, edit)?;
+    if dependency::has_ruby_format_dependency(&book.nodes(), words, edit.start) {
         return Err(Refusal::RubyFormatDependency);
     }
     let edited = Edited {
@@ -53,9 +52,9 @@ pub fn chosen_region<'a>(
             nodes: book.places.nodes,
             pairs: book.places.pairs,
         },
-        start: start as usize,
-        end: end as usize,
-        replacement,
+        start: edit.start as usize,
+        end: edit.end as usize,
+        replacement: edit.replacement,
     };
     let r = edited.balanced_region(words);
     if is_whole(book.places.text, r) {
@@ -68,15 +67,8 @@ pub fn chosen_region<'a>(
 }
 
 // Numbers 1 to 11; the words are left as they are used.
-fn region_of(
-    tape: &[u8],
-    bytes: &[u8],
-    start: u32,
-    end: u32,
-    replacement: &[u8],
-    words: &mut [u32],
-) -> Result<Span, Refusal>
-    ensures { (checked_map span_of (checked result) ≡ choose_region tape.now bytes.now (edit_of start end replacement.now)) × (length words.new ≡ length words.old) }
+fn region_of(tape: &[u8], bytes: &[u8], edit: &Edit, words: &mut [u32]) -> Result<Span, Refusal>
+    ensures { (checked_map span_of (checked result) ≡ choose_region tape.now bytes.now (edit_of edit.now.start edit.now.end edit.now.replacement.now)) × (length words.new ≡ length words.old) }
 {
     let p = tape::checked_book(tape, bytes)?;
     let book = Book {
@@ -85,7 +77,7 @@ fn region_of(
         places: p,
         store: store::store_of(tape, p.layers),
     };
-    chosen_region(&book, words, start, end, replacement)
+    chosen_region(&book, edit, words)
 }
 
 // `choose_region`: choosing the region alone runs up to 11. The words come back as zeros.
@@ -99,7 +91,12 @@ pub fn choose_region(
 ) -> Result<Span, Refusal>
     ensures { (checked_map span_of (checked result) ≡ choose_region tape.now bytes.now (edit_of start end replacement.now)) × (words.new ≡ zeros (length words.old)) }
 {
-    let found = region_of(tape, bytes, start, end, replacement, words);
+    let edit = Edit {
+        start,
+        end,
+        replacement,
+    };
+    let found = region_of(tape, bytes, &edit, words);
     wire::zero_words(words);
     found
 }
