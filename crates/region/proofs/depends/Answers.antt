@@ -5,10 +5,6 @@ use Rattle.region.specs.Held.{held_without}
 use Rattle.region.specs.Ready.{ready_cut, ready_sound, ready_depends}
 use Rattle.region.proofs.depends.Goals as goal
 
-pub last_strings_at-cut-requires : goal.last_strings_at-cut-requires
-last_strings_at-cut-requires c =
-    c.requires
-
 pub slice_bounds-has_ruby_format_dependency-end : goal.slice_bounds-has_ruby_format_dependency-end
 slice_bounds-has_ruby_format_dependency-end c =
     (ready_cut (held_without c.requires) refl c.last_strings_at-cut.ensures).1
