@@ -26,6 +26,7 @@ pub struct Source<'a> {
 }
 
 // Section 6. Two newline bytes before an offset.
+#[tactic(auto, using(std::proofs::lemmas::Bool::Decides::nat_tests), unfolding(model::specs::Region::blank_line_before))]
 pub fn blank_line_before(text: &[u8], o: usize) -> bool
     requires { o ≤ length text.now }
     ensures { result ≡ blank_line_before text.now o }
@@ -314,6 +315,7 @@ impl<'a> Source<'a> {
     }
 
     // Text, nodes and pairs allow a cut.
+    #[tactic(auto, using(std::proofs::lemmas::Bool::Decides::nat_tests), unfolding(crate::specs::Safe::cut_allowed))]
     fn cut_allowed(&self, o: usize) -> bool
         requires { o ≤ length self.now.text.now }
         ensures { result ≡ cut_allowed self.now.text.now (nodes_in self.now) (pairs_in self.now) o }
@@ -322,6 +324,7 @@ impl<'a> Source<'a> {
     }
 
     // Section 6. `safe_cut`: 0 and the length always; elsewhere text, nodes and pairs allow it.
+    #[tactic(auto, using(std::proofs::lemmas::Bool::Decides::nat_tests), unfolding(crate::specs::Safe::safe_cut_in))]
     pub fn safe_cut(&self, o: usize) -> bool
         requires { o ≤ length self.now.text.now }
         ensures { result ≡ safe_cut_in self.now.text.now (nodes_in self.now) (pairs_in self.now) o }
