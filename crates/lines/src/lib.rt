@@ -8,6 +8,7 @@ ghost use Rattle.lines.specs.Text.{numbered, refused_line};
 ghost use Rattle.lines.specs.Quoted.{is_plain, escaped, escapes, quoted};
 
 // The first `len` bytes of the buffer.
+#[derive(Drop)]
 pub struct Line<'a> {
     pub out: &'a mut [u8],
     pub len: usize,
@@ -30,6 +31,13 @@ impl<'a> Line<'a> {
         ensures { result.now ≡ written self.now }
     {
         &self.out[..self.len]
+    }
+
+    // The line begins anew.
+    pub fn clear(&mut self)
+        ensures { (written self.new ≡ []) × (room self.new ≡ length self.old.out.now) }
+    {
+        self.len = 0;
     }
 
     pub fn put_text(&mut self, text: &[u8])

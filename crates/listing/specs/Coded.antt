@@ -86,7 +86,6 @@ get_d_all p [] i default e z = z
 get_d_all p (x ∷ xs) zero default e z = (both (p x) (all p xs) e).0
 get_d_all p (x ∷ xs) (suc i) default e z = get_d_all p xs i default (both (p x) (all p xs) e).1 z
 
-
 rows_fit : (r : ℕ) → row_fits (get_or rows r []) ≡ true
 unfolding rows row_fits field_fits
 rows_fit r = get_d_all row_fits rows r [] refl refl

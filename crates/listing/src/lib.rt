@@ -56,7 +56,6 @@ struct Item(&'static [u8], Value);
 
 // ---- the tables
 
-#[tactic(auto, unfolding(crate::specs::Table::labels))]
 fn label(i: usize) -> &'static [u8]
     ensures { result.now ≡ get_or labels i [] }
 {
@@ -183,7 +182,8 @@ impl<'a> Book<'a> {
         requires { id < self.now.st.now.totals.strings }
         ensures { (length result.now ≤ 65536) × (lookup_str (book_at self.now.tape.now (places_in self.now.tape.now) self.now.bytes.now) id ≡ some result.now) }
     {
-        let texts = wire::u32_or_zero(self.tape, 1) as usize + wire::u32_or_zero(self.tape, 5) as usize;
+        let texts = wire::u32_or_zero(self.tape, 1) as usize
+            + wire::u32_or_zero(self.tape, 5) as usize;
         let start = texts + strings::start_from(self.tape, *self.st, self.bytes.len(), 0, id, 0);
         let len = strings::string_length(self.tape, *self.st, id);
         wire::between(self.bytes, start, start + len)

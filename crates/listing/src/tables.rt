@@ -1,8 +1,8 @@
 // The rows of specs/Table.antt; specs/Coded.antt proves that these are the same.
 
 use Shows::{
-    BodyWord, Byte, LabelOnly, Name, Ordinal, OwnString, RegionEnd, RegionStart, StringId, TextPart,
-    Word,
+    BodyWord, Byte, LabelOnly, Name, Ordinal, OwnString, RegionEnd, RegionStart, StringId,
+    TextPart, Word,
 };
 
 // A part of the text: before the region of the edit, of it, behind it; or all of it.
@@ -42,9 +42,13 @@ pub struct Field(pub &'static [u8], pub Shows);
 
 // where in `LABELS` the names of each kind begin
 const SEGMENT_TAGS: u8 = 1;
+
 const NODE_CLASSES: u8 = 5;
+
 const PAIR_KINDS: u8 = 9;
+
 const DIAGNOSTIC_KINDS: u8 = 14;
+
 const BODY_KINDS: u8 = 19;
 
 pub static LABELS: [&[u8]; 76] = [
@@ -136,18 +140,11 @@ pub static ROWS: [&[Field]; 14] = [
         Field(b" ", TextPart(Part::Whole)),
     ],
     // 2 layer
-    &[
-        Field(b"layer ", Ordinal),
-    ],
+    &[Field(b"layer ", Ordinal)],
     // 3 string
-    &[
-        Field(b"string ", OwnString),
-    ],
+    &[Field(b"string ", OwnString)],
     // 4 content, Plain
-    &[
-        Field(b"content ", Ordinal),
-        Field(b" plain ", StringId(2)),
-    ],
+    &[Field(b"content ", Ordinal), Field(b" plain ", StringId(2))],
     // 5 segment
     &[
         Field(b"segment ", Ordinal),
@@ -208,9 +205,7 @@ pub static ROWS: [&[Field]; 14] = [
         Field(b" plain ", Word(14)),
     ],
     // 10 end
-    &[
-        Field(b"end", LabelOnly),
-    ],
+    &[Field(b"end", LabelOnly)],
     // 1 head, with an edit
     &[
         Field(b"text ", Word(1)),
@@ -253,7 +248,14 @@ pub static WORD_LABELS: [[&[u8]; 6]; 16] = [
     [b"", b"", b"", b"", b"", b""], // 8 ForcedBreak
     [b" text ", b" ", b"", b"", b"", b""], // 9 Heading
     [b" target ", b"", b"", b"", b"", b""], // 10 HeadingHint
-    [b" file ", b" number ", b" dimensions ", b" description ", b" caption ", b" "], // 11 Illustration
+    [
+        b" file ",
+        b" number ",
+        b" dimensions ",
+        b" description ",
+        b" caption ",
+        b" ",
+    ], // 11 Illustration
     [b" mark ", b"", b"", b"", b"", b""], // 12 Kaeriten
     [b" raw ", b"", b"", b"", b"", b""], // 13 Directive
     [b" content ", b" ", b"", b"", b"", b""], // 14 AngleQuote
