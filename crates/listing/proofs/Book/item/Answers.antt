@@ -1,4 +1,4 @@
-use Rattle.std.proofs.Common.{ap, refl, ◌∙◌, arith}
+use Rattle.std.proofs.Common.{ap, refl, arith}
 use Rattle.model.specs.Offset.{Span}
 use Rattle.listing.specs.Coded.{shows_of, sixth_word}
 use Rattle.listing.specs.Listing.{shown}

@@ -1,4 +1,4 @@
-use Rattle.std.proofs.Common.{ap, ◌≡◌, ◌∙◌, List, ℕ, take, take_all, length, refl, arith}
+use Rattle.std.proofs.Common.{ap, ◌∙◌, List, take_all, length, arith}
 use Rattle.std.proofs.lemmas.List.{length-map}
 use mathlib.Core.List.{map, flatten}
 use Rattle.lines.specs.Put.{put_none, put_as, put_both}

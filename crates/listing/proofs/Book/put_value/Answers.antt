@@ -1,4 +1,4 @@
-use Rattle.std.proofs.Common.{◌-◌, ap, sym, ◌∙◌, refl, arith}
+use Rattle.std.proofs.Common.{ap, refl, arith}
 use Rattle.lines.specs.Put.{put_none, put_as}
 use Rattle.lines.specs.Quoted.{quoted}
 use Rattle.lines.specs.Text.{numbered}
