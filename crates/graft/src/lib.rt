@@ -30,6 +30,7 @@ ghost use Rattle.sizes.specs.Words.{words_of};
 pub use source::Walk;
 
 use interner::StrInterner;
+use places::Run;
 use records::Use;
 use sizes::{Room, Sizes};
 
@@ -180,22 +181,22 @@ fn with_words(mut words: [u32; 6], i: usize, f: sizes::FieldWords, v: u32) -> [u
 // ---- parts of the walk
 
 // How many contents the items of a run push.
-fn inner_contents(w: &Walk<'_>, at: usize, count: usize, level: u8) -> u32
-    requires count_in_bounds { at + 10 * count ≤ length w.now.tape.now }
-    requires count_bound { ((contents_add (inner_adds level w.now.tape.now w.now.st.now) w.now.tape.now w.now.st.now at count).contents < 2 ^ 32) × ((contents_add (inner_adds level w.now.tape.now w.now.st.now) w.now.tape.now w.now.st.now at count).segments < 2 ^ 32) }
-    ensures { result ≡ (contents_add (inner_adds level w.now.tape.now w.now.st.now) w.now.tape.now w.now.st.now at count).contents }
+fn inner_contents(w: &Walk<'_>, run: Run, level: u8) -> u32
+    requires count_in_bounds { run.at + 10 * run.count ≤ length w.now.tape.now }
+    requires count_bound { ((contents_add (inner_adds level w.now.tape.now w.now.st.now) w.now.tape.now w.now.st.now run.at run.count).contents < 2 ^ 32) × ((contents_add (inner_adds level w.now.tape.now w.now.st.now) w.now.tape.now w.now.st.now run.at run.count).segments < 2 ^ 32) }
+    ensures { result ≡ (contents_add (inner_adds level w.now.tape.now w.now.st.now) w.now.tape.now w.now.st.now run.at run.count).contents }
 {
-    let inner = sizes::contents_sizes(w.tape, *w.st, ANY, NONE, at, count, level);
+    let inner = sizes::contents_sizes(w.tape, *w.st, ANY, NONE, run.at, run.count, level);
     inner.unwrap().contents
 }
 
 // How many segments the items of a run push.
-fn inner_segments(w: &Walk<'_>, at: usize, count: usize, level: u8) -> u32
-    requires count_in_bounds { at + 37 * count ≤ length w.now.tape.now }
-    requires count_bound { ((segments_add (inner_adds level w.now.tape.now w.now.st.now) w.now.tape.now at count).contents < 2 ^ 32) × ((segments_add (inner_adds level w.now.tape.now w.now.st.now) w.now.tape.now at count).segments < 2 ^ 32) }
-    ensures { result ≡ (segments_add (inner_adds level w.now.tape.now w.now.st.now) w.now.tape.now at count).segments }
+fn inner_segments(w: &Walk<'_>, run: Run, level: u8) -> u32
+    requires count_in_bounds { run.at + 37 * run.count ≤ length w.now.tape.now }
+    requires count_bound { ((segments_add (inner_adds level w.now.tape.now w.now.st.now) w.now.tape.now run.at run.count).contents < 2 ^ 32) × ((segments_add (inner_adds level w.now.tape.now w.now.st.now) w.now.tape.now run.at run.count).segments < 2 ^ 32) }
+    ensures { result ≡ (segments_add (inner_adds level w.now.tape.now w.now.st.now) w.now.tape.now run.at run.count).segments }
 {
-    let inner = sizes::segments_sizes(w.tape, *w.st, ANY, NONE, at, count, level);
+    let inner = sizes::segments_sizes(w.tape, *w.st, ANY, NONE, run.at, run.count, level);
     inner.unwrap().segments
 }
 
@@ -295,20 +296,12 @@ fn graft_content_run(
     if len == 0 {
         return Some(w.plan.contents + m.contents);
     }
-    let at = w.st.content_place(start);
-    let inner = inner_contents(w, at, len as usize, level);
-    let to = m.contents + inner;
-    graft_contents(
-        w,
-        out,
-        work,
-        strs,
-        m,
-        at,
-        len as usize,
-        to,
-        level,
-    )?;
+    let run = Run {
+        at: w.st.content_place(start),
+        count: len as usize,
+    };
+    let to = m.contents + inner_contents(w, run, level);
+    graft_contents(w, out, work, strs, m, run, to, level)?;
     m.contents = to + len;
     Some(w.plan.contents + to)
 }
@@ -321,25 +314,24 @@ fn graft_contents(
     work: &mut [u32],
     strs: &mut [u8],
     m: &mut Mark,
-    at: usize,
-    count: usize,
+    run: Run,
     to: u32,
     level: u8,
 ) -> Option<()>
-    requires ready { Ready w.now.tape.now w.now.bytes.now w.now.plan m.old out.old work.old strs.old (contents_add (inner_adds level w.now.tape.now w.now.st.now) w.now.tape.now w.now.st.now at count) }
-    requires count_in_bounds { (at + 10 * count ≤ length w.now.tape.now) × (all (content_in w.now.st.now) (records_at content_codec w.now.tape.now at count) ≡ true) }
-    requires count_bound { (m.old.contents + (contents_add (inner_adds level w.now.tape.now w.now.st.now) w.now.tape.now w.now.st.now at count).contents ≤ to) × (w.now.plan.contentsat + 10 * (to + count) ≤ w.now.plan.segmentsat) × (to + count < 2 ^ 32) }
+    requires ready { Ready w.now.tape.now w.now.bytes.now w.now.plan m.old out.old work.old strs.old (contents_add (inner_adds level w.now.tape.now w.now.st.now) w.now.tape.now w.now.st.now run.at run.count) }
+    requires count_in_bounds { (run.at + 10 * run.count ≤ length w.now.tape.now) × (all (content_in w.now.st.now) (records_at content_codec w.now.tape.now run.at run.count) ≡ true) }
+    requires count_bound { (m.old.contents + (contents_add (inner_adds level w.now.tape.now w.now.st.now) w.now.tape.now w.now.st.now run.at run.count).contents ≤ to) × (w.now.plan.contentsat + 10 * (to + run.count) ≤ w.now.plan.segmentsat) × (to + run.count < 2 ^ 32) }
     ensures { ContentsTold w.now.tape.now w.now.bytes.now w.now.plan m.old to out.old work.old strs.old out.new work.new strs.new m.new (is_some result)
-        (shown_contents level w.now.tape.now w.now.bytes.now (records_at content_codec w.now.tape.now at count) (layer_from w.now.plan work.old strs.old m.old)) }
+        (shown_contents level w.now.tape.now w.now.bytes.now (records_at content_codec w.now.tape.now run.at run.count) (layer_from w.now.plan work.old strs.old m.old)) }
 {
-    for i in 0..count {
+    for i in 0..run.count {
         graft_content(
             w,
             out,
             work,
             strs,
             m,
-            at + 10 * i,
+            run.at + 10 * i,
             to + i as u32,
             level,
         )?;
@@ -399,20 +391,12 @@ fn graft_segment_run(
     if len == 0 {
         return Some(w.plan.segments + m.segments);
     }
-    let at = w.st.segment_place(start);
-    let inner = inner_segments(w, at, len as usize, level);
-    let to = m.segments + inner;
-    graft_segments(
-        w,
-        out,
-        work,
-        strs,
-        m,
-        at,
-        len as usize,
-        to,
-        level,
-    )?;
+    let run = Run {
+        at: w.st.segment_place(start),
+        count: len as usize,
+    };
+    let to = m.segments + inner_segments(w, run, level);
+    graft_segments(w, out, work, strs, m, run, to, level)?;
     m.segments = to + len;
     Some(w.plan.segments + to)
 }
@@ -425,25 +409,24 @@ fn graft_segments(
     work: &mut [u32],
     strs: &mut [u8],
     m: &mut Mark,
-    at: usize,
-    count: usize,
+    run: Run,
     to: u32,
     level: u8,
 ) -> Option<()>
-    requires ready { Ready w.now.tape.now w.now.bytes.now w.now.plan m.old out.old work.old strs.old (segments_add (inner_adds level w.now.tape.now w.now.st.now) w.now.tape.now at count) }
-    requires count_in_bounds { (at + 37 * count ≤ length w.now.tape.now) × (all (segment_in w.now.st.now) (records_at segment_codec w.now.tape.now at count) ≡ true) }
-    requires count_bound { (m.old.segments + (segments_add (inner_adds level w.now.tape.now w.now.st.now) w.now.tape.now at count).segments ≤ to) × (w.now.plan.segmentsat + 37 * (to + count) ≤ length out.old) × (to + count < 2 ^ 32) }
+    requires ready { Ready w.now.tape.now w.now.bytes.now w.now.plan m.old out.old work.old strs.old (segments_add (inner_adds level w.now.tape.now w.now.st.now) w.now.tape.now run.at run.count) }
+    requires count_in_bounds { (run.at + 37 * run.count ≤ length w.now.tape.now) × (all (segment_in w.now.st.now) (records_at segment_codec w.now.tape.now run.at run.count) ≡ true) }
+    requires count_bound { (m.old.segments + (segments_add (inner_adds level w.now.tape.now w.now.st.now) w.now.tape.now run.at run.count).segments ≤ to) × (w.now.plan.segmentsat + 37 * (to + run.count) ≤ length out.old) × (to + run.count < 2 ^ 32) }
     ensures { SegmentsTold w.now.tape.now w.now.bytes.now w.now.plan m.old to out.old work.old strs.old out.new work.new strs.new m.new (is_some result)
-        (shown_segments level w.now.tape.now w.now.bytes.now (records_at segment_codec w.now.tape.now at count) (layer_from w.now.plan work.old strs.old m.old)) }
+        (shown_segments level w.now.tape.now w.now.bytes.now (records_at segment_codec w.now.tape.now run.at run.count) (layer_from w.now.plan work.old strs.old m.old)) }
 {
-    for i in 0..count {
+    for i in 0..run.count {
         graft_segment(
             w,
             out,
             work,
             strs,
             m,
-            at + 37 * i,
+            run.at + 37 * i,
             to + i as u32,
             level,
         )?;

@@ -13,6 +13,7 @@ ghost use Rattle.graft.specs.Walk.{Ready};
 ghost use Rattle.graft.specs.Walk.{WordsTold};
 
 use graft::Walk;
+use places::Run;
 
 // Section 5. `graft_node_ref`: the words of the node at `at`. A node of class 2 or 3 has none; the levels in the runs of another are at most 32.
 pub fn graft_node(
@@ -72,31 +73,30 @@ fn graft_node_at(
     Some(())
 }
 
-// Section 5. The nodes of the reading, `count` of them from `at` on, their records from `nodesat` on.
+// Section 5. The nodes of the reading, their records from `nodesat` on.
 pub fn graft_nodes(
     w: &Walk<'_>,
     out: &mut [u8],
     work: &mut [u32],
     strs: &mut [u8],
     m: &mut graft::Mark,
-    at: usize,
-    count: usize,
+    run: Run,
     nodesat: usize,
 ) -> Option<()>
-    requires ready { Ready w.now.tape.now w.now.bytes.now w.now.plan m.old out.old work.old strs.old (nodes_add w.now.tape.now w.now.st.now at count) }
-    requires count_in_bounds { (at + 49 * count ≤ length w.now.tape.now) × (all (node_in w.now.st.now) (records_at node_codec w.now.tape.now at count) ≡ true) }
-    requires count_bound { (w.now.plan.segmentsat + 37 * (m.old.segments + (nodes_add w.now.tape.now w.now.st.now at count).segments) ≤ nodesat) × (nodesat + 49 * count ≤ length out.old) }
+    requires ready { Ready w.now.tape.now w.now.bytes.now w.now.plan m.old out.old work.old strs.old (nodes_add w.now.tape.now w.now.st.now run.at run.count) }
+    requires count_in_bounds { (run.at + 49 * run.count ≤ length w.now.tape.now) × (all (node_in w.now.st.now) (records_at node_codec w.now.tape.now run.at run.count) ≡ true) }
+    requires count_bound { (w.now.plan.segmentsat + 37 * (m.old.segments + (nodes_add w.now.tape.now w.now.st.now run.at run.count).segments) ≤ nodesat) × (nodesat + 49 * run.count ≤ length out.old) }
     ensures { NodesTold w.now.tape.now w.now.bytes.now w.now.plan m.old nodesat out.old work.old strs.old out.new work.new strs.new m.new (is_some result)
-        (refs_from w.now.plan work.old strs.old m.old (shown_of w.now.tape.now w.now.bytes.now (records_at node_codec w.now.tape.now at count))) }
+        (refs_from w.now.plan work.old strs.old m.old (shown_of w.now.tape.now w.now.bytes.now (records_at node_codec w.now.tape.now run.at run.count))) }
 {
-    for i in 0..count {
+    for i in 0..run.count {
         graft_node_at(
             w,
             out,
             work,
             strs,
             m,
-            at + 49 * i,
+            run.at + 49 * i,
             nodesat + 49 * i,
         )?;
     }

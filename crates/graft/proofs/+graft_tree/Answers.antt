@@ -103,40 +103,40 @@ pub graft_content_run-returns-then-len-eq0 : goal.graft_content_run-returns-then
 graft_content_run-returns-then-len-eq0 t c =
     content_run_empty c.args.level c.args.w.now.tape.now c.args.w.now.bytes.now c.args.w.now.st.now c.args.w.now.source c.args.w.now.plan c.args.m.now c.args.out.now c.args.work.now c.args.strs.now c.args.start c.args.len c.if-len-eq0.true c.requires.ready
 
-pub graft_content_run-content_place-at-requires : goal.graft_content_run-content_place-at-requires
-graft_content_run-content_place-at-requires t c =
+pub graft_content_run-content_place-requires : goal.graft_content_run-content_place-requires
+graft_content_run-content_place-requires t c =
     c.args.w.now.source.fit.few
 
-pub graft_content_run-inner_contents-inner-requires : goal.graft_content_run-inner_contents-inner-requires
-graft_content_run-inner_contents-inner-requires t c =
+pub graft_content_run-inner_contents-requires : goal.graft_content_run-inner_contents-requires
+graft_content_run-inner_contents-requires t c =
     record {
-      count_in_bounds = contents_within c.args.level c.args.start c.args.len c.requires.len_value c.args.w.now.source c.requires.ready c.content_place-at.result c.content_place-at.ensures c.if-len-eq0.false;
-      count_bound = (omega (arith, contents_numbers c.args.level c.args.start c.args.len c.requires.len_value c.args.w.now.source c.requires.ready c.content_place-at.result c.content_place-at.ensures), contents_others c.args.level c.args.start c.args.len c.requires.len_value c.args.w.now.source c.requires.ready c.content_place-at.result c.content_place-at.ensures);
+      count_in_bounds = contents_within c.args.level c.args.start c.args.len c.requires.len_value c.args.w.now.source c.requires.ready c.content_place.result c.content_place.ensures c.if-len-eq0.false;
+      count_bound = (omega (arith, contents_numbers c.args.level c.args.start c.args.len c.requires.len_value c.args.w.now.source c.requires.ready c.content_place.result c.content_place.ensures), contents_others c.args.level c.args.start c.args.len c.requires.len_value c.args.w.now.source c.requires.ready c.content_place.result c.content_place.ensures);
     }
 
 pub graft_content_run-overflow_add-to : goal.graft_content_run-overflow_add-to
 graft_content_run-overflow_add-to t c =
-    omega (arith, contents_numbers c.args.level c.args.start c.args.len c.requires.len_value c.args.w.now.source c.requires.ready c.content_place-at.result c.content_place-at.ensures, c.inner_contents-inner.ensures)
+    omega (arith, contents_numbers c.args.level c.args.start c.args.len c.requires.len_value c.args.w.now.source c.requires.ready c.content_place.result c.content_place.ensures, c.inner_contents.ensures)
 
 pub graft_content_run-graft_contents-requires : goal.graft_content_run-graft_contents-requires
 graft_content_run-graft_contents-requires t c =
-    (omega arith, (contents_ready c.args.level c.args.start c.args.len c.requires.len_value c.args.w.now.source c.requires.ready c.content_place-at.result c.content_place-at.ensures, ((contents_within c.args.level c.args.start c.args.len c.requires.len_value c.args.w.now.source c.requires.ready c.content_place-at.result c.content_place-at.ensures c.if-len-eq0.false, contents_known c.args.level c.args.start c.args.len c.requires.len_value c.args.w.now.source c.requires.ready c.content_place-at.result c.content_place-at.ensures), (omega (arith, c.inner_contents-inner.ensures), omega (arith, contents_high c.args.level c.args.start c.args.len c.requires.len_value c.args.w.now.source c.requires.ready c.content_place-at.result c.content_place-at.ensures, c.inner_contents-inner.ensures), omega (arith, contents_numbers c.args.level c.args.start c.args.len c.requires.len_value c.args.w.now.source c.requires.ready c.content_place-at.result c.content_place-at.ensures, c.inner_contents-inner.ensures)))))
+    (omega arith, (contents_ready c.args.level c.args.start c.args.len c.requires.len_value c.args.w.now.source c.requires.ready c.content_place.result c.content_place.ensures, ((contents_within c.args.level c.args.start c.args.len c.requires.len_value c.args.w.now.source c.requires.ready c.content_place.result c.content_place.ensures c.if-len-eq0.false, contents_known c.args.level c.args.start c.args.len c.requires.len_value c.args.w.now.source c.requires.ready c.content_place.result c.content_place.ensures), (omega (arith, c.inner_contents.ensures), omega (arith, contents_high c.args.level c.args.start c.args.len c.requires.len_value c.args.w.now.source c.requires.ready c.content_place.result c.content_place.ensures, c.inner_contents.ensures), omega (arith, contents_numbers c.args.level c.args.start c.args.len c.requires.len_value c.args.w.now.source c.requires.ready c.content_place.result c.content_place.ensures, c.inner_contents.ensures)))))
 
 pub graft_content_run-returns-in_err-graft_contents : goal.graft_content_run-returns-in_err-graft_contents
 graft_content_run-returns-in_err-graft_contents t c =
-    rw c.from_residual.ensures (content_run_refused c.args.level c.args.w.now.tape.now c.args.w.now.bytes.now c.args.w.now.st.now c.args.w.now.source c.args.w.now.plan c.args.m.now c.args.out.now c.args.work.now c.args.strs.now c.args.start c.args.len c.requires.len_value c.content_place-at.result (c.args.m.now.contents + c.inner_contents-inner.result) c.content_place-at.ensures c.in_err-graft_contents.ensures)
+    rw c.from_residual.ensures (content_run_refused c.args.level c.args.w.now.tape.now c.args.w.now.bytes.now c.args.w.now.st.now c.args.w.now.source c.args.w.now.plan c.args.m.now c.args.out.now c.args.work.now c.args.strs.now c.args.start c.args.len c.requires.len_value c.content_place.result (c.args.m.now.contents + c.inner_contents.result) c.content_place.ensures c.in_err-graft_contents.ensures)
 
 pub graft_content_run-overflow_add-m : goal.graft_content_run-overflow_add-m
 graft_content_run-overflow_add-m t c =
-    omega (arith, contents_numbers c.args.level c.args.start c.args.len c.requires.len_value c.args.w.now.source c.requires.ready c.content_place-at.result c.content_place-at.ensures, c.inner_contents-inner.ensures)
+    omega (arith, contents_numbers c.args.level c.args.start c.args.len c.requires.len_value c.args.w.now.source c.requires.ready c.content_place.result c.content_place.ensures, c.inner_contents.ensures)
 
 pub graft_content_run-overflow_add-result-2 : goal.graft_content_run-overflow_add-result-2
 graft_content_run-overflow_add-result-2 t c =
-    omega (arith, contents_numbers c.args.level c.args.start c.args.len c.requires.len_value c.args.w.now.source c.requires.ready c.content_place-at.result c.content_place-at.ensures, c.inner_contents-inner.ensures)
+    omega (arith, contents_numbers c.args.level c.args.start c.args.len c.requires.len_value c.args.w.now.source c.requires.ready c.content_place.result c.content_place.ensures, c.inner_contents.ensures)
 
 pub graft_content_run-returns : goal.graft_content_run-returns
 graft_content_run-returns t c =
-    content_run_answer c.args.level c.args.start c.args.len c.requires.len_value c.args.w.now.source c.requires.ready c.content_place-at.result c.content_place-at.ensures (c.args.m.now.contents + c.inner_contents-inner.result) (ap (λ (n : ℕ). c.args.m.now.contents + n) c.inner_contents-inner.ensures) c.in_ok-graft_contents.ensures
+    content_run_answer c.args.level c.args.start c.args.len c.requires.len_value c.args.w.now.source c.requires.ready c.content_place.result c.content_place.ensures (c.args.m.now.contents + c.inner_contents.result) (ap (λ (n : ℕ). c.args.m.now.contents + n) c.inner_contents.ensures) c.in_ok-graft_contents.ensures
 
 pub graft_segment_run-overflow_add-result : goal.graft_segment_run-overflow_add-result
 graft_segment_run-overflow_add-result t c =
@@ -146,44 +146,44 @@ pub graft_segment_run-returns-then-len-eq0 : goal.graft_segment_run-returns-then
 graft_segment_run-returns-then-len-eq0 t c =
     segment_run_empty c.args.level c.args.w.now.tape.now c.args.w.now.bytes.now c.args.w.now.st.now c.args.w.now.source c.args.w.now.plan c.args.m.now c.args.out.now c.args.work.now c.args.strs.now c.args.start c.args.len c.if-len-eq0.true c.requires.ready
 
-pub graft_segment_run-segment_place-at-requires : goal.graft_segment_run-segment_place-at-requires
-graft_segment_run-segment_place-at-requires t c =
+pub graft_segment_run-segment_place-requires : goal.graft_segment_run-segment_place-requires
+graft_segment_run-segment_place-requires t c =
     c.args.w.now.source.fit.few
 
-pub graft_segment_run-inner_segments-inner-requires : goal.graft_segment_run-inner_segments-inner-requires
-graft_segment_run-inner_segments-inner-requires t c =
+pub graft_segment_run-inner_segments-requires : goal.graft_segment_run-inner_segments-requires
+graft_segment_run-inner_segments-requires t c =
     record {
-      count_in_bounds = segments_within c.args.level c.args.start c.args.len c.requires.len_value c.args.w.now.source c.requires.ready c.segment_place-at.result c.segment_place-at.ensures c.if-len-eq0.false;
-      count_bound = (segments_others c.args.level c.args.start c.args.len c.requires.len_value c.args.w.now.source c.requires.ready c.segment_place-at.result c.segment_place-at.ensures, omega (arith, segments_numbers c.args.level c.args.start c.args.len c.requires.len_value c.args.w.now.source c.requires.ready c.segment_place-at.result c.segment_place-at.ensures));
+      count_in_bounds = segments_within c.args.level c.args.start c.args.len c.requires.len_value c.args.w.now.source c.requires.ready c.segment_place.result c.segment_place.ensures c.if-len-eq0.false;
+      count_bound = (segments_others c.args.level c.args.start c.args.len c.requires.len_value c.args.w.now.source c.requires.ready c.segment_place.result c.segment_place.ensures, omega (arith, segments_numbers c.args.level c.args.start c.args.len c.requires.len_value c.args.w.now.source c.requires.ready c.segment_place.result c.segment_place.ensures));
     }
 
 pub graft_segment_run-overflow_add-to : goal.graft_segment_run-overflow_add-to
 graft_segment_run-overflow_add-to t c =
-    omega (arith, segments_numbers c.args.level c.args.start c.args.len c.requires.len_value c.args.w.now.source c.requires.ready c.segment_place-at.result c.segment_place-at.ensures, c.inner_segments-inner.ensures)
+    omega (arith, segments_numbers c.args.level c.args.start c.args.len c.requires.len_value c.args.w.now.source c.requires.ready c.segment_place.result c.segment_place.ensures, c.inner_segments.ensures)
 
 pub graft_segment_run-graft_segments-requires : goal.graft_segment_run-graft_segments-requires
 graft_segment_run-graft_segments-requires t c =
-    (omega arith, (segments_ready c.args.level c.args.start c.args.len c.requires.len_value c.args.w.now.source c.requires.ready c.segment_place-at.result c.segment_place-at.ensures, ((segments_within c.args.level c.args.start c.args.len c.requires.len_value c.args.w.now.source c.requires.ready c.segment_place-at.result c.segment_place-at.ensures c.if-len-eq0.false, segments_known c.args.level c.args.start c.args.len c.requires.len_value c.args.w.now.source c.requires.ready c.segment_place-at.result c.segment_place-at.ensures), (omega (arith, c.inner_segments-inner.ensures), omega (arith, segments_high c.args.level c.args.start c.args.len c.requires.len_value c.args.w.now.source c.requires.ready c.segment_place-at.result c.segment_place-at.ensures, c.inner_segments-inner.ensures), omega (arith, segments_numbers c.args.level c.args.start c.args.len c.requires.len_value c.args.w.now.source c.requires.ready c.segment_place-at.result c.segment_place-at.ensures, c.inner_segments-inner.ensures)))))
+    (omega arith, (segments_ready c.args.level c.args.start c.args.len c.requires.len_value c.args.w.now.source c.requires.ready c.segment_place.result c.segment_place.ensures, ((segments_within c.args.level c.args.start c.args.len c.requires.len_value c.args.w.now.source c.requires.ready c.segment_place.result c.segment_place.ensures c.if-len-eq0.false, segments_known c.args.level c.args.start c.args.len c.requires.len_value c.args.w.now.source c.requires.ready c.segment_place.result c.segment_place.ensures), (omega (arith, c.inner_segments.ensures), omega (arith, segments_high c.args.level c.args.start c.args.len c.requires.len_value c.args.w.now.source c.requires.ready c.segment_place.result c.segment_place.ensures, c.inner_segments.ensures), omega (arith, segments_numbers c.args.level c.args.start c.args.len c.requires.len_value c.args.w.now.source c.requires.ready c.segment_place.result c.segment_place.ensures, c.inner_segments.ensures)))))
 
 pub graft_segment_run-returns-in_err-graft_segments : goal.graft_segment_run-returns-in_err-graft_segments
 graft_segment_run-returns-in_err-graft_segments t c =
-    rw c.from_residual.ensures (segment_run_refused c.args.level c.args.w.now.tape.now c.args.w.now.bytes.now c.args.w.now.st.now c.args.w.now.source c.args.w.now.plan c.args.m.now c.args.out.now c.args.work.now c.args.strs.now c.args.start c.args.len c.requires.len_value c.segment_place-at.result (c.args.m.now.segments + c.inner_segments-inner.result) c.segment_place-at.ensures c.in_err-graft_segments.ensures)
+    rw c.from_residual.ensures (segment_run_refused c.args.level c.args.w.now.tape.now c.args.w.now.bytes.now c.args.w.now.st.now c.args.w.now.source c.args.w.now.plan c.args.m.now c.args.out.now c.args.work.now c.args.strs.now c.args.start c.args.len c.requires.len_value c.segment_place.result (c.args.m.now.segments + c.inner_segments.result) c.segment_place.ensures c.in_err-graft_segments.ensures)
 
 pub graft_segment_run-overflow_add-m : goal.graft_segment_run-overflow_add-m
 graft_segment_run-overflow_add-m t c =
-    omega (arith, segments_numbers c.args.level c.args.start c.args.len c.requires.len_value c.args.w.now.source c.requires.ready c.segment_place-at.result c.segment_place-at.ensures, c.inner_segments-inner.ensures)
+    omega (arith, segments_numbers c.args.level c.args.start c.args.len c.requires.len_value c.args.w.now.source c.requires.ready c.segment_place.result c.segment_place.ensures, c.inner_segments.ensures)
 
 pub graft_segment_run-overflow_add-result-2 : goal.graft_segment_run-overflow_add-result-2
 graft_segment_run-overflow_add-result-2 t c =
-    omega (arith, segments_numbers c.args.level c.args.start c.args.len c.requires.len_value c.args.w.now.source c.requires.ready c.segment_place-at.result c.segment_place-at.ensures, c.inner_segments-inner.ensures)
+    omega (arith, segments_numbers c.args.level c.args.start c.args.len c.requires.len_value c.args.w.now.source c.requires.ready c.segment_place.result c.segment_place.ensures, c.inner_segments.ensures)
 
 pub graft_segment_run-returns : goal.graft_segment_run-returns
 graft_segment_run-returns t c =
-    segment_run_answer c.args.level c.args.start c.args.len c.requires.len_value c.args.w.now.source c.requires.ready c.segment_place-at.result c.segment_place-at.ensures (c.args.m.now.segments + c.inner_segments-inner.result) (ap (λ (n : ℕ). c.args.m.now.segments + n) c.inner_segments-inner.ensures) c.in_ok-graft_segments.ensures
+    segment_run_answer c.args.level c.args.start c.args.len c.requires.len_value c.args.w.now.source c.requires.ready c.segment_place.result c.segment_place.ensures (c.args.m.now.segments + c.inner_segments.result) (ap (λ (n : ℕ). c.args.m.now.segments + n) c.inner_segments.ensures) c.in_ok-graft_segments.ensures
 
 pub graft_contents-loop-i-init : goal.graft_contents-loop-i-init
 graft_contents-loop-i-init t c =
-    items_first (content_grafts c.args.w.now.source c.args.level) c.args.at c.args.count (c.args.w.now.plan.contentsat + 10 * c.args.to) c.requires.ready c.requires.count_in_bounds.1
+    items_first (content_grafts c.args.w.now.source c.args.level) c.args.run.at c.args.run.count (c.args.w.now.plan.contentsat + 10 * c.args.to) c.requires.ready c.requires.count_in_bounds.1
 
 pub graft_contents-overflow_cast-i : goal.graft_contents-overflow_cast-i
 graft_contents-overflow_cast-i t c =
@@ -195,23 +195,23 @@ graft_contents-overflow_add-to t c =
 
 pub graft_contents-graft_content-requires : goal.graft_contents-graft_content-requires
 graft_contents-graft_content-requires t c =
-    (omega arith, (item_ready (content_grafts c.args.w.now.source c.args.level) c.args.at c.args.count (c.args.w.now.plan.contentsat + 10 * c.args.to) c.requires.ready c.requires.count_in_bounds.1 c.loop-i.invariant (omega arith), ((omega (arith, c.requires.count_in_bounds.0), item_known (content_grafts c.args.w.now.source c.args.level) c.args.at c.args.count (c.args.w.now.plan.contentsat + 10 * c.args.to) c.requires.ready c.requires.count_in_bounds.1 c.loop-i.i (omega arith)), (omega (arith, (item_low (content_grafts c.args.w.now.source c.args.level) c.args.at c.args.count (c.args.w.now.plan.contentsat + 10 * c.args.to) c.requires.ready c.requires.count_in_bounds.1 c.loop-i.invariant (omega arith)).0, c.requires.count_bound.0), omega (arith, c.requires.count_bound.1)))))
+    (omega arith, (item_ready (content_grafts c.args.w.now.source c.args.level) c.args.run.at c.args.run.count (c.args.w.now.plan.contentsat + 10 * c.args.to) c.requires.ready c.requires.count_in_bounds.1 c.loop-i.invariant (omega arith), ((omega (arith, c.requires.count_in_bounds.0), item_known (content_grafts c.args.w.now.source c.args.level) c.args.run.at c.args.run.count (c.args.w.now.plan.contentsat + 10 * c.args.to) c.requires.ready c.requires.count_in_bounds.1 c.loop-i.i (omega arith)), (omega (arith, (item_low (content_grafts c.args.w.now.source c.args.level) c.args.run.at c.args.run.count (c.args.w.now.plan.contentsat + 10 * c.args.to) c.requires.ready c.requires.count_in_bounds.1 c.loop-i.invariant (omega arith)).0, c.requires.count_bound.0), omega (arith, c.requires.count_bound.1)))))
 
 pub graft_contents-returns-in_err-graft_content : goal.graft_contents-returns-in_err-graft_content
 graft_contents-returns-in_err-graft_content t c =
-    rw c.from_residual.ensures (items_refused (content_grafts c.args.w.now.source c.args.level) c.args.at c.args.count (c.args.w.now.plan.contentsat + 10 * c.args.to) c.requires.ready c.requires.count_in_bounds.1 (c.loop-i.i + 1) (omega arith) (item_turn (content_grafts c.args.w.now.source c.args.level) c.args.at c.args.count (c.args.w.now.plan.contentsat + 10 * c.args.to) c.requires.ready c.requires.count_in_bounds.1 c.loop-i.invariant (omega arith) (between (omega (arith, c.requires.count_bound.0)) (omega (arith, c.requires.count_bound.1))) (c.args.w.now.plan.contentsat + 10 * (c.args.to + c.loop-i.i)) (omega arith) c.in_err-graft_content.ensures))
+    rw c.from_residual.ensures (items_refused (content_grafts c.args.w.now.source c.args.level) c.args.run.at c.args.run.count (c.args.w.now.plan.contentsat + 10 * c.args.to) c.requires.ready c.requires.count_in_bounds.1 (c.loop-i.i + 1) (omega arith) (item_turn (content_grafts c.args.w.now.source c.args.level) c.args.run.at c.args.run.count (c.args.w.now.plan.contentsat + 10 * c.args.to) c.requires.ready c.requires.count_in_bounds.1 c.loop-i.invariant (omega arith) (between (omega (arith, c.requires.count_bound.0)) (omega (arith, c.requires.count_bound.1))) (c.args.w.now.plan.contentsat + 10 * (c.args.to + c.loop-i.i)) (omega arith) c.in_err-graft_content.ensures))
 
 pub graft_contents-loop-i-preserved : goal.graft_contents-loop-i-preserved
 graft_contents-loop-i-preserved t c =
-    items_more (content_grafts c.args.w.now.source c.args.level) c.args.at c.args.count (c.args.w.now.plan.contentsat + 10 * c.args.to) c.requires.ready c.requires.count_in_bounds.1 c.loop-i.invariant (omega arith) (between (omega (arith, c.requires.count_bound.0)) (omega (arith, c.requires.count_bound.1))) (c.args.w.now.plan.contentsat + 10 * (c.args.to + c.loop-i.i)) (omega arith) c.in_ok-graft_content.ensures c.graft_content.auto.out refl
+    items_more (content_grafts c.args.w.now.source c.args.level) c.args.run.at c.args.run.count (c.args.w.now.plan.contentsat + 10 * c.args.to) c.requires.ready c.requires.count_in_bounds.1 c.loop-i.invariant (omega arith) (between (omega (arith, c.requires.count_bound.0)) (omega (arith, c.requires.count_bound.1))) (c.args.w.now.plan.contentsat + 10 * (c.args.to + c.loop-i.i)) (omega arith) c.in_ok-graft_content.ensures c.graft_content.auto.out refl
 
 pub graft_contents-returns : goal.graft_contents-returns
 graft_contents-returns t c =
-    items_last (content_grafts c.args.w.now.source c.args.level) c.args.at c.args.count (c.args.w.now.plan.contentsat + 10 * c.args.to) c.requires.ready c.requires.count_in_bounds.1 c.loop-i.invariant (omega arith) (omega arith)
+    items_last (content_grafts c.args.w.now.source c.args.level) c.args.run.at c.args.run.count (c.args.w.now.plan.contentsat + 10 * c.args.to) c.requires.ready c.requires.count_in_bounds.1 c.loop-i.invariant (omega arith) (omega arith)
 
 pub graft_segments-loop-i-init : goal.graft_segments-loop-i-init
 graft_segments-loop-i-init t c =
-    items_first (segment_grafts c.args.w.now.source c.args.level) c.args.at c.args.count (c.args.w.now.plan.segmentsat + 37 * c.args.to) c.requires.ready c.requires.count_in_bounds.1
+    items_first (segment_grafts c.args.w.now.source c.args.level) c.args.run.at c.args.run.count (c.args.w.now.plan.segmentsat + 37 * c.args.to) c.requires.ready c.requires.count_in_bounds.1
 
 pub graft_segments-overflow_cast-i : goal.graft_segments-overflow_cast-i
 graft_segments-overflow_cast-i t c =
@@ -223,19 +223,19 @@ graft_segments-overflow_add-to t c =
 
 pub graft_segments-graft_segment-requires : goal.graft_segments-graft_segment-requires
 graft_segments-graft_segment-requires t c =
-    (omega arith, (item_ready (segment_grafts c.args.w.now.source c.args.level) c.args.at c.args.count (c.args.w.now.plan.segmentsat + 37 * c.args.to) c.requires.ready c.requires.count_in_bounds.1 c.loop-i.invariant (omega arith), ((omega (arith, c.requires.count_in_bounds.0), item_known (segment_grafts c.args.w.now.source c.args.level) c.args.at c.args.count (c.args.w.now.plan.segmentsat + 37 * c.args.to) c.requires.ready c.requires.count_in_bounds.1 c.loop-i.i (omega arith)), (omega (arith, (item_low (segment_grafts c.args.w.now.source c.args.level) c.args.at c.args.count (c.args.w.now.plan.segmentsat + 37 * c.args.to) c.requires.ready c.requires.count_in_bounds.1 c.loop-i.invariant (omega arith)).1, c.requires.count_bound.0), omega (arith, c.requires.count_bound.1)))))
+    (omega arith, (item_ready (segment_grafts c.args.w.now.source c.args.level) c.args.run.at c.args.run.count (c.args.w.now.plan.segmentsat + 37 * c.args.to) c.requires.ready c.requires.count_in_bounds.1 c.loop-i.invariant (omega arith), ((omega (arith, c.requires.count_in_bounds.0), item_known (segment_grafts c.args.w.now.source c.args.level) c.args.run.at c.args.run.count (c.args.w.now.plan.segmentsat + 37 * c.args.to) c.requires.ready c.requires.count_in_bounds.1 c.loop-i.i (omega arith)), (omega (arith, (item_low (segment_grafts c.args.w.now.source c.args.level) c.args.run.at c.args.run.count (c.args.w.now.plan.segmentsat + 37 * c.args.to) c.requires.ready c.requires.count_in_bounds.1 c.loop-i.invariant (omega arith)).1, c.requires.count_bound.0), omega (arith, c.requires.count_bound.1)))))
 
 pub graft_segments-returns-in_err-graft_segment : goal.graft_segments-returns-in_err-graft_segment
 graft_segments-returns-in_err-graft_segment t c =
-    rw c.from_residual.ensures (items_refused (segment_grafts c.args.w.now.source c.args.level) c.args.at c.args.count (c.args.w.now.plan.segmentsat + 37 * c.args.to) c.requires.ready c.requires.count_in_bounds.1 (c.loop-i.i + 1) (omega arith) (item_turn (segment_grafts c.args.w.now.source c.args.level) c.args.at c.args.count (c.args.w.now.plan.segmentsat + 37 * c.args.to) c.requires.ready c.requires.count_in_bounds.1 c.loop-i.invariant (omega arith) (beyond (omega (arith, c.requires.count_bound.0)) (omega (arith, c.requires.count_bound.1))) (c.args.w.now.plan.segmentsat + 37 * (c.args.to + c.loop-i.i)) (omega arith) c.in_err-graft_segment.ensures))
+    rw c.from_residual.ensures (items_refused (segment_grafts c.args.w.now.source c.args.level) c.args.run.at c.args.run.count (c.args.w.now.plan.segmentsat + 37 * c.args.to) c.requires.ready c.requires.count_in_bounds.1 (c.loop-i.i + 1) (omega arith) (item_turn (segment_grafts c.args.w.now.source c.args.level) c.args.run.at c.args.run.count (c.args.w.now.plan.segmentsat + 37 * c.args.to) c.requires.ready c.requires.count_in_bounds.1 c.loop-i.invariant (omega arith) (beyond (omega (arith, c.requires.count_bound.0)) (omega (arith, c.requires.count_bound.1))) (c.args.w.now.plan.segmentsat + 37 * (c.args.to + c.loop-i.i)) (omega arith) c.in_err-graft_segment.ensures))
 
 pub graft_segments-loop-i-preserved : goal.graft_segments-loop-i-preserved
 graft_segments-loop-i-preserved t c =
-    items_more (segment_grafts c.args.w.now.source c.args.level) c.args.at c.args.count (c.args.w.now.plan.segmentsat + 37 * c.args.to) c.requires.ready c.requires.count_in_bounds.1 c.loop-i.invariant (omega arith) (beyond (omega (arith, c.requires.count_bound.0)) (omega (arith, c.requires.count_bound.1))) (c.args.w.now.plan.segmentsat + 37 * (c.args.to + c.loop-i.i)) (omega arith) c.in_ok-graft_segment.ensures c.graft_segment.auto.out refl
+    items_more (segment_grafts c.args.w.now.source c.args.level) c.args.run.at c.args.run.count (c.args.w.now.plan.segmentsat + 37 * c.args.to) c.requires.ready c.requires.count_in_bounds.1 c.loop-i.invariant (omega arith) (beyond (omega (arith, c.requires.count_bound.0)) (omega (arith, c.requires.count_bound.1))) (c.args.w.now.plan.segmentsat + 37 * (c.args.to + c.loop-i.i)) (omega arith) c.in_ok-graft_segment.ensures c.graft_segment.auto.out refl
 
 pub graft_segments-returns : goal.graft_segments-returns
 graft_segments-returns t c =
-    items_last (segment_grafts c.args.w.now.source c.args.level) c.args.at c.args.count (c.args.w.now.plan.segmentsat + 37 * c.args.to) c.requires.ready c.requires.count_in_bounds.1 c.loop-i.invariant (omega arith) (omega arith)
+    items_last (segment_grafts c.args.w.now.source c.args.level) c.args.run.at c.args.run.count (c.args.w.now.plan.segmentsat + 37 * c.args.to) c.requires.ready c.requires.count_in_bounds.1 c.loop-i.invariant (omega arith) (omega arith)
 
 pub graft_content-content_at-c-requires : goal.graft_content-content_at-c-requires
 graft_content-content_at-c-requires t c =

@@ -12,8 +12,8 @@ contents_sizes-inner-requires c =
     }
 
 pub unwrap-requires : goal.unwrap-requires
-unwrap-requires c = inner_some (contents_add (inner_adds c.args.level c.args.w.now.tape.now c.args.w.now.st.now) c.args.w.now.tape.now c.args.w.now.st.now c.args.at c.args.count) c.requires.count_bound.0 c.requires.count_bound.1 c.contents_sizes-inner.ensures
+unwrap-requires c = inner_some (contents_add (inner_adds c.args.level c.args.w.now.tape.now c.args.w.now.st.now) c.args.w.now.tape.now c.args.w.now.st.now c.args.run.at c.args.run.count) c.requires.count_bound.0 c.requires.count_bound.1 c.contents_sizes-inner.ensures
 
 pub returns : goal.returns
 returns c =
-    contents_exact (contents_add (inner_adds c.args.level c.args.w.now.tape.now c.args.w.now.st.now) c.args.w.now.tape.now c.args.w.now.st.now c.args.at c.args.count) c.requires.count_bound.0 c.requires.count_bound.1 c.contents_sizes-inner.ensures c.unwrap.ensures
+    contents_exact (contents_add (inner_adds c.args.level c.args.w.now.tape.now c.args.w.now.st.now) c.args.w.now.tape.now c.args.w.now.st.now c.args.run.at c.args.run.count) c.requires.count_bound.0 c.requires.count_bound.1 c.contents_sizes-inner.ensures c.unwrap.ensures
