@@ -27,12 +27,11 @@ ghost use Rattle.graft.specs.Walk.{Source, index_words, string_from, shown_conte
 ghost use Rattle.records.specs.Uses.{use_number};
 ghost use Rattle.sizes.specs.Words.{words_of};
 
-pub use source::Walk;
-
 use interner::StrInterner;
 use places::Run;
 use records::Use;
 use sizes::{Room, Sizes};
+pub use source::Walk;
 
 // The id of a missing string.
 const NO_STRING: u32 = 4294967295;
@@ -113,13 +112,7 @@ fn is_answered(known: u32, answered: u32) -> bool
 }
 
 // Section 5. `graft_str`. Where the representative is that of the last answer's string, nothing is compared.
-fn graft_str(
-    w: &Walk<'_>,
-    work: &mut [u32],
-    strs: &mut [u8],
-    m: &mut Mark,
-    id: u32,
-) -> Option<u32>
+fn graft_str(w: &Walk<'_>, work: &mut [u32], strs: &mut [u8], m: &mut Mark, id: u32) -> Option<u32>
     requires indexed { Indexed (lengths_in w.now.tape.now) (index_words work.old) × Pairs (resolve_str (source_store w.now.tape.now w.now.bytes.now)) (pair_words work.old) }
     requires good { Good work.old strs.old m.old.state × Named w.now.tape.now w.now.bytes.now work.old strs.old m.old }
     requires id_lt_strings { (id < w.now.st.now.totals.strings) × (m.old.state.stats.calls < 2 ^ 32) × (w.now.plan.strings + 2 ^ 12 < 2 ^ 32) }
@@ -200,7 +193,8 @@ fn inner_segments(w: &Walk<'_>, run: Run, level: u8) -> u32
     inner.unwrap().segments
 }
 
-// ---- the walk: nine functions that call each other, the level falling on each turn
+// ---- the walk: nine functions that call each other, the level falling on each turn. Its three buffers are lent one by one: of a struct
+// that held them each function would have to promise that every field is still the same reference, and as long as before.
 
 // Section 5. `graft_node`: the words of the body at `at`, whose runs are pushed.
 #[cycle(graft_tree)]
@@ -266,12 +260,8 @@ fn graft_field(
         (field_from level w.now.tape.now w.now.bytes.now (words_of f) (layer_from w.now.plan work.old strs.old m.old)) }
 {
     match f.usage {
-        Use::Contents => graft_content_run(
-            w, out, work, strs, m, f.first, f.second, level,
-        ),
-        Use::Segments => graft_segment_run(
-            w, out, work, strs, m, f.first, f.second, level,
-        ),
+        Use::Contents => graft_content_run(w, out, work, strs, m, f.first, f.second, level),
+        Use::Segments => graft_segment_run(w, out, work, strs, m, f.first, f.second, level),
         _ => graft_string(w, work, strs, m, f.usage, f.first),
     }
 }
@@ -325,16 +315,7 @@ fn graft_contents(
         (shown_contents level w.now.tape.now w.now.bytes.now (records_at content_codec w.now.tape.now run.at run.count) (layer_from w.now.plan work.old strs.old m.old)) }
 {
     for i in 0..run.count {
-        graft_content(
-            w,
-            out,
-            work,
-            strs,
-            m,
-            run.at + 10 * i,
-            to + i as u32,
-            level,
-        )?;
+        graft_content(w, out, work, strs, m, run.at + 10 * i, to + i as u32, level)?;
     }
     Some(())
 }
@@ -364,9 +345,7 @@ fn graft_content(
         put_records::put_content(out, place, 0, id, 0);
         return Some(());
     }
-    let first = graft_segment_run(
-        w, out, work, strs, m, c.first, c.second, level,
-    )?;
+    let first = graft_segment_run(w, out, work, strs, m, c.first, c.second, level)?;
     put_records::put_content(out, place, 1, first, c.second);
     Some(())
 }
@@ -420,16 +399,7 @@ fn graft_segments(
         (shown_segments level w.now.tape.now w.now.bytes.now (records_at segment_codec w.now.tape.now run.at run.count) (layer_from w.now.plan work.old strs.old m.old)) }
 {
     for i in 0..run.count {
-        graft_segment(
-            w,
-            out,
-            work,
-            strs,
-            m,
-            run.at + 37 * i,
-            to + i as u32,
-            level,
-        )?;
+        graft_segment(w, out, work, strs, m, run.at + 37 * i, to + i as u32, level)?;
     }
     Some(())
 }

@@ -90,15 +90,7 @@ pub fn graft_nodes(
         (refs_from w.now.plan work.old strs.old m.old (shown_of w.now.tape.now w.now.bytes.now (records_at node_codec w.now.tape.now run.at run.count))) }
 {
     for i in 0..run.count {
-        graft_node_at(
-            w,
-            out,
-            work,
-            strs,
-            m,
-            run.at + 49 * i,
-            nodesat + 49 * i,
-        )?;
+        graft_node_at(w, out, work, strs, m, run.at + 49 * i, nodesat + 49 * i)?;
     }
     Some(())
 }
