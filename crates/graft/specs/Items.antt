@@ -44,11 +44,11 @@ module _ (t : List ℕ) (st : Store) (at : ℕ) (c : ContentRead) (e : content_o
     run_known z = let g : content_in st (content_of c) ≡ true = subst (λ (x : Content). content_in st x ≡ true) (sym e) h in rw (ne_eqb c.tag 0 z) at g
 
   pub run_ready : {d : List ℕ} {p : Plan} {m : Mark} {out work strs : List ℕ} (inner : Body → Added) → (c.tag ≡ 0 → ⊥)
-      → Ready t d st p m out work strs (content_adds inner t st (record_at content_codec t at)) → Ready t d st p m out work strs (segment_run_adds inner t st c.first c.second)
+      → Ready t d p m out work strs (content_adds inner t st (record_at content_codec t at)) → Ready t d p m out work strs (segment_run_adds inner t st c.first c.second)
   unfolding content_adds
   run_ready {d} {p} {m} {out} {work} {strs} inner z y =
-      let g : Ready t d st p m out work strs (content_adds inner t st (content_of c)) =
-      subst (λ (x : Content). Ready t d st p m out work strs (content_adds inner t st x)) (sym e) y in
+      let g : Ready t d p m out work strs (content_adds inner t st (content_of c)) =
+      subst (λ (x : Content). Ready t d p m out work strs (content_adds inner t st x)) (sym e) y in
       rw (ne_eqb c.tag 0 z) at g
 
   module _ (l : ℕ) (d : List ℕ) (p : Plan) (m : Mark) (to : ℕ) (out work strs : List ℕ) {out₁ work₁ strs₁ : List ℕ} {r : Mark} where
@@ -78,13 +78,13 @@ pub body_known : (st : Store) (t : List ℕ) (at : ℕ) → segment_in st (recor
 unfolding segment_in
 body_known st t at h = ap (body_in st) (segment_body t at) ∙ h
 
-pub below_ready : {t d : List ℕ} {st : Store} {p : Plan} {m : Mark} {out work strs : List ℕ} (l at : ℕ) → (l ≡ 0 → ⊥)
-    → Ready t d st p m out work strs (inner_adds l t st (record_at segment_codec t at).body) → Ready t d st p m out work strs (body_adds (l - 1) t st (body_at t (at + 3)))
+pub below_ready : {t d : List ℕ} (st : Store) {p : Plan} {m : Mark} {out work strs : List ℕ} (l at : ℕ) → (l ≡ 0 → ⊥)
+    → Ready t d p m out work strs (inner_adds l t st (record_at segment_codec t at).body) → Ready t d p m out work strs (body_adds (l - 1) t st (body_at t (at + 3)))
 unfolding inner_adds body_adds
-below_ready zero at z y = absurd (z refl)
-below_ready {t} {d} {st} {p} {m} {out} {work} {strs} (suc l) at z y =
+below_ready st zero at z y = absurd (z refl)
+below_ready {t} {d} st {p} {m} {out} {work} {strs} (suc l) at z y =
     let e : suc l - 1 ≡ l = omega arith in
-    let b : Ready t d st p m out work strs (body_adds l t st (body_at t (at + 3))) = rw (segment_body t at) y in
+    let b : Ready t d p m out work strs (body_adds l t st (body_at t (at + 3))) = rw (segment_body t at) y in
     rw e b
 
 module _ (t d : List ℕ) (at : ℕ) where

@@ -38,16 +38,16 @@ module _ (t d : List ℕ) (st : Store) (at : ℕ) where
   unfolding record_at operands_at node_codec
   class_is = refl
 
-  module _ {p : Plan} {m : Mark} {out work strs : List ℕ} (y : Ready t d st p m out work strs (node_adds t st found)) where
+  module _ {p : Plan} {m : Mark} {out work strs : List ℕ} (y : Ready t d p m out work strs (node_adds t st found)) where
     pub node_bare : ltb (byte_at t (at + 1)) 2 ≡ false → WordsTold t d p m out work strs out work strs m (Some (replicate 6 0)) (node_words t d found (layer_from p work strs m))
     unfolding node_words node_fields show_node show_with show_fields graft_node graft_fields
     node_bare h = rw (class_is, h) (record { told = told_none y; words = λ ws o. sym (same_Some (replicate 6 0) ws o) })
 
     module _ (h : ltb (byte_at t (at + 1)) 2 ≡ true) where
-      pub node_ready : Ready t d st p m out work strs (body_adds 33 t st (body_at t (at + 15)))
+      pub node_ready : Ready t d p m out work strs (body_adds 33 t st (body_at t (at + 15)))
       unfolding node_adds node_fields body_adds
       node_ready =
-          let z : Ready t d st p m out work strs (body_adds 33 t st found.body) = rw (class_is, h) at y in
+          let z : Ready t d p m out work strs (body_adds 33 t st found.body) = rw (class_is, h) at y in
           rw (node_body t at) z
 
       pub node_known : node_in st found ≡ true → body_in st (body_at t (at + 15)) ≡ true

@@ -95,9 +95,8 @@ module _ {t d : List ℕ} {q : Places} {st : Store} (f : SourceFits t d q st) {w
   no_calls : s.stats.calls ≡ 0
   no_calls = ap (λ (x : StrInterner). x.stats.calls) b.state
 
-  pub walk_ready : WalkRoom p nodesat q.nodes.count (length out) (source_adds t d) → Ready t d st p (fresh_mark s) out work strs (nodes_add t st q.nodes.at q.nodes.count)
+  pub walk_ready : WalkRoom p nodesat q.nodes.count (length out) (source_adds t d) → Ready t d p (fresh_mark s) out work strs (nodes_add t st q.nodes.at q.nodes.count)
   walk_ready w = rw (source_adds_lem f) (record {
-    source = source_of f;
     index = index_kept t work₀ base b.words index;
     pairs = rw (b.words, start_high work₀ 0 base 15360 (omega arith), stay) pairs;
     good = b.good;
