@@ -112,6 +112,3 @@ module _ (t : List ℕ) (r : Run) where
         → (y : ℕ) → y ≡ reach_of a b o → (z : ℕ) → z ≡ max x y → z ≡ reach (pairs_from t r j) o
     unfolding reach
     reach_more x i e h j q l a b f g y s z w = w ∙ rw (pairs_more i j q l h, ← e, ← f, ← g, ← s) refl
-
-    pub reach_all : (x i : ℕ) → x ≡ reach (pairs_from t r i) o → i ≡ 0 → x ≡ reach (pairs_of t r) o
-    reach_all x i e h = e ∙ ap (λ (ps : List PairLink). reach ps o) (pairs_all i h)
