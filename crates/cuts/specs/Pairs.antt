@@ -89,12 +89,6 @@ module _ (t : List ℕ) (r : Run) where
   pub pairs_none : pairs_from t r r.count ≡ []
   pairs_none = let z : r.count - r.count ≡ 0 = omega arith in rw (z, run_none pair_codec t (r.at + 18 * r.count)) refl
 
-  pub pairs_all : (i : ℕ) → i ≡ 0 → pairs_from t r i ≡ pairs_of t r
-  pairs_all i e =
-      let e₁ : r.at + 18 * i ≡ r.at = omega arith in
-      let e₂ : r.count - i ≡ r.count = omega arith in
-      rw (e₁, e₂) refl
-
   -- the pair before them, numbered j
   pub pairs_more : (i j : ℕ) → j ≡ i - 1 → 0 < i → i ≤ r.count → pairs_from t r j ≡ (record_at pair_codec t (r.at + 18 * j) ∷ pairs_from t r i)
   unfolding pair_codec

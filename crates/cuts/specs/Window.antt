@@ -200,7 +200,6 @@ window_filled ps (x ∷ y ∷ l) ys zs from size h e r d m s q = rw (q, s) (
 )
 
 module _ {ps : List PairLink} {l : List ℕ} (w : Window ps l) (o : ℕ) where
-
   -- the window was filled for it
   pub window_here : (from size j : ℕ) → get_or l 0 0 ≡ from → get_or l 1 0 ≡ size → j < size → from + j ≡ o → (2 + j < length l) × (get_or l (2 + j) 0 ≡ reach ps o)
   window_here from size j e f h s = let v = w.at j (omega arith) in (v.0, v.1 ∙ ap (reach ps) (ap (λ (x : ℕ). x + j) e ∙ s))
