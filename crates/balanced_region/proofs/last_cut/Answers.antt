@@ -1,17 +1,16 @@
 use Rattle.std.proofs.Common.{rules}
 use Rattle.balanced_region.specs.Walks.{down_none, down_positive, down_found, down_more, down_done}
-use Rattle.cuts.specs.Gaps.{apart_in_order}
 use mathlib.Core.Path.{refl, ◌∙◌}
 use native.Mathlib.Omega.{arith}
 use Rattle.balanced_region.proofs.last_cut.Goals as goal
 
 pub loop-d-init : goal.loop-d-init
 loop-d-init c =
-    (down_none (apart_in_order c.args.source.now.nodes_apart) c.requires.front, c.requires.window, refl)
+    (down_none c.args.source.now.nodes_apart c.requires.front, c.requires.window, refl)
 
 pub overflow_sub-lo : goal.overflow_sub-lo
 overflow_sub-lo c =
-    down_positive (apart_in_order c.args.source.now.nodes_apart) c.requires.front c.loop-d.invariant.0 _ c.gap_from-lo.ensures
+    down_positive c.args.source.now.nodes_apart c.requires.front c.loop-d.invariant.0 _ c.gap_from-lo.ensures
 
 pub gap_last-c-requires : goal.gap_last-c-requires
 gap_last-c-requires c =
@@ -27,7 +26,7 @@ shape_of-words-then-lo-c c =
 pub returns-then-lo-c : goal.returns-then-lo-c
 returns-then-lo-c c =
     record {
-      value = down_found (apart_in_order c.args.source.now.nodes_apart) c.requires.front c.loop-d.invariant.0 _ c.gap_from-lo.ensures _ (search rules) _ c.gap_last-c.ensures.value
+      value = down_found c.args.source.now.nodes_apart c.requires.front c.loop-d.invariant.0 _ c.gap_from-lo.ensures _ (search rules) _ c.gap_last-c.ensures.value
           c.if-lo-c.true;
       window_2 = c.gap_last-c.ensures.window_2;
     }
@@ -38,7 +37,7 @@ before-depths-requires c =
 
 pub loop-d-preserved : goal.loop-d-preserved
 loop-d-preserved c = (
-  down_more (apart_in_order c.args.source.now.nodes_apart) c.requires.front c.loop-d.invariant.0 _ c.gap_from-lo.ensures _ (search rules) _ c.gap_last-c.ensures.value
+  down_more c.args.source.now.nodes_apart c.requires.front c.loop-d.invariant.0 _ c.gap_from-lo.ensures _ (search rules) _ c.gap_last-c.ensures.value
       c.if-lo-c.false _ refl c.if-i-d.false _ c.node_start.ensures _ (search rules) _ _ c.before-depths.ensures.block_depth
       c.before-depths.ensures.warichu_depth,
   c.gap_last-c.ensures.window_2,
@@ -52,7 +51,7 @@ shape_of-words-then-i-d c =
 pub returns-then-i-d : goal.returns-then-i-d
 returns-then-i-d c =
     record {
-      value = down_done (apart_in_order c.args.source.now.nodes_apart) c.requires.front c.loop-d.invariant.0 _ c.gap_from-lo.ensures _ (search rules) _ c.gap_last-c.ensures.value
+      value = down_done c.args.source.now.nodes_apart c.requires.front c.loop-d.invariant.0 _ c.gap_from-lo.ensures _ (search rules) _ c.gap_last-c.ensures.value
           c.if-i-d.true c.if-lo-c.false;
       window_2 = c.gap_last-c.ensures.window_2;
     }
