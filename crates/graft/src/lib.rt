@@ -27,14 +27,12 @@ ghost use Rattle.graft.specs.Walk.{Source, index_words, string_from, shown_conte
 ghost use Rattle.records.specs.Uses.{use_number};
 ghost use Rattle.sizes.specs.Words.{words_of};
 
+use ids::NO_STRING;
 use interner::StrInterner;
 use places::Run;
 use records::Use;
 use sizes::{Room, Sizes};
 pub use source::Walk;
-
-// The id of a missing string.
-const NO_STRING: u32 = 4294967295;
 
 // any number of items, and none yet
 const ANY: Room = Room {
@@ -179,7 +177,12 @@ fn inner_contents(w: &Walk<'_>, run: Run, level: u8) -> u32
     requires count_bound { ((contents_add (inner_adds level w.now.tape.now w.now.st.now) w.now.tape.now w.now.st.now run.at run.count).contents < 2 ^ 32) × ((contents_add (inner_adds level w.now.tape.now w.now.st.now) w.now.tape.now w.now.st.now run.at run.count).segments < 2 ^ 32) }
     ensures { result ≡ (contents_add (inner_adds level w.now.tape.now w.now.st.now) w.now.tape.now w.now.st.now run.at run.count).contents }
 {
-    let inner = sizes::contents_sizes(w.tape, *w.st, ANY, NONE, run.at, run.count, level);
+    let all = sizes::Walk {
+        tape: w.tape,
+        st: w.st,
+        room: ANY,
+    };
+    let inner = sizes::contents_sizes(&all, NONE, run, level);
     inner.unwrap().contents
 }
 
@@ -189,7 +192,12 @@ fn inner_segments(w: &Walk<'_>, run: Run, level: u8) -> u32
     requires count_bound { ((segments_add (inner_adds level w.now.tape.now w.now.st.now) w.now.tape.now run.at run.count).contents < 2 ^ 32) × ((segments_add (inner_adds level w.now.tape.now w.now.st.now) w.now.tape.now run.at run.count).segments < 2 ^ 32) }
     ensures { result ≡ (segments_add (inner_adds level w.now.tape.now w.now.st.now) w.now.tape.now run.at run.count).segments }
 {
-    let inner = sizes::segments_sizes(w.tape, *w.st, ANY, NONE, run.at, run.count, level);
+    let all = sizes::Walk {
+        tape: w.tape,
+        st: w.st,
+        room: ANY,
+    };
+    let inner = sizes::segments_sizes(&all, NONE, run, level);
     inner.unwrap().segments
 }
 
