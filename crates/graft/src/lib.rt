@@ -30,7 +30,7 @@ ghost use Rattle.sizes.specs.Words.{words_of};
 use ids::NO_STRING;
 use interner::StrInterner;
 use places::Run;
-use records::Use;
+use records::{Body, Segment, Use};
 use sizes::{Room, Sizes};
 pub use source::Walk;
 
@@ -44,6 +44,15 @@ const NONE: Sizes = Sizes {
     contents: 0,
     segments: 0,
     calls: 0,
+};
+
+// The body of a segment that no level of the walk reaches.
+const NO_BODY: Body = Body {
+    kind: 0,
+    tag: 0,
+    plain1: 0,
+    plain2: 0,
+    words: [0; 6],
 };
 
 // Where the new layer's numbers begin, and where its contents and segments are written.
@@ -431,17 +440,20 @@ fn graft_segment(
         (shown_segments level w.now.tape.now w.now.bytes.now (record_at segment_codec w.now.tape.now at ∷ []) (layer_from w.now.plan work.old strs.old m.old)) }
 {
     let place = w.plan.segmentsat + 37 * (to as usize);
-    let tag = w.tape[at + 1];
-    let own = w.tape[at + 2];
+    let s = records::segment_at(w.tape, at);
     if level == 0 {
-        put_records::put_segment(out, place, tag, own, 0, 0, 0, 0, [0u32; 6]);
+        put_records::put_segment(
+            out,
+            place,
+            Segment {
+                body: NO_BODY,
+                ..s
+            },
+        );
         return Some(());
     }
     let words = graft_body(w, out, work, strs, m, at + 3, level - 1)?;
-    let first = wire::u32_at(w.tape, at + 5);
-    let second = wire::u32_at(w.tape, at + 9);
-    let kind = w.tape[at + 3];
-    let variant = w.tape[at + 4];
-    put_records::put_segment(out, place, tag, own, kind, variant, first, second, words);
+    let body = Body { words, ..s.body };
+    put_records::put_segment(out, place, Segment { body, ..s });
     Some(())
 }
