@@ -442,14 +442,7 @@ fn graft_segment(
     let place = w.plan.segmentsat + 37 * (to as usize);
     let s = records::segment_at(w.tape, at);
     if level == 0 {
-        put_records::put_segment(
-            out,
-            place,
-            Segment {
-                body: NO_BODY,
-                ..s
-            },
-        );
+        put_records::put_segment(out, place, Segment { body: NO_BODY, ..s });
         return Some(());
     }
     let words = graft_body(w, out, work, strs, m, at + 3, level - 1)?;

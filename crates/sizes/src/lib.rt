@@ -31,9 +31,8 @@ ghost use Rattle.sizes.specs.Words.{words_of};
 ghost use Rattle.sizes.specs.InPlace.{content_count, segment_count, field_words, string_adds, used_adds, inner_adds, body_adds};
 ghost use Rattle.sizes.specs.InPlace.{content_adds, contents_add, content_run_adds, segments_add, segment_run_adds, node_adds, nodes_add};
 
-pub use lent::Walk;
-
 use ids::NO_STRING;
+pub use lent::Walk;
 use places::Run;
 use records::{RUBY, TEXT, Use};
 use store::Store;
@@ -189,13 +188,7 @@ fn note(memo: &mut [u32], e: usize, at: usize, level: u8, before: Sizes, after: 
 
 // Section 5. What a body of that level adds: its fields in order.
 #[cycle(tree_sizes)]
-fn body_sizes(
-    w: &Walk<'_>,
-    memo: &mut [u32],
-    t: Sizes,
-    at: usize,
-    level: u8,
-) -> Option<Sizes>
+fn body_sizes(w: &Walk<'_>, memo: &mut [u32], t: Sizes, at: usize, level: u8) -> Option<Sizes>
     requires known { Known w.now.tape.now w.now.st.now memo.old }
     requires kept { Kept w.now.room t }
     requires at_in_bounds { at + 34 ≤ length w.now.tape.now }
@@ -211,13 +204,7 @@ fn body_sizes(
 
 #[cycle(tree_sizes)]
 #[tactic(auto, using(std::proofs::lemmas::Bool::Decides::nat_tests), unfolding(crate::specs::InPlace::used_adds))]
-fn field_sizes(
-    w: &Walk<'_>,
-    memo: &mut [u32],
-    t: Sizes,
-    f: FieldWords,
-    level: u8,
-) -> Option<Sizes>
+fn field_sizes(w: &Walk<'_>, memo: &mut [u32], t: Sizes, f: FieldWords, level: u8) -> Option<Sizes>
     requires known { Known w.now.tape.now w.now.st.now memo.old }
     requires kept { Kept w.now.room t }
     ensures { (result ≡ plus w.now.room t (used_adds (inner_adds level w.now.tape.now w.now.st.now) w.now.tape.now w.now.st.now (words_of f))) × Known w.now.tape.now w.now.st.now memo.new }
@@ -258,13 +245,7 @@ fn content_run_sizes(
 
 // Section 5. What is pushed before a run of contents.
 #[cycle(tree_sizes)]
-fn contents_walk(
-    w: &Walk<'_>,
-    memo: &mut [u32],
-    t: Sizes,
-    run: Run,
-    level: u8,
-) -> Option<Sizes>
+fn contents_walk(w: &Walk<'_>, memo: &mut [u32], t: Sizes, run: Run, level: u8) -> Option<Sizes>
     requires known { Known w.now.tape.now w.now.st.now memo.old }
     requires kept { Kept w.now.room t }
     requires count_in_bounds { run.at + 10 * run.count ≤ length w.now.tape.now }
@@ -300,13 +281,7 @@ fn lone_place(st: &Store, i: u32) -> usize
 
 // Section 5. Plain is a string, Segments a run; one of a single segment is that segment.
 #[cycle(tree_sizes)]
-fn content_sizes(
-    w: &Walk<'_>,
-    memo: &mut [u32],
-    t: Sizes,
-    at: usize,
-    level: u8,
-) -> Option<Sizes>
+fn content_sizes(w: &Walk<'_>, memo: &mut [u32], t: Sizes, at: usize, level: u8) -> Option<Sizes>
     requires known { Known w.now.tape.now w.now.st.now memo.old }
     requires kept { Kept w.now.room t }
     requires at_in_bounds { at + 10 ≤ length w.now.tape.now }
@@ -355,13 +330,7 @@ fn segment_run_sizes(
 
 // Section 5. What is pushed before a run of segments.
 #[cycle(tree_sizes)]
-fn segments_walk(
-    w: &Walk<'_>,
-    memo: &mut [u32],
-    t: Sizes,
-    run: Run,
-    level: u8,
-) -> Option<Sizes>
+fn segments_walk(w: &Walk<'_>, memo: &mut [u32], t: Sizes, run: Run, level: u8) -> Option<Sizes>
     requires known { Known w.now.tape.now w.now.st.now memo.old }
     requires kept { Kept w.now.room t }
     requires count_in_bounds { run.at + 37 * run.count ≤ length w.now.tape.now }
@@ -381,13 +350,7 @@ fn segments_walk(
 
 // The body of a segment is of the level below; below level 0 there is none. A text is one call; what is in the memo is not walked again.
 #[cycle(tree_sizes)]
-fn segment_sizes(
-    w: &Walk<'_>,
-    memo: &mut [u32],
-    t: Sizes,
-    at: usize,
-    level: u8,
-) -> Option<Sizes>
+fn segment_sizes(w: &Walk<'_>, memo: &mut [u32], t: Sizes, at: usize, level: u8) -> Option<Sizes>
     requires known { Known w.now.tape.now w.now.st.now memo.old }
     requires kept { Kept w.now.room t }
     requires at_in_bounds { at + 37 ≤ length w.now.tape.now }
@@ -427,12 +390,7 @@ fn segment_walk(
 }
 
 // The two walks for a caller that has no memo.
-pub fn contents_sizes(
-    w: &Walk<'_>,
-    t: Sizes,
-    run: Run,
-    level: u8,
-) -> Option<Sizes>
+pub fn contents_sizes(w: &Walk<'_>, t: Sizes, run: Run, level: u8) -> Option<Sizes>
     requires kept { Kept w.now.room t }
     requires count_in_bounds { run.at + 10 * run.count ≤ length w.now.tape.now }
     ensures { result ≡ plus w.now.room t (contents_add (inner_adds level w.now.tape.now w.now.st.now) w.now.tape.now w.now.st.now run.at run.count) }
@@ -441,12 +399,7 @@ pub fn contents_sizes(
     contents_walk(w, &mut memo[..], t, run, level)
 }
 
-pub fn segments_sizes(
-    w: &Walk<'_>,
-    t: Sizes,
-    run: Run,
-    level: u8,
-) -> Option<Sizes>
+pub fn segments_sizes(w: &Walk<'_>, t: Sizes, run: Run, level: u8) -> Option<Sizes>
     requires kept { Kept w.now.room t }
     requires count_in_bounds { run.at + 37 * run.count ≤ length w.now.tape.now }
     ensures { result ≡ plus w.now.room t (segments_add (inner_adds level w.now.tape.now w.now.st.now) w.now.tape.now run.at run.count) }
@@ -537,13 +490,7 @@ fn ruby_sizes(tape: &[u8], room: Room, t: Sizes, at: usize) -> Option<Sizes>
 }
 
 // Section 5. A node of class 2 or 3 has no words; the levels in the runs of another are at most 32.
-fn node_sizes(
-    w: &Walk<'_>,
-    own: Run,
-    memo: &mut [u32],
-    t: Sizes,
-    at: usize,
-) -> Option<Sizes>
+fn node_sizes(w: &Walk<'_>, own: Run, memo: &mut [u32], t: Sizes, at: usize) -> Option<Sizes>
     requires known { Known w.now.tape.now w.now.st.now memo.old × Whole w.now.st.now own × (own.at + 10 * own.count ≤ length w.now.tape.now) }
     requires kept { Kept w.now.room t }
     requires at_in_bounds { at + 49 ≤ length w.now.tape.now }
@@ -559,11 +506,7 @@ fn node_sizes(
 }
 
 // Section 5. The nodes that stand from `at` on.
-fn nodes_sizes(
-    w: &Walk<'_>,
-    memo: &mut [u32],
-    run: Run,
-) -> Option<Sizes>
+fn nodes_sizes(w: &Walk<'_>, memo: &mut [u32], run: Run) -> Option<Sizes>
     requires known { Known w.now.tape.now w.now.st.now memo.old }
     requires count_in_bounds { run.at + 49 * run.count ≤ length w.now.tape.now }
     ensures { result ≡ capped w.now.room (nodes_add w.now.tape.now w.now.st.now run.at run.count) }
