@@ -27,14 +27,12 @@ ghost use Rattle.graft.specs.Walk.{Source, index_words, string_from, shown_conte
 ghost use Rattle.records.specs.Uses.{use_number};
 ghost use Rattle.sizes.specs.Words.{words_of};
 
+use ids::NO_STRING;
 use interner::StrInterner;
 use places::Run;
-use records::Use;
+use records::{Body, Segment, Use};
 use sizes::{Room, Sizes};
 pub use source::Walk;
-
-// The id of a missing string.
-const NO_STRING: u32 = 4294967295;
 
 // any number of items, and none yet
 const ANY: Room = Room {
@@ -46,6 +44,15 @@ const NONE: Sizes = Sizes {
     contents: 0,
     segments: 0,
     calls: 0,
+};
+
+// The body of a segment that no level of the walk reaches.
+const NO_BODY: Body = Body {
+    kind: 0,
+    tag: 0,
+    plain1: 0,
+    plain2: 0,
+    words: [0; 6],
 };
 
 // Where the new layer's numbers begin, and where its contents and segments are written.
@@ -179,7 +186,12 @@ fn inner_contents(w: &Walk<'_>, run: Run, level: u8) -> u32
     requires count_bound { ((contents_add (inner_adds level w.now.tape.now w.now.st.now) w.now.tape.now w.now.st.now run.at run.count).contents < 2 ^ 32) × ((contents_add (inner_adds level w.now.tape.now w.now.st.now) w.now.tape.now w.now.st.now run.at run.count).segments < 2 ^ 32) }
     ensures { result ≡ (contents_add (inner_adds level w.now.tape.now w.now.st.now) w.now.tape.now w.now.st.now run.at run.count).contents }
 {
-    let inner = sizes::contents_sizes(w.tape, *w.st, ANY, NONE, run.at, run.count, level);
+    let all = sizes::Walk {
+        tape: w.tape,
+        st: w.st,
+        room: ANY,
+    };
+    let inner = sizes::contents_sizes(&all, NONE, run, level);
     inner.unwrap().contents
 }
 
@@ -189,7 +201,12 @@ fn inner_segments(w: &Walk<'_>, run: Run, level: u8) -> u32
     requires count_bound { ((segments_add (inner_adds level w.now.tape.now w.now.st.now) w.now.tape.now run.at run.count).contents < 2 ^ 32) × ((segments_add (inner_adds level w.now.tape.now w.now.st.now) w.now.tape.now run.at run.count).segments < 2 ^ 32) }
     ensures { result ≡ (segments_add (inner_adds level w.now.tape.now w.now.st.now) w.now.tape.now run.at run.count).segments }
 {
-    let inner = sizes::segments_sizes(w.tape, *w.st, ANY, NONE, run.at, run.count, level);
+    let all = sizes::Walk {
+        tape: w.tape,
+        st: w.st,
+        room: ANY,
+    };
+    let inner = sizes::segments_sizes(&all, NONE, run, level);
     inner.unwrap().segments
 }
 
@@ -423,17 +440,13 @@ fn graft_segment(
         (shown_segments level w.now.tape.now w.now.bytes.now (record_at segment_codec w.now.tape.now at ∷ []) (layer_from w.now.plan work.old strs.old m.old)) }
 {
     let place = w.plan.segmentsat + 37 * (to as usize);
-    let tag = w.tape[at + 1];
-    let own = w.tape[at + 2];
+    let s = records::segment_at(w.tape, at);
     if level == 0 {
-        put_records::put_segment(out, place, tag, own, 0, 0, 0, 0, [0u32; 6]);
+        put_records::put_segment(out, place, Segment { body: NO_BODY, ..s });
         return Some(());
     }
     let words = graft_body(w, out, work, strs, m, at + 3, level - 1)?;
-    let first = wire::u32_at(w.tape, at + 5);
-    let second = wire::u32_at(w.tape, at + 9);
-    let kind = w.tape[at + 3];
-    let variant = w.tape[at + 4];
-    put_records::put_segment(out, place, tag, own, kind, variant, first, second, words);
+    let body = Body { words, ..s.body };
+    put_records::put_segment(out, place, Segment { body, ..s });
     Some(())
 }

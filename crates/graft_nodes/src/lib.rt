@@ -14,6 +14,7 @@ ghost use Rattle.graft.specs.Walk.{WordsTold};
 
 use graft::Walk;
 use places::Run;
+use records::{Body, SourceNode};
 
 // Section 5. `graft_node_ref`: the words of the node at `at`. A node of class 2 or 3 has none; the levels in the runs of another are at most 32.
 pub fn graft_node(
@@ -51,25 +52,9 @@ fn graft_node_at(
         (refs_from w.now.plan work.old strs.old m.old (shown_of w.now.tape.now w.now.bytes.now (record_at node_codec w.now.tape.now at ∷ []))) }
 {
     let words = graft_node(w, out, work, strs, m, at)?;
-    let start = wire::u32_at(w.tape, at + 3);
-    let stop = wire::u32_at(w.tape, at + 7);
-    let offset = wire::u32_at(w.tape, at + 11);
-    let first = wire::u32_at(w.tape, at + 17);
-    let second = wire::u32_at(w.tape, at + 21);
-    put_records::put_node(
-        out,
-        to,
-        w.tape[at + 1],
-        w.tape[at + 2],
-        start,
-        stop,
-        offset,
-        w.tape[at + 15],
-        w.tape[at + 16],
-        first,
-        second,
-        words,
-    );
+    let n = records::node_at(w.tape, at);
+    let body = Body { words, ..n.body };
+    put_records::put_node(out, to, SourceNode { body, ..n });
     Some(())
 }
 

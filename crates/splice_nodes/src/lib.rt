@@ -28,22 +28,7 @@ fn put_node(out: &mut [u8], at: usize, n: records::SourceNode)
     requires { (at + 49 ≤ length out.old) × (length n.body.words ≡ 6) }
     ensures { out.new ≡ overwrite out.old at (record_bytes node_codec (source_node_of n)) }
 {
-    let body = n.body;
-    let words = body.words;
-    put_records::put_node(
-        out,
-        at,
-        n.class,
-        n.inline,
-        n.start,
-        n.end,
-        n.offset,
-        body.kind,
-        body.tag,
-        body.plain1,
-        body.plain2,
-        words,
-    );
+    put_records::put_node(out, at, n);
 }
 
 pub struct Nodes;

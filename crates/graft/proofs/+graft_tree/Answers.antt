@@ -299,7 +299,7 @@ graft_segment-put_segment-requires t c =
 
 pub graft_segment-returns-then-level-eq0 : goal.graft_segment-returns-then-level-eq0
 graft_segment-returns-then-level-eq0 t c =
-    segment_zero c.args.w.now.tape.now c.args.w.now.bytes.now c.args.at c.args.w.now.plan c.args.m.now c.args.to c.args.out.now c.args.work.now c.args.strs.now c.args.level c.if-level-eq0.true (told_none c.requires.ready) c.put_segment.ensures
+    segment_zero c.args.w.now.tape.now c.args.w.now.bytes.now c.args.at c.segment_at-s.result c.segment_at-s.ensures c.args.w.now.plan c.args.m.now c.args.to c.args.out.now c.args.work.now c.args.strs.now c.args.level c.if-level-eq0.true (told_none c.requires.ready) c.put_segment.ensures
 
 pub graft_segment-graft_body-requires : goal.graft_segment-graft_body-requires
 graft_segment-graft_body-requires t c =
@@ -307,7 +307,7 @@ graft_segment-graft_body-requires t c =
 
 pub graft_segment-returns-in_err-words : goal.graft_segment-returns-in_err-words
 graft_segment-returns-in_err-words t c =
-    rw c.from_residual.ensures (below_refused c.args.w.now.tape.now c.args.w.now.bytes.now c.args.at c.args.w.now.plan c.args.m.now c.args.to c.args.out.now c.args.work.now c.args.strs.now c.args.level c.if-level-eq0.false c.in_err-words.ensures)
+    rw c.from_residual.ensures (below_refused c.args.w.now.tape.now c.args.w.now.bytes.now c.args.at c.segment_at-s.result c.segment_at-s.ensures c.args.w.now.plan c.args.m.now c.args.to c.args.out.now c.args.work.now c.args.strs.now c.args.level c.if-level-eq0.false c.in_err-words.ensures)
 
 pub graft_segment-put_segment-requires-2 : goal.graft_segment-put_segment-requires-2
 graft_segment-put_segment-requires-2 t c =
@@ -315,4 +315,4 @@ graft_segment-put_segment-requires-2 t c =
 
 pub graft_segment-returns : goal.graft_segment-returns
 graft_segment-returns t c =
-    below_made c.args.w.now.tape.now c.args.w.now.bytes.now c.args.at c.args.w.now.plan c.args.m.now c.args.to c.args.out.now c.args.work.now c.args.strs.now c.args.level c.if-level-eq0.false c.in_ok-words.words c.in_ok-words.ensures c.u32_at-first.result c.u32_at-second.result c.u32_at-first.ensures c.u32_at-second.ensures c.put_segment-2.ensures
+    below_made c.args.w.now.tape.now c.args.w.now.bytes.now c.args.at c.segment_at-s.result c.segment_at-s.ensures c.args.w.now.plan c.args.m.now c.args.to c.args.out.now c.args.work.now c.args.strs.now c.args.level c.if-level-eq0.false c.in_ok-words.words c.in_ok-words.ensures c.put_segment-2.ensures

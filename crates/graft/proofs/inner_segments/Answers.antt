@@ -3,10 +3,12 @@ use Rattle.sizes.specs.Capped.{kept_none}
 use Rattle.sizes.specs.InPlace.{inner_adds, segments_add}
 use Rattle.graft.proofs.inner_segments.Goals as goal
 
+pub invariant_of-all : goal.invariant_of-all
+invariant_of-all c = record { fit = c.args.w.now.source.fit }
+
 pub segments_sizes-inner-requires : goal.segments_sizes-inner-requires
 segments_sizes-inner-requires c =
     record {
-      of_tape = c.args.w.now.source.fit;
       kept = kept_none wide_room;
       count_in_bounds = c.requires.count_in_bounds;
     }
