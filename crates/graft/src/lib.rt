@@ -81,7 +81,7 @@ fn string_from(w: &Walk<'_>, words: &[u32], id: u32) -> usize
     requires id_lt_strings { id < w.now.st.now.totals.strings }
     ensures { result ≡ string_from w.now.tape.now id }
 {
-    let start = strings::string_start(w.tape, *w.st, w.bytes.len(), words, id);
+    let start = strings::string_start(w.tape, w.st, w.bytes.len(), words, id);
     let text = wire::u32_at(w.tape, 1) as usize;
     let normalized = wire::u32_at(w.tape, 5) as usize;
     text + normalized + start
@@ -107,7 +107,7 @@ fn intern_str(
         return Some(intern::intern_last(state));
     }
     let from = string_from(w, &work[15360..16384], id);
-    let len = strings::string_length(w.tape, *w.st, id);
+    let len = strings::string_length(w.tape, w.st, id);
     intern::intern(state, work, strs, &w.bytes[from..from + len])
 }
 

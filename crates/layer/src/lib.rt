@@ -156,7 +156,7 @@ fn index_words(r: &Book<'_>, work: &mut [u32])
     requires min_work_words_in_bounds { min_work_words ≤ length work.old }
     ensures { Indexed (lengths_in r.now.tape.now) (index_words work.new) × (pair_words work.new ≡ pair_words work.old) }
 {
-    strings::index_strings(r.tape, *r.store, r.bytes.len(), &mut work[15360..16384]);
+    strings::index_strings(r.tape, r.store, r.bytes.len(), &mut work[15360..16384]);
 }
 
 // Section 5. The source's nodes, grafted into a layer that has nothing yet.
@@ -299,7 +299,7 @@ fn graft_sized(
     requires min_work_words_in_bounds { (min_work_words ≤ length work.old) × (to.base ≤ length strs.old) × (to.at ≤ length out.old) }
     ensures { LayerTold out.old strs.old out.new strs.new to.at to.base to.below result (grafted_into r.now.tape.now r.now.bytes.now to.below) }
 {
-    if representatives::any_long(r.tape, *r.store, representatives::long_from(r.bytes.len())) {
+    if representatives::any_long(r.tape, r.store, representatives::long_from(r.bytes.len())) {
         return graft_long(r, out, strs, to, s);
     }
     graft_by(r, out, &mut work[0..16384], strs, to, s)

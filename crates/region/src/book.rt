@@ -31,8 +31,8 @@ impl<'a> Book<'a> {
         ensures { result ≡ self.now.places.text + self.now.places.normalized + start_in self.now.tape.now (old_strings self.now.store.now) }
     {
         let first = self.places.text as usize + self.places.normalized as usize;
-        let olds = strings::old_strings(*self.store);
-        first + strings::start_from(self.tape, *self.store, self.bytes.len(), 0, olds, 0)
+        let olds = strings::old_strings(self.store);
+        first + strings::start_from(self.tape, self.store, self.bytes.len(), 0, olds, 0)
     }
 
     // Its strings, by no index yet.

@@ -13,6 +13,7 @@ ghost use Rattle.representatives.specs.Pairs.{Pairs, pairs_in, pair_put, Paired}
 ghost use Rattle.representatives.specs.Bisection.{Rising, Split, Known};
 ghost use Rattle.representatives.specs.Ordered.{Ordered};
 
+use store::Store;
 use strings::Strings;
 
 const LONG: usize = 1024;
@@ -29,9 +30,9 @@ pub fn long_from(n: usize) -> usize
 }
 
 // Is a string of the book so long?
-pub fn any_long(tape: &[u8], st: store::Store, least: usize) -> bool
-    requires { OfTape tape.now st }
-    ensures { result ≡ any_up_to st.totals.strings (λ (i : ℕ). leb least (get_or (lengths_in tape.now) i 0)) }
+pub fn any_long(tape: &[u8], st: &Store, least: usize) -> bool
+    requires { OfTape tape.now st.now }
+    ensures { result ≡ any_up_to st.now.totals.strings (λ (i : ℕ). leb least (get_or (lengths_in tape.now) i 0)) }
 {
     (0..st.totals.strings).any(|i| least <= strings::string_length(tape, st, i))
 }
