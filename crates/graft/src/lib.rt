@@ -4,7 +4,7 @@
 
 mod source;
 
-ghost use Rattle.std.specs.Prelude.{◌≡◌, true, not, ◌&&◌, eqb, is_some, [], ◌∷◌, ℕ, ◌+◌, ◌*◌, ◌≤◌, ◌<◌, ◌^◌, length, List};
+ghost use Rattle.std.specs.Prelude.{◌≡◌, true, is_some, [], ◌∷◌, ℕ, ◌+◌, ◌*◌, ◌≤◌, ◌<◌, ◌^◌, length, List};
 ghost use Rattle.graft.specs.Walk.{words_with};
 ghost use Rattle.model.specs.Lists.{all};
 ghost use Rattle.store.specs.Stored.{OfTape};
@@ -21,7 +21,7 @@ ghost use Rattle.ids.specs.Tests.{body_in, content_in, segment_in, contents_in, 
 ghost use Rattle.sizes.specs.InPlace.{inner_adds, body_adds, place_adds, used_adds, content_adds, contents_add, content_run_adds, segments_add, segment_run_adds};
 ghost use Rattle.graft.specs.Grafted.{layer_from};
 ghost use Rattle.graft.specs.Walk.{Ready, body_from, place_from, content_run_from, segment_run_from, field_from};
-ghost use Rattle.graft.specs.Named.{source_store, pair_words, Named, ShowsAs};
+ghost use Rattle.graft.specs.Named.{source_store, pair_words, Named, ShowsAs, same_known};
 ghost use Rattle.representatives.specs.Pairs.{Pairs};
 ghost use Rattle.graft.specs.Walk.{Source, index_words, string_from, shown_contents, shown_segments, StartTold, id_from, WordsTold, ContentsTold, SegmentsTold};
 ghost use Rattle.records.specs.Uses.{use_number};
@@ -65,14 +65,14 @@ pub struct Plan {
     pub segmentsat: usize,
 }
 
-// How far the walk is: contents and segments pushed, and the interner. `answered`: the representative of the last answer's string plus 1,
-// or 0 where none is known. A function of the walk answers None where a string had no room; the mark then tells nothing.
+// How far the walk is: contents and segments pushed, and the interner. `answered`: the representative of the last answer's string,
+// where one is known. A function of the walk answers None where a string had no room; the mark then tells nothing.
 #[derive(Clone, Copy, Debug, PartialEq, Eq)]
 pub struct Mark {
     pub contents: u32,
     pub segments: u32,
     pub state: StrInterner,
-    pub answered: u32,
+    pub answered: Option<u32>,
 }
 
 // Where the bytes of that string begin; `words` are the index of the strings.
@@ -112,10 +112,14 @@ fn intern_str(
 }
 
 // Is this the representative of the last answer's string?
-fn is_answered(known: u32, answered: u32) -> bool
-    ensures { result ≡ (not (eqb known 0) && eqb known answered) }
+#[tactic(auto, unfolding(crate::specs::Named::same_known))]
+fn is_answered(known: Option<u32>, answered: Option<u32>) -> bool
+    ensures { result ≡ same_known known answered }
 {
-    known != 0 && known == answered
+    match (known, answered) {
+        (Some(r), Some(a)) => r == a,
+        _ => false,
+    }
 }
 
 // Section 5. `graft_str`. Where the representative is that of the last answer's string, nothing is compared.

@@ -40,7 +40,7 @@ offsets_of p = record { strings = p.strings; contents = p.contents; segments = p
 
 -- nothing pushed yet
 abbrev pub fresh_mark : Interner → Mark
-fresh_mark r = record { contents = 0; segments = 0; state = r; answered = 0 }
+fresh_mark r = record { contents = 0; segments = 0; state = r; answered = None }
 
 -- ---- the index
 
@@ -100,7 +100,7 @@ module _ {t d : List ℕ} {q : Places} {st : Store} (f : SourceFits t d q st) {w
     index = index_kept t work₀ base b.words index;
     pairs = rw (b.words, start_high work₀ 0 base 15360 (omega arith), stay) pairs;
     good = b.good;
-    named = λ n. absurd (n refl);
+    named = λ m e. absurd (none-some m e);
     has = sym (room_same work strs s b.good);
     space = record {
       contents = omega (arith, w.contents);

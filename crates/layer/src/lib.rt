@@ -184,7 +184,7 @@ fn walk(
         contents: 0,
         segments: 0,
         state: StrInterner::new(work, base),
-        answered: 0,
+        answered: None,
     };
     graft_nodes::graft_nodes(&w, out, work, strs, &mut m, r.places.nodes, nodesat)?;
     Some(m)
