@@ -30,9 +30,9 @@ ShowsAs t d known id = (r : ℕ) → known ≡ Some r → resolve_str (source_st
 pub pairs_lent : (work : List ℕ) → 16384 ≤ length work → take (length work - 16384) (drop 16384 work) ≡ pair_words work
 pairs_lent work h = take_all (length work - 16384) (drop 16384 work) (rw length-drop (omega arith)) ∙ sym (drop-drop (16384 - 15360) 15360 work)
 
-pub shows_by : (t d work : List ℕ) → 16384 ≤ length work → Pairs (resolve_str (source_store t d)) (pair_words work) → {known : Option ℕ} {id : ℕ}
+pub shows_by : (t d work : List ℕ) → 16384 ≤ length work → Pairs (resolve_str (source_store t d)) (pair_words work) → {known : Option ℕ} (id : ℕ)
     → ((K : ℕ → List ℕ) → Pairs K (take (length work - 16384) (drop 16384 work)) → IfSome known (λ (r : ℕ). K r ≡ K id)) → ShowsAs t d known id
-shows_by t d work h q f r e = rw e at (f (resolve_str (source_store t d)) (rw (pairs_lent work h) q))
+shows_by t d work h q id f r e = rw e at (f (resolve_str (source_store t d)) (rw (pairs_lent work h) q))
 
 -- are both known, and the same?
 unfoldable pub same_known : Option ℕ → Option ℕ → Bool
@@ -41,19 +41,16 @@ same_known (Some r) None = false
 same_known None a = false
 
 -- a string whose representative is that of the last answer's string is that string
-pub is_answered : (t d work strs : List ℕ) (m : Mark) → Named t d work strs m → (known : Option ℕ) (id : ℕ) → ShowsAs t d known id → same_known known m.answered ≡ true
-    → holds (state_of work strs m.state).strings m.state.last (resolve_str (source_store t d) id) ≡ true
-unfolding same_known
-is_answered t d work strs m named known id shows e = go known m.answered shows named e
-  where
-    abbrev K : ℕ → List ℕ
-    K i = resolve_str (source_store t d) i
+module _ (t d work strs : List ℕ) (m : Mark) where
+  abbrev last_is : ℕ → Bool
+  last_is i = holds (state_of work strs m.state).strings m.state.last (resolve_str (source_store t d) i)
 
-    abbrev last_is : ℕ → Bool
-    last_is i = holds (state_of work strs m.state).strings m.state.last (K i)
+  answered_by : (id : ℕ) (k a : Option ℕ) → ShowsAs t d k id → ((r : ℕ) → a ≡ Some r → last_is r ≡ true) → same_known k a ≡ true → last_is id ≡ true
+  unfolding same_known
+  answered_by id (Some r) (Some a) s n e =
+      ap (holds (state_of work strs m.state).strings m.state.last) (sym (s r refl) ∙ ap (resolve_str (source_store t d)) (eqb-true r a e)) ∙ n a refl
+  answered_by id (Some r) None s n e = absurd (false≢true e)
+  answered_by id None a s n e = absurd (false≢true e)
 
-    go : (k a : Option ℕ) → ((r : ℕ) → k ≡ Some r → K r ≡ K id) → ((r : ℕ) → a ≡ Some r → last_is r ≡ true) → same_known k a ≡ true → last_is id ≡ true
-    go (Some r) (Some a) s n e =
-        ap (holds (state_of work strs m.state).strings m.state.last) (sym (s r refl) ∙ ap K (eqb-true r a e)) ∙ n a refl
-    go (Some r) None s n e = absurd (false≢true e)
-    go None a s n e = absurd (false≢true e)
+  pub is_answered : Named t d work strs m → (known : Option ℕ) (id : ℕ) → ShowsAs t d known id → same_known known m.answered ≡ true → last_is id ≡ true
+  is_answered named known id shows e = answered_by id known m.answered shows named e

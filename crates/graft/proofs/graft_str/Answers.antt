@@ -14,7 +14,7 @@ slice_bounds-representative-start c =
 
 pub intern_str-requires : goal.intern_str-requires
 intern_str-requires c =
-    let shows = shows_by c.args.w.now.tape.now c.args.w.now.bytes.now c.args.work.now c.requires.good.0.words.room c.requires.indexed.1 c.representative-known.ensures.by_index in
+    let shows = shows_by c.args.w.now.tape.now c.args.w.now.bytes.now c.args.work.now c.requires.good.0.words.room c.requires.indexed.1 c.args.id c.representative-known.ensures.by_index in
     record {
       indexed = c.requires.indexed.0;
       good = c.requires.good.0;
@@ -32,7 +32,7 @@ overflow_add-result c =
 
 pub returns : goal.returns
 returns c =
-    let shows = shows_by c.args.w.now.tape.now c.args.w.now.bytes.now c.args.work.now c.requires.good.0.words.room c.requires.indexed.1 c.representative-known.ensures.by_index in
+    let shows = shows_by c.args.w.now.tape.now c.args.w.now.bytes.now c.args.work.now c.requires.good.0.words.room c.requires.indexed.1 c.args.id c.representative-known.ensures.by_index in
     λ out.
     str_answer_lem c.args.w.now.plan c.args.m.now c.args.work.now c.args.strs.now c.intern_str.new.work c.intern_str.new.strs _ c.intern_str.new.state c.args.w.now.tape.now c.args.w.now.bytes.now out c.args.id refl c.requires.good.0 c.intern_str.auto.strs
     c.representative-known.result shows c.in_ok-string.string c.in_ok-string.ensures
