@@ -55,7 +55,13 @@ fn target_of(
         end,
         replacement,
     };
-    let region = region::chosen_region(tape, bytes, p, st, &edit, work)?;
+    let book = region::Book {
+        tape,
+        bytes,
+        places: p,
+        store: st,
+    };
+    let region = region::chosen_region(&book, &edit, work)?;
     Ok(Target { p, st, region })
 }
 
@@ -138,19 +144,19 @@ fn check_cuts(
     let p = f.p;
     let q = f.q;
     let w = f.w;
-    if introduces::introduces_ruby_format_dependency(
+    let book = region::Book {
         tape,
         bytes,
-        p,
-        f.st,
-        readingtape,
-        readingbytes,
-        q,
-        f.own,
-        work,
-        w.start,
-        w.end,
-    ) {
+        places: p,
+        store: f.st,
+    };
+    let own = region::Book {
+        tape: readingtape,
+        bytes: readingbytes,
+        places: q,
+        store: f.own,
+    };
+    if introduces::introduces_ruby_format_dependency(&book, &own, work, w.start, w.end) {
         return Err(Refusal::NewRubyFormatDependency);
     }
     let first = p.text as usize;

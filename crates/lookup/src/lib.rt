@@ -50,12 +50,11 @@ fn contents_in(st: store::Store, start: u32, len: u32) -> Option<RangeAt>
     requires { st.layers ≤ 32 }
     ensures { result ≡ range_if (range_in st.contents st.layers st.totals.contents start len) (content_place st start) len }
 {
-    let contents = st.contents;
-    if !store::range_ok(&contents, st.layers, st.totals.contents, start, len) {
+    if !st.has_contents(start, len) {
         return None;
     }
     Some(RangeAt {
-        place: store::content_place(st, start),
+        place: st.content_place(start),
         count: len,
     })
 }
@@ -64,12 +63,11 @@ fn segments_in(st: store::Store, start: u32, len: u32) -> Option<RangeAt>
     requires { st.layers ≤ 32 }
     ensures { result ≡ range_if (range_in st.segments st.layers st.totals.segments start len) (segment_place st start) len }
 {
-    let segments = st.segments;
-    if !store::range_ok(&segments, st.layers, st.totals.segments, start, len) {
+    if !st.has_segments(start, len) {
         return None;
     }
     Some(RangeAt {
-        place: store::segment_place(st, start),
+        place: st.segment_place(start),
         count: len,
     })
 }

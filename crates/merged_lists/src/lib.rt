@@ -283,7 +283,6 @@ pub fn output_of(
     ensures { result ≡ output_by w.start w.end (s.before + s.behind) reread stats tape bytes }
 {
     output::IncrementalOutput {
-        number: 0,
         start: w.start,
         end: w.end,
         reused: (s.before + s.behind) as u32,
