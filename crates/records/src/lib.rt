@@ -442,12 +442,16 @@ pub fn node_shape(n: SourceNode) -> bool
     node_head(n.class, n.inline, n.body.kind) && body_shape(n.body, n.class < BARE)
 }
 
+// Section 4. Kinds 0..4.
+#[tactic(auto, unfolding(model::specs::Tape::pair_shape))]
 pub fn pair_shape(p: PairLink) -> bool
     ensures { result ≡ pair_shape (pair_link_of p) }
 {
     p.kind < 5
 }
 
+// Section 4. Kinds 0..4.
+#[tactic(auto, unfolding(model::specs::Tape::diagnostic_shape))]
 pub fn diagnostic_shape(d: Diagnostic) -> bool
     ensures { result ≡ diagnostic_shape (diagnostic_of d) }
 {
