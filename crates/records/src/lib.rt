@@ -330,6 +330,7 @@ pub fn uses_of(kind: u8, tag: u8) -> [Use; 6]
         FORMAT => format_uses(tag),
         GAIJI => gaiji_uses(tag),
         IMAGE => image_uses(tag),
+        // Text, HeadingHint, Kaeriten, Directive
         0 | 10 | 12 | 13 => [
             Use::Str,
             Use::Unused,
@@ -338,6 +339,7 @@ pub fn uses_of(kind: u8, tag: u8) -> [Use; 6]
             Use::Unused,
             Use::Unused,
         ],
+        // Ruby, MarginNote
         1 | 15 => [
             Use::Contents,
             Use::ContentsLen,
@@ -346,6 +348,7 @@ pub fn uses_of(kind: u8, tag: u8) -> [Use; 6]
             Use::Unused,
             Use::Unused,
         ],
+        // Heading, AngleQuote
         9 | 14 => [
             Use::Contents,
             Use::ContentsLen,
