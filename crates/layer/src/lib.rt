@@ -3,8 +3,6 @@
 // records written into the gap, so that each tree is walked once.
 #![tactic(auto)]
 
-mod reading;
-
 ghost use Rattle.std.specs.Prelude.{◌≡◌, ◌&&◌, ◌∷◌, ◌++◌, ◌+◌, ◌-◌, ◌*◌, ◌%◌, ◌^◌, ◌≤◌, ◌<◌, leb, length, take, drop};
 ghost use Rattle.model.specs.Limits.{max_pool, max_list, max_new_strings, min_work_words};
 ghost use Rattle.model.specs.Tape.{record_bytes, records_bytes, string_codec};
@@ -24,7 +22,7 @@ ghost use Rattle.layer.specs.Answers.{Finished, Exact, LayerTold};
 
 use graft::Walk;
 use interner::StrInterner;
-use reading::Reading;
+use region::Book;
 use table::STARTS;
 
 const MAX_POOL: usize = 1048575;
@@ -154,16 +152,16 @@ fn plan_of(o: Offsets, at: usize, contents: u32) -> graft::Plan
 }
 
 // An index of the source's strings, in the work words that the interner leaves free.
-fn index_words(r: &Reading<'_>, work: &mut [u32])
+fn index_words(r: &Book<'_>, work: &mut [u32])
     requires min_work_words_in_bounds { min_work_words ≤ length work.old }
     ensures { Indexed (lengths_in r.now.tape.now) (index_words work.new) × (pair_words work.new ≡ pair_words work.old) }
 {
-    strings::index_strings(r.tape, *r.st, r.bytes.len(), &mut work[15360..16384]);
+    strings::index_strings(r.tape, *r.store, r.bytes.len(), &mut work[15360..16384]);
 }
 
 // Section 5. The source's nodes, grafted into a layer that has nothing yet.
 fn walk(
-    r: &Reading<'_>,
+    r: &Book<'_>,
     out: &mut [u8],
     work: &mut [u32],
     strs: &mut [u8],
@@ -171,7 +169,7 @@ fn walk(
     base: usize,
     nodesat: usize,
 ) -> Option<graft::Mark>
-    requires walk_room { WalkRoom plan nodesat r.now.p.nodes.count (length out.old) (source_adds r.now.tape.now r.now.bytes.now) }
+    requires walk_room { WalkRoom plan nodesat r.now.places.nodes.count (length out.old) (source_adds r.now.tape.now r.now.bytes.now) }
     requires min_work_words_in_bounds { (min_work_words ≤ length work.old) × (base ≤ length strs.old) × Pairs (resolve_str (source_store r.now.tape.now r.now.bytes.now)) (pair_words work.old) }
     ensures { Walked plan base nodesat out.old strs.old out.new work.new strs.new result (grafted_into r.now.tape.now r.now.bytes.now (offsets_of plan)) }
 {
@@ -179,7 +177,7 @@ fn walk(
     let w = Walk {
         tape: r.tape,
         bytes: r.bytes,
-        st: r.st,
+        st: r.store,
         plan,
     };
     let mut m = graft::Mark {
@@ -188,7 +186,7 @@ fn walk(
         state: StrInterner::new(work, base),
         answered: 0,
     };
-    graft_nodes::graft_nodes(&w, out, work, strs, &mut m, r.p.nodes, nodesat)?;
+    graft_nodes::graft_nodes(&w, out, work, strs, &mut m, r.places.nodes, nodesat)?;
     Some(m)
 }
 
@@ -224,7 +222,7 @@ fn finish(
 
 // `graft_layer` where the sizes are known, by these words: behind 16384 of them stand pairs of crate `representatives`.
 fn graft_by(
-    r: &Reading<'_>,
+    r: &Book<'_>,
     out: &mut [u8],
     work: &mut [u32],
     strs: &mut [u8],
@@ -236,7 +234,7 @@ fn graft_by(
     ensures { LayerTold out.old strs.old out.new strs.new to.at to.base to.below result (grafted_into r.now.tape.now r.now.bytes.now to.below) }
 {
     let len = layer_length(s.contents, s.segments);
-    let rest = nodes_length(r.p);
+    let rest = nodes_length(r.places);
     if out.len() - to.at < len + rest {
         return None;
     }
@@ -246,27 +244,18 @@ fn graft_by(
 }
 
 // The pairs of a source's long strings, behind the words that a walk uses.
-fn pair_words(r: &Reading<'_>, words: &mut [u32])
+fn pair_words(r: &Book<'_>, words: &mut [u32])
     requires min_work_words_in_bounds { min_work_words < length words.old }
     ensures { Pairs (resolve_str (source_store r.now.tape.now r.now.bytes.now)) (pair_words words.new) }
 {
-    let first = r.p.text as usize + r.p.normalized as usize;
-    let cut = region::last_strings_at(r.tape, r.bytes, r.p, *r.st);
     let least = representatives::long_from(r.bytes.len());
     let n = words.len();
-    representatives::pair_strings(
-        r.tape,
-        *r.st,
-        &r.bytes[first..cut],
-        &r.bytes[cut..r.bytes.len()],
-        &mut words[16384..n],
-        least,
-    );
+    representatives::pair_strings(&r.strings(), &mut words[16384..n], least);
 }
 
 // The same with a representative for each long string, so that no two of them are compared again and again.
 fn graft_paired(
-    r: &Reading<'_>,
+    r: &Book<'_>,
     out: &mut [u8],
     words: &mut [u32],
     strs: &mut [u8],
@@ -283,7 +272,7 @@ fn graft_paired(
 
 // The same by words of its own: those that are lent have no room for pairs.
 fn graft_long(
-    r: &Reading<'_>,
+    r: &Book<'_>,
     out: &mut [u8],
     strs: &mut [u8],
     to: Place,
@@ -299,7 +288,7 @@ fn graft_long(
 
 // `graft_layer` where the sizes are known.
 fn graft_sized(
-    r: &Reading<'_>,
+    r: &Book<'_>,
     out: &mut [u8],
     work: &mut [u32],
     strs: &mut [u8],
@@ -310,7 +299,7 @@ fn graft_sized(
     requires min_work_words_in_bounds { (min_work_words ≤ length work.old) × (to.base ≤ length strs.old) × (to.at ≤ length out.old) }
     ensures { LayerTold out.old strs.old out.new strs.new to.at to.base to.below result (grafted_into r.now.tape.now r.now.bytes.now to.below) }
 {
-    if representatives::any_long(r.tape, *r.st, representatives::long_from(r.bytes.len())) {
+    if representatives::any_long(r.tape, *r.store, representatives::long_from(r.bytes.len())) {
         return graft_long(r, out, strs, to, s);
     }
     graft_by(r, out, &mut work[0..16384], strs, to, s)
@@ -336,11 +325,11 @@ pub fn graft_layer(
     ensures { LayerTold out.old strs.old out.new strs.new at base o result (grafted_into tape.now bytes.now o) }
 {
     let s = sizes::reading_sizes(tape, st, p, room_left(o))?;
-    let r = Reading {
+    let r = Book {
         tape,
         bytes,
-        p,
-        st: &st,
+        places: p,
+        store: &st,
     };
     let to = Place { below: o, at, base };
     graft_sized(&r, out, work, strs, to, s)

@@ -35,7 +35,7 @@ pub fn diagnostics_allow_incremental(tape: &[u8], bytes: &[u8]) -> Result<bool, 
     ensures { checked result ≡ ask_book tape.now bytes.now (λ b. diagnostics_allow_incremental b.diagnostics) }
 {
     let diagnostics = tape::checked_book(tape, bytes)?.diagnostics;
-    Ok(bounds::diagnostics_allow_incremental(tape, diagnostics.at, diagnostics.count))
+    Ok(bounds::diagnostics_allow_incremental(tape, diagnostics))
 }
 
 // Section 7. `node_at_source` of a book: the node's place in the list.
@@ -43,7 +43,7 @@ pub fn node_at_source(tape: &[u8], bytes: &[u8], offset: u32) -> Result<Option<u
     ensures { checked result ≡ ask_book tape.now bytes.now (λ b. found_of (node_at_source b.source_nodes offset)) }
 {
     let nodes = tape::checked_book(tape, bytes)?.nodes;
-    Ok(bounds::node_at_source(tape, nodes.at, nodes.count, offset))
+    Ok(bounds::node_at_source(tape, nodes, offset))
 }
 
 fn contents_in(st: store::Store, start: u32, len: u32) -> Option<RangeAt>

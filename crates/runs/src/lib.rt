@@ -1,10 +1,16 @@
 // The input and the line of document 01's 'Runs': seven words and five parts, and the line of P5 or the number of the refusal.
 #![tactic(auto)]
 
-ghost use Rattle.std.specs.Prelude.{◌≡◌, [], ◌∷◌, ◌+◌, ◌≤◌, length, take};
+ghost use Rattle.std.specs.Prelude.{◌≡◌, [], ◌∷◌, ◌+◌, ◌≤◌};
 ghost use Rattle.model.specs.Runs.{line};
+ghost use Rattle.refusal.specs.Refusal.{number_in, checked};
+ghost use Rattle.lines.specs.Put.{room, Put};
 ghost use Rattle.runs.specs.Input.{parts_fit, input_number};
 ghost use Rattle.runs.specs.Line.{accepted_line, line_of};
+
+use lines::Line;
+use output::IncrementalOutput;
+use refusal::Refusal;
 
 // seven words
 pub const HEAD: usize = 28;
@@ -12,30 +18,23 @@ pub const HEAD: usize = 28;
 const MAX_PART: u32 = 65536;
 
 // Number 3. The lengths of the five parts.
+#[tactic(auto, using(std::proofs::lemmas::Bool::Decides::nat_tests), unfolding(crate::specs::Input::parts_fit))]
 fn parts_fit(oldtape: u32, oldbytes: u32, replacement: u32, newtape: u32, newbytes: u32) -> bool
     ensures { result ≡ parts_fit (oldtape ∷ oldbytes ∷ replacement ∷ newtape ∷ newbytes ∷ []) }
 {
-    if MAX_PART < oldtape {
-        return false;
-    }
-    if MAX_PART < oldbytes {
-        return false;
-    }
-    if MAX_PART < replacement {
-        return false;
-    }
-    if MAX_PART < newtape {
-        return false;
-    }
-    newbytes <= MAX_PART
+    oldtape <= MAX_PART
+        && oldbytes <= MAX_PART
+        && replacement <= MAX_PART
+        && newtape <= MAX_PART
+        && newbytes <= MAX_PART
 }
 
-// Numbers 1 and 3 of the input, which precede all else; 0 for neither.
-pub fn input_refusal(input: &[u8]) -> u32
-    ensures { result ≡ input_number input.now }
+// Numbers 1 and 3 of the input, which precede all else.
+pub fn check_input(input: &[u8]) -> Result<(), Refusal>
+    ensures { number_in result ≡ input_number input.now }
 {
     if input.len() < HEAD {
-        return 1;
+        return Err(Refusal::Layout);
     }
     let oldtape = wire::u32_at(input, 0);
     let oldbytes = wire::u32_at(input, 4);
@@ -43,7 +42,7 @@ pub fn input_refusal(input: &[u8]) -> u32
     let newtape = wire::u32_at(input, 20);
     let newbytes = wire::u32_at(input, 24);
     if !parts_fit(oldtape, oldbytes, replacement, newtape, newbytes) {
-        return 3;
+        return Err(Refusal::OverLimit);
     }
     let size = HEAD
         + oldtape as usize
@@ -52,32 +51,34 @@ pub fn input_refusal(input: &[u8]) -> u32
         + newtape as usize
         + newbytes as usize;
     if input.len() != size {
-        return 1;
+        return Err(Refusal::Layout);
     }
-    0
+    Ok(())
 }
 
 // P5's line: region start, end; kept, reread nodes; intern calls, slots probed.
-fn put_accepted(out: &mut [u8], a: output::IncrementalOutput) -> usize
-    requires { 160 ≤ length out.old }
-    ensures { (result ≤ length out.new) × (take result out.new ≡ accepted_line a) }
+fn put_accepted(line: &mut Line<'_>, a: IncrementalOutput)
+    requires { 160 ≤ room line.old }
+    ensures { Put line.old line.new 160 (accepted_line a) }
 {
     let c = a.stats;
-    let start = lines::put_number(out, 0, b"region ", a.start as u64);
-    let end = lines::put_number(out, start, b" ", a.end as u64);
-    let reused = lines::put_number(out, end, b" reused ", a.reused as u64);
-    let reread = lines::put_number(out, reused, b" reread ", a.reread as u64);
-    let calls = lines::put_number(out, reread, b" calls ", c.calls);
-    let probes = lines::put_number(out, calls, b" probes ", c.probesteps);
-    lines::put_text(out, probes, b"\n")
+    line.put_number(b"region ", u64::from(a.start));
+    line.put_number(b" ", u64::from(a.end));
+    line.put_number(b" reused ", u64::from(a.reused));
+    line.put_number(b" reread ", u64::from(a.reread));
+    line.put_number(b" calls ", c.calls);
+    line.put_number(b" probes ", c.probesteps);
+    line.put_text(b"\n");
 }
 
-pub fn put_line(out: &mut [u8], a: output::IncrementalOutput) -> usize
-    requires { 160 ≤ length out.old }
-    ensures { (result ≤ length out.new) × (take result out.new ≡ line_of a) }
+// The line of an answer.
+#[tactic(auto, unfolding(crate::specs::Line::line_of))]
+pub fn put_line(line: &mut Line<'_>, a: Result<IncrementalOutput, Refusal>)
+    requires { 160 ≤ room line.old }
+    ensures { Put line.old line.new 160 (line_of (checked a)) }
 {
-    if a.number != 0 {
-        return lines::put_refused(out, a.number);
+    match a {
+        Ok(a) => put_accepted(line, a),
+        Err(refusal) => line.put_refused(u32::from(refusal)),
     }
-    put_accepted(out, a)
 }

@@ -16,8 +16,8 @@ pub returns-in_err-s : goal.returns-in_err-s
 returns-in_err-s c =
     rw c.from_residual.ensures (pools_refused c.args.out.now c.args.strs.now c.args.at c.args.base c.args.o c.requires.source_fits.1 _ (source_sizes c.requires.source_fits.0 c.args.o) (left_sizes c.args.o (source_adds c.args.tape.now c.args.bytes.now) c.room_left.ensures (c.reading_sizes.ensures c.args.bytes.now)) c.in_err-s.was)
 
-pub invariant_of-r : goal.invariant_of-r
-invariant_of-r c = record { fits = c.requires.source_fits.0 }
+pub invariant_of-r-clause-held : goal.invariant_of-r-clause-held
+invariant_of-r-clause-held c = c.requires.source_fits.0
 
 pub graft_sized-requires : goal.graft_sized-requires
 graft_sized-requires c =
