@@ -287,7 +287,8 @@ fn graft_field(
     }
 }
 
-// Section 5. A run of contents, behind all that its items push: where it starts.
+// Section 5. A run of contents, behind all that its items push: where it starts. For segments, the same below: a cycle of calls that goes
+// through the methods of a trait gets no proof, so each kind has functions of its own.
 #[cycle(graft_tree)]
 fn graft_content_run(
     w: &Walk<'_>,

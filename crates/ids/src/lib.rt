@@ -13,6 +13,7 @@ ghost use Rattle.records.specs.Uses.{use_number};
 ghost use Rattle.ids.specs.Tests.{used_well, two_runs, body_in, content_in, segment_in, node_in};
 ghost use Rattle.ids.specs.Whole.{runs_in, layers_in, LayersFit, IdsFit};
 
+use places::Run;
 use records::{RUBY, Use};
 use store::Store;
 
@@ -102,11 +103,11 @@ fn content_ids_ok(tape: &[u8], st: &Store, at: usize) -> bool
 }
 
 // Number 4 of a run; for segments and nodes, the same.
-pub fn contents_ids_ok(tape: &[u8], st: &Store, at: usize, count: usize) -> bool
-    requires { (at + 10 * count ≤ length tape.now) × (st.now.layers ≤ 32) }
-    ensures { result ≡ all (content_in st.now) (records_at content_codec tape.now at count) }
+pub fn contents_ids_ok(tape: &[u8], st: &Store, run: Run) -> bool
+    requires { (run.at + 10 * run.count ≤ length tape.now) × (st.now.layers ≤ 32) }
+    ensures { result ≡ all (content_in st.now) (records_at content_codec tape.now run.at run.count) }
 {
-    (0..count).all(|i| content_ids_ok(tape, st, at + 10 * i))
+    (0..run.count).all(|i| content_ids_ok(tape, st, run.at + 10 * i))
 }
 
 fn segment_ids_ok(tape: &[u8], st: &Store, at: usize) -> bool
@@ -116,11 +117,11 @@ fn segment_ids_ok(tape: &[u8], st: &Store, at: usize) -> bool
     body_ids_ok(tape, st, at + 3)
 }
 
-pub fn segments_ids_ok(tape: &[u8], st: &Store, at: usize, count: usize) -> bool
-    requires { (at + 37 * count ≤ length tape.now) × (st.now.layers ≤ 32) }
-    ensures { result ≡ all (segment_in st.now) (records_at segment_codec tape.now at count) }
+pub fn segments_ids_ok(tape: &[u8], st: &Store, run: Run) -> bool
+    requires { (run.at + 37 * run.count ≤ length tape.now) × (st.now.layers ≤ 32) }
+    ensures { result ≡ all (segment_in st.now) (records_at segment_codec tape.now run.at run.count) }
 {
-    (0..count).all(|i| segment_ids_ok(tape, st, at + 37 * i))
+    (0..run.count).all(|i| segment_ids_ok(tape, st, run.at + 37 * i))
 }
 
 // Number 4. A node of class 2 or 3 has no words.
@@ -131,11 +132,11 @@ fn node_ids_ok(tape: &[u8], st: &Store, at: usize) -> bool
     !records::has_words(tape, at) || body_ids_ok(tape, st, at + 15)
 }
 
-pub fn nodes_ids_ok(tape: &[u8], st: &Store, at: usize, count: usize) -> bool
-    requires { (at + 49 * count ≤ length tape.now) × (st.now.layers ≤ 32) }
-    ensures { result ≡ all (node_in st.now) (records_at node_codec tape.now at count) }
+pub fn nodes_ids_ok(tape: &[u8], st: &Store, run: Run) -> bool
+    requires { (run.at + 49 * run.count ≤ length tape.now) × (st.now.layers ≤ 32) }
+    ensures { result ≡ all (node_in st.now) (records_at node_codec tape.now run.at run.count) }
 {
-    (0..count).all(|i| node_ids_ok(tape, st, at + 49 * i))
+    (0..run.count).all(|i| node_ids_ok(tape, st, run.at + 49 * i))
 }
 
 // Number 4 of one layer, and of all.
@@ -143,8 +144,7 @@ fn layer_ids_ok(tape: &[u8], st: &Store, l: places::LayerRuns) -> bool
     requires { (l.contents.at + 10 * l.contents.count ≤ length tape.now) × (l.segments.at + 37 * l.segments.count ≤ length tape.now) × (st.now.layers ≤ 32) }
     ensures { result ≡ runs_in tape.now st.now l }
 {
-    contents_ids_ok(tape, st, l.contents.at, l.contents.count)
-        && segments_ids_ok(tape, st, l.segments.at, l.segments.count)
+    contents_ids_ok(tape, st, l.contents) && segments_ids_ok(tape, st, l.segments)
 }
 
 fn layers_ids_ok(tape: &[u8], st: &Store, layers: usize) -> bool
@@ -167,5 +167,5 @@ pub fn ids_ok(tape: &[u8], st: Store, p: places::Places) -> bool
     requires { IdsFit tape.now st p }
     ensures { (d : List ℕ) → result ≡ ids_ok (book_at tape.now (places tape.now) d) }
 {
-    layers_ids_ok(tape, &st, p.layers) && nodes_ids_ok(tape, &st, p.nodes.at, p.nodes.count)
+    layers_ids_ok(tape, &st, p.layers) && nodes_ids_ok(tape, &st, p.nodes)
 }

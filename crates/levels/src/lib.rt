@@ -22,6 +22,7 @@ ghost use Rattle.levels.specs.Below.{segments_below, content_below, contents_bel
 ghost use Rattle.levels.specs.Table.{segment_test, content_test, Step, Said, Filled, Bound, Block, Tops, Tables};
 ghost use Rattle.levels.specs.Whole.{levels_in, Walked};
 
+use places::Run;
 use records::{NODE, Use};
 use store::Store;
 
@@ -52,7 +53,8 @@ struct HeightTable<'a> {
     ghost made: { Tables tape.now st.now tops.now heights.now },
 }
 
-// ---- ranges up to 16; 'false' says nothing
+// ---- ranges up to 16; 'false' says nothing. These have the form of those by the tables below, and no function for both: a 'true' of theirs is sure
+// and a 'false' is not, so that each clause of such a function, and each step of its loops, would have to tell the two apart.
 
 impl<'a> Book<'a> {
     fn segments_quick(&self, start: u32, len: u32, level: u8) -> bool
@@ -82,12 +84,12 @@ impl<'a> Book<'a> {
         self.segments_quick(c.first, c.second, level)
     }
 
-    fn run_quick(&self, at: usize, count: usize, level: u8) -> bool
-        requires count_in_bounds { at + 10 * count ≤ length self.now.tape.now }
-        ensures { result ≡ true → all (content_below self.now.tape.now self.now.st.now level) (records_at content_codec self.now.tape.now at count) ≡ true }
+    fn run_quick(&self, run: Run, level: u8) -> bool
+        requires count_in_bounds { run.at + 10 * run.count ≤ length self.now.tape.now }
+        ensures { result ≡ true → all (content_below self.now.tape.now self.now.st.now level) (records_at content_codec self.now.tape.now run.at run.count) ≡ true }
     {
-        for i in 0..count {
-            if !self.content_quick(at + 10 * i, level) {
+        for i in 0..run.count {
+            if !self.content_quick(run.at + 10 * i, level) {
                 return false;
             }
         }
@@ -106,8 +108,11 @@ impl<'a> Book<'a> {
         if len == 0 {
             return true;
         }
-        let at = self.st.content_place(start);
-        self.run_quick(at, len as usize, level)
+        let run = Run {
+            at: self.st.content_place(start),
+            count: len as usize,
+        };
+        self.run_quick(run, level)
     }
 
     #[tactic(auto, using(std::proofs::lemmas::Bool::Decides::nat_tests), unfolding(crate::specs::Below::used_below))]
@@ -161,12 +166,12 @@ impl<'a> Book<'a> {
         self.body_quick(at + 3, level)
     }
 
-    fn run_levels_quick(&self, at: usize, count: usize) -> bool
-        requires count_in_bounds { at + 37 * count ≤ length self.now.tape.now }
-        ensures { result ≡ true → all (level_in self.now.tape.now self.now.st.now) (records_at segment_codec self.now.tape.now at count) ≡ true }
+    fn run_levels_quick(&self, run: Run) -> bool
+        requires count_in_bounds { run.at + 37 * run.count ≤ length self.now.tape.now }
+        ensures { result ≡ true → all (level_in self.now.tape.now self.now.st.now) (records_at segment_codec self.now.tape.now run.at run.count) ≡ true }
     {
-        for i in 0..count {
-            if !self.level_quick(at + 37 * i) {
+        for i in 0..run.count {
+            if !self.level_quick(run.at + 37 * i) {
                 return false;
             }
         }
@@ -182,7 +187,7 @@ impl<'a> Book<'a> {
         let mut at = from;
         for _layer in 1..layers {
             let l = places::next_layer(self.tape, at);
-            if !self.run_levels_quick(l.segments.at, l.segments.count) {
+            if !self.run_levels_quick(l.segments) {
                 return false;
             }
             at = l.end;
@@ -191,7 +196,7 @@ impl<'a> Book<'a> {
     }
 }
 
-// ---- ranges by the tables
+// ---- ranges by the tables. Of segments and of contents: a table each, made after the other, with facts and a record's size of its own.
 
 impl<'a> TopTable<'a> {
     // How far the items from i on are below the level, at most to `end`: by the table, or by the segment i itself, which stands at `at`.
@@ -367,12 +372,12 @@ impl<'a> HeightTable<'a> {
         self.body_below(at + 3, level)
     }
 
-    fn run_levels_ok(&self, at: usize, count: usize) -> bool
-        requires count_in_bounds { at + 37 * count ≤ length self.now.tape.now }
-        ensures { result ≡ all (level_in self.now.tape.now self.now.st.now) (records_at segment_codec self.now.tape.now at count) }
+    fn run_levels_ok(&self, run: Run) -> bool
+        requires count_in_bounds { run.at + 37 * run.count ≤ length self.now.tape.now }
+        ensures { result ≡ all (level_in self.now.tape.now self.now.st.now) (records_at segment_codec self.now.tape.now run.at run.count) }
     {
-        for i in 0..count {
-            if !self.level_ok(at + 37 * i) {
+        for i in 0..run.count {
+            if !self.level_ok(run.at + 37 * i) {
                 return false;
             }
         }
@@ -386,7 +391,7 @@ impl<'a> HeightTable<'a> {
         let mut at = 9;
         for _layer in 0..layers {
             let l = places::next_layer(self.tape, at);
-            if !self.run_levels_ok(l.segments.at, l.segments.count) {
+            if !self.run_levels_ok(l.segments) {
                 return false;
             }
             at = l.end;
@@ -531,7 +536,7 @@ pub fn levels_ok(tape: &[u8], st: Store, layers: usize) -> bool
         st: &st,
     };
     let l = places::next_layer(tape, 9);
-    if !book.run_levels_quick(l.segments.at, l.segments.count) {
+    if !book.run_levels_quick(l.segments) {
         return book.levels_tabled(layers);
     }
     if book.levels_quick(l.end, layers) {

@@ -330,6 +330,7 @@ pub fn uses_of(kind: u8, tag: u8) -> [Use; 6]
         FORMAT => format_uses(tag),
         GAIJI => gaiji_uses(tag),
         IMAGE => image_uses(tag),
+        // Text, HeadingHint, Kaeriten, Directive
         0 | 10 | 12 | 13 => [
             Use::Str,
             Use::Unused,
@@ -338,6 +339,7 @@ pub fn uses_of(kind: u8, tag: u8) -> [Use; 6]
             Use::Unused,
             Use::Unused,
         ],
+        // Ruby, MarginNote
         1 | 15 => [
             Use::Contents,
             Use::ContentsLen,
@@ -346,6 +348,7 @@ pub fn uses_of(kind: u8, tag: u8) -> [Use; 6]
             Use::Unused,
             Use::Unused,
         ],
+        // Heading, AngleQuote
         9 | 14 => [
             Use::Contents,
             Use::ContentsLen,
@@ -442,12 +445,16 @@ pub fn node_shape(n: SourceNode) -> bool
     node_head(n.class, n.inline, n.body.kind) && body_shape(n.body, n.class < BARE)
 }
 
+// Section 4. Kinds 0..4.
+#[tactic(auto, unfolding(model::specs::Tape::pair_shape))]
 pub fn pair_shape(p: PairLink) -> bool
     ensures { result ≡ pair_shape (pair_link_of p) }
 {
     p.kind < 5
 }
 
+// Section 4. Kinds 0..4.
+#[tactic(auto, unfolding(model::specs::Tape::diagnostic_shape))]
 pub fn diagnostic_shape(d: Diagnostic) -> bool
     ensures { result ≡ diagnostic_shape (diagnostic_of d) }
 {

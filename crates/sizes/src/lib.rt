@@ -430,11 +430,11 @@ fn only_contents(st: &Store) -> Run
     }
 }
 
-fn plain_contents(tape: &[u8], at: usize, count: usize) -> bool
-    requires { at + 10 * count ≤ length tape.now }
-    ensures { result ≡ all is_plain (records_at content_codec tape.now at count) }
+fn plain_contents(tape: &[u8], run: Run) -> bool
+    requires { run.at + 10 * run.count ≤ length tape.now }
+    ensures { result ≡ all is_plain (records_at content_codec tape.now run.at run.count) }
 {
-    (0..count).all(|i| records::content_at(tape, at + 10 * i).is_plain())
+    (0..run.count).all(|i| records::content_at(tape, run.at + 10 * i).is_plain())
 }
 
 // A range of these contents, all of them plain.
@@ -447,7 +447,11 @@ fn plain_run(tape: &[u8], own: Run, start: u32, len: u32) -> bool
     if own.count < from + n {
         return false;
     }
-    plain_contents(tape, own.at + 10 * from, n)
+    let run = Run {
+        at: own.at + 10 * from,
+        count: n,
+    };
+    plain_contents(tape, run)
 }
 
 // A Ruby whose base and reading are such ranges.

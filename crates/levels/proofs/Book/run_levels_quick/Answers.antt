@@ -12,8 +12,8 @@ loop-i-init c =
 pub loop-i-preserved : goal.loop-i-preserved
 unfolding segment_codec
 loop-i-preserved c =
-    run_more segment_codec (level_in c.args.self.now.tape.now c.args.self.now.st.now) c.args.self.now.tape.now c.args.at c.loop-i.i _ refl true (sym (c.level_quick.ensures c.if-not-level_quick.false)) refl c.loop-i.invariant
+    run_more segment_codec (level_in c.args.self.now.tape.now c.args.self.now.st.now) c.args.self.now.tape.now c.args.run.at c.loop-i.i _ refl true (sym (c.level_quick.ensures c.if-not-level_quick.false)) refl c.loop-i.invariant
 
 pub returns : goal.returns
 returns c =
-    λ e. sym (run_passed segment_codec (level_in c.args.self.now.tape.now c.args.self.now.st.now) c.args.self.now.tape.now c.args.at _ c.loop-i.i (omega arith) c.loop-i.invariant)
+    λ e. sym (run_passed segment_codec (level_in c.args.self.now.tape.now c.args.self.now.st.now) c.args.self.now.tape.now c.args.run.at _ c.loop-i.i (omega arith) c.loop-i.invariant)

@@ -12,8 +12,8 @@ loop-i-init c =
 pub loop-i-preserved : goal.loop-i-preserved
 unfolding content_codec
 loop-i-preserved c =
-    run_more content_codec (content_below c.args.self.now.tape.now c.args.self.now.st.now c.args.level) c.args.self.now.tape.now c.args.at c.loop-i.i _ refl true (sym (c.content_quick.ensures c.if-not-content_quick.false)) refl c.loop-i.invariant
+    run_more content_codec (content_below c.args.self.now.tape.now c.args.self.now.st.now c.args.level) c.args.self.now.tape.now c.args.run.at c.loop-i.i _ refl true (sym (c.content_quick.ensures c.if-not-content_quick.false)) refl c.loop-i.invariant
 
 pub returns : goal.returns
 returns c =
-    λ e. sym (run_passed content_codec (content_below c.args.self.now.tape.now c.args.self.now.st.now c.args.level) c.args.self.now.tape.now c.args.at _ c.loop-i.i (omega arith) c.loop-i.invariant)
+    λ e. sym (run_passed content_codec (content_below c.args.self.now.tape.now c.args.self.now.st.now c.args.level) c.args.self.now.tape.now c.args.run.at _ c.loop-i.i (omega arith) c.loop-i.invariant)

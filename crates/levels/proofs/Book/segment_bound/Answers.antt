@@ -24,10 +24,6 @@ pub returns-then-v-gt32 : goal.returns-then-v-gt32
 returns-then-v-gt32 c =
     bound_none _ _ _ (omega arith)
 
-pub overflow_add-result : goal.overflow_add-result
-overflow_add-result c =
-    omega arith
-
 pub returns : goal.returns
 returns c =
     bound_segment c.args.self.now.tape.now c.args.self.now.st.now c.args.i c.args.m _ c.segment_place-at.result c.segment_place-at.ensures (omega (arith, c.if-v-m.false)) (omega arith)

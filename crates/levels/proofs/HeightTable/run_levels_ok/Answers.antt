@@ -11,13 +11,13 @@ loop-i-init c = passed_none _
 pub returns-then-not-level_ok : goal.returns-then-not-level_ok
 unfolding segment_codec
 returns-then-not-level_ok c =
-    run_failed segment_codec (level_in c.args.self.now.tape.now c.args.self.now.st.now) c.args.self.now.tape.now c.args.at c.loop-i.i _ refl _ c.level_ok.ensures _ c.loop-i-test.true c.if-not-level_ok.true
+    run_failed segment_codec (level_in c.args.self.now.tape.now c.args.self.now.st.now) c.args.self.now.tape.now c.args.run.at c.loop-i.i _ refl _ c.level_ok.ensures _ c.loop-i-test.true c.if-not-level_ok.true
 
 pub loop-i-preserved : goal.loop-i-preserved
 unfolding segment_codec
 loop-i-preserved c =
-    run_more segment_codec (level_in c.args.self.now.tape.now c.args.self.now.st.now) c.args.self.now.tape.now c.args.at c.loop-i.i _ refl _ c.level_ok.ensures c.if-not-level_ok.false c.loop-i.invariant
+    run_more segment_codec (level_in c.args.self.now.tape.now c.args.self.now.st.now) c.args.self.now.tape.now c.args.run.at c.loop-i.i _ refl _ c.level_ok.ensures c.if-not-level_ok.false c.loop-i.invariant
 
 pub returns : goal.returns
 returns c =
-    run_passed segment_codec (level_in c.args.self.now.tape.now c.args.self.now.st.now) c.args.self.now.tape.now c.args.at _ c.loop-i.i (omega arith) c.loop-i.invariant
+    run_passed segment_codec (level_in c.args.self.now.tape.now c.args.self.now.st.now) c.args.self.now.tape.now c.args.run.at _ c.loop-i.i (omega arith) c.loop-i.invariant
