@@ -26,7 +26,7 @@ fn known(st: &mut StrInterner, slot: u32, stats: InternStats) -> u32
     ensures id { result ≡ slot - 1 }
     ensures state { st.new ≡ known_state st.old slot stats }
 {
-    st.last = table::wide(slot);
+    st.last = slot as usize;
     st.stats = stats;
     slot - 1
 }

@@ -174,7 +174,7 @@ impl StrInterner {
         ensures { probe_of result ≡ probe_at (table_of self.now.slots work.now) (get_or work.now (row_of self.now.slots + j) 0) }
     {
         let off = self.slots - INITIAL_CAPACITY;
-        let w = table::wide(work[row_of(self.slots) + j]);
+        let w = work[row_of(self.slots) + j] as usize;
         let at = w % PLACES;
         Probed {
             at,
@@ -201,7 +201,7 @@ impl StrInterner {
         ensures { result ≤ far_in work.now }
     {
         let mut lo = 0;
-        let mut hi = table::wide(work[FAR]);
+        let mut hi = work[FAR] as usize;
         while lo < hi {
             let mid = lo + (hi - lo) / 2;
             if compare::precedes(self.far_string(work, strs, mid), s) {
@@ -219,7 +219,7 @@ impl StrInterner {
         requires slots_nonzero { 0 < self.now.slots }
         ensures { IfSome result (λ p. (0 < p.slot) × (probe_of p ≡ first_probe (state_of work.now strs.now self.now) s.now)) }
     {
-        if j < table::wide(work[FAR]) && compare::same(self.far_string(work, strs, j), s) {
+        if j < (work[FAR] as usize) && compare::same(self.far_string(work, strs, j), s) {
             Some(self.far_probe(work, strs, j))
         } else {
             None
@@ -233,7 +233,7 @@ impl StrInterner {
         requires p_value { probe_of p ≡ first_probe (state_of work.old strs.now self.now) (get_or (state_of work.old strs.now self.now).strings (p.slot - 1) []) }
         ensures { Remembered work.old strs.now self.now work.new }
     {
-        let far = table::wide(work[FAR]);
+        let far = work[FAR] as usize;
         if ROW <= far {
             return;
         }
