@@ -262,6 +262,7 @@ fn number_in(tape: &[u8], c: Cursor) -> usize
     if command <= 10 { c.seen[command] } else { 0 }
 }
 
+#[tactic(auto, unfolding(crate::specs::Listing::first_line))]
 pub fn first_line() -> Cursor
     ensures { result ≡ first_line }
 {
