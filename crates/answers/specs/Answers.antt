@@ -1,8 +1,9 @@
 -- The answers of the entries as C has them: a number of the table, or 0 and the values. What an answer does not have is 0.
 use Rattle.std.specs.Prelude.{◌≡◌, refl, ℕ, Bool, true, false, cond, eqb, Option, Some, None, Result, Ok, Err}
-use Rattle.std.proofs.Common.{ap, ◌∙◌, arith, ne_eqb}
+use Rattle.std.proofs.Common.{sym, ap, ◌∙◌, arith, ne_eqb}
+use borrow.Author.Tests.{eqb-true}
 use Rattle.model.specs.Offset.{Span}
-use Rattle.model.specs.Refusal.{Checked, Checked.refused, Checked.accepted}
+use Rattle.model.specs.Refusal.{Checked, Checked.refused, Checked.accepted, number_of}
 use Rattle.refusal.specs.declared.Refusal.{Refusal}
 use Rattle.refusal.specs.Refusal.{number, checked, number_bounds}
 use Rattle.lookup.specs.declared.RangeAt.{RangeAt}
@@ -11,6 +12,7 @@ use Rattle.copy.specs.declared.Copied.{Copied}
 use Rattle.estimate.specs.declared.Price.{Price}
 use Rattle.output.specs.declared.IncrementalOutput.{IncrementalOutput as Output}
 use Rattle.output.specs.declared.BothOrders.{BothOrders}
+use Rattle.output.specs.Answer.{Answers, answers_of}
 use Rattle.answers.specs.declared.AllowedAnswer.{AllowedAnswer}
 use Rattle.answers.specs.declared.NodeAnswer.{NodeAnswer}
 use Rattle.answers.specs.declared.RangeAnswer.{RangeAnswer}
@@ -84,32 +86,104 @@ pub str_told : {B : Type 0} (a : Result (Option StrAt) Refusal) {r : StrAnswer} 
     → (show : Checked (Option StrAt) → Checked B) → (checked a ≡ x) × (show (checked a) ≡ asked) → (r ≡ str_answer x) × (show (str_read r) ≡ asked)
 str_told a e show h = (e ∙ ap str_answer h.0, ap (λ y. show (str_read y)) e ∙ ap show (str_back a) ∙ h.1)
 
--- ---- merges: the answer of the entry, read back
+-- ---- merges
 
-abbrev pub output_read : MergeAnswer → Output
-output_read r = record {
-  number = r.number;
-  start = r.start;
-  end = r.end;
-  reused = r.reused;
-  reread = r.reread;
-  stats = record {
-    calls = r.calls;
-    cachehits = r.cachehits;
-    tablehits = r.tablehits;
-    allocs = r.allocs;
-    longbypass = r.longbypass;
-    resizes = r.resizes;
-    probesteps = r.probesteps;
-  };
-  tape = r.tape;
-  bytes = r.bytes;
+abbrev pub merge_answer : Checked Output → MergeAnswer
+merge_answer (refused n) = record {
+  number = n;
+  start = 0;
+  end = 0;
+  reused = 0;
+  reread = 0;
+  calls = 0;
+  cachehits = 0;
+  tablehits = 0;
+  allocs = 0;
+  longbypass = 0;
+  resizes = 0;
+  probesteps = 0;
+  tape = 0;
+  bytes = 0;
+}
+merge_answer (accepted a) = record {
+  number = 0;
+  start = a.start;
+  end = a.end;
+  reused = a.reused;
+  reread = a.reread;
+  calls = a.stats.calls;
+  cachehits = a.stats.cachehits;
+  tablehits = a.stats.tablehits;
+  allocs = a.stats.allocs;
+  longbypass = a.stats.longbypass;
+  resizes = a.stats.resizes;
+  probesteps = a.stats.probesteps;
+  tape = a.tape;
+  bytes = a.bytes;
 }
 
-abbrev pub orders_read : OrdersAnswer → BothOrders
+abbrev pub orders_answer : Answers → OrdersAnswer
+orders_answer r = record {
+  earlierfirst = merge_answer r.earlier_first;
+  latersecond = merge_answer r.later_second;
+  laterfirst = merge_answer r.later_first;
+  earliersecond = merge_answer r.earlier_second;
+}
+
+-- The answer of the entry, read back.
+unfoldable pub output_read : MergeAnswer → Checked Output
+output_read r =
+    cond (eqb r.number 0)
+    (accepted (record {
+      start = r.start;
+      end = r.end;
+      reused = r.reused;
+      reread = r.reread;
+      stats = record {
+        calls = r.calls;
+        cachehits = r.cachehits;
+        tablehits = r.tablehits;
+        allocs = r.allocs;
+        longbypass = r.longbypass;
+        resizes = r.resizes;
+        probesteps = r.probesteps;
+      };
+      tape = r.tape;
+      bytes = r.bytes;
+    }))
+    (refused r.number)
+
+abbrev pub orders_read : OrdersAnswer → Answers
 orders_read r = record {
-  earlierfirst = output_read r.earlierfirst;
-  latersecond = output_read r.latersecond;
-  laterfirst = output_read r.laterfirst;
-  earliersecond = output_read r.earliersecond;
+  earlier_first = output_read r.earlierfirst;
+  later_second = output_read r.latersecond;
+  later_first = output_read r.laterfirst;
+  earlier_second = output_read r.earliersecond;
 }
+
+-- Its number is that of the struct.
+pub number_read : (r : MergeAnswer) → number_of (output_read r) ≡ r.number
+unfolding output_read number_of
+number_read r = go (eqb r.number 0) refl
+  where
+    go : (b : Bool) → eqb r.number 0 ≡ b → number_of (output_read r) ≡ r.number
+    go true e = rw e (sym (eqb-true r.number 0 e))
+    go false e = rw e refl
+
+output_back : (a : Result Output Refusal) → output_read (merge_answer (checked a)) ≡ checked a
+unfolding output_read
+output_back (Err r) = let b = number_bounds r in rw (ne_eqb (number r) 0 (λ e. omega (arith, e, b))) refl
+output_back (Ok x) = refl
+
+-- An answer told is read as the answer that was given.
+pub merge_back : {r : MergeAnswer} (a : Result Output Refusal) → r ≡ merge_answer (checked a) → output_read r ≡ checked a
+merge_back a e = ap output_read e ∙ output_back a
+
+pub orders_back : {r : OrdersAnswer} (a : BothOrders) → r ≡ orders_answer (answers_of a) → orders_read r ≡ answers_of a
+orders_back a e =
+    λ i. record {
+      earlier_first = merge_back a.earlier_first (ap (λ (x : OrdersAnswer). x.earlierfirst) e) i;
+      later_second = merge_back a.later_second (ap (λ (x : OrdersAnswer). x.latersecond) e) i;
+      later_first = merge_back a.later_first (ap (λ (x : OrdersAnswer). x.laterfirst) e) i;
+      earlier_second = merge_back a.earlier_second (ap (λ (x : OrdersAnswer). x.earliersecond) e) i;
+    }

@@ -5,11 +5,13 @@
 ghost use Rattle.std.specs.Prelude.{◌≡◌};
 ghost use Rattle.refusal.specs.Refusal.{number_in, checked, checked_map};
 ghost use Rattle.span.specs.Values.{span_of};
-ghost use Rattle.answers.specs.Answers.{allowed_answer, node_answer, range_answer, str_answer, copy_answer, region_answer, price_answer, output_read, orders_read};
+ghost use Rattle.output.specs.Answer.{answers_of};
+ghost use Rattle.answers.specs.Answers.{allowed_answer, node_answer, range_answer, str_answer, copy_answer, region_answer, price_answer, merge_answer, orders_answer};
 
 use copy::Copied;
 use estimate::Price;
 use lookup::{RangeAt, StrAt};
+use output::{BothOrders, IncrementalOutput};
 use refusal::Refusal;
 use span::Span;
 
@@ -83,7 +85,7 @@ pub struct PriceAnswer {
 // What a merge answers: the region in offsets of the old text, old nodes kept, the reading's nodes, the seven counts, and how many bytes of
 // the two result buffers the book takes.
 #[repr(C)]
-#[derive(Clone, Copy)]
+#[derive(Clone, Copy, Default)]
 pub struct MergeAnswer {
     pub number: u32,
     pub start: u32,
@@ -284,39 +286,44 @@ impl From<Result<Price, Refusal>> for PriceAnswer {
     }
 }
 
-pub fn merge_answer(a: output::IncrementalOutput) -> MergeAnswer
-    ensures { output_read result ≡ a }
-{
-    let c = a.stats;
-    MergeAnswer {
-        number: a.number,
-        start: a.start,
-        end: a.end,
-        reused: a.reused,
-        reread: a.reread,
-        calls: c.calls,
-        cachehits: c.cachehits,
-        tablehits: c.tablehits,
-        allocs: c.allocs,
-        longbypass: c.longbypass,
-        resizes: c.resizes,
-        probesteps: c.probesteps,
-        tape: a.tape,
-        bytes: a.bytes,
+impl From<Result<IncrementalOutput, Refusal>> for MergeAnswer {
+    ghost from_gives = { λ a r. r ≡ merge_answer (checked a) };
+
+    fn from(a: Result<IncrementalOutput, Refusal>) -> MergeAnswer {
+        match a {
+            Ok(a) => MergeAnswer {
+                number: 0,
+                start: a.start,
+                end: a.end,
+                reused: a.reused,
+                reread: a.reread,
+                calls: a.stats.calls,
+                cachehits: a.stats.cachehits,
+                tablehits: a.stats.tablehits,
+                allocs: a.stats.allocs,
+                longbypass: a.stats.longbypass,
+                resizes: a.stats.resizes,
+                probesteps: a.stats.probesteps,
+                tape: a.tape,
+                bytes: a.bytes,
+            },
+            Err(refusal) => MergeAnswer {
+                number: u32::from(refusal),
+                ..MergeAnswer::default()
+            },
+        }
     }
 }
 
-pub fn orders_answer(a: output::BothOrders) -> OrdersAnswer
-    ensures { orders_read result ≡ a }
-{
-    let earlierfirst = a.earlierfirst;
-    let latersecond = a.latersecond;
-    let laterfirst = a.laterfirst;
-    let earliersecond = a.earliersecond;
-    OrdersAnswer {
-        earlierfirst: merge_answer(earlierfirst),
-        latersecond: merge_answer(latersecond),
-        laterfirst: merge_answer(laterfirst),
-        earliersecond: merge_answer(earliersecond),
+impl From<BothOrders> for OrdersAnswer {
+    ghost from_gives = { λ a r. r ≡ orders_answer (answers_of a) };
+
+    fn from(a: BothOrders) -> OrdersAnswer {
+        OrdersAnswer {
+            earlierfirst: MergeAnswer::from(a.earlier_first),
+            latersecond: MergeAnswer::from(a.later_second),
+            laterfirst: MergeAnswer::from(a.later_first),
+            earliersecond: MergeAnswer::from(a.earlier_second),
+        }
     }
 }

@@ -21,7 +21,7 @@ ghost use Rattle.copy.specs.Copying.{copied_of};
 ghost use Rattle.estimate.specs.Pricing.{estimate_of};
 ghost use Rattle.output.specs.Answer.{Merged};
 ghost use Rattle.orders.specs.Orders.{MergedBothOrders};
-ghost use Rattle.answers.specs.Answers.{allowed_answer, node_answer, range_answer, range_read, str_answer, str_read, copy_answer, region_answer, price_answer, output_read, orders_read};
+ghost use Rattle.answers.specs.Answers.{allowed_answer, node_answer, range_answer, range_read, str_answer, str_read, copy_answer, region_answer, price_answer, merge_answer, output_read, orders_answer, orders_read};
 
 #[unsafe(no_mangle)]
 pub extern "C" fn aozora_check_book(tape: &[u8], bytes: &[u8]) -> u32
@@ -164,9 +164,9 @@ pub extern "C" fn aozora_merge(
     ensures { Merged
         (merge (record { tape = tape.now; bytes = bytes.now }) (edit_of start end replacement.now) (record { tape = readingtape.now; bytes = readingbytes.now })
         (room_of outtape.old outbytes.old work.old))
-        (room_of outtape.old outbytes.old work.old) (output_read result) outtape.new outbytes.new work.new }
+        (room_of outtape.old outbytes.old work.old) (output_read result) outtape.new outbytes.new work.new × (result ≡ merge_answer (output_read result)) }
 {
-    answers::merge_answer(incremental::merge(
+    answers::MergeAnswer::from(incremental::merge(
         tape,
         bytes,
         start,
@@ -212,9 +212,10 @@ pub extern "C" fn aozora_merge_both_orders(
         (room_of tape3.old bytes3.old work.old)
         (room_of tape4.old bytes4.old work.old)
         (orders_read result) (stored_of tape1.new bytes1.new) (stored_of tape2.new bytes2.new)
-        (stored_of tape3.new bytes3.new) (stored_of tape4.new bytes4.new) work.new }
+        (stored_of tape3.new bytes3.new) (stored_of tape4.new bytes4.new) work.new
+        × (result ≡ orders_answer (orders_read result)) }
 {
-    answers::orders_answer(orders::merge_both_orders(
+    answers::OrdersAnswer::from(orders::merge_both_orders(
         tape,
         bytes,
         start1,

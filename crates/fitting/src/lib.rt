@@ -50,7 +50,18 @@ fn target_of(
 {
     let p = tape::checked_book(tape, bytes)?;
     let st = store::store_of(tape, p.layers);
-    let region = region::chosen_region(tape, bytes, p, st, work, start, end, replacement)?;
+    let edit = edit::Edit {
+        start,
+        end,
+        replacement,
+    };
+    let book = region::Book {
+        tape,
+        bytes,
+        places: p,
+        store: st,
+    };
+    let region = region::chosen_region(&book, &edit, work)?;
     Ok(Target { p, st, region })
 }
 
@@ -61,7 +72,7 @@ fn normalized_cut(tape: &[u8], nodes: places::Run, cut: SourceOffset) -> Normali
     requires cut_bound { normalized_offset (records_at node_codec tape.now nodes.at nodes.count) cut.0 < 2 ^ 32 }
     ensures { result.0 ≡ normalized_offset (records_at node_codec tape.now nodes.at nodes.count) cut.0 }
 {
-    let at = reading::normalized_offset(tape, nodes.at, nodes.count, cut.0);
+    let at = reading::normalized_offset(tape, nodes, cut.0);
     NormalizedOffset(at as u32)
 }
 
@@ -133,19 +144,19 @@ fn check_cuts(
     let p = f.p;
     let q = f.q;
     let w = f.w;
-    if introduces::introduces_ruby_format_dependency(
+    let book = region::Book {
         tape,
         bytes,
-        p,
-        f.st,
-        readingtape,
-        readingbytes,
-        q,
-        f.own,
-        work,
-        w.start,
-        w.end,
-    ) {
+        places: p,
+        store: f.st,
+    };
+    let own = region::Book {
+        tape: readingtape,
+        bytes: readingbytes,
+        places: q,
+        store: f.own,
+    };
+    if introduces::introduces_ruby_format_dependency(&book, &own, work, w.start, w.end) {
         return Err(Refusal::NewRubyFormatDependency);
     }
     let first = p.text as usize;
@@ -188,10 +199,10 @@ fn check_fitting(
     if !passage::is_region_text(old_text, first, last, replacement, own_text) {
         return Err(Refusal::OtherText);
     }
-    if !reading::balanced_nodes(readingtape, q.nodes.at, q.nodes.count) {
+    if !reading::balanced_nodes(readingtape, q.nodes) {
         return Err(Refusal::Unbalanced);
     }
-    if reading::has_unclosed(readingtape, q.diagnostics.at, q.diagnostics.count) {
+    if reading::has_unclosed(readingtape, q.diagnostics) {
         return Err(Refusal::Unclosed);
     }
     check_cuts(tape, bytes, readingtape, readingbytes, f, work)

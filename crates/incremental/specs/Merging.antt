@@ -25,7 +25,7 @@ module _ (t d : List ℕ) (e : Edit) (rt rd : List ℕ) (room : Room) where
 
 -- the answer of a later stage, whose work words are as many
 pub written_later : {asked : Checked IncrementalOutput} {out text : List ℕ} (work later : List ℕ) (ask : Room → Checked IncrementalOutput) → asked ≡ ask (room_of out text work) → length later ≡ length work
-    → {r : Output} {out' text' work' : List ℕ} → Written (ask (room_of out text later)) r out text later out' text' work' → Written asked r out text work out' text' work'
+    → {r : Checked Output} {out' text' work' : List ℕ} → Written (ask (room_of out text later)) r out text later out' text' work' → Written asked r out text work out' text' work'
 written_later {asked} {out} {text} work later ask e f {r} w =
     let same : asked ≡ ask (room_of out text later) = e ∙ ap (λ (n : ℕ). ask (record { tape_bytes = length out; text_bytes = length text; work_words = n })) (sym f) in
     rw same (record { answer = w.answer; tape = w.tape; bytes = w.bytes; tape_length = w.tape_length; text_length = w.text_length; words_length = w.words_length ∙ f })

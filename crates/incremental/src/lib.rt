@@ -5,9 +5,11 @@
 ghost use Rattle.std.specs.Prelude.{◌≡◌};
 ghost use Rattle.model.specs.Merge.{stored_of, room_of};
 ghost use Rattle.model.specs.Demand3.{correction_of, merge_of};
+ghost use Rattle.refusal.specs.Refusal.{checked};
 ghost use Rattle.output.specs.Answer.{Written, Merged};
 
 use output::IncrementalOutput;
+use refusal::Refusal;
 
 // Numbers 1 to 18; what is not result is not cleared.
 fn merge_checked(
@@ -21,10 +23,10 @@ fn merge_checked(
     outtape: &mut [u8],
     outbytes: &mut [u8],
     work: &mut [u32],
-) -> IncrementalOutput
-    ensures { Written (merge_of (stored_of tape.now bytes.now) (correction_of start end replacement.now readingtape.now readingbytes.now) (room_of outtape.old outbytes.old work.old)) result outtape.old outbytes.old work.old outtape.new outbytes.new work.new }
+) -> Result<IncrementalOutput, Refusal>
+    ensures { Written (merge_of (stored_of tape.now bytes.now) (correction_of start end replacement.now readingtape.now readingbytes.now) (room_of outtape.old outbytes.old work.old)) (checked result) outtape.old outbytes.old work.old outtape.new outbytes.new work.new }
 {
-    let f = match fitting::fitted(
+    let f = fitting::fitted(
         tape,
         bytes,
         start,
@@ -33,10 +35,7 @@ fn merge_checked(
         readingtape,
         readingbytes,
         work,
-    ) {
-        Ok(f) => f,
-        Err(refusal) => return output::refused_output(u32::from(refusal)),
-    };
+    )?;
     let book = result::Book {
         tape,
         bytes,
@@ -69,8 +68,8 @@ pub fn merge(
     outtape: &mut [u8],
     outbytes: &mut [u8],
     work: &mut [u32],
-) -> IncrementalOutput
-    ensures { Merged (merge_of (stored_of tape.now bytes.now) (correction_of start end replacement.now readingtape.now readingbytes.now) (room_of outtape.old outbytes.old work.old)) (room_of outtape.old outbytes.old work.old) result outtape.new outbytes.new work.new }
+) -> Result<IncrementalOutput, Refusal>
+    ensures { Merged (merge_of (stored_of tape.now bytes.now) (correction_of start end replacement.now readingtape.now readingbytes.now) (room_of outtape.old outbytes.old work.old)) (room_of outtape.old outbytes.old work.old) (checked result) outtape.new outbytes.new work.new }
 {
     let r = merge_checked(
         tape,
@@ -84,6 +83,7 @@ pub fn merge(
         outbytes,
         work,
     );
-    output::clear_rest(outtape, outbytes, work, r.tape, r.bytes);
+    let (tapeend, bytesend) = output::taken(r);
+    output::clear_rest(outtape, outbytes, work, tapeend, bytesend);
     r
 }

@@ -21,6 +21,7 @@ ghost use Rattle.listing.specs.Strings.{Printable};
 ghost use Rattle.listing.specs.Walk.{Counted};
 
 use lines::Line;
+use records::Use;
 use span::Span;
 use tables::{Field, LABELS, Part, ROWS, SIZES, Shows, WORD_LABELS};
 
@@ -145,8 +146,8 @@ impl<'a> Book<'a> {
         let word = wire::u32_or_zero(self.tape, body + 10 + 4 * i) as usize;
         let label = word_label(kind, i);
         match records::word_use(kind, tag, i) {
-            0 => Item(b"", Value::Nothing),
-            1 | 2 => Item(label, Value::Str(word)),
+            Use::Unused => Item(b"", Value::Nothing),
+            Use::Str | Use::OptStr => Item(label, Value::Str(word)),
             _ => Item(label, Value::Number(word)),
         }
     }

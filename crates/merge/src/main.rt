@@ -5,11 +5,14 @@
 ghost use Rattle.std.specs.Prelude.{◌≡◌, ℕ, ◌+◌, ◌≤◌, List, length, take, OnOk, IfSome};
 ghost use Rattle.std.specs.Io.KnownBytes.{Appends};
 ghost use Rattle.model.specs.Runs.{asked, program, line as line_of};
+ghost use Rattle.refusal.specs.Refusal.{checked};
 ghost use Rattle.output.specs.Answer.{output_of};
 ghost use Rattle.lines.specs.Put.{room, Put};
 ghost use Rattle.runs.specs.Input.{Whole};
 
 use lines::Line;
+use output::IncrementalOutput;
+use refusal::Refusal;
 use std::io;
 use std::io::{Read, Write};
 
@@ -19,10 +22,10 @@ fn merge_parts(
     outtape: &mut [u8],
     outbytes: &mut [u8],
     work: &mut [u32],
-) -> output::IncrementalOutput
+) -> Result<IncrementalOutput, Refusal>
     requires whole { Whole input.now }
     requires outtape_len { (length outtape.old ≡ 65536) × (length outbytes.old ≡ 65536) × (length work.old ≡ 16384) }
-    ensures { result ≡ output_of (asked input.now) }
+    ensures { checked result ≡ output_of (asked input.now) }
 {
     let oldbytes = runs::HEAD + wire::u32_at(input, 0) as usize;
     let replacement = oldbytes + wire::u32_at(input, 4) as usize;
@@ -48,14 +51,11 @@ fn answer(
     outtape: &mut [u8],
     outbytes: &mut [u8],
     work: &mut [u32],
-) -> output::IncrementalOutput
+) -> Result<IncrementalOutput, Refusal>
     requires { (length outtape.old ≡ 65536) × (length outbytes.old ≡ 65536) × (length work.old ≡ 16384) }
-    ensures { result ≡ output_of (program input.now) }
+    ensures { checked result ≡ output_of (program input.now) }
 {
-    let n = runs::input_refusal(input);
-    if n != 0 {
-        return output::refused_output(n);
-    }
+    runs::check_input(input)?;
     merge_parts(input, outtape, outbytes, work)
 }
 

@@ -130,8 +130,8 @@ fn sides_in<K: splice::Spliced>(tape: &[u8], run: places::Run, w: splice::Window
     ensures { result ≡ sides_of K.located (window_value w) (records_at K.codec tape.now run.at run.count) }
 {
     Sides {
-        before: splice::count_before::<K>(tape, run.at, run.count, w),
-        behind: splice::count_behind::<K>(tape, run.at, run.count, w),
+        before: splice::count_before::<K>(tape, run, w),
+        behind: splice::count_behind::<K>(tape, run, w),
     }
 }
 
@@ -163,16 +163,9 @@ fn put_nodes(
     ensures { out.new ≡ overwrite out.old to (node_bytes (window_value w) (records_at node_codec tape.now run.at run.count) (records_at node_codec out.old to reading)) }
 {
     moves::move_up(out, to, 49 * reading, 49 * before);
-    splice::put_before::<splice_nodes::Nodes>(tape, run.at, run.count, w, out, to);
+    splice::put_before::<splice_nodes::Nodes>(tape, run, w, out, to);
     splice_nodes::place_nodes(out, to + 49 * before, reading, w);
-    splice::put_behind::<splice_nodes::Nodes>(
-        tape,
-        run.at,
-        run.count,
-        w,
-        out,
-        to + 49 * before + 49 * reading,
-    );
+    splice::put_behind::<splice_nodes::Nodes>(tape, run, w, out, to + 49 * before + 49 * reading);
 }
 
 // `merge_pairs`, `merge_container_pairs`, and `merge_diagnostics` before its sort.
@@ -193,9 +186,9 @@ fn put_list<K: splice::Spliced>(
 {
     let readingto = to + K::SIZE * before;
     let behindto = readingto + K::SIZE * reading.count;
-    splice::put_before::<K>(tape, run.at, run.count, w, out, to);
-    splice::put_reading::<K>(readingtape, reading.at, reading.count, w, out, readingto);
-    splice::put_behind::<K>(tape, run.at, run.count, w, out, behindto);
+    splice::put_before::<K>(tape, run, w, out, to);
+    splice::put_reading::<K>(readingtape, reading, w, out, readingto);
+    splice::put_behind::<K>(tape, run, w, out, behindto);
 }
 
 // `merge_diagnostics`: `all` of them, sorted.
@@ -290,7 +283,6 @@ pub fn output_of(
     ensures { result ≡ output_by w.start w.end (s.before + s.behind) reread stats tape bytes }
 {
     output::IncrementalOutput {
-        number: 0,
         start: w.start,
         end: w.end,
         reused: (s.before + s.behind) as u32,

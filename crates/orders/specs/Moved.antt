@@ -4,7 +4,7 @@ use Rattle.std.proofs.Math.Path.{refl}
 use Rattle.std.proofs.Common.{arith}
 use Rattle.model.specs.Offset.{Span, max_u32}
 use Rattle.model.specs.Types.{LexOutput}
-use Rattle.model.specs.Region.{Edit, edited, behind_edit, edit_of}
+use Rattle.model.specs.Region.{Edit, behind_edit, edit_of}
 use Rattle.model.specs.Demand3.{Correction, moved_behind, cut_behind, cut_moved}
 use Rattle.laws.specs.Checks.{Chosen}
 use Rattle.edit.specs.Same.{edited_length}

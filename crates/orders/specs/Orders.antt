@@ -7,24 +7,23 @@ use mathlib.Core.List.{List, [], ◌++◌}
 use Rattle.std.proofs.Math.ListN.{length, length-replicate}
 use Rattle.std.proofs.Math.Seq.{take-append_seam}
 use Rattle.model.specs.Types.{LexOutput}
-use Rattle.model.specs.Refusal.{Checked, Checked.refused, Checked.accepted}
+use Rattle.model.specs.Refusal.{Checked, Checked.refused, Checked.accepted, number_of}
 use Rattle.model.specs.WellFormed.{check_book}
 use Rattle.model.specs.Region.{Edit, edit_of}
-use Rattle.model.specs.Merge.{Stored, Room, IncrementalOutput, merge, padded, tape_buffer, text_buffer, work_buffer, stored_of, result_of, output_tape, output_bytes}
+use Rattle.model.specs.Merge.{Stored, Room, IncrementalOutput, padded, tape_buffer, text_buffer, work_buffer, stored_of, result_of, output_tape, output_bytes}
 use Rattle.model.specs.Demand3.{Correction, StoredBytes, Separate, BothOrders, Commutes, Demand3, correction_of, merge_of, cut_behind, cut_moved}
 use Rattle.laws.specs.Checks.{chosen_facts}
 use Rattle.laws.specs.Numbers.{merge_numbers}
 use Rattle.commute.proofs.Demand3.{demand3}
-use Rattle.output.specs.Answer.{Merged, output_of}
+use Rattle.output.specs.Answer.{Answers, Merged, output_of, output_value, tape_taken, bytes_taken}
 use Rattle.output.specs.declared.IncrementalOutput.{IncrementalOutput as Output}
-use Rattle.output.specs.declared.BothOrders.{BothOrders as Answers}
 use Rattle.incremental.specs.Answered.{merged_value}
 use Rattle.orders.specs.Moved.{moved_exact}
 
 -- ---- what the calls leave
 
 -- One correction merged into a book, and another into the result, each into buffers of its own.
-pub record MergedInOrder (book : Stored) (first second : Correction) (room₁ room₂ : Room) (r₁ r₂ : Output) (out₁ out₂ : Stored) (work : List ℕ) : Type 0 where
+pub record MergedInOrder (book : Stored) (first second : Correction) (room₁ room₂ : Room) (r₁ r₂ : Checked Output) (out₁ out₂ : Stored) (work : List ℕ) : Type 0 where
   pub one : Merged (merge_of book first room₁) room₁ r₁ out₁.tape out₁.bytes work
   pub two : Merged (merge_of (result_of (merge_of book first room₁)) second room₂) room₂ r₂ out₂.tape out₂.bytes work
 
@@ -33,18 +32,18 @@ pub record CallsCommute (book : LexOutput) (stored : Stored) (earlier later : Co
     (r : Answers) (out₁ out₂ out₃ out₄ : Stored) (work : List ℕ) : Type 0 where
   pub orders : BothOrders stored earlier later
   pub rooms : (orders.room₁ ≡ room₁) × (orders.room₂ ≡ room₂) × (orders.room₃ ≡ room₃) × (orders.room₄ ≡ room₄)
-  pub earlier_first : Merged (accepted orders.earlier_first) room₁ r.earlierfirst out₁.tape out₁.bytes work
-  pub later_second : Merged (accepted orders.later_second) room₂ r.latersecond out₂.tape out₂.bytes work
-  pub later_first : Merged (accepted orders.later_first) room₃ r.laterfirst out₃.tape out₃.bytes work
-  pub earlier_second : Merged (accepted orders.earlier_second) room₄ r.earliersecond out₄.tape out₄.bytes work
+  pub earlier_first : Merged (accepted orders.earlier_first) room₁ r.earlier_first out₁.tape out₁.bytes work
+  pub later_second : Merged (accepted orders.later_second) room₂ r.later_second out₂.tape out₂.bytes work
+  pub later_first : Merged (accepted orders.later_first) room₃ r.later_first out₃.tape out₃.bytes work
+  pub earlier_second : Merged (accepted orders.earlier_second) room₄ r.earlier_second out₄.tape out₄.bytes work
   pub commutes : Commutes book stored earlier later orders
 
 -- What `merge_both_orders` leaves: the four merges, on every input, and demand 3 of them where none is refused.
 pub record MergedBothOrders (stored : Stored) (earlier later : Correction) (room₁ room₂ room₃ room₄ : Room)
     (r : Answers) (out₁ out₂ out₃ out₄ : Stored) (work : List ℕ) : Type 0 where
-  pub later_second : MergedInOrder stored earlier (cut_moved earlier.edit later) room₁ room₂ r.earlierfirst r.latersecond out₁ out₂ work
-  pub earlier_second : MergedInOrder stored later earlier room₃ room₄ r.laterfirst r.earliersecond out₃ out₄ work
-  pub commute : r.earlierfirst.number ≡ 0 → r.latersecond.number ≡ 0 → r.laterfirst.number ≡ 0 → r.earliersecond.number ≡ 0
+  pub later_second : MergedInOrder stored earlier (cut_moved earlier.edit later) room₁ room₂ r.earlier_first r.later_second out₁ out₂ work
+  pub earlier_second : MergedInOrder stored later earlier room₃ room₄ r.later_first r.earlier_second out₃ out₄ work
+  pub commute : number_of r.earlier_first ≡ 0 → number_of r.later_second ≡ 0 → number_of r.later_first ≡ 0 → number_of r.earlier_second ≡ 0
       → (book : LexOutput) → check_book stored.tape stored.bytes ≡ accepted book → Separate book earlier later
       → CallsCommute book stored earlier later room₁ room₂ room₃ room₄ r out₁ out₂ out₃ out₄ work
 
@@ -57,20 +56,20 @@ at_head l z {n} {out} e q =
     (rw q (omega (arith, e, s)), rw (q, e, sub-zero (length l)) (take-append_seam l z))
 
 -- The result stands at the head of both buffers; of a refused merge, nothing.
-module _ {asked : Checked IncrementalOutput} {room : Room} {r : Output} {out text work : List ℕ} (m : Merged asked room r out text work) where
-  pub tape_head : (r.tape ≤ length out) × (take (r.tape - 0) (drop 0 out) ≡ output_tape asked)
-  unfolding output_of tape_buffer output_tape padded
-  tape_head = go asked (ap (λ (x : Output). x.tape) m.answer) m.tape
+module _ {asked : Checked IncrementalOutput} {room : Room} {r : Checked Output} {out text work : List ℕ} (m : Merged asked room r out text work) where
+  pub tape_head : {n : ℕ} → n ≡ tape_taken r → (n ≤ length out) × (take (n - 0) (drop 0 out) ≡ output_tape asked)
+  unfolding output_value tape_buffer output_tape padded
+  tape_head k = go asked (k ∙ ap tape_taken m.answer) m.tape
     where
-      go : (x : Checked IncrementalOutput) {n : ℕ} {l : List ℕ} → n ≡ (output_of x).tape → l ≡ tape_buffer room x → (n ≤ length l) × (take (n - 0) (drop 0 l) ≡ output_tape x)
+      go : (x : Checked IncrementalOutput) {n : ℕ} {l : List ℕ} → n ≡ tape_taken (output_of x) → l ≡ tape_buffer room x → (n ≤ length l) × (take (n - 0) (drop 0 l) ≡ output_tape x)
       go (refused k) e q = at_head [] _ e q
       go (accepted a) e q = at_head a.output.tape _ e q
 
-  pub bytes_head : (r.bytes ≤ length text) × (take (r.bytes - 0) (drop 0 text) ≡ output_bytes asked)
-  unfolding output_of text_buffer output_bytes padded
-  bytes_head = go asked (ap (λ (x : Output). x.bytes) m.answer) m.bytes
+  pub bytes_head : {n : ℕ} → n ≡ bytes_taken r → (n ≤ length text) × (take (n - 0) (drop 0 text) ≡ output_bytes asked)
+  unfolding output_value text_buffer output_bytes padded
+  bytes_head k = go asked (k ∙ ap bytes_taken m.answer) m.bytes
     where
-      go : (x : Checked IncrementalOutput) {n : ℕ} {l : List ℕ} → n ≡ (output_of x).bytes → l ≡ text_buffer room x → (n ≤ length l) × (take (n - 0) (drop 0 l) ≡ output_bytes x)
+      go : (x : Checked IncrementalOutput) {n : ℕ} {l : List ℕ} → n ≡ bytes_taken (output_of x) → l ≡ text_buffer room x → (n ≤ length l) × (take (n - 0) (drop 0 l) ≡ output_bytes x)
       go (refused k) e q = at_head [] _ e q
       go (accepted a) e q = at_head a.output.bytes _ e q
 
@@ -92,28 +91,29 @@ with_words_lem : (w : List ℕ) (room : Room) → length w ≡ room.work_words �
 with_words_lem w room e = λ i. record { tape_bytes = room.tape_bytes; text_bytes = room.text_bytes; work_words = e i }
 
 -- The second call reads the result of the first out of its buffers, with as many words.
-pub in_order : {book : Stored} {first second : Correction} {room₁ room₂ : Room} {r₁ r₂ : Output} {out₁ out₂ : Stored} {w₁ w₂ : List ℕ} → room₂.work_words ≡ room₁.work_words
+pub in_order : {book : Stored} {first second : Correction} {room₁ room₂ : Room} {r₁ r₂ : Checked Output} {out₁ out₂ : Stored} {w₁ w₂ : List ℕ} {n₁ n₂ : ℕ} → room₂.work_words ≡ room₁.work_words
+    → n₁ ≡ tape_taken r₁ → n₂ ≡ bytes_taken r₁
     → Merged (merge_of book first room₁) room₁ r₁ out₁.tape out₁.bytes w₁
-    → Merged (merge_of (stored_of (take (r₁.tape - 0) (drop 0 out₁.tape)) (take (r₁.bytes - 0) (drop 0 out₁.bytes))) second (with_words room₂ w₁))
+    → Merged (merge_of (stored_of (take (n₁ - 0) (drop 0 out₁.tape)) (take (n₂ - 0) (drop 0 out₁.bytes))) second (with_words room₂ w₁))
     (with_words room₂ w₁) r₂ out₂.tape out₂.bytes w₂
     → MergedInOrder book first second room₁ room₂ r₁ r₂ out₁ out₂ w₂
 unfolding result_of work_buffer
-in_order {room₁ = room₁} {room₂ = room₂} {w₁ = w₁} k m n =
+in_order {room₁ = room₁} {room₂ = room₂} {w₁ = w₁} k i j m n =
     let e : length w₁ ≡ room₁.work_words = work_length m in
     let f : length w₁ ≡ room₂.work_words = e ∙ sym k in
     record {
       one = merged_work m (n.words ∙ ap (λ (j : ℕ). replicate j 0) e);
-      two = rw ((tape_head m).1, (bytes_head m).1, f) at n;
+      two = rw ((tape_head m i).1, (bytes_head m j).1, f) at n;
     }
 
 -- ---- four calls
 
 module _ (stored : Stored) (earlier later : Correction) (bytes : StoredBytes stored) (bytesE : StoredBytes earlier.reading) (bytesL : StoredBytes later.reading)
     {room₁ room₂ room₃ room₄ : Room} {r : Answers} {out₁ out₂ out₃ out₄ : Stored} {work : List ℕ}
-    (m : MergedInOrder stored earlier (cut_moved earlier.edit later) room₁ room₂ r.earlierfirst r.latersecond out₁ out₂ work)
-    (n : MergedInOrder stored later earlier room₃ room₄ r.laterfirst r.earliersecond out₃ out₄ work) where
+    (m : MergedInOrder stored earlier (cut_moved earlier.edit later) room₁ room₂ r.earlier_first r.later_second out₁ out₂ work)
+    (n : MergedInOrder stored later earlier room₃ room₄ r.later_first r.earlier_second out₃ out₄ work) where
   -- Four accepted calls are those of demand 3, and `demand3` is cited of them.
-  calls_commute : r.earlierfirst.number ≡ 0 → r.latersecond.number ≡ 0 → r.laterfirst.number ≡ 0 → r.earliersecond.number ≡ 0
+  calls_commute : number_of r.earlier_first ≡ 0 → number_of r.later_second ≡ 0 → number_of r.later_first ≡ 0 → number_of r.earlier_second ≡ 0
       → (book : LexOutput) → check_book stored.tape stored.bytes ≡ accepted book → Separate book earlier later
       → CallsCommute book stored earlier later room₁ room₂ room₃ room₄ r out₁ out₂ out₃ out₄ work
   unfolding Demand3 result_of output_tape output_bytes
@@ -159,13 +159,13 @@ unfolding cut_moved edit_of
 moved_correction other start end replacement tape bytes p q = rw (p, q) refl
 
 -- The second order begins with the words that the first has left.
-pub both_orders : {stored : Stored} {earlier later moved : Correction} {room₁ room₂ room₃ room₄ : Room} {r₁ r₂ r₃ r₄ : Output} {out₁ out₂ out₃ out₄ : Stored} {w₁ w₂ : List ℕ}
+pub both_orders : {stored : Stored} {earlier later moved : Correction} {room₁ room₂ room₃ room₄ : Room} {r₁ r₂ r₃ r₄ : Checked Output} {out₁ out₂ out₃ out₄ : Stored} {w₁ w₂ : List ℕ}
     → StoredBytes stored → StoredBytes earlier.reading → StoredBytes later.reading → moved ≡ cut_moved earlier.edit later
     → room₃.work_words ≡ room₁.work_words → room₄.work_words ≡ room₁.work_words
     → MergedInOrder stored earlier moved room₁ room₂ r₁ r₂ out₁ out₂ w₁
     → MergedInOrder stored later earlier (with_words room₃ w₁) (with_words room₄ w₁) r₃ r₄ out₃ out₄ w₂
     → MergedBothOrders stored earlier later room₁ room₂ room₃ room₄
-    (record { earlierfirst = r₁; latersecond = r₂; laterfirst = r₃; earliersecond = r₄ }) out₁ out₂ out₃ out₄ w₂
+    (record { earlier_first = r₁; later_second = r₂; later_first = r₃; earlier_second = r₄ }) out₁ out₂ out₃ out₄ w₂
 unfolding work_buffer
 both_orders {stored} {earlier} {later} {moved} {room₁} {room₂} {room₃} {room₄} {r₁} {r₂} {r₃} {r₄} {out₁} {out₂} {out₃} {out₄} {w₁} {w₂} b b_e b_l e k₃ k₄ m n =
     let l : length w₁ ≡ room₁.work_words = ap length m.one.words ∙ length-replicate {A = ℕ} room₁.work_words 0 in
@@ -174,7 +174,7 @@ both_orders {stored} {earlier} {later} {moved} {room₁} {room₂} {room₃} {ro
     (subst (MergedInOrder stored earlier moved room₁ room₂ r₁ r₂ out₁ out₂) (sym w) m) in
     let n' = subst (λ (x : Room). MergedInOrder stored later earlier room₃ x r₃ r₄ out₃ out₄ w₂) (with_words_lem w₁ room₄ (l ∙ sym k₄))
     (subst (λ (x : Room). MergedInOrder stored later earlier x (with_words room₄ w₁) r₃ r₄ out₃ out₄ w₂) (with_words_lem w₁ room₃ (l ∙ sym k₃)) n) in
-    merged_both stored earlier later b b_e b_l {r = record { earlierfirst = r₁; latersecond = r₂; laterfirst = r₃; earliersecond = r₄ }} m' n'
+    merged_both stored earlier later b b_e b_l {r = record { earlier_first = r₁; later_second = r₂; later_first = r₃; earlier_second = r₄ }} m' n'
 
 -- an equal answer leaves the same
 pub orders_told : {stored : Stored} {earlier later : Correction} {room₁ room₂ room₃ room₄ : Room} {x y : Answers} {out₁ out₂ out₃ out₄ : Stored} {work : List ℕ} → y ≡ x

@@ -7,9 +7,12 @@ ghost use Rattle.model.specs.Offset.{max_u32};
 ghost use Rattle.model.specs.Region.{edit_of};
 ghost use Rattle.model.specs.Merge.{room_of, stored_of};
 ghost use Rattle.model.specs.Demand3.{cut_behind, correction_of};
+ghost use Rattle.refusal.specs.Refusal.{checked};
+ghost use Rattle.output.specs.Answer.{answers_of};
 ghost use Rattle.orders.specs.Orders.{MergedInOrder, MergedBothOrders};
 
-use output::BothOrders;
+use output::{BothOrders, IncrementalOutput};
+use refusal::Refusal;
 
 const MAX_U32: usize = 4294967295;
 
@@ -41,8 +44,8 @@ fn moved(offset: u32, start: u32, end: u32, replacement: &[u8]) -> u32
 // What two calls answer, the second on the result of the first.
 #[derive(Clone, Copy)]
 struct InOrder {
-    pub first: output::IncrementalOutput,
-    pub second: output::IncrementalOutput,
+    first: Result<IncrementalOutput, Refusal>,
+    second: Result<IncrementalOutput, Refusal>,
 }
 
 // One correction merged into the book, and another into the result; of a refused first merge nothing is left to be read.
@@ -70,7 +73,7 @@ fn merge_in_order(
         (correction_of nextstart nextend nextreplacement.now nextreadingtape.now nextreadingbytes.now)
         (room_of outtape.old outbytes.old work.old)
         (room_of nexttape.old nextbytes.old work.old)
-        result.first result.second (stored_of outtape.new outbytes.new) (stored_of nexttape.new nextbytes.new) work.new }
+        (checked result.first) (checked result.second) (stored_of outtape.new outbytes.new) (stored_of nexttape.new nextbytes.new) work.new }
 {
     let first = incremental::merge(
         tape,
@@ -84,8 +87,7 @@ fn merge_in_order(
         outbytes,
         work,
     );
-    let tapeend = first.tape;
-    let bytesend = first.bytes;
+    let (tapeend, bytesend) = output::taken(first);
     let second = incremental::merge(
         &outtape[0..tapeend],
         &outbytes[0..bytesend],
@@ -98,10 +100,7 @@ fn merge_in_order(
         nextbytes,
         work,
     );
-    InOrder {
-        first: first,
-        second: second,
-    }
+    InOrder { first, second }
 }
 
 // Demand 3. The earlier correction and, on its result, the later one, moved by the change in length; and the other way round, each into
@@ -136,7 +135,7 @@ pub fn merge_both_orders(
         (room_of tape2.old bytes2.old work.old)
         (room_of tape3.old bytes3.old work.old)
         (room_of tape4.old bytes4.old work.old)
-        result (stored_of tape1.new bytes1.new) (stored_of tape2.new bytes2.new)
+        (answers_of result) (stored_of tape1.new bytes1.new) (stored_of tape2.new bytes2.new)
         (stored_of tape3.new bytes3.new) (stored_of tape4.new bytes4.new) work.new }
 {
     let movedstart = moved(start2, start1, end1, replacement1);
@@ -179,14 +178,10 @@ pub fn merge_both_orders(
         bytes4,
         work,
     );
-    let earlierfirst = a.first;
-    let latersecond = a.second;
-    let laterfirst = b.first;
-    let earliersecond = b.second;
     BothOrders {
-        earlierfirst: earlierfirst,
-        latersecond: latersecond,
-        laterfirst: laterfirst,
-        earliersecond: earliersecond,
+        earlier_first: a.first,
+        later_second: a.second,
+        later_first: b.first,
+        earlier_second: b.second,
     }
 }

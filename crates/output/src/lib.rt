@@ -4,15 +4,16 @@
 ghost use Rattle.std.specs.Prelude.{◌≡◌, ◌≤◌, length, take};
 ghost use Rattle.model.specs.Bytes.{zeros};
 ghost use Rattle.model.specs.Merge.{padded};
-ghost use Rattle.output.specs.Answer.{refused_output};
+ghost use Rattle.refusal.specs.Refusal.{checked};
+ghost use Rattle.output.specs.Answer.{tape_taken, bytes_taken};
 
+use refusal::Refusal;
 use stats::InternStats;
 
-// Section 7. What is returned: a number, or 0 and the region, old nodes kept, the reading's nodes, the seven counts, and how many bytes
-// of the two result buffers the book takes. All is 0 beside a number.
+// Section 7. What is returned: the region, old nodes kept, the reading's nodes, the seven counts, and how many bytes of the two result
+// buffers the book takes.
 #[derive(Clone, Copy)]
 pub struct IncrementalOutput {
-    pub number: u32,
     pub start: u32,
     pub end: u32,
     pub reused: u32,
@@ -25,25 +26,19 @@ pub struct IncrementalOutput {
 // What four merges answer, of two corrections in both orders. The earlier correction is the one that lies before the other.
 #[derive(Clone, Copy)]
 pub struct BothOrders {
-    pub earlierfirst: IncrementalOutput,
-    pub latersecond: IncrementalOutput,
-    pub laterfirst: IncrementalOutput,
-    pub earliersecond: IncrementalOutput,
+    pub earlier_first: Result<IncrementalOutput, Refusal>,
+    pub later_second: Result<IncrementalOutput, Refusal>,
+    pub later_first: Result<IncrementalOutput, Refusal>,
+    pub earlier_second: Result<IncrementalOutput, Refusal>,
 }
 
-// A refusal: its number, and 0 beside it.
-pub fn refused_output(n: u32) -> IncrementalOutput
-    ensures { result ≡ refused_output n }
+// How many bytes of the two result buffers the book takes: none after a refusal.
+pub fn taken(a: Result<IncrementalOutput, Refusal>) -> (usize, usize)
+    ensures { (result.0 ≡ tape_taken (checked a)) × (result.1 ≡ bytes_taken (checked a)) }
 {
-    IncrementalOutput {
-        number: n,
-        start: 0,
-        end: 0,
-        reused: 0,
-        reread: 0,
-        stats: InternStats::default(),
-        tape: 0,
-        bytes: 0,
+    match a {
+        Ok(a) => (a.tape, a.bytes),
+        Err(_) => (0, 0),
     }
 }
 

@@ -5,7 +5,7 @@ use Rattle.std.proofs.Common.{◌∙◌, arith, true≢false, length-append}
 use Rattle.std.proofs.Math.ListN.{length}
 use Rattle.model.specs.Types.{LexOutput, RegionOutput}
 use Rattle.model.specs.Limits.{max_pool}
-use Rattle.model.specs.Refusal.{Checked, Checked.accepted}
+use Rattle.model.specs.Refusal.{Checked, Checked.accepted, Checked.refused}
 use Rattle.model.specs.Tape.{records_at, records_bytes, node_codec, bytes_needed}
 use Rattle.model.specs.Region.{Edit}
 use Rattle.model.specs.Merge.{Room, IncrementalOutput, MergeWindow, node_located, kept_before, kept_behind, grafted, stored_book, answer, room_of, result_checked}
@@ -20,7 +20,7 @@ use Rattle.merged_lists.specs.declared.Kept.{Kept}
 use Rattle.merged_lists.specs.declared.Lengths.{Lengths}
 use Rattle.result.specs.declared.Graft.{Graft}
 use Rattle.output.specs.declared.IncrementalOutput.{IncrementalOutput as Output}
-use Rattle.output.specs.Answer.{refused_output, output_by, Written}
+use Rattle.output.specs.Answer.{output_by, Written}
 use Rattle.result.specs.Checked.{ResultFacts}
 use Rattle.result.specs.Parts.{old_layers_length}
 use Rattle.fitting.specs.Books.{Books, book_in}
@@ -77,14 +77,14 @@ module _ {t d : List ℕ} {p : Places} {st : Store} {e : Edit} {w : MergeWindow}
     abbrev asked : Checked IncrementalOutput
     asked = result_checked old e read w room
 
-    pub no_room : {x : Bool} → x ≡ room_for l k q p.nodes.at (length out) (length text) (length work) → x ≡ false → {r : Output} → r ≡ refused_output 18 → Written asked r out text work out text work
-    no_room y f z =
+    pub no_room : {x : Bool} → x ≡ room_for l k q p.nodes.at (length out) (length text) (length work) → x ≡ false → Written asked (refused 18) out text work out text work
+    no_room y f =
         written_refused asked out text work
-        (refused_is b kept sizes room (λ g. absurd (true≢false (sym (room_ok l k q p.nodes.at (length out) (length text) (length work) (needed_room b kept sizes room g)) ∙ sym y ∙ f)))) z refl refl refl
+        (refused_is b kept sizes room (λ g. absurd (true≢false (sym (room_ok l k q p.nodes.at (length out) (length text) (length work) (needed_room b kept sizes room g)) ∙ sym y ∙ f)))) refl refl refl
 
     pub no_graft : {out' text' work' : List ℕ} → StoreTold old e read w out text out' text' p.nodes.at l.base (offsets_of st.totals) None → length out' ≡ length out → length text' ≡ length text → length work' ≡ length work
-        → {x : Output} → x ≡ refused_output 18 → Written asked x out text work out' text' work'
-    no_graft s long long' long'' z = written_refused asked out text work (refused_is b kept sizes room (λ g. absurd (true≢false (sym (needed_graft b kept sizes room g) ∙ sym s.ok)))) z long long' long''
+        → Written asked (refused 18) out text work out' text' work'
+    no_graft s long long' long'' = written_refused asked out text work (refused_is b kept sizes room (λ g. absurd (true≢false (sym (needed_graft b kept sizes room g) ∙ sym s.ok)))) long long' long''
 
     module _ {out' text' : List ℕ} {r : Graft} (s : StoreTold old e read w out text out' text' p.nodes.at l.base (offsets_of st.totals) (Some r))
         (long : length out' ≡ length out) (long' : length text' ≡ length text) where
@@ -95,9 +95,9 @@ module _ {t d : List ℕ} {p : Places} {st : Store} {e : Edit} {w : MergeWindow}
         pub at_small : at ≤ length out
         at_small = let m = s.made in omega (arith, at_is, m.room, length-append (up_to old e read w) (records_bytes node_codec (grafted old read).0))
 
-        pub no_size : {work' : List ℕ} → length work' ≡ length work → {n : ℕ} → n ≡ lists_end at k q → length out < n → {x : Output} → x ≡ refused_output 18 → Written asked x out text work out' text' work'
-        no_size long'' y h z =
-            written_refused asked out text work (refused_is b kept sizes room (λ g. absurd (let m = tape_length_lem b kept at_is in omega (arith, m, g.tape, y, h)))) z long long' long''
+        pub no_size : {work' : List ℕ} → length work' ≡ length work → {n : ℕ} → n ≡ lists_end at k q → length out < n → Written asked (refused 18) out text work out' text' work'
+        no_size long'' y h =
+            written_refused asked out text work (refused_is b kept sizes room (λ g. absurd (let m = tape_length_lem b kept at_is in omega (arith, m, g.tape, y, h)))) long long' long''
 
         module _ {x : Bool} (y : x ≡ room_for l k q p.nodes.at (length out) (length text) (length work)) (f : x ≡ true) {n : ℕ} (size : n ≡ lists_end at k q) (fits : n ≤ length out) where
           facts : ResultFacts room (grafted old read) (merge_of old e read w)
@@ -118,7 +118,7 @@ module _ {t d : List ℕ} {p : Places} {st : Store} {e : Edit} {w : MergeWindow}
 
           pub merged : {work' : List ℕ} → length work' ≡ length work → {out'' : List ℕ} → out'' ≡ overwrite out' at (lists_of w t p rt q (records_at node_codec out' at q.nodes.count)) → length out'' ≡ length out
               → {v : Output} → v ≡ output_by w.source.start w.source.end (k.nodes.before + k.nodes.behind) q.nodes.count r.stats n (l.base + r.bytes)
-              → Written asked v out text work out'' text' work'
+              → Written asked (accepted v) out text work out'' text' work'
           unfolding answer stored_book kept_of
           merged long'' {out''} w₂ z v =
               let m = s.made in

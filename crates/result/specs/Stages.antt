@@ -29,7 +29,7 @@ use Rattle.layer.specs.Layered.{grafted_into, grafted_above, layer_records, laye
 use Rattle.merged_lists.specs.declared.Lengths.{Lengths}
 use Rattle.result.specs.declared.Graft.{Graft}
 use Rattle.output.specs.declared.IncrementalOutput.{IncrementalOutput as Output}
-use Rattle.output.specs.Answer.{counters_of, refused_output, output_by, output_of, Written}
+use Rattle.output.specs.Answer.{counters_of, output_by, output_of, output_value, Written}
 use Rattle.merged_texts.specs.Writing.{head_bytes, head_length}
 use Rattle.result.specs.Parts.{old_layer_bytes, old_string_bytes, new_layer_bytes, new_string_bytes, old_layers, old_strings_lem, old_layers_length}
 use Rattle.fitting.specs.Books.{Books, book_in}
@@ -187,10 +187,9 @@ module _ {t d : List ℕ} {p : Places} {st : Store} {e : Edit} {w : MergeWindow}
 
 -- ---- the answer
 
-pub written_refused : (asked : Checked IncrementalOutput) {n : ℕ} {r : Output} (out text work : List ℕ) {out' text' work' : List ℕ} → asked ≡ refused n → r ≡ refused_output n
-    → length out' ≡ length out → length text' ≡ length text → length work' ≡ length work → Written asked r out text work out' text' work'
-unfolding output_of
-written_refused asked {n} out text work e f a b c = rw (e, f) (record {
+pub written_refused : (asked : Checked IncrementalOutput) {n : ℕ} (out text work : List ℕ) {out' text' work' : List ℕ} → asked ≡ refused n
+    → length out' ≡ length out → length text' ≡ length text → length work' ≡ length work → Written asked (refused n) out text work out' text' work'
+written_refused asked {n} out text work e a b c = rw e (record {
   answer = refl;
   tape = λ x y. absurd (refused_not n x y);
   bytes = λ x y. absurd (refused_not n x y);
@@ -206,10 +205,12 @@ pub written_accepted : (asked : Checked IncrementalOutput) (a : IncrementalOutpu
     → {reused reread tape bytes : ℕ} {stats : Counters} → r ≡ output_by a.region.start a.region.end reused reread stats tape bytes → reused ≡ a.reused_nodes → reread ≡ a.reparsed_nodes
     → stats_of stats ≡ a.stats → tape ≡ length a.output.tape → bytes ≡ length a.output.bytes
     → take (length a.output.tape) out' ≡ a.output.tape → take (length a.output.bytes) text' ≡ a.output.bytes
-    → length out' ≡ length out → length text' ≡ length text → length work' ≡ length work → Written asked r out text work out' text' work'
-unfolding output_of
+    → length out' ≡ length out → length text' ≡ length text → length work' ≡ length work → Written asked (accepted r) out text work out' text' work'
+unfolding output_value
 written_accepted asked a out text work {out'} {text'} e f g h i j k x y l m n = record {
-  answer = f ∙ (λ z. record { number = 0; start = a.region.start; end = a.region.end; reused = g z; reread = h z; stats = counters_back _ a.stats i z; tape = j z; bytes = k z }) ∙ ap output_of (sym e);
+  answer =
+      ap {B = Checked Output} accepted (f ∙ (λ z. record { start = a.region.start; end = a.region.end; reused = g z; reread = h z; stats = counters_back _ a.stats i z; tape = j z; bytes = k z }))
+      ∙ ap output_of (sym e);
   tape = λ c z. let v = same_accepted a c (sym e ∙ z) in subst (λ (u : IncrementalOutput). take (length u.output.tape) out' ≡ u.output.tape) v x;
   bytes = λ c z. let v = same_accepted a c (sym e ∙ z) in subst (λ (u : IncrementalOutput). take (length u.output.bytes) text' ≡ u.output.bytes) v y;
   tape_length = l;

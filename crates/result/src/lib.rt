@@ -9,6 +9,7 @@ ghost use Rattle.model.specs.Lists.{is_empty};
 ghost use Rattle.model.specs.Limits.{max_text, max_pool, min_work_words};
 ghost use Rattle.model.specs.Region.{edit_of};
 ghost use Rattle.model.specs.Merge.{room_of, result_checked};
+ghost use Rattle.refusal.specs.Refusal.{checked};
 ghost use Rattle.splice.specs.Window.{window_value};
 ghost use Rattle.layer.specs.Source.{SourceFits};
 ghost use Rattle.layer.specs.Layered.{grafted_into};
@@ -18,6 +19,8 @@ ghost use Rattle.merged_lists.specs.Sizes.{lengths_of};
 ghost use Rattle.result.specs.Grafting.{offsets_of, GraftTold};
 ghost use Rattle.result.specs.Stages.{texts_of, StoreTold};
 
+use output::IncrementalOutput;
+use refusal::Refusal;
 use stats::InternStats;
 
 // The old book or the reading: its tape and bytes, where the records stand, and its store.
@@ -158,9 +161,9 @@ pub fn merge_books(
     outtape: &mut [u8],
     outbytes: &mut [u8],
     work: &mut [u32],
-) -> output::IncrementalOutput
+) -> Result<IncrementalOutput, Refusal>
     requires { Books book.now.tape.now book.now.bytes.now book.now.places book.now.store (edit_of edit.now.start edit.now.end edit.now.replacement.now) (window_value w) reading.now.tape.now reading.now.bytes.now reading.now.places reading.now.store }
-    ensures { Written (result_checked (book_in book.now.tape.now book.now.bytes.now) (edit_of edit.now.start edit.now.end edit.now.replacement.now) (book_in reading.now.tape.now reading.now.bytes.now) (window_value w) (room_of outtape.old outbytes.old work.old)) result outtape.old outbytes.old work.old outtape.new outbytes.new work.new }
+    ensures { Written (result_checked (book_in book.now.tape.now book.now.bytes.now) (edit_of edit.now.start edit.now.end edit.now.replacement.now) (book_in reading.now.tape.now reading.now.bytes.now) (window_value w) (room_of outtape.old outbytes.old work.old)) (checked result) outtape.old outbytes.old work.old outtape.new outbytes.new work.new }
 {
     let p = book.places;
     let q = reading.places;
@@ -184,16 +187,16 @@ pub fn merge_books(
         outbytes.len(),
         work.len(),
     ) {
-        return output::refused_output(18);
+        return Err(Refusal::NoRoom);
     }
     let Some(g) = put_store(book, edit, w, reading, l, outtape, outbytes, work) else {
-        return output::refused_output(18);
+        return Err(Refusal::NoRoom);
     };
     let at = p.nodes.at + g.len;
     let size = merged_lists::lists_end(at, k, q);
     if outtape.len() < size {
-        return output::refused_output(18);
+        return Err(Refusal::NoRoom);
     }
     merged_lists::put_lists(book.tape, p, w, k, reading.tape, q, outtape, at);
-    merged_lists::output_of(w, k.nodes, q.nodes.count, g.stats, size, l.base + g.bytes)
+    Ok(merged_lists::output_of(w, k.nodes, q.nodes.count, g.stats, size, l.base + g.bytes))
 }

@@ -13,7 +13,9 @@ use Rattle.model.specs.Runs.{part_lengths, asked, program}
 use Rattle.laws.specs.Lists.{both}
 use Rattle.wire.specs.Loops.{by_bool}
 use Rattle.lines.specs.Input.{same_word}
-use Rattle.output.specs.Answer.{Merged, output_of, refused_output}
+use Rattle.refusal.specs.declared.Refusal.{Refusal}
+use Rattle.refusal.specs.Refusal.{number, number_bounds}
+use Rattle.output.specs.Answer.{Merged, output_of}
 use Rattle.output.specs.declared.IncrementalOutput.{IncrementalOutput as Output}
 
 -- each part is at most 65536 bytes long
@@ -43,15 +45,15 @@ program_by s =
     (λ c. rw (a, b, c) refl))
     (λ b. rw (a, b) refl))
 
-module _ (s : List ℕ) {n : ℕ} (e : n ≡ input_number s) where
-  pub input_refused : (n ≡ 0 → ⊥) → refused_output n ≡ output_of (program s)
-  unfolding output_of
-  input_refused h =
-      let q : program s ≡ refused n = program_by s ∙ rw (← e, ne_eqb n 0 h) refl in
+module _ (s : List ℕ) where
+  pub input_refused : (r : Refusal) → number r ≡ input_number s → refused (number r) ≡ output_of (program s)
+  input_refused r e =
+      let b = number_bounds r in
+      let q : program s ≡ refused (number r) = program_by s ∙ rw (← e, ne_eqb (number r) 0 (λ z. omega (arith, z, b))) refl in
       sym (ap output_of q)
 
-  pub input_asks : n ≡ 0 → program s ≡ asked s
-  input_asks z = program_by s ∙ rw (← e, z) refl
+  pub input_asks : 0 ≡ input_number s → program s ≡ asked s
+  input_asks e = program_by s ∙ rw (← e) refl
 
 -- what is known of an input without a number
 pub record Whole (s : List ℕ) : Type 0 where
@@ -59,20 +61,20 @@ pub record Whole (s : List ℕ) : Type 0 where
   pub parts : parts_fit (part_lengths s) ≡ true
   pub size : length s ≡ 28 + sum (part_lengths s)
 
-pub input_whole : (s : List ℕ) {n : ℕ} → n ≡ input_number s → n ≡ 0 → Whole s
+pub input_whole : (s : List ℕ) → 0 ≡ input_number s → Whole s
 unfolding input_number
-input_whole s e z =
+input_whole s e =
     by_bool (ltb (length s) 28)
-    (λ a. let q : 1 ≡ 0 = sym (rw a refl) ∙ sym e ∙ z in absurd (omega (arith, q)))
+    (λ a. let q : 1 ≡ 0 = sym (rw a refl) ∙ sym e in absurd (omega (arith, q)))
     (λ a.
     by_bool (parts_fit (part_lengths s))
     (λ b.
     by_bool (eqb (length s) (28 + sum (part_lengths s)))
     (λ c. record { head = ltb-false (length s) 28 a; parts = b; size = eqb-true (length s) (28 + sum (part_lengths s)) c })
-    (λ c. let q : 1 ≡ 0 = sym (rw (a, b, c) refl) ∙ sym e ∙ z in absurd (omega (arith, q))))
-    (λ b. let q : 3 ≡ 0 = sym (rw (a, b) refl) ∙ sym e ∙ z in absurd (omega (arith, q))))
+    (λ c. let q : 1 ≡ 0 = sym (rw (a, b, c) refl) ∙ sym e in absurd (omega (arith, q))))
+    (λ b. let q : 3 ≡ 0 = sym (rw (a, b) refl) ∙ sym e in absurd (omega (arith, q))))
 
--- ---- the returns of `input_refusal`
+-- ---- the returns of `check_input`
 
 pub number_short : (s : List ℕ) → length s < 28 → 1 ≡ input_number s
 unfolding input_number
@@ -116,7 +118,7 @@ pub asked_answer : (s : List ℕ) {a b c d e start end : ℕ} → a ≡ word_at 
     → {oldTape oldBytes replacement newTape newBytes : List ℕ}
     → oldTape ≡ part s 28 (28 + a - 28) → oldBytes ≡ part s (28 + a) (28 + a + b - (28 + a)) → replacement ≡ part s (28 + a + b) (28 + a + b + c - (28 + a + b))
     → newTape ≡ part s (28 + a + b + c) (28 + a + b + c + d - (28 + a + b + c)) → newBytes ≡ part s (28 + a + b + c + d) (28 + a + b + c + d + e - (28 + a + b + c + d))
-    → {room : Room} {r : Output} {out text work : List ℕ} → room.tape_bytes ≡ 65536 → room.text_bytes ≡ 65536 → room.work_words ≡ 16384
+    → {room : Room} {r : Checked Output} {out text work : List ℕ} → room.tape_bytes ≡ 65536 → room.text_bytes ≡ 65536 → room.work_words ≡ 16384
     → Merged (merge (record { tape = oldTape; bytes = oldBytes }) (edit_of start end replacement) (record { tape = newTape; bytes = newBytes }) room) room r out text work
     → r ≡ output_of (asked s)
 unfolding asked edit_of

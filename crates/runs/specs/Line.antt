@@ -1,14 +1,13 @@
 -- The line that is printed.
-use Rattle.std.specs.Prelude.{◌≡◌, ℕ, cond, eqb}
-use Rattle.std.proofs.Common.{ap, ◌∙◌, arith, ne_eqb}
+use Rattle.std.specs.Prelude.{◌≡◌, refl, ℕ}
+use Rattle.std.proofs.Common.{ap, ◌∙◌}
 use mathlib.Core.List.{List, [], ◌++◌, flatten, append_assoc, append-nil}
 use Rattle.model.specs.Lists.{ascii}
 use Rattle.model.specs.Refusal.{Checked, Checked.refused, Checked.accepted}
 use Rattle.model.specs.Merge.{IncrementalOutput}
 use Rattle.model.specs.Runs.{decimal, line, program}
-use Rattle.laws.specs.Numbers.{UpTo, program_numbers}
 use Rattle.lines.specs.Text.{numbered, refused_line}
-use Rattle.output.specs.Answer.{output_of}
+use Rattle.output.specs.Answer.{output_of, output_value}
 use Rattle.output.specs.declared.IncrementalOutput.{IncrementalOutput as Output}
 
 -- P5's line
@@ -18,20 +17,21 @@ accepted_line r =
     ++ numbered (ascii " calls ") r.stats.calls) ++ numbered (ascii " probes ") r.stats.probesteps) ++ ascii "\n")
 
 -- the line of an answer
-unfoldable pub line_of : Output → List ℕ
-line_of r = let refusal = refused_line r.number in cond (eqb r.number 0) (accepted_line r) refusal
+unfoldable pub line_of : Checked Output → List ℕ
+line_of (refused n) = refused_line n
+line_of (accepted r) = accepted_line r
 
 flat : (a b c d e f g h i j k l m : List ℕ)
     → ((((((a ++ b) ++ (c ++ d)) ++ (e ++ f)) ++ (g ++ h)) ++ (i ++ j)) ++ (k ++ l)) ++ m ≡ a ++ (b ++ (c ++ (d ++ (e ++ (f ++ (g ++ (h ++ (i ++ (j ++ (k ++ (l ++ (m ++ []))))))))))))
 flat a b c d e f g h i j k l m = simp (append_assoc, append-nil)
 
 -- It is the model's line of what the program answers.
-line_is : (x : Checked IncrementalOutput) → UpTo 18 x → line_of (output_of x) ≡ line x
-unfolding line_of accepted_line refused_line numbered output_of line flatten
-line_is (refused n) h = rw (ne_eqb n 0 (λ e. omega (arith, e, h.0))) (append_assoc (ascii "refused ") (decimal n) (ascii "\n"))
-line_is (accepted m) h =
+line_is : (x : Checked IncrementalOutput) → line_of (output_of x) ≡ line x
+unfolding line_of accepted_line refused_line numbered output_value line flatten
+line_is (refused n) = append_assoc (ascii "refused ") (decimal n) (ascii "\n")
+line_is (accepted m) =
     flat (ascii "region ") (decimal m.region.start) (ascii " ") (decimal m.region.end) (ascii " reused ") (decimal m.reused_nodes) (ascii " reread ") (decimal m.reparsed_nodes)
     (ascii " calls ") (decimal m.stats.calls) (ascii " probes ") (decimal m.stats.probe_steps) (ascii "\n")
 
-pub program_line : (s : List ℕ) {r : Output} → r ≡ output_of (program s) → {l : List ℕ} → l ≡ line_of r → l ≡ line (program s)
-program_line s e q = q ∙ ap line_of e ∙ line_is (program s) (program_numbers s)
+pub program_line : (s : List ℕ) {r : Checked Output} → r ≡ output_of (program s) → {l : List ℕ} → l ≡ line_of r → l ≡ line (program s)
+program_line s e q = q ∙ ap line_of e ∙ line_is (program s)

@@ -3,11 +3,14 @@
 
 ghost use Rattle.std.specs.Prelude.{◌≡◌, [], ◌∷◌, ◌+◌, ◌≤◌};
 ghost use Rattle.model.specs.Runs.{line};
+ghost use Rattle.refusal.specs.Refusal.{number_in, checked};
 ghost use Rattle.lines.specs.Put.{room, Put};
 ghost use Rattle.runs.specs.Input.{parts_fit, input_number};
 ghost use Rattle.runs.specs.Line.{accepted_line, line_of};
 
 use lines::Line;
+use output::IncrementalOutput;
+use refusal::Refusal;
 
 // seven words
 pub const HEAD: usize = 28;
@@ -15,30 +18,23 @@ pub const HEAD: usize = 28;
 const MAX_PART: u32 = 65536;
 
 // Number 3. The lengths of the five parts.
+#[tactic(auto, using(std::proofs::lemmas::Bool::Decides::nat_tests), unfolding(crate::specs::Input::parts_fit))]
 fn parts_fit(oldtape: u32, oldbytes: u32, replacement: u32, newtape: u32, newbytes: u32) -> bool
     ensures { result ≡ parts_fit (oldtape ∷ oldbytes ∷ replacement ∷ newtape ∷ newbytes ∷ []) }
 {
-    if MAX_PART < oldtape {
-        return false;
-    }
-    if MAX_PART < oldbytes {
-        return false;
-    }
-    if MAX_PART < replacement {
-        return false;
-    }
-    if MAX_PART < newtape {
-        return false;
-    }
-    newbytes <= MAX_PART
+    oldtape <= MAX_PART
+        && oldbytes <= MAX_PART
+        && replacement <= MAX_PART
+        && newtape <= MAX_PART
+        && newbytes <= MAX_PART
 }
 
-// Numbers 1 and 3 of the input, which precede all else; 0 for neither.
-pub fn input_refusal(input: &[u8]) -> u32
-    ensures { result ≡ input_number input.now }
+// Numbers 1 and 3 of the input, which precede all else.
+pub fn check_input(input: &[u8]) -> Result<(), Refusal>
+    ensures { number_in result ≡ input_number input.now }
 {
     if input.len() < HEAD {
-        return 1;
+        return Err(Refusal::Layout);
     }
     let oldtape = wire::u32_at(input, 0);
     let oldbytes = wire::u32_at(input, 4);
@@ -46,7 +42,7 @@ pub fn input_refusal(input: &[u8]) -> u32
     let newtape = wire::u32_at(input, 20);
     let newbytes = wire::u32_at(input, 24);
     if !parts_fit(oldtape, oldbytes, replacement, newtape, newbytes) {
-        return 3;
+        return Err(Refusal::OverLimit);
     }
     let size = HEAD
         + oldtape as usize
@@ -55,13 +51,13 @@ pub fn input_refusal(input: &[u8]) -> u32
         + newtape as usize
         + newbytes as usize;
     if input.len() != size {
-        return 1;
+        return Err(Refusal::Layout);
     }
-    0
+    Ok(())
 }
 
 // P5's line: region start, end; kept, reread nodes; intern calls, slots probed.
-fn put_accepted(line: &mut Line<'_>, a: output::IncrementalOutput)
+fn put_accepted(line: &mut Line<'_>, a: IncrementalOutput)
     requires { 160 ≤ room line.old }
     ensures { Put line.old line.new 160 (accepted_line a) }
 {
@@ -76,13 +72,13 @@ fn put_accepted(line: &mut Line<'_>, a: output::IncrementalOutput)
 }
 
 // The line of an answer.
-pub fn put_line(line: &mut Line<'_>, a: output::IncrementalOutput)
+#[tactic(auto, unfolding(crate::specs::Line::line_of))]
+pub fn put_line(line: &mut Line<'_>, a: Result<IncrementalOutput, Refusal>)
     requires { 160 ≤ room line.old }
-    ensures { Put line.old line.new 160 (line_of a) }
+    ensures { Put line.old line.new 160 (line_of (checked a)) }
 {
-    if a.number != 0 {
-        line.put_refused(a.number);
-    } else {
-        put_accepted(line, a);
+    match a {
+        Ok(a) => put_accepted(line, a),
+        Err(refusal) => line.put_refused(u32::from(refusal)),
     }
 }

@@ -6,44 +6,46 @@
 #![tactic(auto)]
 
 use output::IncrementalOutput;
+use refusal::Refusal;
 use std::io;
 use std::io::Read;
 
 const HEAD: usize = 20;
 
 // P5's line, and both parts of the result.
-fn put_merged(rt: &impl Print, r: IncrementalOutput, out: &[u8], strs: &[u8]) -> io::Result<()> {
-    print!(rt;
-        "region {} {} reused {} reread {} calls {} probes {}, tape {:016x} bytes {:016x}",
-        r.start,
-        r.end,
-        r.reused,
-        r.reread,
-        r.stats.calls,
-        r.stats.probesteps,
-        hash::fx_hash(wire::between(out, 0, r.tape)),
-        hash::fx_hash(wire::between(strs, 0, r.bytes)),
-    )
-}
-
-fn put_answer(rt: &impl Print, r: IncrementalOutput, out: &[u8], strs: &[u8]) -> io::Result<()> {
-    if r.number != 0 {
-        print!(rt; "refused {}", r.number)
-    } else {
-        put_merged(rt, r, out, strs)
+fn put_answer(
+    rt: &impl Print,
+    answer: Result<IncrementalOutput, Refusal>,
+    out: &[u8],
+    strs: &[u8],
+) -> io::Result<()> {
+    match answer {
+        Ok(r) => print!(rt;
+            "region {} {} reused {} reread {} calls {} probes {}, tape {:016x} bytes {:016x}",
+            r.start,
+            r.end,
+            r.reused,
+            r.reread,
+            r.stats.calls,
+            r.stats.probesteps,
+            hash::fx_hash(wire::between(out, 0, r.tape)),
+            hash::fx_hash(wire::between(strs, 0, r.bytes)),
+        ),
+        Err(refusal) => print!(rt; "refused {}", u32::from(refusal)),
     }
 }
 
 // A refusal's result is empty: all is behind it.
 fn put_rest(
     rt: &impl Print,
-    r: IncrementalOutput,
+    answer: Result<IncrementalOutput, Refusal>,
     out: &[u8],
     strs: &[u8],
     work: &[u32],
 ) -> io::Result<()> {
-    let tape = wire::between(out, r.tape, out.len());
-    let bytes = wire::between(strs, r.bytes, strs.len());
+    let (tapeend, bytesend) = output::taken(answer);
+    let tape = wire::between(out, tapeend, out.len());
+    let bytes = wire::between(strs, bytesend, strs.len());
     print!(rt;
         ", rest {} {} {}",
         tape.iter().filter(|x| **x != 0).count(),

@@ -1,6 +1,9 @@
+use Rattle.std.proofs.Common.{sym, ap, ◌∙◌}
 use Rattle.output.specs.Answer.{merge_told}
+use Rattle.answers.specs.Answers.{merge_answer, merge_back}
 use Rattle.exports.proofs.aozora_merge.Goals as goal
 
 pub returns : goal.returns
 returns c =
-    merge_told c.merge_answer.ensures c.merge.ensures
+    let back = merge_back _ c.from.ensures in
+    (merge_told back c.merge.ensures, c.from.ensures ∙ ap merge_answer (sym back))

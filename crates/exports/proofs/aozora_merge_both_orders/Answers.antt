@@ -1,4 +1,6 @@
+use Rattle.std.proofs.Common.{sym, ap, ◌∙◌}
 use Rattle.orders.specs.Orders.{orders_told}
+use Rattle.answers.specs.Answers.{orders_answer, orders_back}
 use Rattle.exports.proofs.aozora_merge_both_orders.Goals as goal
 
 pub shape_of-tape1 : goal.shape_of-tape1
@@ -15,4 +17,5 @@ shape_of-tape2 c =
 
 pub returns : goal.returns
 returns c =
-    orders_told c.orders_answer.ensures c.merge_both_orders.ensures
+    let back = orders_back _ c.from.ensures in
+    (orders_told back c.merge_both_orders.ensures, c.from.ensures ∙ ap orders_answer (sym back))

@@ -4,12 +4,12 @@ use Rattle.orders.proofs.merge_in_order.Goals as goal
 
 pub slice_bounds-merge-end : goal.slice_bounds-merge-end
 slice_bounds-merge-end c =
-    (tape_head c.merge-first.ensures).0
+    (tape_head c.merge-first.ensures c.taken-tapeend.ensures.0).0
 
 pub slice_bounds-merge-end-2 : goal.slice_bounds-merge-end-2
 slice_bounds-merge-end-2 c =
-    (bytes_head c.merge-first.ensures).0
+    (bytes_head c.merge-first.ensures c.taken-tapeend.ensures.1).0
 
 pub returns : goal.returns
 returns c =
-    in_order refl c.merge-first.ensures c.merge-second.ensures
+    in_order refl c.taken-tapeend.ensures.0 c.taken-tapeend.ensures.1 c.merge-first.ensures c.merge-second.ensures

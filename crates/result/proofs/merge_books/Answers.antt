@@ -28,7 +28,7 @@ room_for-requires c =
 pub returns-then-not-room_for : goal.returns-then-not-room_for
 unfolding edit_of
 returns-then-not-room_for c =
-    no_room c.requires c.kept_in-k.ensures c.new_lengths-l.ensures c.args.outtape.now c.args.outbytes.now c.args.work.now c.room_for.ensures c.if-not-room_for.true c.refused_output.ensures
+    no_room c.requires c.kept_in-k.ensures c.new_lengths-l.ensures c.args.outtape.now c.args.outbytes.now c.args.work.now c.room_for.ensures c.if-not-room_for.true
 
 pub put_store-requires : goal.put_store-requires
 put_store-requires c =
@@ -42,7 +42,6 @@ pub returns-in_default : goal.returns-in_default
 unfolding edit_of
 returns-in_default c =
     no_graft c.requires c.kept_in-k.ensures c.new_lengths-l.ensures c.args.outtape.now c.args.outbytes.now c.args.work.now c.in_default.ensures c.put_store.auto.outtape c.put_store.auto.outbytes c.put_store.auto.work
-    c.refused_output-in_default.ensures
 
 pub overflow_add-at : goal.overflow_add-at
 unfolding edit_of
@@ -60,7 +59,7 @@ lists_end-size-requires c =
 pub returns-then-outtape-size : goal.returns-then-outtape-size
 unfolding edit_of
 returns-then-outtape-size c =
-    no_size c.requires c.kept_in-k.ensures c.new_lengths-l.ensures c.args.outtape.now c.args.outbytes.now c.args.work.now c.in-Some.ensures c.put_store.auto.outtape c.put_store.auto.outbytes refl c.put_store.auto.work c.lists_end-size.ensures (omega (arith, c.if-outtape-size.true, c.put_store.auto.outtape)) c.refused_output-then-outtape-size.ensures
+    no_size c.requires c.kept_in-k.ensures c.new_lengths-l.ensures c.args.outtape.now c.args.outbytes.now c.args.work.now c.in-Some.ensures c.put_store.auto.outtape c.put_store.auto.outbytes refl c.put_store.auto.work c.lists_end-size.ensures (omega (arith, c.if-outtape-size.true, c.put_store.auto.outtape))
 
 pub put_lists-requires : goal.put_lists-requires
 unfolding edit_of

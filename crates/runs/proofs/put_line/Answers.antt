@@ -1,12 +1,12 @@
-use Rattle.std.proofs.Common.{refl, eq-eqb, ne_eqb, arith}
+use Rattle.std.proofs.Common.{refl, arith}
 use Rattle.lines.specs.Put.{put_as}
 use Rattle.runs.specs.Line.{line_of}
 use Rattle.runs.proofs.put_line.Goals as goal
 
-pub returns-then-a-ne0 : goal.returns-then-a-ne0
+pub returns-in-Ok : goal.returns-in-Ok
 unfolding line_of
-returns-then-a-ne0 c = put_as c.put_refused.ensures (omega arith) (rw (ne_eqb _ 0 c.if-a-ne0.true) refl)
+returns-in-Ok c = rw c.in-Ok.is c.put_accepted.ensures
 
-pub returns-else-a-ne0 : goal.returns-else-a-ne0
+pub returns-in-Err : goal.returns-in-Err
 unfolding line_of
-returns-else-a-ne0 c = put_as c.put_accepted.ensures (omega arith) (rw (eq-eqb _ 0 c.if-a-ne0.false) refl)
+returns-in-Err c = rw c.in-Err.is (put_as c.put_refused.ensures (omega arith) (rw c.from.ensures refl))
