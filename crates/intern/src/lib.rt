@@ -1,5 +1,6 @@
 // A call of the interner, section 2 of document 01: each is proved equal to model's `intern`, id, strings, table, last answer and
-// counts. The state is crate `interner`'s.
+// counts. The state is crate `interner`'s. It, the words and the bytes are lent side by side to each call, and no struct holds them:
+// between two calls the words from 15360 on are others', so that it would have to be made anew each time.
 #![tactic(auto)]
 
 ghost use Rattle.std.specs.Prelude.{◌≡◌, true, Some, List, ℕ, ◌-◌, ◌*◌, ◌^◌, ◌<◌, ◌≤◌, get_or};
@@ -11,7 +12,7 @@ ghost use Rattle.interner.specs.State.{state_of, Good};
 ghost use Rattle.interner.specs.Row.{far_in};
 ghost use Rattle.intern.specs.Told.{Told, known_state, probed_call};
 
-use interner::StrInterner;
+use interner::{Layer, StrInterner};
 use stats::InternStats;
 use table::Probed;
 
@@ -26,7 +27,7 @@ fn known(st: &mut StrInterner, slot: u32, stats: InternStats) -> u32
     ensures id { result ≡ slot - 1 }
     ensures state { st.new ≡ known_state st.old slot stats }
 {
-    st.last = table::wide(slot);
+    st.last = slot as usize;
     st.stats = stats;
     slot - 1
 }
@@ -84,7 +85,7 @@ fn learn(
     requires calls_bound { (st.old.stats.calls < 2 ^ 32) × (resized ≤ 1) × (j ≤ far_in work.old) }
     ensures { Told work.old strs.old st.old work.new strs.new st.new result (probed_call (state_of work.old strs.old st.old) resized s.now) }
 {
-    let p = st.lookup(work, strs, s, st.slots);
+    let p = Layer { st, work, strs }.lookup(s, st.slots);
     if p.slot == 0 {
         return table_alloc(st, work, strs, s, p, resized);
     }
@@ -106,8 +107,9 @@ fn far_call(
     requires calls_bound { (st.old.stats.calls < 2 ^ 32) × (resized ≤ 1) }
     ensures { Told work.old strs.old st.old work.new strs.new st.new result (probed_call (state_of work.old strs.old st.old) resized s.now) }
 {
-    let j = st.far_place(work, strs, s);
-    match st.recall(work, strs, s, j) {
+    let layer = Layer { st, work, strs };
+    let j = layer.far_place(s);
+    match layer.recall(s, j) {
         None => learn(st, work, strs, s, resized, j),
         Some(p) => {
             let stats = st.stats.table_hit(resized, p.steps);
@@ -129,7 +131,7 @@ fn table_call(
     requires calls_bound { (st.old.stats.calls < 2 ^ 32) × (resized ≤ 1) }
     ensures { Told work.old strs.old st.old work.new strs.new st.new result (probed_call (state_of work.old strs.old st.old) resized s.now) }
 {
-    let p = st.lookup(work, strs, s, NEAR);
+    let p = Layer { st, work, strs }.lookup(s, NEAR);
     if p.slot != 0 {
         let stats = st.stats.table_hit(resized, p.steps);
         return Some(known(st, p.slot, stats));
@@ -157,7 +159,8 @@ pub fn intern(st: &mut StrInterner, work: &mut [u32], strs: &mut [u8], s: &[u8])
     requires calls_bound { st.old.stats.calls < 2 ^ 32 }
     ensures { Told work.old strs.old st.old work.new strs.new st.new result (intern_of_model (state_of work.old strs.old st.old) s.now) }
 {
-    if st.is_last(work, strs, s) {
+    let layer = Layer { st, work, strs };
+    if layer.is_last(s) {
         return Some(intern_last(st));
     }
     if INTERN_LENGTH_LIMIT < s.len() {

@@ -7,8 +7,9 @@ use Rattle.stats.specs.declared.InternStats.{InternStats as Counters}
 use Rattle.stats.specs.Counts.{stats_of, Counted}
 use Rattle.interner.specs.declared.StrInterner.{StrInterner as Interner}
 use Rattle.laws.specs.Slots.{taken}
+use Rattle.std.proofs.Props.{props}
 use Rattle.table.specs.Layout.{table_of, starts_of, with_start, strings_up_to, Work, Entries}
-use Rattle.table.specs.Sizes.{Size}
+use Rattle.table.specs.Sizes.{Size, Size-prop}
 use Rattle.interner.specs.Row.{Row, row_of, far_in, probe_for}
 
 -- ---- the state
@@ -36,6 +37,9 @@ pub record Good (work strs : List ℕ) (st : Interner) : Type 0 where
   pub laid : take st.used strs ≡ take st.base strs ++ flatten (strings_up_to st.count (starts_of st.count work) strs)
   pub counts : Counted st.stats
   pub row : 0 < st.slots → Row (strings_up_to st.count (starts_of st.count work) strs) (table_of st.slots work) work (row_of st.slots) (far_in work)
+
+pub Good-prop : (work strs : List ℕ) (st : Interner) → IsProp (Good work strs st)
+Good-prop work strs st = Prim.hlevel (props, Size-prop)
 
 -- ---- room, and a new layer
 

@@ -12,7 +12,7 @@ ghost use Rattle.model.specs.Limits.{max_new_strings, min_work_words};
 ghost use Rattle.model.specs.Intern.{holds};
 ghost use Rattle.stats.specs.Counts.{Counted};
 ghost use Rattle.table.specs.Layout.{probe_of, table_of};
-ghost use Rattle.interner.specs.State.{state_of, Good, Fresh, Ready, with_entry, Alloced, Remembered, first_probe};
+ghost use Rattle.interner.specs.State.{state_of, Good, Good-prop, Fresh, Ready, with_entry, Alloced, Remembered, first_probe};
 ghost use Rattle.interner.specs.Row.{row_of, far_in, probe_for, probe_at, far_string};
 
 use stats::InternStats;
@@ -40,6 +40,15 @@ pub struct StrInterner {
     pub used: usize,
     pub last: usize,
     pub stats: InternStats,
+}
+
+// An interner beside the words and bytes that are lent to it, to be read.
+#[derive(Clone, Copy)]
+pub struct Layer<'a> {
+    pub st: &'a StrInterner,
+    pub work: &'a [u32],
+    pub strs: &'a [u8],
+    ghost good: { Good work.now strs.now st.now } by { Good-prop work.now strs.now st.now },
 }
 
 // No far strings.
@@ -93,19 +102,6 @@ impl StrInterner {
         }
     }
 
-    // Where s is in the table, or where it goes, by `most` slots.
-    pub fn lookup(&self, work: &[u32], strs: &[u8], s: &[u8], most: usize) -> Probed
-        requires good { Good work.now strs.now self.now }
-        requires slots_nonzero { 0 < self.now.slots }
-        ensures { probe_of result ≡ probe_for most (state_of work.now strs.now self.now).strings (table_of self.now.slots work.now) s.now }
-    {
-        let off = self.slots - INITIAL_CAPACITY;
-        let end = off + self.slots;
-        let last = STARTS + 2 * self.count + 2;
-        let from = table::slot_of(hash::fx_hash(s), self.slots);
-        table::probe(&work[off..end], &work[STARTS..last], strs, s, from, most)
-    }
-
     // The last string's entry at an empty slot of the table.
     pub fn enter(&mut self, work: &mut [u32], at: usize)
         requires le_slots { (256 ≤ self.old.slots) × (self.old.slots ≤ 4096) × (at < self.old.slots) × (self.old.count ≤ 3583) × (self.old.occupied < self.old.count) }
@@ -119,27 +115,6 @@ impl StrInterner {
     }
 
     // ---- strings
-
-    // `resolve`: the bytes of string id.
-    pub fn resolve<'a>(&self, work: &[u32], strs: &'a [u8], id: u32) -> &'a [u8]
-        requires good { Good work.now strs.now self.now }
-        requires id_lt_count { id < self.now.count }
-        ensures { result.now ≡ get_or (state_of work.now strs.now self.now).strings id [] }
-    {
-        let end = STARTS + 2 * self.count + 2;
-        table::string_at(&work[STARTS..end], strs, id)
-    }
-
-    // Whether the last answer's string is s.
-    pub fn is_last(&self, work: &[u32], strs: &[u8], s: &[u8]) -> bool
-        requires { Good work.now strs.now self.now }
-        ensures { result ≡ holds (state_of work.now strs.now self.now).strings self.now.last s.now }
-    {
-        if self.last == 0 {
-            return false;
-        }
-        compare::same(self.resolve(work, strs, (self.last - 1) as u32), s)
-    }
 
     // Whether there is room for one string more, of n bytes, in a buffer of `size` bytes.
     pub fn has_room(&self, size: usize, n: usize) -> bool
@@ -165,46 +140,100 @@ impl StrInterner {
         self.stats = stats;
     }
 
+    // Remembers the probe p, which found a string, as the j-th.
+    pub fn remember(&self, work: &mut [u32], strs: &[u8], p: Probed, j: usize)
+        requires good { Good work.old strs.now self.now }
+        requires slots_nonzero { (0 < self.now.slots) × (0 < p.slot) × (j ≤ far_in work.old) }
+        requires p_value { probe_of p ≡ first_probe (state_of work.old strs.now self.now) (get_or (state_of work.old strs.now self.now).strings (p.slot - 1) []) }
+        ensures { Remembered work.old strs.now self.now work.new }
+    {
+        let far = work[FAR] as usize;
+        if ROW <= far {
+            return;
+        }
+        let row = row_of(self.slots);
+        let w = p.at + PLACES * (p.steps as usize);
+        moves::put_before(work, row + j, row + far, w as u32);
+        work[FAR] = (far + 1) as u32;
+    }
+}
+
+impl<'a> Layer<'a> {
+    // Where s is in the table, or where it goes, by `most` slots.
+    pub fn lookup(&self, s: &[u8], most: usize) -> Probed
+        requires { 0 < self.now.st.now.slots }
+        ensures { probe_of result ≡ probe_for most (state_of self.now.work.now self.now.strs.now self.now.st.now).strings (table_of self.now.st.now.slots self.now.work.now) s.now }
+    {
+        let off = self.st.slots - INITIAL_CAPACITY;
+        let end = off + self.st.slots;
+        let last = STARTS + 2 * self.st.count + 2;
+        let from = table::slot_of(hash::fx_hash(s), self.st.slots);
+        table::probe(
+            &self.work[off..end],
+            &self.work[STARTS..last],
+            self.strs,
+            s,
+            from,
+            most,
+        )
+    }
+
+    // `resolve`: the bytes of string id.
+    pub fn resolve(&self, id: u32) -> &'a [u8]
+        requires { id < self.now.st.now.count }
+        ensures { result.now ≡ get_or (state_of self.now.work.now self.now.strs.now self.now.st.now).strings id [] }
+    {
+        let end = STARTS + 2 * self.st.count + 2;
+        table::string_at(&self.work[STARTS..end], self.strs, id)
+    }
+
+    // Whether the last answer's string is s.
+    pub fn is_last(&self, s: &[u8]) -> bool
+        ensures { result ≡ holds (state_of self.now.work.now self.now.strs.now self.now.st.now).strings self.now.st.now.last s.now }
+    {
+        if self.st.last == 0 {
+            return false;
+        }
+        compare::same(self.resolve((self.st.last - 1) as u32), s)
+    }
+
     // ---- far strings
 
     // Word j of the row as a probe: the place of a slot, and 4096 times the steps to it.
-    fn far_probe(&self, work: &[u32], strs: &[u8], j: usize) -> Probed
-        requires good { Good work.now strs.now self.now }
-        requires slots_nonzero { (0 < self.now.slots) × (j < far_in work.now) }
-        ensures { probe_of result ≡ probe_at (table_of self.now.slots work.now) (get_or work.now (row_of self.now.slots + j) 0) }
+    fn far_probe(&self, j: usize) -> Probed
+        requires { (0 < self.now.st.now.slots) × (j < far_in self.now.work.now) }
+        ensures { probe_of result ≡ probe_at (table_of self.now.st.now.slots self.now.work.now) (get_or self.now.work.now (row_of self.now.st.now.slots + j) 0) }
     {
-        let off = self.slots - INITIAL_CAPACITY;
-        let w = table::wide(work[row_of(self.slots) + j]);
+        let off = self.st.slots - INITIAL_CAPACITY;
+        let w = self.work[row_of(self.st.slots) + j] as usize;
         let at = w % PLACES;
         Probed {
             at,
-            slot: work[off + at],
+            slot: self.work[off + at],
             steps: (w / PLACES) as u64,
         }
     }
 
     // The string that it found.
-    fn far_string<'a>(&self, work: &[u32], strs: &'a [u8], j: usize) -> &'a [u8]
-        requires good { Good work.now strs.now self.now }
-        requires slots_nonzero { (0 < self.now.slots) × (j < far_in work.now) }
-        ensures { result.now ≡ far_string (state_of work.now strs.now self.now).strings (table_of self.now.slots work.now) (get_or work.now (row_of self.now.slots + j) 0) }
+    fn far_string(&self, j: usize) -> &'a [u8]
+        requires { (0 < self.now.st.now.slots) × (j < far_in self.now.work.now) }
+        ensures { result.now ≡ far_string (state_of self.now.work.now self.now.strs.now self.now.st.now).strings (table_of self.now.st.now.slots self.now.work.now) (get_or self.now.work.now (row_of self.now.st.now.slots + j) 0) }
     {
-        let p = self.far_probe(work, strs, j);
-        self.resolve(work, strs, p.slot - 1)
+        let p = self.far_probe(j);
+        self.resolve(p.slot - 1)
     }
 
     // How many far strings precede s. Proved is only that there are so many: `recall` tests what stands there. Bisected by hand:
     // `partition_point` wants a test of any word, and only a word of the row has a string.
-    pub fn far_place(&self, work: &[u32], strs: &[u8], s: &[u8]) -> usize
-        requires good { Good work.now strs.now self.now }
-        requires slots_nonzero { 0 < self.now.slots }
-        ensures { result ≤ far_in work.now }
+    pub fn far_place(&self, s: &[u8]) -> usize
+        requires { 0 < self.now.st.now.slots }
+        ensures { result ≤ far_in self.now.work.now }
     {
         let mut lo = 0;
-        let mut hi = table::wide(work[FAR]);
+        let mut hi = self.work[FAR] as usize;
         while lo < hi {
             let mid = lo + (hi - lo) / 2;
-            if compare::precedes(self.far_string(work, strs, mid), s) {
+            if compare::precedes(self.far_string(mid), s) {
                 lo = mid + 1;
             } else {
                 hi = mid;
@@ -214,32 +243,14 @@ impl StrInterner {
     }
 
     // The probe of s, if s stands at j in the row.
-    pub fn recall(&self, work: &[u32], strs: &[u8], s: &[u8], j: usize) -> Option<Probed>
-        requires good { Good work.now strs.now self.now }
-        requires slots_nonzero { 0 < self.now.slots }
-        ensures { IfSome result (λ p. (0 < p.slot) × (probe_of p ≡ first_probe (state_of work.now strs.now self.now) s.now)) }
+    pub fn recall(&self, s: &[u8], j: usize) -> Option<Probed>
+        requires { 0 < self.now.st.now.slots }
+        ensures { IfSome result (λ p. (0 < p.slot) × (probe_of p ≡ first_probe (state_of self.now.work.now self.now.strs.now self.now.st.now) s.now)) }
     {
-        if j < table::wide(work[FAR]) && compare::same(self.far_string(work, strs, j), s) {
-            Some(self.far_probe(work, strs, j))
+        if j < (self.work[FAR] as usize) && compare::same(self.far_string(j), s) {
+            Some(self.far_probe(j))
         } else {
             None
         }
-    }
-
-    // Remembers the probe p, which found a string, as the j-th.
-    pub fn remember(&self, work: &mut [u32], strs: &[u8], p: Probed, j: usize)
-        requires good { Good work.old strs.now self.now }
-        requires slots_nonzero { (0 < self.now.slots) × (0 < p.slot) × (j ≤ far_in work.old) }
-        requires p_value { probe_of p ≡ first_probe (state_of work.old strs.now self.now) (get_or (state_of work.old strs.now self.now).strings (p.slot - 1) []) }
-        ensures { Remembered work.old strs.now self.now work.new }
-    {
-        let far = table::wide(work[FAR]);
-        if ROW <= far {
-            return;
-        }
-        let row = row_of(self.slots);
-        let w = p.at + PLACES * (p.steps as usize);
-        moves::put_before(work, row + j, row + far, w as u32);
-        work[FAR] = (far + 1) as u32;
     }
 }

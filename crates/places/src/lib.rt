@@ -88,6 +88,7 @@ fn eights_at(tape: &[u8], at: usize, command: u8, size: usize) -> usize
     let step = 8 * size;
     let mut n = 0;
     let mut place = at;
+    // no `for`: it goes on for as long as the records do
     while step < tape.len() - place {
         if !eight_at(tape, place, command, size) {
             return n;
@@ -105,6 +106,7 @@ pub fn count_at(tape: &[u8], at: usize, command: u8, size: usize) -> usize
 {
     let mut n = eights_at(tape, at, command, size);
     let mut place = at + n * size;
+    // no `for`: it goes on for as long as the records do
     while place < tape.len() {
         if tape[place] != command {
             return n;
@@ -187,6 +189,7 @@ fn all_layers(tape: &[u8], room: usize) -> Tally
         bytes: 0,
         end: 9,
     };
+    // no `for`: each layer says where the next one stands
     while wire::byte_at(tape, s.end) == 2 {
         s = with_layer(tape, s, room);
     }

@@ -97,25 +97,32 @@ impl InternStats {
         self
     }
 
-    pub fn table_hit(mut self, resized: u64, steps: u64) -> InternStats
+    // What a call for the table counts, however its probe ends.
+    fn probed(mut self, resized: u64, steps: u64) -> InternStats
         requires { Counted self × (self.calls < 2 ^ 32) × (resized ≤ 1) × (steps ≤ 4096) }
-        ensures { result ≡ plus_table_hit (plus_probes (plus_resizes (plus_call self) resized) steps) }
+        ensures { result ≡ plus_probes (plus_resizes (plus_call self) resized) steps }
     {
         self.count_call();
         self.count_resizes(resized);
         self.count_probes(steps);
-        self.count_table_hit();
         self
     }
 
-    pub fn table_alloc(mut self, resized: u64, steps: u64) -> InternStats
+    pub fn table_hit(self, resized: u64, steps: u64) -> InternStats
+        requires { Counted self × (self.calls < 2 ^ 32) × (resized ≤ 1) × (steps ≤ 4096) }
+        ensures { result ≡ plus_table_hit (plus_probes (plus_resizes (plus_call self) resized) steps) }
+    {
+        let mut counts = self.probed(resized, steps);
+        counts.count_table_hit();
+        counts
+    }
+
+    pub fn table_alloc(self, resized: u64, steps: u64) -> InternStats
         requires { Counted self × (self.calls < 2 ^ 32) × (resized ≤ 1) × (steps ≤ 4096) }
         ensures { result ≡ plus_alloc (plus_probes (plus_resizes (plus_call self) resized) steps) }
     {
-        self.count_call();
-        self.count_resizes(resized);
-        self.count_probes(steps);
-        self.count_alloc();
-        self
+        let mut counts = self.probed(resized, steps);
+        counts.count_alloc();
+        counts
     }
 }

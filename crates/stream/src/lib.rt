@@ -16,6 +16,7 @@ pub fn read_full<R: Read>(reader: &mut R, buf: &mut [u8]) -> io::Result<usize>
     ensures rest { IfOk result (λ n. Consumes (R.remaining reader.old) (R.remaining reader.new) (take n buf.new)) }
     ensures end { IfOk result (λ n. n < length buf.new → IsAtEnd (R.remaining reader.new)) }
 {
+    // `read_exact` would not say how many bytes came before the stream's end
     let mut done = 0;
     while done < buf.len() {
         let n = reader.read(&mut buf[done..])?;

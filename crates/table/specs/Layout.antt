@@ -1,5 +1,5 @@
 -- Where the interner's table and strings stand among the lent words and bytes.
-use Rattle.std.specs.Prelude.{◌≡◌, List, [], ◌∷◌, ◌++◌, ℕ, zero, suc, ◌+◌, ◌-◌, ◌*◌, ◌/◌, ◌%◌, ◌<◌, ◌≤◌, length, get_or, take, drop, set}
+use Rattle.std.specs.Prelude.{List, [], ◌∷◌, ◌++◌, ℕ, zero, suc, ◌+◌, ◌-◌, ◌*◌, ◌/◌, ◌%◌, ◌<◌, ◌≤◌, length, get_or, take, drop, set}
 use Rattle.model.specs.Intern.{Probe, empty_slot, fx_hash}
 use Rattle.model.specs.Limits.{max_new_strings, min_work_words}
 use Rattle.table.specs.declared.Probed.{Probed}

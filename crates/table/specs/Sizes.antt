@@ -95,3 +95,12 @@ due_not n k e ne = leb-false _ _ (not_both _ (subst (λ (b : Bool). (not b && le
 pub one_or_none : (b : Bool) → cond b 1 0 ≤ 1
 one_or_none true = lit≤ tt
 one_or_none false = lit≤ tt
+
+-- a table has one size
+pub Size-prop : {n : ℕ} → IsProp (Size n)
+Size-prop none none = refl
+Size-prop size256 size256 = refl
+Size-prop size512 size512 = refl
+Size-prop size1024 size1024 = refl
+Size-prop size2048 size2048 = refl
+Size-prop size4096 size4096 = refl

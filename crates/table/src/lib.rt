@@ -33,12 +33,6 @@ pub struct Probed {
 
 // ---- strings and slots
 
-pub fn wide(x: u32) -> usize
-    ensures { result ≡ x }
-{
-    x as usize
-}
-
 fn joined(low: u32, high: u32) -> usize
     ensures { result ≡ low + 4294967296 * high }
 {
@@ -54,6 +48,7 @@ pub fn wide_at(words: &[u32], at: usize) -> usize
 }
 
 // The place v as the start of string k.
+#[tactic(auto, unfolding(crate::specs::Layout::with_start))]
 pub fn put_start(work: &mut [u32], k: usize, v: usize)
     requires { 8192 + 2 * k + 1 < length work.old }
     ensures { work.new ≡ with_start work.old k v }
@@ -69,7 +64,7 @@ pub fn string_at<'a>(starts: &[u32], strs: &'a [u8], id: u32) -> &'a [u8]
     requires id_in_bounds { id + 1 < length (wide_words starts.now) }
     ensures { result.now ≡ get_or (strings_of (wide_words starts.now) strs.now) id [] }
 {
-    let i = wide(id);
+    let i = id as usize;
     let a = wide_at(starts, 2 * i);
     let z = wide_at(starts, 2 * (i + 1));
     &strs[a..z]
@@ -105,32 +100,22 @@ pub fn probe(
     requires entries { Entries table.now (length (wide_words starts.now)) }
     ensures { probe_of result ≡ probe_of_model most (strings_of (wide_words starts.now) strs.now) table.now s.now from 0 }
 {
-    let n = table.len();
     let mut at = from;
-    let mut steps: usize = 0;
-    while steps < most {
+    for k in 0..most {
         let e = table[at];
-        steps += 1;
+        let steps = k as u64 + 1;
         if e == 0 {
-            return Probed {
-                at: at,
-                slot: 0,
-                steps: steps as u64,
-            };
+            return Probed { at, slot: 0, steps };
         }
         if compare::same(string_at(starts, strs, e - 1), s) {
-            return Probed {
-                at: at,
-                slot: e,
-                steps: steps as u64,
-            };
+            return Probed { at, slot: e, steps };
         }
-        at = next_slot(at, n);
+        at = next_slot(at, table.len());
     }
     Probed {
-        at: at,
+        at,
         slot: 0,
-        steps: steps as u64,
+        steps: most as u64,
     }
 }
 
@@ -139,15 +124,12 @@ fn empty_slot(table: &[u32], from: usize) -> usize
     requires { from < length table.now }
     ensures { (result ≡ empty_slot (length table.now) table.now from) × (result < length table.now) }
 {
-    let n = table.len();
     let mut at = from;
-    let mut k: usize = 0;
-    while k < n {
+    for _ in 0..table.len() {
         if table[at] == 0 {
             return at;
         }
-        at = next_slot(at, n);
-        k += 1;
+        at = next_slot(at, table.len());
     }
     at
 }
@@ -190,13 +172,11 @@ fn move_slots(work: &mut [u32], strs: &[u8], count: usize, n: usize)
     ensures work_unchanged { drop 8192 work.new ≡ drop 8192 work.old }
 {
     let off = n - INITIAL_CAPACITY;
-    let mut i: usize = 0;
-    while i < n {
+    for i in 0..n {
         let e = work[off + i];
         if e != 0 {
             place(work, strs, count, n * 2, e);
         }
-        i += 1;
     }
 }
 
@@ -214,14 +194,12 @@ pub fn grow(work: &mut [u32], strs: &[u8], count: usize, n: usize)
 }
 
 // Whether a table of so many slots, of which so many are taken, is to double.
+#[tactic(auto, using(std::proofs::lemmas::Bool::Decides::nat_tests))]
 pub fn due(slots: usize, occupied: usize) -> bool
     requires { (slots ≤ 4096) × (occupied ≤ 3583) }
     ensures { result ≡ is_due slots occupied }
 {
-    if slots == 0 {
-        return false;
-    }
-    slots * LOAD_FACTOR_NUMERATOR <= occupied * LOAD_FACTOR_DENOMINATOR
+    slots != 0 && slots * LOAD_FACTOR_NUMERATOR <= occupied * LOAD_FACTOR_DENOMINATOR
 }
 
 // How often a call for the table doubles it.
@@ -229,5 +207,5 @@ pub fn resizes(slots: usize, occupied: usize) -> u64
     requires { (slots ≤ 4096) × (occupied ≤ 3583) }
     ensures { result ≡ cond (is_due slots occupied) 1 0 }
 {
-    if due(slots, occupied) { 1 } else { 0 }
+    u64::from(due(slots, occupied))
 }

@@ -111,10 +111,7 @@ fn ask(rt: &impl Print, c: cases::Case) -> io::Result<()> {
 
 // 0 where it is accepted.
 fn number(a: Result<(), Refusal>) -> u32 {
-    match a {
-        Ok(()) => 0,
-        Err(refusal) => u32::from(refusal),
-    }
+    a.err().map_or(0, u32::from)
 }
 
 fn show(rt: &impl Print, c: cases::Case) -> io::Result<()> {

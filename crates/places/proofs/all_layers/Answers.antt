@@ -7,10 +7,6 @@ pub loop-s-init : goal.loop-s-init
 loop-s-init c =
     walked_none _ _
 
-pub byte_at-requires : goal.byte_at-requires
-byte_at-requires c =
-    tt
-
 pub with_layer-s-requires : goal.with_layer-s-requires
 with_layer-s-requires c =
     record {

@@ -2,10 +2,6 @@ use Rattle.places.specs.Runs.{counted_more, counted_other, counted_past}
 use native.Mathlib.Omega.{arith}
 use Rattle.places.proofs.count_at.Goals as goal
 
-pub eights_at-n-requires : goal.eights_at-n-requires
-eights_at-n-requires c =
-    c.requires
-
 pub overflow_mul-place : goal.overflow_mul-place
 overflow_mul-place c =
     omega (arith, c.eights_at-n.ensures.1)
@@ -18,10 +14,6 @@ pub loop-place-init : goal.loop-place-init
 loop-place-init c =
     c.eights_at-n.ensures.0
 
-pub bounds-tape-place : goal.bounds-tape-place
-bounds-tape-place c =
-    omega arith
-
 pub returns-then-tape-place : goal.returns-then-tape-place
 returns-then-tape-place c =
     counted_other c.loop-place.invariant c.loop-place-test.true c.if-tape-place.true
@@ -30,21 +22,9 @@ pub overflow_add-n : goal.overflow_add-n
 overflow_add-n c =
     omega (arith, c.loop-place.invariant.low)
 
-pub overflow_sub-tape : goal.overflow_sub-tape
-overflow_sub-tape c =
-    omega arith
-
 pub returns-then-tape-place-2 : goal.returns-then-tape-place-2
 returns-then-tape-place-2 c =
     counted_past (counted_more c.loop-place.invariant c.requires c.loop-place-test.true c.if-tape-place.false) (omega arith)
-
-pub overflow_add-place-in-loop-place : goal.overflow_add-place-in-loop-place
-overflow_add-place-in-loop-place c =
-    omega arith
-
-pub loop-place-smaller : goal.loop-place-smaller
-loop-place-smaller c =
-    omega arith
 
 pub loop-place-preserved : goal.loop-place-preserved
 loop-place-preserved c =

@@ -1,7 +1,7 @@
 use Rattle.table.specs.Views.{length_part, drop_part}
 use mathlib.Core.Path.{◌≡◌, refl}
 use mathlib.Core.List.{List, ◌++◌}
-use Prim.Native.Nat.{ℕ, ◌+◌, ◌-◌, ◌≤◌}
+use Prim.Native.Nat.{ℕ, ◌-◌, ◌≤◌}
 use lib.ListN.{length, take, drop, replicate}
 use Rattle.table.proofs.clear_part.Goals as goal
 

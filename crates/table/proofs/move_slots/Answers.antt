@@ -2,7 +2,7 @@ use mathlib.Core.Path.{subst}
 use Rattle.table.specs.Moved.{Moved, moved_first, moved_last, moved_skip, moved_put, moved_work, entry, in_old_lem}
 use mathlib.Core.Path.{refl, sym, ◌∙◌}
 use mathlib.Core.List.{List}
-use Prim.Native.Nat.{ℕ, ◌+◌, ◌-◌}
+use Prim.Native.Nat.{ℕ, ◌+◌}
 use native.Mathlib.Omega.{arith}
 use Rattle.table.proofs.move_slots.Goals as goal
 use Rattle.table.proofs.move_slots.Goals.{then-e-ne0, else-e-ne0}

@@ -1,5 +1,4 @@
 use Rattle.laws.specs.Slots.{next_round, next_in}
-use Prim.Native.Nat.{◌-◌}
 use native.Mathlib.Omega.{arith}
 use Rattle.table.proofs.next_slot.Goals as goal
 

@@ -1,6 +1,5 @@
 use native.Mathlib.Nat.{mod-lt}
 use mathlib.Core.Path.{refl}
-use Prim.Native.Nat.{◌-◌}
 use Rattle.table.proofs.slot_of.Goals as goal
 
 pub returns : goal.returns
