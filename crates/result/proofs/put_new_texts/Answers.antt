@@ -1,7 +1,6 @@
 use Rattle.result.specs.Stages.{texts_sliced, texts_asked}
 use Rattle.std.proofs.Common.{◌+◌}
 use mathlib.Core.Path.{refl}
-use native.Mathlib.Omega.{arith}
 use Rattle.result.proofs.put_new_texts.Goals as goal
 
 pub put_texts-requires : goal.put_texts-requires
