@@ -1,11 +1,14 @@
 // What a merge and its price are asked of, and what of a book goes on from the checks to the writing: each said once.
 #![tactic(auto)]
 
+ghost use Rattle.model.specs.Bytes.{AreBytes};
+
 // A book or a reading as it is stored: its tape, and the bytes of its texts and strings.
 #[derive(Clone, Copy)]
 pub struct Stored<'a> {
     pub tape: &'a [u8],
     pub bytes: &'a [u8],
+    pub ghost are_bytes: { AreBytes tape.now × AreBytes bytes.now },
 }
 
 // What is replaced in the old text, and by what.

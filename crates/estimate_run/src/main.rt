@@ -4,6 +4,7 @@
 // cases, and from documents 01 and 02 the output that is stored beside them.
 #![tactic(auto)]
 
+use books::{Correction, Edit, Stored};
 use estimate::Price;
 use refusal::Refusal;
 use std::io;
@@ -27,16 +28,20 @@ fn show(rt: &(impl Alloc + Print), c: cases::Case) -> io::Result<()> {
     let mut work = vec![in rt.alloc(); 7u32; lent as usize]?;
     let readingtape = HEAD + wire::u32_or_zero(rest, 4) as usize;
     let readingbytes = readingtape + wire::u32_or_zero(rest, 8) as usize;
-    let price = estimate::estimate(
-        c.tape,
-        c.bytes,
-        c.start,
-        c.end,
-        wire::between(rest, HEAD, readingtape),
-        wire::between(rest, readingtape, readingbytes),
-        wire::between(rest, readingbytes, rest.len()),
-        &mut work,
-    );
+    let book = Stored {
+        tape: c.tape,
+        bytes: c.bytes,
+    };
+    let edit = Edit {
+        start: c.start,
+        end: c.end,
+        replacement: wire::between(rest, HEAD, readingtape),
+    };
+    let reading = Stored {
+        tape: wire::between(rest, readingtape, readingbytes),
+        bytes: wire::between(rest, readingbytes, rest.len()),
+    };
+    let price = estimate::estimate(&book, &Correction { edit, reading }, &mut work);
     rt.write_all(c.label)?;
     print!(rt; ": ")?;
     put_price(rt, price)?;

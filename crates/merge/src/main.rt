@@ -9,6 +9,7 @@ ghost use Rattle.refusal.specs.Refusal.{checked};
 ghost use Rattle.output.specs.Answer.{output_of};
 ghost use Rattle.runs.specs.Input.{Whole};
 
+use books::{Correction, Edit, Stored};
 use output::IncrementalOutput;
 use refusal::Refusal;
 use std::io;
@@ -30,14 +31,22 @@ fn merge_parts(
     let newtape = replacement + wire::u32_at(input, 16) as usize;
     let newbytes = newtape + wire::u32_at(input, 20) as usize;
     let end = newbytes + wire::u32_at(input, 24) as usize;
+    let book = Stored {
+        tape: wire::between(input, runs::HEAD, oldbytes),
+        bytes: wire::between(input, oldbytes, replacement),
+    };
+    let edit = Edit {
+        start: wire::u32_at(input, 8),
+        end: wire::u32_at(input, 12),
+        replacement: wire::between(input, replacement, newtape),
+    };
+    let reading = Stored {
+        tape: wire::between(input, newtape, newbytes),
+        bytes: wire::between(input, newbytes, end),
+    };
     incremental::merge(
-        wire::between(input, runs::HEAD, oldbytes),
-        wire::between(input, oldbytes, replacement),
-        wire::u32_at(input, 8),
-        wire::u32_at(input, 12),
-        wire::between(input, replacement, newtape),
-        wire::between(input, newtape, newbytes),
-        wire::between(input, newbytes, end),
+        &book,
+        &Correction { edit, reading },
         outtape,
         outbytes,
         work,

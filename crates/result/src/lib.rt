@@ -19,26 +19,10 @@ ghost use Rattle.merged_lists.specs.Sizes.{lengths_of};
 ghost use Rattle.result.specs.Grafting.{offsets_of, GraftTold};
 ghost use Rattle.result.specs.Stages.{texts_of, StoreTold};
 
+use books::{Book, Edit};
 use output::IncrementalOutput;
 use refusal::Refusal;
 use stats::InternStats;
-
-// The old book or the reading: its tape and bytes, where the records stand, and its store.
-#[derive(Clone, Copy)]
-pub struct Book<'a> {
-    pub tape: &'a [u8],
-    pub bytes: &'a [u8],
-    pub places: places::Places,
-    pub store: store::Store,
-}
-
-// What is replaced in the old text, and by what.
-#[derive(Clone, Copy)]
-pub struct Edit<'a> {
-    pub start: u32,
-    pub end: u32,
-    pub replacement: &'a [u8],
-}
 
 // Both new texts and the old strings, by the places of both books and the window.
 fn put_new_texts(out: &mut [u8], book: &Book, edit: &Edit, w: splice::Window, reading: &Book)

@@ -5,6 +5,7 @@
 // output of a case whose label begins with "Rust" is the Rust's own answer (oracle/sample).
 #![tactic(auto)]
 
+use books::{Correction, Edit, Stored};
 use output::IncrementalOutput;
 use refusal::Refusal;
 use std::io;
@@ -64,14 +65,22 @@ fn show(rt: &(impl Alloc + Print), c: cases::Case) -> io::Result<()> {
     let mut work = vec![in rt.alloc(); 7u32; words as usize]?;
     let readingtape = HEAD + wire::u32_or_zero(rest, 12) as usize;
     let readingbytes = readingtape + wire::u32_or_zero(rest, 16) as usize;
+    let book = Stored {
+        tape: c.tape,
+        bytes: c.bytes,
+    };
+    let edit = Edit {
+        start: c.start,
+        end: c.end,
+        replacement: wire::between(rest, HEAD, readingtape),
+    };
+    let reading = Stored {
+        tape: wire::between(rest, readingtape, readingbytes),
+        bytes: wire::between(rest, readingbytes, rest.len()),
+    };
     let r = incremental::merge(
-        c.tape,
-        c.bytes,
-        c.start,
-        c.end,
-        wire::between(rest, HEAD, readingtape),
-        wire::between(rest, readingtape, readingbytes),
-        wire::between(rest, readingbytes, rest.len()),
+        &book,
+        &Correction { edit, reading },
         &mut out,
         &mut strs,
         &mut work,
