@@ -34,3 +34,12 @@ pub struct Book<'a> {
     pub places: places::Places,
     pub store: store::Store,
 }
+
+// A book, an edit, the window of its region, and a reading of that passage: what is merged once all of it has passed.
+#[derive(Clone, Copy)]
+pub struct Merging<'a> {
+    pub book: Book<'a>,
+    pub edit: Edit<'a>,
+    pub window: splice::Window,
+    pub reading: Book<'a>,
+}

@@ -11,7 +11,7 @@ ghost use Rattle.splice.specs.Window.{window_value};
 ghost use Rattle.fitting.specs.Books.{Books, book_in};
 ghost use Rattle.estimate.specs.Pricing.{over_price, price_by, price_value, estimate_of, price_in};
 
-use books::{Correction, Stored};
+use books::{Book, Correction, Merging, Stored};
 use refusal::Refusal;
 
 const MAX_POOL: u32 = 1048575;
@@ -61,29 +61,18 @@ fn price_by(reread: u32, s: Option<sizes::Sizes>, bytes: usize) -> Price
 }
 
 // The price of a book and a reading that passed 1 to 17.
-fn price_fitted(book: &Stored, correction: &Correction, f: fitting::Fitting) -> Price
-    requires { Books book.now.tape.now book.now.bytes.now f.p f.st (edit_value correction.now.edit) (window_value f.w) correction.now.reading.tape.now correction.now.reading.bytes.now f.q f.own }
-    ensures { result ≡ price_value (price_in (book_in book.now.tape.now book.now.bytes.now) (edit_value correction.now.edit)
-        (book_in correction.now.reading.tape.now correction.now.reading.bytes.now) (window_value f.w)) }
+fn price_fitted(m: &Merging) -> Price
+    requires { Books m.now.book.tape.now m.now.book.bytes.now m.now.book.places m.now.book.store (edit_value m.now.edit) (window_value m.now.window) m.now.reading.tape.now m.now.reading.bytes.now m.now.reading.places m.now.reading.store }
+    ensures { result ≡ price_value (price_in (book_in m.now.book.tape.now m.now.book.bytes.now) (edit_value m.now.edit)
+        (book_in m.now.reading.tape.now m.now.reading.bytes.now) (window_value m.now.window)) }
 {
-    let edit = &correction.edit;
-    let q = f.q;
-    let w = f.w;
-    let l = merged_lists::new_lengths(
-        f.p,
-        q,
-        edit.start,
-        edit.end,
-        edit.replacement.len(),
-        w.nstart,
-        w.nend,
-        book.bytes.len(),
-    );
+    let q = m.reading.places;
+    let l = merged_lists::new_lengths(m);
     let room = sizes::Room {
         contents: MAX_POOL,
         segments: MAX_POOL,
     };
-    let s = sizes::reading_sizes(correction.reading.tape, f.own, q, room);
+    let s = sizes::reading_sizes(m.reading.tape, m.reading.store, q, room);
     price_by(q.nodes.count as u32, s, l.base)
 }
 
@@ -96,7 +85,23 @@ fn estimate_checked(
     ensures { checked result ≡ estimate_of (estimate (stored_value book.now) (edit_value correction.now.edit) (stored_value correction.now.reading)) }
 {
     let f = fitting::fitted(book, correction, work)?;
-    Ok(price_fitted(book, correction, f))
+    let reading = &correction.reading;
+    Ok(price_fitted(&Merging {
+        book: Book {
+            tape: book.tape,
+            bytes: book.bytes,
+            places: f.p,
+            store: f.st,
+        },
+        edit: correction.edit,
+        window: f.w,
+        reading: Book {
+            tape: reading.tape,
+            bytes: reading.bytes,
+            places: f.q,
+            store: f.own,
+        },
+    }))
 }
 
 // `estimate`: the merge's 1 to 17 as the merge gives them, or the price; all work words are 0 at the end.

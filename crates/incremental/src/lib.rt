@@ -9,7 +9,7 @@ ghost use Rattle.books.specs.Values.{stored_value, correction_value};
 ghost use Rattle.refusal.specs.Refusal.{checked};
 ghost use Rattle.output.specs.Answer.{Written, Merged};
 
-use books::{Book, Correction, Stored};
+use books::{Book, Correction, Merging, Stored};
 use output::IncrementalOutput;
 use refusal::Refusal;
 
@@ -25,27 +25,23 @@ fn merge_checked(
 {
     let f = fitting::fitted(book, correction, work)?;
     let reading = &correction.reading;
-    let book = Book {
-        tape: book.tape,
-        bytes: book.bytes,
-        places: f.p,
-        store: f.st,
+    let merging = Merging {
+        book: Book {
+            tape: book.tape,
+            bytes: book.bytes,
+            places: f.p,
+            store: f.st,
+        },
+        edit: correction.edit,
+        window: f.w,
+        reading: Book {
+            tape: reading.tape,
+            bytes: reading.bytes,
+            places: f.q,
+            store: f.own,
+        },
     };
-    let reading = Book {
-        tape: reading.tape,
-        bytes: reading.bytes,
-        places: f.q,
-        store: f.own,
-    };
-    result::merge_books(
-        &book,
-        &correction.edit,
-        f.w,
-        &reading,
-        outtape,
-        outbytes,
-        work,
-    )
+    result::merge_books(&merging, outtape, outbytes, work)
 }
 
 // `merge`: the merged book in both result buffers, zeros behind it, and zeros in all work words; after a refusal zeros everywhere.

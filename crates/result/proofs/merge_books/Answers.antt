@@ -17,7 +17,7 @@ unfolding edit_of
 new_lengths-l-requires c =
     let i = inside c.requires in record {
       end_le_text = (i.ends, i.normal_ends, i.limit);
-      normalized_bound = ((texts_inside c.requires).0, omega arith);
+      normalized_bound = (texts_inside c.requires).0;
     }
 
 pub room_for-requires : goal.room_for-requires
