@@ -125,14 +125,14 @@ pub extern "C" fn aozora_choose_region(
 }
 
 #[unsafe(no_mangle)]
-pub extern "C" fn aozora_estimate(
-    tape: &[u8],
-    bytes: &[u8],
+pub extern "C" fn aozora_estimate<'a>(
+    tape: &'a [u8],
+    bytes: &'a [u8],
     start: u32,
     end: u32,
-    replacement: &[u8],
-    readingtape: &[u8],
-    readingbytes: &[u8],
+    replacement: &'a [u8],
+    readingtape: &'a [u8],
+    readingbytes: &'a [u8],
     work: &mut [u32],
 ) -> answers::PriceAnswer
     ensures { (result ≡ price_answer (estimate_of (estimate (stored_of tape.now bytes.now) (edit_of start end replacement.now) (stored_of readingtape.now readingbytes.now))))
@@ -152,14 +152,14 @@ pub extern "C" fn aozora_estimate(
 }
 
 #[unsafe(no_mangle)]
-pub extern "C" fn aozora_merge(
-    tape: &[u8],
-    bytes: &[u8],
+pub extern "C" fn aozora_merge<'a>(
+    tape: &'a [u8],
+    bytes: &'a [u8],
     start: u32,
     end: u32,
-    replacement: &[u8],
-    readingtape: &[u8],
-    readingbytes: &[u8],
+    replacement: &'a [u8],
+    readingtape: &'a [u8],
+    readingbytes: &'a [u8],
     outtape: &mut [u8],
     outbytes: &mut [u8],
     work: &mut [u32],
@@ -190,19 +190,19 @@ pub extern "C" fn aozora_merge(
 }
 
 #[unsafe(no_mangle)]
-pub extern "C" fn aozora_merge_both_orders(
-    tape: &[u8],
-    bytes: &[u8],
+pub extern "C" fn aozora_merge_both_orders<'a>(
+    tape: &'a [u8],
+    bytes: &'a [u8],
     start1: u32,
     end1: u32,
-    replacement1: &[u8],
-    readingtape1: &[u8],
-    readingbytes1: &[u8],
+    replacement1: &'a [u8],
+    readingtape1: &'a [u8],
+    readingbytes1: &'a [u8],
     start2: u32,
     end2: u32,
-    replacement2: &[u8],
-    readingtape2: &[u8],
-    readingbytes2: &[u8],
+    replacement2: &'a [u8],
+    readingtape2: &'a [u8],
+    readingbytes2: &'a [u8],
     tape1: &mut [u8],
     bytes1: &mut [u8],
     tape2: &mut [u8],
