@@ -6,8 +6,9 @@ use Rattle.cuts.specs.Safe.{safe_cut_in, cut_allowed}
 use Rattle.balanced_region.specs.Ends.{region_start_in, region_end_in}
 use Rattle.cuts.specs.Pairs.{reach, reach_of}
 use Rattle.balanced_region.specs.EndSearch.{next_try}
-use Rattle.balanced_region.specs.Unmatched.{depths_before, no_depths, depths_past, last_unmatched, is_unmatched}
+use Rattle.balanced_region.specs.Unmatched.{depths_before, no_depths, depths_past, last_unmatched}
 use Rattle.cuts.specs.Gaps.{closes_nothing}
+use Rattle.cuts.specs.Depths.{closes_unopened}
 use Rattle.cuts.specs.Examples.{node_of, lines}
 
 abbrev pair_of : ℕ → ℕ → PairLink
@@ -25,8 +26,8 @@ unfolding region_start_in region_end_in safe_cut_in cut_allowed blank_line_befor
 blocks = (refl, refl, refl, refl)
 
 -- of a close without an open, a block that opens and a node behind the bound: two nodes, the first of them unmatched
-unmatched_close : depths_before 8 no_depths (node_of 3 0 0 2 3 ∷ node_of 2 0 0 4 5 ∷ node_of 0 1 0 8 9 ∷ []) ≡ record { count = 2; blocks = 1; warichu = 0; unmatched = 1 }
-unfolding depths_before no_depths depths_past last_unmatched is_unmatched closes_nothing depth_behind
+unmatched_close : depths_before 8 no_depths (node_of 3 0 0 2 3 ∷ node_of 2 0 0 4 5 ∷ node_of 0 1 0 8 9 ∷ []) ≡ record { count = 2; depths = record { blocks = 1; warichu = 0 }; unmatched = 1 }
+unfolding depths_before no_depths depths_past last_unmatched closes_unopened closes_nothing depth_behind
 unmatched_close = refl
 
 -- the search goes on where the pair across the offset ends; the start lies before it

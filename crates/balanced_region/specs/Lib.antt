@@ -5,3 +5,4 @@ pub mod Unmatched
 pub mod StartSearch
 pub mod Walks
 pub mod Examples
+pub mod Edits

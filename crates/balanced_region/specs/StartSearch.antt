@@ -7,9 +7,9 @@ use Rattle.std.proofs.Math.Path.{refl, sym, ap}
 use Rattle.std.proofs.Math.Bool.{true, and-false}
 use Rattle.std.proofs.Math.ListN.{length}
 use Rattle.std.proofs.Math.Dec.{leb}
-use borrow.Author.Tests.{ltb-true, ltb-false, lt-ltb, le-ltb, eq-eqb, ne_eqb, eqb-true, eqb-false, le-leb}
+use borrow.Author.Tests.{ltb-true, ltb-false, eq-eqb, ne_eqb, le-leb}
 use Rattle.model.specs.Types.{SourceNode, PairLink}
-use Rattle.model.specs.Region.{newline_at, blank_line_before, nodes_allow_cut}
+use Rattle.model.specs.Region.{newline_at, nodes_allow_cut}
 use Rattle.laws.specs.Lists.{both}
 use Rattle.wire.specs.Loops.{by_bool}
 use Rattle.cuts.specs.Safe.{safe_cut_in, cut_allowed, safe_test}

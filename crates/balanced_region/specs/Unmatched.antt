@@ -2,46 +2,49 @@
 -- unmatched close, a node that closes at depth 0: behind it every close has its open.
 use Prim.Native.Nat.{ℕ, zero, suc, ◌+◌, ◌-◌, ◌*◌, ◌≤◌, ◌<◌}
 use native.Mathlib.Omega.{arith}
-use Rattle.std.specs.Prelude.{◌≡◌, Bool, true, false, cond, ◌&&◌, ◌||◌, List, [], ◌∷◌, ltb, eqb}
+use Rattle.std.specs.Prelude.{◌≡◌, Bool, true, false, cond, List, [], ◌∷◌, ltb, eqb}
 use Rattle.std.proofs.Math.Path.{refl, sym, ap}
 use Rattle.std.proofs.Common.{◌∙◌}
-use Rattle.std.proofs.Math.Bool.{and-false}
 use borrow.Author.Tests.{lt-ltb, le-ltb, ltb-false, eqb-true, eqb-false}
 use Rattle.model.specs.Types.{SourceNode}
 use Rattle.model.specs.Tape.{record_at, records_at, node_codec}
 use Rattle.model.specs.Region.{is_block_open, is_block_close, is_warichu_open, is_warichu_close, depth_behind}
-use Rattle.laws.specs.Lists.{both, neither}
+use Rattle.laws.specs.Lists.{neither}
 use Rattle.records.specs.Runs.{run_cons, run_none}
 use Rattle.wire.specs.Loops.{by_bool}
 use Rattle.places.specs.declared.Run.{Run}
-use Rattle.balanced_region.specs.declared.Depths.{Depths}
+use Rattle.balanced_region.specs.declared.Passed.{Passed}
+use Rattle.cuts.specs.Depths.{closes_unopened, no_block_both, no_warichu_both}
 use Rattle.cuts.specs.Gaps.{closes_nothing, node_at, nodes_of, nodes_from, NodesIn, Walked, walked_none, walked_more, walked_span, depth_small}
 
-unfoldable pub is_unmatched : Depths → SourceNode → Bool
-is_unmatched d n = closes_nothing (is_block_close n) d.blocks || closes_nothing (is_warichu_close n) d.warichu
+-- a node that closes at depth 0
+abbrev pub is_unmatched : Passed → SourceNode → Bool
+is_unmatched d n = closes_unopened d.depths.blocks d.depths.warichu n
 
 -- how many nodes there are up to and with the last unmatched close
-unfoldable pub last_unmatched : Depths → SourceNode → ℕ
+unfoldable pub last_unmatched : Passed → SourceNode → ℕ
 last_unmatched d n = cond (is_unmatched d n) (d.count + 1) d.unmatched
 
-unfoldable pub no_depths : Depths
-no_depths = record { count = 0; blocks = 0; warichu = 0; unmatched = 0 }
+unfoldable pub no_depths : Passed
+no_depths = record { count = 0; depths = record { blocks = 0; warichu = 0 }; unmatched = 0 }
 
-unfoldable pub depths_past : Depths → SourceNode → Depths
+unfoldable pub depths_past : Passed → SourceNode → Passed
 depths_past d n = record {
   count = d.count + 1;
-  blocks = depth_behind is_block_open is_block_close d.blocks n;
-  warichu = depth_behind is_warichu_open is_warichu_close d.warichu n;
+  depths = record {
+    blocks = depth_behind is_block_open is_block_close d.depths.blocks n;
+    warichu = depth_behind is_warichu_open is_warichu_close d.depths.warichu n;
+  };
   unmatched = last_unmatched d n;
 }
 
 -- behind those at the front that start before `bound`
-unfoldable pub depths_before : ℕ → Depths → List SourceNode → Depths
+unfoldable pub depths_before : ℕ → Passed → List SourceNode → Passed
 depths_before bound d [] = d
 depths_before bound d (n ∷ ns) = let more = depths_before bound (depths_past d n) ns in cond (ltb n.source_span.start bound) more d
 
 -- behind the first i nodes of those that stand from `at` on
-unfoldable pub depths_at : List ℕ → ℕ → ℕ → Depths
+unfoldable pub depths_at : List ℕ → ℕ → ℕ → Passed
 depths_at t at zero = no_depths
 depths_at t at (suc i) = depths_past (depths_at t at i) (record_at node_codec t (at + 49 * i))
 
@@ -52,16 +55,7 @@ gap_from t r (suc i) = (node_at t r i).source_span.end
 
 -- ---- the code's answers
 
-module _ (d : Depths) (n : SourceNode) (a : Bool) (p : a ≡ is_block_close n) (x : Bool) (q : x ≡ closes_nothing a d.blocks) where
-  pub unmatched_block : x ≡ true → true ≡ is_unmatched d n
-  unfolding is_unmatched
-  unmatched_block e = rw (← p, ← q, e) refl
-
-  pub unmatched_warichu : x ≡ false → (b : Bool) → b ≡ is_warichu_close n → (y : Bool) → y ≡ closes_nothing b d.warichu → y ≡ is_unmatched d n
-  unfolding is_unmatched
-  unmatched_warichu e b f y g = g ∙ rw (← p, ← q, e, f) refl
-
-module _ (d : Depths) (n : SourceNode) (x : Bool) (q : x ≡ is_unmatched d n) where
+module _ (d : Passed) (n : SourceNode) (x : Bool) (q : x ≡ is_unmatched d n) where
   pub unmatched_here : x ≡ true → d.count + 1 ≡ last_unmatched d n
   unfolding last_unmatched
   unmatched_here e = rw (← q, e) refl
@@ -72,13 +66,13 @@ module _ (d : Depths) (n : SourceNode) (x : Bool) (q : x ≡ is_unmatched d n) w
 
 -- ---- the walk of `depths_before`: what is left answers as the whole
 
-pub record Passing (t : List ℕ) (r : Run) (bound : ℕ) (d : Depths) : Type 0 where
+pub record Passing (t : List ℕ) (r : Run) (bound : ℕ) (d : Passed) : Type 0 where
   pub within : d.count ≤ r.count
-  pub blocks_small : d.blocks ≤ d.count
-  pub warichu_small : d.warichu ≤ d.count
+  pub blocks_small : d.depths.blocks ≤ d.count
+  pub warichu_small : d.depths.warichu ≤ d.count
   pub same : depths_before bound d (nodes_from t r d.count) ≡ depths_before bound no_depths (nodes_of t r)
 
-pub passing_none : (t : List ℕ) (r : Run) (bound : ℕ) → Passing t r bound (record { count = 0; blocks = 0; warichu = 0; unmatched = 0 })
+pub passing_none : (t : List ℕ) (r : Run) (bound : ℕ) → Passing t r bound (record { count = 0; depths = record { blocks = 0; warichu = 0 }; unmatched = 0 })
 unfolding no_depths
 passing_none t r bound =
     let e₁ : r.at + 49 * 0 ≡ r.at = omega arith in
@@ -90,7 +84,7 @@ nodes_cons : (t : List ℕ) (at i k : ℕ)
 unfolding node_codec
 nodes_cons t at i k = run_cons node_codec t k (at + 49 * i) (at + 49 * (i + 1)) (omega arith)
 
-module _ {t : List ℕ} {r : Run} {bound : ℕ} {d : Depths} (w : Passing t r bound d) where
+module _ {t : List ℕ} {r : Run} {bound : ℕ} {d : Passed} (w : Passing t r bound d) where
   pub passing_done : r.count ≤ d.count → d ≡ depths_before bound no_depths (nodes_of t r)
   unfolding depths_before
   passing_done h =
@@ -109,11 +103,11 @@ module _ {t : List ℕ} {r : Run} {bound : ℕ} {d : Depths} (w : Passing t r bo
     unfolding depths_before
     passing_stop b = sym (ap (depths_before bound d) cons_here ∙ rw (← q, le-ltb start bound b) refl) ∙ w.same
 
-    pub passing_more : start < bound → (d' : Depths) → d' ≡ depths_past d (node_at t r d.count) → Passing t r bound d'
+    pub passing_more : start < bound → (d' : Passed) → d' ≡ depths_past d (node_at t r d.count) → Passing t r bound d'
     unfolding depths_before depths_past
     passing_more b d' e =
-        let a = depth_small is_block_open is_block_close d.blocks (node_at t r d.count) in
-        let g = depth_small is_warichu_open is_warichu_close d.warichu (node_at t r d.count) in
+        let a = depth_small is_block_open is_block_close d.depths.blocks (node_at t r d.count) in
+        let g = depth_small is_warichu_open is_warichu_close d.depths.warichu (node_at t r d.count) in
         rw e (record {
           within = omega arith;
           blocks_small = omega (arith, a, w.blocks_small);
@@ -121,9 +115,9 @@ module _ {t : List ℕ} {r : Run} {bound : ℕ} {d : Depths} (w : Passing t r bo
           same = sym (ap (depths_before bound d) cons_here ∙ rw (← q, lt-ltb start bound b) refl) ∙ w.same;
         })
 
-pub past_count : (d : Depths) (n : SourceNode) (d' : Depths) → d' ≡ depths_past d n → d'.count ≡ d.count + 1
+pub past_count : (d : Passed) (n : SourceNode) (d' : Passed) → d' ≡ depths_past d n → d'.count ≡ d.count + 1
 unfolding depths_past
-past_count d n d' e = ap (λ (x : Depths). x.count) e
+past_count d n d' e = ap (λ (x : Passed). x.count) e
 
 -- ---- by the number of nodes
 
@@ -159,13 +153,13 @@ module _ (t : List ℕ) (at : ℕ) where
       (λ f. matched n k l (omega (arith, eqb-false k n f))))
 
 -- what the forward walk tells of the whole run: the first `d.count` nodes were passed, and the next starts at or behind `bound`
-pub record Front (t : List ℕ) (r : Run) (bound : ℕ) (d : Depths) : Type 0 where
+pub record Front (t : List ℕ) (r : Run) (bound : ℕ) (d : Passed) : Type 0 where
   pub within : d.count ≤ r.count
   pub is : d ≡ depths_at t r.at d.count
   pub stops : d.count < r.count → bound ≤ (node_at t r d.count).source_span.start
 
 module _ (t : List ℕ) (r : Run) (bound limit : ℕ) (h : limit ≤ r.count) (g : limit < r.count → bound ≤ (node_at t r limit).source_span.start) where
-  abbrev Reached : Depths → Type 0
+  abbrev Reached : Passed → Type 0
   Reached d = Front t r bound d × (d.count ≤ limit)
 
   front_at : (i : ℕ) → i ≤ limit → (i < r.count → bound ≤ (node_at t r i).source_span.start) → Reached (depths_at t r.at i)
@@ -184,7 +178,7 @@ module _ (t : List ℕ) (r : Run) (bound limit : ℕ) (h : limit ≤ r.count) (g
       (λ f. rw (f, ← depths_next t r.at i) (front_from k (i + 1) (omega arith)))
       (λ f. rw f (front_at i (omega arith) (λ b. ltb-false start bound f))))
 
-  pub front_of : (d : Depths) → d ≡ depths_before bound no_depths (records_at node_codec t r.at limit) → Front t r bound d × (d.count ≤ limit)
+  pub front_of : (d : Passed) → d ≡ depths_before bound no_depths (records_at node_codec t r.at limit) → Front t r bound d × (d.count ≤ limit)
   unfolding depths_at
   front_of d q =
       let e : r.at + 49 * 0 ≡ r.at = omega arith in
@@ -193,14 +187,6 @@ module _ (t : List ℕ) (r : Run) (bound limit : ℕ) (h : limit ≤ r.count) (g
       rw (← s) (front_from limit 0 (omega arith))
 
 -- ---- counted backwards
-
-no_block_both : (n : SourceNode) → is_block_open n ≡ true → is_block_close n ≡ false
-no_block_both n e = let q = eqb-true n.class 2 e in rw q refl
-
-no_warichu_both : (n : SourceNode) → is_warichu_open n ≡ true → is_warichu_close n ≡ false
-no_warichu_both n e =
-    let q = eqb-true n.body.tag 4 (both (ltb n.class 2 && eqb n.body.kind 13) (eqb n.body.tag 4) e).1 in
-    rw (q, and-false) refl
 
 back_over : (opens closes : SourceNode → Bool) (d : ℕ) (n : SourceNode) → (opens n ≡ true → closes n ≡ false) → closes_nothing (closes n) d ≡ false
     → depth_behind closes opens (depth_behind opens closes d n) n ≡ d
@@ -216,21 +202,21 @@ module _ (t : List ℕ) (at n : ℕ) (j : ℕ) (h : (depths_at t at n).unmatched
   abbrev node : SourceNode
   node = record_at node_codec t (at + 49 * j)
 
-  closes_something : (closes_nothing (is_block_close node) (depths_at t at j).blocks ≡ false) × (closes_nothing (is_warichu_close node) (depths_at t at j).warichu ≡ false)
-  unfolding is_unmatched
+  closes_something : (closes_nothing (is_block_close node) (depths_at t at j).depths.blocks ≡ false) × (closes_nothing (is_warichu_close node) (depths_at t at j).depths.warichu ≡ false)
+  unfolding closes_unopened
   closes_something = neither _ _ (matched t at n j h g)
 
-  pub blocks_back : (b b' : ℕ) → b ≡ (depths_at t at (j + 1)).blocks → b' ≡ depth_behind is_block_close is_block_open b node → b' ≡ (depths_at t at j).blocks
+  pub blocks_back : (b b' : ℕ) → b ≡ (depths_at t at (j + 1)).depths.blocks → b' ≡ depth_behind is_block_close is_block_open b node → b' ≡ (depths_at t at j).depths.blocks
   unfolding depths_past
   blocks_back b b' e f =
-      f ∙ ap (λ (x : ℕ). depth_behind is_block_close is_block_open x node) (e ∙ ap (λ (x : Depths). x.blocks) (depths_next t at j))
-      ∙ back_over is_block_open is_block_close (depths_at t at j).blocks node (no_block_both node) closes_something.0
+      f ∙ ap (λ (x : ℕ). depth_behind is_block_close is_block_open x node) (e ∙ ap (λ (x : Passed). x.depths.blocks) (depths_next t at j))
+      ∙ back_over is_block_open is_block_close (depths_at t at j).depths.blocks node (no_block_both node) closes_something.0
 
-  pub warichu_back : (b b' : ℕ) → b ≡ (depths_at t at (j + 1)).warichu → b' ≡ depth_behind is_warichu_close is_warichu_open b node → b' ≡ (depths_at t at j).warichu
+  pub warichu_back : (b b' : ℕ) → b ≡ (depths_at t at (j + 1)).depths.warichu → b' ≡ depth_behind is_warichu_close is_warichu_open b node → b' ≡ (depths_at t at j).depths.warichu
   unfolding depths_past
   warichu_back b b' e f =
-      f ∙ ap (λ (x : ℕ). depth_behind is_warichu_close is_warichu_open x node) (e ∙ ap (λ (x : Depths). x.warichu) (depths_next t at j))
-      ∙ back_over is_warichu_open is_warichu_close (depths_at t at j).warichu node (no_warichu_both node) closes_something.1
+      f ∙ ap (λ (x : ℕ). depth_behind is_warichu_close is_warichu_open x node) (e ∙ ap (λ (x : Passed). x.depths.warichu) (depths_next t at j))
+      ∙ back_over is_warichu_open is_warichu_close (depths_at t at j).depths.warichu node (no_warichu_both node) closes_something.1
 
 -- ---- the gap behind i nodes
 
@@ -252,7 +238,7 @@ pub record GapAt (size : ℕ) (t : List ℕ) (r : Run) (i : ℕ) : Type 0 where
   pub low : from ≤ gap_from t r i
   pub high : gap_from t r i ≤ from + 1
   pub positive : 1 ≤ gap_from t r i
-  pub walked : Walked size t r i from (depths_at t r.at i).blocks (depths_at t r.at i).warichu
+  pub walked : Walked size t r i from (depths_at t r.at i).depths.blocks (depths_at t r.at i).depths.warichu
 
 module _ (size : ℕ) (t : List ℕ) (r : Run) (w : NodesIn size (nodes_of t r)) where
   gap_more : (i : ℕ) → i < r.count → GapAt size t r i → GapAt size t r (i + 1)
@@ -267,8 +253,8 @@ module _ (size : ℕ) (t : List ℕ) (r : Run) (w : NodesIn size (nodes_of t r))
         high = omega (arith, gap_next t r i);
         positive = omega (arith, gap_next t r i, s);
         walked =
-            walked_more g.walked h start end refl refl (depths_at t r.at (i + 1)).blocks (depths_at t r.at (i + 1)).warichu
-            (ap (λ (x : Depths). x.blocks) (depths_next t r.at i)) (ap (λ (x : Depths). x.warichu) (depths_next t r.at i));
+            walked_more g.walked h start end refl refl (depths_at t r.at (i + 1)).depths.blocks (depths_at t r.at (i + 1)).depths.warichu
+            (ap (λ (x : Passed). x.depths.blocks) (depths_next t r.at i)) (ap (λ (x : Passed). x.depths.warichu) (depths_next t r.at i));
       }
 
   pub gap_at : (i : ℕ) → i ≤ r.count → GapAt size t r i

@@ -2,7 +2,6 @@
 use Rattle.std.specs.Prelude.{ℕ, ◌+◌, ◌-◌, ◌≤◌, ◌<◌, max, min, ◌≡◌, refl, Bool, false, List, length, ltb}
 use Rattle.std.proofs.Common.{arith, sym, ap, ◌∙◌, ltb-true, ltb-false}
 use Rattle.std.proofs.Math.Logic.{inl}
-use Rattle.model.specs.Tape.{records_at, node_codec}
 use Rattle.model.specs.Region.{is_block_open, is_block_close, is_warichu_open, is_warichu_close, depth_behind, nodes_allow_cut}
 use Rattle.bounds.specs.Search.{InOrder}
 use Rattle.places.specs.declared.Run.{Run}
@@ -18,7 +17,7 @@ use Rattle.balanced_region.specs.Unmatched.{depths_at, depths_before, no_depths,
 use Rattle.balanced_region.specs.Unmatched.{GapAt, gap_at, gap_next, gap_rises}
 use Rattle.balanced_region.specs.StartSearch.{gap_last, last_cut, Down, gap_down, cut_found, cut_none, cut_over, ends_behind_newline, start_is, start_found, start_more}
 use Rattle.balanced_region.specs.StartSearch.{latest_gap, latest_node, latest_cut, cut_latest}
-use Rattle.balanced_region.specs.declared.Depths.{Depths}
+use Rattle.balanced_region.specs.declared.Passed.{Passed}
 
 -- ---- `region_end`: no offset behind o and before `from` is a cut
 
@@ -62,25 +61,25 @@ gap_of t r n = gap_at n.size t r (in_order_nodes n)
 
 -- ---- `last_cut`: i nodes lie before the gap, and no offset behind hi, up to `bound`, is a cut
 
-pub record DownWalk (text t : List ℕ) (r p : Run) (d : Depths) (bound i blocks warichu hi : ℕ) : Type 0 where
+pub record DownWalk (text t : List ℕ) (r p : Run) (d : Passed) (bound i blocks warichu hi : ℕ) : Type 0 where
   pub from : d.unmatched ≤ i
   pub upto : i ≤ d.count
   pub blocks_small : blocks ≤ i
   pub warichu_small : warichu ≤ i
-  pub blocks_at : blocks ≡ (depths_at t r.at i).blocks
-  pub warichu_at : warichu ≡ (depths_at t r.at i).warichu
+  pub blocks_at : blocks ≡ (depths_at t r.at i).depths.blocks
+  pub warichu_at : warichu ≡ (depths_at t r.at i).depths.warichu
   pub before : i < r.count → hi ≤ (node_at t r i).source_span.start
   pub below : hi ≤ bound
   pub none : Refused (cut_allowed text (nodes_of t r) (pairs_of t p)) (hi + 1) (bound + 1)
 
-module _ {text t : List ℕ} {r p : Run} {d : Depths} {bound : ℕ} (n : InOrder (nodes_of t r)) (f : Front t r bound d) where
-  pub down_none : DownWalk text t r p d bound d.count d.blocks d.warichu bound
+module _ {text t : List ℕ} {r p : Run} {d : Passed} {bound : ℕ} (n : InOrder (nodes_of t r)) (f : Front t r bound d) where
+  pub down_none : DownWalk text t r p d bound d.count d.depths.blocks d.depths.warichu bound
   down_none =
-      let e : d.blocks ≡ (depths_at t r.at d.count).blocks = ap (λ (x : Depths). x.blocks) f.is in
-      let g : d.warichu ≡ (depths_at t r.at d.count).warichu = ap (λ (x : Depths). x.warichu) f.is in
+      let e : d.depths.blocks ≡ (depths_at t r.at d.count).depths.blocks = ap (λ (x : Passed). x.depths.blocks) f.is in
+      let g : d.depths.warichu ≡ (depths_at t r.at d.count).depths.warichu = ap (λ (x : Passed). x.depths.warichu) f.is in
       let w = (gap_of t r n d.count f.within).walked in
       record {
-        from = omega (arith, ap (λ (x : Depths). x.unmatched) f.is, unmatched_small t r.at d.count);
+        from = omega (arith, ap (λ (x : Passed). x.unmatched) f.is, unmatched_small t r.at d.count);
         upto = omega arith;
         blocks_small = omega (arith, e, w.blocks_small);
         warichu_small = omega (arith, g, w.warichu_small);
@@ -130,9 +129,9 @@ module _ {text t : List ℕ} {r p : Run} {d : Depths} {bound : ℕ} (n : InOrder
       down_more h j s u start a hi' m blocks' warichu' x y =
           let v : i ≡ j + 1 = omega arith in
           let g = gap_of t r n j (omega (arith, w.upto, f.within)) in
-          let b : (depths_at t r.at d.count).unmatched ≤ j = omega (arith, ap (λ (z : Depths). z.unmatched) f.is) in
-          let e₁ = blocks_back t r.at d.count j b (omega (arith, w.upto)) blocks blocks' (w.blocks_at ∙ ap (λ (z : ℕ). (depths_at t r.at z).blocks) v) x in
-          let e₂ = warichu_back t r.at d.count j b (omega (arith, w.upto)) warichu warichu' (w.warichu_at ∙ ap (λ (z : ℕ). (depths_at t r.at z).warichu) v) y in
+          let b : (depths_at t r.at d.count).unmatched ≤ j = omega (arith, ap (λ (z : Passed). z.unmatched) f.is) in
+          let e₁ = blocks_back t r.at d.count j b (omega (arith, w.upto)) blocks blocks' (w.blocks_at ∙ ap (λ (z : ℕ). (depths_at t r.at z).depths.blocks) v) x in
+          let e₂ = warichu_back t r.at d.count j b (omega (arith, w.upto)) warichu warichu' (w.warichu_at ∙ ap (λ (z : ℕ). (depths_at t r.at z).depths.warichu) v) y in
           let end : lo ≡ (node_at t r j).source_span.end = q ∙ ap (gap_from t r) v ∙ gap_next t r j in
           let inner = walked_refused g.walked (omega (arith, w.upto, f.within)) start lo a end in
           record {
@@ -194,12 +193,12 @@ module _ {text t : List ℕ} {r p : Run} {bound i from blocks warichu last : ℕ
 
 -- ---- `region_start`: behind the last unmatched close, then before it
 
-module _ (t : List ℕ) (r : Run) (o : ℕ) (d : Depths) (q : d ≡ depths_before o no_depths (nodes_of t r)) where
+module _ (t : List ℕ) (r : Run) (o : ℕ) (d : Passed) (q : d ≡ depths_before o no_depths (nodes_of t r)) where
   pub start_front : Front t r o d
   start_front = (front_of t r o r.count (omega arith) (λ b. absurd (omega arith)) d q).0
 
   pub start_falls : d.unmatched ≤ r.count
-  start_falls = let f = start_front in omega (arith, ap (λ (x : Depths). x.unmatched) f.is, unmatched_small t r.at d.count, f.within)
+  start_falls = let f = start_front in omega (arith, ap (λ (x : Passed). x.unmatched) f.is, unmatched_small t r.at d.count, f.within)
 
   module _ (text : List ℕ) (p : Run) (inside : o ≤ length text) (x : Bool) (ends : x ≡ ends_behind_newline text o) (no : x ≡ false) (n : InOrder (nodes_of t r))
       (c : ℕ) (e : c ≡ last_cut text (nodes_of t r) (pairs_of t p) (gap_from t r d.unmatched) o) where

@@ -1,9 +1,9 @@
 -- A Bloom filter: which bits of which word a hash sets, that a hash which was inserted is found, and that it stays.
-use Rattle.std.specs.Prelude.{◌≡◌, ℕ, ◌+◌, ◌-◌, ◌*◌, ◌/◌, ◌%◌, ◌^◌, ◌≤◌, ◌<◌, min, max, Bool, true, false, cond, ◌&&◌, List, get_or, set, take, ltb, eqb}
+use Rattle.std.specs.Prelude.{◌≡◌, ℕ, ◌+◌, ◌*◌, ◌/◌, ◌%◌, ◌^◌, ◌<◌, min, max, Bool, true, false, cond, ◌&&◌, List, get_or, set, ltb, eqb}
 use Rattle.std.proofs.Math.Path.{refl, ap}
 use Rattle.std.proofs.Common.{sym, ap₂, ◌∙◌, subst, arith, mod-eq_of_lt, div-lt_iff_lt-mul, mul-lt-mul_of_pos_right, mul-le-mul, mul_comm}
 use Rattle.std.proofs.Math.ListN.{length, length-set}
-use Rattle.std.proofs.Math.Seq.{get_or-set_same, get_or-set_other, take-set-le}
+use Rattle.std.proofs.Math.Seq.{get_or-set_same, get_or-set_other}
 use Rattle.std.proofs.Math.Arith.{bin_ind}
 use Rattle.std.specs.Int.Bits.{bit_and, bit_or, and_step, and_zero_r, or_step}
 use Rattle.std.proofs.lemmas.Nat.{or_shr}
@@ -11,30 +11,30 @@ use Rattle.std.proofs.Math.Pow.{pow-lt}
 use borrow.Author.Tests.{lt-ltb, le-ltb, ltb-true, ltb-false, eq-eqb, eqb-true, eqb-false}
 use Rattle.laws.specs.Lists.{both}
 
--- where 32 bits of a hash have their word: among those from `base` on, in the share that they have of all 32 bits
-unfoldable pub hash_place : ℕ → ℕ → ℕ → ℕ
-hash_place base len x = base + x * min (len - base) 4294967296 / 4294967296
+-- where 32 bits of a hash have their word: in the share that they have of all 32 bits
+unfoldable pub hash_place : ℕ → ℕ → ℕ
+hash_place len x = x * min len 4294967296 / 4294967296
 
 -- the bits of a hash, at most four, by its low end
 unfoldable pub hash_bits : ℕ → ℕ
 hash_bits h = bit_or (bit_or (2 ^ (h % 32)) (2 ^ (h / 32 % 32))) (bit_or (2 ^ (h / 1024 % 32)) (2 ^ (h / 32768 % 32)))
 
 -- are these bits set in the word of x, and the words with them set
-unfoldable pub has_bits : List ℕ → ℕ → ℕ → ℕ → Bool
-has_bits words base x m = eqb (bit_and (get_or words (hash_place base (length words) x) 0) m) m
+unfoldable pub has_bits : List ℕ → ℕ → ℕ → Bool
+has_bits words x m = eqb (bit_and (get_or words (hash_place (length words) x) 0) m) m
 
-unfoldable pub with_bits : List ℕ → ℕ → ℕ → ℕ → List ℕ
-with_bits words base x m = set words (hash_place base (length words) x) (bit_or (get_or words (hash_place base (length words) x) 0) m)
+unfoldable pub with_bits : List ℕ → ℕ → ℕ → List ℕ
+with_bits words x m = set words (hash_place (length words) x) (bit_or (get_or words (hash_place (length words) x) 0) m)
 
--- The two words of a hash are those of its bits 32 to 63 and 16 to 47. Are its bits set in both? Where there are no words behind `base`, yes.
-unfoldable pub may_contain : List ℕ → ℕ → ℕ → Bool
-may_contain words base h =
-    cond (ltb base (length words)) (has_bits words base (h / 4294967296 % 4294967296) (hash_bits h) && has_bits words base (h / 65536 % 4294967296) (hash_bits h)) true
+-- The two words of a hash are those of its bits 32 to 63 and 16 to 47. Are its bits set in both? Where there are no words, yes.
+unfoldable pub may_contain : List ℕ → ℕ → Bool
+may_contain words h =
+    cond (ltb 0 (length words)) (has_bits words (h / 4294967296 % 4294967296) (hash_bits h) && has_bits words (h / 65536 % 4294967296) (hash_bits h)) true
 
 -- its bits set in both
-unfoldable pub inserted : List ℕ → ℕ → ℕ → List ℕ
-inserted words base h =
-    cond (ltb base (length words)) (with_bits (with_bits words base (h / 4294967296 % 4294967296) (hash_bits h)) base (h / 65536 % 4294967296) (hash_bits h)) words
+unfoldable pub inserted : List ℕ → ℕ → List ℕ
+inserted words h =
+    cond (ltb 0 (length words)) (with_bits (with_bits words (h / 4294967296 % 4294967296) (hash_bits h)) (h / 65536 % 4294967296) (hash_bits h)) words
 
 -- ---- bits
 
@@ -90,13 +90,13 @@ share_below : (n x : ℕ) → 0 < n → x < 4294967296 → x * n / 4294967296 < 
 share_below n x p h =
     (div-lt_iff_lt-mul {k = 4294967296} {x = x * n} {y = n} (omega arith)).1 (subst (λ (k : ℕ). x * n < k) (mul_comm 4294967296 n) (mul-lt-mul_of_pos_right h p))
 
-pub place_inside : (base len x : ℕ) → base < len → x < 4294967296 → (base ≤ hash_place base len x) × (hash_place base len x < len)
+pub place_inside : (len x : ℕ) → 0 < len → x < 4294967296 → hash_place len x < len
 unfolding hash_place
-place_inside base len x b h = let s = share_below (min (len - base) 4294967296) x (omega (arith, b)) h in (omega arith, omega (arith, s, b))
+place_inside len x b h = let s = share_below (min len 4294967296) x (omega (arith, b)) h in omega (arith, s, b)
 
-pub place_at : (base len x : ℕ) {y : ℕ} → y ≡ min (len - base) 4294967296 → base + x * y / 4294967296 ≡ hash_place base len x
+pub place_at : (len x : ℕ) {y : ℕ} → y ≡ min len 4294967296 → x * y / 4294967296 ≡ hash_place len x
 unfolding hash_place
-place_at base len x e = rw e refl
+place_at len x e = rw e refl
 
 -- ---- one word
 
@@ -108,112 +108,108 @@ by_place {A} i j same other = go (eqb i j) refl
     go true e = same (eqb-true i j e)
     go false e = other (eqb-false i j e)
 
-module _ (words : List ℕ) (base x m : ℕ) where
+module _ (words : List ℕ) (x m : ℕ) where
   abbrev at : ℕ
-  at = hash_place base (length words) x
+  at = hash_place (length words) x
 
   -- as the code has them
-  pub with_at : {i : ℕ} → i ≡ at → set words i (bit_or (get_or words i 0) m) ≡ with_bits words base x m
+  pub with_at : {i : ℕ} → i ≡ at → set words i (bit_or (get_or words i 0) m) ≡ with_bits words x m
   unfolding with_bits
   with_at e = rw e refl
 
-  pub has_at : {i : ℕ} → i ≡ at → eqb (bit_and (get_or words i 0) m) m ≡ has_bits words base x m
+  pub has_at : {i : ℕ} → i ≡ at → eqb (bit_and (get_or words i 0) m) m ≡ has_bits words x m
   unfolding has_bits
   has_at e = rw e refl
 
-  pub with_inside : {a : List ℕ} → a ≡ with_bits words base x m → base < length words → base < length a
+  pub with_inside : {a : List ℕ} → a ≡ with_bits words x m → 0 < length words → 0 < length a
   unfolding with_bits
   with_inside e s = let n = ap length e ∙ length-set words at (bit_or (get_or words at 0) m) in omega (arith, n, s)
 
-  with_length : length (with_bits words base x m) ≡ length words
+  with_length : length (with_bits words x m) ≡ length words
   unfolding with_bits
   with_length = length-set words at (bit_or (get_or words at 0) m)
 
-  module _ (some : base < length words) (small : x < 4294967296) where
-    with_front : take base (with_bits words base x m) ≡ take base words
-    unfolding with_bits
-    with_front = take-set-le base words at (bit_or (get_or words at 0) m) (place_inside base (length words) x some small).0
-
+  module _ (some : 0 < length words) (small : x < 4294967296) where
     -- in the same word, and in each other
-    same_word : get_or (with_bits words base x m) at 0 ≡ bit_or (get_or words at 0) m
+    same_word : get_or (with_bits words x m) at 0 ≡ bit_or (get_or words at 0) m
     unfolding with_bits
-    same_word = get_or-set_same words at (bit_or (get_or words at 0) m) 0 (place_inside base (length words) x some small).1
+    same_word = get_or-set_same words at (bit_or (get_or words at 0) m) 0 (place_inside (length words) x some small)
 
-    other_word : (j : ℕ) → (j ≡ at → ⊥) → get_or (with_bits words base x m) j 0 ≡ get_or words j 0
+    other_word : (j : ℕ) → (j ≡ at → ⊥) → get_or (with_bits words x m) j 0 ≡ get_or words j 0
     unfolding with_bits
     other_word j d = get_or-set_other words at j (bit_or (get_or words at 0) m) 0 d
 
     -- bits that are set stay
-    word_kept : (j k : ℕ) → bit_and (get_or words j 0) k ≡ k → bit_and (get_or (with_bits words base x m) j 0) k ≡ k
+    word_kept : (j k : ℕ) → bit_and (get_or words j 0) k ≡ k → bit_and (get_or (with_bits words x m) j 0) k ≡ k
     word_kept j k e =
         by_place j at
         (λ q.
-        ap (λ (i : ℕ). bit_and (get_or (with_bits words base x m) i 0) k) q ∙ ap (λ (v : ℕ). bit_and v k) same_word
+        ap (λ (i : ℕ). bit_and (get_or (with_bits words x m) i 0) k) q ∙ ap (λ (v : ℕ). bit_and v k) same_word
         ∙ bits_kept k (get_or words at 0) m (ap (λ (i : ℕ). bit_and (get_or words i 0) k) (sym q) ∙ e))
         (λ d. ap (λ (v : ℕ). bit_and v k) (other_word j d) ∙ e)
 
-    with_own : has_bits (with_bits words base x m) base x m ≡ true
+    with_own : has_bits (with_bits words x m) x m ≡ true
     unfolding has_bits
     with_own =
-        eq-eqb (bit_and (get_or (with_bits words base x m) (hash_place base (length (with_bits words base x m)) x) 0) m) m
-        (ap (λ (n : ℕ). bit_and (get_or (with_bits words base x m) (hash_place base n x) 0) m) with_length
+        eq-eqb (bit_and (get_or (with_bits words x m) (hash_place (length (with_bits words x m)) x) 0) m) m
+        (ap (λ (n : ℕ). bit_and (get_or (with_bits words x m) (hash_place n x) 0) m) with_length
         ∙ ap (λ (v : ℕ). bit_and v m) same_word ∙ bits_own m (get_or words at 0))
 
-    with_kept : (y k : ℕ) → has_bits words base y k ≡ true → has_bits (with_bits words base x m) base y k ≡ true
+    with_kept : (y k : ℕ) → has_bits words y k ≡ true → has_bits (with_bits words x m) y k ≡ true
     unfolding has_bits
     with_kept y k e =
-        eq-eqb (bit_and (get_or (with_bits words base x m) (hash_place base (length (with_bits words base x m)) y) 0) k) k
-        (ap (λ (n : ℕ). bit_and (get_or (with_bits words base x m) (hash_place base n y) 0) k) with_length
-        ∙ word_kept (hash_place base (length words) y) k (eqb-true (bit_and (get_or words (hash_place base (length words) y) 0) k) k e))
+        eq-eqb (bit_and (get_or (with_bits words x m) (hash_place (length (with_bits words x m)) y) 0) k) k
+        (ap (λ (n : ℕ). bit_and (get_or (with_bits words x m) (hash_place n y) 0) k) with_length
+        ∙ word_kept (hash_place (length words) y) k (eqb-true (bit_and (get_or words (hash_place (length words) y) 0) k) k e))
 
 -- ---- both words of a hash
 
 pub half_small : (x : ℕ) → x % 4294967296 < 4294967296
 half_small x = omega arith
 
-module _ (words : List ℕ) (base h : ℕ) where
-  pub inserted_none : length words ≤ base → inserted words base h ≡ words
+module _ (words : List ℕ) (h : ℕ) where
+  pub inserted_none : length words ≡ 0 → inserted words h ≡ words
   unfolding inserted
-  inserted_none n = rw (le-ltb base (length words) n) refl
+  inserted_none n = rw (le-ltb 0 (length words) (omega (arith, n))) refl
 
-  pub found_none : length words ≤ base → may_contain words base h ≡ true
+  pub found_none : length words ≡ 0 → may_contain words h ≡ true
   unfolding may_contain
-  found_none n = rw (le-ltb base (length words) n) refl
+  found_none n = rw (le-ltb 0 (length words) (omega (arith, n))) refl
 
-  module _ (some : base < length words) where
-    inserted_some : inserted words base h ≡ with_bits (with_bits words base (h / 4294967296 % 4294967296) (hash_bits h)) base (h / 65536 % 4294967296) (hash_bits h)
+  module _ (some : 0 < length words) where
+    inserted_some : inserted words h ≡ with_bits (with_bits words (h / 4294967296 % 4294967296) (hash_bits h)) (h / 65536 % 4294967296) (hash_bits h)
     unfolding inserted
-    inserted_some = rw (lt-ltb base (length words) some) refl
+    inserted_some = rw (lt-ltb 0 (length words) some) refl
 
     -- as the code has them
-    pub inserted_both : {m : ℕ} {a b : List ℕ} → m ≡ hash_bits h → a ≡ with_bits words base (h / 4294967296 % 4294967296) m
-        → b ≡ with_bits a base (h / 65536 % 4294967296) m → b ≡ inserted words base h
+    pub inserted_both : {m : ℕ} {a b : List ℕ} → m ≡ hash_bits h → a ≡ with_bits words (h / 4294967296 % 4294967296) m
+        → b ≡ with_bits a (h / 65536 % 4294967296) m → b ≡ inserted words h
     inserted_both e f g = rw (g, f, e) (sym inserted_some)
 
-    found_some : may_contain words base h ≡ (has_bits words base (h / 4294967296 % 4294967296) (hash_bits h) && has_bits words base (h / 65536 % 4294967296) (hash_bits h))
+    found_some : may_contain words h ≡ (has_bits words (h / 4294967296 % 4294967296) (hash_bits h) && has_bits words (h / 65536 % 4294967296) (hash_bits h))
     unfolding may_contain
-    found_some = rw (lt-ltb base (length words) some) refl
+    found_some = rw (lt-ltb 0 (length words) some) refl
 
-    pub found_not : {m : ℕ} {x : Bool} → m ≡ hash_bits h → x ≡ has_bits words base (h / 4294967296 % 4294967296) m → x ≡ false → false ≡ may_contain words base h
+    pub found_not : {m : ℕ} {x : Bool} → m ≡ hash_bits h → x ≡ has_bits words (h / 4294967296 % 4294967296) m → x ≡ false → false ≡ may_contain words h
     found_not e f g =
-        sym (found_some ∙ ap (λ (b : Bool). b && has_bits words base (h / 65536 % 4294967296) (hash_bits h))
-        (ap (has_bits words base (h / 4294967296 % 4294967296)) (sym e) ∙ sym f ∙ g))
+        sym (found_some ∙ ap (λ (b : Bool). b && has_bits words (h / 65536 % 4294967296) (hash_bits h))
+        (ap (has_bits words (h / 4294967296 % 4294967296)) (sym e) ∙ sym f ∙ g))
 
-    pub found_both : {m : ℕ} {x y : Bool} → m ≡ hash_bits h → x ≡ has_bits words base (h / 4294967296 % 4294967296) m → x ≡ true
-        → y ≡ has_bits words base (h / 65536 % 4294967296) m → y ≡ may_contain words base h
+    pub found_both : {m : ℕ} {x y : Bool} → m ≡ hash_bits h → x ≡ has_bits words (h / 4294967296 % 4294967296) m → x ≡ true
+        → y ≡ has_bits words (h / 65536 % 4294967296) m → y ≡ may_contain words h
     found_both e f g k =
-        k ∙ ap (has_bits words base (h / 65536 % 4294967296)) e
-        ∙ sym (found_some ∙ ap (λ (b : Bool). b && has_bits words base (h / 65536 % 4294967296) (hash_bits h))
-        (ap (has_bits words base (h / 4294967296 % 4294967296)) (sym e) ∙ sym f ∙ g))
+        k ∙ ap (has_bits words (h / 65536 % 4294967296)) e
+        ∙ sym (found_some ∙ ap (λ (b : Bool). b && has_bits words (h / 65536 % 4294967296) (hash_bits h))
+        (ap (has_bits words (h / 4294967296 % 4294967296)) (sym e) ∙ sym f ∙ g))
 
-by_words : {A : Type 0} (words : List ℕ) (base : ℕ) → (length words ≤ base → A) → (base < length words → A) → A
-by_words {A} words base none some = go (ltb base (length words)) refl
+by_words : {A : Type 0} (words : List ℕ) → (length words ≡ 0 → A) → (0 < length words → A) → A
+by_words {A} words none some = go (ltb 0 (length words)) refl
   where
-    go : (b : Bool) → ltb base (length words) ≡ b → A
-    go true e = some (ltb-true base (length words) e)
-    go false e = none (ltb-false base (length words) e)
+    go : (b : Bool) → ltb 0 (length words) ≡ b → A
+    go true e = some (ltb-true 0 (length words) e)
+    go false e = none (let n = ltb-false 0 (length words) e in omega (arith, n))
 
-module _ (words : List ℕ) (base h : ℕ) where
+module _ (words : List ℕ) (h : ℕ) where
   abbrev high : ℕ
   high = h / 4294967296 % 4294967296
 
@@ -221,60 +217,52 @@ module _ (words : List ℕ) (base h : ℕ) where
   low = h / 65536 % 4294967296
 
   abbrev once : List ℕ
-  once = with_bits words base high (hash_bits h)
+  once = with_bits words high (hash_bits h)
 
   once_length : length once ≡ length words
-  once_length = with_length words base high (hash_bits h)
+  once_length = with_length words high (hash_bits h)
 
-  once_some : base < length words → base < length once
-  once_some = with_inside words base high (hash_bits h) refl
+  once_some : 0 < length words → 0 < length once
+  once_some = with_inside words high (hash_bits h) refl
 
-  -- ---- the length and the words before `base` stay
+  -- ---- the length stays
 
-  pub inserted_length : length (inserted words base h) ≡ length words
+  pub inserted_length : length (inserted words h) ≡ length words
   inserted_length =
-      by_words words base
-      (λ n. ap length (inserted_none words base h n))
-      (λ s. ap length (inserted_some words base h s) ∙ with_length once base low (hash_bits h) ∙ once_length)
-
-  pub inserted_front : take base (inserted words base h) ≡ take base words
-  inserted_front =
-      by_words words base
-      (λ n. ap (take base) (inserted_none words base h n))
-      (λ s.
-      ap (take base) (inserted_some words base h s) ∙ with_front once base low (hash_bits h) (once_some s) (half_small (h / 65536))
-      ∙ with_front words base high (hash_bits h) s (half_small (h / 4294967296)))
+      by_words words
+      (λ n. ap length (inserted_none words h n))
+      (λ s. ap length (inserted_some words h s) ∙ with_length once low (hash_bits h) ∙ once_length)
 
   -- ---- and is found
 
-  none_after : (k : ℕ) → length words ≤ base → may_contain (inserted words base h) base k ≡ true
-  none_after k n = let l = inserted_length in found_none (inserted words base h) base k (omega (arith, l, n))
+  none_after : (k : ℕ) → length words ≡ 0 → may_contain (inserted words h) k ≡ true
+  none_after k n = let l = inserted_length in found_none (inserted words h) k (omega (arith, l, n))
 
-  module _ (some : base < length words) where
-    found_after : (k : ℕ) → has_bits (inserted words base h) base (k / 4294967296 % 4294967296) (hash_bits k) ≡ true
-        → has_bits (inserted words base h) base (k / 65536 % 4294967296) (hash_bits k) ≡ true → may_contain (inserted words base h) base k ≡ true
-    found_after k e f = let l = inserted_length in found_some (inserted words base h) base k (omega (arith, l, some)) ∙ ap₂ (λ (a b : Bool). a && b) e f
+  module _ (some : 0 < length words) where
+    found_after : (k : ℕ) → has_bits (inserted words h) (k / 4294967296 % 4294967296) (hash_bits k) ≡ true
+        → has_bits (inserted words h) (k / 65536 % 4294967296) (hash_bits k) ≡ true → may_contain (inserted words h) k ≡ true
+    found_after k e f = let l = inserted_length in found_some (inserted words h) k (omega (arith, l, some)) ∙ ap₂ (λ (a b : Bool). a && b) e f
 
-    bits_after : (y k : ℕ) → has_bits once base y k ≡ true → has_bits (inserted words base h) base y k ≡ true
+    bits_after : (y k : ℕ) → has_bits once y k ≡ true → has_bits (inserted words h) y k ≡ true
     bits_after y k e =
-        ap (λ (l : List ℕ). has_bits l base y k) (inserted_some words base h some)
-        ∙ with_kept once base low (hash_bits h) (once_some some) (half_small (h / 65536)) y k e
+        ap (λ (l : List ℕ). has_bits l y k) (inserted_some words h some)
+        ∙ with_kept once low (hash_bits h) (once_some some) (half_small (h / 65536)) y k e
 
-    own_after : may_contain (inserted words base h) base h ≡ true
+    own_after : may_contain (inserted words h) h ≡ true
     own_after =
-        found_after h (bits_after high (hash_bits h) (with_own words base high (hash_bits h) some (half_small (h / 4294967296))))
-        (ap (λ (l : List ℕ). has_bits l base low (hash_bits h)) (inserted_some words base h some)
-        ∙ with_own once base low (hash_bits h) (once_some some) (half_small (h / 65536)))
+        found_after h (bits_after high (hash_bits h) (with_own words high (hash_bits h) some (half_small (h / 4294967296))))
+        (ap (λ (l : List ℕ). has_bits l low (hash_bits h)) (inserted_some words h some)
+        ∙ with_own once low (hash_bits h) (once_some some) (half_small (h / 65536)))
 
-    kept_after : (k : ℕ) → may_contain words base k ≡ true → may_contain (inserted words base h) base k ≡ true
+    kept_after : (k : ℕ) → may_contain words k ≡ true → may_contain (inserted words h) k ≡ true
     kept_after k e =
-        let b = both (has_bits words base (k / 4294967296 % 4294967296) (hash_bits k)) (has_bits words base (k / 65536 % 4294967296) (hash_bits k)) (sym (found_some words base k some) ∙ e) in
-        let again = with_kept words base high (hash_bits h) some (half_small (h / 4294967296)) in
+        let b = both (has_bits words (k / 4294967296 % 4294967296) (hash_bits k)) (has_bits words (k / 65536 % 4294967296) (hash_bits k)) (sym (found_some words k some) ∙ e) in
+        let again = with_kept words high (hash_bits h) some (half_small (h / 4294967296)) in
         found_after k (bits_after (k / 4294967296 % 4294967296) (hash_bits k) (again (k / 4294967296 % 4294967296) (hash_bits k) b.0))
         (bits_after (k / 65536 % 4294967296) (hash_bits k) (again (k / 65536 % 4294967296) (hash_bits k) b.1))
 
-  pub inserted_own : may_contain (inserted words base h) base h ≡ true
-  inserted_own = by_words words base (none_after h) own_after
+  pub inserted_own : may_contain (inserted words h) h ≡ true
+  inserted_own = by_words words (none_after h) own_after
 
-  pub inserted_kept : (k : ℕ) → may_contain words base k ≡ true → may_contain (inserted words base h) base k ≡ true
-  inserted_kept k e = by_words words base (none_after k) (λ s. kept_after s k e)
+  pub inserted_kept : (k : ℕ) → may_contain words k ≡ true → may_contain (inserted words h) k ≡ true
+  inserted_kept k e = by_words words (none_after k) (λ s. kept_after s k e)

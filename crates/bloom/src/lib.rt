@@ -1,5 +1,5 @@
-// A Bloom filter in lent words, from `base` on: a hash sets the same bits, at most four, of two words. What was inserted is always found, and
-// another hash seldom is. The words before `base` are left as they are; where there are none behind it, each hash counts as inserted.
+// A Bloom filter in lent words: a hash sets the same bits, at most four, of two words. What was inserted is always found, and another hash
+// seldom is. Where there are no words, each hash counts as inserted.
 #![tactic(auto)]
 
 ghost use Rattle.std.specs.Prelude.{◌≡◌, ◌^◌, ◌<◌, length};
@@ -22,48 +22,47 @@ fn bits_of(h: u64) -> u32
 }
 
 // The word of 32 bits of a hash: their share of the words, no more than 32 bits can tell apart, which takes no division.
-fn place_of(base: usize, len: usize, x: u64) -> usize
-    requires { (base < len) × (x < 4294967296) }
-    ensures { result ≡ hash_place base len x }
+fn place_of(len: usize, x: u64) -> usize
+    requires { (0 < len) × (x < 4294967296) }
+    ensures { result ≡ hash_place len x }
 {
-    let used = (len - base).min(4294967296);
-    base + (x * used as u64 / 4294967296) as usize
+    let used = len.min(4294967296);
+    (x * used as u64 / 4294967296) as usize
 }
 
-fn set_bits(words: &mut [u32], base: usize, x: u64, bits: u32)
-    requires { (base < length words.old) × (x < 4294967296) }
-    ensures { words.new ≡ with_bits words.old base x bits }
+fn set_bits(words: &mut [u32], x: u64, bits: u32)
+    requires { (0 < length words.old) × (x < 4294967296) }
+    ensures { words.new ≡ with_bits words.old x bits }
 {
-    let i = place_of(base, words.len(), x);
+    let i = place_of(words.len(), x);
     words[i] |= bits;
 }
 
-fn has_bits(words: &[u32], base: usize, x: u64, bits: u32) -> bool
-    requires { (base < length words.now) × (x < 4294967296) }
-    ensures { result ≡ has_bits words.now base x bits }
+fn has_bits(words: &[u32], x: u64, bits: u32) -> bool
+    requires { (0 < length words.now) × (x < 4294967296) }
+    ensures { result ≡ has_bits words.now x bits }
 {
-    let i = place_of(base, words.len(), x);
+    let i = place_of(words.len(), x);
     words[i] & bits == bits
 }
 
-pub fn insert(words: &mut [u32], base: usize, h: u64)
-    ensures { words.new ≡ inserted words.old base h }
+pub fn insert(words: &mut [u32], h: u64)
+    ensures { words.new ≡ inserted words.old h }
 {
-    if words.len() <= base {
+    if words.is_empty() {
         return;
     }
     let m = bits_of(h);
-    set_bits(words, base, h / 4294967296 % 4294967296, m);
-    set_bits(words, base, h / 65536 % 4294967296, m);
+    set_bits(words, h / 4294967296 % 4294967296, m);
+    set_bits(words, h / 65536 % 4294967296, m);
 }
 
-pub fn may_contain(words: &[u32], base: usize, h: u64) -> bool
-    ensures { result ≡ may_contain words.now base h }
+pub fn may_contain(words: &[u32], h: u64) -> bool
+    ensures { result ≡ may_contain words.now h }
 {
-    if words.len() <= base {
+    if words.is_empty() {
         return true;
     }
     let m = bits_of(h);
-    has_bits(words, base, h / 4294967296 % 4294967296, m)
-        && has_bits(words, base, h / 65536 % 4294967296, m)
+    has_bits(words, h / 4294967296 % 4294967296, m) && has_bits(words, h / 65536 % 4294967296, m)
 }

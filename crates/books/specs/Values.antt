@@ -9,7 +9,7 @@ use Rattle.model.specs.Region.{Edit as MEdit, edit_of}
 use Rattle.model.specs.Merge.{Stored as MStored, stored_of}
 use Rattle.model.specs.Demand3.{Correction as MCorrection, correction_of}
 use Rattle.books.specs.declared.Stored.{Stored}
-use Rattle.books.specs.declared.Edit.{Edit}
+use Rattle.edit.specs.declared.Edit.{Edit}
 use Rattle.books.specs.declared.Correction.{Correction}
 
 abbrev pub stored_value : Stored → MStored

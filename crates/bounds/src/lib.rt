@@ -38,36 +38,39 @@ pub fn container_ok(c: records::ContainerPair, size: usize) -> bool
     c.opening < c.closing && (c.closing as usize) < size
 }
 
-pub fn pairs_placed(tape: &[u8], at: usize, count: usize, size: usize) -> bool
-    requires { at + 18 * count ≤ length tape.now }
-    ensures { result ≡ all (pair_ok size) (records_at pair_codec tape.now at count) }
+pub fn pairs_placed(tape: &[u8], pairs: places::Run, size: usize) -> bool
+    requires { pairs.at + 18 * pairs.count ≤ length tape.now }
+    ensures { result ≡ all (pair_ok size) (records_at pair_codec tape.now pairs.at pairs.count) }
 {
-    (0..count).all(|i| pair_ok(records::pair_at(tape, at + 18 * i), size))
+    (0..pairs.count).all(|i| pair_ok(records::pair_at(tape, pairs.at + 18 * i), size))
 }
 
 // `size` is the normalized text's length.
-pub fn containers_placed(tape: &[u8], at: usize, count: usize, size: usize) -> bool
-    requires { at + 13 * count ≤ length tape.now }
-    ensures { result ≡ all (container_ok size) (records_at container_codec tape.now at count) }
+pub fn containers_placed(tape: &[u8], containers: places::Run, size: usize) -> bool
+    requires { containers.at + 13 * containers.count ≤ length tape.now }
+    ensures { result ≡ all (container_ok size) (records_at container_codec tape.now containers.at containers.count) }
 {
-    (0..count).all(|i| container_ok(records::container_at(tape, at + 13 * i), size))
+    (0..containers.count).all(|i| container_ok(
+        records::container_at(tape, containers.at + 13 * i),
+        size,
+    ))
 }
 
-pub fn diagnostics_placed(tape: &[u8], at: usize, count: usize, size: usize) -> bool
-    requires { at + 18 * count ≤ length tape.now }
-    ensures { result ≡ all (diagnostic_inside size) (records_at diagnostic_codec tape.now at count) }
+pub fn diagnostics_placed(tape: &[u8], diagnostics: places::Run, size: usize) -> bool
+    requires { diagnostics.at + 18 * diagnostics.count ≤ length tape.now }
+    ensures { result ≡ all (diagnostic_inside size) (records_at diagnostic_codec tape.now diagnostics.at diagnostics.count) }
 {
-    (0..count).all(|i| {
-        let d = records::diagnostic_at(tape, at + 18 * i);
+    (0..diagnostics.count).all(|i| {
+        let d = records::diagnostic_at(tape, diagnostics.at + 18 * i);
         span_ok(d.start, d.end, size)
     })
 }
 
-pub fn diagnostics_allow_incremental(tape: &[u8], at: usize, count: usize) -> bool
-    requires { at + 18 * count ≤ length tape.now }
-    ensures { result ≡ diagnostics_allow_incremental (records_at diagnostic_codec tape.now at count) }
+pub fn diagnostics_allow_incremental(tape: &[u8], diagnostics: places::Run) -> bool
+    requires { diagnostics.at + 18 * diagnostics.count ≤ length tape.now }
+    ensures { result ≡ diagnostics_allow_incremental (records_at diagnostic_codec tape.now diagnostics.at diagnostics.count) }
 {
-    (0..count).all(|i| tape[at + 18 * i + 1] < 2)
+    (0..diagnostics.count).all(|i| tape[diagnostics.at + 18 * i + 1] < 2)
 }
 
 // Section 4. `standalone_padding`.
@@ -136,15 +139,15 @@ pub struct Sums {
 }
 
 // The sums, where each node is placed as number 6 asks.
-pub fn nodes_placed(tape: &[u8], at: usize, count: usize, size: usize) -> Option<Sums>
-    requires { at + 49 * count ≤ length tape.now }
-    ensures { result ≡ sums_if_placed size (records_at node_codec tape.now at count) }
+pub fn nodes_placed(tape: &[u8], nodes: places::Run, size: usize) -> Option<Sums>
+    requires { nodes.at + 49 * nodes.count ≤ length tape.now }
+    ensures { result ≡ sums_if_placed size (records_at node_codec tape.now nodes.at nodes.count) }
 {
     let mut from: u32 = 0;
     let mut images: u64 = 0;
     let mut spans: u64 = 0;
-    for i in 0..count {
-        let p = at + 49 * i;
+    for i in 0..nodes.count {
+        let p = nodes.at + 49 * i;
         if !node_placed(tape, p, size, from, images, spans) {
             return None;
         }
@@ -156,16 +159,16 @@ pub fn nodes_placed(tape: &[u8], at: usize, count: usize, size: usize) -> Option
 }
 
 // How many nodes start at or before an offset. By hand: `partition_point` takes a slice, and the nodes are records among bytes.
-fn starts_by(tape: &[u8], at: usize, count: usize, offset: u32) -> usize
-    requires count_in_bounds { at + 49 * count ≤ length tape.now }
-    requires in_order { InOrder (records_at node_codec tape.now at count) }
-    ensures { Split (start_of tape.now at) count offset result result }
+fn starts_by(tape: &[u8], nodes: places::Run, offset: u32) -> usize
+    requires count_in_bounds { nodes.at + 49 * nodes.count ≤ length tape.now }
+    requires in_order { InOrder (records_at node_codec tape.now nodes.at nodes.count) }
+    ensures { Split (start_of tape.now nodes.at) nodes.count offset result result }
 {
     let mut lo = 0;
-    let mut hi = count;
+    let mut hi = nodes.count;
     while lo < hi {
         let mid = lo + (hi - lo) / 2;
-        if records::node_start(tape, at + 49 * mid) <= offset {
+        if records::node_start(tape, nodes.at + 49 * mid) <= offset {
             lo = mid + 1;
         } else {
             hi = mid;
@@ -175,13 +178,13 @@ fn starts_by(tape: &[u8], at: usize, count: usize, offset: u32) -> usize
 }
 
 // The place among the nodes of the last that starts at or before an offset, if the offset lies before its end.
-pub fn node_at_source(tape: &[u8], at: usize, count: usize, offset: u32) -> Option<usize>
-    requires count_in_bounds { at + 49 * count ≤ length tape.now }
-    requires in_order { InOrder (records_at node_codec tape.now at count) }
-    ensures { result ≡ found_of (node_at_source (records_at node_codec tape.now at count) offset) }
+pub fn node_at_source(tape: &[u8], nodes: places::Run, offset: u32) -> Option<usize>
+    requires count_in_bounds { nodes.at + 49 * nodes.count ≤ length tape.now }
+    requires in_order { InOrder (records_at node_codec tape.now nodes.at nodes.count) }
+    ensures { result ≡ found_of (node_at_source (records_at node_codec tape.now nodes.at nodes.count) offset) }
 {
-    let i = starts_by(tape, at, count, offset).checked_sub(1)?;
-    if offset < records::node_end(tape, at + 49 * i) {
+    let i = starts_by(tape, nodes, offset).checked_sub(1)?;
+    if offset < records::node_end(tape, nodes.at + 49 * i) {
         Some(i)
     } else {
         None

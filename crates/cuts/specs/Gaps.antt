@@ -1,5 +1,5 @@
 -- The offsets that the nodes allow: they lie in the gaps between nodes in order behind which both depths are 0.
-use Prim.Native.Nat.{ℕ, suc, ◌+◌, ◌-◌, ◌*◌, ◌≤◌, ◌<◌}
+use Prim.Native.Nat.{ℕ, suc, ◌+◌, ◌-◌, ◌*◌, ◌≤◌, ◌<◌, max}
 use native.Mathlib.Omega.{arith}
 use Rattle.std.proofs.Common.{le_refl, sym, ◌∙◌}
 use Rattle.std.specs.Prelude.{◌≡◌, Bool, true, false, not, ◌&&◌, List, [], ◌∷◌, length, leb, ltb, eqb}
@@ -31,6 +31,14 @@ nodes_from t r i = records_at node_codec t (r.at + 49 * i) (r.count - i)
 
 abbrev pub node_across : ℕ → SourceNode → Bool
 node_across o n = across o n.source_span.start n.source_span.end
+
+abbrev pub is_filled : SourceNode → Bool
+is_filled n = ltb n.source_span.start n.source_span.end
+
+-- no node is empty, and each begins at or behind the end of the one before, in a text of any size
+pub record NodesApart (ns : List SourceNode) : Type 0 where
+  pub filled : all is_filled ns ≡ true
+  pub order : ordered 0 ns ≡ true
 
 -- what number 6 tells of the nodes of a text of `size` bytes
 pub record NodesIn (size : ℕ) (ns : List SourceNode) : Type 0 where
@@ -218,6 +226,36 @@ nodes_in_order {size} h = record { size = size; inside = h.inside; order = h.ord
 
 pub in_order_nodes : {ns : List SourceNode} → (h : InOrder ns) → NodesIn h.size ns
 in_order_nodes h = record { inside = h.inside; order = h.order }
+
+all_filled : (size : ℕ) (ns : List SourceNode) → all (node_inside size) ns ≡ true → all is_filled ns ≡ true
+unfolding span_ok
+all_filled size [] h = refl
+all_filled size (n ∷ ns) h =
+    let b = both (node_inside size n) (all (node_inside size) ns) h in
+    join (is_filled n) (all is_filled ns) (both (is_filled n) (leb n.source_span.end size) b.0).0 (all_filled size ns b.1)
+
+pub nodes_apart : {size : ℕ} {ns : List SourceNode} → NodesIn size ns → NodesApart ns
+nodes_apart {size} {ns} h = record { filled = all_filled size ns h.inside; order = h.order }
+
+-- how far the nodes go
+unfoldable far : List SourceNode → ℕ
+far [] = 0
+far (n ∷ ns) = max n.source_span.end (far ns)
+
+inside_far : (size : ℕ) (ns : List SourceNode) → far ns ≤ size → all is_filled ns ≡ true → all (node_inside size) ns ≡ true
+unfolding far span_ok
+inside_far size [] h f = refl
+inside_far size (n ∷ ns) h f =
+    let b = both (is_filled n) (all is_filled ns) f in
+    join (node_inside size n) (all (node_inside size) ns)
+    (join (is_filled n) (leb n.source_span.end size) b.0 (le-leb _ _ (omega arith)))
+    (inside_far size ns (omega arith) b.1)
+
+pub apart_in_order : {ns : List SourceNode} → NodesApart ns → InOrder ns
+apart_in_order {ns} a = record { size = far ns; inside = inside_far (far ns) ns (le_refl (far ns)) a.filled; order = a.order }
+
+pub in_order_apart : {ns : List SourceNode} → InOrder ns → NodesApart ns
+in_order_apart h = record { filled = all_filled h.size _ h.inside; order = h.order }
 
 -- ---- `nodes_allow_cut`: every node that was passed ends at or before o
 

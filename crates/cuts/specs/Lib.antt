@@ -4,3 +4,5 @@ pub mod Pairs
 pub mod Window
 pub mod Gaps
 pub mod Examples
+pub mod Sources
+pub mod Depths

@@ -2,17 +2,28 @@
 // answers by a walk over the nodes and one over the pairs.
 #![tactic(auto)]
 
-ghost use Rattle.std.specs.Prelude.{◌≡◌, SomeIff, cond, ◌+◌, ◌-◌, ◌*◌, ◌≤◌, ◌<◌, max, min, List, length, get_or, set};
+ghost use Rattle.std.specs.Prelude.{◌≡◌, SomeIff, ◌+◌, ◌-◌, ◌*◌, ◌≤◌, ◌<◌, max, min, List, length, get_or, set};
 ghost use Rattle.model.specs.Types.{PairLink};
 ghost use Rattle.model.specs.Tape.{record_at, node_codec, pair_codec};
-ghost use Rattle.model.specs.Region.{blank_line_before, is_block_open, is_block_close, is_directive, is_warichu_open, is_warichu_close, depth_behind};
+ghost use Rattle.model.specs.Region.{blank_line_before, is_block_open, is_block_close, is_warichu_open, is_warichu_close, depth_behind};
 ghost use Rattle.model.specs.Region.{nodes_allow_cut, pairs_allow_cut};
-ghost use Rattle.bounds.specs.Search.{InOrder};
 ghost use Rattle.cuts.specs.Safe.{cut_allowed, safe_cut_in};
-ghost use Rattle.cuts.specs.Pairs.{reach_of, reach, pairs_of};
+ghost use Rattle.cuts.specs.Pairs.{reach_of, reach};
 ghost use Rattle.cuts.specs.Window.{noted, Noted, Risen, Reaches, Window, next_size};
-ghost use Rattle.cuts.specs.Gaps.{depths_zero, nodes_of};
-ghost use Rattle.cuts.specs.Gaps.{closes_nothing};
+ghost use Rattle.cuts.specs.Depths.{effect_of, behind, before, is_unopened, closes_unopened};
+ghost use Rattle.cuts.specs.Gaps.{NodesApart, depths_zero, nodes_of};
+
+// A book's text, and the records of its tape that lie over it: nodes, one behind the other, and pairs.
+#[derive(Clone, Copy)]
+pub struct Source<'a> {
+    pub tape: &'a [u8],
+    pub text: &'a [u8],
+    pub nodes: places::Run,
+    pub pairs: places::Run,
+    pub ghost nodes_inside: { nodes.at + 49 * nodes.count ≤ length tape.now },
+    pub ghost pairs_inside: { pairs.at + 18 * pairs.count ≤ length tape.now },
+    pub ghost nodes_apart: { NodesApart (nodes_of tape.now nodes) },
+}
 
 // Section 6. Two newline bytes before an offset.
 pub fn blank_line_before(text: &[u8], o: usize) -> bool
@@ -22,69 +33,145 @@ pub fn blank_line_before(text: &[u8], o: usize) -> bool
     2 <= o && text[o - 2] == b'\n' && text[o - 1] == b'\n'
 }
 
-// What a node is, and the depth behind it; a fall below 0 counts as 0.
-
-pub fn is_block_open(tape: &[u8], at: usize) -> bool
-    requires { at + 49 ≤ length tape.now }
-    ensures { result ≡ is_block_open (record_at node_codec tape.now at) }
-{
-    tape[at + 1] == 2
+// What a node does to a depth.
+#[derive(Clone, Copy, Debug, PartialEq, Eq)]
+enum Effect {
+    Opens,
+    Closes,
+    Neither,
 }
 
-pub fn is_block_close(tape: &[u8], at: usize) -> bool
-    requires { at + 49 ≤ length tape.now }
-    ensures { result ≡ is_block_close (record_at node_codec tape.now at) }
-{
-    tape[at + 1] == 3
-}
+impl Effect {
+    // The depth behind the node; a fall below 0 counts as 0.
+    #[tactic(auto, unfolding(crate::specs::Depths::behind))]
+    fn behind(self, depth: usize) -> usize
+        requires { depth < 9223372036854775808 }
+        ensures { result ≡ behind self depth }
+    {
+        match self {
+            Effect::Opens => depth + 1,
+            Effect::Closes => depth.saturating_sub(1),
+            Effect::Neither => depth,
+        }
+    }
 
-fn is_directive(tape: &[u8], at: usize, kind: u8) -> bool
-    requires { at + 49 ≤ length tape.now }
-    ensures { result ≡ is_directive kind (record_at node_codec tape.now at) }
-{
-    tape[at + 1] < 2 && tape[at + 15] == 13 && tape[at + 16] == kind
-}
+    // The same over a node with open and close exchanged: the depth before it, unless it closes at depth 0.
+    #[tactic(auto, unfolding(crate::specs::Depths::before))]
+    fn before(self, depth: usize) -> usize
+        requires { depth < 9223372036854775808 }
+        ensures { result ≡ before self depth }
+    {
+        match self {
+            Effect::Opens => depth.saturating_sub(1),
+            Effect::Closes => depth + 1,
+            Effect::Neither => depth,
+        }
+    }
 
-pub fn is_warichu_open(tape: &[u8], at: usize) -> bool
-    requires { at + 49 ≤ length tape.now }
-    ensures { result ≡ is_warichu_open (record_at node_codec tape.now at) }
-{
-    is_directive(tape, at, 4)
-}
-
-pub fn is_warichu_close(tape: &[u8], at: usize) -> bool
-    requires { at + 49 ≤ length tape.now }
-    ensures { result ≡ is_warichu_close (record_at node_codec tape.now at) }
-{
-    is_directive(tape, at, 5)
-}
-
-// The depth behind something that opens or closes.
-pub fn depth_behind(opens: bool, closes: bool, depth: usize) -> usize
-    requires { depth < 9223372036854775808 }
-    ensures { result ≡ cond opens (depth + 1) (cond closes (depth - 1) depth) }
-{
-    if opens {
-        depth + 1
-    } else if closes {
-        depth.saturating_sub(1)
-    } else {
-        depth
+    // A close at depth 0.
+    #[tactic(auto, unfolding(crate::specs::Depths::is_unopened))]
+    fn is_unopened(self, depth: usize) -> bool
+        ensures { result ≡ is_unopened self depth }
+    {
+        match self {
+            Effect::Closes => depth == 0,
+            Effect::Opens | Effect::Neither => false,
+        }
     }
 }
 
-pub fn block_depth(tape: &[u8], at: usize, depth: usize) -> usize
-    requires { (at + 49 ≤ length tape.now) × (depth < 9223372036854775808) }
-    ensures { result ≡ depth_behind is_block_open is_block_close depth (record_at node_codec tape.now at) }
+// Classes of nodes: the first and the last one of a block.
+const BLOCK_OPEN: u8 = 2;
+
+const BLOCK_CLOSE: u8 = 3;
+
+// The kind of a Directive, and the tags of those about a warichu.
+const DIRECTIVE: u8 = 13;
+
+const WARICHU_OPEN: u8 = 4;
+
+const WARICHU_CLOSE: u8 = 5;
+
+// Blocks are opened and closed by nodes of their own, by class.
+#[tactic(auto, using(std::proofs::lemmas::Bool::Decides::nat_tests), unfolding(crate::specs::Depths::effect_of, model::specs::Tape::record_at, model::specs::Tape::operands_at, model::specs::Tape::node_codec))]
+fn block_effect(tape: &[u8], at: usize) -> Effect
+    requires { at + 49 ≤ length tape.now }
+    ensures { result ≡ effect_of is_block_open is_block_close (record_at node_codec tape.now at) }
 {
-    depth_behind(is_block_open(tape, at), is_block_close(tape, at), depth)
+    match tape[at + 1] {
+        BLOCK_OPEN => Effect::Opens,
+        BLOCK_CLOSE => Effect::Closes,
+        _ => Effect::Neither,
+    }
 }
 
-pub fn warichu_depth(tape: &[u8], at: usize, depth: usize) -> usize
-    requires { (at + 49 ≤ length tape.now) × (depth < 9223372036854775808) }
-    ensures { result ≡ depth_behind is_warichu_open is_warichu_close depth (record_at node_codec tape.now at) }
+// A warichu by a Directive, Inline or BlockLeaf.
+#[tactic(auto, using(std::proofs::lemmas::Bool::Decides::nat_tests), unfolding(crate::specs::Depths::effect_of, model::specs::Tape::record_at, model::specs::Tape::operands_at, model::specs::Tape::node_codec))]
+fn warichu_effect(tape: &[u8], at: usize) -> Effect
+    requires { at + 49 ≤ length tape.now }
+    ensures { result ≡ effect_of is_warichu_open is_warichu_close (record_at node_codec tape.now at) }
 {
-    depth_behind(is_warichu_open(tape, at), is_warichu_close(tape, at), depth)
+    if BLOCK_OPEN <= tape[at + 1] || tape[at + 15] != DIRECTIVE {
+        return Effect::Neither;
+    }
+    match tape[at + 16] {
+        WARICHU_OPEN => Effect::Opens,
+        WARICHU_CLOSE => Effect::Closes,
+        _ => Effect::Neither,
+    }
+}
+
+// How many blocks are open, and how many warichus.
+#[derive(Clone, Copy, Debug, PartialEq, Eq)]
+pub struct Depths {
+    pub blocks: usize,
+    pub warichu: usize,
+}
+
+impl Depths {
+    pub const NONE: Depths = Depths {
+        blocks: 0,
+        warichu: 0,
+    };
+
+    pub fn are_zero(self) -> bool
+        ensures { result ≡ depths_zero self.blocks self.warichu }
+    {
+        self.blocks == 0 && self.warichu == 0
+    }
+
+    // Behind the node at `at`.
+    pub fn past(self, tape: &[u8], at: usize) -> Depths
+        requires { (at + 49 ≤ length tape.now) × (self.blocks < 9223372036854775808) × (self.warichu < 9223372036854775808) }
+        ensures block_depth { result.blocks ≡ depth_behind is_block_open is_block_close self.blocks (record_at node_codec tape.now at) }
+        ensures warichu_depth { result.warichu ≡ depth_behind is_warichu_open is_warichu_close self.warichu (record_at node_codec tape.now at) }
+    {
+        Depths {
+            blocks: block_effect(tape, at).behind(self.blocks),
+            warichu: warichu_effect(tape, at).behind(self.warichu),
+        }
+    }
+
+    // Before the node at `at`, counted backwards.
+    pub fn before(self, tape: &[u8], at: usize) -> Depths
+        requires { (at + 49 ≤ length tape.now) × (self.blocks < 9223372036854775808) × (self.warichu < 9223372036854775808) }
+        ensures block_depth { result.blocks ≡ depth_behind is_block_close is_block_open self.blocks (record_at node_codec tape.now at) }
+        ensures warichu_depth { result.warichu ≡ depth_behind is_warichu_close is_warichu_open self.warichu (record_at node_codec tape.now at) }
+    {
+        Depths {
+            blocks: block_effect(tape, at).before(self.blocks),
+            warichu: warichu_effect(tape, at).before(self.warichu),
+        }
+    }
+
+    // Does the node at `at` close what none has opened?
+    pub fn closes_unopened(self, tape: &[u8], at: usize) -> bool
+        requires { at + 49 ≤ length tape.now }
+        ensures { result ≡ closes_unopened self.blocks self.warichu (record_at node_codec tape.now at) }
+    {
+        block_effect(tape, at).is_unopened(self.blocks)
+            || warichu_effect(tape, at).is_unopened(self.warichu)
+    }
 }
 
 fn pair_start(tape: &[u8], at: usize) -> u32
@@ -108,81 +195,6 @@ fn reach_of(start: u32, end: u32, o: usize) -> u32
     if (start as usize) < o { end } else { 0 }
 }
 
-// How far the pairs reach that start before an offset: the greatest end. From the last pair to the first, as `reach` goes over them.
-pub fn reach(tape: &[u8], pairs: places::Run, o: usize) -> u32
-    requires { pairs.at + 18 * pairs.count ≤ length tape.now }
-    ensures { result ≡ reach (pairs_of tape.now pairs) o }
-{
-    let mut far = 0;
-    let mut i = pairs.count;
-    while 0 < i {
-        i -= 1;
-        let p = pairs.at + 18 * i;
-        far = far.max(reach_of(pair_start(tape, p), pair_end(tape, p), o));
-    }
-    far
-}
-
-// Section 6. No pair with open start < offset < close end.
-pub fn pairs_allow_cut(tape: &[u8], pairs: places::Run, o: usize) -> bool
-    requires { pairs.at + 18 * pairs.count ≤ length tape.now }
-    ensures { result ≡ pairs_allow_cut (pairs_of tape.now pairs) o }
-{
-    (reach(tape, pairs, o) as usize) <= o
-}
-
-pub fn depths_zero(blocks: usize, warichu: usize) -> bool
-    ensures { result ≡ depths_zero blocks warichu }
-{
-    blocks == 0 && warichu == 0
-}
-
-// Section 6. No node across; block and warichu depths 0 (falls below 0 count as 0).
-pub fn nodes_allow_cut(tape: &[u8], nodes: places::Run, o: usize) -> bool
-    requires count_in_bounds { nodes.at + 49 * nodes.count ≤ length tape.now }
-    requires in_order { InOrder (nodes_of tape.now nodes) }
-    ensures { result ≡ nodes_allow_cut (nodes_of tape.now nodes) o }
-{
-    let mut blocks: usize = 0;
-    let mut warichu: usize = 0;
-    for i in 0..nodes.count {
-        let p = nodes.at + 49 * i;
-        if o <= records::node_start(tape, p) as usize {
-            return depths_zero(blocks, warichu);
-        }
-        if o < records::node_end(tape, p) as usize {
-            return false;
-        }
-        blocks = block_depth(tape, p, blocks);
-        warichu = warichu_depth(tape, p, warichu);
-    }
-    depths_zero(blocks, warichu)
-}
-
-// Text, nodes and pairs allow a cut.
-fn cut_allowed(tape: &[u8], text: &[u8], nodes: places::Run, pairs: places::Run, o: usize) -> bool
-    requires count_in_bounds { (nodes.at + 49 * nodes.count ≤ length tape.now) × (pairs.at + 18 * pairs.count ≤ length tape.now) × (o ≤ length text.now) }
-    requires in_order { InOrder (nodes_of tape.now nodes) }
-    ensures { result ≡ cut_allowed text.now (nodes_of tape.now nodes) (pairs_of tape.now pairs) o }
-{
-    blank_line_before(text, o) && nodes_allow_cut(tape, nodes, o) && pairs_allow_cut(tape, pairs, o)
-}
-
-// Section 6. `safe_cut`: 0 and the length always; elsewhere text, nodes and pairs allow it.
-pub fn safe_cut(tape: &[u8], text: &[u8], nodes: places::Run, pairs: places::Run, o: usize) -> bool
-    requires count_in_bounds { (nodes.at + 49 * nodes.count ≤ length tape.now) × (pairs.at + 18 * pairs.count ≤ length tape.now) × (o ≤ length text.now) }
-    requires in_order { InOrder (nodes_of tape.now nodes) }
-    ensures { result ≡ safe_cut_in text.now (nodes_of tape.now nodes) (pairs_of tape.now pairs) o }
-{
-    o == 0 || o == text.len() || cut_allowed(tape, text, nodes, pairs, o)
-}
-
-pub fn closes_nothing(closes: bool, depth: usize) -> bool
-    ensures { result ≡ closes_nothing closes depth }
-{
-    closes && depth == 0
-}
-
 // The reach at many offsets: one walk over the pairs fills a window. Word 0 has its first offset, word 1 how many offsets it has,
 // the words behind them the reach at each. An offset outside of it asks for a new one, sixteen times as large as far as there are words.
 
@@ -204,20 +216,6 @@ fn note(slots: &mut [u32], from: usize, start: u32, end: u32)
     }
 }
 
-// Each pair's end at the first offset behind its start, the greatest where several are. From the last pair to the first, as `Noted` says.
-fn note_pairs(tape: &[u8], pairs: places::Run, slots: &mut [u32], from: usize)
-    requires { (pairs.at + 18 * pairs.count ≤ length tape.now) × (from < 4294967296) }
-    ensures { Noted (pairs_of tape.now pairs) from slots.new }
-{
-    wire::zero_words(slots);
-    let mut i = pairs.count;
-    while 0 < i {
-        i -= 1;
-        let p = pairs.at + 18 * i;
-        note(slots, from, pair_start(tape, p), pair_end(tape, p));
-    }
-}
-
 // The greatest so far at each.
 fn run_up(slots: &mut [u32])
     ensures { Risen slots.old slots.new }
@@ -229,28 +227,12 @@ fn run_up(slots: &mut [u32])
     }
 }
 
-fn fill_slots(tape: &[u8], pairs: places::Run, slots: &mut [u32], from: usize)
-    requires { (pairs.at + 18 * pairs.count ≤ length tape.now) × (from < 4294967296) }
-    ensures { Reaches (pairs_of tape.now pairs) from slots.new }
-{
-    note_pairs(tape, pairs, slots, from);
-    run_up(slots);
-}
-
 fn put_bounds(words: &mut [u32], from: usize, size: usize)
     requires { (from < 4294967296) × (size < 4294967296) × (2 ≤ length words.old) }
     ensures { words.new ≡ set (set words.old 0 from) 1 size }
 {
     words[0] = from as u32;
     words[1] = size as u32;
-}
-
-fn fill(tape: &[u8], pairs: places::Run, words: &mut [u32], from: usize, size: usize)
-    requires { (pairs.at + 18 * pairs.count ≤ length tape.now) × (from < 4294967296) × (size < 4294967296) × (2 + size ≤ length words.old) }
-    ensures { Window (pairs_of tape.now pairs) words.new × (get_or words.new 0 0 ≡ from) × (get_or words.new 1 0 ≡ size) }
-{
-    put_bounds(words, from, size);
-    fill_slots(tape, pairs, &mut words[2..2 + size], from);
 }
 
 // How many offsets the next window has.
@@ -280,40 +262,134 @@ fn room_in(len: usize) -> usize
     (len - 2).min(16777216)
 }
 
-// The reach at an offset, by a new window with that offset in it. Windows begin at multiples of their size, to serve both ways.
-fn refill(tape: &[u8], pairs: places::Run, o: usize, words: &mut [u32], size: u32) -> u32
-    requires { (pairs.at + 18 * pairs.count ≤ length tape.now) × (o < 4294967296) × (3 ≤ length words.old) }
-    ensures value { result ≡ reach (pairs_of tape.now pairs) o }
-    ensures window { Window (pairs_of tape.now pairs) words.new }
-{
-    let n = next_size(room_in(words.len()), size);
-    let j = o % n;
-    fill(tape, pairs, words, o - j, n);
-    words[2 + j]
-}
-
-// The reach at an offset, by the window in the words.
-pub fn reach_at(tape: &[u8], pairs: places::Run, o: usize, words: &mut [u32]) -> u32
-    requires count_in_bounds { pairs.at + 18 * pairs.count ≤ length tape.now }
-    requires window { Window (pairs_of tape.now pairs) words.old }
-    ensures value { result ≡ reach (pairs_of tape.now pairs) o }
-    ensures window_2 { Window (pairs_of tape.now pairs) words.new }
-{
-    if words.len() < 3 || 4294967295 < o {
-        return reach(tape, pairs, o);
-    }
-    let size = words[1];
-    match word_of(words[0], size, o) {
-        Some(k) => words[k],
-        None => refill(tape, pairs, o, words, size),
-    }
-}
-
 // No window yet.
 pub fn no_window(words: &mut [u32])
     ensures { (ps : List PairLink) → Window ps words.new }
 {
     if 2 <= words.len() {
         words[1] = 0;
+    }
+}
+
+impl<'a> Source<'a> {
+    ghost use Rattle.cuts.specs.Sources.{nodes_in, pairs_in};
+
+    // How far the pairs reach that start before an offset: the greatest end. From the last pair to the first, as `reach` goes over them.
+    pub fn reach(&self, o: usize) -> u32
+        ensures { result ≡ reach (pairs_in self.now) o }
+    {
+        let mut far = 0;
+        let mut i = self.pairs.count;
+        while 0 < i {
+            i -= 1;
+            let p = self.pairs.at + 18 * i;
+            far = far.max(reach_of(pair_start(self.tape, p), pair_end(self.tape, p), o));
+        }
+        far
+    }
+
+    // Section 6. No pair with open start < offset < close end.
+    pub fn pairs_allow_cut(&self, o: usize) -> bool
+        ensures { result ≡ pairs_allow_cut (pairs_in self.now) o }
+    {
+        (self.reach(o) as usize) <= o
+    }
+
+    // Section 6. No node across; block and warichu depths 0 (falls below 0 count as 0).
+    pub fn nodes_allow_cut(&self, o: usize) -> bool
+        ensures { result ≡ nodes_allow_cut (nodes_in self.now) o }
+    {
+        let mut depths = Depths::NONE;
+        for i in 0..self.nodes.count {
+            let p = self.nodes.at + 49 * i;
+            if o <= records::node_start(self.tape, p) as usize {
+                return depths.are_zero();
+            }
+            if o < records::node_end(self.tape, p) as usize {
+                return false;
+            }
+            depths = depths.past(self.tape, p);
+        }
+        depths.are_zero()
+    }
+
+    // Text, nodes and pairs allow a cut.
+    fn cut_allowed(&self, o: usize) -> bool
+        requires { o ≤ length self.now.text.now }
+        ensures { result ≡ cut_allowed self.now.text.now (nodes_in self.now) (pairs_in self.now) o }
+    {
+        blank_line_before(self.text, o) && self.nodes_allow_cut(o) && self.pairs_allow_cut(o)
+    }
+
+    // Section 6. `safe_cut`: 0 and the length always; elsewhere text, nodes and pairs allow it.
+    pub fn safe_cut(&self, o: usize) -> bool
+        requires { o ≤ length self.now.text.now }
+        ensures { result ≡ safe_cut_in self.now.text.now (nodes_in self.now) (pairs_in self.now) o }
+    {
+        o == 0 || o == self.text.len() || self.cut_allowed(o)
+    }
+
+    // Each pair's end at the first offset behind its start, the greatest where several are. From the last pair to the first, as `Noted` says.
+    fn note_pairs(&self, slots: &mut [u32], from: usize)
+        requires { from < 4294967296 }
+        ensures { Noted (pairs_in self.now) from slots.new }
+    {
+        wire::zero_words(slots);
+        let mut i = self.pairs.count;
+        while 0 < i {
+            i -= 1;
+            let p = self.pairs.at + 18 * i;
+            note(
+                slots,
+                from,
+                pair_start(self.tape, p),
+                pair_end(self.tape, p),
+            );
+        }
+    }
+
+    fn fill_slots(&self, slots: &mut [u32], from: usize)
+        requires { from < 4294967296 }
+        ensures { Reaches (pairs_in self.now) from slots.new }
+    {
+        self.note_pairs(slots, from);
+        run_up(slots);
+    }
+
+    fn fill(&self, words: &mut [u32], from: usize, size: usize)
+        requires { (from < 4294967296) × (size < 4294967296) × (2 + size ≤ length words.old) }
+        ensures { Window (pairs_in self.now) words.new × (get_or words.new 0 0 ≡ from) × (get_or words.new 1 0 ≡ size) }
+    {
+        put_bounds(words, from, size);
+        self.fill_slots(&mut words[2..2 + size], from);
+    }
+
+    // The reach at an offset, by a new window with that offset in it. Windows begin at multiples of their size, to serve both ways.
+    fn refill(&self, o: usize, words: &mut [u32], size: u32) -> u32
+        requires { (o < 4294967296) × (3 ≤ length words.old) }
+        ensures value { result ≡ reach (pairs_in self.now) o }
+        ensures window { Window (pairs_in self.now) words.new }
+    {
+        let n = next_size(room_in(words.len()), size);
+        let j = o % n;
+        self.fill(words, o - j, n);
+        words[2 + j]
+    }
+
+    // The reach at an offset, by the window in the words. The words are lent to each call: where a struct holds them, each of its methods has to
+    // say that they, their length and the source stay the same, in place of the one fact that they are a window.
+    pub fn reach_at(&self, o: usize, words: &mut [u32]) -> u32
+        requires window { Window (pairs_in self.now) words.old }
+        ensures value { result ≡ reach (pairs_in self.now) o }
+        ensures window_2 { Window (pairs_in self.now) words.new }
+    {
+        if words.len() < 3 || 4294967295 < o {
+            return self.reach(o);
+        }
+        let size = words[1];
+        match word_of(words[0], size, o) {
+            Some(k) => words[k],
+            None => self.refill(o, words, size),
+        }
     }
 }

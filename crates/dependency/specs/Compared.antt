@@ -9,60 +9,61 @@ use Rattle.model.specs.Tape.{record_at, node_codec, string_codec}
 use Rattle.model.specs.Region.{is_ruby}
 use Rattle.laws.specs.Lists.{same_eq}
 use Rattle.wire.specs.Loops.{by_bool}
-use Rattle.store.specs.declared.Store.{Store}
 use Rattle.store.specs.Pools.{before_next, before_most}
 use Rattle.store.specs.Standing.{string_place, length_at, string_at_lem}
-use Rattle.strings.specs.Starts.{lengths_in, start_in, store_in}
-use Rattle.strings.specs.Shown.{TwoSides, Resolvable}
+use Rattle.strings.specs.Starts.{lengths_in, start_in}
+use Rattle.strings.specs.declared.lent.Strings.{Strings}
+use Rattle.strings.specs.Lent.{lent_store, string_in}
 use Rattle.strings.specs.PlainContent.{plain_of, plain_string}
 use Rattle.dependency.specs.Bases.{is_plain, has_base, among_bases}
-use Rattle.ruby_formats.specs.Sound.{SoundNode, first_contents, plain_first}
+use Rattle.ruby_formats.specs.Sound.{first_contents, plain_first}
 
 -- ---- a string and bytes
 
-length_string : {t : List ℕ} {st : Store} {old new : List ℕ} → TwoSides t st old new → (id : ℕ) → id < st.totals.strings
-    → length (resolve_str (store_in t (old ++ new)) id) ≡ slice_index (lengths_in t) id
+length_string : (ss : Strings) (id : ℕ) → id < ss.store.now.totals.strings → length (string_in ss id) ≡ slice_index (lengths_in ss.tape.now) id
 unfolding resolve_str
-length_string {t} {st} {old} {new} s id h =
-    let n = length_at t st s.store.stored id h in
+length_string ss id h =
+    let t = ss.tape.now in
+    let all = ss.old.now ++ ss.new.now in
+    let sides = ss.resolvable.sides in
+    let n = length_at t ss.store.now sides.store.stored id h in
     let next = before_next (lengths_in t) id in
     let most = before_most (lengths_in t) (suc id) in
-    let whole = length-append old new in
-    let left = length-drop (start_in t id) (old ++ new) in
-    ap length (string_at_lem t st s.store.stored (old ++ new) id h)
-    ∙ length-take-le (record_at string_codec t (string_place st id)) (drop (start_in t id) (old ++ new)) (omega (arith, n, next, most, whole, left, s.whole))
+    let whole = length-append ss.old.now ss.new.now in
+    let left = length-drop (start_in t id) all in
+    ap length (string_at_lem t ss.store.now sides.store.stored all id h)
+    ∙ length-take-le (record_at string_codec t (string_place ss.store.now id)) (drop (start_in t id) all) (omega (arith, n, next, most, whole, left, sides.whole))
     ∙ sym n
 
-pub other_length : {t : List ℕ} {st : Store} {words old new : List ℕ} → Resolvable t st words old new → (id : ℕ) → id < st.totals.strings
-    → (s : List ℕ) {n : ℕ} → n ≡ slice_index (lengths_in t) id → (n ≢ length s) → false ≡ same s (resolve_str (store_in t (old ++ new)) id)
-other_length {t} {st} {words} {old} {new} r id h s e d =
-    by_bool (same s (resolve_str (store_in t (old ++ new)) id))
-    (λ x. absurd (d (e ∙ sym (length_string r.sides id h) ∙ ap length (sym (same_eq s (resolve_str (store_in t (old ++ new)) id) x)))))
+pub other_length : (ss : Strings) (id : ℕ) → id < ss.store.now.totals.strings → (s : List ℕ) {n : ℕ} → n ≡ slice_index (lengths_in ss.tape.now) id
+    → (n ≢ length s) → false ≡ same s (string_in ss id)
+other_length ss id h s e d =
+    by_bool (same s (string_in ss id))
+    (λ x. absurd (d (e ∙ sym (length_string ss id h) ∙ ap length (sym (same_eq s (string_in ss id) x)))))
     (λ x. sym x)
 
 -- ---- an answer and bytes
 
-module _ (t : List ℕ) (b s : List ℕ) where
-  pub plain_some : (id : ℕ) {r : Option ℕ} → r ≡ Some id → {x : Bool} → x ≡ same s (resolve_str (store_in t b) id) → x ≡ is_plain s (plain_string (store_in t b) r)
+module _ (ss : Strings) (s : List ℕ) where
+  pub plain_some : (id : ℕ) {r : Option ℕ} → r ≡ Some id → {x : Bool} → x ≡ same s (string_in ss id) → x ≡ is_plain s (plain_string (lent_store ss) r)
   unfolding is_plain plain_string
   plain_some id e q = rw e q
 
-  pub plain_none : {r : Option ℕ} → r ≡ None → false ≡ is_plain s (plain_string (store_in t b) r)
+  pub plain_none : {r : Option ℕ} → r ≡ None → false ≡ is_plain s (plain_string (lent_store ss) r)
   unfolding is_plain plain_string
   plain_none e = rw e refl
 
 -- ---- one node as a Ruby with this base
 
-module _ {t : List ℕ} {st : Store} {words old new : List ℕ} {p : ℕ} (n : SoundNode t st words old new p) (s : List ℕ) where
-  module _ {x : Bool} (e : x ≡ is_ruby (record_at node_codec t p)) where
-    pub base_other : x ≡ false → false ≡ has_base (store_in t (old ++ new)) s (record_at node_codec t p)
-    unfolding has_base
-    base_other h = rw (← e, h) refl
+module _ (ss : Strings) (p : ℕ) (s : List ℕ) {x : Bool} (e : x ≡ is_ruby (record_at node_codec ss.tape.now p)) where
+  pub base_other : x ≡ false → false ≡ has_base (lent_store ss) s (record_at node_codec ss.tape.now p)
+  unfolding has_base
+  base_other h = rw (← e, h) refl
 
-    pub base_ruby : x ≡ true → {r : Option ℕ} → ((b : List ℕ) → r ≡ plain_of (first_contents t p b)) → {y : Bool} → y ≡ is_plain s (plain_string (store_in t (old ++ new)) r)
-        → y ≡ has_base (store_in t (old ++ new)) s (record_at node_codec t p)
-    unfolding has_base
-    base_ruby h g q = rw (← e, h) (q ∙ ap (is_plain s) (sym (plain_first n g)))
+  pub base_ruby : x ≡ true → {r : Option ℕ} → ((b : List ℕ) → r ≡ plain_of (first_contents ss.tape.now p b)) → {y : Bool} → y ≡ is_plain s (plain_string (lent_store ss) r)
+      → y ≡ has_base (lent_store ss) s (record_at node_codec ss.tape.now p)
+  unfolding has_base
+  base_ruby h g q = rw (← e, h) (q ∙ ap (is_plain s) (sym (plain_first ss p g)))
 
 -- ---- the target of a Format, whose string may stand in another store
 

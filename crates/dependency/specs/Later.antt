@@ -9,7 +9,8 @@ use Rattle.model.specs.Tape.{record_at, records_at, node_codec}
 use Rattle.model.specs.Region.{is_ruby, is_referenced_format, first_plain}
 use Rattle.laws.specs.Lists.{both, or_left, or_right}
 use Rattle.wire.specs.Loops.{any_up_to, any_missed, by_bool}
-use Rattle.strings.specs.Starts.{store_in}
+use Rattle.strings.specs.declared.lent.Strings.{Strings}
+use Rattle.strings.specs.Lent.{lent_store}
 use Rattle.ruby_formats.specs.Asks.{asks_target, asks_at}
 use Rattle.dependency.specs.Bases.{among_bases, refers_back}
 use Rattle.dependency.specs.Parts.{refers_among}
@@ -61,17 +62,23 @@ module _ (P : ℕ → Bool) (count : ℕ) where
   left_all l = any_missed P count (record { none = λ k h. by_bool (P k) (λ t. absurd (climb l count k (omega arith) h t)) (λ f. f) })
 
 -- a node that refers to a base among the first n, and a later one with its target
-module _ (t old new : List ℕ) (from at n i v count : ℕ) {x : Bool} (e : (b : List ℕ) → x ≡ asks_again from t at i v count b) (f : x ≡ true) where
+module _ (ss : Strings) (from at n i v count : ℕ) {x : Bool} (e : (b : List ℕ) → x ≡ asks_again from ss.tape.now at i v count b) (f : x ≡ true) where
+  abbrev t : List ℕ
+  t = ss.tape.now
+
+  abbrev all : List ℕ
+  all = ss.old.now ++ ss.new.now
+
   abbrev st : NodeStore
-  st = store_in t (old ++ new)
+  st = lent_store ss
 
   abbrev node : ℕ → SourceNode
   node k = record_at node_codec t (at + 49 * k)
 
-  parts : (nat_lt i v ≡ true) × (nat_lt v count ≡ true) × (asks_target from (node v) ≡ true) × (same_plain (named_by t (at + 49 * i) (old ++ new)) (named_by t (at + 49 * v) (old ++ new)) ≡ true)
+  parts : (nat_lt i v ≡ true) × (nat_lt v count ≡ true) × (asks_target from (node v) ≡ true) × (same_plain (named_by t (at + 49 * i) all) (named_by t (at + 49 * v) all) ≡ true)
   unfolding asks_again asks_at
   parts =
-      let a = both (nat_lt i v && nat_lt v count && asks_target from (node v)) (same_plain (named_by t (at + 49 * i) (old ++ new)) (named_by t (at + 49 * v) (old ++ new))) (sym (e (old ++ new)) ∙ f) in
+      let a = both (nat_lt i v && nat_lt v count && asks_target from (node v)) (same_plain (named_by t (at + 49 * i) all) (named_by t (at + 49 * v) all)) (sym (e all) ∙ f) in
       let b = both (nat_lt i v && nat_lt v count) (asks_target from (node v)) a.0 in
       let d = both (nat_lt i v) (nat_lt v count) b.0 in
       (d.0, d.1, b.1, a.1)
@@ -93,7 +100,7 @@ module _ (t old new : List ℕ) (from at n i v count : ℕ) {x : Bool} (e : (b :
   unfolding refers_among refers_back
   then q =
       let k = both (asks_target from (node i)) (among_bases st (records_at node_codec t at (min n i)) (first_plain st (node i))) q in
-      let z = same_first t (old ++ new) (at + 49 * i) (at + 49 * v) parts.3 (format (node i) k.0) (format (node v) parts.2) in
+      let z = same_first t all (at + 49 * i) (at + 49 * v) parts.3 (format (node i) k.0) (format (node v) parts.2) in
       rw (parts.2, ← z) (more (first_plain st (node i)) k.1)
 
   pub settled_later : Settled (refers_among st from t at n) count i false

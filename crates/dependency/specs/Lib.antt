@@ -8,3 +8,4 @@ pub mod Parts
 pub mod Rows
 pub mod Named
 pub mod Later
+pub mod Among

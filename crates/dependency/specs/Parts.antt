@@ -1,6 +1,6 @@
 -- Number 10 in parts of the nodes, so that the filter is never crowded: a target is compared with the bases of one part, in one walk
 -- for each part. What refers to none of the first nodes and to none of the next refers to none of both.
-use Rattle.std.specs.Prelude.{Option, ◌≡◌, ℕ, ◌+◌, ◌-◌, ◌*◌, ◌<◌, ◌≤◌, min, Bool, true, false, ◌&&◌, ◌||◌, List, [], ◌∷◌, ◌++◌, length, take, drop, nat_lt, refl}
+use Rattle.std.specs.Prelude.{Option, ◌≡◌, ℕ, ◌+◌, ◌-◌, ◌*◌, ◌<◌, ◌≤◌, min, Bool, true, false, ◌&&◌, ◌||◌, List, [], ◌∷◌, ◌++◌, nat_lt, refl}
 use Rattle.std.proofs.Math.Path.{sym, ap}
 use Rattle.std.proofs.Common.{ap₂, ◌∙◌, true≢false, ltb-true, ltb-false}
 use native.Mathlib.Omega.{arith}
@@ -14,17 +14,14 @@ use Rattle.model.specs.Region.{is_ruby, first_plain, depends_from}
 use Rattle.laws.specs.Lists.{neither}
 use Rattle.wire.specs.Loops.{any_up_to, Missed, any_missed, by_bool}
 use Rattle.records.specs.Runs.{run_none}
-use Rattle.store.specs.declared.Store.{Store}
-use Rattle.wire.specs.Overwrite.{overwrite}
-use Rattle.strings.specs.Starts.{store_in, lengths_in}
-use Rattle.strings.specs.Index.{index_in}
+use Rattle.strings.specs.declared.lent.Strings.{Strings}
+use Rattle.strings.specs.Lent.{lent_store}
 use Rattle.strings.specs.PlainContent.{plain_of, plain_string}
 use Rattle.sorted_ids.specs.Row.{any_false}
-use Rattle.sorted_ids.specs.Words.{resolvable_own}
 use Rattle.ruby_formats.specs.Asks.{asks_target}
 use Rattle.dependency.specs.Bases.{is_plain, has_base, among_bases, refers_back, refers_at, depends_records}
-use Rattle.dependency.specs.Noted.{first_words, Noted, noted_by, noted_none, noted_next}
-use Rattle.ruby_formats.specs.Sound.{Sound, SoundNode, first_contents, plain_first}
+use Rattle.dependency.specs.Noted.{Noted, noted_by, noted_none, noted_next}
+use Rattle.ruby_formats.specs.Sound.{first_contents, plain_first}
 use Rattle.dependency.specs.Pieces.{run_join, among_join, among_none}
 
 -- node i of a run and those of the first n that stand before it
@@ -33,21 +30,21 @@ refers_among st from t at n i = refers_back st from (records_at node_codec t at 
 
 -- ---- the nodes noted
 
-module _ (st : NodeStore) (t : List ℕ) (at n i : ℕ) (words : List ℕ) (base : ℕ) (m : Noted st (records_at node_codec t at (min n i)) words base) where
-  pub noted_few : (k : ℕ) → k ≡ min n i → Noted st (records_at node_codec t at k) words base
+module _ (st : NodeStore) (t : List ℕ) (at n i : ℕ) (words : List ℕ) (m : Noted st (records_at node_codec t at (min n i)) words) where
+  pub noted_few : (k : ℕ) → k ≡ min n i → Noted st (records_at node_codec t at k) words
   noted_few k e = rw e m
 
-  pub noted_past : n ≤ i → Noted st (records_at node_codec t at (min n (i + 1))) words base
+  pub noted_past : n ≤ i → Noted st (records_at node_codec t at (min n (i + 1))) words
   noted_past h = let e : min n (i + 1) ≡ min n i = omega arith in rw e m
 
-  pub noted_one : {after : List ℕ} → i < n → after ≡ noted_by st words base (record_at node_codec t (at + 49 * i)) → Noted st (records_at node_codec t at (min n (i + 1))) after base
+  pub noted_one : {after : List ℕ} → i < n → after ≡ noted_by st words (record_at node_codec t (at + 49 * i)) → Noted st (records_at node_codec t at (min n (i + 1))) after
   noted_one h q =
       let e : min n (i + 1) ≡ i + 1 = omega arith in
       let f : min n i ≡ i = omega arith in
-      rw e (noted_next st t at words base i (rw f at m) q)
+      rw e (noted_next st t at words i (rw f at m) q)
 
-pub noted_start : (st : NodeStore) (t : List ℕ) (at n : ℕ) (words : List ℕ) (base : ℕ) → Noted st (records_at node_codec t at (min n 0)) words base
-noted_start st t at n words base = let e : min n 0 ≡ 0 = omega arith in rw e (noted_none st t at words base)
+pub noted_start : (st : NodeStore) (t : List ℕ) (at n : ℕ) (words : List ℕ) → Noted st (records_at node_codec t at (min n 0)) words
+noted_start st t at n words = let e : min n 0 ≡ 0 = omega arith in rw e (noted_none st t at words)
 
 -- ---- the walk over one part
 
@@ -133,22 +130,17 @@ module _ (st : NodeStore) (from : ℕ) (t : List ℕ) (at : ℕ) where
 
 -- ---- one node, each return of the code
 
-module _ {t : List ℕ} {st : Store} {words old new : List ℕ} (at i n from : ℕ) {p : ℕ} (place : p ≡ at + 49 * i) (s : SoundNode t st words old new p)
-    {x : Bool} (e : x ≡ asks_target from (record_at node_codec t p)) where
-  here : refers_among (store_in t (old ++ new)) from t at n i ≡ refers_back (store_in t (old ++ new)) from (records_at node_codec t at (min n i)) (record_at node_codec t p)
-  unfolding refers_among
-  here = ap (λ (k : ℕ). refers_back (store_in t (old ++ new)) from (records_at node_codec t at (min n i)) (record_at node_codec t k)) (sym place)
+module _ (ss : Strings) (at i n from : ℕ) {x : Bool} (e : x ≡ asks_target from (record_at node_codec ss.tape.now (at + 49 * i))) where
+  pub refers_other : x ≡ false → false ≡ refers_among (lent_store ss) from ss.tape.now at n i
+  unfolding refers_among refers_back
+  refers_other h = sym (rw (← e, h) refl)
 
-  pub refers_other : x ≡ false → false ≡ refers_among (store_in t (old ++ new)) from t at n i
-  unfolding refers_back
-  refers_other h = sym (here ∙ rw (← e, h) refl)
-
-  pub refers_target : x ≡ true → {r : Option ℕ} → ((b : List ℕ) → r ≡ plain_of (first_contents t p b)) → {k : ℕ} → k ≡ min n i
-      → {y : Bool} → y ≡ among_bases (store_in t (old ++ new)) (records_at node_codec t at k) (plain_string (store_in t (old ++ new)) r)
-      → y ≡ refers_among (store_in t (old ++ new)) from t at n i
-  unfolding refers_back
+  pub refers_target : x ≡ true → {r : Option ℕ} → ((b : List ℕ) → r ≡ plain_of (first_contents ss.tape.now (at + 49 * i) b)) → {k : ℕ} → k ≡ min n i
+      → {y : Bool} → y ≡ among_bases (lent_store ss) (records_at node_codec ss.tape.now at k) (plain_string (lent_store ss) r)
+      → y ≡ refers_among (lent_store ss) from ss.tape.now at n i
+  unfolding refers_among refers_back
   refers_target h f {k} g q =
-      sym (here ∙ rw (← e, h, ← g) (ap (among_bases (store_in t (old ++ new)) (records_at node_codec t at k)) (plain_first s f) ∙ sym q))
+      sym (rw (← e, h, ← g) (ap (among_bases (lent_store ss) (records_at node_codec ss.tape.now at k)) (plain_first ss (at + 49 * i) f) ∙ sym q))
 
 -- ---- a part without a Ruby
 
@@ -179,16 +171,3 @@ module _ (st : NodeStore) (from : ℕ) (t : List ℕ) (at n : ℕ) {x : Bool} (r
           (neither (refers_back st from (records_at node_codec t at (min n i)) m) (refers_back st from (records_at node_codec t (at + 49 * min n i) (n - min n i)) m)
           (sym (ap (λ (l : List SourceNode). refers_back st from l m) (ap (records_at node_codec t at) q ∙ run_join t at (min n i) (n - min n i))
           ∙ refers_join st from (records_at node_codec t at (min n i)) (records_at node_codec t (at + 49 * min n i) (n - min n i)) m) ∙ none_back m)).0
-
--- ---- an index of one's own
-
--- by an index that was written into the first words
-pub sound_own : {t : List ℕ} {st : Store} {index old new : List ℕ} {at count : ℕ} → Sound t st index old new at count → (words : List ℕ) (middle : ℕ) → middle ≤ length words
-    → (ys : List ℕ) → length ys ≡ length (take (middle - 0) words) → ys ≡ overwrite (take (middle - 0) words) 0 (index_in (lengths_in t) (take (middle - 0) words))
-    → Sound t st (first_words middle (ys ++ drop (middle - 0) words)) old new at count
-sound_own {t} {st} {index} {old} {new} {at} {count} s words middle h ys n e = record {
-  strings = resolvable_own words middle h ys n s.strings e;
-  contents = s.contents;
-  nodes = s.nodes;
-  inside = s.inside;
-}

@@ -11,9 +11,9 @@ use Rattle.model.specs.WellFormed.{node_ok}
 use Rattle.laws.specs.Lists.{all_right}
 use Rattle.wire.specs.Loops.{tabulate_last}
 use Rattle.records.specs.Runs.{run_before}
-use Rattle.store.specs.declared.Store.{Store}
+use Rattle.strings.specs.declared.lent.Strings.{Strings}
 use Rattle.dependency.specs.Bases.{has_base, among_bases}
-use Rattle.ruby_formats.specs.Sound.{layers_in, Sound}
+use Rattle.ruby_formats.specs.Sound.{layers_of, Sound}
 
 -- ---- a run in two
 
@@ -33,20 +33,20 @@ run_join t at i n =
     (λ k. let e : at + 49 * (i + k) ≡ at + 49 * i + 49 * k = omega arith in ap (record_at node_codec t) e)
 
 -- n nodes from the one numbered i on
-pub sound_piece : {t : List ℕ} {st : Store} {words old new : List ℕ} {at count : ℕ} → Sound t st words old new at count → (i n : ℕ) → i + n ≤ count
-    → Sound t st words old new (at + 49 * i) n
-sound_piece {t} {st} {words} {old} {new} {at} {count} s i n h =
-    let ok = node_ok (layers_in t (old ++ new)) in
+pub sound_piece : {ss : Strings} {at count : ℕ} → Sound ss at count → (i n : ℕ) → i + n ≤ count → Sound ss (at + 49 * i) n
+sound_piece {ss} {at} {count} s i n h =
+    let t = ss.tape.now in
+    let ok = node_ok (layers_of ss) in
     let e : count ≡ i + (count - i) = omega arith in
     let whole : records_at node_codec t at count ≡ records_at node_codec t at i ++ records_at node_codec t (at + 49 * i) (count - i)
     = ap (records_at node_codec t at) e ∙ run_join t at i (count - i) in
     record {
-      strings = s.strings;
       contents = s.contents;
       nodes =
           run_before node_codec ok t (at + 49 * i) (count - i) n
           (all_right ok (records_at node_codec t at i) (records_at node_codec t (at + 49 * i) (count - i)) (sym (ap (all ok) whole) ∙ s.nodes)) (omega arith);
       inside = omega (arith, s.inside, h);
+      small = s.small;
     }
 
 -- ---- bases of both

@@ -1,5 +1,5 @@
 -- The bases of the Rubies passed, in a row of ids: a string is a base exactly if the row has it. It serves where the filter is crowded.
-use Rattle.std.specs.Prelude.{Option, Some, None, ◌≡◌, ℕ, ◌+◌, ◌*◌, ◌<◌, ◌≤◌, min, Bool, true, false, ◌&&◌, ◌||◌, List, ◌++◌, length, ◌≢◌}
+use Rattle.std.specs.Prelude.{Option, Some, None, ◌≡◌, ℕ, ◌+◌, ◌*◌, ◌<◌, ◌≤◌, min, Bool, true, false, ◌&&◌, ◌||◌, List, ◌≢◌}
 use Rattle.std.proofs.Math.Path.{refl, sym, ap}
 use Rattle.std.proofs.Common.{ap₂, ◌∙◌, arith, add-one}
 use Rattle.std.proofs.Math.Option.{Option as ModelOption, none, some}
@@ -9,13 +9,13 @@ use Rattle.model.specs.Store.{NodeStore, resolve_str}
 use Rattle.model.specs.Tape.{record_at, records_at, node_codec}
 use Rattle.model.specs.Region.{is_ruby, first_plain}
 use Rattle.wire.specs.Loops.{any_up_to, tabulate_last}
-use Rattle.store.specs.declared.Store.{Store}
-use Rattle.strings.specs.Starts.{store_in}
+use Rattle.strings.specs.declared.lent.Strings.{Strings}
+use Rattle.strings.specs.Lent.{lent_store, string_in}
 use Rattle.strings.specs.PlainContent.{plain_of, plain_string}
 use Rattle.sorted_ids.specs.Row.{Row, holds_at, is_string, Inserted, inserted_none, inserted_as}
 use Rattle.ruby_formats.specs.Asks.{asks_target}
 use Rattle.dependency.specs.Bases.{is_plain, has_base, among_bases, refers_back, any_snoc}
-use Rattle.ruby_formats.specs.Sound.{SoundNode, first_contents, plain_first}
+use Rattle.ruby_formats.specs.Sound.{first_contents, plain_first}
 use Rattle.dependency.specs.Parts.{refers_among}
 use Rattle.dependency.specs.declared.Answer.{Answer}
 use Rattle.dependency.specs.declared.Answer.TheVariants.{Yes, No, InVain, Unknown}
@@ -59,113 +59,107 @@ is_one p s = is_plain s p
 unfoldable pub is_base_of : NodeStore → SourceNode → List ℕ → Bool
 is_base_of st n s = has_base st s n
 
-module _ {st : NodeStore} {ids : ℕ} {words : List ℕ} {base m : ℕ} where
-  pub row_some : (id : ℕ) {r : Option ℕ} → r ≡ Some id → {after : List ℕ} {n : ℕ} → Inserted st ids (is_string st id) words base m after n
-      → Inserted st ids (is_one (plain_string st r)) words base m after n
+module _ {ss : Strings} {words : List ℕ} {m : ℕ} where
+  pub row_some : (id : ℕ) {r : Option ℕ} → r ≡ Some id → {after : List ℕ} {n : ℕ} → Inserted ss (is_string ss id) words m after n
+      → Inserted ss (is_one (plain_string (lent_store ss) r)) words m after n
   unfolding is_string is_one plain_string is_plain
-  row_some id e i = rw e (inserted_as i (is_one (some (resolve_str st id))) (λ s. refl))
+  row_some id e i = rw e (inserted_as i (is_one (some (string_in ss id))) (λ s. refl))
 
-  pub row_none : Row st ids words base m → {r : Option ℕ} → r ≡ None → Inserted st ids (is_one (plain_string st r)) words base m words m
+  pub row_none : Row ss words m → {r : Option ℕ} → r ≡ None → Inserted ss (is_one (plain_string (lent_store ss) r)) words m words m
   unfolding is_one plain_string is_plain
   row_none row e = rw e (inserted_none row (is_one none) (λ s. refl))
 
-module _ {t : List ℕ} {st : Store} {index old new : List ℕ} {p : ℕ} (k : SoundNode t st index old new p) {x : Bool} (e : x ≡ is_ruby (record_at node_codec t p))
-    {ids : ℕ} {words : List ℕ} {base m : ℕ} where
-  pub row_other : x ≡ false → Row (store_in t (old ++ new)) ids words base m
-      → Inserted (store_in t (old ++ new)) ids (is_base_of (store_in t (old ++ new)) (record_at node_codec t p)) words base m words m
+module _ (ss : Strings) (p : ℕ) {x : Bool} (e : x ≡ is_ruby (record_at node_codec ss.tape.now p)) {words : List ℕ} {m : ℕ} where
+  pub row_other : x ≡ false → Row ss words m → Inserted ss (is_base_of (lent_store ss) (record_at node_codec ss.tape.now p)) words m words m
   unfolding is_base_of has_base
-  row_other h row =
-      inserted_none row (is_base_of (store_in t (old ++ new)) (record_at node_codec t p))
-      (λ s. ap (λ (b : Bool). b && is_plain s (first_plain (store_in t (old ++ new)) (record_at node_codec t p))) (sym e ∙ h))
+  row_other h row = inserted_none row (is_base_of (lent_store ss) (record_at node_codec ss.tape.now p)) (λ s. ap (λ (b : Bool). b && is_plain s (first_plain (lent_store ss) (record_at node_codec ss.tape.now p))) (sym e ∙ h))
 
-  pub row_ruby : x ≡ true → {r : Option ℕ} → ((b : List ℕ) → r ≡ plain_of (first_contents t p b)) → {after : List ℕ} {n : ℕ}
-      → Inserted (store_in t (old ++ new)) ids (is_one (plain_string (store_in t (old ++ new)) r)) words base m after n
-      → Inserted (store_in t (old ++ new)) ids (is_base_of (store_in t (old ++ new)) (record_at node_codec t p)) words base m after n
+  pub row_ruby : x ≡ true → {r : Option ℕ} → ((b : List ℕ) → r ≡ plain_of (first_contents ss.tape.now p b)) → {after : List ℕ} {n : ℕ}
+      → Inserted ss (is_one (plain_string (lent_store ss) r)) words m after n → Inserted ss (is_base_of (lent_store ss) (record_at node_codec ss.tape.now p)) words m after n
   unfolding is_base_of has_base is_one
   row_ruby h {r} f i =
-      inserted_as i (is_base_of (store_in t (old ++ new)) (record_at node_codec t p))
-      (λ s. sym (ap₂ (λ (b : Bool) (o : ModelOption (List ℕ)). b && is_plain s o) (sym e ∙ h) (plain_first k f)))
+      inserted_as i (is_base_of (lent_store ss) (record_at node_codec ss.tape.now p)) (λ s. sym (ap₂ (λ (b : Bool) (o : ModelOption (List ℕ)). b && is_plain s o) (sym e ∙ h) (plain_first ss p f)))
 
 -- ---- a row of the bases of some nodes
 
-pub record Rowed (st : NodeStore) (ids : ℕ) (ns : List SourceNode) (words : List ℕ) (base m : ℕ) : Type 0 where
-  pub row : Row st ids words base m
-  pub holds : (s : List ℕ) → any (has_base st s) ns ≡ any_up_to m (holds_at st s words base)
+pub record Rowed (ss : Strings) (ns : List SourceNode) (words : List ℕ) (m : ℕ) : Type 0 where
+  pub row : Row ss words m
+  pub holds : (s : List ℕ) → any (has_base (lent_store ss) s) ns ≡ any_up_to m (holds_at ss s words)
 
-module _ (st : NodeStore) (ids : ℕ) (t : List ℕ) (at : ℕ) where
-  pub rowed_none : (words : List ℕ) (base : ℕ) → base ≤ length words → Rowed st ids (records_at node_codec t at 0) words base 0
+module _ (ss : Strings) (t : List ℕ) (at : ℕ) where
+  pub rowed_none : (words : List ℕ) → Rowed ss (records_at node_codec t at 0) words 0
   unfolding records_at any_up_to
-  rowed_none words base h = record {
+  rowed_none words = record {
     row = record { room = omega arith; inside = λ j g. absurd (omega arith); rising = λ i j g k. absurd (omega arith) };
     holds = λ s. refl;
   }
 
-  pub rowed_next : (i : ℕ) {words : List ℕ} {base m : ℕ} {after : List ℕ} {n : ℕ} → Rowed st ids (records_at node_codec t at i) words base m
-      → Inserted st ids (is_base_of st (record_at node_codec t (at + 49 * i))) words base m after n → Rowed st ids (records_at node_codec t at (i + 1)) after base n
+  pub rowed_next : (i : ℕ) {words : List ℕ} {m : ℕ} {after : List ℕ} {n : ℕ} → Rowed ss (records_at node_codec t at i) words m
+      → Inserted ss (is_base_of (lent_store ss) (record_at node_codec t (at + 49 * i))) words m after n → Rowed ss (records_at node_codec t at (i + 1)) after n
   unfolding records_at node_codec is_base_of
-  rowed_next i {words} {base} {m} r q =
+  rowed_next i {words} {m} r q =
       rw (add-one i, tabulate_last i (λ (k : ℕ). record_at node_codec t (at + 49 * k))) (record {
         row = q.row;
         holds = λ s.
+            let st = lent_store ss in
             let n = record_at node_codec t (at + 49 * i) in
             any_snoc (has_base st s) (records_at node_codec t at i) n ∙ ap (λ (b : Bool). has_base st s n || b) (r.holds s) ∙ sym (q.holds s);
       })
 
   -- the bases of the first n nodes, where i are passed
-  module _ (n i : ℕ) {words : List ℕ} {base m : ℕ} (r : Rowed st ids (records_at node_codec t at (min n i)) words base m) where
-    pub rowed_past : n ≤ i → Rowed st ids (records_at node_codec t at (min n (i + 1))) words base m
+  module _ (n i : ℕ) {words : List ℕ} {m : ℕ} (r : Rowed ss (records_at node_codec t at (min n i)) words m) where
+    pub rowed_past : n ≤ i → Rowed ss (records_at node_codec t at (min n (i + 1))) words m
     rowed_past h = let e : min n (i + 1) ≡ min n i = omega arith in rw e r
 
-    pub rowed_one : i < n → {after : List ℕ} {k : ℕ} → Inserted st ids (is_base_of st (record_at node_codec t (at + 49 * i))) words base m after k
-        → Rowed st ids (records_at node_codec t at (min n (i + 1))) after base k
+    pub rowed_one : i < n → {after : List ℕ} {k : ℕ} → Inserted ss (is_base_of (lent_store ss) (record_at node_codec t (at + 49 * i))) words m after k
+        → Rowed ss (records_at node_codec t at (min n (i + 1))) after k
     rowed_one h q =
         let e : min n (i + 1) ≡ i + 1 = omega arith in
         let f : min n i ≡ i = omega arith in
         rw e (rowed_next i (rw f at r) q)
 
-  pub rowed_start : (n : ℕ) (words : List ℕ) (base : ℕ) → base ≤ length words → Rowed st ids (records_at node_codec t at (min n 0)) words base 0
-  rowed_start n words base h = let e : min n 0 ≡ 0 = omega arith in rw e (rowed_none words base h)
+  pub rowed_start : (n : ℕ) (words : List ℕ) → Rowed ss (records_at node_codec t at (min n 0)) words 0
+  rowed_start n words = let e : min n 0 ≡ 0 = omega arith in rw e (rowed_none words)
 
 -- ---- a target among them
 
-unfoldable pub among_row : NodeStore → List ℕ → ℕ → ℕ → ModelOption (List ℕ) → Bool
-among_row st words base m none = false
-among_row st words base m (some s) = any_up_to m (holds_at st s words base)
+unfoldable pub among_row : Strings → List ℕ → ℕ → ModelOption (List ℕ) → Bool
+among_row ss words m none = false
+among_row ss words m (some s) = any_up_to m (holds_at ss s words)
 
-pub among_row_lem : {st : NodeStore} {ids : ℕ} {ns : List SourceNode} {words : List ℕ} {base m : ℕ} → Rowed st ids ns words base m → (p : ModelOption (List ℕ))
-    → among_row st words base m p ≡ among_bases st ns p
+pub among_row_lem : {ss : Strings} {ns : List SourceNode} {words : List ℕ} {m : ℕ} → Rowed ss ns words m → (p : ModelOption (List ℕ))
+    → among_row ss words m p ≡ among_bases (lent_store ss) ns p
 unfolding among_row among_bases
 among_row_lem r none = refl
 among_row_lem r (some s) = sym (r.holds s)
 
-module _ (st other : NodeStore) (words : List ℕ) (base m : ℕ) where
-  pub among_some : (id : ℕ) {r : Option ℕ} → r ≡ Some id → {s : List ℕ} → s ≡ resolve_str other id → {x : Bool} → x ≡ any_up_to m (holds_at st s words base)
-      → x ≡ among_row st words base m (plain_string other r)
+module _ (ss : Strings) (other : NodeStore) (words : List ℕ) (m : ℕ) where
+  pub among_some : (id : ℕ) {r : Option ℕ} → r ≡ Some id → {s : List ℕ} → s ≡ resolve_str other id → {x : Bool} → x ≡ any_up_to m (holds_at ss s words)
+      → x ≡ among_row ss words m (plain_string other r)
   unfolding among_row plain_string
   among_some id e f q = rw (e, ← f) q
 
-  pub among_nothing : {r : Option ℕ} → r ≡ None → false ≡ among_row st words base m (plain_string other r)
+  pub among_nothing : {r : Option ℕ} → r ≡ None → false ≡ among_row ss words m (plain_string other r)
   unfolding among_row plain_string
   among_nothing e = rw e refl
 
 -- Number 10, one node: its target is asked for and in the row.
-unfoldable pub refers_row : NodeStore → ℕ → List ℕ → ℕ → ℕ → SourceNode → Bool
-refers_row st from words base m n = asks_target from n && among_row st words base m (first_plain st n)
+unfoldable pub refers_row : Strings → ℕ → List ℕ → ℕ → SourceNode → Bool
+refers_row ss from words m n = asks_target from n && among_row ss words m (first_plain (lent_store ss) n)
 
-module _ {t : List ℕ} {st : Store} {index old new : List ℕ} {p : ℕ} (k : SoundNode t st index old new p) (from : ℕ) (words : List ℕ) (base m : ℕ)
-    {x : Bool} (e : x ≡ asks_target from (record_at node_codec t p)) where
-  pub row_asks_not : x ≡ false → false ≡ refers_row (store_in t (old ++ new)) from words base m (record_at node_codec t p)
+module _ (ss : Strings) (p from : ℕ) (words : List ℕ) (m : ℕ) {x : Bool} (e : x ≡ asks_target from (record_at node_codec ss.tape.now p)) where
+  pub row_asks_not : x ≡ false → false ≡ refers_row ss from words m (record_at node_codec ss.tape.now p)
   unfolding refers_row
   row_asks_not h = rw (← e, h) refl
 
-  pub row_target : x ≡ true → {r : Option ℕ} → ((b : List ℕ) → r ≡ plain_of (first_contents t p b)) → {y : Bool}
-      → y ≡ among_row (store_in t (old ++ new)) words base m (plain_string (store_in t (old ++ new)) r) → y ≡ refers_row (store_in t (old ++ new)) from words base m (record_at node_codec t p)
+  pub row_target : x ≡ true → {r : Option ℕ} → ((b : List ℕ) → r ≡ plain_of (first_contents ss.tape.now p b)) → {y : Bool}
+      → y ≡ among_row ss words m (plain_string (lent_store ss) r) → y ≡ refers_row ss from words m (record_at node_codec ss.tape.now p)
   unfolding refers_row
-  row_target h f q = rw (← e, h) (q ∙ ap (among_row (store_in t (old ++ new)) words base m) (sym (plain_first k f)))
+  row_target h f q = rw (← e, h) (q ∙ ap (among_row ss words m) (sym (plain_first ss p f)))
 
-pub rowed_refers : {st : NodeStore} {ids : ℕ} (from : ℕ) (t : List ℕ) (at n i : ℕ) {words : List ℕ} {base m : ℕ} → Rowed st ids (records_at node_codec t at (min n i)) words base m
-    → {x : Bool} → x ≡ refers_row st from words base m (record_at node_codec t (at + 49 * i)) → x ≡ refers_among st from t at n i
+pub rowed_refers : {ss : Strings} (from : ℕ) (t : List ℕ) (at n i : ℕ) {words : List ℕ} {m : ℕ} → Rowed ss (records_at node_codec t at (min n i)) words m
+    → {x : Bool} → x ≡ refers_row ss from words m (record_at node_codec t (at + 49 * i)) → x ≡ refers_among (lent_store ss) from t at n i
 unfolding refers_row refers_among refers_back
-rowed_refers {st} from t at n i r q =
+rowed_refers {ss} from t at n i r q =
     let node = record_at node_codec t (at + 49 * i) in
-    q ∙ ap (λ (b : Bool). asks_target from node && b) (among_row_lem r (first_plain st node))
+    q ∙ ap (λ (b : Bool). asks_target from node && b) (among_row_lem r (first_plain (lent_store ss) node))

@@ -11,6 +11,14 @@ ghost use Rattle.edit.specs.Numbers.{within, length_fits, edit_number};
 
 use refusal::Refusal;
 
+// What is replaced in a text, and by what.
+#[derive(Clone, Copy)]
+pub struct Edit<'a> {
+    pub start: u32,
+    pub end: u32,
+    pub replacement: &'a [u8],
+}
+
 const MAX_TEXT: usize = 16777215;
 
 // Number 8. Start ≤ end ≤ length, neither inside a character.
@@ -34,28 +42,29 @@ fn length_fits(size: usize, start: u32, end: u32, added: usize) -> bool
 }
 
 // Number 9. The new text equals the old.
-pub fn unchanged(text: &[u8], start: u32, end: u32, replacement: &[u8]) -> bool
-    requires { (start ≤ end) × (end ≤ length text.now) }
-    ensures { result ≡ same_bytes (edited text.now (edit_of start end replacement.now)) text.now }
+pub fn unchanged(text: &[u8], edit: &Edit) -> bool
+    requires { (edit.now.start ≤ edit.now.end) × (edit.now.end ≤ length text.now) }
+    ensures { result ≡ same_bytes (edited text.now (edit_of edit.now.start edit.now.end edit.now.replacement.now)) text.now }
 {
-    compare::same(replacement, &text[start as usize..end as usize])
+    let replaced = &text[edit.start as usize..edit.end as usize];
+    compare::same(edit.replacement, replaced)
 }
 
 // Numbers 8, 2, 3, 9 of an edit.
-pub fn check_edit(text: &[u8], start: u32, end: u32, replacement: &[u8]) -> Result<(), Refusal>
+pub fn check_edit(text: &[u8], edit: &Edit) -> Result<(), Refusal>
     requires { length text.now ≤ max_text }
-    ensures { number_in result ≡ edit_number text.now (edit_of start end replacement.now) }
+    ensures { number_in result ≡ edit_number text.now (edit_of edit.now.start edit.now.end edit.now.replacement.now) }
 {
-    if !edit_ok(text, start, end) {
+    if !edit_ok(text, edit.start, edit.end) {
         return Err(Refusal::Edit);
     }
-    if !utf8::is_utf8(replacement) {
+    if !utf8::is_utf8(edit.replacement) {
         return Err(Refusal::NotUtf8);
     }
-    if !length_fits(text.len(), start, end, replacement.len()) {
+    if !length_fits(text.len(), edit.start, edit.end, edit.replacement.len()) {
         return Err(Refusal::OverLimit);
     }
-    if unchanged(text, start, end, replacement) {
+    if unchanged(text, edit) {
         return Err(Refusal::SameText);
     }
     Ok(())

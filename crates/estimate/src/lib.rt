@@ -11,8 +11,9 @@ ghost use Rattle.splice.specs.Window.{window_value};
 ghost use Rattle.fitting.specs.Books.{Books, book_in};
 ghost use Rattle.estimate.specs.Pricing.{over_price, price_by, price_value, estimate_of, price_in};
 
-use books::{Book, Correction, Merging, Stored};
+use books::{Correction, Merging, Stored};
 use refusal::Refusal;
+use region::Book;
 
 const MAX_POOL: u32 = 1048575;
 
@@ -85,23 +86,25 @@ fn estimate_checked(
     ensures { checked result ≡ estimate_of (estimate (stored_value book.now) (edit_value correction.now.edit) (stored_value correction.now.reading)) }
 {
     let f = fitting::fitted(book, correction, work)?;
-    let reading = &correction.reading;
-    Ok(price_fitted(&Merging {
-        book: Book {
-            tape: book.tape,
-            bytes: book.bytes,
-            places: f.p,
-            store: f.st,
-        },
+    let book = Book {
+        tape: book.tape,
+        bytes: book.bytes,
+        places: f.p,
+        store: f.st,
+    };
+    let reading = Book {
+        tape: correction.reading.tape,
+        bytes: correction.reading.bytes,
+        places: f.q,
+        store: f.own,
+    };
+    let merging = Merging {
+        book,
         edit: correction.edit,
         window: f.w,
-        reading: Book {
-            tape: reading.tape,
-            bytes: reading.bytes,
-            places: f.q,
-            store: f.own,
-        },
-    }))
+        reading,
+    };
+    Ok(price_fitted(&merging))
 }
 
 // `estimate`: the merge's 1 to 17 as the merge gives them, or the price; all work words are 0 at the end.

@@ -4,7 +4,8 @@
 // cases, and from documents 01 and 02 the output that is stored beside them.
 #![tactic(auto)]
 
-use books::{Correction, Edit, Stored};
+use books::{Correction, Stored};
+use edit::Edit;
 use estimate::Price;
 use refusal::Refusal;
 use std::io;

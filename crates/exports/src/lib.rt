@@ -23,7 +23,8 @@ ghost use Rattle.output.specs.Answer.{Merged};
 ghost use Rattle.orders.specs.Orders.{MergedBothOrders};
 ghost use Rattle.answers.specs.Answers.{allowed_answer, node_answer, range_answer, range_read, str_answer, str_read, copy_answer, region_answer, price_answer, merge_answer, output_read, orders_answer, orders_read};
 
-use books::{Correction, Edit, Stored};
+use books::{Correction, Stored};
+use edit::Edit;
 
 #[unsafe(no_mangle)]
 pub extern "C" fn aozora_check_book(tape: &[u8], bytes: &[u8]) -> u32

@@ -18,8 +18,7 @@ use Rattle.passage.specs.Text.{edit_within, region_length, text_book}
 use Rattle.passage.specs.Window.{ends_on_boundaries}
 use Rattle.passage.specs.Layers.{layer_missing, missing_of, missing_book}
 use Rattle.reading.specs.Book.{text_found, normalized_found, balanced_book, unclosed_book, cuts_book}
-use Rattle.region.specs.Ready.{ready_inside}
-use Rattle.region.specs.Held.{Held, held_without}
+use Rattle.region.specs.Held.{Held, held_texts_inside}
 use Rattle.fitting.specs.Numbers.{cut_number, reading_number, number_12, number_13, number_14, number_rest, number_15, number_16, number_17, number_0}
 use Rattle.fitting.specs.Stages.{Read}
 use Rattle.fitting.specs.Window.{given_inside}
@@ -32,7 +31,7 @@ module _ {t d : List ℕ} {p : Places} {st : Store} (h : Held t d p st) where
   held_lengths = book_lengths t d p h.accepted.framing h.is
 
   pub held_texts : p.text + p.normalized ≤ length d
-  held_texts = ready_inside (held_without h)
+  held_texts = held_texts_inside h
 
   pub held_order : InOrder (records_at node_codec t p.nodes.at p.nodes.count)
   held_order = accepted_order h.accepted h.is

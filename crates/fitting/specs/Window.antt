@@ -1,5 +1,5 @@
 -- `MergeWindow`: the region in both texts, and how far what lies behind it moves in each, by the code's numbers.
-use Rattle.std.specs.Prelude.{◌≡◌, ℕ, ◌-◌, ◌^◌, ◌≤◌, ◌<◌, List, [], length, ◌-ℤ◌}
+use Rattle.std.specs.Prelude.{◌≡◌, ℕ, ◌-◌, ◌^◌, ◌≤◌, ◌<◌, List, length, ◌-ℤ◌}
 use Rattle.std.proofs.Common.{sym, ◌∙◌, arith}
 use Rattle.std.proofs.Math.Path.{ap, ap₂}
 use Rattle.std.proofs.Math.IntN.{pos, sub_ℕ}
@@ -16,11 +16,7 @@ use Rattle.span.specs.Shift.{sub_signs}
 use Rattle.span.specs.declared.Amount.{Amount}
 use Rattle.places.specs.declared.Places.{Places}
 use Rattle.store.specs.declared.Store.{Store}
-use Rattle.strings.specs.Starts.{lengths_in}
-use Rattle.strings.specs.Index.{index_in}
-use Rattle.wire.specs.Overwrite.{overwrite}
-use Rattle.region.specs.Ready.{Ready, ready_nodes, ready_length}
-use Rattle.region.specs.Held.{held_without}
+use Rattle.region.specs.Held.{Held, held_nodes, held_length}
 use Rattle.splice.specs.declared.Window.{Window}
 use Rattle.splice.specs.Window.{window_value}
 use Rattle.fitting.specs.Books.{well_formed_lem}
@@ -49,8 +45,8 @@ module _ {t d : List ℕ} {p : Places} {st : Store} {e : Edit} {r : Span} (g : G
   abbrev old : LexOutput
   old = book_at t (places t) d
 
-  ready : Ready t d p st (overwrite [] 0 (index_in (lengths_in t) []))
-  ready = held_without g.held
+  held : Held t d p st
+  held = g.held
 
   pub given_chosen : Chosen old e r
   given_chosen = chosen_facts old e r g.chosen
@@ -77,13 +73,13 @@ module _ {t d : List ℕ} {p : Places} {st : Store} {e : Edit} {r : Span} (g : G
   pub given_inside : Inside
   given_inside =
       let b = region_bounds in
-      let n = ready_length ready in
+      let n = held_length held in
       record { start = b.starts.before; edit = given_chosen.rising; end = b.ends.behind; text = omega (arith, b.ends.inside, n) }
 
   normal_small : (c : ℕ) → SafeCut old c → c ≤ p.text → {x : ℕ} → x ≡ normalized_offset (records_at node_codec t p.nodes.at p.nodes.count) c → x < 2 ^ 32
   normal_small c safe h {x} u =
-      let n = ready_length ready in
-      let k = u ∙ ap (λ (ns : List SourceNode). normalized_offset ns c) (ready_nodes ready) in
+      let n = held_length held in
+      let k = u ∙ ap (λ (ns : List SourceNode). normalized_offset ns c) (held_nodes held) in
       let b = normal_inside sound safe (omega (arith, h, n)) in
       let l = (limit_facts old g.held.accepted.limits).normalized in
       omega (arith, b, k, l)
@@ -97,10 +93,10 @@ module _ {t d : List ℕ} {p : Places} {st : Store} {e : Edit} {r : Span} (g : G
   -- the region in the normalized text
   module _ {x y : ℕ} (u : x ≡ normalized_offset (records_at node_codec t p.nodes.at p.nodes.count) r.start) (v : y ≡ normalized_offset (records_at node_codec t p.nodes.at p.nodes.count) r.end) where
     starts : x ≡ normalized_offset old.source_nodes r.start
-    starts = u ∙ ap (λ (ns : List SourceNode). normalized_offset ns r.start) (ready_nodes ready)
+    starts = u ∙ ap (λ (ns : List SourceNode). normalized_offset ns r.start) (held_nodes held)
 
     ends : y ≡ normalized_offset old.source_nodes r.end
-    ends = v ∙ ap (λ (ns : List SourceNode). normalized_offset ns r.end) (ready_nodes ready)
+    ends = v ∙ ap (λ (ns : List SourceNode). normalized_offset ns r.end) (held_nodes held)
 
     pub normal_order : x ≤ y
     normal_order =

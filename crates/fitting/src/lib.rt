@@ -16,8 +16,10 @@ ghost use Rattle.fitting.specs.Numbers.{cut_number, reading_number};
 ghost use Rattle.fitting.specs.Window.{window_from};
 ghost use Rattle.fitting.specs.Stages.{Given, Read, TargetFound, Fits, region_of};
 
-use books::{Correction, Edit, Stored};
+use books::{Correction, Stored};
+use edit::Edit;
 use refusal::Refusal;
+use region::Book;
 use span::{NormalizedOffset, SourceOffset, Span};
 use splice::Window;
 
@@ -45,16 +47,13 @@ fn target_of(book: &Stored, edit: &Edit, work: &mut [u32]) -> Result<Target, Ref
 {
     let p = tape::checked_book(book.tape, book.bytes)?;
     let st = store::store_of(book.tape, p.layers);
-    let region = region::chosen_region(
-        book.tape,
-        book.bytes,
-        p,
-        st,
-        work,
-        edit.start,
-        edit.end,
-        edit.replacement,
-    )?;
+    let book = Book {
+        tape: book.tape,
+        bytes: book.bytes,
+        places: p,
+        store: st,
+    };
+    let region = region::chosen_region(&book, edit, work)?;
     Ok(Target { p, st, region })
 }
 
@@ -65,7 +64,7 @@ fn normalized_cut(tape: &[u8], nodes: places::Run, cut: SourceOffset) -> Normali
     requires cut_bound { normalized_offset (records_at node_codec tape.now nodes.at nodes.count) cut.0 < 2 ^ 32 }
     ensures { result.0 ≡ normalized_offset (records_at node_codec tape.now nodes.at nodes.count) cut.0 }
 {
-    let at = reading::normalized_offset(tape, nodes.at, nodes.count, cut.0);
+    let at = reading::normalized_offset(tape, nodes, cut.0);
     NormalizedOffset(at as u32)
 }
 
@@ -116,19 +115,19 @@ fn check_cuts(book: &Stored, reading: &Stored, f: Fitting, work: &mut [u32]) -> 
     let p = f.p;
     let q = f.q;
     let w = f.w;
-    if introduces::introduces_ruby_format_dependency(
-        book.tape,
-        book.bytes,
-        p,
-        f.st,
-        reading.tape,
-        reading.bytes,
-        q,
-        f.own,
-        work,
-        w.start,
-        w.end,
-    ) {
+    let old = Book {
+        tape: book.tape,
+        bytes: book.bytes,
+        places: p,
+        store: f.st,
+    };
+    let own = Book {
+        tape: reading.tape,
+        bytes: reading.bytes,
+        places: q,
+        store: f.own,
+    };
+    if introduces::introduces_ruby_format_dependency(&old, &own, work, w.start, w.end) {
         return Err(Refusal::NewRubyFormatDependency);
     }
     let first = p.text as usize;
@@ -168,10 +167,10 @@ fn check_fitting(
     if !passage::is_region_text(old_text, first, last, edit.replacement, own_text) {
         return Err(Refusal::OtherText);
     }
-    if !reading::balanced_nodes(reading.tape, q.nodes.at, q.nodes.count) {
+    if !reading::balanced_nodes(reading.tape, q.nodes) {
         return Err(Refusal::Unbalanced);
     }
-    if reading::has_unclosed(reading.tape, q.diagnostics.at, q.diagnostics.count) {
+    if reading::has_unclosed(reading.tape, q.diagnostics) {
         return Err(Refusal::Unclosed);
     }
     check_cuts(book, reading, f, work)

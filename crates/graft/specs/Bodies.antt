@@ -27,7 +27,7 @@ use Rattle.sizes.specs.Order.{field_from as field_at_word}
 use Rattle.sizes.specs.InPlace.{field_words}
 use Rattle.sizes.specs.Trees.{length_segments, length_contents}
 use Rattle.sizes.specs.Shown.{show_inner, segments_shown, contents_shown}
-use Rattle.sizes.specs.declared.FieldWords.{FieldWords}
+use Rattle.sizes.specs.Words.{UsedWords}
 use Rattle.graft.specs.Grafted.{layer_from}
 use Rattle.graft.specs.Named.{source_store}
 use Rattle.graft.specs.Walk.{Source, shown_contents, shown_segments, body_from, place_from, content_run_from, segment_run_from, field_from, id_from, words_with}
@@ -91,7 +91,7 @@ module _ (l : ℕ) (t d : List ℕ) (st : Store) (source : Source t d st) where
       ∙ ap length (segment_range t st source.fit.stored (drop (word_at t 1 + word_at t 5) d) start len h) ∙ length_records segment_codec t (segment_place st start) len
 
   module _ (b : Body) (i : ℕ) (ws : List ℕ) (f : NewLayer) where
-    abbrev field_of : ℕ → FieldWords
+    abbrev field_of : ℕ → UsedWords
     field_of u = record { usage = u; first = word_of b i; second = word_of b (i + 1) }
 
     word_from : (u : ℕ) → used_well st u (word_of b i) (word_of b (i + 1)) ≡ true
@@ -125,7 +125,7 @@ module _ (l : ℕ) (t d : List ℕ) (st : Store) (source : Source t d st) where
 
 -- ---- the words that a field sets
 
-module _ (ws : List ℕ) (i : ℕ) (f : FieldWords) (v : ℕ) where
+module _ (ws : List ℕ) (i : ℕ) (f : UsedWords) (v : ℕ) where
   pub words_string : f.usage ≡ 1 → {r : List ℕ} → r ≡ set ws i v → r ≡ words_with ws i f v
   unfolding words_with
   words_string e q = rw e q

@@ -22,7 +22,7 @@ use Rattle.sizes.specs.Order.{field_word, place_field, place_fields, fields_in_o
 use Rattle.sizes.specs.Added.{Added, add, all_append}
 use Rattle.sizes.specs.InPlace.{inner_adds, body_adds, place_adds, used_adds, field_adds, fields_add, field_words, content_run_adds, segment_run_adds, from_adds}
 use Rattle.sizes.specs.Shown.{show_inner}
-use Rattle.sizes.specs.declared.FieldWords.{FieldWords}
+use Rattle.sizes.specs.Words.{UsedWords}
 use Rattle.graft.specs.Rebased.{rebased, behind, steps_fields}
 use Rattle.graft.specs.Grafted.{layer_from, Told, Sized, Roomy, empty_sized, next_layer, told_then, refused_then}
 use Rattle.graft.specs.Widths.{fields_sized}
@@ -88,7 +88,7 @@ module _ (t d : List ℕ) (p : Plan) (m : Mark) (out work strs : List ℕ) (u w 
 
 -- ---- a field by its use
 
-module _ (l : ℕ) (t d : List ℕ) (p : Plan) (m : Mark) (out work strs : List ℕ) (f : FieldWords) where
+module _ (l : ℕ) (t d : List ℕ) (p : Plan) (m : Mark) (out work strs : List ℕ) (f : UsedWords) where
   module _ {out' work' strs' : List ℕ} {r : Mark} {x : Option ℕ} where
     pub field_contents : f.usage ≡ 3 → StartTold t d p m out work strs out' work' strs' r x (content_run_from l t d f.first f.second (layer_from p work strs m))
         → StartTold t d p m out work strs out' work' strs' r x (field_from l t d f (layer_from p work strs m))
@@ -126,17 +126,17 @@ module _ (t : List ℕ) (at j r : ℕ) (e : r ≡ field_word (byte_at t at) j) w
   word_small h = omega (arith, e, h)
 
 module _ (st : Store) (b : Body) (j : ℕ) where
-  pub place_well : body_in st b ≡ true → field_word b.kind j < 6 → (f : FieldWords) → f ≡ field_words b j → used_well st f.usage f.first f.second ≡ true
+  pub place_well : body_in st b ≡ true → field_word b.kind j < 6 → (f : UsedWords) → f ≡ field_words b j → used_well st f.usage f.first f.second ≡ true
   unfolding word_in
   place_well h k f e =
       rw e (by_bool (word_in st b (field_word b.kind j)) (λ x. x) (λ x. absurd (true≢false (sym h ∙ sym (body_failed st b (field_word b.kind j) k x)))))
 
-  pub place_ready : {t d : List ℕ} {p : Plan} {m : Mark} {out work strs : List ℕ} (inner : Body → Added) (f : FieldWords) → f ≡ field_words b j
+  pub place_ready : {t d : List ℕ} {p : Plan} {m : Mark} {out work strs : List ℕ} (inner : Body → Added) (f : UsedWords) → f ≡ field_words b j
       → Ready t d st p m out work strs (place_adds inner t st b j) → Ready t d st p m out work strs (used_adds inner t st f)
   unfolding place_adds
   place_ready inner f e y = rw e y
 
-  module _ (l : ℕ) (t d : List ℕ) (source : Source t d st) (p : Plan) (m : Mark) (ws out work strs : List ℕ) (f : FieldWords) (q : f ≡ field_words b j)
+  module _ (l : ℕ) (t d : List ℕ) (source : Source t d st) (p : Plan) (m : Mark) (ws out work strs : List ℕ) (f : UsedWords) (q : f ≡ field_words b j)
       (h : used_well st f.usage f.first f.second ≡ true) where
     known_well : used_well st (field_words b j).usage (field_words b j).first (field_words b j).second ≡ true
     known_well = rw q at h
@@ -151,7 +151,7 @@ module _ (st : Store) (b : Body) (j : ℕ) where
         → (own : List ℕ) → own ≡ words_with ws i f v → WordsTold t d p m out work strs out' work' strs' r (Some own) (place_from l t d b j ws (layer_from p work strs m))
     place_told {out'} {work'} {strs'} {r} i e v x own z =
         let y : StartTold t d p m out work strs out' work' strs' r (Some v) (field_from l t d (field_words b j) (layer_from p work strs m)) = rw q at x in
-        let k : own ≡ words_with ws (field_word b.kind j) (field_words b j) v = z ∙ ap₂ (λ (n : ℕ) (g : FieldWords). words_with ws n g v) e q in
+        let k : own ≡ words_with ws (field_word b.kind j) (field_words b j) v = z ∙ ap₂ (λ (n : ℕ) (g : UsedWords). words_with ws n g v) e q in
         rw (place_from_lem l t d st source b j ws (layer_from p work strs m) known_well) (record {
           told = y.told;
           words = λ xs o. sym (same_Some own xs o) ∙ k ∙ ap (words_with ws (field_word b.kind j) (field_words b j)) (y.start v refl);

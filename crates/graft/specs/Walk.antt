@@ -18,7 +18,7 @@ use Rattle.store.specs.Stored.{OfTape}
 use Rattle.interner.specs.State.{has_room, Good, state_of}
 use Rattle.sizes.specs.Shown.{show_inner}
 use Rattle.sizes.specs.Order.{place_field, place_fields}
-use Rattle.sizes.specs.declared.FieldWords.{FieldWords}
+use Rattle.sizes.specs.Words.{UsedWords}
 use Rattle.sizes.specs.Added.{Added}
 use Rattle.graft.specs.Grafted.{layer_from, Told}
 use Rattle.graft.specs.Named.{source_store, pair_words, Named}
@@ -116,13 +116,13 @@ id_from t d u w g =
     (cond (eqb u 2) (cond (eqb w no_string) (no_string, g) (graft_str (resolve_str (source_store t d) w) g)) (0, g))
 
 -- a field by its use: its id, no_string, its run's start, or 0 where none begins
-unfoldable pub field_from : ℕ → List ℕ → List ℕ → FieldWords → NewLayer → With ℕ
+unfoldable pub field_from : ℕ → List ℕ → List ℕ → UsedWords → NewLayer → With ℕ
 field_from l t d f g =
     cond (eqb f.usage 3) (content_run_from l t d f.first f.second g)
     (cond (eqb f.usage 5) (segment_run_from l t d f.first f.second g) (id_from t d f.usage f.first g))
 
 -- the words with a field's own at i
-unfoldable pub words_with : List ℕ → ℕ → FieldWords → ℕ → List ℕ
+unfoldable pub words_with : List ℕ → ℕ → UsedWords → ℕ → List ℕ
 words_with ws i f v =
     cond (eqb f.usage 1) (set ws i v) (cond (eqb f.usage 2) (set ws i v)
     (cond (eqb f.usage 3) (set (set ws i v) (i + 1) f.second) (cond (eqb f.usage 5) (set (set ws i v) (i + 1) f.second) ws)))

@@ -22,9 +22,15 @@ ghost use Rattle.graft.specs.Walk.{Ready, body_from, place_from, content_run_fro
 ghost use Rattle.graft.specs.Named.{source_store, pair_words, Named, ShowsAs};
 ghost use Rattle.representatives.specs.Pairs.{Pairs};
 ghost use Rattle.graft.specs.Walk.{Source, index_words, string_from, shown_contents, shown_segments, StartTold, id_from, WordsTold, ContentsTold, SegmentsTold};
+ghost use Rattle.records.specs.Uses.{use_number};
+ghost use Rattle.sizes.specs.Words.{words_of};
 
 use interner::StrInterner;
+use records::Use;
 use sizes::{Room, Sizes};
+
+// The id of a missing string.
+const NO_STRING: u32 = 4294967295;
 
 // any number of items, and none yet
 const ANY: Room = Room {
@@ -139,41 +145,42 @@ fn graft_string(
     strs: &mut [u8],
     p: Plan,
     m: &mut Mark,
-    usage: u8,
+    usage: Use,
     id: u32,
 ) -> Option<u32>
     requires source { Source tape.now bytes.now st }
     requires indexed { Indexed (lengths_in tape.now) (index_words work.old) × Pairs (resolve_str (source_store tape.now bytes.now)) (pair_words work.old) }
     requires good { Good work.old strs.old m.old.state × Named tape.now bytes.now work.old strs.old m.old }
     requires has_room { has_room (length strs.old) m.old.state.base (state_of work.old strs.old m.old.state) ≡ true }
-    requires id_value { (used_well st usage id 0 ≡ true) × (m.old.state.stats.calls < 2 ^ 32) × (p.strings + 2 ^ 12 < 2 ^ 32) }
+    requires id_value { (used_well st (use_number usage) id 0 ≡ true) × (m.old.state.stats.calls < 2 ^ 32) × (p.strings + 2 ^ 12 < 2 ^ 32) }
     ensures { (out : List ℕ) → StartTold tape.now bytes.now p m.old out work.old strs.old out work.new strs.new m.new result
-        (id_from tape.now bytes.now usage id (layer_from p work.old strs.old m.old)) }
+        (id_from tape.now bytes.now (use_number usage) id (layer_from p work.old strs.old m.old)) }
 {
-    if usage == 1 {
-        return graft_str(tape, bytes, st, work, strs, p, m, id);
+    match usage {
+        Use::Str => graft_str(tape, bytes, st, work, strs, p, m, id),
+        Use::OptStr => if id == NO_STRING {
+            Some(NO_STRING)
+        } else {
+            graft_str(tape, bytes, st, work, strs, p, m, id)
+        },
+        _ => Some(0),
     }
-    if usage == 2 {
-        if id == 4294967295 {
-            return Some(4294967295);
-        }
-        return graft_str(tape, bytes, st, work, strs, p, m, id);
-    }
-    Some(0)
 }
 
 // The words with a field's own: its id or start, and a range's length.
 fn with_words(mut words: [u32; 6], i: usize, f: sizes::FieldWords, v: u32) -> [u32; 6]
     requires { i < 6 }
-    ensures { result ≡ words_with words i f v }
+    ensures { result ≡ words_with words i (words_of f) v }
 {
-    if f.usage == 1 || f.usage == 2 {
-        words[i] = v;
-    } else if f.usage == 3 || f.usage == 5 {
-        words[i] = v;
-        if i < 5 {
-            words[i + 1] = f.second;
+    match f.usage {
+        Use::Str | Use::OptStr => words[i] = v,
+        Use::Contents | Use::Segments => {
+            words[i] = v;
+            if i < 5 {
+                words[i + 1] = f.second;
+            }
         }
+        _ => {}
     }
     words
 }
@@ -271,22 +278,20 @@ fn graft_field(
     f: sizes::FieldWords,
     level: u8,
 ) -> Option<u32>
-    requires ready { Ready tape.now bytes.now st p m.old out.old work.old strs.old (used_adds (inner_adds level tape.now st) tape.now st f) }
-    requires second_value { used_well st f.usage f.first f.second ≡ true }
+    requires ready { Ready tape.now bytes.now st p m.old out.old work.old strs.old (used_adds (inner_adds level tape.now st) tape.now st (words_of f)) }
+    requires second_value { used_well st (use_number f.usage) f.first f.second ≡ true }
     ensures { StartTold tape.now bytes.now p m.old out.old work.old strs.old out.new work.new strs.new m.new result
-        (field_from level tape.now bytes.now f (layer_from p work.old strs.old m.old)) }
+        (field_from level tape.now bytes.now (words_of f) (layer_from p work.old strs.old m.old)) }
 {
-    if f.usage == 3 {
-        return graft_content_run(
+    match f.usage {
+        Use::Contents => graft_content_run(
             tape, bytes, st, out, work, strs, p, m, f.first, f.second, level,
-        );
-    }
-    if f.usage == 5 {
-        return graft_segment_run(
+        ),
+        Use::Segments => graft_segment_run(
             tape, bytes, st, out, work, strs, p, m, f.first, f.second, level,
-        );
+        ),
+        _ => graft_string(tape, bytes, st, work, strs, p, m, f.usage, f.first),
     }
-    graft_string(tape, bytes, st, work, strs, p, m, f.usage, f.first)
 }
 
 // Section 5. A run of contents, behind all that its items push: where it starts.
@@ -312,7 +317,7 @@ fn graft_content_run(
     if len == 0 {
         return Some(p.contents + m.contents);
     }
-    let at = store::content_place(st, start);
+    let at = st.content_place(start);
     let inner = inner_contents(tape, st, at, len as usize, level);
     let to = m.contents + inner;
     graft_contents(
@@ -396,7 +401,7 @@ fn graft_content(
 {
     let c = records::content_at(tape, at);
     let place = p.contentsat + 10 * (to as usize);
-    if c.tag == 0 {
+    if c.is_plain() {
         let id = graft_str(tape, bytes, st, work, strs, p, m, c.first)?;
         put_records::put_content(out, place, 0, id, 0);
         return Some(());
@@ -431,7 +436,7 @@ fn graft_segment_run(
     if len == 0 {
         return Some(p.segments + m.segments);
     }
-    let at = store::segment_place(st, start);
+    let at = st.segment_place(start);
     let inner = inner_segments(tape, st, at, len as usize, level);
     let to = m.segments + inner;
     graft_segments(

@@ -1,10 +1,9 @@
 -- One node: its words, those of its body, of level 33, or none where its class is 2 or 3; and its record.
-use Rattle.std.specs.Prelude.{◌≡◌, Option, Some, None, ℕ, ◌+◌, ◌≤◌, ◌<◌, true, false, replicate}
+use Rattle.std.specs.Prelude.{◌≡◌, Option, Some, None, ℕ, ltb, ◌+◌, ◌≤◌, ◌<◌, true, false, replicate}
 use Rattle.std.proofs.Math.Path.{refl, ap}
 use Rattle.std.proofs.Common.{sym, ◌∙◌}
 use Rattle.std.proofs.lemmas.Option.{same_Some}
 use mathlib.Core.List.{List, [], ◌∷◌}
-use borrow.Author.Tests.{lt-ltb, le-ltb}
 use Rattle.model.specs.Bytes.{byte_at, word_at}
 use Rattle.model.specs.Types.{SourceNode}
 use Rattle.model.specs.Tape.{Field, fields_of, node_fields, record_at, operands_at, record_bytes, node_codec}
@@ -40,24 +39,24 @@ module _ (t d : List ℕ) (st : Store) (at : ℕ) where
   class_is = refl
 
   module _ {p : Plan} {m : Mark} {out work strs : List ℕ} (y : Ready t d st p m out work strs (node_adds t st found)) where
-    pub node_bare : 2 ≤ byte_at t (at + 1) → WordsTold t d p m out work strs out work strs m (Some (replicate 6 0)) (node_words t d found (layer_from p work strs m))
+    pub node_bare : ltb (byte_at t (at + 1)) 2 ≡ false → WordsTold t d p m out work strs out work strs m (Some (replicate 6 0)) (node_words t d found (layer_from p work strs m))
     unfolding node_words node_fields show_node show_with show_fields graft_node graft_fields
-    node_bare h = rw (class_is, le-ltb (byte_at t (at + 1)) 2 h) (record { told = told_none y; words = λ ws o. sym (same_Some (replicate 6 0) ws o) })
+    node_bare h = rw (class_is, h) (record { told = told_none y; words = λ ws o. sym (same_Some (replicate 6 0) ws o) })
 
-    module _ (h : byte_at t (at + 1) < 2) where
+    module _ (h : ltb (byte_at t (at + 1)) 2 ≡ true) where
       pub node_ready : Ready t d st p m out work strs (body_adds 33 t st (body_at t (at + 15)))
       unfolding node_adds node_fields body_adds
       node_ready =
-          let z : Ready t d st p m out work strs (body_adds 33 t st found.body) = rw (class_is, lt-ltb (byte_at t (at + 1)) 2 h) at y in
+          let z : Ready t d st p m out work strs (body_adds 33 t st found.body) = rw (class_is, h) at y in
           rw (node_body t at) z
 
       pub node_known : node_in st found ≡ true → body_in st (body_at t (at + 15)) ≡ true
-      node_known k = node_answer_lem st t at (body_in st (body_at t (at + 15))) h refl ∙ k
+      node_known k = node_answer_lem st t at h refl ∙ k
 
       whole : node_words t d found (layer_from p work strs m) ≡ body_from 33 t d p work strs m (body_at t (at + 15)) 6
       unfolding node_words node_fields show_node show_with graft_node body_from show_inner fields_of
       whole =
-          rw (class_is, lt-ltb (byte_at t (at + 1)) 2 h, ← node_body t at)
+          rw (class_is, h, ← node_body t at)
           (ap (λ (fs : List Field). graft_fields (show_fields (show_inner 33 (source_store t d)) (source_store t d) (body_at t (at + 15)) fs) (replicate 6 0) (layer_from p work strs m))
           (sym (fields_in_order (body_at t (at + 15)).kind (body_at t (at + 15)).tag)))
 

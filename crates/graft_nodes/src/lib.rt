@@ -29,7 +29,7 @@ pub fn graft_node(
     ensures { WordsTold tape.now bytes.now p m.old out.old work.old strs.old out.new work.new strs.new m.new result
         (node_words tape.now bytes.now (record_at node_codec tape.now at) (layer_from p work.old strs.old m.old)) }
 {
-    if 2 <= tape[at + 1] {
+    if !records::has_words(tape, at) {
         return Some([0u32; 6]);
     }
     graft::graft_body(tape, bytes, st, out, work, strs, p, m, at + 15, 33)

@@ -13,6 +13,7 @@ use Rattle.model.specs.Tape.{Field, Field.str, Field.opt_str, Field.content_rang
 use Rattle.wire.specs.Loops.{all_up_to, Passed, all_passed, all_failed, by_bool}
 use Rattle.records.specs.Values.{body_at, segment_body, node_body}
 use Rattle.records.specs.Uses.{word_use, uses_of, use_among}
+use Rattle.records.specs.declared.Use.{Use}
 use Rattle.records.proofs.Uses.{uses_right, unused_from}
 use Rattle.records.specs.Words.{word_test, all_by_words}
 use Rattle.store.specs.Pools.{range_in}
@@ -71,10 +72,6 @@ module _ (st : Store) (u w next : ℕ) where
   unfolding used_well
   used_string e = rw e refl
 
-  pub used_missing : u ≡ 2 → w ≡ no_string → used_well st u w next ≡ true
-  unfolding used_well
-  used_missing e n = rw (e, eq-eqb w no_string n) refl
-
   pub used_optional : u ≡ 2 → (w ≡ no_string → ⊥) → used_well st u w next ≡ string_in st w
   unfolding used_well
   used_optional e n = rw (e, ne_eqb w no_string n) refl
@@ -87,16 +84,12 @@ module _ (st : Store) (u w next : ℕ) where
   unfolding used_well
   used_segments e = rw e refl
 
-  pub used_not : (u ≡ 1 → ⊥) → (u ≡ 2 → ⊥) → (u ≡ 3 → ⊥) → (u ≡ 5 → ⊥) → used_well st u w next ≡ true
-  unfolding used_well
-  used_not a b d e = rw (ne_eqb u 1 a, ne_eqb u 2 b, ne_eqb u 3 d, ne_eqb u 5 e) refl
+-- word i by its use, as the code has it
+module _ (st : Store) (t : List ℕ) (p i : ℕ) {us : List Use} (e : us ≡ uses_of (byte_at t p) (byte_at t (p + 1))) (h : i < 6) where
+  use_read : use_among us i ≡ word_use (byte_at t p) (byte_at t (p + 1)) i
+  use_read = ap (λ (k : List Use). use_among k i) e ∙ uses_right (byte_at t p) (byte_at t (p + 1)) i h
 
--- word i by its use u, as the code has it
-module _ (st : Store) (t : List ℕ) (p i : ℕ) {all u : ℕ} (e : all ≡ uses_of (byte_at t p) (byte_at t (p + 1))) (f : u ≡ use_among all i) (h : i < 6) where
-  use_read : u ≡ word_use (byte_at t p) (byte_at t (p + 1)) i
-  use_read = f ∙ ap (λ (k : ℕ). use_among k i) e ∙ uses_right (byte_at t p) (byte_at t (p + 1)) i h
-
-  pub word_read : {r : Bool} → r ≡ used_well st u (word_of (body_at t p) i) (word_of (body_at t p) (i + 1)) → word_in st (body_at t p) i ≡ r
+  pub word_read : {r : Bool} → r ≡ used_well st (use_among us i) (word_of (body_at t p) i) (word_of (body_at t p) (i + 1)) → word_in st (body_at t p) i ≡ r
   unfolding word_in body_at
   word_read q = sym (q ∙ ap (λ (k : ℕ). used_well st k (word_of (body_at t p) i) (word_of (body_at t p) (i + 1))) use_read)
 
@@ -112,16 +105,16 @@ module _ (st : Store) (b : Body) where
   body_failed i h f = sym (body_words ∙ all_failed (word_in st b) 6 i h f)
 
 -- the words from the first unused one on
-pub body_rest : (st : Store) (t : List ℕ) (p i : ℕ) {all u : ℕ} → all ≡ uses_of (byte_at t p) (byte_at t (p + 1)) → u ≡ use_among all i → i < 6 → u ≡ 0
+pub body_rest : (st : Store) (t : List ℕ) (p i : ℕ) {us : List Use} → us ≡ uses_of (byte_at t p) (byte_at t (p + 1)) → i < 6 → use_among us i ≡ 0
     → Passed (word_in st (body_at t p)) i → true ≡ body_in st (body_at t p)
 unfolding word_in used_well body_at
-body_rest st t p i e f h z m = body_passed st (body_at t p) 6 (omega arith) (omega arith) (record { all = λ k b. by_bool (ltb k i) (λ s. m.all k (ltb-true k i s)) (λ s. behind k b (ltb-false k i s)) })
+body_rest st t p i e h z m = body_passed st (body_at t p) 6 (omega arith) (omega arith) (record { all = λ k b. by_bool (ltb k i) (λ s. m.all k (ltb-true k i s)) (λ s. behind k b (ltb-false k i s)) })
   where
     behind : (k : ℕ) → k < 6 → i ≤ k → word_in st (body_at t p) k ≡ true
     behind k b l =
         let q : i + (k - i) ≡ k = omega arith in
         let n : word_use (byte_at t p) (byte_at t (p + 1)) k ≡ 0 =
-        ap (word_use (byte_at t p) (byte_at t (p + 1))) (sym q) ∙ unused_from (byte_at t p) (byte_at t (p + 1)) i (k - i) (omega arith) (sym (use_read st t p i e f h) ∙ z) in
+        ap (word_use (byte_at t p) (byte_at t (p + 1))) (sym q) ∙ unused_from (byte_at t p) (byte_at t (p + 1)) i (k - i) (omega arith) (sym (use_read st t p i e h) ∙ z) in
         rw n refl
 
 -- ---- a Ruby
@@ -129,15 +122,6 @@ body_rest st t p i e f h z m = body_passed st (body_at t p) 6 (omega arith) (ome
 -- its base and its reading, each a range of contents
 unfoldable pub two_runs : List ℕ → ℕ → ℕ → Body → Bool
 two_runs starts layers total b = range_in starts layers total (word_of b 0) (word_of b 1) && range_in starts layers total (word_of b 2) (word_of b 3)
-
-module _ (starts : List ℕ) (layers total : ℕ) (b : Body) {a n : ℕ} (e : a ≡ word_of b 0) (f : n ≡ word_of b 1) {r : Bool} (q : r ≡ range_in starts layers total a n) where
-  pub runs_failed : r ≡ false → false ≡ two_runs starts layers total b
-  unfolding two_runs
-  runs_failed h = rw (← e, ← f, ← q, h) refl
-
-  pub runs_passed : r ≡ true → {x m : ℕ} → x ≡ word_of b 2 → m ≡ word_of b 3 → {s : Bool} → s ≡ range_in starts layers total x m → s ≡ two_runs starts layers total b
-  unfolding two_runs
-  runs_passed h k l v = rw (← e, ← f, ← q, h, ← k, ← l) v
 
 -- kind 1 has no other field
 pub ruby_body : (st : Store) (t : List ℕ) (p : ℕ) → byte_at t p ≡ 1 → two_runs st.contents st.layers st.totals.contents (body_at t p) ≡ body_in st (body_at t p)
@@ -147,13 +131,13 @@ ruby_body st t p e = rw (e, and-true) refl
 -- ---- the code's answers of single records
 
 module _ (st : Store) where
-  pub content_plain : (c : Content) (r : Bool) → c.tag ≡ 0 → r ≡ string_in st c.first → r ≡ content_in st c
+  pub content_plain : (c : Content) {r : Bool} → eqb c.tag 0 ≡ true → r ≡ string_in st c.first → r ≡ content_in st c
   unfolding content_in
-  content_plain c r e a = rw e a
+  content_plain c e a = rw e a
 
-  pub content_segments_lem : (c : Content) (r : Bool) → (c.tag ≡ 0 → ⊥) → r ≡ segments_in st c.first c.second → r ≡ content_in st c
+  pub content_segments_lem : (c : Content) {r : Bool} → eqb c.tag 0 ≡ false → r ≡ segments_in st c.first c.second → r ≡ content_in st c
   unfolding content_in
-  content_segments_lem c r n a = rw (ne_eqb c.tag 0 n) a
+  content_segments_lem c n a = rw n a
 
   module _ (t : List ℕ) (p : ℕ) where
     pub segment_answer : (r : Bool) → r ≡ body_in st (body_at t (p + 3)) → r ≡ segment_in st (record_at segment_codec t p)
@@ -165,10 +149,10 @@ module _ (st : Store) where
     node_class = refl
 
     -- classes 2 and 3 have no words
-    pub node_bare : 2 ≤ byte_at t (p + 1) → true ≡ node_in st (record_at node_codec t p)
+    pub node_bare : ltb (byte_at t (p + 1)) 2 ≡ false → true ≡ node_in st (record_at node_codec t p)
     unfolding node_in node_fields
-    node_bare h = rw (← node_class, le-ltb (byte_at t (p + 1)) 2 h) refl
+    node_bare h = rw (← node_class, h) refl
 
-    pub node_answer_lem : (r : Bool) → byte_at t (p + 1) < 2 → r ≡ body_in st (body_at t (p + 15)) → r ≡ node_in st (record_at node_codec t p)
+    pub node_answer_lem : {r : Bool} → ltb (byte_at t (p + 1)) 2 ≡ true → r ≡ body_in st (body_at t (p + 15)) → r ≡ node_in st (record_at node_codec t p)
     unfolding node_in node_fields body_in
-    node_answer_lem r h a = rw (← node_class, lt-ltb (byte_at t (p + 1)) 2 h) (a ∙ ap (body_in st) (node_body t p))
+    node_answer_lem h a = rw (← node_class, h) (a ∙ ap (body_in st) (node_body t p))

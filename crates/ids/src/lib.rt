@@ -9,40 +9,29 @@ ghost use Rattle.model.specs.WellFormed.{word_of, ids_ok};
 ghost use Rattle.records.specs.Values.{body_at};
 ghost use Rattle.model.specs.Lists.{all};
 ghost use Rattle.model.specs.Tape.{record_at, records_at, content_codec, segment_codec, node_codec, places, book_at};
-ghost use Rattle.ids.specs.Tests.{contents_in, segments_in, used_well, two_runs, body_in, content_in, segment_in, node_in};
+ghost use Rattle.records.specs.Uses.{use_number};
+ghost use Rattle.ids.specs.Tests.{used_well, two_runs, body_in, content_in, segment_in, node_in};
 ghost use Rattle.ids.specs.Whole.{runs_in, layers_in, LayersFit, IdsFit};
+
+use records::{RUBY, Use};
+use store::Store;
 
 // The id of a missing string.
 const NO_STRING: u32 = 4294967295;
 
-// Number 4. A range of contents, and one of segments.
-pub fn contents_in(st: store::Store, start: u32, len: u32) -> bool
-    requires { st.layers ≤ 32 }
-    ensures { result ≡ contents_in st start len }
-{
-    store::range_ok(&st.contents, st.layers, st.totals.contents, start, len)
-}
-
-pub fn segments_in(st: store::Store, start: u32, len: u32) -> bool
-    requires { st.layers ≤ 32 }
-    ensures { result ≡ segments_in st start len }
-{
-    store::range_ok(&st.segments, st.layers, st.totals.segments, start, len)
-}
-
 // Number 4. A word by its use: an id, an id that may be missing, the start of a range whose length is the next word. From here on
 // the store is lent: it is 408 bytes, and copied for each word it costs more than the test.
-#[tactic(auto, using(crate::specs::Tests::used_string, crate::specs::Tests::used_missing, crate::specs::Tests::used_optional, crate::specs::Tests::used_contents, crate::specs::Tests::used_segments, crate::specs::Tests::used_not))]
-fn used_well(st: &store::Store, usage: u8, w: u32, next: u32) -> bool
+#[tactic(auto, using(std::proofs::lemmas::Bool::Decides::nat_tests), unfolding(crate::specs::Tests::used_well))]
+fn used_well(st: &Store, usage: Use, w: u32, next: u32) -> bool
     requires { st.now.layers ≤ 32 }
-    ensures { result ≡ used_well st.now usage w next }
+    ensures { result ≡ used_well st.now (use_number usage) w next }
 {
     match usage {
-        1 => store::id_ok(st.totals.strings, w),
-        2 => w == NO_STRING || store::id_ok(st.totals.strings, w),
-        3 => store::range_ok(&st.contents, st.layers, st.totals.contents, w, next),
-        5 => store::range_ok(&st.segments, st.layers, st.totals.segments, w, next),
-        _ => true,
+        Use::Str => st.has_string(w),
+        Use::OptStr => w == NO_STRING || st.has_string(w),
+        Use::Contents => st.has_contents(w, next),
+        Use::Segments => st.has_segments(w, next),
+        Use::Unused | Use::ContentsLen | Use::SegmentsLen => true,
     }
 }
 
@@ -58,9 +47,9 @@ pub fn next_word(tape: &[u8], at: usize, i: usize) -> u32
 }
 
 // Number 4. Word i of the body at `at`, which has that use.
-fn word_ok(tape: &[u8], st: &store::Store, usage: u8, at: usize, i: usize) -> bool
+fn word_ok(tape: &[u8], st: &Store, usage: Use, at: usize, i: usize) -> bool
     requires { (at + 34 ≤ length tape.now) × (i < 6) × (st.now.layers ≤ 32) }
-    ensures { result ≡ used_well st.now usage (word_of (body_at tape.now at) i) (word_of (body_at tape.now at) (i + 1)) }
+    ensures { result ≡ used_well st.now (use_number usage) (word_of (body_at tape.now at) i) (word_of (body_at tape.now at) (i + 1)) }
 {
     let w = records::body_word(tape, at, i);
     let next = next_word(tape, at, i);
@@ -68,36 +57,32 @@ fn word_ok(tape: &[u8], st: &store::Store, usage: u8, at: usize, i: usize) -> bo
 }
 
 // Number 4 of a Ruby: two ranges of contents, its base and its reading.
-fn two_runs_ok(tape: &[u8], st: &store::Store, at: usize) -> bool
+#[tactic(auto, using(std::proofs::lemmas::Bool::Decides::nat_tests), unfolding(crate::specs::Tests::two_runs))]
+fn two_runs_ok(tape: &[u8], st: &Store, at: usize) -> bool
     requires { (at + 34 ≤ length tape.now) × (st.now.layers ≤ 32) }
     ensures { result ≡ two_runs st.now.contents st.now.layers st.now.totals.contents (body_at tape.now at) }
 {
     let base = records::body_word(tape, at, 0);
-    let size = records::body_word(tape, at, 1);
-    if !store::range_ok(&st.contents, st.layers, st.totals.contents, base, size) {
-        return false;
-    }
     let reading = records::body_word(tape, at, 2);
-    let len = records::body_word(tape, at, 3);
-    store::range_ok(&st.contents, st.layers, st.totals.contents, reading, len)
+    st.has_contents(base, records::body_word(tape, at, 1))
+        && st.has_contents(reading, records::body_word(tape, at, 3))
 }
 
 // Number 4. Every field of a body: the words up to the first that has no use. Most bodies of a book are Rubies, and are tested
 // without asking for uses.
-fn body_ids_ok(tape: &[u8], st: &store::Store, at: usize) -> bool
+fn body_ids_ok(tape: &[u8], st: &Store, at: usize) -> bool
     requires { (at + 34 ≤ length tape.now) × (st.now.layers ≤ 32) }
     ensures { result ≡ body_in st.now (body_at tape.now at) }
 {
-    if tape[at] == 1 {
+    if tape[at] == RUBY {
         return two_runs_ok(tape, st, at);
     }
     let uses = records::uses_of(tape[at], tape[at + 1]);
     for i in 0..6 {
-        let usage = records::use_in(uses, i);
-        if usage == 0 {
+        if let Use::Unused = uses[i] {
             return true;
         }
-        if !word_ok(tape, st, usage, at, i) {
+        if !word_ok(tape, st, uses[i], at, i) {
             return false;
         }
     }
@@ -105,75 +90,66 @@ fn body_ids_ok(tape: &[u8], st: &store::Store, at: usize) -> bool
 }
 
 // Number 4. Plain names a string, Segments a range of segments.
-fn content_ids_ok(tape: &[u8], st: &store::Store, at: usize) -> bool
+fn content_ids_ok(tape: &[u8], st: &Store, at: usize) -> bool
     requires { (at + 10 ≤ length tape.now) × (st.now.layers ≤ 32) }
     ensures { result ≡ content_in st.now (record_at content_codec tape.now at) }
 {
     let c = records::content_at(tape, at);
-    if c.tag == 0 {
-        return store::id_ok(st.totals.strings, c.first);
+    if c.is_plain() {
+        return st.has_string(c.first);
     }
-    store::range_ok(
-        &st.segments,
-        st.layers,
-        st.totals.segments,
-        c.first,
-        c.second,
-    )
+    st.has_segments(c.first, c.second)
 }
 
 // Number 4 of a run; for segments and nodes, the same.
-pub fn contents_ids_ok(tape: &[u8], st: store::Store, at: usize, count: usize) -> bool
-    requires { (at + 10 * count ≤ length tape.now) × (st.layers ≤ 32) }
-    ensures { result ≡ all (content_in st) (records_at content_codec tape.now at count) }
+pub fn contents_ids_ok(tape: &[u8], st: &Store, at: usize, count: usize) -> bool
+    requires { (at + 10 * count ≤ length tape.now) × (st.now.layers ≤ 32) }
+    ensures { result ≡ all (content_in st.now) (records_at content_codec tape.now at count) }
 {
-    (0..count).all(|i| content_ids_ok(tape, &st, at + 10 * i))
+    (0..count).all(|i| content_ids_ok(tape, st, at + 10 * i))
 }
 
-fn segment_ids_ok(tape: &[u8], st: &store::Store, at: usize) -> bool
+fn segment_ids_ok(tape: &[u8], st: &Store, at: usize) -> bool
     requires { (at + 37 ≤ length tape.now) × (st.now.layers ≤ 32) }
     ensures { result ≡ segment_in st.now (record_at segment_codec tape.now at) }
 {
     body_ids_ok(tape, st, at + 3)
 }
 
-pub fn segments_ids_ok(tape: &[u8], st: store::Store, at: usize, count: usize) -> bool
-    requires { (at + 37 * count ≤ length tape.now) × (st.layers ≤ 32) }
-    ensures { result ≡ all (segment_in st) (records_at segment_codec tape.now at count) }
+pub fn segments_ids_ok(tape: &[u8], st: &Store, at: usize, count: usize) -> bool
+    requires { (at + 37 * count ≤ length tape.now) × (st.now.layers ≤ 32) }
+    ensures { result ≡ all (segment_in st.now) (records_at segment_codec tape.now at count) }
 {
-    (0..count).all(|i| segment_ids_ok(tape, &st, at + 37 * i))
+    (0..count).all(|i| segment_ids_ok(tape, st, at + 37 * i))
 }
 
 // Number 4. A node of class 2 or 3 has no words.
-fn node_ids_ok(tape: &[u8], st: &store::Store, at: usize) -> bool
+fn node_ids_ok(tape: &[u8], st: &Store, at: usize) -> bool
     requires { (at + 49 ≤ length tape.now) × (st.now.layers ≤ 32) }
     ensures { result ≡ node_in st.now (record_at node_codec tape.now at) }
 {
-    if 2 <= tape[at + 1] {
-        return true;
-    }
-    body_ids_ok(tape, st, at + 15)
+    !records::has_words(tape, at) || body_ids_ok(tape, st, at + 15)
 }
 
-pub fn nodes_ids_ok(tape: &[u8], st: store::Store, at: usize, count: usize) -> bool
-    requires { (at + 49 * count ≤ length tape.now) × (st.layers ≤ 32) }
-    ensures { result ≡ all (node_in st) (records_at node_codec tape.now at count) }
+pub fn nodes_ids_ok(tape: &[u8], st: &Store, at: usize, count: usize) -> bool
+    requires { (at + 49 * count ≤ length tape.now) × (st.now.layers ≤ 32) }
+    ensures { result ≡ all (node_in st.now) (records_at node_codec tape.now at count) }
 {
-    (0..count).all(|i| node_ids_ok(tape, &st, at + 49 * i))
+    (0..count).all(|i| node_ids_ok(tape, st, at + 49 * i))
 }
 
 // Number 4 of one layer, and of all.
-fn layer_ids_ok(tape: &[u8], st: store::Store, l: places::LayerRuns) -> bool
-    requires { (l.contents.at + 10 * l.contents.count ≤ length tape.now) × (l.segments.at + 37 * l.segments.count ≤ length tape.now) × (st.layers ≤ 32) }
-    ensures { result ≡ runs_in tape.now st l }
+fn layer_ids_ok(tape: &[u8], st: &Store, l: places::LayerRuns) -> bool
+    requires { (l.contents.at + 10 * l.contents.count ≤ length tape.now) × (l.segments.at + 37 * l.segments.count ≤ length tape.now) × (st.now.layers ≤ 32) }
+    ensures { result ≡ runs_in tape.now st.now l }
 {
     contents_ids_ok(tape, st, l.contents.at, l.contents.count)
         && segments_ids_ok(tape, st, l.segments.at, l.segments.count)
 }
 
-fn layers_ids_ok(tape: &[u8], st: store::Store, layers: usize) -> bool
-    requires { LayersFit tape.now st layers }
-    ensures { result ≡ layers_in tape.now st }
+fn layers_ids_ok(tape: &[u8], st: &Store, layers: usize) -> bool
+    requires { LayersFit tape.now st.now layers }
+    ensures { result ≡ layers_in tape.now st.now }
 {
     let mut at = 9;
     for _layer in 0..layers {
@@ -187,9 +163,9 @@ fn layers_ids_ok(tape: &[u8], st: store::Store, layers: usize) -> bool
 }
 
 // Number 4, whole: of the tape with these places and this store, whatever the bytes of its texts are.
-pub fn ids_ok(tape: &[u8], st: store::Store, p: places::Places) -> bool
+pub fn ids_ok(tape: &[u8], st: Store, p: places::Places) -> bool
     requires { IdsFit tape.now st p }
     ensures { (d : List ℕ) → result ≡ ids_ok (book_at tape.now (places tape.now) d) }
 {
-    layers_ids_ok(tape, st, p.layers) && nodes_ids_ok(tape, st, p.nodes.at, p.nodes.count)
+    layers_ids_ok(tape, &st, p.layers) && nodes_ids_ok(tape, &st, p.nodes.at, p.nodes.count)
 }

@@ -9,9 +9,10 @@ ghost use Rattle.books.specs.Values.{stored_value, correction_value};
 ghost use Rattle.refusal.specs.Refusal.{checked};
 ghost use Rattle.output.specs.Answer.{Written, Merged};
 
-use books::{Book, Correction, Merging, Stored};
+use books::{Correction, Merging, Stored};
 use output::IncrementalOutput;
 use refusal::Refusal;
+use region::Book;
 
 // Numbers 1 to 18; what is not result is not cleared.
 fn merge_checked(
@@ -24,22 +25,23 @@ fn merge_checked(
     ensures { Written (merge_of (stored_value book.now) (correction_value correction.now) (room_of outtape.old outbytes.old work.old)) (checked result) outtape.old outbytes.old work.old outtape.new outbytes.new work.new }
 {
     let f = fitting::fitted(book, correction, work)?;
-    let reading = &correction.reading;
+    let book = Book {
+        tape: book.tape,
+        bytes: book.bytes,
+        places: f.p,
+        store: f.st,
+    };
+    let reading = Book {
+        tape: correction.reading.tape,
+        bytes: correction.reading.bytes,
+        places: f.q,
+        store: f.own,
+    };
     let merging = Merging {
-        book: Book {
-            tape: book.tape,
-            bytes: book.bytes,
-            places: f.p,
-            store: f.st,
-        },
+        book,
         edit: correction.edit,
         window: f.w,
-        reading: Book {
-            tape: reading.tape,
-            bytes: reading.bytes,
-            places: f.q,
-            store: f.own,
-        },
+        reading,
     };
     result::merge_books(&merging, outtape, outbytes, work)
 }

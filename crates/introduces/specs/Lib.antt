@@ -1,5 +1,4 @@
 pub mod Linked
-pub mod Words
 pub mod Pieces
 pub mod Books
 pub mod Rows

@@ -1,6 +1,6 @@
 -- Number 15, as the code asks it: a Ruby of the reading and a Referenced Format behind the region, or a Referenced Format of the reading
 -- whose target is the base of a Ruby before the region.
-use Rattle.std.specs.Prelude.{Option, ◌≡◌, ℕ, Bool, true, false, ◌&&◌, ◌||◌, List, [], ◌∷◌, ◌++◌}
+use Rattle.std.specs.Prelude.{Option, ◌≡◌, ℕ, Bool, true, false, ◌&&◌, ◌||◌, List, [], ◌∷◌}
 use Rattle.std.proofs.Math.Path.{refl, ap}
 use Rattle.std.proofs.Common.{sym, ◌∙◌, le-leb, arith}
 use Rattle.std.proofs.Math.Bool.{and-false, and-true}
@@ -14,11 +14,11 @@ use Rattle.model.specs.Merge.{introduces_ruby_format_dependency}
 use Rattle.laws.specs.Lists.{neither}
 use Rattle.laws.specs.Nodes.{ends_by, starts_at}
 use Rattle.wire.specs.Loops.{by_bool}
-use Rattle.store.specs.declared.Store.{Store}
-use Rattle.strings.specs.Starts.{store_in}
+use Rattle.strings.specs.declared.lent.Strings.{Strings}
+use Rattle.strings.specs.Lent.{lent_store}
 use Rattle.strings.specs.PlainContent.{plain_of, plain_string}
 use Rattle.dependency.specs.Bases.{among_bases, among_bases_lem}
-use Rattle.ruby_formats.specs.Sound.{SoundNode, first_contents, plain_first}
+use Rattle.ruby_formats.specs.Sound.{first_contents, plain_first}
 use Rattle.ruby_formats.specs.Asks.{format_from}
 
 -- ---- one node
@@ -27,16 +27,15 @@ use Rattle.ruby_formats.specs.Asks.{format_from}
 unfoldable pub refers_to : NodeStore → List SourceNode → NodeStore → SourceNode → Bool
 refers_to st earlier own n = is_referenced_format n && among_bases st earlier (first_plain own n)
 
-module _ (st : NodeStore) (earlier : List SourceNode) {t : List ℕ} {own : Store} {index front back : List ℕ} {p : ℕ} (s : SoundNode t own index front back p)
-    {x : Bool} (e : x ≡ is_referenced_format (record_at node_codec t p)) where
-  pub refers_other : x ≡ false → false ≡ refers_to st earlier (store_in t (front ++ back)) (record_at node_codec t p)
+module _ (st : NodeStore) (earlier : List SourceNode) (ss : Strings) (p : ℕ) {x : Bool} (e : x ≡ is_referenced_format (record_at node_codec ss.tape.now p)) where
+  pub refers_other : x ≡ false → false ≡ refers_to st earlier (lent_store ss) (record_at node_codec ss.tape.now p)
   unfolding refers_to
   refers_other h = rw (← e, h) refl
 
-  pub refers_target : x ≡ true → {r : Option ℕ} → ((b : List ℕ) → r ≡ plain_of (first_contents t p b)) → {y : Bool} → y ≡ among_bases st earlier (plain_string (store_in t (front ++ back)) r)
-      → y ≡ refers_to st earlier (store_in t (front ++ back)) (record_at node_codec t p)
+  pub refers_target : x ≡ true → {r : Option ℕ} → ((b : List ℕ) → r ≡ plain_of (first_contents ss.tape.now p b)) → {y : Bool}
+      → y ≡ among_bases st earlier (plain_string (lent_store ss) r) → y ≡ refers_to st earlier (lent_store ss) (record_at node_codec ss.tape.now p)
   unfolding refers_to
-  refers_target h f q = rw (← e, h) (q ∙ ap (among_bases st earlier) (sym (plain_first s f)))
+  refers_target h f q = rw (← e, h) (q ∙ ap (among_bases st earlier) (sym (plain_first ss p f)))
 
 -- ---- all nodes
 

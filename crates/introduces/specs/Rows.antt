@@ -11,68 +11,66 @@ use Rattle.model.specs.Region.{is_ruby, is_referenced_format, first_plain}
 use Rattle.laws.specs.Lists.{both, or_right}
 use Rattle.wire.specs.Loops.{Missed, by_bool}
 use Rattle.records.specs.Runs.{test_at}
-use Rattle.store.specs.declared.Store.{Store}
-use Rattle.strings.specs.Starts.{store_in}
+use Rattle.strings.specs.declared.lent.Strings.{Strings}
+use Rattle.strings.specs.Lent.{lent_store}
 use Rattle.strings.specs.PlainContent.{plain_of, plain_string}
-use Rattle.ruby_formats.specs.Sound.{SoundNode, first_contents, plain_first}
+use Rattle.ruby_formats.specs.Sound.{first_contents, plain_first}
 use Rattle.dependency.specs.Rows.{Rowed, among_row, among_row_lem}
 use Rattle.ruby_formats.specs.Named.{named_by, same_plain, same_first, target_again}
 use Rattle.introduces.specs.Linked.{refers_to}
 
 -- a Referenced Format whose target, in a store of its own, is in the row
-unfoldable pub refers_to_row : NodeStore → List ℕ → ℕ → ℕ → NodeStore → SourceNode → Bool
-refers_to_row st words base m own n = is_referenced_format n && among_row st words base m (first_plain own n)
+unfoldable pub refers_to_row : Strings → List ℕ → ℕ → NodeStore → SourceNode → Bool
+refers_to_row ss words m own n = is_referenced_format n && among_row ss words m (first_plain own n)
 
-module _ (st : NodeStore) (words : List ℕ) (base m : ℕ) {t : List ℕ} {own : Store} {index front back : List ℕ} {p : ℕ} (s : SoundNode t own index front back p)
-    {x : Bool} (e : x ≡ is_referenced_format (record_at node_codec t p)) where
-  pub row_other : x ≡ false → false ≡ refers_to_row st words base m (store_in t (front ++ back)) (record_at node_codec t p)
+module _ (ss : Strings) (words : List ℕ) (m : ℕ) (rs : Strings) (p : ℕ) {x : Bool} (e : x ≡ is_referenced_format (record_at node_codec rs.tape.now p)) where
+  pub row_other : x ≡ false → false ≡ refers_to_row ss words m (lent_store rs) (record_at node_codec rs.tape.now p)
   unfolding refers_to_row
   row_other h = rw (← e, h) refl
 
-  pub row_target : x ≡ true → {r : Option ℕ} → ((b : List ℕ) → r ≡ plain_of (first_contents t p b)) → {y : Bool} → y ≡ among_row st words base m (plain_string (store_in t (front ++ back)) r)
-      → y ≡ refers_to_row st words base m (store_in t (front ++ back)) (record_at node_codec t p)
+  pub row_target : x ≡ true → {r : Option ℕ} → ((b : List ℕ) → r ≡ plain_of (first_contents rs.tape.now p b)) → {y : Bool}
+      → y ≡ among_row ss words m (plain_string (lent_store rs) r) → y ≡ refers_to_row ss words m (lent_store rs) (record_at node_codec rs.tape.now p)
   unfolding refers_to_row
-  row_target h f q = rw (← e, h) (q ∙ ap (among_row st words base m) (sym (plain_first s f)))
+  row_target h f q = rw (← e, h) (q ∙ ap (among_row ss words m) (sym (plain_first rs p f)))
 
 -- a row of the bases of these nodes
-row_bases : {st : NodeStore} {ids : ℕ} {earlier : List SourceNode} {words : List ℕ} {base m : ℕ} → Rowed st ids earlier words base m → (own : NodeStore) (ns : List SourceNode)
-    → any (refers_to_row st words base m own) ns ≡ any (refers_to st earlier own) ns
+row_bases : {ss : Strings} {earlier : List SourceNode} {words : List ℕ} {m : ℕ} → Rowed ss earlier words m → (own : NodeStore) (ns : List SourceNode)
+    → any (refers_to_row ss words m own) ns ≡ any (refers_to (lent_store ss) earlier own) ns
 unfolding refers_to_row refers_to
 row_bases r own [] = refl
 row_bases r own (n ∷ ns) = ap₂ (λ (x y : Bool). (is_referenced_format n && x) || y) (among_row_lem r (first_plain own n)) (row_bases r own ns)
 
-pub rowed_any : {st : NodeStore} {ids : ℕ} {earlier : List SourceNode} {words : List ℕ} {base m : ℕ} → Rowed st ids earlier words base m → (own : NodeStore) (ns : List SourceNode)
-    → {x : Bool} → x ≡ any (refers_to_row st words base m own) ns → x ≡ any (refers_to st earlier own) ns
+pub rowed_any : {ss : Strings} {earlier : List SourceNode} {words : List ℕ} {m : ℕ} → Rowed ss earlier words m → (own : NodeStore) (ns : List SourceNode)
+    → {x : Bool} → x ≡ any (refers_to_row ss words m own) ns → x ≡ any (refers_to (lent_store ss) earlier own) ns
 rowed_any r own ns q = q ∙ row_bases r own ns
 
--- the same words
-pub rowed_words : {st : NodeStore} {ids : ℕ} {ns : List SourceNode} {words other : List ℕ} {base m : ℕ} → words ≡ other → Rowed st ids ns other base m → Rowed st ids ns words base m
-rowed_words e r = rw e r
-
 -- ---- a target again: the earlier one does not refer to the row, so neither does node i
-module _ (st : NodeStore) (words : List ℕ) (base m : ℕ) (t front back : List ℕ) (at i v : ℕ) {x : Bool} (e : (b : List ℕ) → x ≡ target_again t at i v b) (f : x ≡ true)
-    (missed : Missed (test_at node_codec (refers_to_row st words base m (store_in t (front ++ back))) t at) i) where
-  abbrev node : ℕ → SourceNode
-  node k = record_at node_codec t (at + 49 * k)
+module _ (ss : Strings) (words : List ℕ) (m : ℕ) (rs : Strings) (at i v : ℕ) {x : Bool} (e : (b : List ℕ) → x ≡ target_again rs.tape.now at i v b) (f : x ≡ true)
+    (missed : Missed (test_at node_codec (refers_to_row ss words m (lent_store rs)) rs.tape.now at) i) where
+  abbrev all : List ℕ
+  all = rs.old.now ++ rs.new.now
 
-  parts : (ltb v i ≡ true) × (is_referenced_format (node v) ≡ true) × (same_plain (named_by t (at + 49 * i) (front ++ back)) (named_by t (at + 49 * v) (front ++ back)) ≡ true)
+  abbrev node : ℕ → SourceNode
+  node k = record_at node_codec rs.tape.now (at + 49 * k)
+
+  parts : (ltb v i ≡ true) × (is_referenced_format (node v) ≡ true) × (same_plain (named_by rs.tape.now (at + 49 * i) all) (named_by rs.tape.now (at + 49 * v) all) ≡ true)
   unfolding target_again
   parts =
-      let a = both (ltb v i && is_referenced_format (node v)) (same_plain (named_by t (at + 49 * i) (front ++ back)) (named_by t (at + 49 * v) (front ++ back))) (sym (e (front ++ back)) ∙ f) in
+      let a = both (ltb v i && is_referenced_format (node v)) (same_plain (named_by rs.tape.now (at + 49 * i) all) (named_by rs.tape.now (at + 49 * v) all)) (sym (e all) ∙ f) in
       let b = both (ltb v i) (is_referenced_format (node v)) a.0 in
       (b.0, b.1, a.1)
 
-  earlier : refers_to_row st words base m (store_in t (front ++ back)) (node v) ≡ false
+  earlier : refers_to_row ss words m (lent_store rs) (node v) ≡ false
   unfolding test_at node_codec
   earlier = missed.none v (ltb-true v i parts.0)
 
-  pub target_again_lem : false ≡ refers_to_row st words base m (store_in t (front ++ back)) (node i)
+  pub target_again_lem : false ≡ refers_to_row ss words m (lent_store rs) (node i)
   unfolding refers_to_row
   target_again_lem =
       by_bool (is_referenced_format (node i))
       (λ q.
       let z =
-      same_first t (front ++ back) (at + 49 * i) (at + 49 * v) parts.2 (or_right (is_ruby (node i)) (is_referenced_format (node i)) q)
+      same_first rs.tape.now all (at + 49 * i) (at + 49 * v) parts.2 (or_right (is_ruby (node i)) (is_referenced_format (node i)) q)
       (or_right (is_ruby (node v)) (is_referenced_format (node v)) parts.1) in
-      sym (ap₂ (λ (b : Bool) (o : ModelOption (List ℕ)). b && among_row st words base m o) (q ∙ sym parts.1) z ∙ earlier))
+      sym (ap₂ (λ (b : Bool) (o : ModelOption (List ℕ)). b && among_row ss words m o) (q ∙ sym parts.1) z ∙ earlier))
       (λ q. rw q refl)

@@ -14,12 +14,11 @@ use Rattle.laws.specs.Layers.{ids_pools}
 use Rattle.places.specs.declared.Places.{Places}
 use Rattle.places.specs.Found.{found}
 use Rattle.store.specs.declared.Store.{Store}
-use Rattle.store.specs.Stored.{store_at}
 use Rattle.store.specs.Lengths.{book_lengths}
 use Rattle.strings.specs.Starts.{Readable, readable}
 use Rattle.ids.specs.Tests.{node_in}
 use Rattle.ids.specs.Whole.{IdsFit, ids_in, layers_in, ids_are, content_ok_lem, segment_ok_lem}
-use Rattle.tape.specs.Accepted.{Accepted, accepted_places, accepted_store}
+use Rattle.tape.specs.Accepted.{accepted_places, accepted_store}
 use Rattle.tape.specs.Placed.{fit_nodes}
 use Rattle.tape.specs.Numbers.{store_few, pools_ids, pools_levels}
 use Rattle.sizes.specs.InPlace.{nodes_add}

@@ -255,18 +255,15 @@ fn pair_words(tape: &[u8], bytes: &[u8], p: places::Places, st: store::Store, wo
     requires min_work_words_in_bounds { min_work_words < length words.old }
     ensures { Pairs (resolve_str (source_store tape.now bytes.now)) (pair_words words.new) }
 {
-    let first = p.text as usize + p.normalized as usize;
-    let cut = region::last_strings_at(tape, bytes, p, st);
+    let book = region::Book {
+        tape,
+        bytes,
+        places: p,
+        store: st,
+    };
     let least = representatives::long_from(bytes.len());
     let n = words.len();
-    representatives::pair_strings(
-        tape,
-        st,
-        &bytes[first..cut],
-        &bytes[cut..bytes.len()],
-        &mut words[16384..n],
-        least,
-    );
+    representatives::pair_strings(&book.strings(), &mut words[16384..n], least);
 }
 
 // The same with a representative for each long string, so that no two of them are compared again and again.

@@ -14,6 +14,7 @@ use Rattle.laws.specs.Lists.{both}
 use Rattle.wire.specs.Loops.{all_up_to, Passed, all_passed, all_failed, by_bool}
 use Rattle.records.specs.Values.{body_at, segment_body}
 use Rattle.records.specs.Uses.{word_use, uses_of, use_among}
+use Rattle.records.specs.declared.Use.{Use}
 use Rattle.records.proofs.Uses.{uses_right, unused_from}
 use Rattle.records.specs.Words.{word_test, all_by_words}
 use Rattle.store.specs.Pools.{range_in}
@@ -57,25 +58,12 @@ used_below t st level u w next =
 unfoldable pub word_below : List ℕ → Store → ℕ → Body → ℕ → Bool
 word_below t st level b i = used_below t st level (word_use b.kind b.tag i) (word_of b i) (word_of b (i + 1))
 
-module _ (t : List ℕ) (st : Store) (level u w next : ℕ) where
-  pub used_contents : u ≡ 3 → used_below t st level u w next ≡ contents_below t st level w next
-  unfolding used_below
-  used_contents e = rw e refl
+-- word i by its use, as the code has it
+module _ (t : List ℕ) (st : Store) (level p i : ℕ) {us : List Use} (e : us ≡ uses_of (byte_at t p) (byte_at t (p + 1))) (h : i < 6) where
+  use_read : use_among us i ≡ word_use (byte_at t p) (byte_at t (p + 1)) i
+  use_read = ap (λ (k : List Use). use_among k i) e ∙ uses_right (byte_at t p) (byte_at t (p + 1)) i h
 
-  pub used_segments : u ≡ 5 → used_below t st level u w next ≡ segments_below t st level w next
-  unfolding used_below
-  used_segments e = rw e refl
-
-  pub used_other : (u ≡ 3 → ⊥) → (u ≡ 5 → ⊥) → used_below t st level u w next ≡ true
-  unfolding used_below
-  used_other a b = rw (ne_eqb u 3 a, ne_eqb u 5 b) (by_bool (eqb u 1) (λ e. rw e refl) (λ e. rw e (by_bool (eqb u 2) (λ f. rw f refl) (λ f. rw f refl))))
-
--- word i by its use u, as the code has it
-module _ (t : List ℕ) (st : Store) (level p i : ℕ) {all u : ℕ} (e : all ≡ uses_of (byte_at t p) (byte_at t (p + 1))) (f : u ≡ use_among all i) (h : i < 6) where
-  use_read : u ≡ word_use (byte_at t p) (byte_at t (p + 1)) i
-  use_read = f ∙ ap (λ (k : ℕ). use_among k i) e ∙ uses_right (byte_at t p) (byte_at t (p + 1)) i h
-
-  pub word_read : {r : Bool} → r ≡ used_below t st level u (word_of (body_at t p) i) (word_of (body_at t p) (i + 1)) → word_below t st level (body_at t p) i ≡ r
+  pub word_read : {r : Bool} → r ≡ used_below t st level (use_among us i) (word_of (body_at t p) i) (word_of (body_at t p) (i + 1)) → word_below t st level (body_at t p) i ≡ r
   unfolding word_below body_at
   word_read q = sym (q ∙ ap (λ (k : ℕ). used_below t st level k (word_of (body_at t p) i) (word_of (body_at t p) (i + 1))) use_read)
 
@@ -91,16 +79,16 @@ module _ (t : List ℕ) (st : Store) (level : ℕ) (b : Body) where
   body_failed i h f = sym (body_words ∙ all_failed (word_below t st level b) 6 i h f)
 
 -- the words from the first unused one on
-pub body_rest : (t : List ℕ) (st : Store) (level p i : ℕ) {all u : ℕ} → all ≡ uses_of (byte_at t p) (byte_at t (p + 1)) → u ≡ use_among all i → i < 6 → u ≡ 0
+pub body_rest : (t : List ℕ) (st : Store) (level p i : ℕ) {us : List Use} → us ≡ uses_of (byte_at t p) (byte_at t (p + 1)) → i < 6 → use_among us i ≡ 0
     → Passed (word_below t st level (body_at t p)) i → true ≡ body_below t st level (body_at t p)
 unfolding word_below used_below body_at
-body_rest t st level p i e f h z m = body_passed t st level (body_at t p) 6 (omega arith) (omega arith) (record { all = λ k b. by_bool (ltb k i) (λ s. m.all k (ltb-true k i s)) (λ s. behind k b (ltb-false k i s)) })
+body_rest t st level p i e h z m = body_passed t st level (body_at t p) 6 (omega arith) (omega arith) (record { all = λ k b. by_bool (ltb k i) (λ s. m.all k (ltb-true k i s)) (λ s. behind k b (ltb-false k i s)) })
   where
     behind : (k : ℕ) → k < 6 → i ≤ k → word_below t st level (body_at t p) k ≡ true
     behind k b l =
         let q : i + (k - i) ≡ k = omega arith in
         let n : word_use (byte_at t p) (byte_at t (p + 1)) k ≡ 0 =
-        ap (word_use (byte_at t p) (byte_at t (p + 1))) (sym q) ∙ unused_from (byte_at t p) (byte_at t (p + 1)) i (k - i) (omega arith) (sym (use_read t st level p i e f h) ∙ z) in
+        ap (word_use (byte_at t p) (byte_at t (p + 1))) (sym q) ∙ unused_from (byte_at t p) (byte_at t (p + 1)) i (k - i) (omega arith) (sym (use_read t st level p i e h) ∙ z) in
         rw n refl
 
 -- ---- the code's answers
@@ -151,13 +139,13 @@ module _ (t : List ℕ) (st : Store) (level start len : ℕ) where
       omega (arith, i, p, f.inside)
 
 module _ (t : List ℕ) (st : Store) (level : ℕ) (c : Content) where
-  pub content_plain : c.tag ≡ 0 → true ≡ content_below t st level c
+  pub content_plain : eqb c.tag 0 ≡ true → true ≡ content_below t st level c
   unfolding content_below
   content_plain e = rw e refl
 
-  pub content_segments_lem : (r : Bool) → (c.tag ≡ 0 → ⊥) → r ≡ segments_below t st level c.first c.second → r ≡ content_below t st level c
+  pub content_segments_lem : (r : Bool) → eqb c.tag 0 ≡ false → r ≡ segments_below t st level c.first c.second → r ≡ content_below t st level c
   unfolding content_below
-  content_segments_lem r n a = rw (ne_eqb c.tag 0 n) a
+  content_segments_lem r n a = rw n a
 
 -- Section 4. The level of the segment at p.
 module _ (t : List ℕ) (st : Store) (p : ℕ) where

@@ -13,6 +13,7 @@ ghost use Rattle.model.specs.Lists.{all};
 ghost use Rattle.model.specs.Tape.{record_at, records_at, content_codec, segment_codec, places};
 ghost use Rattle.records.specs.Values.{body_at};
 ghost use Rattle.records.specs.Runs.{test_at};
+ghost use Rattle.records.specs.Uses.{use_number};
 ghost use Rattle.model.specs.WellFormed.{word_of};
 ghost use Rattle.level_blocks.specs.Level.{below};
 ghost use Rattle.level_blocks.specs.Blocks.{Risen};
@@ -21,11 +22,14 @@ ghost use Rattle.levels.specs.Below.{segments_below, content_below, contents_bel
 ghost use Rattle.levels.specs.Table.{segment_test, content_test, Step, Said, Filled, Bound, Block, Tops, Tables};
 ghost use Rattle.levels.specs.Whole.{levels_in, Walked};
 
+use records::{NODE, Use};
+use store::Store;
+
 // A tape and its store, which is lent.
 #[derive(Clone, Copy)]
 struct Book<'a> {
     tape: &'a [u8],
-    st: &'a store::Store,
+    st: &'a Store,
     ghost of_tape: { OfTape tape.now st.now },
 }
 
@@ -33,7 +37,7 @@ struct Book<'a> {
 #[derive(Clone, Copy)]
 struct TopTable<'a> {
     tape: &'a [u8],
-    st: &'a store::Store,
+    st: &'a Store,
     tops: &'a [u8],
     ghost made: { Tops tape.now st.now tops.now },
 }
@@ -42,7 +46,7 @@ struct TopTable<'a> {
 #[derive(Clone, Copy)]
 struct HeightTable<'a> {
     tape: &'a [u8],
-    st: &'a store::Store,
+    st: &'a Store,
     tops: &'a [u8],
     heights: &'a [u8],
     ghost made: { Tables tape.now st.now tops.now heights.now },
@@ -57,13 +61,13 @@ impl<'a> Book<'a> {
         if 16 < len {
             return false;
         }
-        if !ids::segments_in(*self.st, start, len) {
+        if !self.st.has_segments(start, len) {
             return false;
         }
         if len == 0 {
             return true;
         }
-        let at = store::segment_place(*self.st, start);
+        let at = self.st.segment_place(start);
         level_blocks::levels_below(self.tape, at, len as usize, level)
     }
 
@@ -72,7 +76,7 @@ impl<'a> Book<'a> {
         ensures { result ≡ true → content_below self.now.tape.now self.now.st.now level (record_at content_codec self.now.tape.now at) ≡ true }
     {
         let c = records::content_at(self.tape, at);
-        if c.tag == 0 {
+        if c.is_plain() {
             return true;
         }
         self.segments_quick(c.first, c.second, level)
@@ -96,30 +100,31 @@ impl<'a> Book<'a> {
         if 16 < len {
             return false;
         }
-        if !ids::contents_in(*self.st, start, len) {
+        if !self.st.has_contents(start, len) {
             return false;
         }
         if len == 0 {
             return true;
         }
-        let at = store::content_place(*self.st, start);
+        let at = self.st.content_place(start);
         self.run_quick(at, len as usize, level)
     }
 
-    fn used_quick(&self, usage: u8, w: u32, next: u32, level: u8) -> bool
-        ensures { result ≡ true → used_below self.now.tape.now self.now.st.now level usage w next ≡ true }
+    #[tactic(auto, using(std::proofs::lemmas::Bool::Decides::nat_tests), unfolding(crate::specs::Below::used_below))]
+    fn used_quick(&self, usage: Use, w: u32, next: u32, level: u8) -> bool
+        ensures { result ≡ true → used_below self.now.tape.now self.now.st.now level (use_number usage) w next ≡ true }
     {
         match usage {
-            3 => self.contents_quick(w, next, level),
-            5 => self.segments_quick(w, next, level),
+            Use::Contents => self.contents_quick(w, next, level),
+            Use::Segments => self.segments_quick(w, next, level),
             _ => true,
         }
     }
 
     // Word i of the body at `at`, which has that use.
-    fn word_quick(&self, usage: u8, at: usize, i: usize, level: u8) -> bool
+    fn word_quick(&self, usage: Use, at: usize, i: usize, level: u8) -> bool
         requires at_in_bounds { (at + 34 ≤ length self.now.tape.now) × (i < 6) }
-        ensures { result ≡ true → used_below self.now.tape.now self.now.st.now level usage (word_of (body_at self.now.tape.now at) i) (word_of (body_at self.now.tape.now at) (i + 1)) ≡ true }
+        ensures { result ≡ true → used_below self.now.tape.now self.now.st.now level (use_number usage) (word_of (body_at self.now.tape.now at) i) (word_of (body_at self.now.tape.now at) (i + 1)) ≡ true }
     {
         let w = records::body_word(self.tape, at, i);
         let next = ids::next_word(self.tape, at, i);
@@ -132,11 +137,10 @@ impl<'a> Book<'a> {
     {
         let uses = records::uses_of(self.tape[at], self.tape[at + 1]);
         for i in 0..6 {
-            let usage = records::use_in(uses, i);
-            if usage == 0 {
+            if let Use::Unused = uses[i] {
                 return true;
             }
-            if !self.word_quick(usage, at, i, level) {
+            if !self.word_quick(uses[i], at, i, level) {
                 return false;
             }
         }
@@ -148,7 +152,7 @@ impl<'a> Book<'a> {
         ensures { result ≡ true → level_in self.now.tape.now self.now.st.now (record_at segment_codec self.now.tape.now at) ≡ true }
     {
         let level = self.tape[at + 2];
-        if self.tape[at + 1] < 3 {
+        if self.tape[at + 1] < NODE {
             return level == 0;
         }
         if !level_blocks::level_in_range(level) {
@@ -229,13 +233,13 @@ impl<'a> TopTable<'a> {
     fn segments_below(&self, start: u32, len: u32, level: u8) -> bool
         ensures { result ≡ segments_below self.now.tape.now self.now.st.now level start len }
     {
-        if !ids::segments_in(*self.st, start, len) {
+        if !self.st.has_segments(start, len) {
             return false;
         }
         if len == 0 {
             return true;
         }
-        let at = store::segment_place(*self.st, start);
+        let at = self.st.segment_place(start);
         self.segments_walk(at, start as usize, len as usize, level)
     }
 
@@ -244,7 +248,7 @@ impl<'a> TopTable<'a> {
         ensures { result ≡ content_below self.now.tape.now self.now.st.now level (record_at content_codec self.now.tape.now at) }
     {
         let c = records::content_at(self.tape, at);
-        if c.tag == 0 {
+        if c.is_plain() {
             return true;
         }
         self.segments_below(c.first, c.second, level)
@@ -296,18 +300,19 @@ impl<'a> HeightTable<'a> {
     fn contents_below(&self, start: u32, len: u32, level: u8) -> bool
         ensures { result ≡ contents_below self.now.tape.now self.now.st.now level start len }
     {
-        if !ids::contents_in(*self.st, start, len) {
+        if !self.st.has_contents(start, len) {
             return false;
         }
         if len == 0 {
             return true;
         }
-        let at = store::content_place(*self.st, start);
+        let at = self.st.content_place(start);
         self.contents_walk(at, start as usize, len as usize, level)
     }
 
-    fn used_below(&self, usage: u8, w: u32, next: u32, level: u8) -> bool
-        ensures { result ≡ used_below self.now.tape.now self.now.st.now level usage w next }
+    #[tactic(auto, using(std::proofs::lemmas::Bool::Decides::nat_tests), unfolding(crate::specs::Below::used_below))]
+    fn used_below(&self, usage: Use, w: u32, next: u32, level: u8) -> bool
+        ensures { result ≡ used_below self.now.tape.now self.now.st.now level (use_number usage) w next }
     {
         let by_tops = TopTable {
             tape: self.tape,
@@ -315,16 +320,16 @@ impl<'a> HeightTable<'a> {
             tops: self.tops,
         };
         match usage {
-            3 => self.contents_below(w, next, level),
-            5 => by_tops.segments_below(w, next, level),
+            Use::Contents => self.contents_below(w, next, level),
+            Use::Segments => by_tops.segments_below(w, next, level),
             _ => true,
         }
     }
 
     // Word i of the body at `at`, which has that use.
-    fn word_below(&self, usage: u8, at: usize, i: usize, level: u8) -> bool
+    fn word_below(&self, usage: Use, at: usize, i: usize, level: u8) -> bool
         requires at_in_bounds { (at + 34 ≤ length self.now.tape.now) × (i < 6) }
-        ensures { result ≡ used_below self.now.tape.now self.now.st.now level usage (word_of (body_at self.now.tape.now at) i) (word_of (body_at self.now.tape.now at) (i + 1)) }
+        ensures { result ≡ used_below self.now.tape.now self.now.st.now level (use_number usage) (word_of (body_at self.now.tape.now at) i) (word_of (body_at self.now.tape.now at) (i + 1)) }
     {
         let w = records::body_word(self.tape, at, i);
         let next = ids::next_word(self.tape, at, i);
@@ -337,11 +342,10 @@ impl<'a> HeightTable<'a> {
     {
         let uses = records::uses_of(self.tape[at], self.tape[at + 1]);
         for i in 0..6 {
-            let usage = records::use_in(uses, i);
-            if usage == 0 {
+            if let Use::Unused = uses[i] {
                 return true;
             }
-            if !self.word_below(usage, at, i, level) {
+            if !self.word_below(uses[i], at, i, level) {
                 return false;
             }
         }
@@ -354,7 +358,7 @@ impl<'a> HeightTable<'a> {
         ensures { result ≡ level_in self.now.tape.now self.now.st.now (record_at segment_codec self.now.tape.now at) }
     {
         let level = self.tape[at + 2];
-        if self.tape[at + 1] < 3 {
+        if self.tape[at + 1] < NODE {
             return level == 0;
         }
         if !level_blocks::level_in_range(level) {
@@ -399,7 +403,7 @@ impl<'a> Book<'a> {
         requires i_lt_segments { i < self.now.st.now.totals.segments }
         ensures { Bound (segment_test self.now.tape.now self.now.st.now) i m result }
     {
-        let at = store::segment_place(*self.st, i);
+        let at = self.st.segment_place(i);
         let v = self.tape[at + 2];
         if v < m {
             return m;
@@ -445,7 +449,7 @@ impl<'a> TopTable<'a> {
         requires i_lt_contents { i < self.now.st.now.totals.contents }
         ensures { Bound (content_test self.now.tape.now self.now.st.now) i m result }
     {
-        let at = store::content_place(*self.st, i);
+        let at = self.st.content_place(i);
         for r in m..34 {
             if self.content_below(at, r) {
                 return r;
@@ -511,7 +515,7 @@ impl<'a> Book<'a> {
 
 // Number 5, whole. The first layer is asked by itself: called from two places, `levels_tabled` is not made part of its caller, and
 // a book that needs no tables needs no room for them. In a book without segments there is nothing to ask.
-pub fn levels_ok(tape: &[u8], st: store::Store, layers: usize) -> bool
+pub fn levels_ok(tape: &[u8], st: Store, layers: usize) -> bool
     requires of_tape { OfTape tape.now st }
     requires layers_value { layers ≡ length (places tape.now).layers }
     ensures { result ≡ levels_in tape.now st }

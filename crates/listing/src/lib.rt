@@ -18,6 +18,7 @@ ghost use Rattle.listing.specs.Strings.{Printable};
 ghost use Rattle.listing.specs.Lines.{fields_from};
 ghost use Rattle.listing.specs.Walk.{Counted};
 
+use records::Use;
 use tables::{
     FIELD_LABELS, FIELD_NUMBERS, FIELD_PLACES, FIELD_SHOWS, LABEL_STARTS, ROWS, SIZES, WORD_LABELS,
 };
@@ -134,16 +135,13 @@ fn word_piece(tape: &[u8], body: usize, i: usize) -> Piece
 {
     let kind = wire::byte_at(tape, body);
     let tag = wire::byte_at(tape, body + 1);
-    let used = records::word_use(kind, tag, i);
-    if used == 0 {
-        return label_only(0);
-    }
     let label = word_label(kind, i);
     let w = wide(wire::u32_or_zero(tape, body + 10 + 4 * i));
-    if used <= 2 {
-        return string_piece(label, w);
+    match records::word_use(kind, tag, i) {
+        Use::Unused => label_only(0),
+        Use::Str | Use::OptStr => string_piece(label, w),
+        _ => number_piece(label, w),
     }
-    number_piece(label, w)
 }
 
 // A part of the text of `size` bytes: 0 before the region, 1 the region, 2 behind it, 3 all.

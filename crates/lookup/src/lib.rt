@@ -35,7 +35,7 @@ pub fn diagnostics_allow_incremental(tape: &[u8], bytes: &[u8]) -> Result<bool, 
     ensures { checked result ≡ ask_book tape.now bytes.now (λ b. diagnostics_allow_incremental b.diagnostics) }
 {
     let diagnostics = tape::checked_book(tape, bytes)?.diagnostics;
-    Ok(bounds::diagnostics_allow_incremental(tape, diagnostics.at, diagnostics.count))
+    Ok(bounds::diagnostics_allow_incremental(tape, diagnostics))
 }
 
 // Section 7. `node_at_source` of a book: the node's place in the list.
@@ -43,19 +43,18 @@ pub fn node_at_source(tape: &[u8], bytes: &[u8], offset: u32) -> Result<Option<u
     ensures { checked result ≡ ask_book tape.now bytes.now (λ b. found_of (node_at_source b.source_nodes offset)) }
 {
     let nodes = tape::checked_book(tape, bytes)?.nodes;
-    Ok(bounds::node_at_source(tape, nodes.at, nodes.count, offset))
+    Ok(bounds::node_at_source(tape, nodes, offset))
 }
 
 fn contents_in(st: store::Store, start: u32, len: u32) -> Option<RangeAt>
     requires { st.layers ≤ 32 }
     ensures { result ≡ range_if (range_in st.contents st.layers st.totals.contents start len) (content_place st start) len }
 {
-    let contents = st.contents;
-    if !store::range_ok(&contents, st.layers, st.totals.contents, start, len) {
+    if !st.has_contents(start, len) {
         return None;
     }
     Some(RangeAt {
-        place: store::content_place(st, start),
+        place: st.content_place(start),
         count: len,
     })
 }
@@ -64,12 +63,11 @@ fn segments_in(st: store::Store, start: u32, len: u32) -> Option<RangeAt>
     requires { st.layers ≤ 32 }
     ensures { result ≡ range_if (range_in st.segments st.layers st.totals.segments start len) (segment_place st start) len }
 {
-    let segments = st.segments;
-    if !store::range_ok(&segments, st.layers, st.totals.segments, start, len) {
+    if !st.has_segments(start, len) {
         return None;
     }
     Some(RangeAt {
-        place: store::segment_place(st, start),
+        place: st.segment_place(start),
         count: len,
     })
 }

@@ -9,7 +9,8 @@ ghost use Rattle.refusal.specs.Refusal.{checked};
 ghost use Rattle.output.specs.Answer.{output_of};
 ghost use Rattle.runs.specs.Input.{Whole};
 
-use books::{Correction, Edit, Stored};
+use books::{Correction, Stored};
+use edit::Edit;
 use output::IncrementalOutput;
 use refusal::Refusal;
 use std::io;

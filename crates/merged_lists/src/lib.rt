@@ -128,8 +128,8 @@ fn sides_in<K: splice::Spliced>(tape: &[u8], run: places::Run, w: splice::Window
     ensures { result ≡ sides_of K.located (window_value w) (records_at K.codec tape.now run.at run.count) }
 {
     Sides {
-        before: splice::count_before::<K>(tape, run.at, run.count, w),
-        behind: splice::count_behind::<K>(tape, run.at, run.count, w),
+        before: splice::count_before::<K>(tape, run, w),
+        behind: splice::count_behind::<K>(tape, run, w),
     }
 }
 
@@ -166,19 +166,11 @@ fn put_nodes(
     requires reading_in_bounds { to + 49 * total_of (sides_of node_located (window_value w) (records_at node_codec old.now.tape.now old.now.run.at old.now.run.count)) reading ≤ length out.old }
     ensures { out.new ≡ overwrite out.old to (node_bytes (window_value w) (records_at node_codec old.now.tape.now old.now.run.at old.now.run.count) (records_at node_codec out.old to reading)) }
 {
-    let tape = old.tape;
-    let run = old.run;
+    let behindto = to + 49 * before + 49 * reading;
     moves::move_up(out, to, 49 * reading, 49 * before);
-    splice::put_before::<splice_nodes::Nodes>(tape, run.at, run.count, w, out, to);
+    splice::put_before::<splice_nodes::Nodes>(old.tape, old.run, w, out, to);
     splice_nodes::place_nodes(out, to + 49 * before, reading, w);
-    splice::put_behind::<splice_nodes::Nodes>(
-        tape,
-        run.at,
-        run.count,
-        w,
-        out,
-        to + 49 * before + 49 * reading,
-    );
+    splice::put_behind::<splice_nodes::Nodes>(old.tape, old.run, w, out, behindto);
 }
 
 // `merge_pairs`, `merge_container_pairs`, and `merge_diagnostics` before its sort.
@@ -195,13 +187,11 @@ fn put_list<K: splice::Spliced>(
     requires list_in_bounds { to + K.SIZE * total_of (sides_of K.located (window_value w) (records_at K.codec old.now.tape.now old.now.run.at old.now.run.count)) new.now.run.count ≤ length out.old }
     ensures { out.new ≡ overwrite out.old to (records_bytes K.codec (spliced K.located (window_value w) (records_at K.codec old.now.tape.now old.now.run.at old.now.run.count) (records_at K.codec new.now.tape.now new.now.run.at new.now.run.count))) }
 {
-    let run = old.run;
-    let reading = new.run;
     let readingto = to + K::SIZE * before;
-    let behindto = readingto + K::SIZE * reading.count;
-    splice::put_before::<K>(old.tape, run.at, run.count, w, out, to);
-    splice::put_reading::<K>(new.tape, reading.at, reading.count, w, out, readingto);
-    splice::put_behind::<K>(old.tape, run.at, run.count, w, out, behindto);
+    let behindto = readingto + K::SIZE * new.run.count;
+    splice::put_before::<K>(old.tape, old.run, w, out, to);
+    splice::put_reading::<K>(new.tape, new.run, w, out, readingto);
+    splice::put_behind::<K>(old.tape, old.run, w, out, behindto);
 }
 
 // `merge_diagnostics`: `all` of them, sorted.

@@ -11,7 +11,8 @@ ghost use Rattle.refusal.specs.Refusal.{checked};
 ghost use Rattle.output.specs.Answer.{answers_of};
 ghost use Rattle.orders.specs.Orders.{MergedInOrder, MergedBothOrders};
 
-use books::{Correction, Edit, Stored};
+use books::{Correction, Stored};
+use edit::Edit;
 use output::{BothOrders, IncrementalOutput};
 use refusal::Refusal;
 

@@ -15,6 +15,7 @@ use Rattle.model.specs.Merge.{balanced_from, balanced_nodes, is_unclosed}
 use Rattle.records.specs.Runs.{run_cons, run_none}
 use Rattle.cuts.specs.Gaps.{depths_zero, depth_small}
 use Rattle.cuts.specs.Gaps.{closes_nothing}
+use Rattle.cuts.specs.Depths.{closes_unopened}
 
 -- ---- number 14, one diagnostic
 
@@ -27,22 +28,7 @@ module _ (d : Diagnostic) {k : ℕ} (e : k ≡ d.kind) where
   unfolding is_unclosed
   unclosed_close h = rw (← e, ne_eqb k 2 h) refl
 
--- ---- number 13, one node
-
--- a node that closes what none has opened
-unfoldable pub closes_unopened : ℕ → ℕ → SourceNode → Bool
-closes_unopened blocks warichu n = closes_nothing (is_block_close n) blocks || closes_nothing (is_warichu_close n) warichu
-
-module _ (blocks warichu : ℕ) (n : SourceNode) {a : Bool} (p : a ≡ is_block_close n) {x : Bool} (q : x ≡ closes_nothing a blocks) where
-  pub unopened_block : x ≡ true → true ≡ closes_unopened blocks warichu n
-  unfolding closes_unopened
-  unopened_block e = rw (← p, ← q, e) refl
-
-  pub unopened_warichu : x ≡ false → {b : Bool} → b ≡ is_warichu_close n → {y : Bool} → y ≡ closes_nothing b warichu → y ≡ closes_unopened blocks warichu n
-  unfolding closes_unopened
-  unopened_warichu e f g = g ∙ rw (← p, ← q, e, f) refl
-
--- ---- all nodes
+-- ---- number 13
 
 -- from these depths on
 unfoldable pub balanced_both : ℕ → ℕ → List SourceNode → Bool

@@ -7,34 +7,24 @@ ghost use Rattle.model.specs.Lists.{any};
 ghost use Rattle.model.specs.Tape.{record_at, records_at, node_codec, diagnostic_codec};
 ghost use Rattle.model.specs.Merge.{balanced_nodes, is_unclosed, normalized_offset};
 ghost use Rattle.bounds.specs.Search.{InOrder};
-ghost use Rattle.reading.specs.Balance.{closes_unopened};
 ghost use Rattle.reading.specs.Until.{Until};
 
-// A node that closes what none has opened.
-fn closes_unopened(tape: &[u8], at: usize, blocks: usize, warichu: usize) -> bool
-    requires { at + 49 ≤ length tape.now }
-    ensures { result ≡ closes_unopened blocks warichu (record_at node_codec tape.now at) }
-{
-    cuts::closes_nothing(cuts::is_block_close(tape, at), blocks)
-        || cuts::closes_nothing(cuts::is_warichu_close(tape, at), warichu)
-}
+use cuts::Depths;
 
 // Number 13. `balanced_nodes`: no close falls below 0, and all that opens is closed.
-pub fn balanced_nodes(tape: &[u8], at: usize, count: usize) -> bool
-    requires { at + 49 * count ≤ length tape.now }
-    ensures { result ≡ balanced_nodes (records_at node_codec tape.now at count) }
+pub fn balanced_nodes(tape: &[u8], nodes: places::Run) -> bool
+    requires { nodes.at + 49 * nodes.count ≤ length tape.now }
+    ensures { result ≡ balanced_nodes (records_at node_codec tape.now nodes.at nodes.count) }
 {
-    let mut blocks: usize = 0;
-    let mut warichu: usize = 0;
-    for i in 0..count {
-        let p = at + 49 * i;
-        if closes_unopened(tape, p, blocks, warichu) {
+    let mut depths = Depths::NONE;
+    for i in 0..nodes.count {
+        let p = nodes.at + 49 * i;
+        if depths.closes_unopened(tape, p) {
             return false;
         }
-        blocks = cuts::block_depth(tape, p, blocks);
-        warichu = cuts::warichu_depth(tape, p, warichu);
+        depths = depths.past(tape, p);
     }
-    cuts::depths_zero(blocks, warichu)
+    depths.are_zero()
 }
 
 #[tactic(auto, using(std::proofs::lemmas::Bool::Decides::nat_tests), unfolding(model::specs::Merge::is_unclosed, model::specs::Tape::record_at, model::specs::Tape::operands_at, model::specs::Tape::diagnostic_codec))]
@@ -46,25 +36,25 @@ fn is_unclosed(tape: &[u8], at: usize) -> bool
 }
 
 // Number 14. A diagnostic that tells of a bracket left open or of a close left over.
-pub fn has_unclosed(tape: &[u8], at: usize, count: usize) -> bool
-    requires { at + 18 * count ≤ length tape.now }
-    ensures { result ≡ any is_unclosed (records_at diagnostic_codec tape.now at count) }
+pub fn has_unclosed(tape: &[u8], diagnostics: places::Run) -> bool
+    requires { diagnostics.at + 18 * diagnostics.count ≤ length tape.now }
+    ensures { result ≡ any is_unclosed (records_at diagnostic_codec tape.now diagnostics.at diagnostics.count) }
 {
-    (0..count).any(|i| is_unclosed(tape, at + 18 * i))
+    (0..diagnostics.count).any(|i| is_unclosed(tape, diagnostics.at + 18 * i))
 }
 
 // How many nodes end at or before an offset: they are the first ones.
-pub fn nodes_until(tape: &[u8], at: usize, count: usize, offset: u32) -> usize
-    requires count_in_bounds { at + 49 * count ≤ length tape.now }
-    requires in_order { InOrder (records_at node_codec tape.now at count) }
-    ensures { Until tape.now at count offset result }
+pub fn nodes_until(tape: &[u8], nodes: places::Run, offset: u32) -> usize
+    requires count_in_bounds { nodes.at + 49 * nodes.count ≤ length tape.now }
+    requires in_order { InOrder (records_at node_codec tape.now nodes.at nodes.count) }
+    ensures { Until tape.now nodes.at nodes.count offset result }
 {
-    for i in 0..count {
-        if offset < records::node_end(tape, at + 49 * i) {
+    for i in 0..nodes.count {
+        if offset < records::node_end(tape, nodes.at + 49 * i) {
             return i;
         }
     }
-    count
+    nodes.count
 }
 
 // An offset and the drift of the nodes before it.
@@ -76,16 +66,16 @@ fn drifted(offset: u32, images: u64, spans: u64) -> usize
 }
 
 // `normalized_offset`: the place of a source offset in the normalized text.
-pub fn normalized_offset(tape: &[u8], at: usize, count: usize, offset: u32) -> usize
-    requires count_in_bounds { at + 49 * count ≤ length tape.now }
-    requires in_order { InOrder (records_at node_codec tape.now at count) }
-    ensures { result ≡ normalized_offset (records_at node_codec tape.now at count) offset }
+pub fn normalized_offset(tape: &[u8], nodes: places::Run, offset: u32) -> usize
+    requires count_in_bounds { nodes.at + 49 * nodes.count ≤ length tape.now }
+    requires in_order { InOrder (records_at node_codec tape.now nodes.at nodes.count) }
+    ensures { result ≡ normalized_offset (records_at node_codec tape.now nodes.at nodes.count) offset }
 {
-    let n = nodes_until(tape, at, count, offset);
+    let n = nodes_until(tape, nodes, offset);
     let mut images: u64 = 0;
     let mut spans: u64 = 0;
     for i in 0..n {
-        let p = at + 49 * i;
+        let p = nodes.at + 49 * i;
         images += bounds::image_length(tape, p);
         spans += bounds::span_length(tape, p);
     }

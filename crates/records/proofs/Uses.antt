@@ -1,4 +1,4 @@
--- The code's numbers of uses follow the rule of model's table of fields: computed for each kind and tag.
+-- The code's uses follow the rule of model's table of fields: computed for each kind and tag.
 use Rattle.std.specs.Prelude.{ℕ, suc, zero, ◌+◌, ◌*◌, ◌/◌, ◌%◌, ◌<◌, ◌≤◌, ◌≡◌, Bool, not, ◌&&◌, ◌||◌, List, [], length, get_or, ltb, eqb}
 use native.Mathlib.Omega.{arith}
 use Rattle.std.proofs.Math.Nat.{zero-div}
@@ -10,7 +10,7 @@ use Rattle.model.specs.Lists.{any}
 use Rattle.model.specs.Tape.{field_table, uses_word, unused_zero}
 use Rattle.laws.specs.Lists.{both}
 use Rattle.wire.specs.Loops.{by_bool, all_up_to, all_at}
-use Rattle.records.specs.Uses.{use_of, use_in, fields_for, word_use, word_fits, words_all, format_uses, mencode_uses, image_uses, other_uses, uses_of, use_among, variant_of, few, variant_small, same_use, uses_word_lem, uses_fit}
+use Rattle.records.specs.Uses.{use_of, use_in, fields_for, word_use, word_fits, words_all, format_uses, gaiji_uses, image_uses, other_uses, uses_of, use_among, variant_of, few, variant_small, same_use, uses_word_lem, use_fits}
 
 -- word i of kind n / 4 with tag n % 4, and that the words behind an unused one are unused
 unfoldable uses_at : ℕ → ℕ → Bool
@@ -23,11 +23,11 @@ row_right n = all_up_to 6 (uses_at n)
 
 -- all of them
 rows_right : all_up_to 64 row_right ≡ true
-unfolding row_right uses_at all_up_to word_use use_in use_of field_table use_among uses_of format_uses mencode_uses image_uses other_uses
+unfolding row_right uses_at all_up_to word_use use_in use_of field_table uses_of format_uses gaiji_uses image_uses other_uses
 rows_right = refl
 
 same_uses : (k t : ℕ) → uses_of k t ≡ uses_of k (variant_of k t)
-unfolding uses_of variant_of format_uses mencode_uses image_uses
+unfolding uses_of variant_of format_uses gaiji_uses image_uses
 same_uses k t =
     by_bool (eqb k 2) (λ e. let m : t % 4 % 4 ≡ t % 4 = omega arith in rw (e, m) refl)
     (λ e. rw (e, few t 1 (omega arith), few t 2 (omega arith)) refl)
@@ -50,7 +50,7 @@ pub use_none : (k t i : ℕ) → 16 ≤ k → word_use k t i ≡ 0
 unfolding word_use use_in field_table
 use_none k t i h = ap (use_in i) (get_or-eq_default (field_table t) [] h)
 
-uses_none : (k t : ℕ) → 16 ≤ k → uses_of k t ≡ 0
+uses_none : (k t : ℕ) → 16 ≤ k → uses_of k t ≡ other_uses 16
 unfolding uses_of other_uses
 uses_none k t h =
     rw (
@@ -67,12 +67,21 @@ uses_none k t h =
       ne_eqb k 15 (λ e. omega arith),
     ) refl
 
--- the code's number has the use of each word
+none_used : (i : ℕ) → use_among (other_uses 16) i ≡ 0
+unfolding other_uses
+none_used zero = refl
+none_used (suc zero) = refl
+none_used (suc (suc zero)) = refl
+none_used (suc (suc (suc zero))) = refl
+none_used (suc (suc (suc (suc zero)))) = refl
+none_used (suc (suc (suc (suc (suc zero))))) = refl
+none_used (suc (suc (suc (suc (suc (suc i)))))) = refl
+
+-- the code has the use of each word
 pub uses_right : (k t i : ℕ) → i < 6 → use_among (uses_of k t) i ≡ word_use k t i
-unfolding use_among
 uses_right k t i b =
     by_bool (ltb k 16) (λ e. (row_parts k t (ltb-true k 16 e) i b).0)
-    (λ e. let h = ltb-false k 16 e in rw (uses_none k t h, use_none k t i h, zero-div) refl)
+    (λ e. let h = ltb-false k 16 e in rw (uses_none k t h, use_none k t i h) (none_used i))
 
 -- the words behind an unused one are unused
 unused_next : (k t i : ℕ) → i < 6 → word_use k t i ≡ 0 → word_use k t (i + 1) ≡ 0
@@ -87,8 +96,8 @@ unused_from k t i (suc d) b e =
     ap (word_use k t) (let z : i + suc d ≡ i + d + 1 = omega arith in z) ∙ unused_next k t (i + d) (omega arith) (unused_from k t i d (omega arith) e)
 
 module _ (used : Bool) (k t i w : ℕ) (h : i < 6) where
-  fits_same : uses_fit used (uses_of k t) i w ≡ word_fits (fields_for used k t) i w
-  unfolding uses_fit word_fits fields_for word_use
+  fits_same : use_fits used (use_among (uses_of k t) i) w ≡ word_fits (fields_for used k t) i w
+  unfolding use_fits word_fits fields_for word_use
   fits_same = by_bool (eqb w 0) (λ e. rw (e, or-true) refl) (λ e. rw (e, or-false) (by_used used))
     where
       by_used : (x : Bool) → cond x (not (eqb (use_among (uses_of k t) i) 0)) false ≡ any (uses_word i) (cond x (get_or (field_table t) k []) [])
@@ -100,11 +109,11 @@ unfolding all_up_to
 all_same zero P Q e = refl
 all_same (suc n) P Q e = rw (all_same n P Q (λ k h. e k (omega arith)), e n (omega arith)) refl
 
--- the six words of a body, by the code's number of their uses
+-- the six words of a body, by the code's uses
 pub words_fit_all : (used : Bool) (k t : ℕ) (ws : List ℕ) → length ws ≡ 6
-    → all_up_to 6 (λ (i : ℕ). uses_fit used (uses_of k t) i (get_or ws i 0)) ≡ unused_zero (fields_for used k t) 0 ws
+    → all_up_to 6 (λ (i : ℕ). use_fits used (use_among (uses_of k t) i) (get_or ws i 0)) ≡ unused_zero (fields_for used k t) 0 ws
 words_fit_all used k t ws six =
     let fs = fields_for used k t in
-    all_same 6 (λ (i : ℕ). uses_fit used (uses_of k t) i (get_or ws i 0)) (λ (i : ℕ). word_fits fs i (get_or ws i 0)) (λ i h. fits_same used k t i (get_or ws i 0) h)
+    all_same 6 (λ (i : ℕ). use_fits used (use_among (uses_of k t) i) (get_or ws i 0)) (λ (i : ℕ). word_fits fs i (get_or ws i 0)) (λ i h. fits_same used k t i (get_or ws i 0) h)
     ∙ ap (λ (n : ℕ). all_up_to n (λ (i : ℕ). word_fits fs i (get_or ws i 0))) (sym six)
     ∙ words_all fs ws

@@ -1,5 +1,6 @@
 pub mod Values
 pub mod Uses
+pub mod UseNumbers
 pub mod Shapes
 pub mod Words
 pub mod Runs

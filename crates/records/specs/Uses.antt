@@ -7,6 +7,8 @@ use Rattle.std.proofs.Math.Bool.{true, false, cond}
 use Rattle.model.specs.Lists.{all, any, tabulate}
 use Rattle.model.specs.Tape.{Field, Field.str, Field.opt_str, Field.content_range, Field.seg_range, field_table, uses_word, unused_zero}
 use Rattle.wire.specs.Loops.{by_bool, all_up_to, all_tabulate}
+use Rattle.records.specs.declared.Use.{Use}
+use Rattle.records.specs.declared.Use.TheVariants.{Unused, Str, OptStr, Contents, ContentsLen, Segments, SegmentsLen}
 
 -- ---- the rule
 
@@ -33,29 +35,47 @@ word_use kind tag i = use_in i (get_or (field_table tag) kind [])
 unfoldable pub word_fits : List Field → ℕ → ℕ → Bool
 word_fits fs i w = any (uses_word i) fs || eqb w 0
 
--- ---- the code's numbers
+-- ---- the code's uses
 
--- three bits a word, from the lowest on
-unfoldable pub format_uses : ℕ → ℕ
-format_uses tag = cond (ltb (tag % 4) 2) 35 99
+-- a use as the rule's number
+abbrev pub use_number : Use → ℕ
+use_number Unused = 0
+use_number Str = 1
+use_number OptStr = 2
+use_number Contents = 3
+use_number ContentsLen = 4
+use_number Segments = 5
+use_number SegmentsLen = 6
 
-unfoldable pub mencode_uses : ℕ → ℕ
-mencode_uses tag = cond (eqb tag 2) 17 1
+-- the number of word i
+abbrev pub use_among : List Use → ℕ → ℕ
+use_among us i = use_number (get_or us i Unused)
 
-unfoldable pub image_uses : ℕ → ℕ
-image_uses tag = cond (eqb tag 1) 5265 (cond (eqb tag 2) 218257 1169)
+-- six words
+abbrev six : Use → Use → Use → Use → Use → Use → List Use
+six a b c d e f = a ∷ b ∷ c ∷ d ∷ e ∷ f ∷ []
 
--- kinds whose tag says nothing of their words
-unfoldable pub other_uses : ℕ → ℕ
+unfoldable pub format_uses : ℕ → List Use
+format_uses tag = six Contents ContentsLen (cond (ltb (tag % 4) 2) Unused Str) Unused Unused Unused
+
+unfoldable pub gaiji_uses : ℕ → List Use
+gaiji_uses tag = six Str (cond (eqb tag 2) OptStr Unused) Unused Unused Unused Unused
+
+unfoldable pub image_uses : ℕ → List Use
+image_uses tag =
+    six Str OptStr OptStr OptStr (cond (eqb tag 1) Str (cond (eqb tag 2) Segments Unused)) (cond (eqb tag 1) Unused (cond (eqb tag 2) SegmentsLen Unused))
+
+-- kinds whose tag says nothing of their words: one string, one range of contents, or two
+unfoldable pub other_uses : ℕ → List Use
 other_uses kind =
-    cond (eqb kind 0) 1 (cond (eqb kind 1) 2275 (cond (eqb kind 9) 35 (cond (eqb kind 10) 1
-    (cond (eqb kind 12) 1 (cond (eqb kind 13) 1 (cond (eqb kind 14) 35 (cond (eqb kind 15) 2275 0)))))))
+    let string = six Str Unused Unused Unused Unused Unused in
+    let one = six Contents ContentsLen Unused Unused Unused Unused in
+    let two = six Contents ContentsLen Contents ContentsLen Unused Unused in
+    cond (eqb kind 0) string (cond (eqb kind 1) two (cond (eqb kind 9) one (cond (eqb kind 10) string
+    (cond (eqb kind 12) string (cond (eqb kind 13) string (cond (eqb kind 14) one (cond (eqb kind 15) two (six Unused Unused Unused Unused Unused Unused))))))))
 
-unfoldable pub uses_of : ℕ → ℕ → ℕ
-uses_of kind tag = cond (eqb kind 2) (format_uses tag) (cond (eqb kind 3) (mencode_uses tag) (cond (eqb kind 11) (image_uses tag) (other_uses kind)))
-
-unfoldable pub use_among : ℕ → ℕ → ℕ
-use_among u i = u / 2 ^ (3 * i) % 8
+unfoldable pub uses_of : ℕ → ℕ → List Use
+uses_of kind tag = cond (eqb kind 2) (format_uses tag) (cond (eqb kind 3) (gaiji_uses tag) (cond (eqb kind 11) (image_uses tag) (other_uses kind)))
 
 -- the tags that matter
 unfoldable pub variant_of : ℕ → ℕ → ℕ
@@ -131,6 +151,6 @@ module _ (fs : List Field) where
 
 -- ---- the code's answers
 
--- a word by the code's number of uses
-unfoldable pub uses_fit : Bool → ℕ → ℕ → ℕ → Bool
-uses_fit used uses i w = cond (eqb w 0) true (cond used (not (eqb (use_among uses i) 0)) false)
+-- a word by the number of its use
+unfoldable pub use_fits : Bool → ℕ → ℕ → Bool
+use_fits used u w = cond (eqb w 0) true (cond used (not (eqb u 0)) false)

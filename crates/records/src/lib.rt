@@ -1,10 +1,11 @@
 // The records of a tape where they stand, document 01 section 4: each kind is read by value, its shape is tested, and so is a
-// run of them. What each of a body's six words is for is one table, `word_use`.
+// run of them. What each of a body's six words is for is one table, `uses_of`.
 // A `requires` says only that the record, or the run, lies inside the tape. A result is an equation with the definition of
 // crate model, over the record that model reads at the place.
 #![tactic(auto)]
 
-ghost use Rattle.std.specs.Prelude.{◌≡◌, Bool, ℕ, ◌+◌, ◌*◌, ◌≤◌, ◌<◌, length, get_or};
+ghost use Rattle.std.specs.Prelude.{◌≡◌, Bool, ℕ, ◌+◌, ◌*◌, ◌≤◌, ◌<◌, length, get_or, eqb, ltb};
+ghost use Rattle.model.specs.Bytes.{byte_at};
 ghost use Rattle.model.specs.Lists.{all};
 ghost use Rattle.model.specs.Types as Types;
 ghost use Rattle.model.specs.Tape.{Codec, record_size, record_at, records_at, tag_counts, unused_zero, body_shape};
@@ -13,9 +14,31 @@ ghost use Rattle.model.specs.Tape.{content_shape, segment_shape, node_shape, pai
 ghost use Rattle.model.specs.WellFormed.{word_of};
 ghost use Rattle.records.specs.Values.{body_of, content_of, segment_of, source_node_of, pair_link_of, container_pair_of, diagnostic_of};
 ghost use Rattle.records.specs.Values.{body_at};
-ghost use Rattle.records.specs.Uses.{format_uses, mencode_uses, image_uses, uses_of, use_among, word_use, fields_for, uses_fit};
+ghost use Rattle.records.specs.Uses.{use_number, format_uses, gaiji_uses, image_uses, uses_of, word_use, fields_for, use_fits};
 ghost use Rattle.records.specs.Shapes.{segment_head, node_head};
 ghost use Rattle.records.specs.Sizes.{content_size, segment_size, node_size, pair_size, diagnostic_size};
+
+// Kinds of bodies.
+pub const TEXT: u8 = 0;
+
+pub const RUBY: u8 = 1;
+
+const FORMAT: u8 = 2;
+
+const GAIJI: u8 = 3;
+
+const IMAGE: u8 = 11;
+
+const DIRECTIVE: u8 = 13;
+
+// The tag of a content that is one string.
+const PLAIN: u8 = 0;
+
+// The tag of a segment that holds a node; those below hold a text.
+pub const NODE: u8 = 3;
+
+// The class of nodes from which on they have no words.
+const BARE: u8 = 2;
 
 // Section 4. A body: what a `Node` or a text holds.
 #[derive(Clone, Copy)]
@@ -144,6 +167,23 @@ pub fn node_at(tape: &[u8], at: usize) -> SourceNode
     }
 }
 
+impl Content {
+    // Is it one string? Any other is a run of segments.
+    pub fn is_plain(self) -> bool
+        ensures { result ≡ eqb self.tag 0 }
+    {
+        self.tag == PLAIN
+    }
+}
+
+// Does the node at `at` have words? One of class 2 or 3 has none.
+pub fn has_words(tape: &[u8], at: usize) -> bool
+    requires { at + 49 ≤ length tape.now }
+    ensures { result ≡ ltb (byte_at tape.now (at + 1)) 2 }
+{
+    tape[at + 1] < BARE
+}
+
 // Single fields of a node, for the walks over all nodes.
 pub fn node_start(tape: &[u8], at: usize) -> u32
     requires { at + 49 ≤ length tape.now }
@@ -209,87 +249,139 @@ fn tag_count(kind: u8) -> u8
     ensures { result ≡ get_or tag_counts kind 0 }
 {
     match kind {
-        2 => 16,
-        3 | 11 => 3,
-        13 => 14,
+        FORMAT => 16,
+        GAIJI | IMAGE => 3,
+        DIRECTIVE => 14,
         0..=15 => 1,
         _ => 0,
     }
 }
 
-// What the six words of a body are for, three bits a word from the lowest on: 0 unused, 1 a string, 2 a string that may be missing,
-// 3 and 4 start and length of contents, 5 and 6 start and length of segments. Plain numbers, as for `tag_count`.
+// What a word of a body is for. A range has two words: where it starts, and how long it is.
+#[derive(Clone, Copy, Debug, PartialEq, Eq)]
+pub enum Use {
+    Unused,
+    Str,
+    // a string that may be missing
+    OptStr,
+    Contents,
+    ContentsLen,
+    Segments,
+    SegmentsLen,
+}
+
+// What the six words of a body are for, by its kind and tag.
 
 // Format's tag is origin × 4 + payload, and only the payload matters here.
 #[tactic(auto, using(std::proofs::lemmas::Bool::Decides::nat_tests), unfolding(crate::specs::Uses::format_uses))]
-fn format_uses(tag: u8) -> u32
+fn format_uses(tag: u8) -> [Use; 6]
     ensures { result ≡ format_uses tag }
 {
-    if tag % 4 < 2 { 35 } else { 99 }
+    let payload = if tag % 4 < 2 { Use::Unused } else { Use::Str };
+    [
+        Use::Contents,
+        Use::ContentsLen,
+        payload,
+        Use::Unused,
+        Use::Unused,
+        Use::Unused,
+    ]
 }
 
-#[tactic(auto, using(std::proofs::lemmas::Bool::Decides::nat_tests), unfolding(crate::specs::Uses::mencode_uses))]
-fn mencode_uses(tag: u8) -> u32
-    ensures { result ≡ mencode_uses tag }
+#[tactic(auto, using(std::proofs::lemmas::Bool::Decides::nat_tests), unfolding(crate::specs::Uses::gaiji_uses))]
+fn gaiji_uses(tag: u8) -> [Use; 6]
+    ensures { result ≡ gaiji_uses tag }
 {
-    if tag == 2 { 17 } else { 1 }
+    let mencode = if tag == 2 { Use::OptStr } else { Use::Unused };
+    [
+        Use::Str,
+        mencode,
+        Use::Unused,
+        Use::Unused,
+        Use::Unused,
+        Use::Unused,
+    ]
 }
 
 #[tactic(auto, using(std::proofs::lemmas::Bool::Decides::nat_tests), unfolding(crate::specs::Uses::image_uses))]
-fn image_uses(tag: u8) -> u32
+fn image_uses(tag: u8) -> [Use; 6]
     ensures { result ≡ image_uses tag }
 {
-    match tag {
-        1 => 5265,
-        2 => 218257,
-        _ => 1169,
-    }
+    let (caption, len) = match tag {
+        1 => (Use::Str, Use::Unused),
+        2 => (Use::Segments, Use::SegmentsLen),
+        _ => (Use::Unused, Use::Unused),
+    };
+    [
+        Use::Str,
+        Use::OptStr,
+        Use::OptStr,
+        Use::OptStr,
+        caption,
+        len,
+    ]
 }
 
 #[tactic(auto, using(std::proofs::lemmas::Bool::Decides::nat_tests), unfolding(crate::specs::Uses::uses_of, crate::specs::Uses::other_uses))]
-pub fn uses_of(kind: u8, tag: u8) -> u32
+pub fn uses_of(kind: u8, tag: u8) -> [Use; 6]
     ensures { result ≡ uses_of kind tag }
 {
     match kind {
-        2 => format_uses(tag),
-        3 => mencode_uses(tag),
-        11 => image_uses(tag),
-        0 | 10 | 12 | 13 => 1,
-        1 | 15 => 2275,
-        9 | 14 => 35,
-        _ => 0,
+        FORMAT => format_uses(tag),
+        GAIJI => gaiji_uses(tag),
+        IMAGE => image_uses(tag),
+        0 | 10 | 12 | 13 => [
+            Use::Str,
+            Use::Unused,
+            Use::Unused,
+            Use::Unused,
+            Use::Unused,
+            Use::Unused,
+        ],
+        1 | 15 => [
+            Use::Contents,
+            Use::ContentsLen,
+            Use::Contents,
+            Use::ContentsLen,
+            Use::Unused,
+            Use::Unused,
+        ],
+        9 | 14 => [
+            Use::Contents,
+            Use::ContentsLen,
+            Use::Unused,
+            Use::Unused,
+            Use::Unused,
+            Use::Unused,
+        ],
+        _ => [Use::Unused; 6],
     }
 }
 
-pub fn use_in(uses: u32, i: usize) -> u8
-    requires { i < 6 }
-    ensures { result ≡ use_among uses i }
-{
-    ((uses >> (3 * i)) % 8) as u8
-}
-
 // What word i of a body is for.
-pub fn word_use(kind: u8, tag: u8, i: usize) -> u8
+pub fn word_use(kind: u8, tag: u8, i: usize) -> Use
     requires { i < 6 }
-    ensures { result ≡ word_use kind tag i }
+    ensures { use_number result ≡ word_use kind tag i }
 {
-    use_in(uses_of(kind, tag), i)
+    uses_of(kind, tag)[i]
 }
 
 // Section 4. Unused words are 0; a body that is not `used`, of a node of class 2 or 3, has no words.
-#[tactic(auto, using(std::proofs::lemmas::Bool::Decides::nat_tests), unfolding(crate::specs::Uses::uses_fit))]
-fn word_fits(used: bool, uses: u32, i: usize, w: u32) -> bool
-    requires { i < 6 }
-    ensures { result ≡ uses_fit used uses i w }
+#[tactic(auto, using(std::proofs::lemmas::Bool::Decides::nat_tests), unfolding(crate::specs::Uses::use_fits))]
+fn word_fits(used: bool, usage: Use, w: u32) -> bool
+    ensures { result ≡ use_fits used (use_number usage) w }
 {
-    w == 0 || used && use_in(uses, i) != 0
+    match usage {
+        Use::Unused => w == 0,
+        _ => w == 0 || used,
+    }
 }
 
 fn words_fit(used: bool, kind: u8, tag: u8, words: [u32; 6]) -> bool
     ensures { result ≡ unused_zero (fields_for used kind tag) 0 words }
 {
     let uses = uses_of(kind, tag);
-    (0..6).all(|i| word_fits(used, uses, i, words[i]))
+    (0..6).all(|i| word_fits(used, uses[i], words[i]))
 }
 
 #[tactic(auto, using(std::proofs::lemmas::Bool::Decides::nat_tests), unfolding(model::specs::Tape::body_shape))]
@@ -304,7 +396,7 @@ pub fn content_shape(c: Content) -> bool
     ensures { result ≡ content_shape (content_of c) }
 {
     match c.tag {
-        0 => c.second == 0,
+        PLAIN => c.second == 0,
         1 => true,
         _ => false,
     }
@@ -316,10 +408,10 @@ fn segment_head(tag: u8, kind: u8) -> bool
     ensures { result ≡ segment_head tag kind }
 {
     match tag {
-        0 => kind == 0,
-        1 => kind == 3,
-        2 => kind == 13,
-        3 => 1 <= kind,
+        0 => kind == TEXT,
+        1 => kind == GAIJI,
+        2 => kind == DIRECTIVE,
+        NODE => 1 <= kind,
         _ => false,
     }
 }
@@ -338,7 +430,7 @@ fn node_head(class: u8, inline: u8, kind: u8) -> bool
 {
     match class {
         0 | 1 => 1 <= kind && inline == 0,
-        2 | 3 => kind == 0 && inline < 2,
+        2 | 3 => kind == TEXT && inline < 2,
         _ => false,
     }
 }
@@ -347,7 +439,7 @@ fn node_head(class: u8, inline: u8, kind: u8) -> bool
 pub fn node_shape(n: SourceNode) -> bool
     ensures { result ≡ node_shape (source_node_of n) }
 {
-    node_head(n.class, n.inline, n.body.kind) && body_shape(n.body, n.class < 2)
+    node_head(n.class, n.inline, n.body.kind) && body_shape(n.body, n.class < BARE)
 }
 
 pub fn pair_shape(p: PairLink) -> bool

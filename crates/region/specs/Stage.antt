@@ -18,17 +18,17 @@ use Rattle.balanced_region.specs.Ends.{balanced_in, region_of, balanced_bounds}
 use Rattle.balanced_region.specs.Survives.{search_from, search_bounds, region_of_book}
 use Rattle.cuts.specs.Gaps.{NodesIn}
 use Rattle.region.specs.Chosen.{whole_text, chosen_edit, chosen_depends, chosen_whole, chosen_region_lem}
-use Rattle.region.specs.Ready.{Ready, ready_text, ready_length, ready_short, ready_nodes, ready_pairs, ready_order}
+use Rattle.region.specs.Held.{Held, held_text, held_length, held_short, held_nodes, held_pairs, held_order}
 
-module _ {t d : List ℕ} {p : Places} {st : Store} {words : List ℕ} (r : Ready t d p st words) where
+module _ {t d : List ℕ} {p : Places} {st : Store} (r : Held t d p st) where
   text_is : take (p.text - 0) d ≡ (book_at t (places t) d).sanitized
-  text_is = ap (λ (n : ℕ). take n d) (sub-zero p.text) ∙ ready_text r
+  text_is = ap (λ (n : ℕ). take n d) (sub-zero p.text) ∙ held_text r
 
   text_length_lem : length (take (p.text - 0) d) ≡ p.text
-  text_length_lem = ap length text_is ∙ ready_length r
+  text_length_lem = ap length text_is ∙ held_length r
 
   pub stage_short : length (take (p.text - 0) d) ≤ max_text
-  stage_short = let s = ready_short r in omega (arith, text_length_lem, s)
+  stage_short = let s = held_short r in omega (arith, text_length_lem, s)
 
   module _ (start end : ℕ) (replacement : List ℕ) {n : ℕ} (q : n ≡ edit_number (take (p.text - 0) d) (edit_of start end replacement)) where
     number : n ≡ edit_number (book_at t (places t) d).sanitized (edit_of start end replacement)
@@ -49,7 +49,7 @@ module _ {t d : List ℕ} {p : Places} {st : Store} {words : List ℕ} (r : Read
       stage_region = (omega (arith, inside), inside.1)
 
       pub stage_nodes : NodesIn (length (take (p.text - 0) d)) (records_at node_codec t p.nodes.at p.nodes.count)
-      stage_nodes = subst (λ (k : ℕ). NodesIn k (records_at node_codec t p.nodes.at p.nodes.count)) (sym text_length_lem) (ready_order r)
+      stage_nodes = subst (λ (k : ℕ). NodesIn k (records_at node_codec t p.nodes.at p.nodes.count)) (sym text_length_lem) (held_order r)
 
       module _ (g : x ≡ false) {s : Cuts}
           (e : region_of s ≡ balanced_in (take (p.text - 0) d) (records_at node_codec t p.nodes.at p.nodes.count) (records_at pair_codec t p.pairs.at p.pairs.count)
@@ -59,7 +59,7 @@ module _ {t d : List ℕ} {p : Places} {st : Store} {words : List ℕ} (r : Read
         region_is =
             let i = inside in
             let l : end ≤ length (book_at t (places t) d).sanitized = omega (arith, i.1, ap length text_is) in
-            region_of_book (book_at t (places t) d) (edit_of start end replacement) i.0 l text_is (ready_nodes r) (ready_pairs r) e
+            region_of_book (book_at t (places t) d) (edit_of start end replacement) i.0 l text_is (held_nodes r) (held_pairs r) e
 
         pub stage_fits : (s.start < 2 ^ 32) × (s.end < 2 ^ 32)
         stage_fits =
@@ -74,7 +74,7 @@ module _ {t d : List ℕ} {p : Places} {st : Store} {words : List ℕ} (r : Read
           whole_is : w ≡ is_whole (book_at t (places t) d) (balanced_region (book_at t (places t) d) (edit_of start end replacement))
           unfolding whole_text is_whole
           whole_is =
-              h ∙ ap (λ (k : ℕ). eqb s.start 0 && eqb s.end k) (sym (ready_length r))
+              h ∙ ap (λ (k : ℕ). eqb s.start 0 && eqb s.end k) (sym (held_length r))
               ∙ ap (λ (y : Span). eqb y.start 0 && eqb y.end (length (book_at t (places t) d).sanitized)) region_is
 
           pub stage_whole : w ≡ true → refused 11 ≡ chosen_region (book_at t (places t) d) (edit_of start end replacement)

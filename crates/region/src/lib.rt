@@ -4,18 +4,21 @@
 // none.
 #![tactic(auto)]
 
-ghost use Rattle.std.specs.Prelude.{◌≡◌, List, ℕ, ◌+◌, length};
+mod book;
+
+ghost use Rattle.std.specs.Prelude.{◌≡◌, length};
 ghost use Rattle.model.specs.Bytes.{zeros};
 ghost use Rattle.model.specs.Types.{LexOutput};
-ghost use Rattle.model.specs.Tape.{places as places_in, book_at};
-ghost use Rattle.model.specs.Region.{chosen_region, choose_region, has_ruby_format_dependency, region_text, edit_of};
-ghost use Rattle.strings.specs.Starts.{start_in};
-ghost use Rattle.strings.specs.Shown.{old_strings};
+ghost use Rattle.model.specs.Region.{chosen_region, choose_region, region_text, edit_of};
 ghost use Rattle.refusal.specs.Refusal.{checked, checked_map};
 ghost use Rattle.span.specs.Values.{span_of};
 ghost use Rattle.region.specs.Chosen.{whole_text};
-ghost use Rattle.region.specs.Held.{Held};
+ghost use Rattle.region.specs.Books.{book_of};
 
+use balanced_region::Edited;
+pub use book::Book;
+use cuts::Source;
+use edit::Edit;
 use refusal::Refusal;
 use span::Span;
 
@@ -29,72 +32,32 @@ fn is_whole(text: u32, r: balanced_region::Region) -> bool
     r.end == text as usize
 }
 
-// Where the bytes of the last layer's strings begin: behind both texts and the strings of the other layers.
-pub fn last_strings_at(tape: &[u8], bytes: &[u8], p: places::Places, st: store::Store) -> usize
-    requires { Held tape.now bytes.now p st }
-    ensures { result ≡ p.text + p.normalized + start_in tape.now (old_strings st) }
-{
-    let first = p.text as usize + p.normalized as usize;
-    let olds = strings::old_strings(st);
-    first + strings::start_from(tape, st, bytes.len(), 0, olds, 0)
-}
-
-// Number 10.
-fn depends(
-    tape: &[u8],
-    bytes: &[u8],
-    p: places::Places,
-    st: store::Store,
-    words: &mut [u32],
-    from: u32,
-) -> bool
-    requires { Held tape.now bytes.now p st }
-    ensures { (end : ℕ) (replacement : List ℕ) → result ≡ has_ruby_format_dependency (book_at tape.now (places_in tape.now) bytes.now) (edit_of from end replacement) }
-{
-    let first = p.text as usize + p.normalized as usize;
-    let cut = last_strings_at(tape, bytes, p, st);
-    dependency::has_ruby_format_dependency(
-        tape,
-        st,
-        words,
-        &bytes[first..cut],
-        &bytes[cut..bytes.len()],
-        p.nodes.at,
-        p.nodes.count,
-        from,
-    )
-}
-
 // Numbers 8 to 11 of a book that passed 1 to 7, or the region in offsets of the old text. The words may hold anything.
-pub fn chosen_region(
-    tape: &[u8],
-    bytes: &[u8],
-    p: places::Places,
-    st: store::Store,
+pub fn chosen_region<'a>(
+    book: &Book<'a>,
+    edit: &Edit<'a>,
     words: &mut [u32],
-    start: u32,
-    end: u32,
-    replacement: &[u8],
 ) -> Result<Span, Refusal>
-    requires { Held tape.now bytes.now p st }
-    ensures { checked_map span_of (checked result) ≡ chosen_region (book_at tape.now (places_in tape.now) bytes.now) (edit_of start end replacement.now) }
+    ensures { checked_map span_of (checked result) ≡ chosen_region (book_of book.now) (edit_of edit.now.start edit.now.end edit.now.replacement.now) }
 {
-    let text = &bytes[0..p.text as usize];
-    edit::check_edit(text, start, end, replacement)?;
-    if depends(tape, bytes, p, st, words, start) {
+    let text = &book.bytes[0..book.places.text as usize];
+    edit::check_edit(text, edit)?;
+    if dependency::has_ruby_format_dependency(&book.nodes(), words, edit.start) {
         return Err(Refusal::RubyFormatDependency);
     }
-    let r = balanced_region::balanced_region(
-        tape,
-        text,
-        p.nodes,
-        p.pairs,
-        start as usize,
-        end as usize,
-        replacement,
-        words,
-    );
-    if is_whole(p.text, r) {
+    let edited = Edited {
+        source: Source {
+            tape: book.tape,
+            text,
+            nodes: book.places.nodes,
+            pairs: book.places.pairs,
+        },
+        start: edit.start as usize,
+        end: edit.end as usize,
+        replacement: edit.replacement,
+    };
+    let r = edited.balanced_region(words);
+    if is_whole(book.places.text, r) {
         return Err(Refusal::WholeText);
     }
     Ok(Span {
@@ -104,19 +67,17 @@ pub fn chosen_region(
 }
 
 // Numbers 1 to 11; the words are left as they are used.
-fn region_of(
-    tape: &[u8],
-    bytes: &[u8],
-    start: u32,
-    end: u32,
-    replacement: &[u8],
-    words: &mut [u32],
-) -> Result<Span, Refusal>
-    ensures { (checked_map span_of (checked result) ≡ choose_region tape.now bytes.now (edit_of start end replacement.now)) × (length words.new ≡ length words.old) }
+fn region_of(tape: &[u8], bytes: &[u8], edit: &Edit, words: &mut [u32]) -> Result<Span, Refusal>
+    ensures { (checked_map span_of (checked result) ≡ choose_region tape.now bytes.now (edit_of edit.now.start edit.now.end edit.now.replacement.now)) × (length words.new ≡ length words.old) }
 {
     let p = tape::checked_book(tape, bytes)?;
-    let st = store::store_of(tape, p.layers);
-    chosen_region(tape, bytes, p, st, words, start, end, replacement)
+    let book = Book {
+        tape,
+        bytes,
+        places: p,
+        store: store::store_of(tape, p.layers),
+    };
+    chosen_region(&book, edit, words)
 }
 
 // `choose_region`: choosing the region alone runs up to 11. The words come back as zeros.
@@ -130,7 +91,12 @@ pub fn choose_region(
 ) -> Result<Span, Refusal>
     ensures { (checked_map span_of (checked result) ≡ choose_region tape.now bytes.now (edit_of start end replacement.now)) × (words.new ≡ zeros (length words.old)) }
 {
-    let found = region_of(tape, bytes, start, end, replacement, words);
+    let edit = Edit {
+        start,
+        end,
+        replacement,
+    };
+    let found = region_of(tape, bytes, &edit, words);
     wire::zero_words(words);
     found
 }

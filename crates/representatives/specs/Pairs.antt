@@ -1,13 +1,12 @@
 -- Pairs in words, an id and the id of an equal string plus 1: what they say, and how one is written.
-use Rattle.std.specs.Prelude.{◌≡◌, refl, ℕ, ◌+◌, ◌-◌, ◌*◌, ◌/◌, ◌≤◌, ◌<◌, min, Bool, List, [], length, get_or, set, replicate, eqb}
-use Rattle.std.proofs.Common.{sym, ap, subst, ◌∙◌, arith, length-set, get_or-set_same, get_or-set_other, eqb-true}
+use Rattle.std.specs.Prelude.{◌≡◌, ℕ, ◌+◌, ◌-◌, ◌*◌, ◌/◌, ◌≤◌, ◌<◌, min, Bool, List, [], length, get_or, set, replicate, eqb}
+use Rattle.std.proofs.Common.{sym, ap, ◌∙◌, arith, length-set, get_or-set_same, get_or-set_other, eqb-true}
 use Rattle.std.proofs.lemmas.List.{length-replicate, get_or-replicate}
 use Rattle.std.proofs.lemmas.Bool.{eqb-false}
-use Rattle.model.specs.Store.{NodeStore, resolve_str}
 use Rattle.wire.specs.Loops.{by_bool}
-use Rattle.store.specs.declared.Store.{Store}
-use Rattle.strings.specs.Shown.{Resolvable}
-use Rattle.sorted_ids.specs.Row.{first_words, Row, Inserted}
+use Rattle.strings.specs.declared.lent.Strings.{Strings}
+use Rattle.strings.specs.Lent.{string_in}
+use Rattle.sorted_ids.specs.Row.{Row, Inserted}
 
 -- What words say of strings that K shows by their ids: a pair whose second word is not 0 has the id of an equal string there, plus 1.
 pub record Pairs (K : ℕ → List ℕ) (words : List ℕ) : Type 0 where
@@ -84,36 +83,28 @@ module _ (words : List ℕ) (n id representative : ℕ) (h : 2 * n + 2 < length 
 
 -- ---- the walk over the strings
 
--- After at most n strings: the words have pairs, and a row of m of the strings stands behind the words that stood before it at first.
-pub record Paired (st : NodeStore) (ids base : ℕ) (first row : List ℕ) (m n : ℕ) (words : List ℕ) : Type 0 where
-  pub pairs : Pairs (resolve_str st) words
-  pub rising : Row st ids row base m
-  pub front : first_words base row ≡ first_words base first
+-- After at most n strings: the words have pairs, and a row has m of the strings.
+pub record Paired (ss : Strings) (row : List ℕ) (m n : ℕ) (words : List ℕ) : Type 0 where
+  pub pairs : Pairs (string_in ss) words
+  pub rising : Row ss row m
   pub few : m ≤ n
 
-module _ {st : NodeStore} {ids base : ℕ} {row : List ℕ} where
-  pub paired_none : {words : List ℕ} → Pairs (resolve_str st) words → base ≤ length row → Paired st ids base row row 0 0 words
-  paired_none p h = record {
+module _ {ss : Strings} {row : List ℕ} where
+  pub paired_none : {words : List ℕ} → Pairs (string_in ss) words → Paired ss row 0 0 words
+  paired_none p = record {
     pairs = p;
-    rising = record { room = omega (arith, h); inside = λ j g. absurd (omega (arith, g)); rising = λ i j g l. absurd (omega (arith, l)) };
-    front = refl;
+    rising = record { room = omega arith; inside = λ j g. absurd (omega (arith, g)); rising = λ i j g h. absurd (omega (arith, h)) };
     few = omega arith;
   }
 
-  module _ {m : ℕ} {words : List ℕ} (p : Pairs (resolve_str st) words) where
+  module _ {m : ℕ} {words : List ℕ} (p : Pairs (string_in ss) words) where
     -- the row has the string
-    pub paired_known : Row st ids row base m → Paired st ids base row row m (m + 1) words
-    paired_known r = record { pairs = p; rising = r; front = refl; few = omega arith }
+    pub paired_known : Row ss row m → Paired ss row m (m + 1) words
+    paired_known r = record { pairs = p; rising = r; few = omega arith }
 
     -- it is put in
-    pub paired_new : {P : List ℕ → Bool} {after : List ℕ} {n : ℕ} → Inserted st ids P row base m after n → Paired st ids base row after n (m + 1) words
-    paired_new i = record { pairs = p; rising = i.row; front = i.front; few = i.few }
+    pub paired_new : {P : List ℕ → Bool} {after : List ℕ} {n : ℕ} → Inserted ss P row m after n → Paired ss after n (m + 1) words
+    paired_new i = record { pairs = p; rising = i.row; few = i.few }
 
-pub paired_next : {st : NodeStore} {ids base : ℕ} {first row : List ℕ} {m n : ℕ} {words : List ℕ} → Paired st ids base first row m n words
-    → {after : List ℕ} {k : ℕ} {rest : List ℕ} → Paired st ids base row after k (m + 1) rest → Paired st ids base first after k (n + 1) rest
-paired_next a b = record { pairs = b.pairs; rising = b.rising; front = b.front ∙ a.front; few = omega (arith, a.few, b.few) }
-
--- the strings are shown by the same index
-pub paired_index : {st : NodeStore} {ids base : ℕ} {first row : List ℕ} {m n : ℕ} {words : List ℕ} → Paired st ids base first row m n words
-    → {t : List ℕ} {s : Store} {old new : List ℕ} → Resolvable t s (first_words base first) old new → Resolvable t s (first_words base row) old new
-paired_index p {t} {s} {old} {new} r = subst (λ (l : List ℕ). Resolvable t s l old new) (sym p.front) r
+pub paired_next : {ss : Strings} {m n : ℕ} → m ≤ n → {after : List ℕ} {k : ℕ} {rest : List ℕ} → Paired ss after k (m + 1) rest → Paired ss after k (n + 1) rest
+paired_next l b = record { pairs = b.pairs; rising = b.rising; few = omega (arith, l, b.few) }

@@ -3,18 +3,17 @@
 // by bisection and looked at before it is used: so it need not be there, and what it says is right wherever it stands (specs/Pairs.antt).
 #![tactic(auto)]
 
-ghost use Rattle.std.specs.Prelude.{◌≡◌, List, [], ◌++◌, ℕ, ◌+◌, ◌-◌, ◌*◌, ◌≤◌, ◌<◌, length, get_or, leb};
-ghost use Rattle.model.specs.Store.{resolve_str};
+ghost use Rattle.std.specs.Prelude.{◌≡◌, List, ℕ, ◌+◌, ◌-◌, ◌*◌, ◌^◌, ◌≤◌, ◌<◌, length, get_or, leb};
 ghost use Rattle.wire.specs.Loops.{any_up_to};
-ghost use Rattle.wire.specs.Overwrite.{overwrite};
-ghost use Rattle.strings.specs.Starts.{lengths_in, store_in, OfTape};
-ghost use Rattle.strings.specs.Index.{index_in};
-ghost use Rattle.strings.specs.Shown.{Resolvable};
-ghost use Rattle.sorted_ids.specs.Row.{first_words, Row};
+ghost use Rattle.strings.specs.Starts.{lengths_in, OfTape};
+ghost use Rattle.strings.specs.Lent.{string_in};
+ghost use Rattle.sorted_ids.specs.Row.{Row};
 ghost use Rattle.representatives.specs.Long.{long_from};
 ghost use Rattle.representatives.specs.Pairs.{Pairs, pairs_in, pair_put, Paired};
 ghost use Rattle.representatives.specs.Bisection.{Rising, Split, Known};
 ghost use Rattle.representatives.specs.Ordered.{Ordered};
+
+use strings::Strings;
 
 const LONG: usize = 1024;
 
@@ -94,102 +93,78 @@ fn put_pair(words: &mut [u32], n: usize, id: u32, representative: u32)
 }
 
 // One long string more, the n-th: its pair. The row has each string of the pairs once. Answers how many the row has then.
-fn pair_string<'a>(
-    tape: &[u8],
-    st: store::Store,
+fn pair_string(
+    strings: &Strings,
     row: &mut [u32],
     m: usize,
-    old: &'a [u8],
-    new: &'a [u8],
     words: &mut [u32],
     n: usize,
     id: u32,
 ) -> usize
-    requires resolvable { Resolvable tape.now st (first_words 1024 row.old) old.now new.now }
-    requires row { Row (store_in tape.now (old.now ++ new.now)) st.totals.strings row.old 1024 m }
-    requires m_in_bounds { (1024 + m < length row.old) × (id < st.totals.strings) }
+    requires row { Row strings.now row.old m }
+    requires m_in_bounds { (m < length row.old) × (id < strings.now.store.now.totals.strings) × (strings.now.store.now.totals.strings < 2 ^ 32) }
     requires n_bound { (n < 4096) × (2 * n + 2 < length words.old) }
-    requires pairs { Pairs (resolve_str (store_in tape.now (old.now ++ new.now))) words.old }
+    requires pairs { Pairs (string_in strings.now) words.old }
     requires ordered { Ordered words.old n id }
-    ensures paired { Paired (store_in tape.now (old.now ++ new.now)) st.totals.strings 1024 row.old row.new result (m + 1) words.new }
+    ensures paired { Paired strings.now row.new result (m + 1) words.new }
     ensures ordered_2 { Ordered words.new (n + 1) (id + 1) }
 {
-    let s = strings::resolve_str(tape, st, &row[0..INDEX], old, new, id);
-    if let Some(known) = sorted_ids::find(tape, st, row, INDEX, m, old, new, s) {
+    if let Some(known) = sorted_ids::find(strings, row, m, strings.resolve_str(id)) {
         put_pair(words, n, id, known);
         return m;
     }
     put_pair(words, n, id, id);
-    sorted_ids::insert(tape, st, row, INDEX, m, old, new, id)
+    sorted_ids::insert(strings, row, m, id)
 }
 
-// A pair for each long string, as far as there is room: by a row that is empty yet, behind an index.
-fn pair_all<'a>(
-    tape: &[u8],
-    st: store::Store,
-    row: &mut [u32],
-    old: &'a [u8],
-    new: &'a [u8],
-    words: &mut [u32],
-    room: usize,
-    least: usize,
-)
-    requires resolvable { Resolvable tape.now st (first_words 1024 row.old) old.now new.now }
-    requires row_len { (length row.old ≡ 5120) × (room ≤ 4096) × (2 * room ≤ length words.old - 1) }
-    requires pairs { Pairs (resolve_str (store_in tape.now (old.now ++ new.now))) words.old }
+// A pair for each long string, as far as there is room: by a row that is empty yet.
+fn pair_all(strings: &Strings, row: &mut [u32], words: &mut [u32], room: usize, least: usize)
+    requires row_len { (length row.old ≡ 4096) × (room ≤ 4096) × (2 * room ≤ length words.old - 1) }
+    requires pairs { Pairs (string_in strings.now) words.old }
     requires ordered { Ordered words.old 0 0 }
-    ensures pairs_2 { Pairs (resolve_str (store_in tape.now (old.now ++ new.now))) words.new }
+    ensures pairs_2 { Pairs (string_in strings.now) words.new }
     ensures rising { Rising words.new (pairs_in words.new) }
 {
     let mut n = 0;
     let mut m = 0;
-    for id in 0..st.totals.strings {
-        if strings::string_length(tape, st, id) < least {
+    for id in 0..strings.store.totals.strings {
+        if strings.string_length(id) < least {
             continue;
         }
         if room <= n {
             return;
         }
-        m = pair_string(tape, st, row, m, old, new, words, n, id);
+        m = pair_string(strings, row, m, words, n, id);
         n += 1;
     }
 }
 
-// The same, the index in the row's first words.
-fn pair_by_row<'a>(
-    tape: &[u8],
-    st: store::Store,
-    row: &mut [u32],
-    old: &'a [u8],
-    new: &'a [u8],
-    words: &mut [u32],
-    least: usize,
-)
-    requires resolvable { Resolvable tape.now st (overwrite [] 0 (index_in (lengths_in tape.now) [])) old.now new.now }
-    requires row_len { (length row.old ≡ 5120) × (1 ≤ length words.old) }
-    ensures pairs { Pairs (resolve_str (store_in tape.now (old.now ++ new.now))) words.new }
+// The same by lent words: an index of the strings in the first of them, the row behind it.
+fn pair_by_words(strings: &Strings, lent: &mut [u32], words: &mut [u32], least: usize)
+    requires { (length lent.old ≡ 5120) × (1 ≤ length words.old) }
+    ensures pairs { Pairs (string_in strings.now) words.new }
     ensures rising { Rising words.new (pairs_in words.new) }
 {
-    strings::index_strings(tape, st, old.len() + new.len(), &mut row[0..INDEX]);
-    wire::zero_words(words);
+    let (index, row) = lent.split_at_mut(INDEX);
+    strings.write_index(index);
+    let indexed = Strings {
+        tape: strings.tape,
+        store: strings.store,
+        index,
+        old: strings.old,
+        new: strings.new,
+    };
+    words.fill(0);
     let room = MOST.min((words.len() - 1) / 2);
-    pair_all(tape, st, row, old, new, words, room, least);
+    pair_all(&indexed, row, words, room, least);
 }
 
 // A pair for each string of at least so many bytes, as far as there is room.
-pub fn pair_strings<'a>(
-    tape: &[u8],
-    st: store::Store,
-    old: &'a [u8],
-    new: &'a [u8],
-    words: &mut [u32],
-    least: usize,
-)
-    requires resolvable { Resolvable tape.now st (overwrite [] 0 (index_in (lengths_in tape.now) [])) old.now new.now }
-    requires in_bounds { 1 ≤ length words.old }
-    ensures pairs { Pairs (resolve_str (store_in tape.now (old.now ++ new.now))) words.new }
+pub fn pair_strings(strings: &Strings, words: &mut [u32], least: usize)
+    requires { 1 ≤ length words.old }
+    ensures pairs { Pairs (string_in strings.now) words.new }
     ensures rising { Rising words.new (pairs_in words.new) }
 {
-    let mut row = [0u32; 5120];
-    pair_by_row(tape, st, &mut row[0..5120], old, new, words, least);
+    let mut lent = [0u32; 5120];
+    pair_by_words(strings, &mut lent[..], words, least);
 }

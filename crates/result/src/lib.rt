@@ -19,10 +19,11 @@ ghost use Rattle.merged_lists.specs.Sizes.{lengths_of};
 ghost use Rattle.result.specs.Grafting.{offsets_of, GraftTold};
 ghost use Rattle.result.specs.Stages.{texts_of, StoreTold};
 
-use books::{Book, Merging};
+use books::Merging;
 use merged_texts::Spliced;
 use output::IncrementalOutput;
 use refusal::Refusal;
+use region::Book;
 use stats::InternStats;
 
 // Both new texts and the old strings, by the places of both books and the window.

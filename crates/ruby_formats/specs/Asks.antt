@@ -7,15 +7,32 @@ use native.Mathlib.Omega.{arith}
 use Rattle.std.proofs.Math.Bool.{or-false}
 use Rattle.model.specs.Types.{SourceNode}
 use Rattle.model.specs.Tape.{record_at, node_codec}
-use Rattle.model.specs.Region.{is_referenced_format}
+use Rattle.model.specs.Region.{is_ruby, is_referenced_format}
+use Rattle.laws.specs.Lists.{both, or_left, or_right}
 use Rattle.wire.specs.Loops.{any_up_to, by_bool}
 use Rattle.laws.specs.Nodes.{starts_at}
 
 -- ---- one node
 
+-- one that names a string: a Ruby its base, a Referenced Format its target
+unfoldable pub names_one : SourceNode → Bool
+names_one n = is_ruby n || is_referenced_format n
+
+pub ruby_names : (n : SourceNode) {x : Bool} → x ≡ is_ruby n → x ≡ true → names_one n ≡ true
+unfolding names_one
+ruby_names n e h = or_left (is_ruby n) (is_referenced_format n) (sym e ∙ h)
+
+pub format_names : (n : SourceNode) {x : Bool} → x ≡ is_referenced_format n → x ≡ true → names_one n ≡ true
+unfolding names_one
+format_names n e h = or_right (is_ruby n) (is_referenced_format n) (sym e ∙ h)
+
 -- Number 10 asks for the target of this node: a Referenced Format that ends behind `from`.
 unfoldable pub asks_target : ℕ → SourceNode → Bool
 asks_target from n = is_referenced_format n && ltb from n.source_span.end
+
+pub target_names : (n : SourceNode) (from : ℕ) {x : Bool} → x ≡ asks_target from n → x ≡ true → names_one n ≡ true
+unfolding asks_target
+target_names n from e h = format_names n refl (both (is_referenced_format n) (ltb from n.source_span.end) (sym e ∙ h)).0
 
 -- a Referenced Format that starts at or behind an offset
 unfoldable pub format_from : ℕ → SourceNode → Bool

@@ -1,3 +1,4 @@
 pub mod Asks
 pub mod Sound
 pub mod Named
+pub mod Nodes

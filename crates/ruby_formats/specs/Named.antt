@@ -1,5 +1,5 @@
 -- Which string a node names, and two nodes that name one by the same id.
-use Rattle.std.specs.Prelude.{Option, Some, None, ◌≡◌, ℕ, ◌+◌, ◌*◌, ◌≤◌, ◌<◌, Bool, ◌||◌, ◌&&◌, List, ltb, eqb, length}
+use Rattle.std.specs.Prelude.{Option, Some, None, ◌≡◌, ℕ, ◌+◌, ◌*◌, Bool, ◌||◌, ◌&&◌, List, ltb, eqb}
 use Rattle.std.proofs.Math.Path.{refl, ap}
 use Rattle.std.proofs.Common.{sym, ◌∙◌, arith}
 use Rattle.std.proofs.Math.Bool.{true, false, cond}
@@ -9,10 +9,10 @@ use Rattle.model.specs.Tape.{record_at, node_codec}
 use Rattle.model.specs.Region.{is_referenced_format, is_ruby, first_plain}
 use Rattle.model.specs.WellFormed.{word_of}
 use Rattle.store.specs.declared.Store.{Store}
-use Rattle.strings.specs.Starts.{store_in, OfTape}
+use Rattle.strings.specs.Starts.{store_in}
 use Rattle.strings.specs.PlainContent.{plain_of, plain_string, plain_string_lem}
 use Rattle.ruby_formats.specs.Asks.{asks_at}
-use Rattle.ruby_formats.specs.Sound.{Sound, SoundNode, FirstRange, PlainIn, first_contents, sound_node, ruby_first, target_first, plain_inside}
+use Rattle.ruby_formats.specs.Sound.{PlainIn, first_contents}
 
 -- ---- what a node names
 
@@ -20,26 +20,6 @@ use Rattle.ruby_formats.specs.Sound.{Sound, SoundNode, FirstRange, PlainIn, firs
 unfoldable pub named_by : List ℕ → ℕ → List ℕ → Option ℕ
 named_by t p b =
     cond (is_ruby (record_at node_codec t p)) (plain_of (first_contents t p b)) (cond (is_referenced_format (record_at node_codec t p)) (plain_of (first_contents t p b)) None)
-
--- a node of which this can be read
-pub record Naming (t : List ℕ) (st : Store) (p : ℕ) : Type 0 where
-  pub store : OfTape t st
-  pub inside : p + 49 ≤ length t
-  pub ruby : is_ruby (record_at node_codec t p) ≡ true → FirstRange t st p
-  pub format : is_referenced_format (record_at node_codec t p) ≡ true → FirstRange t st p
-  pub plain : {r : Option ℕ} → ((b : List ℕ) → r ≡ plain_of (first_contents t p b)) → PlainIn st r
-
-pub record Namings (t : List ℕ) (st : Store) (at count : ℕ) : Type 0 where
-  pub node : (i : ℕ) → i < count → Naming t st (at + 49 * i)
-
-pub sound_naming : {t : List ℕ} {st : Store} {words old new : List ℕ} {p : ℕ} → SoundNode t st words old new p → Naming t st p
-sound_naming s = record { store = s.strings.sides.store; inside = s.inside; ruby = λ e. ruby_first s refl e; format = λ e. target_first s refl e; plain = λ e. plain_inside s e }
-
-pub sound_namings : {t : List ℕ} {st : Store} {words old new : List ℕ} {at count : ℕ} → Sound t st words old new at count → Namings t st at count
-sound_namings s = record { node = λ i h. sound_naming (sound_node {i = i} s h) }
-
-pub namings_before : {t : List ℕ} {st : Store} {at count n : ℕ} → Namings t st at count → n ≤ count → Namings t st at n
-namings_before s h = record { node = λ i g. s.node i (omega (arith, g, h)) }
 
 no_id : (id : ℕ) → None ≡ Some id → ⊥
 no_id id q = let z : ◌≡◌ {A = ℕ} 1 0 = cc in omega arith

@@ -1,7 +1,7 @@
 -- What the code asks of a store and its nodes, and what number 4 then says of them: the base of a Ruby and the target of a Format are
 -- ranges of contents, and a Plain content has the id of a string.
-use Rattle.std.specs.Prelude.{Option, Some, None, ◌≡◌, ℕ, ◌+◌, ◌*◌, ◌≤◌, ◌<◌, Bool, true, false, cond, ◌&&◌, List, [], ◌∷◌, ◌++◌, length, drop}
-use Rattle.std.proofs.Math.Path.{refl, ap₂}
+use Rattle.std.specs.Prelude.{Option, Some, None, ◌≡◌, ℕ, ◌+◌, ◌*◌, ◌^◌, ◌≤◌, ◌<◌, Bool, true, false, cond, ◌&&◌, ◌||◌, List, [], ◌∷◌, ◌++◌, length, drop}
+use Rattle.std.proofs.Math.Path.{ap₂}
 use Rattle.std.proofs.Common.{sym, ap, ◌∙◌, arith}
 use Rattle.std.proofs.Math.ListN.{get_or}
 use Rattle.std.proofs.Math.Dec.{ltb, eqb}
@@ -18,52 +18,49 @@ use Rattle.records.specs.Values.{body_at, node_body}
 use Rattle.store.specs.declared.Store.{Store}
 use Rattle.store.specs.Pools.{range_in}
 use Rattle.store.specs.Standing.{string_id_ok, content_range_ok}
-use Rattle.wire.specs.Overwrite.{overwrite}
-use Rattle.strings.specs.Starts.{store_in, lengths_in}
-use Rattle.strings.specs.Index.{index_in}
-use Rattle.strings.specs.Shown.{Resolvable}
+use Rattle.wire.specs.Loops.{by_bool}
+use Rattle.strings.specs.Starts.{store_in}
+use Rattle.strings.specs.declared.lent.Strings.{Strings}
+use Rattle.strings.specs.Lent.{lent_store}
 use Rattle.strings.specs.PlainContent.{plain_of, plain_string, plain_string_lem}
-use Rattle.ruby_formats.specs.Asks.{asks_target}
+use Rattle.ruby_formats.specs.Asks.{names_one}
 
 -- the layers of a tape with these string bytes
 abbrev pub layers_in : List ℕ → List ℕ → List Layer
 layers_in t b = layers_at t (places t).layers b
 
--- an index in no words, where none has been made yet
-abbrev pub no_index : List ℕ → List ℕ
-no_index t = overwrite [] 0 (index_in (lengths_in t) [])
+-- the layers that have these strings
+abbrev pub layers_of : Strings → List Layer
+layers_of ss = layers_in ss.tape.now (ss.old.now ++ ss.new.now)
 
--- a store whose strings can be shown, and a run of nodes over it that passed number 4
-pub record Sound (t : List ℕ) (st : Store) (words old new : List ℕ) (at count : ℕ) : Type 0 where
-  pub strings : Resolvable t st words old new
-  pub contents : all (content_ok (layers_in t (old ++ new))) (store_in t (old ++ new)).contents ≡ true
-  pub nodes : all (node_ok (layers_in t (old ++ new))) (records_at node_codec t at count) ≡ true
-  pub inside : at + 49 * count ≤ length t
+-- a run of nodes over these strings that passed number 4
+pub record Sound (ss : Strings) (at count : ℕ) : Type 0 where
+  pub contents : all (content_ok (layers_of ss)) (lent_store ss).contents ≡ true
+  pub nodes : all (node_ok (layers_of ss)) (records_at node_codec ss.tape.now at count) ≡ true
+  pub inside : at + 49 * count ≤ length ss.tape.now
+  pub small : length ss.tape.now < 2 ^ 63
 
 -- one of these nodes
-pub record SoundNode (t : List ℕ) (st : Store) (words old new : List ℕ) (p : ℕ) : Type 0 where
-  pub strings : Resolvable t st words old new
-  pub contents : all (content_ok (layers_in t (old ++ new))) (store_in t (old ++ new)).contents ≡ true
-  pub node : node_ok (layers_in t (old ++ new)) (record_at node_codec t p) ≡ true
-  pub inside : p + 49 ≤ length t
+pub record SoundNode (ss : Strings) (p : ℕ) : Type 0 where
+  pub contents : all (content_ok (layers_of ss)) (lent_store ss).contents ≡ true
+  pub node : node_ok (layers_of ss) (record_at node_codec ss.tape.now p) ≡ true
+  pub inside : p + 49 ≤ length ss.tape.now
 
-pub sound_node : {t : List ℕ} {st : Store} {words old new : List ℕ} {at count i : ℕ} → Sound t st words old new at count → i < count
-    → SoundNode t st words old new (at + 49 * i)
+pub sound_node : {ss : Strings} {at count i : ℕ} → Sound ss at count → i < count → SoundNode ss (at + 49 * i)
 unfolding node_codec
-sound_node {t} {st} {words} {old} {new} {at} {count} {i} s h = record {
-  strings = s.strings;
+sound_node {ss} {at} {count} {i} s h = record {
   contents = s.contents;
-  node = run_at node_codec (node_ok (layers_in t (old ++ new))) t at count i s.nodes h;
+  node = run_at node_codec (node_ok (layers_of ss)) ss.tape.now at count i s.nodes h;
   inside = omega (arith, s.inside, h);
 }
 
 -- the first nodes of a run
-pub sound_before : {t : List ℕ} {st : Store} {words old new : List ℕ} {at count i : ℕ} → Sound t st words old new at count → i ≤ count → Sound t st words old new at i
-sound_before {t} {st} {words} {old} {new} {at} {count} {i} s h = record {
-  strings = s.strings;
+pub sound_before : {ss : Strings} {at count i : ℕ} → Sound ss at count → i ≤ count → Sound ss at i
+sound_before {ss} {at} {count} {i} s h = record {
   contents = s.contents;
-  nodes = run_before node_codec (node_ok (layers_in t (old ++ new))) t at count i s.nodes h;
+  nodes = run_before node_codec (node_ok (layers_of ss)) ss.tape.now at count i s.nodes h;
   inside = omega (arith, s.inside, h);
+  small = s.small;
 }
 
 -- ---- the first range of a Ruby or a Format
@@ -121,39 +118,43 @@ pub record PlainIn (st : Store) (r : Option ℕ) : Type 0 where
 unfoldable pub first_contents : List ℕ → ℕ → List ℕ → List Content
 first_contents t p b = resolve_content_range (store_in t b) (word_of (record_at node_codec t p).body 0) (word_of (record_at node_codec t p).body 1)
 
-module _ {t : List ℕ} {st : Store} {words old new : List ℕ} {p : ℕ} (s : SoundNode t st words old new p) where
-  range_in_lem : range_ok (content_counts (layers_in t (old ++ new))) (word_of (record_at node_codec t p).body 0) (word_of (record_at node_codec t p).body 1) ≡ true → FirstRange t st p
+module _ {ss : Strings} {p : ℕ} (s : SoundNode ss p) where
+  abbrev node : SourceNode
+  node = record_at node_codec ss.tape.now p
+
+  range_in_lem : range_ok (content_counts (layers_of ss)) (word_of node.body 0) (word_of node.body 1) ≡ true → FirstRange ss.tape.now ss.store.now p
   range_in_lem e = record {
-    is = content_range_ok t st s.strings.sides.store.stored (old ++ new) (word_of (record_at node_codec t p).body 0) (word_of (record_at node_codec t p).body 1) ∙ e;
+    is = content_range_ok ss.tape.now ss.store.now ss.resolvable.sides.store.stored (ss.old.now ++ ss.new.now) (word_of node.body 0) (word_of node.body 1) ∙ e;
   }
 
-  pub ruby_first : {x : Bool} → x ≡ is_ruby (record_at node_codec t p) → x ≡ true → FirstRange t st p
-  ruby_first e h = range_in_lem (ruby_range (layers_in t (old ++ new)) (record_at node_codec t p) s.node (sym e ∙ h))
+  -- a node that names a string has a first range
+  pub names_first : names_one node ≡ true → FirstRange ss.tape.now ss.store.now p
+  unfolding names_one
+  names_first h =
+      by_bool (is_ruby node)
+      (λ e. range_in_lem (ruby_range (layers_of ss) node s.node e))
+      (λ e. range_in_lem (format_range (layers_of ss) node s.node (sym (ap (λ (x : Bool). x || is_referenced_format node) e) ∙ h)))
 
-  pub target_first : {x : Bool} → x ≡ is_referenced_format (record_at node_codec t p) → x ≡ true → FirstRange t st p
-  target_first e h = range_in_lem (format_range (layers_in t (old ++ new)) (record_at node_codec t p) s.node (sym e ∙ h))
-
-  pub format_first : {x : Bool} (from : ℕ) → x ≡ asks_target from (record_at node_codec t p) → x ≡ true → FirstRange t st p
-  unfolding asks_target
-  format_first from e h =
-      target_first refl (both (is_referenced_format (record_at node_codec t p)) (ltb from (record_at node_codec t p).source_span.end) (sym e ∙ h)).0
-
-  module _ {r : Option ℕ} (e : (b : List ℕ) → r ≡ plain_of (first_contents t p b)) where
-    pub plain_first : first_plain (store_in t (old ++ new)) (record_at node_codec t p) ≡ plain_string (store_in t (old ++ new)) r
-    unfolding first_plain first_contents
-    plain_first = plain_string_lem (store_in t (old ++ new)) (word_of (record_at node_codec t p).body 0) (word_of (record_at node_codec t p).body 1) (e (old ++ new))
-
-    pub plain_inside : PlainIn st r
+  module _ {r : Option ℕ} (e : (b : List ℕ) → r ≡ plain_of (first_contents ss.tape.now p b)) where
+    pub plain_inside : PlainIn ss.store.now r
     unfolding first_contents resolve_content_range id_ok
     plain_inside = record {
       inside = λ id q.
-          let st' = store_in t (old ++ new) in
-          let from = word_of (record_at node_codec t p).body 0 in
-          let n = word_of (record_at node_codec t p).body 1 in
-          let ok = all_take (content_ok (layers_in t (old ++ new))) n (drop from st'.contents) (all_drop (content_ok (layers_in t (old ++ new))) from st'.contents s.contents) in
-          let i = plain_ok (layers_in t (old ++ new)) (first_contents t p (old ++ new)) id ok (sym q ∙ e (old ++ new)) in
-          ltb-true id st.totals.strings (string_id_ok t st s.strings.sides.store.stored (old ++ new) id ∙ i);
+          let st = lent_store ss in
+          let from = word_of node.body 0 in
+          let n = word_of node.body 1 in
+          let ok = all_take (content_ok (layers_of ss)) n (drop from st.contents) (all_drop (content_ok (layers_of ss)) from st.contents s.contents) in
+          let i = plain_ok (layers_of ss) (first_contents ss.tape.now p (ss.old.now ++ ss.new.now)) id ok (sym q ∙ e (ss.old.now ++ ss.new.now)) in
+          ltb-true id ss.store.now.totals.strings (string_id_ok ss.tape.now ss.store.now ss.resolvable.sides.store.stored (ss.old.now ++ ss.new.now) id ∙ i);
     }
+
+-- what it names, as a string
+pub plain_first : (ss : Strings) (p : ℕ) {r : Option ℕ} → ((b : List ℕ) → r ≡ plain_of (first_contents ss.tape.now p b))
+    → first_plain (lent_store ss) (record_at node_codec ss.tape.now p) ≡ plain_string (lent_store ss) r
+unfolding first_plain first_contents
+plain_first ss p e =
+    let node = record_at node_codec ss.tape.now p in
+    plain_string_lem (lent_store ss) (word_of node.body 0) (word_of node.body 1) (e (ss.old.now ++ ss.new.now))
 
 -- the two words that the code reads
 module _ (t : List ℕ) (p : ℕ) {start len : ℕ} (e : start ≡ word_of (body_at t (p + 15)) 0) (f : len ≡ word_of (body_at t (p + 15)) 1) where
@@ -169,11 +170,3 @@ module _ (t : List ℕ) (p : ℕ) {start len : ℕ} (e : start ≡ word_of (body
   pub words_plain : {r : Option ℕ} → ((b : List ℕ) → r ≡ plain_of (resolve_content_range (store_in t b) start len)) → (b : List ℕ) → r ≡ plain_of (first_contents t p b)
   unfolding first_contents
   words_plain q b = q b ∙ ap₂ (λ (x y : ℕ). plain_of (resolve_content_range (store_in t b) x y)) first_start first_length
-
--- the last node of a run
-pub sound_last : {t : List ℕ} {st : Store} {words old new : List ℕ} {at : ℕ} (i : ℕ) → Sound t st words old new at (i + 1) → SoundNode t st words old new (at + 49 * i)
-sound_last i s = sound_node {i = i} s (omega arith)
-
--- by another index of the same words
-pub sound_index : {t : List ℕ} {st : Store} {words index old new : List ℕ} {at count : ℕ} → index ≡ words → Sound t st words old new at count → Sound t st index old new at count
-sound_index e s = rw e s

@@ -1,5 +1,5 @@
 -- The walk's answers: what each function has read and added, against the definitions in place.
-use Rattle.std.specs.Prelude.{◌≡◌, refl, List, ℕ, zero, suc, ◌+◌, ◌-◌, ◌≤◌, ◌<◌, Option, Some, None}
+use Rattle.std.specs.Prelude.{◌≡◌, refl, true, false, eqb, ltb, List, ℕ, zero, suc, ◌+◌, ◌-◌, ◌≤◌, ◌<◌, Option, Some, None}
 use Rattle.std.proofs.Common.{sym, ap, ◌∙◌, arith}
 use borrow.Author.Tests.{eq-eqb, ne_eqb, lt-ltb, le-ltb}
 use Rattle.model.specs.Bytes.{byte_at}
@@ -14,7 +14,7 @@ use Rattle.sizes.specs.InPlace.{content_count, segment_count, segments_add, segm
 use Rattle.sizes.specs.InPlace.{field_words, string_adds, used_adds, place_adds, body_places}
 use Rattle.sizes.specs.declared.Room.{Room}
 use Rattle.sizes.specs.declared.Sizes.{Sizes}
-use Rattle.sizes.specs.declared.FieldWords.{FieldWords}
+use Rattle.sizes.specs.Words.{UsedWords}
 
 -- ---- bodies
 
@@ -23,11 +23,11 @@ unfolding body_adds
 body_sum l tp st b = sym (body_places (inner_adds l tp st) tp st b)
 
 module _ (m : Room) (t : Sizes) (inner : Body → Added) (tp : List ℕ) (st : Store) {r : Option Sizes} where
-  pub place_read : (b : Body) (j : ℕ) (f : FieldWords) → f ≡ field_words b j → r ≡ plus m t (used_adds inner tp st f) → r ≡ plus m t (place_adds inner tp st b j)
+  pub place_read : (b : Body) (j : ℕ) (f : UsedWords) → f ≡ field_words b j → r ≡ plus m t (used_adds inner tp st f) → r ≡ plus m t (place_adds inner tp st b j)
   unfolding place_adds
-  place_read b j f e q = q ∙ ap (λ (x : FieldWords). plus m t (used_adds inner tp st x)) e
+  place_read b j f e q = q ∙ ap (λ (x : UsedWords). plus m t (used_adds inner tp st x)) e
 
-  module _ (f : FieldWords) where
+  module _ (f : UsedWords) where
     pub used_contents : f.usage ≡ 3 → r ≡ plus m t (content_run_adds inner tp st f.first f.second) → r ≡ plus m t (used_adds inner tp st f)
     unfolding used_adds
     used_contents e q = rw (eq-eqb f.usage 3 e) q
@@ -44,13 +44,13 @@ module _ (m : Room) (t : Sizes) (inner : Body → Added) (tp : List ℕ) (st : S
   -- ---- contents
 
   module _ (x : Content) {y : Content} (e : x ≡ y) where
-    pub content_plain : x.tag ≡ 0 → r ≡ plus m t one_call → r ≡ plus m t (content_adds inner tp st y)
+    pub content_plain : eqb x.tag 0 ≡ true → r ≡ plus m t one_call → r ≡ plus m t (content_adds inner tp st y)
     unfolding content_adds
-    content_plain z q = rw (← e, eq-eqb x.tag 0 z) q
+    content_plain z q = rw (← e, z) q
 
-    pub content_segments_lem : (x.tag ≡ 0 → ⊥) → r ≡ plus m t (segment_run_adds inner tp st x.first x.second) → r ≡ plus m t (content_adds inner tp st y)
+    pub content_segments_lem : eqb x.tag 0 ≡ false → r ≡ plus m t (segment_run_adds inner tp st x.first x.second) → r ≡ plus m t (content_adds inner tp st y)
     unfolding content_adds
-    content_segments_lem z q = rw (← e, ne_eqb x.tag 0 z) q
+    content_segments_lem z q = rw (← e, z) q
 
 -- ---- runs
 
@@ -116,10 +116,10 @@ node_class tp at = refl
 
 module _ (m : Room) (t : Sizes) (tp : List ℕ) (st : Store) (at : ℕ) where
   -- classes 2 and 3 have no words
-  pub node_bare : Kept m t → 2 ≤ byte_at tp (at + 1) → Some t ≡ plus m t (node_adds tp st (record_at node_codec tp at))
+  pub node_bare : Kept m t → ltb (byte_at tp (at + 1)) 2 ≡ false → Some t ≡ plus m t (node_adds tp st (record_at node_codec tp at))
   unfolding node_adds node_fields fields_add add_all
-  node_bare k h = rw (← node_class tp at, le-ltb (byte_at tp (at + 1)) 2 h) (sym k.is)
+  node_bare k h = rw (← node_class tp at, h) (sym k.is)
 
-  pub node_body_read : {r : Option Sizes} → byte_at tp (at + 1) < 2 → r ≡ plus m t (body_adds 33 tp st (body_at tp (at + 15))) → r ≡ plus m t (node_adds tp st (record_at node_codec tp at))
+  pub node_body_read : {r : Option Sizes} → ltb (byte_at tp (at + 1)) 2 ≡ true → r ≡ plus m t (body_adds 33 tp st (body_at tp (at + 15))) → r ≡ plus m t (node_adds tp st (record_at node_codec tp at))
   unfolding node_adds node_fields body_adds
-  node_body_read h q = rw (← node_class tp at, lt-ltb (byte_at tp (at + 1)) 2 h) (q ∙ ap (λ (b : Body). plus m t (body_adds 33 tp st b)) (node_body tp at))
+  node_body_read h q = rw (← node_class tp at, h) (q ∙ ap (λ (b : Body). plus m t (body_adds 33 tp st b)) (node_body tp at))

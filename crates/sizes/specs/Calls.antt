@@ -20,7 +20,7 @@ use Rattle.sizes.specs.InPlace.{field_words, string_adds, used_adds, place_adds,
 use Rattle.sizes.specs.Shown.{shown_nodes_add}
 use Rattle.sizes.specs.declared.Room.{Room}
 use Rattle.sizes.specs.declared.Sizes.{Sizes}
-use Rattle.sizes.specs.declared.FieldWords.{FieldWords}
+use Rattle.sizes.specs.Words.{UsedWords}
 
 -- k calls, and six more for each item
 record Few (k : ℕ) (a : Added) : Type 0 where
@@ -83,7 +83,7 @@ module _ (inner : Body → Added) (h : (b : Body) → Few 6 (inner b)) (t : List
       few_contents n (rw (length_records content_codec t (content_place st start) n) at
       (few_items (content_adds inner t st) content_few (records_at content_codec t (content_place st start) n)))
 
-  used_few : (f : FieldWords) → Few 1 (used_adds inner t st f)
+  used_few : (f : UsedWords) → Few 1 (used_adds inner t st f)
   unfolding used_adds string_adds
   used_few f =
       few_cond (eqb f.usage 3) (few_more (omega arith) (content_run_few f.first f.second))

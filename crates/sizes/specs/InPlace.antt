@@ -26,7 +26,7 @@ use Rattle.sizes.specs.Order.{field_word, field_from, place_field, place_fields,
 use Rattle.sizes.specs.Capped.{plus, Kept, add_from, added_tabulate}
 use Rattle.sizes.specs.declared.Room.{Room}
 use Rattle.sizes.specs.declared.Sizes.{Sizes}
-use Rattle.sizes.specs.declared.FieldWords.{FieldWords}
+use Rattle.sizes.specs.Words.{UsedWords}
 
 -- ---- definitions; `inner` is what the body of a segment adds
 
@@ -86,7 +86,7 @@ nodes_add t st at n = add_all (node_adds t st) (records_at node_codec t at n)
 -- ---- the field at each place
 
 -- its use, the word at which it begins, and the word behind that
-abbrev pub field_words : Body → ℕ → FieldWords
+abbrev pub field_words : Body → ℕ → UsedWords
 field_words b j = record {
   usage = word_use b.kind b.tag (field_word b.kind j);
   first = word_of b (field_word b.kind j);
@@ -96,7 +96,7 @@ field_words b j = record {
 unfoldable pub string_adds : ℕ → ℕ → Added
 string_adds u w = cond (eqb u 1) one_call (cond (eqb u 2) (cond (eqb w no_string) nothing one_call) nothing)
 
-unfoldable pub used_adds : (Body → Added) → List ℕ → Store → FieldWords → Added
+unfoldable pub used_adds : (Body → Added) → List ℕ → Store → UsedWords → Added
 used_adds inner t st f =
     cond (eqb f.usage 3) (content_run_adds inner t st f.first f.second)
     (cond (eqb f.usage 5) (segment_run_adds inner t st f.first f.second) (string_adds f.usage f.first))
@@ -211,7 +211,7 @@ module _ (st : Store) (start len : ℕ) where
 
 pub field_read : (t : List ℕ) (p j i u w next : ℕ) → i ≡ field_word (byte_at t p) j → u ≡ word_use (byte_at t p) (byte_at t (p + 1)) i
     → w ≡ word_of (body_at t p) i → next ≡ word_of (body_at t p) (i + 1)
-    → ◌≡◌ {A = FieldWords} (record { usage = u; first = w; second = next }) (field_words (body_at t p) j)
+    → ◌≡◌ {A = UsedWords} (record { usage = u; first = w; second = next }) (field_words (body_at t p) j)
 unfolding body_at
 field_read t p j i u w next e f g h = rw (f, g, h, e) refl
 
@@ -227,7 +227,3 @@ module _ (m : Room) (t : Sizes) (k : Kept m t) (u w : ℕ) where
   pub string_optional : {r : Option Sizes} → u ≡ 2 → (w ≡ no_string → ⊥) → r ≡ plus m t one_call → r ≡ plus m t (string_adds u w)
   unfolding string_adds
   string_optional e z q = rw (e, ne_eqb w no_string z) q
-
-  pub string_none : (u ≡ 1 → ⊥) → (u ≡ 2 → ⊥) → Some t ≡ plus m t (string_adds u w)
-  unfolding string_adds
-  string_none a b = rw (ne_eqb u 1 a, ne_eqb u 2 b) (sym k.is)

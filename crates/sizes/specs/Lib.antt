@@ -2,6 +2,7 @@ pub mod Added
 pub mod Trees
 pub mod Order
 pub mod Capped
+pub mod Words
 pub mod InPlace
 pub mod Answers
 pub mod Shown

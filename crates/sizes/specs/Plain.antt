@@ -151,10 +151,6 @@ module _ (m : Room) (t : Sizes) (a b : ℕ) {x y : ℕ} (e : a ≡ x) (f : b ≡
   pub ruby_read : {u : Sizes} → Some u ≡ plus m t (plain_adds a) → {r : Option Sizes} → r ≡ plus m u (plain_adds b) → r ≡ plus m t (add (plain_adds x) (plain_adds y))
   ruby_read p q = q ∙ plus_then m t (plain_adds a) p (plain_adds b) ∙ ap (plus m t) both_read
 
-pub plain_tag : (t : List ℕ) (at : ℕ) → eqb (byte_at t (at + 1)) 0 ≡ is_plain (record_at content_codec t at)
-unfolding is_plain record_at operands_at content_codec
-plain_tag t at = refl
-
 module _ (t : List ℕ) (p : Run) (start len : ℕ) where
   pub plain_over : p.count < start + len → false ≡ plain_run t p start len
   unfolding plain_run
@@ -165,20 +161,20 @@ module _ (t : List ℕ) (p : Run) (start len : ℕ) where
   plain_told at n e f h q = rw (le-leb (start + len) p.count h, ← e, ← f) q
 
 module _ (t : List ℕ) (p : Run) (at : ℕ) where
-  pub ruby_class : 2 ≤ byte_at t (at + 1) → false ≡ plain_ruby t p at
+  pub ruby_class : ltb (byte_at t (at + 1)) 2 ≡ false → false ≡ plain_ruby t p at
   unfolding plain_ruby
-  ruby_class h = rw (le-ltb (byte_at t (at + 1)) 2 h) refl
+  ruby_class h = rw h refl
 
-  module _ (c : byte_at t (at + 1) < 2) where
+  module _ (c : ltb (byte_at t (at + 1)) 2 ≡ true) where
     pub ruby_other : (byte_at t (at + 15) ≡ 1 → ⊥) → false ≡ plain_ruby t p at
     unfolding plain_ruby
-    ruby_other n = rw (lt-ltb (byte_at t (at + 1)) 2 c, ne_eqb (byte_at t (at + 15)) 1 n) refl
+    ruby_other n = rw (c, ne_eqb (byte_at t (at + 15)) 1 n) refl
 
     module _ (k : byte_at t (at + 15) ≡ 1) {a b : ℕ} (x : a ≡ word_of (body_at t (at + 15)) 0) (y : b ≡ word_of (body_at t (at + 15)) 1) where
       pub ruby_base : plain_run t p a b ≡ false → false ≡ plain_ruby t p at
       unfolding plain_ruby
-      ruby_base n = rw (lt-ltb (byte_at t (at + 1)) 2 c, eq-eqb (byte_at t (at + 15)) 1 k, ← x, ← y, n) refl
+      ruby_base n = rw (c, eq-eqb (byte_at t (at + 15)) 1 k, ← x, ← y, n) refl
 
       pub ruby_told : {d e : ℕ} {r : Bool} → d ≡ word_of (body_at t (at + 15)) 2 → e ≡ word_of (body_at t (at + 15)) 3 → plain_run t p a b ≡ true → r ≡ plain_run t p d e → r ≡ plain_ruby t p at
       unfolding plain_ruby
-      ruby_told v w n q = rw (lt-ltb (byte_at t (at + 1)) 2 c, eq-eqb (byte_at t (at + 15)) 1 k, ← x, ← y, ← v, ← w, n) q
+      ruby_told v w n q = rw (c, eq-eqb (byte_at t (at + 15)) 1 k, ← x, ← y, ← v, ← w, n) q

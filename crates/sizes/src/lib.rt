@@ -25,8 +25,12 @@ ghost use Rattle.sizes.specs.Calls.{Limited};
 ghost use Rattle.sizes.specs.Known.{Known, added_in, note_in};
 ghost use Rattle.sizes.specs.Plain.{Whole, is_plain, plain_run, plain_ruby, plain_adds};
 ghost use Rattle.sizes.specs.Lone.{lone_place};
+ghost use Rattle.records.specs.Uses.{use_number};
+ghost use Rattle.sizes.specs.Words.{words_of};
 ghost use Rattle.sizes.specs.InPlace.{content_count, segment_count, field_words, string_adds, used_adds, inner_adds, body_adds};
 ghost use Rattle.sizes.specs.InPlace.{content_adds, contents_add, content_run_adds, segments_add, segment_run_adds, node_adds, nodes_add};
+
+use records::{RUBY, TEXT, Use};
 
 // How many contents and segments may still be added.
 #[derive(Clone, Copy)]
@@ -49,7 +53,7 @@ const NO_STRING: u32 = 4294967295;
 // The use of a field, the word at which it begins, and the word behind that.
 #[derive(Clone, Copy)]
 pub struct FieldWords {
-    pub usage: u8,
+    pub usage: Use,
     pub first: u32,
     pub second: u32,
 }
@@ -94,22 +98,14 @@ fn content_count(st: store::Store, start: u32, len: u32) -> u32
     requires { st.layers ≤ 32 }
     ensures { result ≡ content_count st start len }
 {
-    if ids::contents_in(st, start, len) {
-        len
-    } else {
-        0
-    }
+    if st.has_contents(start, len) { len } else { 0 }
 }
 
 fn segment_count(st: store::Store, start: u32, len: u32) -> u32
     requires { st.layers ≤ 32 }
     ensures { result ≡ segment_count st start len }
 {
-    if ids::segments_in(st, start, len) {
-        len
-    } else {
-        0
-    }
+    if st.has_segments(start, len) { len } else { 0 }
 }
 
 // Section 5. Fields go in the Rust's order: which of the six words comes at place j.
@@ -129,7 +125,7 @@ pub fn field_word(kind: u8, j: usize) -> usize
 
 pub fn field_at(tape: &[u8], at: usize, j: usize) -> FieldWords
     requires { (at + 34 ≤ length tape.now) × (j < 6) }
-    ensures { result ≡ field_words (body_at tape.now at) j }
+    ensures { words_of result ≡ field_words (body_at tape.now at) j }
 {
     let kind = tape[at];
     let i = field_word(kind, j);
@@ -141,13 +137,14 @@ pub fn field_at(tape: &[u8], at: usize, j: usize) -> FieldWords
 }
 
 // A string is one call, a missing one none; so is a word at which no field begins.
-fn string_sizes(room: Room, t: Sizes, usage: u8, w: u32) -> Option<Sizes>
+#[tactic(auto, using(std::proofs::lemmas::Bool::Decides::nat_tests), unfolding(crate::specs::InPlace::string_adds))]
+fn string_sizes(room: Room, t: Sizes, usage: Use, w: u32) -> Option<Sizes>
     requires { Kept room t }
-    ensures { result ≡ plus room t (string_adds usage w) }
+    ensures { result ≡ plus room t (string_adds (use_number usage) w) }
 {
     match usage {
-        1 => with_added(room, t, 0, 0, 1),
-        2 => if w == NO_STRING {
+        Use::Str => with_added(room, t, 0, 0, 1),
+        Use::OptStr => if w == NO_STRING {
             Some(t)
         } else {
             with_added(room, t, 0, 0, 1)
@@ -212,6 +209,7 @@ fn body_sizes(
 }
 
 #[cycle(tree_sizes)]
+#[tactic(auto, using(std::proofs::lemmas::Bool::Decides::nat_tests), unfolding(crate::specs::InPlace::used_adds))]
 fn field_sizes(
     tape: &[u8],
     st: store::Store,
@@ -223,11 +221,11 @@ fn field_sizes(
 ) -> Option<Sizes>
     requires of_tape { OfTape tape.now st × Known tape.now st memo.old }
     requires kept { Kept room t }
-    ensures { (result ≡ plus room t (used_adds (inner_adds level tape.now st) tape.now st f)) × Known tape.now st memo.new }
+    ensures { (result ≡ plus room t (used_adds (inner_adds level tape.now st) tape.now st (words_of f))) × Known tape.now st memo.new }
 {
     match f.usage {
-        3 => content_run_sizes(tape, st, memo, room, t, f.first, f.second, level),
-        5 => segment_run_sizes(tape, st, memo, room, t, f.first, f.second, level),
+        Use::Contents => content_run_sizes(tape, st, memo, room, t, f.first, f.second, level),
+        Use::Segments => segment_run_sizes(tape, st, memo, room, t, f.first, f.second, level),
         _ => string_sizes(room, t, f.usage, f.first),
     }
 }
@@ -253,7 +251,7 @@ fn content_run_sizes(
     if n == 0 {
         return Some(u);
     }
-    let at = store::content_place(st, start);
+    let at = st.content_place(start);
     contents_walk(tape, st, memo, room, u, at, n as usize, level)
 }
 
@@ -318,7 +316,7 @@ fn content_sizes(
     ensures { (result ≡ plus room t (content_adds (inner_adds level tape.now st) tape.now st (record_at content_codec tape.now at))) × Known tape.now st memo.new }
 {
     let c = records::content_at(tape, at);
-    if c.tag == 0 {
+    if c.is_plain() {
         return with_added(room, t, 0, 0, 1);
     }
     if c.second != 1 {
@@ -353,7 +351,7 @@ fn segment_run_sizes(
     if n == 0 {
         return Some(u);
     }
-    let at = store::segment_place(st, start);
+    let at = st.segment_place(start);
     segments_walk(tape, st, memo, room, u, at, n as usize, level)
 }
 
@@ -404,7 +402,7 @@ fn segment_sizes(
     if level == 0 {
         return Some(t);
     }
-    if tape[at + 3] == 0 {
+    if tape[at + 3] == TEXT {
         return with_added(room, t, 0, 0, 1);
     }
     let e = memo::entry_of(at, level);
@@ -490,7 +488,7 @@ fn only_contents(st: store::Store) -> places::Run
         return places::Run { at: 0, count: 0 };
     }
     places::Run {
-        at: store::content_place(st, 0),
+        at: st.content_place(0),
         count: st.totals.contents as usize,
     }
 }
@@ -499,14 +497,7 @@ fn plain_contents(tape: &[u8], at: usize, count: usize) -> bool
     requires { at + 10 * count ≤ length tape.now }
     ensures { result ≡ all is_plain (records_at content_codec tape.now at count) }
 {
-    (0..count).all(|i| is_plain(tape, at + 10 * i))
-}
-
-fn is_plain(tape: &[u8], at: usize) -> bool
-    requires { at + 10 ≤ length tape.now }
-    ensures { result ≡ is_plain (record_at content_codec tape.now at) }
-{
-    tape[at + 1] == 0
+    (0..count).all(|i| records::content_at(tape, at + 10 * i).is_plain())
 }
 
 // A range of these contents, all of them plain.
@@ -527,10 +518,10 @@ fn plain_ruby(tape: &[u8], own: places::Run, at: usize) -> bool
     requires { (own.at + 10 * own.count ≤ length tape.now) × (at + 49 ≤ length tape.now) }
     ensures { result ≡ plain_ruby tape.now own at }
 {
-    if 2 <= tape[at + 1] {
+    if !records::has_words(tape, at) {
         return false;
     }
-    if tape[at + 15] != 1 {
+    if tape[at + 15] != RUBY {
         return false;
     }
     let body = at + 15;
@@ -579,7 +570,7 @@ fn node_sizes(
     if plain_ruby(tape, own, at) {
         return ruby_sizes(tape, room, t, at);
     }
-    if 2 <= tape[at + 1] {
+    if !records::has_words(tape, at) {
         return Some(t);
     }
     body_sizes(tape, st, memo, room, t, at + 15, 33)

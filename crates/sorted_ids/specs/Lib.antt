@@ -1,2 +1,1 @@
 pub mod Row
-pub mod Words

@@ -4,13 +4,15 @@
 #![tactic(auto)]
 
 ghost use Rattle.std.specs.Prelude.{◌≡◌, ℕ, ◌+◌, ◌*◌, ◌%◌, ◌≤◌, length, map};
-ghost use Rattle.model.specs.Tape.{Codec, record_at, records_at, record_bytes, records_bytes, pair_codec, container_codec, diagnostic_codec};
-ghost use Rattle.model.specs.Merge.{Located, kept_before, kept_behind, pair_located, container_located, diagnostic_located, moved_offset};
+ghost use Rattle.model.specs.Tape.{Codec, record_at, records_at, record_bytes, records_bytes, pair_codec, container_codec, diagnostic_codec, node_codec};
+ghost use Rattle.model.specs.Merge.{Located, kept_before, kept_behind, pair_located, container_located, diagnostic_located, node_located, moved_offset};
 ghost use Rattle.wire.specs.Overwrite.{overwrite};
 ghost use Rattle.span.specs.Values.{value_of};
 ghost use Rattle.splice.specs.Parts.{Kind, span_in, is_in, as_in, part_of};
 ghost use Rattle.splice.specs.Window.{window_value, source_in, normalized_in};
 ghost use Rattle.splice.specs.Counted.{row_in};
+
+use span::Span;
 
 // The region in both texts, and how far what lies behind it moves in each: `MergeWindow`.
 #[derive(Clone, Copy)]
@@ -21,6 +23,26 @@ pub struct Window {
     pub nend: u32,
     pub by: span::Amount,
     pub nby: span::Amount,
+}
+
+impl Window {
+    fn source(self) -> Span
+        ensures { (result.start ≡ self.start) × (result.end ≡ self.end) }
+    {
+        Span {
+            start: self.start,
+            end: self.end,
+        }
+    }
+
+    fn normalized(self) -> Span
+        ensures { (result.start ≡ self.nstart) × (result.end ≡ self.nend) }
+    {
+        Span {
+            start: self.nstart,
+            end: self.nend,
+        }
+    }
 }
 
 // The parts of a merged list: the old one up to the region, the reading's, the old rest.
@@ -45,23 +67,28 @@ fn span_in(part: Part, start: usize, stop: usize, from: usize, to: usize) -> boo
     }
 }
 
-// The same of the record at a place: its start stands at `first`, its end less `extra` at `last`.
-pub fn row_in(
-    tape: &[u8],
-    at: usize,
+// Where the words of a kind of record stand that say from where to where it goes, and how far behind the second it ends.
+#[derive(Clone, Copy)]
+struct Extent {
     first: usize,
     last: usize,
-    extra: u32,
-    from: u32,
-    to: u32,
-    part: Part,
-) -> bool
-    requires { (at + first + 4 ≤ length tape.now) × (at + last + 4 ≤ length tape.now) }
-    ensures { result ≡ row_in tape.now first last extra from to part at }
+    past: u32,
+}
+
+// The same of the record at a place.
+fn row_in(tape: &[u8], at: usize, extent: Extent, region: Span, part: Part) -> bool
+    requires { (at + extent.first + 4 ≤ length tape.now) × (at + extent.last + 4 ≤ length tape.now) }
+    ensures { result ≡ row_in tape.now extent.first extent.last extent.past region.start region.end part at }
 {
-    let start = wire::u32_at(tape, at + first) as usize;
-    let stop = wire::u32_at(tape, at + last) as usize + extra as usize;
-    span_in(part, start, stop, from as usize, to as usize)
+    let start = wire::u32_at(tape, at + extent.first) as usize;
+    let stop = wire::u32_at(tape, at + extent.last) as usize + extent.past as usize;
+    span_in(
+        part,
+        start,
+        stop,
+        region.start as usize,
+        region.end as usize,
+    )
 }
 
 // ---- where offsets stand
@@ -100,29 +127,62 @@ pub fn normalized_in(v: u32, w: Window, part: Part) -> u32
 
 // ---- pairs, `merge_pairs`
 
+const PAIR: Extent = Extent {
+    first: 2,
+    last: 14,
+    past: 0,
+};
+
 pub fn pair_in(tape: &[u8], at: usize, w: Window, part: Part) -> bool
     requires { at + 18 ≤ length tape.now }
     ensures { result ≡ is_in pair_located (window_value w) part (record_at pair_codec tape.now at) }
 {
-    row_in(tape, at, 2, 14, 0, w.start, w.end, part)
+    row_in(tape, at, PAIR, w.source(), part)
 }
 
 // ---- containers, `merge_container_pairs`: in the normalized text; one ends behind its close
+
+const CONTAINER: Extent = Extent {
+    first: 5,
+    last: 9,
+    past: 1,
+};
 
 pub fn container_in(tape: &[u8], at: usize, w: Window, part: Part) -> bool
     requires { at + 13 ≤ length tape.now }
     ensures { result ≡ is_in container_located (window_value w) part (record_at container_codec tape.now at) }
 {
-    row_in(tape, at, 5, 9, 1, w.nstart, w.nend, part)
+    row_in(tape, at, CONTAINER, w.normalized(), part)
 }
 
 // ---- diagnostics, `merge_diagnostics`
+
+const DIAGNOSTIC: Extent = Extent {
+    first: 6,
+    last: 10,
+    past: 0,
+};
 
 pub fn diagnostic_in(tape: &[u8], at: usize, w: Window, part: Part) -> bool
     requires { at + 18 ≤ length tape.now }
     ensures { result ≡ is_in diagnostic_located (window_value w) part (record_at diagnostic_codec tape.now at) }
 {
-    row_in(tape, at, 6, 10, 0, w.start, w.end, part)
+    row_in(tape, at, DIAGNOSTIC, w.source(), part)
+}
+
+// ---- nodes, `merge_source_nodes`
+
+const NODE: Extent = Extent {
+    first: 3,
+    last: 7,
+    past: 0,
+};
+
+pub fn node_in(tape: &[u8], at: usize, w: Window, part: Part) -> bool
+    requires { at + 49 ≤ length tape.now }
+    ensures { result ≡ is_in node_located (window_value w) part (record_at node_codec tape.now at) }
+{
+    row_in(tape, at, NODE, w.source(), part)
 }
 
 // ---- lists of any kind of record
@@ -154,48 +214,47 @@ pub trait Spliced {
 }
 
 // How many records of a run are in a part.
-fn count_part<K: Spliced>(tape: &[u8], at: usize, count: usize, w: Window, part: Part) -> usize
-    requires { at + K.SIZE * count ≤ length tape.now }
-    ensures { result ≡ length (part_of K.located (window_value w) part (records_at K.codec tape.now at count)) }
+fn count_part<K: Spliced>(tape: &[u8], run: places::Run, w: Window, part: Part) -> usize
+    requires { run.at + K.SIZE * run.count ≤ length tape.now }
+    ensures { result ≡ length (part_of K.located (window_value w) part (records_at K.codec tape.now run.at run.count)) }
 {
     let mut n = 0;
-    for i in 0..count {
-        n += usize::from(K::is_in(tape, at + K::SIZE * i, w, part));
+    for i in 0..run.count {
+        n += usize::from(K::is_in(tape, run.at + K::SIZE * i, w, part));
     }
     n
 }
 
-pub fn count_before<K: Spliced>(tape: &[u8], at: usize, count: usize, w: Window) -> usize
-    requires { at + K.SIZE * count ≤ length tape.now }
-    ensures { result ≡ length (kept_before K.located (window_value w) (records_at K.codec tape.now at count)) }
+pub fn count_before<K: Spliced>(tape: &[u8], run: places::Run, w: Window) -> usize
+    requires { run.at + K.SIZE * run.count ≤ length tape.now }
+    ensures { result ≡ length (kept_before K.located (window_value w) (records_at K.codec tape.now run.at run.count)) }
 {
-    count_part::<K>(tape, at, count, w, Part::Before)
+    count_part::<K>(tape, run, w, Part::Before)
 }
 
-pub fn count_behind<K: Spliced>(tape: &[u8], at: usize, count: usize, w: Window) -> usize
-    requires { at + K.SIZE * count ≤ length tape.now }
-    ensures { result ≡ length (kept_behind K.located (window_value w) (records_at K.codec tape.now at count)) }
+pub fn count_behind<K: Spliced>(tape: &[u8], run: places::Run, w: Window) -> usize
+    requires { run.at + K.SIZE * run.count ≤ length tape.now }
+    ensures { result ≡ length (kept_behind K.located (window_value w) (records_at K.codec tape.now run.at run.count)) }
 {
-    count_part::<K>(tape, at, count, w, Part::Behind)
+    count_part::<K>(tape, run, w, Part::Behind)
 }
 
 // The records of a run that are in a part, written as they stand there.
 fn put_part<K: Spliced>(
     tape: &[u8],
-    at: usize,
-    count: usize,
+    run: places::Run,
     w: Window,
     part: Part,
     out: &mut [u8],
     to: usize,
 )
-    requires run_in_bounds { at + K.SIZE * count ≤ length tape.now }
-    requires part_in_bounds { to + K.SIZE * length (part_of K.located (window_value w) part (records_at K.codec tape.now at count)) ≤ length out.old }
-    ensures { out.new ≡ overwrite out.old to (records_bytes K.codec (part_of K.located (window_value w) part (records_at K.codec tape.now at count))) }
+    requires run_in_bounds { run.at + K.SIZE * run.count ≤ length tape.now }
+    requires part_in_bounds { to + K.SIZE * length (part_of K.located (window_value w) part (records_at K.codec tape.now run.at run.count)) ≤ length out.old }
+    ensures { out.new ≡ overwrite out.old to (records_bytes K.codec (part_of K.located (window_value w) part (records_at K.codec tape.now run.at run.count))) }
 {
     let mut next = to;
-    for i in 0..count {
-        let place = at + K::SIZE * i;
+    for i in 0..run.count {
+        let place = run.at + K::SIZE * i;
         if K::is_in(tape, place, w, part) {
             K::put(tape, place, w, part, out, next);
             next += K::SIZE;
@@ -203,46 +262,25 @@ fn put_part<K: Spliced>(
     }
 }
 
-pub fn put_before<K: Spliced>(
-    tape: &[u8],
-    at: usize,
-    count: usize,
-    w: Window,
-    out: &mut [u8],
-    to: usize,
-)
-    requires run_in_bounds { at + K.SIZE * count ≤ length tape.now }
-    requires part_in_bounds { to + K.SIZE * length (kept_before K.located (window_value w) (records_at K.codec tape.now at count)) ≤ length out.old }
-    ensures { out.new ≡ overwrite out.old to (records_bytes K.codec (kept_before K.located (window_value w) (records_at K.codec tape.now at count))) }
+pub fn put_before<K: Spliced>(tape: &[u8], run: places::Run, w: Window, out: &mut [u8], to: usize)
+    requires run_in_bounds { run.at + K.SIZE * run.count ≤ length tape.now }
+    requires part_in_bounds { to + K.SIZE * length (kept_before K.located (window_value w) (records_at K.codec tape.now run.at run.count)) ≤ length out.old }
+    ensures { out.new ≡ overwrite out.old to (records_bytes K.codec (kept_before K.located (window_value w) (records_at K.codec tape.now run.at run.count))) }
 {
-    put_part::<K>(tape, at, count, w, Part::Before, out, to);
+    put_part::<K>(tape, run, w, Part::Before, out, to);
 }
 
-pub fn put_reading<K: Spliced>(
-    tape: &[u8],
-    at: usize,
-    count: usize,
-    w: Window,
-    out: &mut [u8],
-    to: usize,
-)
-    requires { (at + K.SIZE * count ≤ length tape.now) × (to + K.SIZE * count ≤ length out.old) }
-    ensures { out.new ≡ overwrite out.old to (records_bytes K.codec (map (K.located.placed (window_value w)) (records_at K.codec tape.now at count))) }
+pub fn put_reading<K: Spliced>(tape: &[u8], run: places::Run, w: Window, out: &mut [u8], to: usize)
+    requires { (run.at + K.SIZE * run.count ≤ length tape.now) × (to + K.SIZE * run.count ≤ length out.old) }
+    ensures { out.new ≡ overwrite out.old to (records_bytes K.codec (map (K.located.placed (window_value w)) (records_at K.codec tape.now run.at run.count))) }
 {
-    put_part::<K>(tape, at, count, w, Part::Reading, out, to);
+    put_part::<K>(tape, run, w, Part::Reading, out, to);
 }
 
-pub fn put_behind<K: Spliced>(
-    tape: &[u8],
-    at: usize,
-    count: usize,
-    w: Window,
-    out: &mut [u8],
-    to: usize,
-)
-    requires run_in_bounds { at + K.SIZE * count ≤ length tape.now }
-    requires part_in_bounds { to + K.SIZE * length (kept_behind K.located (window_value w) (records_at K.codec tape.now at count)) ≤ length out.old }
-    ensures { out.new ≡ overwrite out.old to (records_bytes K.codec (map (K.located.moved (window_value w)) (kept_behind K.located (window_value w) (records_at K.codec tape.now at count)))) }
+pub fn put_behind<K: Spliced>(tape: &[u8], run: places::Run, w: Window, out: &mut [u8], to: usize)
+    requires run_in_bounds { run.at + K.SIZE * run.count ≤ length tape.now }
+    requires part_in_bounds { to + K.SIZE * length (kept_behind K.located (window_value w) (records_at K.codec tape.now run.at run.count)) ≤ length out.old }
+    ensures { out.new ≡ overwrite out.old to (records_bytes K.codec (map (K.located.moved (window_value w)) (kept_behind K.located (window_value w) (records_at K.codec tape.now run.at run.count)))) }
 {
-    put_part::<K>(tape, at, count, w, Part::Behind, out, to);
+    put_part::<K>(tape, run, w, Part::Behind, out, to);
 }

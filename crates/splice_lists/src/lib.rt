@@ -2,7 +2,7 @@
 // `merge_diagnostics`. Crate splice says which records are in a part and where their offsets stand there.
 #![tactic(auto)]
 
-ghost use Rattle.std.specs.Prelude.{◌≡◌, ◌+◌, ◌≤◌, length};
+ghost use Rattle.std.specs.Prelude.{◌≡◌, ◌+◌, ◌≤◌, length, get_or};
 ghost use Rattle.model.specs.Types as Types;
 ghost use Rattle.model.specs.Tape.{record_bytes, pair_codec, container_codec, diagnostic_codec};
 ghost use Rattle.model.specs.Merge.{pair_located, container_located, diagnostic_located};
@@ -14,16 +14,16 @@ ghost use Rattle.splice.specs.Window.{window_value};
 ghost use Rattle.splice.specs.Written.{four_bytes};
 
 // A command, a byte and four words: a pair or a diagnostic.
-fn put_four(out: &mut [u8], at: usize, command: u8, kind: u8, a: u32, b: u32, e: u32, f: u32)
+fn put_four(out: &mut [u8], at: usize, command: u8, kind: u8, words: [u32; 4])
     requires { at + 18 ≤ length out.old }
-    ensures { out.new ≡ overwrite out.old at (four_bytes command kind a b e f) }
+    ensures { out.new ≡ overwrite out.old at (four_bytes command kind (get_or words 0 0) (get_or words 1 0) (get_or words 2 0) (get_or words 3 0)) }
 {
     wire::put_u8(out, at, command);
     wire::put_u8(out, at + 1, kind);
-    wire::put_u32(out, at + 2, a);
-    wire::put_u32(out, at + 6, b);
-    wire::put_u32(out, at + 10, e);
-    wire::put_u32(out, at + 14, f);
+    wire::put_u32(out, at + 2, words[0]);
+    wire::put_u32(out, at + 6, words[1]);
+    wire::put_u32(out, at + 10, words[2]);
+    wire::put_u32(out, at + 14, words[3]);
 }
 
 // ---- pairs, `merge_pairs`
@@ -44,16 +44,8 @@ fn put_pair(out: &mut [u8], at: usize, p: records::PairLink)
     requires { at + 18 ≤ length out.old }
     ensures { out.new ≡ overwrite out.old at (record_bytes pair_codec (pair_link_of p)) }
 {
-    put_four(
-        out,
-        at,
-        7,
-        p.kind,
-        p.openstart,
-        p.openend,
-        p.closestart,
-        p.closeend,
-    );
+    let words = [p.openstart, p.openend, p.closestart, p.closeend];
+    put_four(out, at, 7, p.kind, words);
 }
 
 pub struct Pairs;
@@ -170,7 +162,7 @@ pub fn put_diagnostic(out: &mut [u8], at: usize, d: records::Diagnostic)
     requires { at + 18 ≤ length out.old }
     ensures { out.new ≡ overwrite out.old at (record_bytes diagnostic_codec (diagnostic_of d)) }
 {
-    put_four(out, at, 9, d.kind, d.rank, d.start, d.end, d.plain);
+    put_four(out, at, 9, d.kind, [d.rank, d.start, d.end, d.plain]);
 }
 
 pub struct Diagnostics;

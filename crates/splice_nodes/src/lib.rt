@@ -10,15 +10,8 @@ ghost use Rattle.wire.specs.Overwrite.{overwrite};
 ghost use Rattle.records.specs.Values.{source_node_of};
 ghost use Rattle.splice.specs.Window.{window_value};
 ghost use Rattle.splice.specs.Kinds.{node_kind};
-ghost use Rattle.splice.specs.Parts.{is_in, as_in};
+ghost use Rattle.splice.specs.Parts.{as_in};
 ghost use Rattle.splice.specs.declared.Part.TheVariants.{Reading};
-
-fn node_in(tape: &[u8], at: usize, w: splice::Window, part: splice::Part) -> bool
-    requires { at + 49 ≤ length tape.now }
-    ensures { result ≡ is_in node_located (window_value w) part (record_at node_codec tape.now at) }
-{
-    splice::row_in(tape, at, 3, 7, 0, w.start, w.end, part)
-}
 
 fn node_as_in(n: records::SourceNode, w: splice::Window, part: splice::Part) -> records::SourceNode
     ensures { (record_bytes node_codec (source_node_of result) ≡ record_bytes node_codec (as_in node_located (window_value w) part (source_node_of n))) × (result.body.words ≡ n.body.words) }
@@ -67,7 +60,7 @@ impl splice::Spliced for Nodes {
     ghost located = { node_located };
 
     fn is_in(tape: &[u8], at: usize, w: splice::Window, part: splice::Part) -> bool {
-        node_in(tape, at, w, part)
+        splice::node_in(tape, at, w, part)
     }
 
     fn put(

@@ -7,7 +7,7 @@
 ghost use Rattle.std.specs.Prelude.{◌≡◌, ◌+◌, ◌^◌, ◌≤◌, ◌<◌, ltb};
 ghost use Rattle.store.specs.Pools.{start_or, in_layer, in_one, range_in, layer_of};
 ghost use Rattle.store.specs.Stored.{StoreFits, add_runs, store_at};
-ghost use Rattle.store.specs.Standing.{string_place, content_place, segment_place};
+ghost use Rattle.store.specs.Standing.{string_start, content_start, segment_start, string_place, content_place, segment_place};
 
 // How many strings, contents and segments all layers hold.
 #[derive(Clone, Copy)]
@@ -60,19 +60,13 @@ fn in_one_layer(starts: &[u32; 32], layers: usize, total: u32, start: usize, end
 
 // Section 3. Start plus length is at most the pool's count, and a range of length above 0 lies in one layer.
 #[tactic(auto, using(std::proofs::lemmas::Bool::Decides::nat_tests), unfolding(crate::specs::Pools::range_in))]
-pub fn range_ok(starts: &[u32; 32], layers: usize, total: u32, start: u32, len: u32) -> bool
+fn range_ok(starts: &[u32; 32], layers: usize, total: u32, start: u32, len: u32) -> bool
     requires { layers ≤ 32 }
     ensures { result ≡ range_in starts.now layers total start len }
 {
     let from = start as usize;
     let end = from + len as usize;
     end <= total as usize && (len == 0 || in_one_layer(starts, layers, total, from, end))
-}
-
-pub fn id_ok(total: u32, id: u32) -> bool
-    ensures { result ≡ ltb id total }
-{
-    id < total
 }
 
 // The last layer that begins at or before item i: the one that holds it.
@@ -130,36 +124,118 @@ pub fn store_of(tape: &[u8], layers: usize) -> Store
     }
 }
 
-// Section 4. Where the string record of that number stands; for contents and segments, the same.
-#[tactic(auto, using(crate::specs::Pools::layer_few), unfolding(crate::specs::Standing::string_place))]
+// What is asked of a store. A store may be of any tape, so that it has at most 32 layers is asked for and is no field's fact.
+impl Store {
+    // Where layer k begins among the strings; past the last layer, where they end. For contents and segments, the same.
+    pub fn string_start(&self, k: usize) -> u32
+        requires { self.now.layers ≤ 32 }
+        ensures { result ≡ string_start self.now k }
+    {
+        start_or(&self.strings, self.layers, self.totals.strings, k)
+    }
+
+    fn content_start(&self, k: usize) -> u32
+        requires { self.now.layers ≤ 32 }
+        ensures { result ≡ content_start self.now k }
+    {
+        start_or(&self.contents, self.layers, self.totals.contents, k)
+    }
+
+    fn segment_start(&self, k: usize) -> u32
+        requires { self.now.layers ≤ 32 }
+        ensures { result ≡ segment_start self.now k }
+    {
+        start_or(&self.segments, self.layers, self.totals.segments, k)
+    }
+
+    // The layer that holds string i.
+    pub fn string_layer(&self, i: u32) -> usize
+        requires { self.now.layers ≤ 32 }
+        ensures { result ≡ layer_of self.now.strings self.now.layers i }
+    {
+        layer_of(&self.strings, self.layers, i)
+    }
+
+    // Number 4. Is there a string of that id?
+    pub fn has_string(&self, id: u32) -> bool
+        ensures { result ≡ ltb id self.now.totals.strings }
+    {
+        id < self.totals.strings
+    }
+
+    // Number 4. Is that a range of contents?
+    pub fn has_contents(&self, start: u32, len: u32) -> bool
+        requires { self.now.layers ≤ 32 }
+        ensures { result ≡ range_in self.now.contents self.now.layers self.now.totals.contents start len }
+    {
+        range_ok(
+            &self.contents,
+            self.layers,
+            self.totals.contents,
+            start,
+            len,
+        )
+    }
+
+    // Number 4. Is that a range of segments?
+    pub fn has_segments(&self, start: u32, len: u32) -> bool
+        requires { self.now.layers ≤ 32 }
+        ensures { result ≡ range_in self.now.segments self.now.layers self.now.totals.segments start len }
+    {
+        range_ok(
+            &self.segments,
+            self.layers,
+            self.totals.segments,
+            start,
+            len,
+        )
+    }
+
+    // Section 4. Where the string record of that number stands; for contents and segments, the same.
+    #[tactic(auto, using(crate::specs::Pools::layer_few), unfolding(crate::specs::Standing::string_place))]
+    pub fn string_place(&self, i: u32) -> usize
+        requires { self.now.layers ≤ 32 }
+        ensures { result ≡ string_place self.now i }
+    {
+        let k = self.string_layer(i);
+        let b = self.content_start(k) as usize;
+        let g = self.segment_start(k) as usize;
+        10 + k + 5 * i as usize + 10 * b + 37 * g
+    }
+
+    #[tactic(auto, using(crate::specs::Pools::layer_few), unfolding(crate::specs::Standing::content_place))]
+    pub fn content_place(&self, i: u32) -> usize
+        requires { self.now.layers ≤ 32 }
+        ensures { result ≡ content_place self.now i }
+    {
+        let k = layer_of(&self.contents, self.layers, i);
+        let a = self.string_start(k + 1) as usize;
+        let g = self.segment_start(k) as usize;
+        10 + k + 5 * a + 10 * i as usize + 37 * g
+    }
+
+    #[tactic(auto, using(crate::specs::Pools::layer_few), unfolding(crate::specs::Standing::segment_place))]
+    pub fn segment_place(&self, i: u32) -> usize
+        requires { self.now.layers ≤ 32 }
+        ensures { result ≡ segment_place self.now i }
+    {
+        let k = layer_of(&self.segments, self.layers, i);
+        let a = self.string_start(k + 1) as usize;
+        let b = self.content_start(k + 1) as usize;
+        10 + k + 5 * a + 10 * b + 37 * i as usize
+    }
+}
+
 pub fn string_place(st: Store, i: u32) -> usize
     requires { st.layers ≤ 32 }
     ensures { result ≡ string_place st i }
 {
-    let k = layer_of(&st.strings, st.layers, i);
-    let b = start_or(&st.contents, st.layers, st.totals.contents, k) as usize;
-    let g = start_or(&st.segments, st.layers, st.totals.segments, k) as usize;
-    10 + k + 5 * i as usize + 10 * b + 37 * g
+    st.string_place(i)
 }
 
-#[tactic(auto, using(crate::specs::Pools::layer_few), unfolding(crate::specs::Standing::content_place))]
 pub fn content_place(st: Store, i: u32) -> usize
     requires { st.layers ≤ 32 }
     ensures { result ≡ content_place st i }
 {
-    let k = layer_of(&st.contents, st.layers, i);
-    let a = start_or(&st.strings, st.layers, st.totals.strings, k + 1) as usize;
-    let g = start_or(&st.segments, st.layers, st.totals.segments, k) as usize;
-    10 + k + 5 * a + 10 * i as usize + 37 * g
-}
-
-#[tactic(auto, using(crate::specs::Pools::layer_few), unfolding(crate::specs::Standing::segment_place))]
-pub fn segment_place(st: Store, i: u32) -> usize
-    requires { st.layers ≤ 32 }
-    ensures { result ≡ segment_place st i }
-{
-    let k = layer_of(&st.segments, st.layers, i);
-    let a = start_or(&st.strings, st.layers, st.totals.strings, k + 1) as usize;
-    let b = start_or(&st.contents, st.layers, st.totals.contents, k + 1) as usize;
-    10 + k + 5 * a + 10 * b + 37 * i as usize
+    st.content_place(i)
 }

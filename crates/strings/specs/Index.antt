@@ -116,6 +116,14 @@ index_written lengths first {words} e =
     ∙ take_overwrite first 0 bs fits in
     record { is = rw same whole }
 
+-- no words are an index too
+pub indexed_none : (lengths : List ℕ) → Indexed lengths []
+indexed_none lengths = index_written lengths [] (none (overwrite [] 0 (index_in lengths [])) (index_length lengths [] refl))
+  where
+    none : (l : List ℕ) → length l ≡ 0 → [] ≡ l
+    none [] e = refl
+    none (x ∷ l) e = absurd (omega (arith, e))
+
 -- ---- the last start stored at or before string id
 
 module _ {lengths words : List ℕ} (s : Indexed lengths words) {id : ℕ} (h : id < length lengths) {k q : ℕ} (e : k ≡ step_in lengths words) (f : q ≡ id / k) where

@@ -3,3 +3,4 @@ pub mod Index
 pub mod PlainContent
 pub mod Shown
 pub mod Examples
+pub mod Lent

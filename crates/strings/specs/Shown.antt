@@ -170,3 +170,8 @@ span_of_start lengths id e = e
 
 pub sides_readable : {t : List ℕ} {st : Store} {words old new : List ℕ} → Resolvable t st words old new → Readable t st (length old + length new)
 sides_readable r = record { store = r.sides.store; bytes = omega (arith, r.sides.whole); small = r.small }
+
+-- by another index
+pub by_index : {t : List ℕ} {st : Store} {words old new : List ℕ} → Resolvable t st words old new → {index : List ℕ} → Indexed (lengths_in t) index
+    → Resolvable t st index old new
+by_index r i = record { sides = r.sides; indexed = i; small = r.small }

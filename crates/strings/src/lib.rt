@@ -3,6 +3,8 @@
 // words allow, and `string_start` walks from the last of them. specs/Starts.antt says what a start is.
 #![tactic(auto)]
 
+mod lent;
+
 ghost use Rattle.std.specs.Prelude.{◌≡◌, true, List, ◌∷◌, [], ℕ, ◌≤◌, ◌<◌, ◌^◌, min, get_or};
 ghost use Rattle.model.specs.Store.{string_span, resolve_content_range};
 ghost use Rattle.records.specs.Values.{content_of};
@@ -11,7 +13,9 @@ ghost use Rattle.wire.specs.Overwrite.{overwrite};
 ghost use Rattle.strings.specs.Starts.{lengths_in, store_in, start_in, OfTape, Readable, Between, run_end, InLayer};
 ghost use Rattle.strings.specs.Index.{step_of, index_in, Indexed};
 ghost use Rattle.strings.specs.PlainContent.{plain_of};
-ghost use Rattle.strings.specs.Shown.{old_strings, shown_in, Resolvable, Lies, part_of};
+ghost use Rattle.strings.specs.Shown.{old_strings, Lies, part_of};
+
+pub use lent::Strings;
 
 // The word for a start that does not fit one.
 const NOT_STORED: u32 = u32::MAX;
@@ -170,23 +174,4 @@ fn resolve<'a>(
     }
     let at = start - old.len();
     &new[at..at + len]
-}
-
-// Section 3. `resolve_str`. `old` are the bytes of the strings of all layers but the last, `new` those of the last layer's.
-pub fn resolve_str<'a>(
-    tape: &[u8],
-    st: store::Store,
-    words: &[u32],
-    old: &'a [u8],
-    new: &'a [u8],
-    id: u32,
-) -> &'a [u8]
-    requires resolvable { Resolvable tape.now st words.now old.now new.now }
-    requires id_lt_strings { id < st.totals.strings }
-    ensures { result.now ≡ shown_in tape.now st old.now new.now id }
-{
-    let olds = old_strings(st);
-    let start = string_start(tape, st, old.len() + new.len(), words, id);
-    let len = string_length(tape, st, id);
-    resolve(old, new, olds, id, start, len)
 }

@@ -79,18 +79,13 @@ fn lists_placed(tape: &[u8], p: places::Places) -> bool
     requires { PlacesFit tape.now p }
     ensures { result ≡ lists_placed tape.now p }
 {
-    if !bounds::pairs_placed(tape, p.pairs.at, p.pairs.count, p.text as usize) {
+    if !bounds::pairs_placed(tape, p.pairs, p.text as usize) {
         return false;
     }
-    if !bounds::containers_placed(
-        tape,
-        p.containers.at,
-        p.containers.count,
-        p.normalized as usize,
-    ) {
+    if !bounds::containers_placed(tape, p.containers, p.normalized as usize) {
         return false;
     }
-    bounds::diagnostics_placed(tape, p.diagnostics.at, p.diagnostics.count, p.text as usize)
+    bounds::diagnostics_placed(tape, p.diagnostics, p.text as usize)
 }
 
 // Numbers 6 and 7, of the tape's book with any bytes that its frame holds for.
@@ -101,7 +96,7 @@ pub fn check_places(tape: &[u8], p: places::Places) -> Result<(), Refusal>
     if !lists_placed(tape, p) {
         return Err(Refusal::Place);
     }
-    let sums = bounds::nodes_placed(tape, p.nodes.at, p.nodes.count, p.text as usize);
+    let sums = bounds::nodes_placed(tape, p.nodes, p.text as usize);
     check_drift(p.text, p.normalized, sums)
 }
 

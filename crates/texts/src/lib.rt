@@ -48,15 +48,15 @@ fn part_utf8(bytes: &[u8], at: usize, len: usize) -> bool
 
 // Number 2, one layer: its string records stand at `at`, the bytes of its strings at `from`, from where on all is UTF-8. Where each
 // string is UTF-8 by itself, the place behind them: the strings are walked once for both.
-fn strings_end(tape: &[u8], at: usize, count: usize, bytes: &[u8], from: usize) -> Option<usize>
-    requires count_in_bounds { at + 5 * count ≤ length tape.now }
-    requires count_in_bounds_2 { from + sum (records_at string_codec tape.now at count) ≤ length bytes.now }
+fn strings_end(tape: &[u8], strings: places::Run, bytes: &[u8], from: usize) -> Option<usize>
+    requires count_in_bounds { strings.at + 5 * strings.count ≤ length tape.now }
+    requires count_in_bounds_2 { from + sum (records_at string_codec tape.now strings.at strings.count) ≤ length bytes.now }
     requires bytes_value { utf8 (drop from bytes.now) ≡ true }
-    ensures { result ≡ strings_end (records_at string_codec tape.now at count) bytes.now from }
+    ensures { result ≡ strings_end (records_at string_codec tape.now strings.at strings.count) bytes.now from }
 {
     let mut place = from;
-    for i in 0..count {
-        let n = wire::u32_at(tape, at + 5 * i + 1) as usize;
+    for i in 0..strings.count {
+        let n = wire::u32_at(tape, strings.at + 5 * i + 1) as usize;
         if !part_utf8(bytes, place, n) {
             return None;
         }
@@ -74,7 +74,7 @@ fn layers_utf8(tape: &[u8], bytes: &[u8], layers: usize, from: usize) -> bool
     let mut place = from;
     for _layer in 0..layers {
         let l = places::next_layer(tape, at);
-        let Some(end) = strings_end(tape, l.strings.at, l.strings.count, bytes, place) else {
+        let Some(end) = strings_end(tape, l.strings, bytes, place) else {
             return false;
         };
         place = end;

@@ -5,7 +5,8 @@
 // output of a case whose label begins with "Rust" is the Rust's own answer (oracle/sample).
 #![tactic(auto)]
 
-use books::{Correction, Edit, Stored};
+use books::{Correction, Stored};
+use edit::Edit;
 use output::IncrementalOutput;
 use refusal::Refusal;
 use std::io;

@@ -1,4 +1,3 @@
-use Prim.Native.Nat.{◌-◌}
 use native.Mathlib.Omega.{arith}
 use Rattle.balanced_region.specs.Unmatched.{passing_none, passing_stop, passing_more, passing_done, past_count}
 use Rattle.balanced_region.proofs.depths_before.Goals as goal
@@ -13,11 +12,11 @@ returns-then-bound-node_start c =
 
 pub loop-d-smaller : goal.loop-d-smaller
 loop-d-smaller c =
-    omega (arith, past_count _ _ _ c.depths_past-d.ensures)
+    omega (arith, past_count _ _ _ c.past-d.ensures)
 
 pub loop-d-preserved : goal.loop-d-preserved
 loop-d-preserved c =
-    passing_more c.loop-d.invariant c.loop-d-test.true _ c.node_start.ensures c.if-bound-node_start.false _ c.depths_past-d.ensures
+    passing_more c.loop-d.invariant c.loop-d-test.true _ c.node_start.ensures c.if-bound-node_start.false _ c.past-d.ensures
 
 pub returns : goal.returns
 returns c =

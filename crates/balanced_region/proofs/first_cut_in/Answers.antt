@@ -1,6 +1,5 @@
 use Rattle.balanced_region.specs.EndSearch.{tried_start, tried_found, try_rises, tried_more, tried_none}
 use mathlib.Core.Path.{refl, ◌∙◌}
-use Prim.Native.Nat.{◌-◌}
 use native.Mathlib.Omega.{arith}
 use Rattle.balanced_region.proofs.first_cut_in.Goals as goal
 
@@ -11,7 +10,7 @@ loop-c-init c =
 pub next_try-next-requires : goal.next_try-next-requires
 next_try-next-requires c =
     record {
-      count_in_bounds = (c.requires.count_in_bounds.0, omega (arith, c.requires.count_in_bounds.1));
+      inside = omega (arith, c.requires.inside);
       window = c.loop-c.invariant.1;
     }
 

@@ -1,5 +1,5 @@
 use Rattle.cuts.specs.Window.{Window}
-use Rattle.cuts.specs.Pairs.{pairs_of}
+use Rattle.cuts.specs.Sources.{pairs_in}
 use Rattle.balanced_region.specs.EndSearch.{Tried, text_pairs_allow}
 use mathlib.Core.Path.{◌≡◌}
 use Prim.Native.Nat.{◌-◌}
@@ -7,7 +7,7 @@ use lib.ListN.{length}
 use Rattle.balanced_region.proofs.first_cut_in.Given as goal
 
 abbrev pub invariant-loop-c : goal.invariant-loop-c
-invariant-loop-c l = Tried (text_pairs_allow l.text (pairs_of l.tape l.pairs)) l.lo l.c × Window (pairs_of l.tape l.pairs) l.words × (length l.words ≡ length l.initial.words)
+invariant-loop-c l = Tried (text_pairs_allow l.source.text.now (pairs_in l.source)) l.lo l.c × Window (pairs_in l.source) l.words × (length l.words ≡ length l.initial.words)
 
 abbrev pub decreases-loop-c : goal.decreases-loop-c
 decreases-loop-c l = l.hi - l.c

@@ -1,12 +1,12 @@
 use Rattle.cuts.specs.Window.{Window}
-use Rattle.cuts.specs.Pairs.{pairs_of}
+use Rattle.cuts.specs.Sources.{pairs_in}
 use Rattle.balanced_region.specs.Walks.{DownWalk}
 use mathlib.Core.Path.{◌≡◌}
 use lib.ListN.{length}
 use Rattle.balanced_region.proofs.last_cut.Given as goal
 
 abbrev pub invariant-loop-i : goal.invariant-loop-i
-invariant-loop-i l = DownWalk l.text l.tape l.nodes l.pairs l.d l.bound l.i l.blocks l.warichu l.hi × Window (pairs_of l.tape l.pairs) l.words × (length l.words ≡ length l.initial.words)
+invariant-loop-i l = DownWalk l.source.text.now l.source.tape.now l.source.nodes l.source.pairs l.d l.bound l.i l.depths.blocks l.depths.warichu l.hi × Window (pairs_in l.source) l.words × (length l.words ≡ length l.initial.words)
 
 abbrev pub decreases-loop-i : goal.decreases-loop-i
 decreases-loop-i l = l.i

@@ -1,17 +1,17 @@
 use Rattle.balanced_region.specs.Walks.{last_walk_none, last_walk_stop, last_walk_more, last_walk_done}
+use Rattle.cuts.specs.Gaps.{apart_in_order}
 use mathlib.Core.Path.{refl, ◌∙◌}
-use Prim.Native.Nat.{◌-◌}
 use native.Mathlib.Omega.{arith}
 use Rattle.balanced_region.proofs.last_cut_before.Goals as goal
 
 pub loop-i-init : goal.loop-i-init
 loop-i-init c =
-    (last_walk_none _ _ _ _ _ c.requires.in_order, c.requires.window, refl)
+    (last_walk_none _ _ _ _ _ (apart_in_order c.args.source.now.nodes_apart), c.requires.window, refl)
 
 pub gap_last-requires : goal.gap_last-requires
 gap_last-requires c =
     record {
-      count_in_bounds = (c.requires.count_in_bounds.1, omega (arith, c.requires.count_in_bounds.2));
+      inside = omega (arith, c.requires.inside);
       window = c.loop-i.invariant.1;
     }
 
@@ -29,14 +29,14 @@ returns-then-bound-start c =
 pub gap_last-last-requires : goal.gap_last-last-requires
 gap_last-last-requires c =
     record {
-      count_in_bounds = (c.requires.count_in_bounds.1, omega (arith, c.requires.count_in_bounds.2, c.if-bound-start.false));
+      inside = omega (arith, c.requires.inside, c.if-bound-start.false);
       window = c.loop-i.invariant.1;
     }
 
 pub loop-i-preserved : goal.loop-i-preserved
 loop-i-preserved c = (
   last_walk_more c.loop-i.invariant.0 c.loop-i-test.true _ c.node_start-start.ensures c.if-bound-start.false _ c.gap_last-last.ensures.value _
-      c.node_end-from.ensures _ _ c.block_depth-blocks.ensures c.warichu_depth-warichu.ensures,
+      c.node_end-from.ensures _ _ c.past-depths.ensures.block_depth c.past-depths.ensures.warichu_depth,
   c.gap_last-last.ensures.window_2,
   c.gap_last-last.auto.words ∙ c.loop-i.invariant.2,
 )
@@ -44,7 +44,7 @@ loop-i-preserved c = (
 pub gap_last-requires-2 : goal.gap_last-requires-2
 gap_last-requires-2 c =
     record {
-      count_in_bounds = (c.requires.count_in_bounds.1, omega (arith, c.requires.count_in_bounds.2));
+      inside = omega (arith, c.requires.inside);
       window = c.loop-i.invariant.1;
     }
 

@@ -1,7 +1,5 @@
 use Rattle.cuts.specs.Offsets.{last_stop, last_turn, last_done}
-use Rattle.balanced_region.specs.EndSearch.{text_pairs_allow}
 use mathlib.Core.Path.{refl, sym, ◌∙◌}
-use Prim.Native.Nat.{◌-◌}
 use native.Mathlib.Omega.{arith}
 use Rattle.balanced_region.proofs.last_cut_in.Goals as goal
 
@@ -12,7 +10,7 @@ loop-c-init c =
 pub text_pairs_allow-requires : goal.text_pairs_allow-requires
 text_pairs_allow-requires c =
     record {
-      count_in_bounds = (c.requires.count_in_bounds.0, omega (arith, c.requires.count_in_bounds.1, c.loop-c.invariant.0));
+      inside = omega (arith, c.requires.inside, c.loop-c.invariant.0);
       window = c.loop-c.invariant.2;
     }
 

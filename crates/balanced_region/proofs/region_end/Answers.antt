@@ -1,6 +1,5 @@
 use Rattle.balanced_region.specs.Walks.{end_walk_none, end_walk_inside, end_walk_found, end_walk_more, end_walk_done}
 use mathlib.Core.Path.{refl, ◌∙◌}
-use Prim.Native.Nat.{◌-◌}
 use native.Mathlib.Omega.{arith}
 use Rattle.balanced_region.proofs.region_end.Goals as goal
 
@@ -11,7 +10,7 @@ loop-i-init c =
 pub gap_first-c-requires : goal.gap_first-c-requires
 gap_first-c-requires c =
     record {
-      count_in_bounds = (c.requires.count_in_bounds.1, end_walk_inside c.loop-i.invariant.0 c.loop-i-test.true _ c.node_start-start.ensures, c.requires.count_in_bounds.2);
+      inside = (end_walk_inside c.loop-i.invariant.0 c.loop-i-test.true _ c.node_start-start.ensures, c.requires.inside);
       window = c.loop-i.invariant.1;
     }
 
@@ -22,14 +21,14 @@ shape_of-words-then-c-start c =
 pub returns-then-c-start : goal.returns-then-c-start
 returns-then-c-start c =
     record {
-      value = end_walk_found c.loop-i.invariant.0 c.loop-i-test.true _ c.node_start-start.ensures _ c.gap_first-c.ensures.value c.requires.count_in_bounds.2 c.if-c-start.true;
+      value = end_walk_found c.loop-i.invariant.0 c.loop-i-test.true _ c.node_start-start.ensures _ c.gap_first-c.ensures.value c.requires.inside c.if-c-start.true;
       window_2 = c.gap_first-c.ensures.window_2;
     }
 
 pub loop-i-preserved : goal.loop-i-preserved
 loop-i-preserved c = (
   end_walk_more c.loop-i.invariant.0 c.loop-i-test.true _ c.node_start-start.ensures _ c.gap_first-c.ensures.value c.if-c-start.false _
-      c.node_end-from.ensures _ _ c.block_depth-blocks.ensures c.warichu_depth-warichu.ensures,
+      c.node_end-from.ensures _ _ c.past-depths.ensures.block_depth c.past-depths.ensures.warichu_depth,
   c.gap_first-c.ensures.window_2,
   c.gap_first-c.auto.words ∙ c.loop-i.invariant.2,
 )
@@ -37,7 +36,7 @@ loop-i-preserved c = (
 pub gap_first-requires : goal.gap_first-requires
 gap_first-requires c =
     record {
-      count_in_bounds = (c.requires.count_in_bounds.1, omega arith, c.requires.count_in_bounds.2);
+      inside = (omega arith, c.requires.inside);
       window = c.loop-i.invariant.1;
     }
 
@@ -48,6 +47,6 @@ shape_of-words c =
 pub returns : goal.returns
 returns c =
     record {
-      value = end_walk_done c.loop-i.invariant.0 c.loop-i-test.false c.requires.count_in_bounds.2 _ c.gap_first.ensures.value;
+      value = end_walk_done c.loop-i.invariant.0 c.loop-i-test.false c.requires.inside _ c.gap_first.ensures.value;
       window_2 = c.gap_first.ensures.window_2;
     }

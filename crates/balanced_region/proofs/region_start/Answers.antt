@@ -1,6 +1,7 @@
 use Rattle.std.proofs.Common.{rules}
 use Rattle.balanced_region.specs.Walks.{start_front, start_falls, start_walk_found, start_walk_first, start_walk_rest}
 use Rattle.balanced_region.specs.StartSearch.{start_end}
+use Rattle.cuts.specs.Gaps.{apart_in_order}
 use mathlib.Core.Path.{refl, sym, ◌∙◌}
 use native.Mathlib.Omega.{arith}
 use Rattle.balanced_region.proofs.region_start.Goals as goal
@@ -15,8 +16,7 @@ returns-then-ends_behind_newline c =
 pub last_cut-c-requires : goal.last_cut-c-requires
 last_cut-c-requires c =
     record {
-      count_in_bounds = (c.requires.count_in_bounds.0, c.requires.count_in_bounds.1, c.requires.count_in_bounds.2);
-      in_order = c.requires.in_order;
+      inside = c.requires.inside;
       front = start_front _ _ _ _ c.depths_before-d.ensures;
       window = c.requires.window;
     }
@@ -24,44 +24,43 @@ last_cut-c-requires c =
 pub returns-then-c-gt0 : goal.returns-then-c-gt0
 returns-then-c-gt0 c =
     record {
-      value = start_walk_found _ _ _ _ c.depths_before-d.ensures _ _ c.requires.count_in_bounds.2 _ c.ends_behind_newline.ensures c.if-ends_behind_newline.false
-          c.requires.in_order _ c.last_cut-c.ensures.value c.if-c-gt0.true;
+      value = start_walk_found _ _ _ _ c.depths_before-d.ensures _ _ c.requires.inside _ c.ends_behind_newline.ensures c.if-ends_behind_newline.false
+          (apart_in_order c.args.source.now.nodes_apart) _ c.last_cut-c.ensures.value c.if-c-gt0.true;
       window_2 = c.last_cut-c.ensures.window_2;
     }
 
 pub returns-then-d-eq0 : goal.returns-then-d-eq0
 returns-then-d-eq0 c =
     record {
-      value = start_walk_first _ _ _ _ c.depths_before-d.ensures _ _ c.requires.count_in_bounds.2 _ c.ends_behind_newline.ensures c.if-ends_behind_newline.false
-          c.requires.in_order _ c.last_cut-c.ensures.value c.if-c-gt0.false c.if-d-eq0.true;
+      value = start_walk_first _ _ _ _ c.depths_before-d.ensures _ _ c.requires.inside _ c.ends_behind_newline.ensures c.if-ends_behind_newline.false
+          (apart_in_order c.args.source.now.nodes_apart) _ c.last_cut-c.ensures.value c.if-c-gt0.false c.if-d-eq0.true;
       window_2 = c.last_cut-c.ensures.window_2;
     }
 
 pub overflow_mul-d : goal.overflow_mul-d
 overflow_mul-d c =
-    omega (arith, start_falls _ _ _ _ c.depths_before-d.ensures, c.if-d-eq0.false, c.requires.count_in_bounds.0)
+    omega (arith, start_falls _ _ _ _ c.depths_before-d.ensures, c.if-d-eq0.false, c.args.source.now.nodes_inside)
 
-pub overflow_add-nodes : goal.overflow_add-nodes
-overflow_add-nodes c =
-    omega (arith, start_falls _ _ _ _ c.depths_before-d.ensures, c.if-d-eq0.false, c.requires.count_in_bounds.0)
+pub overflow_add-source : goal.overflow_add-source
+overflow_add-source c =
+    omega (arith, start_falls _ _ _ _ c.depths_before-d.ensures, c.if-d-eq0.false, c.args.source.now.nodes_inside)
 
 pub node_start-start-requires : goal.node_start-start-requires
 node_start-start-requires c =
-    omega (arith, start_falls _ _ _ _ c.depths_before-d.ensures, c.if-d-eq0.false, c.requires.count_in_bounds.0)
+    omega (arith, start_falls _ _ _ _ c.depths_before-d.ensures, c.if-d-eq0.false, c.args.source.now.nodes_inside)
 
 pub last_cut_before-requires : goal.last_cut_before-requires
 last_cut_before-requires c =
     record {
-      count_in_bounds = (c.requires.count_in_bounds.0, c.requires.count_in_bounds.1, omega (arith, c.requires.count_in_bounds.2));
-      in_order = c.requires.in_order;
+      inside = omega (arith, c.requires.inside);
       window = c.last_cut-c.ensures.window_2;
     }
 
 pub returns : goal.returns
 returns c =
     record {
-      value = start_walk_rest _ _ _ _ c.depths_before-d.ensures _ _ c.requires.count_in_bounds.2 _ c.ends_behind_newline.ensures c.if-ends_behind_newline.false
-          c.requires.in_order _ c.last_cut-c.ensures.value c.if-c-gt0.false c.if-d-eq0.false _ refl _ c.node_start-start.ensures _ (search rules) _
+      value = start_walk_rest _ _ _ _ c.depths_before-d.ensures _ _ c.requires.inside _ c.ends_behind_newline.ensures c.if-ends_behind_newline.false
+          (apart_in_order c.args.source.now.nodes_apart) _ c.last_cut-c.ensures.value c.if-c-gt0.false c.if-d-eq0.false _ refl _ c.node_start-start.ensures _ (search rules) _
           c.last_cut_before.ensures.value;
       window_2 = c.last_cut_before.ensures.window_2;
     }

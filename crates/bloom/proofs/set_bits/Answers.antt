@@ -4,15 +4,15 @@ use Rattle.bloom.proofs.set_bits.Goals as goal
 
 pub offset_bounds-words-i : goal.offset_bounds-words-i
 offset_bounds-words-i c =
-    let p = place_inside c.args.base (length c.args.words.now) c.args.x c.requires.0 c.requires.1 in omega (arith, p, c.place_of-i.ensures)
+    let p = place_inside (length c.args.words.now) c.args.x c.requires.0 c.requires.1 in omega (arith, p, c.place_of-i.ensures)
 
 pub bounds-words-i : goal.bounds-words-i
 bounds-words-i c =
-    let p = place_inside c.args.base (length c.args.words.now) c.args.x c.requires.0 c.requires.1 in omega (arith, p, c.place_of-i.ensures)
+    let p = place_inside (length c.args.words.now) c.args.x c.requires.0 c.requires.1 in omega (arith, p, c.place_of-i.ensures)
 
 pub bounds-words-i-2 : goal.bounds-words-i-2
 bounds-words-i-2 c =
-    let p = place_inside c.args.base (length c.args.words.now) c.args.x c.requires.0 c.requires.1 in omega (arith, p, c.place_of-i.ensures)
+    let p = place_inside (length c.args.words.now) c.args.x c.requires.0 c.requires.1 in omega (arith, p, c.place_of-i.ensures)
 
 pub returns : goal.returns
-returns c = with_at c.args.words.now c.args.base c.args.x c.args.bits c.place_of-i.ensures
+returns c = with_at c.args.words.now c.args.x c.args.bits c.place_of-i.ensures

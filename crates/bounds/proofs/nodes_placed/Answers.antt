@@ -15,7 +15,7 @@ returns-then-not-node_placed c =
 
 pub overflow_add-images : goal.overflow_add-images
 overflow_add-images c =
-    omega (arith, c.image_length-images.ensures, image_small (record_at node_codec c.args.tape.now (c.args.at + 49 * c.loop-i.i)))
+    omega (arith, c.image_length-images.ensures, image_small (record_at node_codec c.args.tape.now (c.args.nodes.at + 49 * c.loop-i.i)))
 
 pub overflow_add-spans : goal.overflow_add-spans
 overflow_add-spans c =

@@ -10,12 +10,12 @@ loop-lo-init c =
 pub loop-lo-preserved-then-node_start-offset : goal.loop-lo-preserved-then-node_start-offset
 unfolding start_of
 loop-lo-preserved-then-node_start-offset c =
-    split_up (in_order_sorted c.args.tape.now c.args.at c.args.count c.requires.in_order) c.loop-lo.invariant _ (omega arith) (omega arith) (omega (arith, c.node_start.ensures))
+    split_up (in_order_sorted c.args.tape.now c.args.nodes.at c.args.nodes.count c.requires.in_order) c.loop-lo.invariant _ (omega arith) (omega arith) (omega (arith, c.node_start.ensures))
 
 pub loop-lo-preserved : goal.loop-lo-preserved
 unfolding start_of
 loop-lo-preserved c =
-    split_down (in_order_sorted c.args.tape.now c.args.at c.args.count c.requires.in_order) c.loop-lo.invariant _ (omega arith) (omega arith) (omega (arith, c.node_start.ensures))
+    split_down (in_order_sorted c.args.tape.now c.args.nodes.at c.args.nodes.count c.requires.in_order) c.loop-lo.invariant _ (omega arith) (omega arith) (omega (arith, c.node_start.ensures))
 
 pub returns : goal.returns
 returns c =

@@ -1,14 +1,12 @@
-use Rattle.std.proofs.Common.{◌≡◌, ◌≤◌, ◌++◌, min}
-use Rattle.model.specs.Tape.{records_at, node_codec}
-use Rattle.strings.specs.Starts.{store_in}
-use Rattle.sorted_ids.specs.Row.{first_words}
+use Rattle.std.proofs.Common.{◌≡◌, ◌≤◌, min, length}
+use Rattle.ruby_formats.specs.Nodes.{first_nodes}
 use Rattle.dependency.specs.Later.{Left}
-use Rattle.dependency.specs.Parts.{refers_among}
+use Rattle.dependency.specs.Among.{refers_first}
 use Rattle.dependency.specs.Rows.{Rowed}
 use Rattle.dependency.proofs.any_refers_sorted.Given as goal
 
 abbrev pub invariant-loop-i : goal.invariant-loop-i
-invariant-loop-i l = (first_words l.base l.words ≡ first_words l.base l.initial.words)
+invariant-loop-i l = (length l.row ≡ length l.initial.row)
     × (l.m ≤ l.i)
-    × Rowed (store_in l.tape (l.old ++ l.new)) l.st.totals.strings (records_at node_codec l.tape l.at (min l.n l.i)) l.words l.base l.m
-    × Left (refers_among (store_in l.tape (l.old ++ l.new)) l.from l.tape l.at l.n) l.count l.i
+    × Rowed l.nodes.strings (first_nodes l.nodes (min l.n l.i)) l.row l.m
+    × Left (refers_first l.nodes l.from l.n) l.nodes.run.count l.i

@@ -1,21 +1,10 @@
-use Rattle.std.proofs.Common.{refl, ◌∙◌}
+use Rattle.std.proofs.Common.{refl}
 use Rattle.dependency.specs.Rows.{told_as, told_is}
-use Rattle.strings.specs.Shown.{shown_str}
 use Rattle.dependency.specs.Compared.{target_some, target_none}
 use Rattle.dependency.proofs.is_target_base.Goals as goal
 
-pub resolve_str-s-requires : goal.resolve_str-s-requires
-resolve_str-s-requires c =
-    record {
-      resolvable = c.requires.sound.strings;
-      id_lt_strings = (c.requires.plain_in.inside _ c.in-Some.is);
-    }
-
 pub returns-in-Some : goal.returns-in-Some
-returns-in-Some c =
-    told_as c.is_filtered_base.ensures (target_some _ _ _ _ c.in-Some.is (c.resolve_str-s.ensures ∙ shown_str c.requires.sound.strings.sides _
-    (c.requires.plain_in.inside _ c.in-Some.is)) refl)
+returns-in-Some c = told_as c.is_filtered_base.ensures (target_some _ _ _ _ c.in-Some.is c.resolve_str.ensures.resolved refl)
 
 pub returns-in-None : goal.returns-in-None
-returns-in-None c =
-    told_is _ (target_none _ _ _ c.in-None.is)
+returns-in-None c = told_is _ (target_none _ _ _ c.in-None.is)

@@ -1,27 +1,14 @@
-use Rattle.ruby_formats.specs.Sound.{ruby_first, plain_inside}
+use Rattle.std.proofs.Common.{◌+◌, ◌*◌}
+use Rattle.ruby_formats.specs.Asks.{ruby_names}
 use Rattle.dependency.specs.Noted.{note_other, note_ruby}
 use Rattle.dependency.proofs.note_ruby.Goals as goal
 
-pub returns-then-not-is_ruby : goal.returns-then-not-is_ruby
-returns-then-not-is_ruby c =
-    note_other _ _ c.requires.sound_node c.is_ruby.ensures c.if-not-is_ruby.true
+pub first_plain-requires-clause-names : goal.first_plain-requires-clause-names
+first_plain-requires-clause-names c = ruby_names _ c.is_ruby.ensures c.if-is_ruby.true
 
-pub first_plain-p-requires : goal.first_plain-p-requires
-first_plain-p-requires c =
-    record {
-      of_tape = c.requires.sound_node.strings.sides.store;
-      at_in_bounds = c.requires.sound_node.inside;
-      first_range = ruby_first c.requires.sound_node c.is_ruby.ensures c.if-not-is_ruby.false;
-    }
+pub returns-then-is_ruby : goal.returns-then-is_ruby
+returns-then-is_ruby c =
+    note_ruby c.args.nodes.now.strings (c.args.nodes.now.run.at + 49 * c.args.i) _ c.is_ruby.ensures c.if-is_ruby.true c.first_plain.ensures.plain c.insert_plain.ensures
 
-pub insert_plain-requires : goal.insert_plain-requires
-insert_plain-requires c =
-    record {
-      resolvable = c.requires.sound_node.strings;
-      base_in_bounds = c.requires.base_in_bounds;
-      plain_in = plain_inside c.requires.sound_node c.first_plain-p.ensures;
-    }
-
-pub returns : goal.returns
-returns c =
-    note_ruby _ _ c.requires.sound_node c.is_ruby.ensures c.if-not-is_ruby.false c.first_plain-p.ensures c.insert_plain.ensures
+pub returns-else-is_ruby : goal.returns-else-is_ruby
+returns-else-is_ruby c = note_other c.args.nodes.now.strings (c.args.nodes.now.run.at + 49 * c.args.i) _ c.is_ruby.ensures c.if-is_ruby.false

@@ -13,8 +13,8 @@ pub store_of-st-requires : goal.store_of-st-requires
 store_of-st-requires c =
     choose_store (passed_book c.in_ok-p.ensures)
 
-pub chosen_region-requires : goal.chosen_region-requires
-chosen_region-requires c =
+pub invariant_of-book-clause-held : goal.invariant_of-book-clause-held
+invariant_of-book-clause-held c =
     choose_held (passed_book c.in_ok-p.ensures) c.store_of-st.ensures
 
 pub returns-in_err-region : goal.returns-in_err-region

@@ -1,7 +1,13 @@
 use Rattle.records.specs.Values.{body_at}
+use Rattle.records.specs.Uses.{use_number}
+use Rattle.records.specs.UseNumbers.{number_same}
+use Rattle.records.specs.declared.Use.{Use}
+use Rattle.records.specs.declared.Use.TheVariants.{Contents, Segments}
 use Rattle.ids.specs.Tests.{used_contents, used_segments}
+use Rattle.sizes.specs.Words.{words_of}
 use Rattle.sizes.specs.InPlace.{inner_adds}
-use Rattle.std.proofs.Common.{ℕ, ◌+◌, ◌*◌, refl, sym, ap, ◌∙◌, arith}
+use Rattle.std.proofs.Common.{◌≡◌, ℕ, ◌+◌, ◌*◌, eqb-true, refl, sym, ap, ◌∙◌, arith}
+use borrow.Author.Tests.{eqb-false}
 use Rattle.graft.specs.Fields.{string_well, field_contents, field_segments_lem, field_string, field_contents_ready, field_segments_ready, word_is, word_small, place_well, place_ready, place_told, place_refused}
 use Rattle.graft.specs.Fields.{body_first, body_ready, body_turn, body_more, body_refused, body_last}
 use Rattle.graft.specs.Blocks.{Apart.between, Apart.beyond}
@@ -43,11 +49,11 @@ graft_place-field_at-f-requires t c =
 
 pub graft_place-graft_field-requires : goal.graft_place-graft_field-requires
 graft_place-graft_field-requires t c =
-    (omega arith, (place_ready c.args.st (body_at c.args.tape.now c.args.at) c.args.j (inner_adds c.args.level c.args.tape.now c.args.st) c.field_at-f.result c.field_at-f.ensures c.requires.ready, (place_well c.args.st (body_at c.args.tape.now c.args.at) c.args.j c.requires.at_in_bounds.1 (word_small c.args.tape.now c.args.at c.args.j c.field_word-i.result c.field_word-i.ensures.0 c.field_word-i.ensures.1) c.field_at-f.result c.field_at-f.ensures)))
+    (omega arith, (place_ready c.args.st (body_at c.args.tape.now c.args.at) c.args.j (inner_adds c.args.level c.args.tape.now c.args.st) (words_of c.field_at-f.result) c.field_at-f.ensures c.requires.ready, (place_well c.args.st (body_at c.args.tape.now c.args.at) c.args.j c.requires.at_in_bounds.1 (word_small c.args.tape.now c.args.at c.args.j c.field_word-i.result c.field_word-i.ensures.0 c.field_word-i.ensures.1) (words_of c.field_at-f.result) c.field_at-f.ensures)))
 
 pub graft_place-returns-in_err-v : goal.graft_place-returns-in_err-v
 graft_place-returns-in_err-v t c =
-    rw c.from_residual.ensures (place_refused c.args.st (body_at c.args.tape.now c.args.at) c.args.j c.args.level c.args.tape.now c.args.bytes.now c.requires.ready.source c.args.p c.args.m.now c.args.words c.args.out.now c.args.work.now c.args.strs.now c.field_at-f.result c.field_at-f.ensures (place_well c.args.st (body_at c.args.tape.now c.args.at) c.args.j c.requires.at_in_bounds.1 (word_small c.args.tape.now c.args.at c.args.j c.field_word-i.result c.field_word-i.ensures.0 c.field_word-i.ensures.1) c.field_at-f.result c.field_at-f.ensures) c.in_err-v.ensures)
+    rw c.from_residual.ensures (place_refused c.args.st (body_at c.args.tape.now c.args.at) c.args.j c.args.level c.args.tape.now c.args.bytes.now c.requires.ready.source c.args.p c.args.m.now c.args.words c.args.out.now c.args.work.now c.args.strs.now (words_of c.field_at-f.result) c.field_at-f.ensures (place_well c.args.st (body_at c.args.tape.now c.args.at) c.args.j c.requires.at_in_bounds.1 (word_small c.args.tape.now c.args.at c.args.j c.field_word-i.result c.field_word-i.ensures.0 c.field_word-i.ensures.1) (words_of c.field_at-f.result) c.field_at-f.ensures) c.in_err-v.ensures)
 
 pub graft_place-with_words-requires : goal.graft_place-with_words-requires
 graft_place-with_words-requires t c =
@@ -55,23 +61,26 @@ graft_place-with_words-requires t c =
 
 pub graft_place-returns : goal.graft_place-returns
 graft_place-returns t c =
-    place_told c.args.st (body_at c.args.tape.now c.args.at) c.args.j c.args.level c.args.tape.now c.args.bytes.now c.requires.ready.source c.args.p c.args.m.now c.args.words c.args.out.now c.args.work.now c.args.strs.now c.field_at-f.result c.field_at-f.ensures (place_well c.args.st (body_at c.args.tape.now c.args.at) c.args.j c.requires.at_in_bounds.1 (word_small c.args.tape.now c.args.at c.args.j c.field_word-i.result c.field_word-i.ensures.0 c.field_word-i.ensures.1) c.field_at-f.result c.field_at-f.ensures) c.field_word-i.result (word_is c.args.tape.now c.args.at c.args.j c.field_word-i.result c.field_word-i.ensures.0) c.in_ok-v.v c.in_ok-v.ensures c.with_words.result c.with_words.ensures
+    place_told c.args.st (body_at c.args.tape.now c.args.at) c.args.j c.args.level c.args.tape.now c.args.bytes.now c.requires.ready.source c.args.p c.args.m.now c.args.words c.args.out.now c.args.work.now c.args.strs.now (words_of c.field_at-f.result) c.field_at-f.ensures (place_well c.args.st (body_at c.args.tape.now c.args.at) c.args.j c.requires.at_in_bounds.1 (word_small c.args.tape.now c.args.at c.args.j c.field_word-i.result c.field_word-i.ensures.0 c.field_word-i.ensures.1) (words_of c.field_at-f.result) c.field_at-f.ensures) c.field_word-i.result (word_is c.args.tape.now c.args.at c.args.j c.field_word-i.result c.field_word-i.ensures.0) c.in_ok-v.v c.in_ok-v.ensures c.with_words.result c.with_words.ensures
+
+segments_alone : (u : Use) → u ≡ Segments → use_number u ≡ 3 → ⊥
+segments_alone u s e = let q : use_number u ≡ 5 = ap use_number s in omega (arith, q, e)
 
 pub graft_field-graft_content_run-requires : goal.graft_field-graft_content_run-requires
 graft_field-graft_content_run-requires t c =
-    (omega arith, (field_contents_ready c.args.level c.args.tape.now c.args.bytes.now c.args.p c.args.m.now c.args.out.now c.args.work.now c.args.strs.now c.args.f c.args.st (inner_adds c.args.level c.args.tape.now c.args.st) c.requires.ready c.if-f-eq3.true, sym (used_contents c.args.st c.args.f.usage c.args.f.first c.args.f.second c.if-f-eq3.true) ∙ c.requires.second_value))
+    (omega arith, (field_contents_ready c.args.level c.args.tape.now c.args.bytes.now c.args.p c.args.m.now c.args.out.now c.args.work.now c.args.strs.now (words_of c.args.f) c.args.st (inner_adds c.args.level c.args.tape.now c.args.st) c.requires.ready (ap use_number c.in-Contents.is), sym (used_contents c.args.st (use_number c.args.f.usage) c.args.f.first c.args.f.second (ap use_number c.in-Contents.is)) ∙ c.requires.second_value))
 
-pub graft_field-returns-then-f-eq3 : goal.graft_field-returns-then-f-eq3
-graft_field-returns-then-f-eq3 t c =
-    field_contents c.args.level c.args.tape.now c.args.bytes.now c.args.p c.args.m.now c.args.out.now c.args.work.now c.args.strs.now c.args.f c.if-f-eq3.true c.graft_content_run.ensures
+pub graft_field-returns-in-Contents : goal.graft_field-returns-in-Contents
+graft_field-returns-in-Contents t c =
+    field_contents c.args.level c.args.tape.now c.args.bytes.now c.args.p c.args.m.now c.args.out.now c.args.work.now c.args.strs.now (words_of c.args.f) (ap use_number c.in-Contents.is) c.graft_content_run.ensures
 
 pub graft_field-graft_segment_run-requires : goal.graft_field-graft_segment_run-requires
 graft_field-graft_segment_run-requires t c =
-    (omega arith, (field_segments_ready c.args.level c.args.tape.now c.args.bytes.now c.args.p c.args.m.now c.args.out.now c.args.work.now c.args.strs.now c.args.f c.args.st (inner_adds c.args.level c.args.tape.now c.args.st) c.requires.ready c.if-f-eq3.false c.if-f-eq5.true, sym (used_segments c.args.st c.args.f.usage c.args.f.first c.args.f.second c.if-f-eq5.true) ∙ c.requires.second_value))
+    (omega arith, (field_segments_ready c.args.level c.args.tape.now c.args.bytes.now c.args.p c.args.m.now c.args.out.now c.args.work.now c.args.strs.now (words_of c.args.f) c.args.st (inner_adds c.args.level c.args.tape.now c.args.st) c.requires.ready (segments_alone c.args.f.usage c.in-Segments.is) (ap use_number c.in-Segments.is), sym (used_segments c.args.st (use_number c.args.f.usage) c.args.f.first c.args.f.second (ap use_number c.in-Segments.is)) ∙ c.requires.second_value))
 
-pub graft_field-returns-then-f-eq5 : goal.graft_field-returns-then-f-eq5
-graft_field-returns-then-f-eq5 t c =
-    field_segments_lem c.args.level c.args.tape.now c.args.bytes.now c.args.p c.args.m.now c.args.out.now c.args.work.now c.args.strs.now c.args.f c.if-f-eq3.false c.if-f-eq5.true c.graft_segment_run.ensures
+pub graft_field-returns-in-Segments : goal.graft_field-returns-in-Segments
+graft_field-returns-in-Segments t c =
+    field_segments_lem c.args.level c.args.tape.now c.args.bytes.now c.args.p c.args.m.now c.args.out.now c.args.work.now c.args.strs.now (words_of c.args.f) (segments_alone c.args.f.usage c.in-Segments.is) (ap use_number c.in-Segments.is) c.graft_segment_run.ensures
 
 pub graft_field-graft_string-requires : goal.graft_field-graft_string-requires
 graft_field-graft_string-requires t c =
@@ -80,12 +89,12 @@ graft_field-graft_string-requires t c =
       indexed = (c.requires.ready.index, c.requires.ready.pairs);
       good = (c.requires.ready.good, c.requires.ready.named);
       has_room = c.requires.ready.has;
-      id_value = (string_well c.args.st c.args.f.usage c.args.f.first c.args.f.second c.requires.second_value c.if-f-eq3.false c.if-f-eq5.false, omega (arith, c.requires.ready.space.calls), omega (arith, c.requires.ready.space.string_numbers));
+      id_value = (string_well c.args.st (use_number c.args.f.usage) c.args.f.first c.args.f.second c.requires.second_value (λ e. c.in_default.not-Contents (number_same c.args.f.usage Contents e)) (λ e. c.in_default.not-Segments (number_same c.args.f.usage Segments e)), omega (arith, c.requires.ready.space.calls), omega (arith, c.requires.ready.space.string_numbers));
     }
 
-pub graft_field-returns : goal.graft_field-returns
-graft_field-returns t c =
-    field_string c.args.level c.args.tape.now c.args.bytes.now c.args.p c.args.m.now c.args.out.now c.args.work.now c.args.strs.now c.args.f c.if-f-eq3.false c.if-f-eq5.false (c.graft_string.ensures c.args.out.now)
+pub graft_field-returns-in_default : goal.graft_field-returns-in_default
+graft_field-returns-in_default t c =
+    field_string c.args.level c.args.tape.now c.args.bytes.now c.args.p c.args.m.now c.args.out.now c.args.work.now c.args.strs.now (words_of c.args.f) (λ e. c.in_default.not-Contents (number_same c.args.f.usage Contents e)) (λ e. c.in_default.not-Segments (number_same c.args.f.usage Segments e)) (c.graft_string.ensures c.args.out.now)
 
 pub graft_content_run-overflow_add-result : goal.graft_content_run-overflow_add-result
 graft_content_run-overflow_add-result t c =
@@ -249,28 +258,28 @@ graft_content-graft_str-requires t c =
       source = c.requires.ready.source;
       indexed = (c.requires.ready.index, c.requires.ready.pairs);
       good = (c.requires.ready.good, c.requires.ready.named);
-      id_lt_strings = (plain_known c.args.tape.now c.args.st c.args.at c.content_at-c.result c.content_at-c.ensures c.requires.at_in_bounds.1 c.if-c-eq0.true, omega (arith, c.requires.ready.space.calls), omega (arith, c.requires.ready.space.string_numbers));
+      id_lt_strings = (plain_known c.args.tape.now c.args.st c.args.at c.content_at-c.result c.content_at-c.ensures c.requires.at_in_bounds.1 (eqb-true _ _ (sym c.is_plain.ensures ∙ c.if-is_plain.true)), omega (arith, c.requires.ready.space.calls), omega (arith, c.requires.ready.space.string_numbers));
     }
 
 pub graft_content-returns-in_err-id : goal.graft_content-returns-in_err-id
 graft_content-returns-in_err-id t c =
-    rw c.from_residual.ensures (plain_refused c.args.tape.now c.args.st c.args.at c.content_at-c.result c.content_at-c.ensures c.args.level c.args.bytes.now c.args.p c.args.m.now c.args.to c.args.out.now c.args.work.now c.args.strs.now c.if-c-eq0.true (c.in_err-id.ensures c.args.out.now))
+    rw c.from_residual.ensures (plain_refused c.args.tape.now c.args.st c.args.at c.content_at-c.result c.content_at-c.ensures c.args.level c.args.bytes.now c.args.p c.args.m.now c.args.to c.args.out.now c.args.work.now c.args.strs.now (eqb-true _ _ (sym c.is_plain.ensures ∙ c.if-is_plain.true)) (c.in_err-id.ensures c.args.out.now))
 
 pub graft_content-put_content-requires : goal.graft_content-put_content-requires
 graft_content-put_content-requires t c =
     omega (arith, c.requires.at_bound.1, c.requires.ready.space.segments)
 
-pub graft_content-returns-then-c-eq0 : goal.graft_content-returns-then-c-eq0
-graft_content-returns-then-c-eq0 t c =
-    plain_made c.args.tape.now c.args.st c.args.at c.content_at-c.result c.content_at-c.ensures c.args.level c.args.bytes.now c.args.p c.args.m.now c.args.to c.args.out.now c.args.work.now c.args.strs.now c.if-c-eq0.true c.in_ok-id.id (c.in_ok-id.ensures c.args.out.now) c.put_content.ensures
+pub graft_content-returns-then-is_plain : goal.graft_content-returns-then-is_plain
+graft_content-returns-then-is_plain t c =
+    plain_made c.args.tape.now c.args.st c.args.at c.content_at-c.result c.content_at-c.ensures c.args.level c.args.bytes.now c.args.p c.args.m.now c.args.to c.args.out.now c.args.work.now c.args.strs.now (eqb-true _ _ (sym c.is_plain.ensures ∙ c.if-is_plain.true)) c.in_ok-id.id (c.in_ok-id.ensures c.args.out.now) c.put_content.ensures
 
 pub graft_content-graft_segment_run-requires : goal.graft_content-graft_segment_run-requires
 graft_content-graft_segment_run-requires t c =
-    (omega arith, (run_ready c.args.tape.now c.args.st c.args.at c.content_at-c.result c.content_at-c.ensures (inner_adds c.args.level c.args.tape.now c.args.st) c.if-c-eq0.false c.requires.ready, (run_known c.args.tape.now c.args.st c.args.at c.content_at-c.result c.content_at-c.ensures c.requires.at_in_bounds.1 c.if-c-eq0.false)))
+    (omega arith, (run_ready c.args.tape.now c.args.st c.args.at c.content_at-c.result c.content_at-c.ensures (inner_adds c.args.level c.args.tape.now c.args.st) (eqb-false _ _ (sym c.is_plain.ensures ∙ c.if-is_plain.false)) c.requires.ready, (run_known c.args.tape.now c.args.st c.args.at c.content_at-c.result c.content_at-c.ensures c.requires.at_in_bounds.1 (eqb-false _ _ (sym c.is_plain.ensures ∙ c.if-is_plain.false)))))
 
 pub graft_content-returns-in_err-first : goal.graft_content-returns-in_err-first
 graft_content-returns-in_err-first t c =
-    rw c.from_residual-in_err-first.ensures (run_refused c.args.tape.now c.args.st c.args.at c.content_at-c.result c.content_at-c.ensures c.args.level c.args.bytes.now c.args.p c.args.m.now c.args.to c.args.out.now c.args.work.now c.args.strs.now c.requires.ready.source (run_known c.args.tape.now c.args.st c.args.at c.content_at-c.result c.content_at-c.ensures c.requires.at_in_bounds.1 c.if-c-eq0.false) c.if-c-eq0.false c.in_err-first.ensures)
+    rw c.from_residual-in_err-first.ensures (run_refused c.args.tape.now c.args.st c.args.at c.content_at-c.result c.content_at-c.ensures c.args.level c.args.bytes.now c.args.p c.args.m.now c.args.to c.args.out.now c.args.work.now c.args.strs.now c.requires.ready.source (run_known c.args.tape.now c.args.st c.args.at c.content_at-c.result c.content_at-c.ensures c.requires.at_in_bounds.1 (eqb-false _ _ (sym c.is_plain.ensures ∙ c.if-is_plain.false))) (eqb-false _ _ (sym c.is_plain.ensures ∙ c.if-is_plain.false)) c.in_err-first.ensures)
 
 pub graft_content-put_content-requires-2 : goal.graft_content-put_content-requires-2
 graft_content-put_content-requires-2 t c =
@@ -278,7 +287,7 @@ graft_content-put_content-requires-2 t c =
 
 pub graft_content-returns : goal.graft_content-returns
 graft_content-returns t c =
-    run_made c.args.tape.now c.args.st c.args.at c.content_at-c.result c.content_at-c.ensures c.args.level c.args.bytes.now c.args.p c.args.m.now c.args.to c.args.out.now c.args.work.now c.args.strs.now c.requires.ready.source (run_known c.args.tape.now c.args.st c.args.at c.content_at-c.result c.content_at-c.ensures c.requires.at_in_bounds.1 c.if-c-eq0.false) c.if-c-eq0.false c.in_ok-first.first c.in_ok-first.ensures c.put_content-2.ensures
+    run_made c.args.tape.now c.args.st c.args.at c.content_at-c.result c.content_at-c.ensures c.args.level c.args.bytes.now c.args.p c.args.m.now c.args.to c.args.out.now c.args.work.now c.args.strs.now c.requires.ready.source (run_known c.args.tape.now c.args.st c.args.at c.content_at-c.result c.content_at-c.ensures c.requires.at_in_bounds.1 (eqb-false _ _ (sym c.is_plain.ensures ∙ c.if-is_plain.false))) (eqb-false _ _ (sym c.is_plain.ensures ∙ c.if-is_plain.false)) c.in_ok-first.first c.in_ok-first.ensures c.put_content-2.ensures
 
 pub graft_segment-overflow_mul-place : goal.graft_segment-overflow_mul-place
 graft_segment-overflow_mul-place t c =

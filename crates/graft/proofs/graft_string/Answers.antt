@@ -1,3 +1,7 @@
+use Rattle.std.proofs.Common.{ap}
+use Rattle.records.specs.Uses.{use_number}
+use Rattle.records.specs.UseNumbers.{number_same}
+use Rattle.records.specs.declared.Use.TheVariants.{Str, OptStr}
 use Rattle.graft.specs.Fields.{string_known, optional_known, id_string, id_optional, id_missing, id_none}
 use Rattle.graft.specs.Answers.{told_nothing}
 use Rattle.graft.proofs.graft_string.Goals as goal
@@ -8,30 +12,31 @@ graft_str-requires c =
       source = c.requires.source;
       indexed = c.requires.indexed;
       good = c.requires.good;
-      id_lt_strings = (string_known c.args.st c.args.usage c.args.id 0 c.requires.id_value.0 c.if-usage-eq1.true, c.requires.id_value.1, c.requires.id_value.2);
+      id_lt_strings = (string_known c.args.st (use_number c.args.usage) c.args.id 0 c.requires.id_value.0 (ap use_number c.in-Str.is), c.requires.id_value.1, c.requires.id_value.2);
     }
 
-pub returns-then-usage-eq1 : goal.returns-then-usage-eq1
-returns-then-usage-eq1 c =
-    λ out. id_string c.args.tape.now c.args.bytes.now c.args.p c.args.m.now out c.args.work.now c.args.strs.now c.args.usage c.args.id c.if-usage-eq1.true (c.graft_str.ensures out)
+pub returns-in-Str : goal.returns-in-Str
+returns-in-Str c =
+    λ out. id_string c.args.tape.now c.args.bytes.now c.args.p c.args.m.now out c.args.work.now c.args.strs.now (use_number c.args.usage) c.args.id (ap use_number c.in-Str.is) (c.graft_str.ensures out)
 
-pub returns-then-id-eq4294967295 : goal.returns-then-id-eq4294967295
-returns-then-id-eq4294967295 c =
-    λ out. id_missing c.args.tape.now c.args.bytes.now c.args.p c.args.m.now out c.args.work.now c.args.strs.now c.args.usage c.args.id (told_nothing c.requires.good.0 c.requires.good.1 c.requires.has_room out) c.if-usage-eq2.true c.if-id-eq4294967295.true
+pub returns-then-id-eq-NO_STRING : goal.returns-then-id-eq-NO_STRING
+returns-then-id-eq-NO_STRING c =
+    λ out. id_missing c.args.tape.now c.args.bytes.now c.args.p c.args.m.now out c.args.work.now c.args.strs.now (use_number c.args.usage) c.args.id (told_nothing c.requires.good.0 c.requires.good.1 c.requires.has_room out) (ap use_number c.in-OptStr.is) c.if-id-eq-NO_STRING.true
 
-pub graft_str-requires-then-usage-eq2 : goal.graft_str-requires-then-usage-eq2
-graft_str-requires-then-usage-eq2 c =
+pub graft_str-requires-else-id-eq-NO_STRING : goal.graft_str-requires-else-id-eq-NO_STRING
+graft_str-requires-else-id-eq-NO_STRING c =
     record {
       source = c.requires.source;
       indexed = c.requires.indexed;
       good = c.requires.good;
-      id_lt_strings = (optional_known c.args.st c.args.usage c.args.id 0 c.requires.id_value.0 c.if-usage-eq2.true c.if-id-eq4294967295.false, c.requires.id_value.1, c.requires.id_value.2);
+      id_lt_strings = (optional_known c.args.st (use_number c.args.usage) c.args.id 0 c.requires.id_value.0 (ap use_number c.in-OptStr.is) c.if-id-eq-NO_STRING.false, c.requires.id_value.1, c.requires.id_value.2);
     }
 
-pub returns-then-usage-eq2 : goal.returns-then-usage-eq2
-returns-then-usage-eq2 c =
-    λ out. id_optional c.args.tape.now c.args.bytes.now c.args.p c.args.m.now out c.args.work.now c.args.strs.now c.args.usage c.args.id c.if-usage-eq2.true c.if-id-eq4294967295.false (c.graft_str-then-usage-eq2.ensures out)
+pub returns-else-id-eq-NO_STRING : goal.returns-else-id-eq-NO_STRING
+returns-else-id-eq-NO_STRING c =
+    λ out. id_optional c.args.tape.now c.args.bytes.now c.args.p c.args.m.now out c.args.work.now c.args.strs.now (use_number c.args.usage) c.args.id (ap use_number c.in-OptStr.is) c.if-id-eq-NO_STRING.false (c.graft_str-else-id-eq-NO_STRING.ensures out)
 
-pub returns : goal.returns
-returns c =
-    λ out. id_none c.args.tape.now c.args.bytes.now c.args.p c.args.m.now out c.args.work.now c.args.strs.now c.args.usage c.args.id (told_nothing c.requires.good.0 c.requires.good.1 c.requires.has_room out) c.if-usage-eq1.false c.if-usage-eq2.false
+pub returns-in_default : goal.returns-in_default
+returns-in_default c =
+    λ out. id_none c.args.tape.now c.args.bytes.now c.args.p c.args.m.now out c.args.work.now c.args.strs.now (use_number c.args.usage) c.args.id (told_nothing c.requires.good.0 c.requires.good.1 c.requires.has_room out)
+    (λ e. c.in_default.not-Str (number_same c.args.usage Str e)) (λ e. c.in_default.not-OptStr (number_same c.args.usage OptStr e))

@@ -4,8 +4,8 @@ use Rattle.ids.proofs.layer_ids_ok.Goals as goal
 
 pub returns-then-contents_ids_ok : goal.returns-then-contents_ids_ok
 returns-then-contents_ids_ok c =
-    runs_answer c.args.tape.now c.args.st c.args.l c.contents_ids_ok.ensures c.if-contents_ids_ok.true c.segments_ids_ok.ensures
+    runs_answer c.args.tape.now c.args.st.now c.args.l c.contents_ids_ok.ensures c.if-contents_ids_ok.true c.segments_ids_ok.ensures
 
 pub returns-else-contents_ids_ok : goal.returns-else-contents_ids_ok
 returns-else-contents_ids_ok c =
-    c.if-contents_ids_ok.false ∙ runs_failed c.args.tape.now c.args.st c.args.l c.contents_ids_ok.ensures c.if-contents_ids_ok.false
+    c.if-contents_ids_ok.false ∙ runs_failed c.args.tape.now c.args.st.now c.args.l c.contents_ids_ok.ensures c.if-contents_ids_ok.false

@@ -8,5 +8,5 @@ use Rattle.ids.proofs.nodes_ids_ok.Goals as goal
 pub returns : goal.returns
 unfolding node_codec
 returns c =
-    range_all _ _ _ _ (λ i. node_in c.args.st (record_at node_codec c.args.tape.now (c.args.at + 49 * i))) refl (λ x b q k. search (rules, tests)) _ c.all.ensures.ran
-    ∙ run_all node_codec (node_in c.args.st) c.args.tape.now c.args.at c.args.count 49 refl
+    range_all _ _ _ _ (λ i. node_in c.args.st.now (record_at node_codec c.args.tape.now (c.args.at + 49 * i))) refl (λ x b q k. search (rules, tests)) _ c.all.ensures.ran
+    ∙ run_all node_codec (node_in c.args.st.now) c.args.tape.now c.args.at c.args.count 49 refl

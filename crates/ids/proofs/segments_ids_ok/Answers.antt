@@ -8,5 +8,5 @@ use Rattle.ids.proofs.segments_ids_ok.Goals as goal
 pub returns : goal.returns
 unfolding segment_codec
 returns c =
-    range_all _ _ _ _ (λ i. segment_in c.args.st (record_at segment_codec c.args.tape.now (c.args.at + 37 * i))) refl (λ x b q k. search (rules, tests)) _ c.all.ensures.ran
-    ∙ run_all segment_codec (segment_in c.args.st) c.args.tape.now c.args.at c.args.count 37 refl
+    range_all _ _ _ _ (λ i. segment_in c.args.st.now (record_at segment_codec c.args.tape.now (c.args.at + 37 * i))) refl (λ x b q k. search (rules, tests)) _ c.all.ensures.ran
+    ∙ run_all segment_codec (segment_in c.args.st.now) c.args.tape.now c.args.at c.args.count 37 refl

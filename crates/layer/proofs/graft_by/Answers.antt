@@ -5,8 +5,8 @@ use Rattle.layer.specs.Layered.{source_adds}
 use Rattle.layer.specs.Source.{source_few}
 use Rattle.graft.specs.declared.Plan.{Plan}
 use mathlib.Core.Path.{subst}
-use mathlib.Core.Path.{sym, ◌∙◌}
-use Prim.Native.Nat.{◌+◌, ◌-◌}
+use mathlib.Core.Path.{sym}
+use Prim.Native.Nat.{◌+◌}
 use native.Mathlib.Omega.{arith}
 use lib.ListN.{length}
 use Rattle.layer.proofs.graft_by.Goals as goal

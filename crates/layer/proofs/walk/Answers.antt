@@ -1,6 +1,5 @@
 use Rattle.layer.specs.Walked.{walk_ready, walk_low, walk_none, walk_told}
 use Rattle.layer.specs.Source.{source_readable, source_inside, source_nodes_lem}
-use Prim.Native.Nat.{◌-◌}
 use native.Mathlib.Omega.{arith}
 use Rattle.layer.proofs.walk.Goals as goal
 

@@ -12,8 +12,8 @@ returns-then-closes_unopened c =
 
 pub loop-i-preserved : goal.loop-i-preserved
 loop-i-preserved c =
-    balanced_more c.loop-i.invariant c.loop-i-test.true c.closes_unopened.ensures c.if-closes_unopened.false c.block_depth-blocks.ensures c.warichu_depth-warichu.ensures
+    balanced_more c.loop-i.invariant c.loop-i-test.true c.closes_unopened.ensures c.if-closes_unopened.false c.past-depths.ensures.block_depth c.past-depths.ensures.warichu_depth
 
 pub returns : goal.returns
 returns c =
-    balanced_done c.loop-i.invariant (omega arith) c.depths_zero.ensures
+    balanced_done c.loop-i.invariant (omega arith) c.are_zero.ensures

@@ -18,5 +18,5 @@ loop-i-preserved c =
 
 pub returns : goal.returns
 returns c =
-    let e : c.loop-i.i ≡ c.args.count = omega arith in
+    let e : c.loop-i.i ≡ c.args.nodes.count = omega arith in
     until_all _ _ _ c.requires.in_order _ refl (rw e at c.loop-i.invariant)

@@ -3,4 +3,4 @@ use Rattle.wire.specs.Loops.{Passed}
 use Rattle.reading.proofs.nodes_until.Given as goal
 
 abbrev pub invariant-loop-i : goal.invariant-loop-i
-invariant-loop-i l = Passed (ends_at l.tape l.at l.offset) l.i
+invariant-loop-i l = Passed (ends_at l.tape l.nodes.at l.offset) l.i

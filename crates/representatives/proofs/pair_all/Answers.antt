@@ -1,13 +1,10 @@
-use Rattle.std.proofs.Common.{refl, ◌∙◌, arith}
-use Rattle.representatives.specs.Pairs.{paired_none, paired_next, paired_index}
+use Rattle.std.proofs.Common.{refl, ◌∙◌, arith, rules}
+use Rattle.representatives.specs.Pairs.{paired_none, paired_next}
 use Rattle.representatives.specs.Ordered.{ordered_later, ordered_all}
 use Rattle.representatives.proofs.pair_all.Goals as goal
 
 pub loop-id-init : goal.loop-id-init
-loop-id-init c = (refl, refl, omega arith, paired_none c.requires.pairs (omega (arith, c.requires.row_len.0)), c.requires.ordered)
-
-pub string_length-requires : goal.string_length-requires
-string_length-requires c = record { of_tape = c.requires.resolvable.sides.store; id_lt_strings = c.loop-id-test.true }
+loop-id-init c = (refl, refl, omega arith, paired_none c.requires.pairs, c.requires.ordered)
 
 pub loop-id-preserved-then-string_length-least : goal.loop-id-preserved-then-string_length-least
 loop-id-preserved-then-string_length-least c =
@@ -28,9 +25,8 @@ pair_string-m-requires c =
     let inv = c.loop-id.invariant in
     let paired = inv.3 in
     let few = c.requires.row_len in record {
-      resolvable = paired_index paired c.requires.resolvable;
       row = paired.rising;
-      m_in_bounds = (omega (arith, inv.0, few, paired.few), c.loop-id-test.true);
+      m_in_bounds = (omega (arith, inv.0, few, paired.few), c.loop-id-test.true, search rules);
       n_bound = (omega (arith, few), omega (arith, few, inv.1));
       pairs = paired.pairs;
       ordered = inv.4;
@@ -40,7 +36,7 @@ pub loop-id-preserved : goal.loop-id-preserved
 loop-id-preserved c =
     let inv = c.loop-id.invariant in
     let paired = c.pair_string-m in
-    (paired.auto.row ∙ inv.0, paired.auto.words ∙ inv.1, omega arith, paired_next inv.3 paired.ensures.paired, paired.ensures.ordered_2)
+    (paired.auto.row ∙ inv.0, paired.auto.words ∙ inv.1, omega arith, paired_next inv.3.few paired.ensures.paired, paired.ensures.ordered_2)
 
 pub shape_of-row : goal.shape_of-row
 shape_of-row c = c.loop-id.invariant.0

@@ -1,5 +1,4 @@
-use Rattle.std.specs.Prelude.{◌≡◌, ◌≤◌, ◌++◌, length}
-use Rattle.strings.specs.Starts.{store_in}
+use Rattle.std.specs.Prelude.{◌≡◌, ◌≤◌, length}
 use Rattle.representatives.specs.Pairs.{Paired}
 use Rattle.representatives.specs.Ordered.{Ordered}
 use Rattle.representatives.proofs.pair_all.Given as goal
@@ -8,5 +7,5 @@ abbrev pub invariant-loop-id : goal.invariant-loop-id
 invariant-loop-id l = (length l.row ≡ length l.initial.row)
     × (length l.words ≡ length l.initial.words)
     × (l.n ≤ l.room)
-    × Paired (store_in l.tape (l.old ++ l.new)) l.st.totals.strings 1024 l.initial.row l.row l.m l.n l.words
+    × Paired l.strings l.row l.m l.n l.words
     × Ordered l.words l.n l.id

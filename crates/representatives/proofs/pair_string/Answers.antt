@@ -1,5 +1,4 @@
 use Rattle.std.proofs.Common.{refl, sym, ◌∙◌, arith}
-use Rattle.strings.specs.Shown.{shown_str}
 use Rattle.representatives.specs.Pairs.{pairs_put, paired_known, paired_new}
 use Rattle.representatives.specs.Ordered.{ordered_put}
 use Rattle.representatives.proofs.pair_string.Goals as goal
@@ -7,12 +6,12 @@ use Rattle.representatives.proofs.pair_string.Goals as goal
 pub put_pair-requires : goal.put_pair-requires
 put_pair-requires c = record {
   n_bound = c.requires.n_bound;
-  representative_bound = omega (arith, c.in-Some.ensures.0, c.well_formed, c.ranges);
+  representative_bound = omega (arith, c.in-Some.ensures.0, c.requires.m_in_bounds.2);
 }
 
 pub returns-in-Some : goal.returns-in-Some
 returns-in-Some c =
-    let own = c.resolve_str-s.ensures ∙ shown_str c.requires.resolvable.sides _ c.requires.m_in_bounds.1 in
+    let own = c.resolve_str.ensures.resolved in
     let put = c.put_pair.ensures in
     let room = c.requires.n_bound.1 in record {
       paired = paired_known (pairs_put _ _ _ _ room c.requires.pairs (sym own ∙ sym c.in-Some.ensures.1) put) c.requires.row;
@@ -22,7 +21,7 @@ returns-in-Some c =
 pub put_pair-requires-2 : goal.put_pair-requires-2
 put_pair-requires-2 c = record {
   n_bound = c.requires.n_bound;
-  representative_bound = omega (arith, c.requires.m_in_bounds.1, c.well_formed, c.ranges);
+  representative_bound = omega (arith, c.requires.m_in_bounds);
 }
 
 pub returns : goal.returns

@@ -9,6 +9,6 @@ pub returns : goal.returns
 unfolding test_at node_codec
 returns c =
     let t = c.args.tape.now in
-    let at = c.args.at in
+    let at = c.args.nodes.at in
     range_any _ _ _ _ (test_at node_codec is_ruby t at) refl (λ x b q k. search (rules, tests)) _ c.any.ensures.ran
-    ∙ sym (any-records_at node_codec is_ruby t at c.args.count)
+    ∙ sym (any-records_at node_codec is_ruby t at c.args.nodes.count)

@@ -14,8 +14,8 @@ pub overflow_mul-n : goal.overflow_mul-n
 overflow_mul-n c =
     omega arith
 
-pub overflow_add-at : goal.overflow_add-at
-overflow_add-at c =
+pub overflow_add-nodes : goal.overflow_add-nodes
+overflow_add-nodes c =
     omega arith
 
 pub asks_target-requires : goal.asks_target-requires
@@ -25,7 +25,7 @@ asks_target-requires c =
 pub returns-then-asks_target : goal.returns-then-asks_target
 unfolding asks_at
 returns-then-asks_target c =
-    last_here (asks_at c.args.from c.args.tape.now c.args.at) c.loop-n.n c.loop-n-test.true (sym c.asks_target.ensures ∙ c.if-asks_target.true) ∙ c.loop-n.invariant.1
+    last_here (asks_at c.args.from c.args.tape.now c.args.nodes.at) c.loop-n.n c.loop-n-test.true (sym c.asks_target.ensures ∙ c.if-asks_target.true) ∙ c.loop-n.invariant.1
 
 pub overflow_sub-n-in-loop-n : goal.overflow_sub-n-in-loop-n
 overflow_sub-n-in-loop-n c =
@@ -38,8 +38,8 @@ loop-n-smaller c =
 pub loop-n-preserved : goal.loop-n-preserved
 unfolding asks_at
 loop-n-preserved c =
-    (omega arith, last_before (asks_at c.args.from c.args.tape.now c.args.at) c.loop-n.n c.loop-n-test.true (sym c.asks_target.ensures ∙ c.if-asks_target.false) ∙ c.loop-n.invariant.1)
+    (omega arith, last_before (asks_at c.args.from c.args.tape.now c.args.nodes.at) c.loop-n.n c.loop-n-test.true (sym c.asks_target.ensures ∙ c.if-asks_target.false) ∙ c.loop-n.invariant.1)
 
 pub returns : goal.returns
 returns c =
-    let e : c.loop-n.n ≡ 0 = omega arith in last_none (asks_at c.args.from c.args.tape.now c.args.at) ∙ sym (ap (λ m. count_to_last m (asks_at c.args.from c.args.tape.now c.args.at)) e) ∙ c.loop-n.invariant.1
+    let e : c.loop-n.n ≡ 0 = omega arith in last_none (asks_at c.args.from c.args.tape.now c.args.nodes.at) ∙ sym (ap (λ m. count_to_last m (asks_at c.args.from c.args.tape.now c.args.nodes.at)) e) ∙ c.loop-n.invariant.1

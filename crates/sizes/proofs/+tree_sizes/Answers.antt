@@ -1,6 +1,7 @@
 use Rattle.std.proofs.Common.{sym, ap, ◌∙◌, arith}
 use Rattle.records.specs.Values.{body_at, content_of}
 use Rattle.memo.specs.Memo.{is_there}
+use Rattle.sizes.specs.Words.{words_of}
 use Rattle.sizes.specs.Lone.{lone_inside, lone_over, lone_then}
 use Rattle.sizes.specs.Known.{known_adds, known_note, text_adds}
 use Rattle.sizes.specs.Answers.{contents_over, contents_empty, contents_then, segments_over, segments_empty, segments_then, segment_last, segment_below}
@@ -13,11 +14,11 @@ use Rattle.sizes.proofs.+tree_sizes.Goals as goal
 
 pub body_sizes-returns-in_err-u : goal.body_sizes-returns-in_err-u
 body_sizes-returns-in_err-u t c =
-    (c.from_residual.ensures ∙ adding_over c.loop-j.invariant.0 c.loop-j-test.true (place_read c.args.room c.loop-j.u (inner_adds c.args.level c.args.tape.now c.args.st) c.args.tape.now c.args.st (body_at c.args.tape.now c.args.at) c.loop-j.j c.field_at-f.result c.field_at-f.ensures c.in_err-u.ensures.0) ∙ ap (plus c.args.room c.args.t) (body_sum c.args.level c.args.tape.now c.args.st (body_at c.args.tape.now c.args.at)), c.in_err-u.ensures.1)
+    (c.from_residual.ensures ∙ adding_over c.loop-j.invariant.0 c.loop-j-test.true (place_read c.args.room c.loop-j.u (inner_adds c.args.level c.args.tape.now c.args.st) c.args.tape.now c.args.st (body_at c.args.tape.now c.args.at) c.loop-j.j (words_of c.field_at-f.result) c.field_at-f.ensures c.in_err-u.ensures.0) ∙ ap (plus c.args.room c.args.t) (body_sum c.args.level c.args.tape.now c.args.st (body_at c.args.tape.now c.args.at)), c.in_err-u.ensures.1)
 
 pub body_sizes-loop-j-preserved : goal.body_sizes-loop-j-preserved
 body_sizes-loop-j-preserved t c =
-    (adding_more c.loop-j.invariant.0 c.loop-j-test.true (place_read c.args.room c.loop-j.u (inner_adds c.args.level c.args.tape.now c.args.st) c.args.tape.now c.args.st (body_at c.args.tape.now c.args.at) c.loop-j.j c.field_at-f.result c.field_at-f.ensures c.in_ok-u.ensures.0), c.in_ok-u.ensures.1, c.field_sizes.auto.memo ∙ c.loop-j.invariant.2)
+    (adding_more c.loop-j.invariant.0 c.loop-j-test.true (place_read c.args.room c.loop-j.u (inner_adds c.args.level c.args.tape.now c.args.st) c.args.tape.now c.args.st (body_at c.args.tape.now c.args.at) c.loop-j.j (words_of c.field_at-f.result) c.field_at-f.ensures c.in_ok-u.ensures.0), c.in_ok-u.ensures.1, c.field_sizes.auto.memo ∙ c.loop-j.invariant.2)
 
 pub body_sizes-returns : goal.body_sizes-returns
 body_sizes-returns t c =
@@ -39,21 +40,21 @@ pub content_run_sizes-returns : goal.content_run_sizes-returns
 content_run_sizes-returns t c =
     (contents_then c.args.room c.args.t (inner_adds c.args.level c.args.tape.now c.args.st) c.args.tape.now c.args.st c.args.start c.args.len c.content_count-n.result c.content_count-n.ensures c.in_ok-u.ensures _ c.content_place-at.ensures c.contents_walk.ensures.0, c.contents_walk.ensures.1)
 
-pub content_sizes-returns-then-c-eq0 : goal.content_sizes-returns-then-c-eq0
-content_sizes-returns-then-c-eq0 t c =
-    (content_plain c.args.room c.args.t (inner_adds c.args.level c.args.tape.now c.args.st) c.args.tape.now c.args.st (content_of c.content_at-c.result) c.content_at-c.ensures c.if-c-eq0.true c.with_added.ensures, c.requires.of_tape.1)
+pub content_sizes-returns-then-is_plain : goal.content_sizes-returns-then-is_plain
+content_sizes-returns-then-is_plain t c =
+    (content_plain c.args.room c.args.t (inner_adds c.args.level c.args.tape.now c.args.st) c.args.tape.now c.args.st (content_of c.content_at-c.result) c.content_at-c.ensures (sym c.is_plain.ensures ∙ c.if-is_plain.true) c.with_added.ensures, c.requires.of_tape.1)
 
 pub content_sizes-returns-then-c-ne1 : goal.content_sizes-returns-then-c-ne1
 content_sizes-returns-then-c-ne1 t c =
-    (content_segments_lem c.args.room c.args.t (inner_adds c.args.level c.args.tape.now c.args.st) c.args.tape.now c.args.st (content_of c.content_at-c.result) c.content_at-c.ensures c.if-c-eq0.false c.segment_run_sizes.ensures.0, c.segment_run_sizes.ensures.1)
+    (content_segments_lem c.args.room c.args.t (inner_adds c.args.level c.args.tape.now c.args.st) c.args.tape.now c.args.st (content_of c.content_at-c.result) c.content_at-c.ensures (sym c.is_plain.ensures ∙ c.if-is_plain.false) c.segment_run_sizes.ensures.0, c.segment_run_sizes.ensures.1)
 
 pub content_sizes-returns-then-place-eq0 : goal.content_sizes-returns-then-place-eq0
 content_sizes-returns-then-place-eq0 t c =
-    (content_segments_lem c.args.room c.args.t (inner_adds c.args.level c.args.tape.now c.args.st) c.args.tape.now c.args.st (content_of c.content_at-c.result) c.content_at-c.ensures c.if-c-eq0.false c.segment_run_sizes-then-place-eq0.ensures.0, c.segment_run_sizes-then-place-eq0.ensures.1)
+    (content_segments_lem c.args.room c.args.t (inner_adds c.args.level c.args.tape.now c.args.st) c.args.tape.now c.args.st (content_of c.content_at-c.result) c.content_at-c.ensures (sym c.is_plain.ensures ∙ c.if-is_plain.false) c.segment_run_sizes-then-place-eq0.ensures.0, c.segment_run_sizes-then-place-eq0.ensures.1)
 
 pub content_sizes-returns-in_err-u : goal.content_sizes-returns-in_err-u
 content_sizes-returns-in_err-u t c =
-    (c.from_residual.ensures ∙ content_segments_lem c.args.room c.args.t (inner_adds c.args.level c.args.tape.now c.args.st) c.args.tape.now c.args.st (content_of c.content_at-c.result) c.content_at-c.ensures c.if-c-eq0.false (lone_over c.args.room c.args.t (inner_adds c.args.level c.args.tape.now c.args.st) c.args.tape.now c.args.st c.content_at-c.result.first c.content_at-c.result.second c.lone_place-place.result c.if-c-ne1.false c.lone_place-place.ensures c.if-place-eq0.false c.in_err-u.ensures), c.requires.of_tape.1)
+    (c.from_residual.ensures ∙ content_segments_lem c.args.room c.args.t (inner_adds c.args.level c.args.tape.now c.args.st) c.args.tape.now c.args.st (content_of c.content_at-c.result) c.content_at-c.ensures (sym c.is_plain.ensures ∙ c.if-is_plain.false) (lone_over c.args.room c.args.t (inner_adds c.args.level c.args.tape.now c.args.st) c.args.tape.now c.args.st c.content_at-c.result.first c.content_at-c.result.second c.lone_place-place.result c.if-c-ne1.false c.lone_place-place.ensures c.if-place-eq0.false c.in_err-u.ensures), c.requires.of_tape.1)
 
 pub content_sizes-segment_sizes-requires : goal.content_sizes-segment_sizes-requires
 content_sizes-segment_sizes-requires t c =
@@ -61,7 +62,7 @@ content_sizes-segment_sizes-requires t c =
 
 pub content_sizes-returns : goal.content_sizes-returns
 content_sizes-returns t c =
-    (content_segments_lem c.args.room c.args.t (inner_adds c.args.level c.args.tape.now c.args.st) c.args.tape.now c.args.st (content_of c.content_at-c.result) c.content_at-c.ensures c.if-c-eq0.false (lone_then c.args.room c.args.t (inner_adds c.args.level c.args.tape.now c.args.st) c.args.tape.now c.args.st c.content_at-c.result.first c.content_at-c.result.second c.lone_place-place.result c.if-c-ne1.false c.lone_place-place.ensures c.if-place-eq0.false c.in_ok-u.ensures c.segment_sizes.ensures.0), c.segment_sizes.ensures.1)
+    (content_segments_lem c.args.room c.args.t (inner_adds c.args.level c.args.tape.now c.args.st) c.args.tape.now c.args.st (content_of c.content_at-c.result) c.content_at-c.ensures (sym c.is_plain.ensures ∙ c.if-is_plain.false) (lone_then c.args.room c.args.t (inner_adds c.args.level c.args.tape.now c.args.st) c.args.tape.now c.args.st c.content_at-c.result.first c.content_at-c.result.second c.lone_place-place.result c.if-c-ne1.false c.lone_place-place.ensures c.if-place-eq0.false c.in_ok-u.ensures c.segment_sizes.ensures.0), c.segment_sizes.ensures.1)
 
 pub contents_walk-returns-in_err-next : goal.contents_walk-returns-in_err-next
 unfolding content_from
@@ -88,18 +89,6 @@ pub contents_walk-returns : goal.contents_walk-returns
 contents_walk-returns t c =
     (adding_all c.loop-i.invariant.0 c.loop-i-test.false ∙ ap (plus c.args.room c.args.t) (contents_from c.args.tape.now c.args.at c.args.count (inner_adds c.args.level c.args.tape.now c.args.st) c.args.st), c.loop-i.invariant.1)
 
-pub field_sizes-returns-in-3 : goal.field_sizes-returns-in-3
-field_sizes-returns-in-3 t c =
-    (used_contents c.args.room c.args.t (inner_adds c.args.level c.args.tape.now c.args.st) c.args.tape.now c.args.st c.args.f c.in-3.is c.content_run_sizes.ensures.0, c.content_run_sizes.ensures.1)
-
-pub field_sizes-returns-in-5 : goal.field_sizes-returns-in-5
-field_sizes-returns-in-5 t c =
-    (used_segments c.args.room c.args.t (inner_adds c.args.level c.args.tape.now c.args.st) c.args.tape.now c.args.st c.args.f (λ e. omega arith) c.in-5.is c.segment_run_sizes.ensures.0, c.segment_run_sizes.ensures.1)
-
-pub field_sizes-returns-in_default : goal.field_sizes-returns-in_default
-field_sizes-returns-in_default t c =
-    (used_string c.args.room c.args.t (inner_adds c.args.level c.args.tape.now c.args.st) c.args.tape.now c.args.st c.args.f (λ e. omega arith) (λ e. omega arith) c.string_sizes.ensures, c.requires.of_tape.1)
-
 pub segment_run_sizes-returns-in_err-u : goal.segment_run_sizes-returns-in_err-u
 segment_run_sizes-returns-in_err-u t c =
     (c.from_residual.ensures ∙ segments_over c.args.room c.args.t (inner_adds c.args.level c.args.tape.now c.args.st) c.args.tape.now c.args.st c.args.start c.args.len c.segment_count-n.result c.segment_count-n.ensures c.in_err-u.ensures, c.requires.of_tape.1)
@@ -120,9 +109,9 @@ pub segment_sizes-returns-then-level-eq0 : goal.segment_sizes-returns-then-level
 segment_sizes-returns-then-level-eq0 t c =
     (segment_last c.args.room c.args.t c.args.tape.now c.args.st c.args.at c.args.level c.requires.kept c.if-level-eq0.true, c.requires.of_tape.1)
 
-pub segment_sizes-returns-then-tape-at-eq0 : goal.segment_sizes-returns-then-tape-at-eq0
-segment_sizes-returns-then-tape-at-eq0 t c =
-    (text_adds c.args.room c.args.t c.args.tape.now c.args.st c.args.at c.args.level c.if-level-eq0.false c.if-tape-at-eq0.true c.with_added.ensures, c.requires.of_tape.1)
+pub segment_sizes-returns-then-tape-at-eq-TEXT : goal.segment_sizes-returns-then-tape-at-eq-TEXT
+segment_sizes-returns-then-tape-at-eq-TEXT t c =
+    (text_adds c.args.room c.args.t c.args.tape.now c.args.st c.args.at c.args.level c.if-level-eq0.false c.if-tape-at-eq-TEXT.true c.with_added.ensures, c.requires.of_tape.1)
 
 pub segment_sizes-with_entry-requires : goal.segment_sizes-with_entry-requires
 segment_sizes-with_entry-requires t c =

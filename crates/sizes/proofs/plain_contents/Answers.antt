@@ -6,7 +6,7 @@ use Rattle.sizes.specs.Plain.{is_plain}
 use Rattle.sizes.proofs.plain_contents.Goals as goal
 
 pub returns : goal.returns
-unfolding content_codec
+unfolding content_codec is_plain
 returns c =
     range_all _ _ _ _ (λ i. is_plain (record_at content_codec c.args.tape.now (c.args.at + 10 * i))) refl (λ x b q k. search (rules, tests)) _ c.all.ensures.ran
     ∙ run_all content_codec is_plain c.args.tape.now c.args.at c.args.count 10 refl

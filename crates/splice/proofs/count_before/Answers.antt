@@ -7,4 +7,4 @@ use Rattle.splice.proofs.count_before.Goals as goal
 pub returns : goal.returns
 returns g c =
     let k = g.K.Spliced in
-    c.count_part.ensures ∙ ap length (part_before k.located (window_value c.args.w) (records_at k.codec c.args.tape.now c.args.at c.args.count))
+    c.count_part.ensures ∙ ap length (part_before k.located (window_value c.args.w) (records_at k.codec c.args.tape.now c.args.run.at c.args.run.count))

@@ -10,5 +10,5 @@ pub returns : goal.returns
 returns g c =
     let k = g.K.Spliced in
     let w = window_value c.args.w in
-    let run = records_at k.codec c.args.tape.now c.args.at c.args.count in
+    let run = records_at k.codec c.args.tape.now c.args.run.at c.args.run.count in
     c.count_part.ensures ∙ ap length (part_behind k.located w run) ∙ length-map (kept_behind k.located w run) (k.located.moved w)

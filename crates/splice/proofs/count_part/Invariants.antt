@@ -7,5 +7,5 @@ use Rattle.splice.proofs.count_part.Given as goal
 abbrev pub invariant-loop-i : goal.invariant-loop-i
 invariant-loop-i g l = record {
   most : l.n ≤ l.i;
-  counted : l.n ≡ length (part_of g.K.Spliced.located (window_value l.w) l.part (records_at g.K.Spliced.codec l.tape l.at l.i));
+  counted : l.n ≡ length (part_of g.K.Spliced.located (window_value l.w) l.part (records_at g.K.Spliced.codec l.tape l.run.at l.i));
 }

@@ -9,10 +9,10 @@ use Rattle.splice.proofs.put_before.Goals as goal
 pub put_part-requires-clause-part_in_bounds : goal.put_part-requires-clause-part_in_bounds
 put_part-requires-clause-part_in_bounds g c =
     let k = g.K.Spliced in
-    before_room k.located (window_value c.args.w) (records_at k.codec c.args.tape.now c.args.at c.args.count) c.args.to k.SIZE _ c.requires.part_in_bounds
+    before_room k.located (window_value c.args.w) (records_at k.codec c.args.tape.now c.args.run.at c.args.run.count) c.args.to k.SIZE _ c.requires.part_in_bounds
 
 pub returns : goal.returns
 returns g c =
     let k = g.K.Spliced in
     c.put_part.ensures
-    ∙ ap (λ x. overwrite c.args.out.now c.args.to (records_bytes k.codec x)) (part_before k.located (window_value c.args.w) (records_at k.codec c.args.tape.now c.args.at c.args.count))
+    ∙ ap (λ x. overwrite c.args.out.now c.args.to (records_bytes k.codec x)) (part_before k.located (window_value c.args.w) (records_at k.codec c.args.tape.now c.args.run.at c.args.run.count))

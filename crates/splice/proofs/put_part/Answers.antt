@@ -6,20 +6,20 @@ use Rattle.splice.proofs.put_part.Goals as goal
 use Rattle.splice.proofs.put_part.Goals.{then-is_in, else-is_in}
 
 pub loop-i-init : goal.loop-i-init
-loop-i-init g c = put_first g.met.K.Spliced.kind (window_value c.args.w) c.args.part c.args.tape.now c.args.at c.args.out.now c.args.to
+loop-i-init g c = put_first g.met.K.Spliced.kind (window_value c.args.w) c.args.part c.args.tape.now c.args.run.at c.args.out.now c.args.to
 
 pub put-requires : goal.put-requires
 put-requires g c =
-    let e = ap (λ z. c.args.at + z * c.loop-i.i) c.SIZE.ensures in (
-      omega (arith, place_in c.args.at g.K.Spliced.SIZE c.loop-i.i c.args.count _ e c.loop-i-test.true, c.requires.run_in_bounds),
-      put_room g.met.K.Spliced.kind (window_value c.args.w) c.args.part c.args.tape.now c.args.at c.args.out.now c.args.to c.loop-i.invariant c.args.count c.loop-i-test.true
+    let e = ap (λ z. c.args.run.at + z * c.loop-i.i) c.SIZE.ensures in (
+      omega (arith, place_in c.args.run.at g.K.Spliced.SIZE c.loop-i.i c.args.run.count _ e c.loop-i-test.true, c.requires.run_in_bounds),
+      put_room g.met.K.Spliced.kind (window_value c.args.w) c.args.part c.args.tape.now c.args.run.at c.args.out.now c.args.to c.loop-i.invariant c.args.run.count c.loop-i-test.true
           c.requires.part_in_bounds _ e (sym c.is_in.ensures ∙ c.if-is_in.true),
     )
 
 pub overflow_add-next : goal.overflow_add-next
 overflow_add-next g c =
-    let room = put_room g.met.K.Spliced.kind (window_value c.args.w) c.args.part c.args.tape.now c.args.at c.args.out.now c.args.to c.loop-i.invariant c.args.count c.loop-i-test.true
-    c.requires.part_in_bounds _ (ap (λ z. c.args.at + z * c.loop-i.i) c.SIZE.ensures) (sym c.is_in.ensures ∙ c.if-is_in.true) in
+    let room = put_room g.met.K.Spliced.kind (window_value c.args.w) c.args.part c.args.tape.now c.args.run.at c.args.out.now c.args.to c.loop-i.invariant c.args.run.count c.loop-i-test.true
+    c.requires.part_in_bounds _ (ap (λ z. c.args.run.at + z * c.loop-i.i) c.SIZE.ensures) (sym c.is_in.ensures ∙ c.if-is_in.true) in
     omega (arith, room, c.SIZE-next.ensures, c.well_formed)
 
 pub loop-i-preserved : goal.loop-i-preserved
@@ -27,18 +27,18 @@ loop-i-preserved g c =
     let k = g.met.K.Spliced.kind in
     let w = window_value c.args.w in
     let t = c.args.tape.now in
-    let q = c.args.at + c.SIZE.result * c.loop-i.i in
-    let e : q ≡ c.args.at + g.K.Spliced.SIZE * c.loop-i.i = ap (λ z. c.args.at + z * c.loop-i.i) c.SIZE.ensures in
+    let q = c.args.run.at + c.SIZE.result * c.loop-i.i in
+    let e : q ≡ c.args.run.at + g.K.Spliced.SIZE * c.loop-i.i = ap (λ z. c.args.run.at + z * c.loop-i.i) c.SIZE.ensures in
     elim c.if-is_in.branch [
       | then-is_in v ↦
           let p = item_put k w c.args.part t q c.loop-i.out c.loop-i.next (sym c.is_in.ensures ∙ v.if-is_in.true) (v.out-is ∙ v.put.ensures) refl in
-          put_more k w c.args.part t c.args.at c.args.out.now c.args.to c.loop-i.invariant c.args.count c.loop-i-test.true c.requires.part_in_bounds q e
+          put_more k w c.args.part t c.args.run.at c.args.out.now c.args.to c.loop-i.invariant c.args.run.count c.loop-i-test.true c.requires.part_in_bounds q e
           (v.next-is ∙ ap (λ z. c.loop-i.next + z) v.SIZE-next.ensures ∙ p.0) p.1
       | else-is_in v ↦
           let p = item_none k w c.args.part t q c.loop-i.out c.loop-i.next (sym c.is_in.ensures ∙ v.if-is_in.false) in
-          put_more k w c.args.part t c.args.at c.args.out.now c.args.to c.loop-i.invariant c.args.count c.loop-i-test.true c.requires.part_in_bounds q e
+          put_more k w c.args.part t c.args.run.at c.args.out.now c.args.to c.loop-i.invariant c.args.run.count c.loop-i-test.true c.requires.part_in_bounds q e
           (v.next-is ∙ p.0) (v.out-is ∙ p.1)
     ]
 
 pub returns : goal.returns
-returns g c = put_last g.met.K.Spliced.kind (window_value c.args.w) c.args.part c.args.tape.now c.args.at c.args.out.now c.args.to c.loop-i.invariant c.args.count (omega arith)
+returns g c = put_last g.met.K.Spliced.kind (window_value c.args.w) c.args.part c.args.tape.now c.args.run.at c.args.out.now c.args.to c.loop-i.invariant c.args.run.count (omega arith)

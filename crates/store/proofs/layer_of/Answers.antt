@@ -1,10 +1,6 @@
-use Rattle.std.proofs.Common.{refl, sym, ◌∙◌, arith}
+use Rattle.std.proofs.Common.{sym, ◌∙◌, arith}
 use Rattle.store.specs.Pools.{layer_here, layer_below, layer_none}
 use Rattle.store.proofs.layer_of.Goals as goal
-
-pub loop-k-init : goal.loop-k-init
-loop-k-init c =
-    refl
 
 pub returns-then-starts-k : goal.returns-then-starts-k
 returns-then-starts-k c =

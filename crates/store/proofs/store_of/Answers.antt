@@ -10,30 +10,6 @@ pub next_layer-l-requires : goal.next_layer-l-requires
 next_layer-l-requires c =
     filling_inside c.loop-i.invariant c.requires c.loop-i-test.true
 
-pub offset_bounds-strings-i : goal.offset_bounds-strings-i
-offset_bounds-strings-i c =
-    omega (arith, c.requires.few)
-
-pub bounds-strings-i : goal.bounds-strings-i
-bounds-strings-i c =
-    omega (arith, c.requires.few)
-
-pub offset_bounds-contents-i : goal.offset_bounds-contents-i
-offset_bounds-contents-i c =
-    omega (arith, c.requires.few)
-
-pub bounds-contents-i : goal.bounds-contents-i
-bounds-contents-i c =
-    omega (arith, c.requires.few)
-
-pub offset_bounds-segments-i : goal.offset_bounds-segments-i
-offset_bounds-segments-i c =
-    omega (arith, c.requires.few)
-
-pub bounds-segments-i : goal.bounds-segments-i
-bounds-segments-i c =
-    omega (arith, c.requires.few)
-
 pub with_layer-totals-requires : goal.with_layer-totals-requires
 with_layer-totals-requires c =
     filling_fits c.loop-i.invariant c.requires c.loop-i-test.true c.next_layer-l.ensures

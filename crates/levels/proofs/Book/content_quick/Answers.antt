@@ -3,12 +3,12 @@ use Rattle.levels.specs.Below.{content_below, content_plain, content_segments_le
 use Rattle.records.specs.Values.{content_of}
 use Rattle.levels.proofs.Book.content_quick.Goals as goal
 
-pub returns-then-c-eq0 : goal.returns-then-c-eq0
-returns-then-c-eq0 c =
+pub returns-then-is_plain : goal.returns-then-is_plain
+returns-then-is_plain c =
     let content = content_of c.content_at-c.result in
-    λ e. sym (content_plain c.args.self.now.tape.now c.args.self.now.st.now c.args.level content c.if-c-eq0.true ∙ ap (content_below c.args.self.now.tape.now c.args.self.now.st.now c.args.level) c.content_at-c.ensures)
+    λ e. sym (content_plain c.args.self.now.tape.now c.args.self.now.st.now c.args.level content (sym c.is_plain.ensures ∙ c.if-is_plain.true) ∙ ap (content_below c.args.self.now.tape.now c.args.self.now.st.now c.args.level) c.content_at-c.ensures)
 
 pub returns : goal.returns
 returns c =
     let content = content_of c.content_at-c.result in
-    λ e. sym (content_segments_lem c.args.self.now.tape.now c.args.self.now.st.now c.args.level content true c.if-c-eq0.false (sym (c.segments_quick.ensures e)) ∙ ap (content_below c.args.self.now.tape.now c.args.self.now.st.now c.args.level) c.content_at-c.ensures)
+    λ e. sym (content_segments_lem c.args.self.now.tape.now c.args.self.now.st.now c.args.level content true (sym c.is_plain.ensures ∙ c.if-is_plain.false) (sym (c.segments_quick.ensures e)) ∙ ap (content_below c.args.self.now.tape.now c.args.self.now.st.now c.args.level) c.content_at-c.ensures)

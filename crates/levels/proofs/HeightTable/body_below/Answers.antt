@@ -1,6 +1,7 @@
-use Rattle.std.proofs.Common.{◌∙◌, arith}
+use Rattle.std.proofs.Common.{ap, ◌∙◌, arith}
 use Rattle.levels.specs.Below.{word_read, body_failed, body_passed, body_rest}
 use Rattle.records.specs.Values.{body_at}
+use Rattle.records.specs.Uses.{use_number}
 use Rattle.wire.specs.Loops.{passed_none, passed_more}
 use Rattle.levels.proofs.HeightTable.body_below.Goals as goal
 
@@ -8,18 +9,18 @@ pub loop-i-init : goal.loop-i-init
 loop-i-init c =
     passed_none _
 
-pub returns-then-usage-eq0 : goal.returns-then-usage-eq0
-returns-then-usage-eq0 c =
-    body_rest c.args.self.now.tape.now c.args.self.now.st.now c.args.level c.args.at c.loop-i.i c.uses_of-uses.ensures c.use_in-usage.ensures c.loop-i-test.true c.if-usage-eq0.true c.loop-i.invariant
+pub returns-in-Unused : goal.returns-in-Unused
+returns-in-Unused c =
+    body_rest c.args.self.now.tape.now c.args.self.now.st.now c.args.level c.args.at c.loop-i.i c.uses_of-uses.ensures c.loop-i-test.true (ap use_number c.in-Unused.is) c.loop-i.invariant
 
 pub returns-then-not-word_below : goal.returns-then-not-word_below
 returns-then-not-word_below c =
-    let failed = word_read c.args.self.now.tape.now c.args.self.now.st.now c.args.level c.args.at c.loop-i.i c.uses_of-uses.ensures c.use_in-usage.ensures c.loop-i-test.true c.word_below.ensures ∙ c.if-not-word_below.true in
+    let failed = word_read c.args.self.now.tape.now c.args.self.now.st.now c.args.level c.args.at c.loop-i.i c.uses_of-uses.ensures c.loop-i-test.true c.word_below.ensures ∙ c.if-not-word_below.true in
     body_failed c.args.self.now.tape.now c.args.self.now.st.now c.args.level (body_at c.args.self.now.tape.now c.args.at) c.loop-i.i c.loop-i-test.true failed
 
 pub loop-i-preserved : goal.loop-i-preserved
 loop-i-preserved c =
-    passed_more _ _ c.loop-i.invariant (word_read c.args.self.now.tape.now c.args.self.now.st.now c.args.level c.args.at c.loop-i.i c.uses_of-uses.ensures c.use_in-usage.ensures c.loop-i-test.true c.word_below.ensures ∙ c.if-not-word_below.false)
+    passed_more _ _ c.loop-i.invariant (word_read c.args.self.now.tape.now c.args.self.now.st.now c.args.level c.args.at c.loop-i.i c.uses_of-uses.ensures c.loop-i-test.true c.word_below.ensures ∙ c.if-not-word_below.false)
 
 pub returns : goal.returns
 returns c =

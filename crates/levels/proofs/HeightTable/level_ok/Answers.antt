@@ -1,14 +1,14 @@
 use Rattle.levels.specs.Below.{level_text, level_out, level_node}
 use Rattle.levels.proofs.HeightTable.level_ok.Goals as goal
 
-pub returns-then-self-at-lt3 : goal.returns-then-self-at-lt3
-returns-then-self-at-lt3 c =
-    level_text c.args.self.now.tape.now c.args.self.now.st.now c.args.at c.if-self-at-lt3.true
+pub returns-then-self-at-lt-NODE : goal.returns-then-self-at-lt-NODE
+returns-then-self-at-lt-NODE c =
+    level_text c.args.self.now.tape.now c.args.self.now.st.now c.args.at c.if-self-at-lt-NODE.true
 
 pub returns-then-not-level_in_range : goal.returns-then-not-level_in_range
 returns-then-not-level_in_range c =
-    level_out c.args.self.now.tape.now c.args.self.now.st.now c.args.at c.if-self-at-lt3.false c.level_in_range.ensures c.if-not-level_in_range.true
+    level_out c.args.self.now.tape.now c.args.self.now.st.now c.args.at c.if-self-at-lt-NODE.false c.level_in_range.ensures c.if-not-level_in_range.true
 
 pub returns : goal.returns
 returns c =
-    level_node c.args.self.now.tape.now c.args.self.now.st.now c.args.at c.if-self-at-lt3.false c.level_in_range.ensures c.if-not-level_in_range.false _ c.body_below.ensures
+    level_node c.args.self.now.tape.now c.args.self.now.st.now c.args.at c.if-self-at-lt-NODE.false c.level_in_range.ensures c.if-not-level_in_range.false _ c.body_below.ensures
