@@ -78,9 +78,9 @@ fn price_fitted(m: &Merging) -> Price
 }
 
 // Numbers 1 to 17, then the price; the work words are not cleared.
-fn estimate_checked(
-    book: &Stored,
-    correction: &Correction,
+fn estimate_checked<'a>(
+    book: &Stored<'a>,
+    correction: &Correction<'a>,
     work: &mut [u32],
 ) -> Result<Price, Refusal>
     ensures { checked result ≡ estimate_of (estimate (stored_value book.now) (edit_value correction.now.edit) (stored_value correction.now.reading)) }

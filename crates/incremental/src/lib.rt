@@ -15,9 +15,9 @@ use refusal::Refusal;
 use region::Book;
 
 // Numbers 1 to 18; what is not result is not cleared.
-fn merge_checked(
-    book: &Stored,
-    correction: &Correction,
+fn merge_checked<'a>(
+    book: &Stored<'a>,
+    correction: &Correction<'a>,
     outtape: &mut [u8],
     outbytes: &mut [u8],
     work: &mut [u32],
