@@ -23,25 +23,27 @@ fn put_price(rt: &impl Print, answer: Result<Price, Refusal>) -> io::Result<()> 
     }
 }
 
+// That the items of a slice are bytes is known where the slice comes in.
+fn stored<'a>(tape: &'a [u8], bytes: &'a [u8]) -> Stored<'a> {
+    Stored { tape, bytes }
+}
+
 fn show(rt: &(impl Alloc + Print), c: cases::Case) -> io::Result<()> {
     let rest = c.replacement;
     let lent = wire::u32_or_zero(rest, 0).min(16384);
     let mut work = vec![in rt.alloc(); 7u32; lent as usize]?;
     let readingtape = HEAD + wire::u32_or_zero(rest, 4) as usize;
     let readingbytes = readingtape + wire::u32_or_zero(rest, 8) as usize;
-    let book = Stored {
-        tape: c.tape,
-        bytes: c.bytes,
-    };
+    let book = stored(c.tape, c.bytes);
     let edit = Edit {
         start: c.start,
         end: c.end,
         replacement: wire::between(rest, HEAD, readingtape),
     };
-    let reading = Stored {
-        tape: wire::between(rest, readingtape, readingbytes),
-        bytes: wire::between(rest, readingbytes, rest.len()),
-    };
+    let reading = stored(
+        wire::between(rest, readingtape, readingbytes),
+        wire::between(rest, readingbytes, rest.len()),
+    );
     let price = estimate::estimate(&book, &Correction { edit, reading }, &mut work);
     rt.write_all(c.label)?;
     print!(rt; ": ")?;

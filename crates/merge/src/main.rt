@@ -5,6 +5,8 @@
 ghost use Rattle.std.specs.Prelude.{◌≡◌, ℕ, ◌+◌, ◌≤◌, List, length, take, OnOk, IfSome};
 ghost use Rattle.std.specs.Io.KnownBytes.{Appends};
 ghost use Rattle.model.specs.Runs.{asked, program, line};
+ghost use Rattle.model.specs.Merge.{stored_of};
+ghost use Rattle.books.specs.Values.{stored_value};
 ghost use Rattle.refusal.specs.Refusal.{checked};
 ghost use Rattle.output.specs.Answer.{output_of};
 ghost use Rattle.runs.specs.Input.{Whole};
@@ -15,6 +17,13 @@ use output::IncrementalOutput;
 use refusal::Refusal;
 use std::io;
 use std::io::{Read, Write};
+
+// That the items of a slice are bytes is known where the slice comes in.
+fn stored<'a>(tape: &'a [u8], bytes: &'a [u8]) -> Stored<'a>
+    ensures { stored_value result ≡ stored_of tape.now bytes.now }
+{
+    Stored { tape, bytes }
+}
 
 // The merge that an input of the right length asks for.
 fn merge_parts(
@@ -32,19 +41,19 @@ fn merge_parts(
     let newtape = replacement + wire::u32_at(input, 16) as usize;
     let newbytes = newtape + wire::u32_at(input, 20) as usize;
     let end = newbytes + wire::u32_at(input, 24) as usize;
-    let book = Stored {
-        tape: wire::between(input, runs::HEAD, oldbytes),
-        bytes: wire::between(input, oldbytes, replacement),
-    };
+    let book = stored(
+        wire::between(input, runs::HEAD, oldbytes),
+        wire::between(input, oldbytes, replacement),
+    );
     let edit = Edit {
         start: wire::u32_at(input, 8),
         end: wire::u32_at(input, 12),
         replacement: wire::between(input, replacement, newtape),
     };
-    let reading = Stored {
-        tape: wire::between(input, newtape, newbytes),
-        bytes: wire::between(input, newbytes, end),
-    };
+    let reading = stored(
+        wire::between(input, newtape, newbytes),
+        wire::between(input, newbytes, end),
+    );
     incremental::merge(
         &book,
         &Correction { edit, reading },

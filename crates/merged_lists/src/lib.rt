@@ -67,8 +67,9 @@ pub fn new_lengths(m: &Merging) -> Lengths
     let edit = m.edit;
     let w = m.window;
     let text = edit.start as usize + edit.replacement.len() + (p.text as usize - edit.end as usize);
-    let normalized =
-        w.nstart as usize + q.normalized as usize + (p.normalized as usize - w.nend as usize);
+    let normalized = w.nstart as usize
+        + q.normalized as usize
+        + (p.normalized as usize - w.nend as usize);
     let strings = m.book.bytes.len() - (p.text as usize + p.normalized as usize);
     Lengths {
         text,
@@ -228,7 +229,14 @@ pub fn put_lists(m: &Merging, k: Kept, out: &mut [u8], at: usize)
     let containersat = pairsat + 18 * k.pairs.total(q.pairs.count);
     let diagnosticsat = containersat + 13 * k.containers.total(q.containers.count);
     let count = k.diagnostics.total(q.diagnostics.count);
-    put_nodes(&Section { tape, run: p.nodes }, w, k.nodes.before, q.nodes.count, out, at);
+    put_nodes(
+        &Section { tape, run: p.nodes },
+        w,
+        k.nodes.before,
+        q.nodes.count,
+        out,
+        at,
+    );
     put_list::<splice_lists::Pairs>(
         &Section { tape, run: p.pairs },
         w,

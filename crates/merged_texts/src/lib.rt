@@ -27,7 +27,11 @@ fn put_spliced(out: &mut [u8], at: usize, text: &Spliced)
     let part = text.part;
     wire::copy_at(out, at, &whole[0..text.start]);
     wire::copy_at(out, at + text.start, part);
-    wire::copy_at(out, at + text.start + part.len(), &whole[text.end..whole.len()]);
+    wire::copy_at(
+        out,
+        at + text.start + part.len(),
+        &whole[text.end..whole.len()],
+    );
 }
 
 // Both new texts, and the old strings as they stood.

@@ -56,6 +56,11 @@ fn put_rest(
     )
 }
 
+// That the items of a slice are bytes is known where the slice comes in.
+fn stored<'a>(tape: &'a [u8], bytes: &'a [u8]) -> Stored<'a> {
+    Stored { tape, bytes }
+}
+
 fn show(rt: &(impl Alloc + Print), c: cases::Case) -> io::Result<()> {
     let rest = c.replacement;
     let tape = wire::u32_or_zero(rest, 0).min(65536);
@@ -66,19 +71,16 @@ fn show(rt: &(impl Alloc + Print), c: cases::Case) -> io::Result<()> {
     let mut work = vec![in rt.alloc(); 7u32; words as usize]?;
     let readingtape = HEAD + wire::u32_or_zero(rest, 12) as usize;
     let readingbytes = readingtape + wire::u32_or_zero(rest, 16) as usize;
-    let book = Stored {
-        tape: c.tape,
-        bytes: c.bytes,
-    };
+    let book = stored(c.tape, c.bytes);
     let edit = Edit {
         start: c.start,
         end: c.end,
         replacement: wire::between(rest, HEAD, readingtape),
     };
-    let reading = Stored {
-        tape: wire::between(rest, readingtape, readingbytes),
-        bytes: wire::between(rest, readingbytes, rest.len()),
-    };
+    let reading = stored(
+        wire::between(rest, readingtape, readingbytes),
+        wire::between(rest, readingbytes, rest.len()),
+    );
     let r = incremental::merge(
         &book,
         &Correction { edit, reading },
