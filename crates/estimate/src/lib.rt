@@ -4,15 +4,16 @@
 
 ghost use Rattle.std.specs.Prelude.{◌≡◌, length};
 ghost use Rattle.model.specs.Bytes.{zeros};
-ghost use Rattle.model.specs.Region.{edit_of};
-ghost use Rattle.model.specs.Merge.{stored_of};
 ghost use Rattle.model.specs.Estimate.{estimate};
+ghost use Rattle.books.specs.Values.{stored_value, edit_value};
 ghost use Rattle.refusal.specs.Refusal.{checked};
 ghost use Rattle.splice.specs.Window.{window_value};
 ghost use Rattle.fitting.specs.Books.{Books, book_in};
 ghost use Rattle.estimate.specs.Pricing.{over_price, price_by, price_value, estimate_of, price_in};
 
+use books::{Correction, Merging, Stored};
 use refusal::Refusal;
+use region::Book;
 
 const MAX_POOL: u32 = 1048575;
 
@@ -61,99 +62,57 @@ fn price_by(reread: u32, s: Option<sizes::Sizes>, bytes: usize) -> Price
 }
 
 // The price of a book and a reading that passed 1 to 17.
-fn price_fitted(
-    tape: &[u8],
-    bytes: &[u8],
-    start: u32,
-    end: u32,
-    replacement: &[u8],
-    readingtape: &[u8],
-    readingbytes: &[u8],
-    f: fitting::Fitting,
-) -> Price
-    requires { Books tape.now bytes.now f.p f.st (edit_of start end replacement.now) (window_value f.w) readingtape.now readingbytes.now f.q f.own }
-    ensures { result ≡ price_value (price_in (book_in tape.now bytes.now) (edit_of start end replacement.now)
-        (book_in readingtape.now readingbytes.now) (window_value f.w)) }
+fn price_fitted(m: &Merging) -> Price
+    requires { Books m.now.book.tape.now m.now.book.bytes.now m.now.book.places m.now.book.store (edit_value m.now.edit) (window_value m.now.window) m.now.reading.tape.now m.now.reading.bytes.now m.now.reading.places m.now.reading.store }
+    ensures { result ≡ price_value (price_in (book_in m.now.book.tape.now m.now.book.bytes.now) (edit_value m.now.edit)
+        (book_in m.now.reading.tape.now m.now.reading.bytes.now) (window_value m.now.window)) }
 {
-    let q = f.q;
-    let w = f.w;
-    let l = merged_lists::new_lengths(
-        f.p,
-        q,
-        start,
-        end,
-        replacement.len(),
-        w.nstart,
-        w.nend,
-        bytes.len(),
-    );
+    let q = m.reading.places;
+    let l = merged_lists::new_lengths(m);
     let room = sizes::Room {
         contents: MAX_POOL,
         segments: MAX_POOL,
     };
-    let s = sizes::reading_sizes(readingtape, f.own, q, room);
+    let s = sizes::reading_sizes(m.reading.tape, m.reading.store, q, room);
     price_by(q.nodes.count as u32, s, l.base)
 }
 
 // Numbers 1 to 17, then the price; the work words are not cleared.
-fn estimate_checked(
-    tape: &[u8],
-    bytes: &[u8],
-    start: u32,
-    end: u32,
-    replacement: &[u8],
-    readingtape: &[u8],
-    readingbytes: &[u8],
+fn estimate_checked<'a>(
+    book: &Stored<'a>,
+    correction: &Correction<'a>,
     work: &mut [u32],
 ) -> Result<Price, Refusal>
-    ensures { checked result ≡ estimate_of (estimate (stored_of tape.now bytes.now) (edit_of start end replacement.now) (stored_of readingtape.now readingbytes.now)) }
+    ensures { checked result ≡ estimate_of (estimate (stored_value book.now) (edit_value correction.now.edit) (stored_value correction.now.reading)) }
 {
-    let f = fitting::fitted(
-        tape,
-        bytes,
-        start,
-        end,
-        replacement,
-        readingtape,
-        readingbytes,
-        work,
-    )?;
-    Ok(price_fitted(
-        tape,
-        bytes,
-        start,
-        end,
-        replacement,
-        readingtape,
-        readingbytes,
-        f,
-    ))
+    let f = fitting::fitted(book, correction, work)?;
+    let book = Book {
+        tape: book.tape,
+        bytes: book.bytes,
+        places: f.p,
+        store: f.st,
+    };
+    let reading = Book {
+        tape: correction.reading.tape,
+        bytes: correction.reading.bytes,
+        places: f.q,
+        store: f.own,
+    };
+    let merging = Merging {
+        book,
+        edit: correction.edit,
+        window: f.w,
+        reading,
+    };
+    Ok(price_fitted(&merging))
 }
 
 // `estimate`: the merge's 1 to 17 as the merge gives them, or the price; all work words are 0 at the end.
-pub fn estimate(
-    tape: &[u8],
-    bytes: &[u8],
-    start: u32,
-    end: u32,
-    replacement: &[u8],
-    readingtape: &[u8],
-    readingbytes: &[u8],
-    work: &mut [u32],
-) -> Result<Price, Refusal>
-    ensures { (checked result ≡ estimate_of (estimate (stored_of tape.now bytes.now) (edit_of start end replacement.now) (stored_of readingtape.now readingbytes.now)))
+pub fn estimate(book: &Stored, correction: &Correction, work: &mut [u32]) -> Result<Price, Refusal>
+    ensures { (checked result ≡ estimate_of (estimate (stored_value book.now) (edit_value correction.now.edit) (stored_value correction.now.reading)))
         × (work.new ≡ zeros (length work.old)) }
 {
-    let r = estimate_checked(
-        tape,
-        bytes,
-        start,
-        end,
-        replacement,
-        readingtape,
-        readingbytes,
-        work,
-    );
+    let r = estimate_checked(book, correction, work);
     wire::zero_words(work);
     r
 }

@@ -4,6 +4,8 @@
 // cases, and from documents 01 and 02 the output that is stored beside them.
 #![tactic(auto)]
 
+use books::{Correction, Stored};
+use edit::Edit;
 use estimate::Price;
 use refusal::Refusal;
 use std::io;
@@ -21,22 +23,28 @@ fn put_price(rt: &impl Print, answer: Result<Price, Refusal>) -> io::Result<()> 
     }
 }
 
+// That the items of a slice are bytes is known where the slice comes in.
+fn stored<'a>(tape: &'a [u8], bytes: &'a [u8]) -> Stored<'a> {
+    Stored { tape, bytes }
+}
+
 fn show(rt: &(impl Alloc + Print), c: cases::Case) -> io::Result<()> {
     let rest = c.replacement;
     let lent = wire::u32_or_zero(rest, 0).min(16384);
     let mut work = vec![in rt.alloc(); 7u32; lent as usize]?;
     let readingtape = HEAD + wire::u32_or_zero(rest, 4) as usize;
     let readingbytes = readingtape + wire::u32_or_zero(rest, 8) as usize;
-    let price = estimate::estimate(
-        c.tape,
-        c.bytes,
-        c.start,
-        c.end,
-        wire::between(rest, HEAD, readingtape),
+    let book = stored(c.tape, c.bytes);
+    let edit = Edit {
+        start: c.start,
+        end: c.end,
+        replacement: wire::between(rest, HEAD, readingtape),
+    };
+    let reading = stored(
         wire::between(rest, readingtape, readingbytes),
         wire::between(rest, readingbytes, rest.len()),
-        &mut work,
     );
+    let price = estimate::estimate(&book, &Correction { edit, reading }, &mut work);
     rt.write_all(c.label)?;
     print!(rt; ": ")?;
     put_price(rt, price)?;

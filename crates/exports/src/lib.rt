@@ -23,6 +23,9 @@ ghost use Rattle.output.specs.Answer.{Merged};
 ghost use Rattle.orders.specs.Orders.{MergedBothOrders};
 ghost use Rattle.answers.specs.Answers.{allowed_answer, node_answer, range_answer, range_read, str_answer, str_read, copy_answer, region_answer, price_answer, merge_answer, output_read, orders_answer, orders_read};
 
+use books::{Correction, Stored};
+use edit::Edit;
+
 #[unsafe(no_mangle)]
 pub extern "C" fn aozora_check_book(tape: &[u8], bytes: &[u8]) -> u32
     ensures { result ≡ number_of (check_book tape.now bytes.now) }
@@ -123,40 +126,41 @@ pub extern "C" fn aozora_choose_region(
 }
 
 #[unsafe(no_mangle)]
-pub extern "C" fn aozora_estimate(
-    tape: &[u8],
-    bytes: &[u8],
+pub extern "C" fn aozora_estimate<'a>(
+    tape: &'a [u8],
+    bytes: &'a [u8],
     start: u32,
     end: u32,
-    replacement: &[u8],
-    readingtape: &[u8],
-    readingbytes: &[u8],
+    replacement: &'a [u8],
+    readingtape: &'a [u8],
+    readingbytes: &'a [u8],
     work: &mut [u32],
 ) -> answers::PriceAnswer
     ensures { (result ≡ price_answer (estimate_of (estimate (stored_of tape.now bytes.now) (edit_of start end replacement.now) (stored_of readingtape.now readingbytes.now))))
         × (work.new ≡ zeros (length work.old)) }
 {
-    answers::PriceAnswer::from(estimate::estimate(
-        tape,
-        bytes,
+    let book = Stored { tape, bytes };
+    let edit = Edit {
         start,
         end,
         replacement,
-        readingtape,
-        readingbytes,
-        work,
-    ))
+    };
+    let reading = Stored {
+        tape: readingtape,
+        bytes: readingbytes,
+    };
+    answers::PriceAnswer::from(estimate::estimate(&book, &Correction { edit, reading }, work))
 }
 
 #[unsafe(no_mangle)]
-pub extern "C" fn aozora_merge(
-    tape: &[u8],
-    bytes: &[u8],
+pub extern "C" fn aozora_merge<'a>(
+    tape: &'a [u8],
+    bytes: &'a [u8],
     start: u32,
     end: u32,
-    replacement: &[u8],
-    readingtape: &[u8],
-    readingbytes: &[u8],
+    replacement: &'a [u8],
+    readingtape: &'a [u8],
+    readingbytes: &'a [u8],
     outtape: &mut [u8],
     outbytes: &mut [u8],
     work: &mut [u32],
@@ -166,34 +170,40 @@ pub extern "C" fn aozora_merge(
         (room_of outtape.old outbytes.old work.old))
         (room_of outtape.old outbytes.old work.old) (output_read result) outtape.new outbytes.new work.new × (result ≡ merge_answer (output_read result)) }
 {
-    answers::MergeAnswer::from(incremental::merge(
-        tape,
-        bytes,
+    let book = Stored { tape, bytes };
+    let edit = Edit {
         start,
         end,
         replacement,
-        readingtape,
-        readingbytes,
+    };
+    let reading = Stored {
+        tape: readingtape,
+        bytes: readingbytes,
+    };
+    let merged = incremental::merge(
+        &book,
+        &Correction { edit, reading },
         outtape,
         outbytes,
         work,
-    ))
+    );
+    answers::MergeAnswer::from(merged)
 }
 
 #[unsafe(no_mangle)]
-pub extern "C" fn aozora_merge_both_orders(
-    tape: &[u8],
-    bytes: &[u8],
+pub extern "C" fn aozora_merge_both_orders<'a>(
+    tape: &'a [u8],
+    bytes: &'a [u8],
     start1: u32,
     end1: u32,
-    replacement1: &[u8],
-    readingtape1: &[u8],
-    readingbytes1: &[u8],
+    replacement1: &'a [u8],
+    readingtape1: &'a [u8],
+    readingbytes1: &'a [u8],
     start2: u32,
     end2: u32,
-    replacement2: &[u8],
-    readingtape2: &[u8],
-    readingbytes2: &[u8],
+    replacement2: &'a [u8],
+    readingtape2: &'a [u8],
+    readingbytes2: &'a [u8],
     tape1: &mut [u8],
     bytes1: &mut [u8],
     tape2: &mut [u8],
@@ -215,27 +225,30 @@ pub extern "C" fn aozora_merge_both_orders(
         (stored_of tape3.new bytes3.new) (stored_of tape4.new bytes4.new) work.new
         × (result ≡ orders_answer (orders_read result)) }
 {
+    let book = Stored { tape, bytes };
+    let earlier = Correction {
+        edit: Edit {
+            start: start1,
+            end: end1,
+            replacement: replacement1,
+        },
+        reading: Stored {
+            tape: readingtape1,
+            bytes: readingbytes1,
+        },
+    };
+    let later = Correction {
+        edit: Edit {
+            start: start2,
+            end: end2,
+            replacement: replacement2,
+        },
+        reading: Stored {
+            tape: readingtape2,
+            bytes: readingbytes2,
+        },
+    };
     answers::OrdersAnswer::from(orders::merge_both_orders(
-        tape,
-        bytes,
-        start1,
-        end1,
-        replacement1,
-        readingtape1,
-        readingbytes1,
-        start2,
-        end2,
-        replacement2,
-        readingtape2,
-        readingbytes2,
-        tape1,
-        bytes1,
-        tape2,
-        bytes2,
-        tape3,
-        bytes3,
-        tape4,
-        bytes4,
-        work,
+        &book, &earlier, &later, tape1, bytes1, tape2, bytes2, tape3, bytes3, tape4, bytes4, work,
     ))
 }

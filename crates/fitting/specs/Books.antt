@@ -12,6 +12,7 @@ use Rattle.places.specs.Found.{found}
 use Rattle.store.specs.declared.Store.{Store}
 use Rattle.store.specs.Stored.{store_at}
 use Rattle.tape.specs.Accepted.{Accepted, AcceptedReading}
+use Rattle.region.specs.Held.{Held}
 
 -- The region is the window's own.
 pub record Books (t d : List ℕ) (p : Places) (st : Store) (e : Edit) (w : MergeWindow) (rt rd : List ℕ) (q : Places) (rst : Store) : Type 0 where
@@ -33,3 +34,11 @@ book_in t d = book_at t (places t) d
 
 pub well_formed_lem : {t d : List ℕ} → Accepted t d → WellFormed (book_in t d)
 well_formed_lem a = record { utf8 = a.texts; limits = a.limits; ids = a.ids; levels = a.levels; places = a.places_ok; sizes = a.normalized_length_ok }
+
+-- each is a book at hand
+module _ {t d : List ℕ} {p : Places} {st : Store} {e : Edit} {w : MergeWindow} {rt rd : List ℕ} {q : Places} {rst : Store} (b : Books t d p st e w rt rd q rst) where
+  pub old_held : Held t d p st
+  old_held = record { accepted = b.book; is = b.old_places; stored = b.old_store }
+
+  pub reading_held : Held rt rd q rst
+  reading_held = record { accepted = b.reading.whole; is = b.reading_places; stored = b.reading_store }

@@ -4,8 +4,9 @@
 
 ghost use Rattle.std.specs.Prelude.{◌≡◌, ◌+◌, ◌*◌, ◌≤◌, ◌<◌, ◌^◌, length};
 ghost use Rattle.model.specs.Tape.{records_at, node_codec, places as places_in, book_at};
-ghost use Rattle.model.specs.Region.{Edit, edit_of};
+ghost use Rattle.model.specs.Region.{Edit as RegionEdit};
 ghost use Rattle.model.specs.Merge.{normalized_offset};
+ghost use Rattle.books.specs.Values.{edit_value};
 ghost use Rattle.bounds.specs.Search.{InOrder};
 ghost use Rattle.region.specs.Held.{Held};
 ghost use Rattle.refusal.specs.Refusal.{number_in};
@@ -15,7 +16,10 @@ ghost use Rattle.fitting.specs.Numbers.{cut_number, reading_number};
 ghost use Rattle.fitting.specs.Window.{window_from};
 ghost use Rattle.fitting.specs.Stages.{Given, Read, TargetFound, Fits, region_of};
 
+use books::{Correction, Stored};
+use edit::Edit;
 use refusal::Refusal;
+use region::Book;
 use span::{NormalizedOffset, SourceOffset, Span};
 use splice::Window;
 
@@ -38,30 +42,18 @@ pub struct Fitting {
 }
 
 // Numbers 1 to 11: the old book, then the edit.
-fn target_of(
-    tape: &[u8],
-    bytes: &[u8],
-    start: u32,
-    end: u32,
-    replacement: &[u8],
-    work: &mut [u32],
-) -> Result<Target, Refusal>
-    ensures { TargetFound tape.now bytes.now (edit_of start end replacement.now) result }
+fn target_of(book: &Stored, edit: &Edit, work: &mut [u32]) -> Result<Target, Refusal>
+    ensures { TargetFound book.now.tape.now book.now.bytes.now (edit_value edit.now) result }
 {
-    let p = tape::checked_book(tape, bytes)?;
-    let st = store::store_of(tape, p.layers);
-    let edit = edit::Edit {
-        start,
-        end,
-        replacement,
-    };
-    let book = region::Book {
-        tape,
-        bytes,
+    let p = tape::checked_book(book.tape, book.bytes)?;
+    let st = store::store_of(book.tape, p.layers);
+    let book = Book {
+        tape: book.tape,
+        bytes: book.bytes,
         places: p,
         store: &st,
     };
-    let region = region::chosen_region(&book, &edit, work)?;
+    let region = region::chosen_region(&book, edit, work)?;
     Ok(Target { p, st, region })
 }
 
@@ -76,91 +68,70 @@ fn normalized_cut(tape: &[u8], nodes: places::Run, cut: SourceOffset) -> Normali
     NormalizedOffset(at as u32)
 }
 
-// `MergeWindow`. `len` is the replacement's length, `normalized` that of the reading's normalized text.
-fn window(
-    from: u32,
-    to: u32,
-    nstart: u32,
-    nend: u32,
-    len: usize,
-    start: u32,
-    end: u32,
-    normalized: u32,
-) -> Window
-    requires { (start ≤ end) × (nstart ≤ nend) }
-    ensures { window_value result ≡ window_from from to nstart nend len start end normalized }
+// `MergeWindow`. `normal` is the region in the normalized text, `normalized` the length of the reading's normalized text.
+fn window(region: Span, normal: Span, edit: &Edit, normalized: u32) -> Window
+    requires { (edit.now.start ≤ edit.now.end) × (normal.start ≤ normal.end) }
+    ensures { window_value result ≡ window_from region.start region.end normal.start normal.end (length edit.now.replacement.now) edit.now.start edit.now.end normalized }
 {
     Window {
-        start: from,
-        end: to,
-        nstart: nstart,
-        nend: nend,
-        by: span::difference(len as u64, (end - start) as u64),
-        nby: span::difference(normalized as u64, (nend - nstart) as u64),
+        start: region.start,
+        end: region.end,
+        nstart: normal.start,
+        nend: normal.end,
+        by: span::difference(
+            edit.replacement.len() as u64,
+            (edit.end - edit.start) as u64,
+        ),
+        nby: span::difference(normalized as u64, (normal.end - normal.start) as u64),
     }
 }
 
 // The region of a book and an edit that passed, as a window.
-fn region_window(
-    tape: &[u8],
-    bytes: &[u8],
-    b: Target,
-    start: u32,
-    end: u32,
-    replacement: &[u8],
-    normalized: u32,
-) -> Window
-    requires { Given tape.now bytes.now b.p b.st (edit_of start end replacement.now) (span_of b.region) }
+fn region_window(book: &Stored, b: Target, edit: &Edit, normalized: u32) -> Window
+    requires { Given book.now.tape.now book.now.bytes.now b.p b.st (edit_value edit.now) (span_of b.region) }
     ensures { window_value result ≡ window_from b.region.start b.region.end
-        (normalized_offset (records_at node_codec tape.now b.p.nodes.at b.p.nodes.count) b.region.start)
-        (normalized_offset (records_at node_codec tape.now b.p.nodes.at b.p.nodes.count) b.region.end)
-        (length replacement.now) start end normalized }
+        (normalized_offset (records_at node_codec book.now.tape.now b.p.nodes.at b.p.nodes.count) b.region.start)
+        (normalized_offset (records_at node_codec book.now.tape.now b.p.nodes.at b.p.nodes.count) b.region.end)
+        (length edit.now.replacement.now) edit.now.start edit.now.end normalized }
 {
-    let p = b.p;
-    let r = b.region;
-    let nstart = normalized_cut(tape, p.nodes, SourceOffset(r.start));
-    let nend = normalized_cut(tape, p.nodes, SourceOffset(r.end));
-    let len = replacement.len();
-    window(
-        r.start, r.end, nstart.0, nend.0, len, start, end, normalized,
-    )
+    let nodes = b.p.nodes;
+    let nstart = normalized_cut(book.tape, nodes, SourceOffset(b.region.start));
+    let nend = normalized_cut(book.tape, nodes, SourceOffset(b.region.end));
+    let normal = Span {
+        start: nstart.0,
+        end: nend.0,
+    };
+    window(b.region, normal, edit, normalized)
 }
 
 // Numbers 15 to 17.
-fn check_cuts(
-    tape: &[u8],
-    bytes: &[u8],
-    readingtape: &[u8],
-    readingbytes: &[u8],
-    f: Fitting,
-    work: &mut [u32],
-) -> Result<(), Refusal>
-    requires held { Held tape.now bytes.now f.p f.st × Held readingtape.now readingbytes.now f.q f.own }
-    requires nstart_value { (f.w.nstart ≡ normalized_offset (records_at node_codec tape.now f.p.nodes.at f.p.nodes.count) f.w.start)
-        × (f.w.nend ≡ normalized_offset (records_at node_codec tape.now f.p.nodes.at f.p.nodes.count) f.w.end) }
-    ensures { (e : Edit) → number_in result ≡ cut_number (book_at tape.now (places_in tape.now) bytes.now) e (region_of f.w.start f.w.end)
-        (book_at readingtape.now (places_in readingtape.now) readingbytes.now) }
+fn check_cuts(book: &Stored, reading: &Stored, f: Fitting, work: &mut [u32]) -> Result<(), Refusal>
+    requires held { Held book.now.tape.now book.now.bytes.now f.p f.st × Held reading.now.tape.now reading.now.bytes.now f.q f.own }
+    requires nstart_value { (f.w.nstart ≡ normalized_offset (records_at node_codec book.now.tape.now f.p.nodes.at f.p.nodes.count) f.w.start)
+        × (f.w.nend ≡ normalized_offset (records_at node_codec book.now.tape.now f.p.nodes.at f.p.nodes.count) f.w.end) }
+    ensures { (e : RegionEdit) → number_in result ≡ cut_number (book_at book.now.tape.now (places_in book.now.tape.now) book.now.bytes.now) e (region_of f.w.start f.w.end)
+        (book_at reading.now.tape.now (places_in reading.now.tape.now) reading.now.bytes.now) }
 {
     let p = f.p;
     let q = f.q;
     let w = f.w;
-    let book = region::Book {
-        tape,
-        bytes,
+    let old = Book {
+        tape: book.tape,
+        bytes: book.bytes,
         places: p,
         store: &f.st,
     };
-    let own = region::Book {
-        tape: readingtape,
-        bytes: readingbytes,
+    let own = Book {
+        tape: reading.tape,
+        bytes: reading.bytes,
         places: q,
         store: &f.own,
     };
-    if introduces::introduces_ruby_format_dependency(&book, &own, work, w.start, w.end) {
+    if introduces::introduces_ruby_format_dependency(&old, &own, work, w.start, w.end) {
         return Err(Refusal::NewRubyFormatDependency);
     }
     let first = p.text as usize;
-    let normalized = &bytes[first..first + p.normalized as usize];
+    let normalized = &book.bytes[first..first + p.normalized as usize];
     if !passage::cuts_ok(normalized, w.nstart as usize, w.nend as usize) {
         return Err(Refusal::CutInCharacter);
     }
@@ -172,60 +143,53 @@ fn check_cuts(
 
 // Numbers 12 to 17.
 fn check_fitting(
-    tape: &[u8],
-    bytes: &[u8],
-    start: u32,
-    end: u32,
-    replacement: &[u8],
-    readingtape: &[u8],
-    readingbytes: &[u8],
+    book: &Stored,
+    correction: &Correction,
     f: Fitting,
     work: &mut [u32],
 ) -> Result<(), Refusal>
-    requires read { Read tape.now bytes.now f.p f.st (edit_of start end replacement.now) (region_of f.w.start f.w.end) readingtape.now readingbytes.now f.q f.own }
-    requires nstart_value { (f.w.nstart ≡ normalized_offset (records_at node_codec tape.now f.p.nodes.at f.p.nodes.count) f.w.start)
-        × (f.w.nend ≡ normalized_offset (records_at node_codec tape.now f.p.nodes.at f.p.nodes.count) f.w.end) }
-    ensures { number_in result ≡ reading_number (book_at tape.now (places_in tape.now) bytes.now) (edit_of start end replacement.now) (region_of f.w.start f.w.end)
-        (book_at readingtape.now (places_in readingtape.now) readingbytes.now) }
+    requires read { Read book.now.tape.now book.now.bytes.now f.p f.st (edit_value correction.now.edit) (region_of f.w.start f.w.end) correction.now.reading.tape.now correction.now.reading.bytes.now f.q f.own }
+    requires nstart_value { (f.w.nstart ≡ normalized_offset (records_at node_codec book.now.tape.now f.p.nodes.at f.p.nodes.count) f.w.start)
+        × (f.w.nend ≡ normalized_offset (records_at node_codec book.now.tape.now f.p.nodes.at f.p.nodes.count) f.w.end) }
+    ensures { number_in result ≡ reading_number (book_at book.now.tape.now (places_in book.now.tape.now) book.now.bytes.now) (edit_value correction.now.edit) (region_of f.w.start f.w.end)
+        (book_at correction.now.reading.tape.now (places_in correction.now.reading.tape.now) correction.now.reading.bytes.now) }
 {
+    let edit = &correction.edit;
+    let reading = &correction.reading;
     let p = f.p;
     let q = f.q;
     let w = f.w;
-    let text = &bytes[0..p.text as usize];
+    let text = &book.bytes[0..p.text as usize];
     let old_text = region::region_text(text, w.start, w.end);
-    let own_text = &readingbytes[0..q.text as usize];
-    let first = (start - w.start) as usize;
-    let last = (end - w.start) as usize;
-    if !passage::is_region_text(old_text, first, last, replacement, own_text) {
+    let own_text = &reading.bytes[0..q.text as usize];
+    let first = (edit.start - w.start) as usize;
+    let last = (edit.end - w.start) as usize;
+    if !passage::is_region_text(old_text, first, last, edit.replacement, own_text) {
         return Err(Refusal::OtherText);
     }
-    if !reading::balanced_nodes(readingtape, q.nodes) {
+    if !reading::balanced_nodes(reading.tape, q.nodes) {
         return Err(Refusal::Unbalanced);
     }
-    if reading::has_unclosed(readingtape, q.diagnostics) {
+    if reading::has_unclosed(reading.tape, q.diagnostics) {
         return Err(Refusal::Unclosed);
     }
-    check_cuts(tape, bytes, readingtape, readingbytes, f, work)
+    check_cuts(book, reading, f, work)
 }
 
 // The reading as the old book, then 12 to 17.
 fn fitting_reading(
-    tape: &[u8],
-    bytes: &[u8],
-    start: u32,
-    end: u32,
-    replacement: &[u8],
-    readingtape: &[u8],
-    readingbytes: &[u8],
+    book: &Stored,
+    correction: &Correction,
     b: Target,
     work: &mut [u32],
 ) -> Result<Fitting, Refusal>
-    requires { Given tape.now bytes.now b.p b.st (edit_of start end replacement.now) (span_of b.region) }
-    ensures { Fits tape.now bytes.now (edit_of start end replacement.now) readingtape.now readingbytes.now result }
+    requires { Given book.now.tape.now book.now.bytes.now b.p b.st (edit_value correction.now.edit) (span_of b.region) }
+    ensures { Fits book.now.tape.now book.now.bytes.now (edit_value correction.now.edit) correction.now.reading.tape.now correction.now.reading.bytes.now result }
 {
-    let q = tape::checked_reading(readingtape, readingbytes)?;
-    let own = store::store_of(readingtape, q.layers);
-    let w = region_window(tape, bytes, b, start, end, replacement, q.normalized);
+    let reading = &correction.reading;
+    let q = tape::checked_reading(reading.tape, reading.bytes)?;
+    let own = store::store_of(reading.tape, q.layers);
+    let w = region_window(book, b, &correction.edit, q.normalized);
     let f = Fitting {
         p: b.p,
         st: b.st,
@@ -233,43 +197,14 @@ fn fitting_reading(
         own,
         w,
     };
-    check_fitting(
-        tape,
-        bytes,
-        start,
-        end,
-        replacement,
-        readingtape,
-        readingbytes,
-        f,
-        work,
-    )?;
+    check_fitting(book, correction, f, work)?;
     Ok(f)
 }
 
 // Numbers 1 to 17 in their order.
-pub fn fitted(
-    tape: &[u8],
-    bytes: &[u8],
-    start: u32,
-    end: u32,
-    replacement: &[u8],
-    readingtape: &[u8],
-    readingbytes: &[u8],
-    work: &mut [u32],
-) -> Result<Fitting, Refusal>
-    ensures { Fits tape.now bytes.now (edit_of start end replacement.now) readingtape.now readingbytes.now result }
+pub fn fitted(book: &Stored, correction: &Correction, work: &mut [u32]) -> Result<Fitting, Refusal>
+    ensures { Fits book.now.tape.now book.now.bytes.now (edit_value correction.now.edit) correction.now.reading.tape.now correction.now.reading.bytes.now result }
 {
-    let b = target_of(tape, bytes, start, end, replacement, work)?;
-    fitting_reading(
-        tape,
-        bytes,
-        start,
-        end,
-        replacement,
-        readingtape,
-        readingbytes,
-        b,
-        work,
-    )
+    let b = target_of(book, &correction.edit, work)?;
+    fitting_reading(book, correction, b, work)
 }

@@ -3,86 +3,60 @@
 #![tactic(auto)]
 
 ghost use Rattle.std.specs.Prelude.{◌≡◌};
-ghost use Rattle.model.specs.Merge.{stored_of, room_of};
-ghost use Rattle.model.specs.Demand3.{correction_of, merge_of};
+ghost use Rattle.model.specs.Merge.{room_of};
+ghost use Rattle.model.specs.Demand3.{merge_of};
+ghost use Rattle.books.specs.Values.{stored_value, correction_value};
 ghost use Rattle.refusal.specs.Refusal.{checked};
 ghost use Rattle.output.specs.Answer.{Written, Merged};
 
+use books::{Correction, Merging, Stored};
 use output::IncrementalOutput;
 use refusal::Refusal;
+use region::Book;
 
 // Numbers 1 to 18; what is not result is not cleared.
-fn merge_checked(
-    tape: &[u8],
-    bytes: &[u8],
-    start: u32,
-    end: u32,
-    replacement: &[u8],
-    readingtape: &[u8],
-    readingbytes: &[u8],
+fn merge_checked<'a>(
+    book: &Stored<'a>,
+    correction: &Correction<'a>,
     outtape: &mut [u8],
     outbytes: &mut [u8],
     work: &mut [u32],
 ) -> Result<IncrementalOutput, Refusal>
-    ensures { Written (merge_of (stored_of tape.now bytes.now) (correction_of start end replacement.now readingtape.now readingbytes.now) (room_of outtape.old outbytes.old work.old)) (checked result) outtape.old outbytes.old work.old outtape.new outbytes.new work.new }
+    ensures { Written (merge_of (stored_value book.now) (correction_value correction.now) (room_of outtape.old outbytes.old work.old)) (checked result) outtape.old outbytes.old work.old outtape.new outbytes.new work.new }
 {
-    let f = fitting::fitted(
-        tape,
-        bytes,
-        start,
-        end,
-        replacement,
-        readingtape,
-        readingbytes,
-        work,
-    )?;
-    let book = result::Book {
-        tape,
-        bytes,
+    let f = fitting::fitted(book, correction, work)?;
+    let book = Book {
+        tape: book.tape,
+        bytes: book.bytes,
         places: f.p,
         store: f.st,
     };
-    let edit = result::Edit {
-        start,
-        end,
-        replacement,
-    };
-    let reading = result::Book {
-        tape: readingtape,
-        bytes: readingbytes,
+    let reading = Book {
+        tape: correction.reading.tape,
+        bytes: correction.reading.bytes,
         places: f.q,
         store: f.own,
     };
-    result::merge_books(&book, &edit, f.w, &reading, outtape, outbytes, work)
+    let merging = Merging {
+        book,
+        edit: correction.edit,
+        window: f.w,
+        reading,
+    };
+    result::merge_books(&merging, outtape, outbytes, work)
 }
 
 // `merge`: the merged book in both result buffers, zeros behind it, and zeros in all work words; after a refusal zeros everywhere.
 pub fn merge(
-    tape: &[u8],
-    bytes: &[u8],
-    start: u32,
-    end: u32,
-    replacement: &[u8],
-    readingtape: &[u8],
-    readingbytes: &[u8],
+    book: &Stored,
+    correction: &Correction,
     outtape: &mut [u8],
     outbytes: &mut [u8],
     work: &mut [u32],
 ) -> Result<IncrementalOutput, Refusal>
-    ensures { Merged (merge_of (stored_of tape.now bytes.now) (correction_of start end replacement.now readingtape.now readingbytes.now) (room_of outtape.old outbytes.old work.old)) (room_of outtape.old outbytes.old work.old) (checked result) outtape.new outbytes.new work.new }
+    ensures { Merged (merge_of (stored_value book.now) (correction_value correction.now) (room_of outtape.old outbytes.old work.old)) (room_of outtape.old outbytes.old work.old) (checked result) outtape.new outbytes.new work.new }
 {
-    let r = merge_checked(
-        tape,
-        bytes,
-        start,
-        end,
-        replacement,
-        readingtape,
-        readingbytes,
-        outtape,
-        outbytes,
-        work,
-    );
+    let r = merge_checked(book, correction, outtape, outbytes, work);
     let (tapeend, bytesend) = output::taken(r);
     output::clear_rest(outtape, outbytes, work, tapeend, bytesend);
     r

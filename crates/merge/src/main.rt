@@ -5,16 +5,27 @@
 ghost use Rattle.std.specs.Prelude.{◌≡◌, ℕ, ◌+◌, ◌≤◌, List, length, take, OnOk, IfSome};
 ghost use Rattle.std.specs.Io.KnownBytes.{Appends};
 ghost use Rattle.model.specs.Runs.{asked, program, line as line_of};
+ghost use Rattle.model.specs.Merge.{stored_of};
+ghost use Rattle.books.specs.Values.{stored_value};
 ghost use Rattle.refusal.specs.Refusal.{checked};
 ghost use Rattle.output.specs.Answer.{output_of};
 ghost use Rattle.lines.specs.Put.{room, Put};
 ghost use Rattle.runs.specs.Input.{Whole};
 
+use books::{Correction, Stored};
+use edit::Edit;
 use lines::Line;
 use output::IncrementalOutput;
 use refusal::Refusal;
 use std::io;
 use std::io::{Read, Write};
+
+// That the items of a slice are bytes is known where the slice comes in.
+fn stored<'a>(tape: &'a [u8], bytes: &'a [u8]) -> Stored<'a>
+    ensures { stored_value result ≡ stored_of tape.now bytes.now }
+{
+    Stored { tape, bytes }
+}
 
 // The merge that an input of the right length asks for.
 fn merge_parts(
@@ -32,14 +43,22 @@ fn merge_parts(
     let newtape = replacement + wire::u32_at(input, 16) as usize;
     let newbytes = newtape + wire::u32_at(input, 20) as usize;
     let end = newbytes + wire::u32_at(input, 24) as usize;
-    incremental::merge(
+    let book = stored(
         wire::between(input, runs::HEAD, oldbytes),
         wire::between(input, oldbytes, replacement),
-        wire::u32_at(input, 8),
-        wire::u32_at(input, 12),
-        wire::between(input, replacement, newtape),
+    );
+    let edit = Edit {
+        start: wire::u32_at(input, 8),
+        end: wire::u32_at(input, 12),
+        replacement: wire::between(input, replacement, newtape),
+    };
+    let reading = stored(
         wire::between(input, newtape, newbytes),
         wire::between(input, newbytes, end),
+    );
+    incremental::merge(
+        &book,
+        &Correction { edit, reading },
         outtape,
         outbytes,
         work,

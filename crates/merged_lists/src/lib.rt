@@ -14,6 +14,8 @@ ghost use Rattle.merged_lists.specs.Sizes.{sides_of, kept_of, Few, Small, total_
 ghost use Rattle.merged_lists.specs.Lists.{lists_of, Lists, node_bytes, diagnostic_bytes};
 ghost use Rattle.output.specs.Answer.{output_by};
 
+use books::Merging;
+
 const MAX_TEXT: usize = 16777215;
 
 const MAX_LIST: usize = 262143;
@@ -55,23 +57,20 @@ pub struct Lengths {
     pub base: usize,
 }
 
-pub fn new_lengths(
-    p: places::Places,
-    q: places::Places,
-    start: u32,
-    end: u32,
-    added: usize,
-    from: u32,
-    to: u32,
-    size: usize,
-) -> Lengths
-    requires end_le_text { (end ≤ p.text) × (to ≤ p.normalized) × (start + added + (p.text - end) ≤ 16777215) }
-    requires normalized_bound { (p.text + p.normalized ≤ size) × (size < 2 ^ 63) }
-    ensures { result ≡ lengths_of p q start end added from to size }
+pub fn new_lengths(m: &Merging) -> Lengths
+    requires end_le_text { (m.now.edit.end ≤ m.now.book.places.text) × (m.now.window.nend ≤ m.now.book.places.normalized) × (m.now.edit.start + length m.now.edit.replacement.now + (m.now.book.places.text - m.now.edit.end) ≤ 16777215) }
+    requires normalized_bound { m.now.book.places.text + m.now.book.places.normalized ≤ length m.now.book.bytes.now }
+    ensures { result ≡ lengths_of m.now.book.places m.now.reading.places m.now.edit.start m.now.edit.end (length m.now.edit.replacement.now) m.now.window.nstart m.now.window.nend (length m.now.book.bytes.now) }
 {
-    let text = start as usize + added + (p.text as usize - end as usize);
-    let normalized = from as usize + q.normalized as usize + (p.normalized as usize - to as usize);
-    let strings = size - (p.text as usize + p.normalized as usize);
+    let p = m.book.places;
+    let q = m.reading.places;
+    let edit = m.edit;
+    let w = m.window;
+    let text = edit.start as usize + edit.replacement.len() + (p.text as usize - edit.end as usize);
+    let normalized = w.nstart as usize
+        + q.normalized as usize
+        + (p.normalized as usize - w.nend as usize);
+    let strings = m.book.bytes.len() - (p.text as usize + p.normalized as usize);
     Lengths {
         text,
         normalized,
@@ -147,122 +146,133 @@ pub fn kept_in(tape: &[u8], p: places::Places, w: splice::Window) -> Kept
     }
 }
 
+// The records of one list on a tape.
+#[derive(Clone, Copy)]
+struct Section<'a> {
+    tape: &'a [u8],
+    run: places::Run,
+}
+
 // `merge_source_nodes`: the grafted nodes stand at `to` already.
 fn put_nodes(
-    tape: &[u8],
-    run: places::Run,
+    old: &Section,
     w: splice::Window,
     before: usize,
     reading: usize,
     out: &mut [u8],
     to: usize,
 )
-    requires count_in_bounds { run.at + 49 * run.count ≤ length tape.now }
-    requires before_value { before ≡ length (kept_before node_located (window_value w) (records_at node_codec tape.now run.at run.count)) }
-    requires reading_in_bounds { to + 49 * total_of (sides_of node_located (window_value w) (records_at node_codec tape.now run.at run.count)) reading ≤ length out.old }
-    ensures { out.new ≡ overwrite out.old to (node_bytes (window_value w) (records_at node_codec tape.now run.at run.count) (records_at node_codec out.old to reading)) }
+    requires count_in_bounds { old.now.run.at + 49 * old.now.run.count ≤ length old.now.tape.now }
+    requires before_value { before ≡ length (kept_before node_located (window_value w) (records_at node_codec old.now.tape.now old.now.run.at old.now.run.count)) }
+    requires reading_in_bounds { to + 49 * total_of (sides_of node_located (window_value w) (records_at node_codec old.now.tape.now old.now.run.at old.now.run.count)) reading ≤ length out.old }
+    ensures { out.new ≡ overwrite out.old to (node_bytes (window_value w) (records_at node_codec old.now.tape.now old.now.run.at old.now.run.count) (records_at node_codec out.old to reading)) }
 {
+    let behindto = to + 49 * before + 49 * reading;
     moves::move_up(out, to, 49 * reading, 49 * before);
-    splice::put_before::<splice_nodes::Nodes>(tape, run, w, out, to);
+    splice::put_before::<splice_nodes::Nodes>(old.tape, old.run, w, out, to);
     splice_nodes::place_nodes(out, to + 49 * before, reading, w);
-    splice::put_behind::<splice_nodes::Nodes>(tape, run, w, out, to + 49 * before + 49 * reading);
+    splice::put_behind::<splice_nodes::Nodes>(old.tape, old.run, w, out, behindto);
 }
 
 // `merge_pairs`, `merge_container_pairs`, and `merge_diagnostics` before its sort.
 fn put_list<K: splice::Spliced>(
-    tape: &[u8],
-    run: places::Run,
+    old: &Section,
     w: splice::Window,
     before: usize,
-    readingtape: &[u8],
-    reading: places::Run,
+    new: &Section,
     out: &mut [u8],
     to: usize,
 )
-    requires runs_in_bounds { (run.at + K.SIZE * run.count ≤ length tape.now) × (reading.at + K.SIZE * reading.count ≤ length readingtape.now) }
-    requires before_value { before ≡ length (kept_before K.located (window_value w) (records_at K.codec tape.now run.at run.count)) }
-    requires list_in_bounds { to + K.SIZE * total_of (sides_of K.located (window_value w) (records_at K.codec tape.now run.at run.count)) reading.count ≤ length out.old }
-    ensures { out.new ≡ overwrite out.old to (records_bytes K.codec (spliced K.located (window_value w) (records_at K.codec tape.now run.at run.count) (records_at K.codec readingtape.now reading.at reading.count))) }
+    requires runs_in_bounds { (old.now.run.at + K.SIZE * old.now.run.count ≤ length old.now.tape.now) × (new.now.run.at + K.SIZE * new.now.run.count ≤ length new.now.tape.now) }
+    requires before_value { before ≡ length (kept_before K.located (window_value w) (records_at K.codec old.now.tape.now old.now.run.at old.now.run.count)) }
+    requires list_in_bounds { to + K.SIZE * total_of (sides_of K.located (window_value w) (records_at K.codec old.now.tape.now old.now.run.at old.now.run.count)) new.now.run.count ≤ length out.old }
+    ensures { out.new ≡ overwrite out.old to (records_bytes K.codec (spliced K.located (window_value w) (records_at K.codec old.now.tape.now old.now.run.at old.now.run.count) (records_at K.codec new.now.tape.now new.now.run.at new.now.run.count))) }
 {
     let readingto = to + K::SIZE * before;
-    let behindto = readingto + K::SIZE * reading.count;
-    splice::put_before::<K>(tape, run, w, out, to);
-    splice::put_reading::<K>(readingtape, reading, w, out, readingto);
-    splice::put_behind::<K>(tape, run, w, out, behindto);
+    let behindto = readingto + K::SIZE * new.run.count;
+    splice::put_before::<K>(old.tape, old.run, w, out, to);
+    splice::put_reading::<K>(new.tape, new.run, w, out, readingto);
+    splice::put_behind::<K>(old.tape, old.run, w, out, behindto);
 }
 
 // `merge_diagnostics`: `all` of them, sorted.
 fn put_diagnostics(
-    tape: &[u8],
-    run: places::Run,
+    old: &Section,
     w: splice::Window,
     before: usize,
-    readingtape: &[u8],
-    reading: places::Run,
+    new: &Section,
     out: &mut [u8],
     to: usize,
     all: usize,
 )
-    requires count_in_bounds { (run.at + 18 * run.count ≤ length tape.now) × (reading.at + 18 * reading.count ≤ length readingtape.now) }
-    requires before_value { (before ≡ length (kept_before diagnostic_located (window_value w) (records_at diagnostic_codec tape.now run.at run.count))) × (all ≡ total_of (sides_of diagnostic_located (window_value w) (records_at diagnostic_codec tape.now run.at run.count)) reading.count) }
+    requires count_in_bounds { (old.now.run.at + 18 * old.now.run.count ≤ length old.now.tape.now) × (new.now.run.at + 18 * new.now.run.count ≤ length new.now.tape.now) }
+    requires before_value { (before ≡ length (kept_before diagnostic_located (window_value w) (records_at diagnostic_codec old.now.tape.now old.now.run.at old.now.run.count))) × (all ≡ total_of (sides_of diagnostic_located (window_value w) (records_at diagnostic_codec old.now.tape.now old.now.run.at old.now.run.count)) new.now.run.count) }
     requires all_in_bounds { to + 18 * all ≤ length out.old }
-    requires count_value { all_of (record_fits diagnostic_codec) (spliced diagnostic_located (window_value w) (records_at diagnostic_codec tape.now run.at run.count) (records_at diagnostic_codec readingtape.now reading.at reading.count)) ≡ true }
-    ensures { out.new ≡ overwrite out.old to (diagnostic_bytes (window_value w) (records_at diagnostic_codec tape.now run.at run.count) (records_at diagnostic_codec readingtape.now reading.at reading.count)) }
+    requires count_value { all_of (record_fits diagnostic_codec) (spliced diagnostic_located (window_value w) (records_at diagnostic_codec old.now.tape.now old.now.run.at old.now.run.count) (records_at diagnostic_codec new.now.tape.now new.now.run.at new.now.run.count)) ≡ true }
+    ensures { out.new ≡ overwrite out.old to (diagnostic_bytes (window_value w) (records_at diagnostic_codec old.now.tape.now old.now.run.at old.now.run.count) (records_at diagnostic_codec new.now.tape.now new.now.run.at new.now.run.count)) }
 {
-    put_list::<splice_lists::Diagnostics>(tape, run, w, before, readingtape, reading, out, to);
+    put_list::<splice_lists::Diagnostics>(old, w, before, new, out, to);
     diagnostic_slice::sort_diagnostics(out, to, all);
 }
 
 // The four lists from `at` on, where the grafted nodes stand, and command 10.
-pub fn put_lists(
-    tape: &[u8],
-    p: places::Places,
-    w: splice::Window,
-    k: Kept,
-    readingtape: &[u8],
-    q: places::Places,
-    out: &mut [u8],
-    at: usize,
-)
-    requires { Lists tape.now p (window_value w) k readingtape.now q (length out.old) at }
-    ensures { out.new ≡ overwrite out.old at (lists_of (window_value w) tape.now p readingtape.now q (records_at node_codec out.old at q.nodes.count)) }
+pub fn put_lists(m: &Merging, k: Kept, out: &mut [u8], at: usize)
+    requires { Lists m.now.book.tape.now m.now.book.places (window_value m.now.window) k m.now.reading.tape.now m.now.reading.places (length out.old) at }
+    ensures { out.new ≡ overwrite out.old at (lists_of (window_value m.now.window) m.now.book.tape.now m.now.book.places m.now.reading.tape.now m.now.reading.places (records_at node_codec out.old at m.now.reading.places.nodes.count)) }
 {
-    let nodes = k.nodes;
-    let pairs = k.pairs;
-    let containers = k.containers;
-    let diagnostics = k.diagnostics;
-    let pairsat = at + 49 * nodes.total(q.nodes.count);
-    let containersat = pairsat + 18 * pairs.total(q.pairs.count);
-    let diagnosticsat = containersat + 13 * containers.total(q.containers.count);
-    let count = diagnostics.total(q.diagnostics.count);
-    put_nodes(tape, p.nodes, w, nodes.before, q.nodes.count, out, at);
-    put_list::<splice_lists::Pairs>(
-        tape,
-        p.pairs,
+    let p = m.book.places;
+    let q = m.reading.places;
+    let w = m.window;
+    let tape = m.book.tape;
+    let new = m.reading.tape;
+    let pairsat = at + 49 * k.nodes.total(q.nodes.count);
+    let containersat = pairsat + 18 * k.pairs.total(q.pairs.count);
+    let diagnosticsat = containersat + 13 * k.containers.total(q.containers.count);
+    let count = k.diagnostics.total(q.diagnostics.count);
+    put_nodes(
+        &Section { tape, run: p.nodes },
         w,
-        pairs.before,
-        readingtape,
-        q.pairs,
+        k.nodes.before,
+        q.nodes.count,
+        out,
+        at,
+    );
+    put_list::<splice_lists::Pairs>(
+        &Section { tape, run: p.pairs },
+        w,
+        k.pairs.before,
+        &Section {
+            tape: new,
+            run: q.pairs,
+        },
         out,
         pairsat,
     );
     put_list::<splice_lists::Containers>(
-        tape,
-        p.containers,
+        &Section {
+            tape,
+            run: p.containers,
+        },
         w,
-        containers.before,
-        readingtape,
-        q.containers,
+        k.containers.before,
+        &Section {
+            tape: new,
+            run: q.containers,
+        },
         out,
         containersat,
     );
     put_diagnostics(
-        tape,
-        p.diagnostics,
+        &Section {
+            tape,
+            run: p.diagnostics,
+        },
         w,
-        diagnostics.before,
-        readingtape,
-        q.diagnostics,
+        k.diagnostics.before,
+        &Section {
+            tape: new,
+            run: q.diagnostics,
+        },
         out,
         diagnosticsat,
         count,

@@ -8,38 +8,45 @@ ghost use Rattle.laws.specs.Splice.{splice};
 ghost use Rattle.wire.specs.Overwrite.{overwrite};
 ghost use Rattle.merged_texts.specs.Writing.{head_bytes};
 
-// A text with the part from `start` to `end` replaced.
-fn put_spliced(out: &mut [u8], at: usize, old: &[u8], start: usize, end: usize, new: &[u8])
-    requires start_le_end { (start ≤ end) × (end ≤ length old.now) }
-    requires end_in_bounds { at + start + length new.now + (length old.now - end) ≤ length out.old }
-    ensures { out.new ≡ overwrite out.old at (splice start end new.now old.now) }
+// A text, and what the part from `start` to `end` is replaced by.
+#[derive(Clone, Copy)]
+pub struct Spliced<'a> {
+    pub whole: &'a [u8],
+    pub start: usize,
+    pub end: usize,
+    pub part: &'a [u8],
+}
+
+// A text with its part replaced.
+fn put_spliced(out: &mut [u8], at: usize, text: &Spliced)
+    requires start_le_end { (text.now.start ≤ text.now.end) × (text.now.end ≤ length text.now.whole.now) }
+    requires end_in_bounds { at + text.now.start + length text.now.part.now + (length text.now.whole.now - text.now.end) ≤ length out.old }
+    ensures { out.new ≡ overwrite out.old at (splice text.now.start text.now.end text.now.part.now text.now.whole.now) }
 {
-    wire::copy_at(out, at, &old[0..start]);
-    wire::copy_at(out, at + start, new);
-    wire::copy_at(out, at + start + new.len(), &old[end..old.len()]);
+    let whole = text.whole;
+    let part = text.part;
+    wire::copy_at(out, at, &whole[0..text.start]);
+    wire::copy_at(out, at + text.start, part);
+    wire::copy_at(
+        out,
+        at + text.start + part.len(),
+        &whole[text.end..whole.len()],
+    );
 }
 
 // Both new texts, and the old strings as they stood.
-pub fn put_texts(
-    out: &mut [u8],
-    text: &[u8],
-    start: usize,
-    end: usize,
-    replacement: &[u8],
-    normalized: &[u8],
-    from: usize,
-    to: usize,
-    reading: &[u8],
-    strings: &[u8],
-)
-    requires start_le_end { (start ≤ end) × (end ≤ length text.now) × (from ≤ to) × (to ≤ length normalized.now) }
-    requires strings_in_bounds { start + length replacement.now + (length text.now - end) + (from + length reading.now + (length normalized.now - to)) + length strings.now ≤ length out.old }
-    ensures { out.new ≡ overwrite out.old 0 (splice start end replacement.now text.now ++ splice from to reading.now normalized.now ++ strings.now) }
+pub fn put_texts(out: &mut [u8], text: &Spliced, normalized: &Spliced, strings: &[u8])
+    requires start_le_end { (text.now.start ≤ text.now.end) × (text.now.end ≤ length text.now.whole.now) × (normalized.now.start ≤ normalized.now.end) × (normalized.now.end ≤ length normalized.now.whole.now) }
+    requires strings_in_bounds { text.now.start + length text.now.part.now + (length text.now.whole.now - text.now.end)
+        + (normalized.now.start + length normalized.now.part.now + (length normalized.now.whole.now - normalized.now.end)) + length strings.now ≤ length out.old }
+    ensures { out.new ≡ overwrite out.old 0 (splice text.now.start text.now.end text.now.part.now text.now.whole.now ++ splice normalized.now.start normalized.now.end normalized.now.part.now normalized.now.whole.now ++ strings.now) }
 {
-    let first = start + replacement.len() + (text.len() - end);
-    let second = from + reading.len() + (normalized.len() - to);
-    put_spliced(out, 0, text, start, end, replacement);
-    put_spliced(out, first, normalized, from, to, reading);
+    let first = text.start + text.part.len() + (text.whole.len() - text.end);
+    let second = normalized.start
+        + normalized.part.len()
+        + (normalized.whole.len() - normalized.end);
+    put_spliced(out, 0, text);
+    put_spliced(out, first, normalized);
     wire::copy_at(out, first + second, strings);
 }
 

@@ -12,7 +12,6 @@ use Rattle.model.specs.Store.{store_of}
 use Rattle.model.specs.Tape.{records_bytes, node_codec, book_at, places}
 use Rattle.model.specs.Tree.{shown_node, shown_nodes}
 use Rattle.model.specs.Graft.{With, graft_node_refs}
-use Rattle.model.specs.Merge.{grafted}
 use Rattle.wire.specs.Overwrite.{overwrite, overwrite_nil}
 use Rattle.stats.specs.Counts.{stats_of, no_stats}
 use Rattle.places.specs.declared.Places.{Places}

@@ -15,7 +15,7 @@ use Rattle.model.specs.Refusal.{Checked, Checked.refused, Checked.accepted}
 use Rattle.model.specs.Tape.{records_bytes, node_codec, book_at, bytes_of}
 use Rattle.model.specs.Graft.{With}
 use Rattle.model.specs.Region.{Edit}
-use Rattle.model.specs.Merge.{IncrementalOutput, MergeWindow, grafted, merged_book, answer}
+use Rattle.model.specs.Merge.{IncrementalOutput, MergeWindow, grafted, merged_book}
 use Rattle.laws.specs.Checks.{refused_not, same_accepted}
 use Rattle.laws.specs.Splice.{splice}
 use Rattle.wire.specs.Overwrite.{overwrite, length_overwrite, overwrite_next, take_overwrite}

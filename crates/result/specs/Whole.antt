@@ -14,12 +14,12 @@ use Rattle.model.specs.Types.{Layer as ModelLayer, SourceNode, LexOutput, Region
 use Rattle.model.specs.Refusal.{Checked.refused, Checked.accepted}
 use Rattle.model.specs.Tree.{shown_node, shown_nodes}
 use Rattle.model.specs.Store.{store_of, string_counts, content_counts, segment_counts}
-use Rattle.model.specs.Tape.{records_at, records_bytes, node_codec, pair_codec, container_codec, diagnostic_codec, layer_bytes, places, book_at, tape_of, bytes_of}
+use Rattle.model.specs.Tape.{records_at, records_bytes, node_codec, pair_codec, container_codec, diagnostic_codec, layer_bytes, book_at, tape_of, bytes_of}
 use Rattle.model.specs.Graft.{layered, layer_of, With, graft_node_refs}
 use Rattle.model.specs.Region.{Edit}
 use Rattle.model.specs.Merge.{Room, MergeWindow, window_of, spliced, node_located, pair_located, container_located, diagnostic_located, grafted, merged_book, stored_book, answer, result_ok, result_checked}
 use Rattle.laws.specs.Checks.{merge_facts, merged_of}
-use Rattle.laws.specs.Fits.{record_fits, fits}
+use Rattle.laws.specs.Fits.{record_fits}
 use Rattle.laws.specs.WriteRead.{book_fits}
 use Rattle.laws.specs.Sort.{all_sort_is}
 use Rattle.laws.specs.Records.{node_lawful}

@@ -19,49 +19,37 @@ ghost use Rattle.merged_lists.specs.Sizes.{lengths_of};
 ghost use Rattle.result.specs.Grafting.{offsets_of, GraftTold};
 ghost use Rattle.result.specs.Stages.{texts_of, StoreTold};
 
+use books::Merging;
+use merged_texts::Spliced;
 use output::IncrementalOutput;
 use refusal::Refusal;
+use region::Book;
 use stats::InternStats;
 
-// The old book or the reading: its tape and bytes, where the records stand, and its store.
-#[derive(Clone, Copy)]
-pub struct Book<'a> {
-    pub tape: &'a [u8],
-    pub bytes: &'a [u8],
-    pub places: places::Places,
-    pub store: store::Store,
-}
-
-// What is replaced in the old text, and by what.
-#[derive(Clone, Copy)]
-pub struct Edit<'a> {
-    pub start: u32,
-    pub end: u32,
-    pub replacement: &'a [u8],
-}
-
 // Both new texts and the old strings, by the places of both books and the window.
-fn put_new_texts(out: &mut [u8], book: &Book, edit: &Edit, w: splice::Window, reading: &Book)
-    requires start_le_end { (edit.now.start ≤ edit.now.end) × (edit.now.end ≤ book.now.places.text) × (w.nstart ≤ w.nend) × (w.nend ≤ book.now.places.normalized) }
-    requires normalized_in_bounds { (book.now.places.text + book.now.places.normalized ≤ length book.now.bytes.now) × (reading.now.places.text + reading.now.places.normalized ≤ length reading.now.bytes.now) }
-    requires bytes_in_bounds { (lengths_of book.now.places reading.now.places edit.now.start edit.now.end (length edit.now.replacement.now) w.nstart w.nend (length book.now.bytes.now)).base ≤ length out.old }
-    ensures { out.new ≡ overwrite out.old 0 (texts_of book.now.places reading.now.places edit.now.start edit.now.end edit.now.replacement.now w.nstart w.nend book.now.bytes.now reading.now.bytes.now) }
+fn put_new_texts(out: &mut [u8], m: &Merging)
+    requires start_le_end { (m.now.edit.start ≤ m.now.edit.end) × (m.now.edit.end ≤ m.now.book.places.text) × (m.now.window.nstart ≤ m.now.window.nend) × (m.now.window.nend ≤ m.now.book.places.normalized) }
+    requires normalized_in_bounds { (m.now.book.places.text + m.now.book.places.normalized ≤ length m.now.book.bytes.now) × (m.now.reading.places.text + m.now.reading.places.normalized ≤ length m.now.reading.bytes.now) }
+    requires bytes_in_bounds { (lengths_of m.now.book.places m.now.reading.places m.now.edit.start m.now.edit.end (length m.now.edit.replacement.now) m.now.window.nstart m.now.window.nend (length m.now.book.bytes.now)).base ≤ length out.old }
+    ensures { out.new ≡ overwrite out.old 0 (texts_of m.now.book.places m.now.reading.places m.now.edit.start m.now.edit.end m.now.edit.replacement.now m.now.window.nstart m.now.window.nend m.now.book.bytes.now m.now.reading.bytes.now) }
 {
-    let text = book.places.text as usize;
-    let first = text + book.places.normalized as usize;
-    let from = reading.places.text as usize;
-    merged_texts::put_texts(
-        out,
-        &book.bytes[0..text],
-        edit.start as usize,
-        edit.end as usize,
-        edit.replacement,
-        &book.bytes[text..first],
-        w.nstart as usize,
-        w.nend as usize,
-        &reading.bytes[from..from + reading.places.normalized as usize],
-        &book.bytes[first..book.bytes.len()],
-    );
+    let bytes = m.book.bytes;
+    let text = m.book.places.text as usize;
+    let first = text + m.book.places.normalized as usize;
+    let from = m.reading.places.text as usize;
+    let new_text = Spliced {
+        whole: &bytes[0..text],
+        start: m.edit.start as usize,
+        end: m.edit.end as usize,
+        part: m.edit.replacement,
+    };
+    let new_normalized = Spliced {
+        whole: &bytes[text..first],
+        start: m.window.nstart as usize,
+        end: m.window.nend as usize,
+        part: &m.reading.bytes[from..from + m.reading.places.normalized as usize],
+    };
+    merged_texts::put_texts(out, &new_text, &new_normalized, &bytes[first..bytes.len()]);
 }
 
 // What grafting wrote: the bytes of the new layer's records and of its strings, and the counts.
@@ -124,26 +112,23 @@ fn graft_reading(
 
 // Both texts and the strings; the head and the layers, the grafted nodes behind them.
 fn put_store(
-    book: &Book,
-    edit: &Edit,
-    w: splice::Window,
-    reading: &Book,
+    m: &Merging,
     l: merged_lists::Lengths,
     outtape: &mut [u8],
     outbytes: &mut [u8],
     work: &mut [u32],
 ) -> Option<Graft>
-    requires books { Books book.now.tape.now book.now.bytes.now book.now.places book.now.store (edit_of edit.now.start edit.now.end edit.now.replacement.now) (window_value w) reading.now.tape.now reading.now.bytes.now reading.now.places reading.now.store }
-    requires l_value { l ≡ lengths_of book.now.places reading.now.places edit.now.start edit.now.end (length edit.now.replacement.now) w.nstart w.nend (length book.now.bytes.now) }
-    requires min_work_words_in_bounds { (min_work_words ≤ length work.old) × (l.normalized ≤ max_text) × (l.base ≤ length outbytes.old) × (book.now.places.nodes.at ≤ length outtape.old) }
-    ensures { StoreTold (book_in book.now.tape.now book.now.bytes.now) (edit_of edit.now.start edit.now.end edit.now.replacement.now) (book_in reading.now.tape.now reading.now.bytes.now) (window_value w) outtape.old outbytes.old outtape.new outbytes.new book.now.places.nodes.at l.base (offsets_of book.now.store.totals) result }
+    requires books { Books m.now.book.tape.now m.now.book.bytes.now m.now.book.places m.now.book.store (edit_of m.now.edit.start m.now.edit.end m.now.edit.replacement.now) (window_value m.now.window) m.now.reading.tape.now m.now.reading.bytes.now m.now.reading.places m.now.reading.store }
+    requires l_value { l ≡ lengths_of m.now.book.places m.now.reading.places m.now.edit.start m.now.edit.end (length m.now.edit.replacement.now) m.now.window.nstart m.now.window.nend (length m.now.book.bytes.now) }
+    requires min_work_words_in_bounds { (min_work_words ≤ length work.old) × (l.normalized ≤ max_text) × (l.base ≤ length outbytes.old) × (m.now.book.places.nodes.at ≤ length outtape.old) }
+    ensures { StoreTold (book_in m.now.book.tape.now m.now.book.bytes.now) (edit_of m.now.edit.start m.now.edit.end m.now.edit.replacement.now) (book_in m.now.reading.tape.now m.now.reading.bytes.now) (window_value m.now.window) outtape.old outbytes.old outtape.new outbytes.new m.now.book.places.nodes.at l.base (offsets_of m.now.book.store.totals) result }
 {
-    let at = book.places.nodes.at;
-    put_new_texts(outbytes, book, edit, w, reading);
-    merged_texts::put_head(outtape, book.tape, at, l.text as u32, l.normalized as u32);
+    let at = m.book.places.nodes.at;
+    put_new_texts(outbytes, m);
+    merged_texts::put_head(outtape, m.book.tape, at, l.text as u32, l.normalized as u32);
     graft_reading(
-        reading,
-        book.store.totals,
+        &m.reading,
+        m.book.store.totals,
         outtape,
         work,
         outbytes,
@@ -154,30 +139,19 @@ fn put_store(
 
 // Number 18, and the merged book, of a book and a reading that passed 1 to 17.
 pub fn merge_books(
-    book: &Book,
-    edit: &Edit,
-    w: splice::Window,
-    reading: &Book,
+    m: &Merging,
     outtape: &mut [u8],
     outbytes: &mut [u8],
     work: &mut [u32],
 ) -> Result<IncrementalOutput, Refusal>
-    requires { Books book.now.tape.now book.now.bytes.now book.now.places book.now.store (edit_of edit.now.start edit.now.end edit.now.replacement.now) (window_value w) reading.now.tape.now reading.now.bytes.now reading.now.places reading.now.store }
-    ensures { Written (result_checked (book_in book.now.tape.now book.now.bytes.now) (edit_of edit.now.start edit.now.end edit.now.replacement.now) (book_in reading.now.tape.now reading.now.bytes.now) (window_value w) (room_of outtape.old outbytes.old work.old)) (checked result) outtape.old outbytes.old work.old outtape.new outbytes.new work.new }
+    requires { Books m.now.book.tape.now m.now.book.bytes.now m.now.book.places m.now.book.store (edit_of m.now.edit.start m.now.edit.end m.now.edit.replacement.now) (window_value m.now.window) m.now.reading.tape.now m.now.reading.bytes.now m.now.reading.places m.now.reading.store }
+    ensures { Written (result_checked (book_in m.now.book.tape.now m.now.book.bytes.now) (edit_of m.now.edit.start m.now.edit.end m.now.edit.replacement.now) (book_in m.now.reading.tape.now m.now.reading.bytes.now) (window_value m.now.window) (room_of outtape.old outbytes.old work.old)) (checked result) outtape.old outbytes.old work.old outtape.new outbytes.new work.new }
 {
-    let p = book.places;
-    let q = reading.places;
-    let k = merged_lists::kept_in(book.tape, p, w);
-    let l = merged_lists::new_lengths(
-        p,
-        q,
-        edit.start,
-        edit.end,
-        edit.replacement.len(),
-        w.nstart,
-        w.nend,
-        book.bytes.len(),
-    );
+    let p = m.book.places;
+    let q = m.reading.places;
+    let w = m.window;
+    let k = merged_lists::kept_in(m.book.tape, p, w);
+    let l = merged_lists::new_lengths(m);
     if !merged_lists::room_for(
         l,
         k,
@@ -189,7 +163,7 @@ pub fn merge_books(
     ) {
         return Err(Refusal::NoRoom);
     }
-    let Some(g) = put_store(book, edit, w, reading, l, outtape, outbytes, work) else {
+    let Some(g) = put_store(m, l, outtape, outbytes, work) else {
         return Err(Refusal::NoRoom);
     };
     let at = p.nodes.at + g.len;
@@ -197,6 +171,6 @@ pub fn merge_books(
     if outtape.len() < size {
         return Err(Refusal::NoRoom);
     }
-    merged_lists::put_lists(book.tape, p, w, k, reading.tape, q, outtape, at);
+    merged_lists::put_lists(m, k, outtape, at);
     Ok(merged_lists::output_of(w, k.nodes, q.nodes.count, g.stats, size, l.base + g.bytes))
 }

@@ -5,6 +5,8 @@
 // output of a case whose label begins with "Rust" is the Rust's own answer (oracle/sample).
 #![tactic(auto)]
 
+use books::{Correction, Stored};
+use edit::Edit;
 use output::IncrementalOutput;
 use refusal::Refusal;
 use std::io;
@@ -54,6 +56,11 @@ fn put_rest(
     )
 }
 
+// That the items of a slice are bytes is known where the slice comes in.
+fn stored<'a>(tape: &'a [u8], bytes: &'a [u8]) -> Stored<'a> {
+    Stored { tape, bytes }
+}
+
 fn show(rt: &(impl Alloc + Print), c: cases::Case) -> io::Result<()> {
     let rest = c.replacement;
     let tape = wire::u32_or_zero(rest, 0).min(65536);
@@ -64,14 +71,19 @@ fn show(rt: &(impl Alloc + Print), c: cases::Case) -> io::Result<()> {
     let mut work = vec![in rt.alloc(); 7u32; words as usize]?;
     let readingtape = HEAD + wire::u32_or_zero(rest, 12) as usize;
     let readingbytes = readingtape + wire::u32_or_zero(rest, 16) as usize;
-    let r = incremental::merge(
-        c.tape,
-        c.bytes,
-        c.start,
-        c.end,
-        wire::between(rest, HEAD, readingtape),
+    let book = stored(c.tape, c.bytes);
+    let edit = Edit {
+        start: c.start,
+        end: c.end,
+        replacement: wire::between(rest, HEAD, readingtape),
+    };
+    let reading = stored(
         wire::between(rest, readingtape, readingbytes),
         wire::between(rest, readingbytes, rest.len()),
+    );
+    let r = incremental::merge(
+        &book,
+        &Correction { edit, reading },
         &mut out,
         &mut strs,
         &mut work,

@@ -11,7 +11,7 @@ new_lengths-l-requires c =
     let start = c in
     let i = inside start.requires in record {
       end_le_text = (i.ends, i.normal_ends, i.limit);
-      normalized_bound = ((texts_inside start.requires).0, omega arith);
+      normalized_bound = (texts_inside start.requires).0;
     }
 
 pub reading_sizes-s-requires : goal.reading_sizes-s-requires

@@ -6,4 +6,4 @@ use Rattle.exports.proofs.aozora_merge.Goals as goal
 pub returns : goal.returns
 returns c =
     let back = merge_back _ c.from.ensures in
-    (merge_told back c.merge.ensures, c.from.ensures ∙ ap merge_answer (sym back))
+    (merge_told back c.merge-merged.ensures, c.from.ensures ∙ ap merge_answer (sym back))

@@ -25,11 +25,6 @@ overflow_sub-last c =
     let start = c in
     omega (arith, region_asked start.requires.read)
 
-pub overflow_cast-last : goal.overflow_cast-last
-overflow_cast-last c =
-    let at-fits = c in
-    omega (arith, at-fits.ranges.end)
-
 pub is_region_text-requires : goal.is_region_text-requires
 unfolding edit_of
 is_region_text-requires c =

@@ -1,4 +1,4 @@
-use Rattle.std.proofs.Common.{arith, refl}
+use Rattle.std.proofs.Common.{refl}
 use Rattle.model.specs.Region.{edit_of}
 use Rattle.refusal.specs.Refusal.{handed_on, was_refused, number_bounds}
 use Rattle.tape.specs.Accepted.{passed_reading}
@@ -39,5 +39,4 @@ pub returns : goal.returns
 unfolding edit_of
 returns c =
     let read = reading_read (passed_reading c.in_ok-q.ensures) c.requires c.store_of-own.ensures in
-    window_books read c.region_window-w.result c.region_window-w.ensures c.in_ok-check_fitting.ensures refl
-    (record { byte = λ i h. omega (arith, c.type_inv.tape i) }) (record { byte = λ i h. omega (arith, c.type_inv.readingtape i) })
+    window_books read c.region_window-w.result c.region_window-w.ensures c.in_ok-check_fitting.ensures refl c.args.book.now.are_bytes.0 c.args.correction.now.reading.are_bytes.0

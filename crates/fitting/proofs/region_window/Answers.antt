@@ -30,5 +30,5 @@ window-requires c =
 pub returns : goal.returns
 returns c =
     let start = c in
-    window_cuts _ _ (length start.args.replacement.now) start.args.start start.args.end start.args.normalized c.window.ensures c.normalized_cut-nstart.ensures
+    window_cuts _ _ (length start.args.edit.now.replacement.now) start.args.edit.now.start start.args.edit.now.end start.args.normalized c.window.ensures c.normalized_cut-nstart.ensures
     c.normalized_cut-nend.ensures

@@ -30,4 +30,4 @@ put_behind-requires c =
 
 pub returns : goal.returns
 returns c =
-    nodes_wrote (window_value c.args.w) (records_at node_codec c.args.tape.now c.args.run.at c.args.run.count) (nodes_six c.args.tape.now c.args.run.at c.args.run.count) c.args.out.now c.args.to c.args.before c.args.reading c.requires.before_value c.requires.reading_in_bounds c.move_up.ensures c.put_before.ensures (run_length node_codec c.args.out.now c.args.to c.args.reading) c.place_nodes.ensures c.put_behind.ensures
+    nodes_wrote (window_value c.args.w) (records_at node_codec c.args.old.now.tape.now c.args.old.now.run.at c.args.old.now.run.count) (nodes_six c.args.old.now.tape.now c.args.old.now.run.at c.args.old.now.run.count) c.args.out.now c.args.to c.args.before c.args.reading c.requires.before_value c.requires.reading_in_bounds c.move_up.ensures c.put_before.ensures (run_length node_codec c.args.out.now c.args.to c.args.reading) c.place_nodes.ensures c.put_behind.ensures

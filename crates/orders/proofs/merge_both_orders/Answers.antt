@@ -1,5 +1,4 @@
 use mathlib.Core.Path.{refl}
-use native.Mathlib.Omega.{arith}
 use Rattle.orders.specs.Orders.{moved_correction, both_orders}
 use Rattle.orders.proofs.merge_both_orders.Goals as goal
 
@@ -13,4 +12,8 @@ shape_of-bytes1 c =
 
 pub returns : goal.returns
 returns c =
-    both_orders (record { tape = (record { byte = λ i h. omega (arith, c.type_inv.tape i) }); bytes = (record { byte = λ i h. omega (arith, c.type_inv.bytes i) }) }) (record { tape = (record { byte = λ i h. omega (arith, c.type_inv.readingtape1 i) }); bytes = (record { byte = λ i h. omega (arith, c.type_inv.readingbytes1 i) }) }) (record { tape = (record { byte = λ i h. omega (arith, c.type_inv.readingtape2 i) }); bytes = (record { byte = λ i h. omega (arith, c.type_inv.readingbytes2 i) }) }) (moved_correction _ _ _ _ _ _ c.moved-movedstart.ensures c.moved-movedend.ensures) refl refl c.merge_in_order-a.ensures c.merge_in_order-b.ensures
+    let b = c.args.book.now.are_bytes in
+    let e = c.args.earlier.now.reading.are_bytes in
+    let l = c.args.later.now.reading.are_bytes in
+    both_orders (record { tape = b.0; bytes = b.1 }) (record { tape = e.0; bytes = e.1 }) (record { tape = l.0; bytes = l.1 })
+    (moved_correction _ _ _ _ _ _ c.moved.ensures c.moved-2.ensures) refl refl c.merge_in_order-a.ensures c.merge_in_order-b.ensures

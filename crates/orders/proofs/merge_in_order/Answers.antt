@@ -2,14 +2,14 @@ use mathlib.Core.Path.{refl}
 use Rattle.orders.specs.Orders.{tape_head, bytes_head, in_order}
 use Rattle.orders.proofs.merge_in_order.Goals as goal
 
-pub slice_bounds-merge-end : goal.slice_bounds-merge-end
-slice_bounds-merge-end c =
-    (tape_head c.merge-first.ensures c.taken-tapeend.ensures.0).0
+pub slice_bounds-merged-end : goal.slice_bounds-merged-end
+slice_bounds-merged-end c =
+    (tape_head c.merge-one.ensures c.taken-tapeend.ensures.0).0
 
-pub slice_bounds-merge-end-2 : goal.slice_bounds-merge-end-2
-slice_bounds-merge-end-2 c =
-    (bytes_head c.merge-first.ensures c.taken-tapeend.ensures.1).0
+pub slice_bounds-merged-end-2 : goal.slice_bounds-merged-end-2
+slice_bounds-merged-end-2 c =
+    (bytes_head c.merge-one.ensures c.taken-tapeend.ensures.1).0
 
 pub returns : goal.returns
 returns c =
-    in_order refl c.taken-tapeend.ensures.0 c.taken-tapeend.ensures.1 c.merge-first.ensures c.merge-second.ensures
+    in_order refl c.taken-tapeend.ensures.0 c.taken-tapeend.ensures.1 c.merge-one.ensures c.merge-two.ensures

@@ -1,9 +1,9 @@
 use Rattle.orders.specs.Moved.{moved_same, moved_gone, moved_left}
 use Rattle.orders.proofs.moved.Goals as goal
 
-pub returns-then-end-start : goal.returns-then-end-start
-returns-then-end-start c =
-    moved_same _ _ _ _ c.if-end-start.true c.capped.ensures
+pub returns-then-edit : goal.returns-then-edit
+returns-then-edit c =
+    moved_same _ _ _ _ c.if-edit.true c.capped.ensures
 
 pub returns-then-longer-removed : goal.returns-then-longer-removed
 returns-then-longer-removed c =

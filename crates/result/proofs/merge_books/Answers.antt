@@ -1,10 +1,9 @@
-use borrow.Author.Tests.{not-true, not-false}
 use Rattle.model.specs.Region.{edit_of}
 use Rattle.result.specs.Merging.{old_fit, texts_inside, no_room, no_graft, no_size, at_small, lists_ready, bytes_small, merged}
 use Rattle.result.specs.Whole.{small}
 use Rattle.merged_lists.specs.Sizes.{room_facts}
 use Rattle.result.specs.Books.{inside}
-use Rattle.std.proofs.Common.{◌∙◌, ◌-◌}
+use Rattle.std.proofs.Common.{◌∙◌}
 use mathlib.Core.Path.{refl, sym}
 use native.Mathlib.Omega.{arith}
 use Rattle.result.proofs.merge_books.Goals as goal
@@ -18,7 +17,7 @@ unfolding edit_of
 new_lengths-l-requires c =
     let i = inside c.requires in record {
       end_le_text = (i.ends, i.normal_ends, i.limit);
-      normalized_bound = ((texts_inside c.requires).0, omega arith);
+      normalized_bound = (texts_inside c.requires).0;
     }
 
 pub room_for-requires : goal.room_for-requires

@@ -3,7 +3,6 @@ use Rattle.merged_lists.specs.declared.Lengths.{Lengths}
 use Rattle.result.specs.Merging.{texts_inside, nodes_at_lem, source_fits, pools_fit}
 use Rattle.result.specs.Stages.{store_told}
 use Rattle.result.specs.Books.{inside}
-use Rattle.std.proofs.Common.{◌-◌}
 use mathlib.Core.Path.{ap}
 use native.Mathlib.Omega.{arith}
 use Rattle.result.proofs.put_store.Goals as goal
