@@ -59,7 +59,7 @@ fn target_of(
         tape,
         bytes,
         places: p,
-        store: st,
+        store: &st,
     };
     let region = region::chosen_region(&book, &edit, work)?;
     Ok(Target { p, st, region })
@@ -148,13 +148,13 @@ fn check_cuts(
         tape,
         bytes,
         places: p,
-        store: f.st,
+        store: &f.st,
     };
     let own = region::Book {
         tape: readingtape,
         bytes: readingbytes,
         places: q,
-        store: f.own,
+        store: &f.own,
     };
     if introduces::introduces_ruby_format_dependency(&book, &own, work, w.start, w.end) {
         return Err(Refusal::NewRubyFormatDependency);

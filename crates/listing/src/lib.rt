@@ -185,8 +185,8 @@ impl<'a> Book<'a> {
     {
         let texts = wire::u32_or_zero(self.tape, 1) as usize
             + wire::u32_or_zero(self.tape, 5) as usize;
-        let start = texts + strings::start_from(self.tape, *self.st, self.bytes.len(), 0, id, 0);
-        let len = strings::string_length(self.tape, *self.st, id);
+        let start = texts + strings::start_from(self.tape, self.st, self.bytes.len(), 0, id, 0);
+        let len = strings::string_length(self.tape, self.st, id);
         wire::between(self.bytes, start, start + len)
     }
 
