@@ -1,32 +1,14 @@
 -- Items of which the first is repeated.
-use Rattle.std.specs.Prelude.{◌≡◌, ℕ, ◌+◌, ◌-◌, ◌*◌, ◌≤◌, ◌<◌, List, [], ◌∷◌, get_or, take, drop, ltb}
-use Rattle.std.proofs.Common.{sym, ap, ◌∙◌, add_assoc, arith, ltb-true, ltb-false}
+use Rattle.std.specs.Prelude.{◌≡◌, ℕ, ◌+◌, ◌-◌, ◌≤◌, ◌<◌, List, [], ◌∷◌, get_or, take, drop}
+use Rattle.std.proofs.Common.{sym, ap, ◌∙◌, add_assoc, arith}
 use Rattle.std.proofs.lemmas.List.{get_or-take, get_or-drop}
 use Rattle.model.specs.Bytes.{byte_at, word_at}
-use Rattle.model.specs.Tape.{record_at, content_codec}
 use Rattle.records.specs.Values.{body_at}
-use Rattle.wire.specs.Loops.{by_bool}
 
 -- the r items behind f 0, of at most `most`, are like it
 pub record Alike {A : Type 0} (f : ℕ → A) (most r : ℕ) : Type 0 where
   pub few : r ≤ most
   pub same : (j : ℕ) → j < r → f (j + 1) ≡ f 0
-
-pub alike_none : {A : Type 0} (f : ℕ → A) (most : ℕ) → Alike f most 0
-alike_none f most = record { few = omega arith; same = λ j h. absurd (omega arith) }
-
-pub alike_more : {A : Type 0} {f : ℕ → A} {most k : ℕ} → Alike f most k → k < most → f (k + 1) ≡ f 0 → Alike f most (k + 1)
-alike_more {A} {f} {most} {k} a h e = record {
-  few = omega arith;
-  same = λ j l. by_bool (ltb j k)
-      (λ q. a.same j (ltb-true j k q))
-      (λ q. let n = ltb-false j k q in let z : j ≡ k = omega (arith, n, l) in ap (λ (i : ℕ). f (i + 1)) z ∙ e);
-}
-
--- ---- contents
-
-pub content_next : (t : List ℕ) (at k : ℕ) → record_at content_codec t (at + 10 * (k + 1)) ≡ record_at content_codec t at → record_at content_codec t (at + 10 * (k + 1)) ≡ record_at content_codec t (at + 10 * 0)
-content_next t at k e = let z : at ≡ at + 10 * 0 = omega arith in e ∙ ap (record_at content_codec t) z
 
 -- ---- bodies
 
@@ -68,6 +50,3 @@ module _ (t : List ℕ) (a b : ℕ) (e : take (a + 34 - a) (drop a t) ≡ take (
       let w6 = word 26 (omega arith) in
       let w7 = word 30 (omega arith) in
       λ i. record { kind = kind i; tag = tag i; plain1 = w0 i; plain2 = w1 i; words = w2 i ∷ w3 i ∷ w4 i ∷ w5 i ∷ w6 i ∷ w7 i ∷ [] }
-
-pub body_next : (t : List ℕ) (at k : ℕ) → body_at t (at + 37 * (k + 1) + 3) ≡ body_at t (at + 3) → body_at t (at + 37 * (k + 1) + 3) ≡ body_at t (at + 37 * 0 + 3)
-body_next t at k e = let z : at + 3 ≡ at + 37 * 0 + 3 = omega arith in e ∙ ap (body_at t) z

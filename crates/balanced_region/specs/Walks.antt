@@ -3,7 +3,6 @@ use Rattle.std.specs.Prelude.{ℕ, ◌+◌, ◌-◌, ◌≤◌, ◌<◌, max, mi
 use Rattle.std.proofs.Common.{arith, sym, ap, ◌∙◌, ltb-true, ltb-false}
 use Rattle.std.proofs.Math.Logic.{inl}
 use Rattle.model.specs.Region.{is_block_open, is_block_close, is_warichu_open, is_warichu_close, depth_behind, nodes_allow_cut}
-use Rattle.bounds.specs.Search.{InOrder}
 use Rattle.places.specs.declared.Run.{Run}
 use Rattle.wire.specs.Loops.{by_bool}
 use Rattle.cuts.specs.Safe.{cut_allowed}
@@ -11,7 +10,7 @@ use Rattle.balanced_region.specs.Ends.{region_end_in, region_start_in}
 use Rattle.cuts.specs.Offsets.{Refused, refused_none, Latest, latest_none}
 use Rattle.cuts.specs.Pairs.{pairs_of}
 use Rattle.cuts.specs.Gaps.{Walked, nodes_of, walked_none, in_order_nodes, depths_zero, walked_rest, node_at, walked_gap}
-use Rattle.cuts.specs.Gaps.{walked_more, NodesIn, walked_span, walked_refused}
+use Rattle.cuts.specs.Gaps.{NodesApart, apart_in_order, walked_more, NodesIn, walked_span, walked_refused}
 use Rattle.balanced_region.specs.EndSearch.{gap_first, end_last, gap_searched, Searched, end_found, refused_on, allowed_not}
 use Rattle.balanced_region.specs.Unmatched.{depths_at, depths_before, no_depths, gap_from, Front, front_of, unmatched_small, blocks_back, warichu_back}
 use Rattle.balanced_region.specs.Unmatched.{GapAt, gap_at, gap_next, gap_rises}
@@ -56,8 +55,8 @@ module _ {text t : List ℕ} {r p : Run} {o i from blocks warichu : ℕ} (w : En
         none = refused_on text (nodes_of t r) (pairs_of t p) o from start end w.none c searched (omega arith) (walked_refused w.walked h start end q q₁);
       }
 
-gap_of : (t : List ℕ) (r : Run) (n : InOrder (nodes_of t r)) → (i : ℕ) → i ≤ r.count → GapAt n.size t r i
-gap_of t r n = gap_at n.size t r (in_order_nodes n)
+gap_of : (t : List ℕ) (r : Run) (n : NodesApart (nodes_of t r)) → (i : ℕ) → i ≤ r.count → GapAt (apart_in_order n).size t r i
+gap_of t r n = gap_at (apart_in_order n).size t r (in_order_nodes (apart_in_order n))
 
 -- ---- `last_cut`: i nodes lie before the gap, and no offset behind hi, up to `bound`, is a cut
 
@@ -72,7 +71,7 @@ pub record DownWalk (text t : List ℕ) (r p : Run) (d : Passed) (bound i blocks
   pub below : hi ≤ bound
   pub none : Refused (cut_allowed text (nodes_of t r) (pairs_of t p)) (hi + 1) (bound + 1)
 
-module _ {text t : List ℕ} {r p : Run} {d : Passed} {bound : ℕ} (n : InOrder (nodes_of t r)) (f : Front t r bound d) where
+module _ {text t : List ℕ} {r p : Run} {d : Passed} {bound : ℕ} (n : NodesApart (nodes_of t r)) (f : Front t r bound d) where
   pub down_none : DownWalk text t r p d bound d.count d.depths.blocks d.depths.warichu bound
   down_none =
       let e : d.depths.blocks ≡ (depths_at t r.at d.count).depths.blocks = ap (λ (x : Passed). x.depths.blocks) f.is in
@@ -109,7 +108,7 @@ module _ {text t : List ℕ} {r p : Run} {d : Passed} {bound : ℕ} (n : InOrder
       down_here = gap_down text (nodes_of t r) (pairs_of t p) blocks warichu lo hi down_positive down_gap e₀ m₀ c e
 
       low : gap_from t r d.unmatched ≤ lo
-      low = omega (arith, q, gap_rises n.size t r (in_order_nodes n) (i - d.unmatched) d.unmatched i (omega (arith, w.from)) (omega (arith, w.upto, f.within)))
+      low = omega (arith, q, gap_rises (apart_in_order n).size t r (in_order_nodes (apart_in_order n)) (i - d.unmatched) d.unmatched i (omega (arith, w.from)) (omega (arith, w.upto, f.within)))
 
       low_positive : 1 ≤ gap_from t r d.unmatched
       low_positive = (gap_of t r n d.unmatched (omega (arith, w.from, w.upto, f.within))).positive
@@ -156,10 +155,10 @@ pub record LastWalk (text t : List ℕ) (r p : Run) (bound i from blocks warichu
   pub latest : Latest (cut_allowed text (nodes_of t r) (pairs_of t p)) from last
   pub below : last ≤ bound
 
-pub last_walk_none : (text t : List ℕ) (r p : Run) (bound : ℕ) → InOrder (nodes_of t r) → LastWalk text t r p bound 0 0 0 0 0
+pub last_walk_none : (text t : List ℕ) (r p : Run) (bound : ℕ) → NodesApart (nodes_of t r) → LastWalk text t r p bound 0 0 0 0 0
 last_walk_none text t r p bound h = record {
-  size = h.size;
-  walked = walked_none h.size t r (in_order_nodes h);
+  size = (apart_in_order h).size;
+  walked = walked_none (apart_in_order h).size t r (in_order_nodes (apart_in_order h));
   latest = latest_none (cut_allowed text (nodes_of t r) (pairs_of t p));
   below = omega arith;
 }
@@ -200,9 +199,9 @@ module _ (t : List ℕ) (r : Run) (o : ℕ) (d : Passed) (q : d ≡ depths_befor
   pub start_falls : d.unmatched ≤ r.count
   start_falls = let f = start_front in omega (arith, ap (λ (x : Passed). x.unmatched) f.is, unmatched_small t r.at d.count, f.within)
 
-  module _ (text : List ℕ) (p : Run) (inside : o ≤ length text) (x : Bool) (ends : x ≡ ends_behind_newline text o) (no : x ≡ false) (n : InOrder (nodes_of t r))
+  module _ (text : List ℕ) (p : Run) (inside : o ≤ length text) (x : Bool) (ends : x ≡ ends_behind_newline text o) (no : x ≡ false) (n : NodesApart (nodes_of t r))
       (c : ℕ) (e : c ≡ last_cut text (nodes_of t r) (pairs_of t p) (gap_from t r d.unmatched) o) where
-    gap_here : GapAt n.size t r d.unmatched
+    gap_here : GapAt (apart_in_order n).size t r d.unmatched
     gap_here = gap_of t r n d.unmatched start_falls
 
     pub start_walk_found : 0 < c → c ≡ region_start_in text (nodes_of t r) (pairs_of t p) o

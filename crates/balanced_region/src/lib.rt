@@ -21,7 +21,8 @@ ghost use Rattle.balanced_region.specs.StartSearch.{gap_last, last_cut, ends_beh
 
 use cuts::{Depths, Source};
 
-// The next offset to try for a cut that text and pairs allow: where a pair lies across, all up to its end are refused.
+// The next offset to try for a cut that text and pairs allow: where a pair lies across, all up to its end are refused. The words hold a window
+// from one call to the next; why they are lent, and no part of a struct, is said at `Source::reach_at`.
 fn next_try(source: &Source, o: usize, words: &mut [u32]) -> usize
     requires inside { o ≤ length source.now.text.now }
     requires window { Window (pairs_in source.now) words.old }
@@ -206,7 +207,7 @@ fn gap_from(source: &Source, i: usize) -> usize
     records::node_end(source.tape, source.nodes.at + 49 * (i - 1)) as usize
 }
 
-// The last cut at or before `bound`, behind the last unmatched close, else 0. What the walk stops at is looked at behind the loop.
+// The last cut at or before `bound`, behind the last unmatched close, else 0.
 fn last_cut(source: &Source, d: Passed, bound: usize, words: &mut [u32]) -> usize
     requires inside { bound ≤ length source.now.text.now }
     requires front { Front source.now.tape.now source.now.nodes bound d }
@@ -217,23 +218,20 @@ fn last_cut(source: &Source, d: Passed, bound: usize, words: &mut [u32]) -> usiz
     let mut i = d.count;
     let mut depths = d.depths;
     let mut hi = bound;
-    while d.unmatched < i {
+    loop {
         let lo = gap_from(source, i);
         let c = gap_last(source, lo, hi + 1, depths, hi.min(lo - 1), words);
         if lo <= c {
             return c;
+        }
+        if i <= d.unmatched {
+            return 0;
         }
         i -= 1;
         let p = source.nodes.at + 49 * i;
         hi = c.min(records::node_start(source.tape, p) as usize);
         depths = depths.before(source.tape, p);
     }
-    let lo = gap_from(source, i);
-    let c = gap_last(source, lo, hi + 1, depths, hi.min(lo - 1), words);
-    if lo <= c {
-        return c;
-    }
-    0
 }
 
 // The last offset at or before `bound` that is a cut, else 0, by a walk from the first node on.
@@ -260,6 +258,7 @@ fn last_cut_before(source: &Source, bound: usize, words: &mut [u32]) -> usize
 }
 
 // The length behind a newline.
+#[tactic(auto, using(std::proofs::lemmas::Bool::Decides::nat_tests), unfolding(crate::specs::StartSearch::ends_behind_newline))]
 fn ends_behind_newline(text: &[u8], o: usize) -> bool
     requires { o ≤ length text.now }
     ensures { result ≡ ends_behind_newline text.now o }

@@ -66,12 +66,20 @@ pub fn diagnostics_placed(tape: &[u8], diagnostics: places::Run, size: usize) ->
     })
 }
 
+// The first kind of diagnostic that allows no reading of a part: before it are UnresolvedGaiji and NonCanonicalDirective.
+const UNCLOSED_BRACKET: u8 = 2;
+
 pub fn diagnostics_allow_incremental(tape: &[u8], diagnostics: places::Run) -> bool
     requires { diagnostics.at + 18 * diagnostics.count ≤ length tape.now }
     ensures { result ≡ diagnostics_allow_incremental (records_at diagnostic_codec tape.now diagnostics.at diagnostics.count) }
 {
-    (0..diagnostics.count).all(|i| tape[diagnostics.at + 18 * i + 1] < 2)
+    (0..diagnostics.count).all(|i| tape[diagnostics.at + 18 * i + 1] < UNCLOSED_BRACKET)
 }
+
+// Classes of nodes.
+const INLINE: u8 = 0;
+
+const BLOCK_LEAF: u8 = 1;
 
 // Section 4. `standalone_padding`.
 #[tactic(auto, using(std::proofs::lemmas::Bool::Decides::nat_tests), unfolding(crate::specs::Walk::padding_of))]
@@ -79,8 +87,8 @@ fn standalone_padding(class: u8, inline: u8) -> u64
     ensures { result ≡ padding_of class inline }
 {
     match (class, inline) {
-        (0, _) => 0,
-        (1, _) | (_, 0) => 2,
+        (INLINE, _) => 0,
+        (BLOCK_LEAF, _) | (_, 0) => 2,
         _ => 0,
     }
 }

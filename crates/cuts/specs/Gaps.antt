@@ -221,9 +221,6 @@ placed_nodes size ns e =
 pub book_nodes : (b : LexOutput) → PlaceFacts b → NodesIn (length b.sanitized) b.source_nodes
 book_nodes b f = record { inside = f.source_spans; order = f.order }
 
-pub nodes_in_order : {size : ℕ} {ns : List SourceNode} → NodesIn size ns → InOrder ns
-nodes_in_order {size} h = record { size = size; inside = h.inside; order = h.order }
-
 pub in_order_nodes : {ns : List SourceNode} → (h : InOrder ns) → NodesIn h.size ns
 in_order_nodes h = record { inside = h.inside; order = h.order }
 

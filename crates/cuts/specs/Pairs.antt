@@ -89,12 +89,6 @@ module _ (t : List ℕ) (r : Run) where
   pub pairs_none : pairs_from t r r.count ≡ []
   pairs_none = let z : r.count - r.count ≡ 0 = omega arith in rw (z, run_none pair_codec t (r.at + 18 * r.count)) refl
 
-  pub pairs_all : (i : ℕ) → i ≡ 0 → pairs_from t r i ≡ pairs_of t r
-  pairs_all i e =
-      let e₁ : r.at + 18 * i ≡ r.at = omega arith in
-      let e₂ : r.count - i ≡ r.count = omega arith in
-      rw (e₁, e₂) refl
-
   -- the pair before them, numbered j
   pub pairs_more : (i j : ℕ) → j ≡ i - 1 → 0 < i → i ≤ r.count → pairs_from t r j ≡ (record_at pair_codec t (r.at + 18 * j) ∷ pairs_from t r i)
   unfolding pair_codec
@@ -112,6 +106,3 @@ module _ (t : List ℕ) (r : Run) where
         → (y : ℕ) → y ≡ reach_of a b o → (z : ℕ) → z ≡ max x y → z ≡ reach (pairs_from t r j) o
     unfolding reach
     reach_more x i e h j q l a b f g y s z w = w ∙ rw (pairs_more i j q l h, ← e, ← f, ← g, ← s) refl
-
-    pub reach_all : (x i : ℕ) → x ≡ reach (pairs_from t r i) o → i ≡ 0 → x ≡ reach (pairs_of t r) o
-    reach_all x i e h = e ∙ ap (λ (ps : List PairLink). reach ps o) (pairs_all i h)

@@ -1,5 +1,5 @@
 -- Section 6 over the three lists of a book that it asks: text, nodes and pairs. A cut depends on nothing else.
-use Rattle.std.specs.Prelude.{ℕ, ◌+◌, ◌-◌, ◌≡◌, Bool, true, false, ◌&&◌, ◌||◌, List, length, eqb}
+use Rattle.std.specs.Prelude.{ℕ, ◌+◌, ◌-◌, ◌≡◌, Bool, false, ◌&&◌, ◌||◌, List, length, eqb}
 use native.Mathlib.Omega.{arith}
 use Rattle.std.proofs.Math.Path.{refl, sym}
 use Rattle.std.proofs.Common.{◌∙◌}
@@ -16,26 +16,6 @@ cut_allowed text ns ps o = blank_line_before text o && nodes_allow_cut ns o && p
 -- Section 6. `safe_cut`: 0 and the length always; elsewhere text, nodes and pairs allow it.
 unfoldable pub safe_cut_in : List ℕ → List SourceNode → List PairLink → ℕ → Bool
 safe_cut_in text ns ps o = eqb o 0 || eqb o (length text) || cut_allowed text ns ps o
-
--- ---- an offset between 0 and the length, by the code's answers
-
-module _ (text : List ℕ) (ns : List SourceNode) (ps : List PairLink) (o : ℕ) (z : o ≡ 0 → ⊥) (l : o ≡ length text → ⊥) where
-  safe_between : safe_cut_in text ns ps o ≡ cut_allowed text ns ps o
-  unfolding safe_cut_in
-  safe_between = rw (ne_eqb o 0 z, ne_eqb o (length text) l) refl
-
-  pub safe_no_line : (x : Bool) → x ≡ blank_line_before text o → x ≡ false → false ≡ safe_cut_in text ns ps o
-  unfolding cut_allowed
-  safe_no_line x q e = sym (safe_between ∙ rw (← q, e) refl)
-
-  pub safe_no_nodes : (x : Bool) → x ≡ nodes_allow_cut ns o → x ≡ false → false ≡ safe_cut_in text ns ps o
-  unfolding cut_allowed
-  safe_no_nodes x q e = sym (safe_between ∙ rw (← q, e, and-false) refl)
-
-  pub safe_pairs : (x : Bool) → x ≡ blank_line_before text o → x ≡ true → (y : Bool) → y ≡ nodes_allow_cut ns o → y ≡ true
-      → (r : Bool) → r ≡ pairs_allow_cut ps o → r ≡ safe_cut_in text ns ps o
-  unfolding cut_allowed
-  safe_pairs x q e y p f r s = s ∙ sym (safe_between ∙ rw (← q, e, ← p, f) refl)
 
 -- ---- the test of both ends at an offset c behind the byte k: that a cut is allowed, unless c is the length behind a newline
 

@@ -11,7 +11,7 @@ use Rattle.model.specs.Types.{PairLink}
 use Rattle.model.specs.Tape.{record_at, pair_codec}
 use Rattle.wire.specs.Loops.{by_bool}
 use Rattle.places.specs.declared.Run.{Run}
-use Rattle.cuts.specs.Pairs.{reach, reach_of, pairs_from, pairs_of, pairs_none, pairs_all, pairs_more}
+use Rattle.cuts.specs.Pairs.{reach, reach_of, pairs_from, pairs_none, pairs_more}
 
 -- a pair noted in the window that begins at `from`: at the first offset behind its start
 unfoldable pub noted : List ℕ → ℕ → ℕ → ℕ → List ℕ
@@ -96,9 +96,6 @@ noted_pairs t r from i l l' n h j q g a b f e s =
 pub noted_start : (t : List ℕ) (r : Run) (from n : ℕ) (l : List ℕ) → l ≡ zeros n → Noted (pairs_from t r r.count) from l
 noted_start t r from n l e = rw (pairs_none t r) (noted_zeros n from l e)
 
-pub noted_all : (t : List ℕ) (r : Run) (from i : ℕ) (l : List ℕ) → i ≡ 0 → Noted (pairs_from t r i) from l → Noted (pairs_of t r) from l
-noted_all t r from i l e n = rw (← pairs_all t r i e) n
-
 -- ---- the greatest so far
 
 -- each word is the greatest of those up to it
@@ -140,9 +137,6 @@ module _ {l₀ l : List ℕ} {k far : ℕ} (w : Rising l₀ l k far) where
             (λ t. let ne = eqb-false j k t in get_or-set_other l k j x 0 ne ∙ w.done j (omega (arith, ne)));
         left = λ j g. get_or-set_other l k j x 0 (λ z. omega arith) ∙ w.left j (omega arith);
       }
-
-  pub rising_done : length l₀ ≤ k → Risen l₀ l
-  rising_done h = record { same = w.same; at = λ j g. w.done j (omega arith) }
 
 -- ---- the greatest so far of the ends is the reach
 
@@ -206,14 +200,6 @@ window_filled ps (x ∷ y ∷ l) ys zs from size h e r d m s q = rw (q, s) (
 )
 
 module _ {ps : List PairLink} {l : List ℕ} (w : Window ps l) (o : ℕ) where
-  -- the word that has the reach at an offset
-  pub window_word : (k : ℕ) → (get_or l 0 0 ≤ o) × (o - get_or l 0 0 < get_or l 1 0) → k ≡ 2 + (o - get_or l 0 0) → (k < length l) × (get_or l k 0 ≡ reach ps o)
-  window_word k f s =
-      let from = get_or l 0 0 in
-      let v = w.at (o - from) f.1 in
-      let t : from + (o - from) ≡ o = omega (arith, f.0) in
-      (omega (arith, v.0), ap (λ (x : ℕ). get_or l x 0) s ∙ v.1 ∙ ap (reach ps) t)
-
   -- the window was filled for it
   pub window_here : (from size j : ℕ) → get_or l 0 0 ≡ from → get_or l 1 0 ≡ size → j < size → from + j ≡ o → (2 + j < length l) × (get_or l (2 + j) 0 ≡ reach ps o)
   window_here from size j e f h s = let v = w.at j (omega arith) in (v.0, v.1 ∙ ap (reach ps) (ap (λ (x : ℕ). x + j) e ∙ s))

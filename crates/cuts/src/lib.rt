@@ -26,6 +26,7 @@ pub struct Source<'a> {
 }
 
 // Section 6. Two newline bytes before an offset.
+#[tactic(auto, using(std::proofs::lemmas::Bool::Decides::nat_tests), unfolding(model::specs::Region::blank_line_before))]
 pub fn blank_line_before(text: &[u8], o: usize) -> bool
     requires { o ≤ length text.now }
     ensures { result ≡ blank_line_before text.now o }
@@ -199,15 +200,13 @@ fn reach_of(start: u32, end: u32, o: usize) -> u32
 // the words behind them the reach at each. An offset outside of it asks for a new one, sixteen times as large as far as there are words.
 
 // The number of the first offset of a window that lies behind a start.
-fn slot_of(from: usize, start: u32) -> usize
-    requires { from < 4294967296 }
+fn slot_of(from: u32, start: u32) -> usize
     ensures { result ≡ start + 1 - from }
 {
-    (start as usize + 1).saturating_sub(from)
+    (start as usize + 1).saturating_sub(from as usize)
 }
 
-fn note(slots: &mut [u32], from: usize, start: u32, end: u32)
-    requires { from < 4294967296 }
+fn note(slots: &mut [u32], from: u32, start: u32, end: u32)
     ensures { slots.new ≡ noted slots.old from start end }
 {
     let k = slot_of(from, start);
@@ -227,12 +226,12 @@ fn run_up(slots: &mut [u32])
     }
 }
 
-fn put_bounds(words: &mut [u32], from: usize, size: usize)
-    requires { (from < 4294967296) × (size < 4294967296) × (2 ≤ length words.old) }
+fn put_bounds(words: &mut [u32], from: u32, size: u32)
+    requires { 2 ≤ length words.old }
     ensures { words.new ≡ set (set words.old 0 from) 1 size }
 {
-    words[0] = from as u32;
-    words[1] = size as u32;
+    words[0] = from;
+    words[1] = size;
 }
 
 // How many offsets the next window has.
@@ -314,6 +313,7 @@ impl<'a> Source<'a> {
     }
 
     // Text, nodes and pairs allow a cut.
+    #[tactic(auto, using(std::proofs::lemmas::Bool::Decides::nat_tests), unfolding(crate::specs::Safe::cut_allowed))]
     fn cut_allowed(&self, o: usize) -> bool
         requires { o ≤ length self.now.text.now }
         ensures { result ≡ cut_allowed self.now.text.now (nodes_in self.now) (pairs_in self.now) o }
@@ -322,6 +322,7 @@ impl<'a> Source<'a> {
     }
 
     // Section 6. `safe_cut`: 0 and the length always; elsewhere text, nodes and pairs allow it.
+    #[tactic(auto, using(std::proofs::lemmas::Bool::Decides::nat_tests), unfolding(crate::specs::Safe::safe_cut_in))]
     pub fn safe_cut(&self, o: usize) -> bool
         requires { o ≤ length self.now.text.now }
         ensures { result ≡ safe_cut_in self.now.text.now (nodes_in self.now) (pairs_in self.now) o }
@@ -330,8 +331,7 @@ impl<'a> Source<'a> {
     }
 
     // Each pair's end at the first offset behind its start, the greatest where several are. From the last pair to the first, as `Noted` says.
-    fn note_pairs(&self, slots: &mut [u32], from: usize)
-        requires { from < 4294967296 }
+    fn note_pairs(&self, slots: &mut [u32], from: u32)
         ensures { Noted (pairs_in self.now) from slots.new }
     {
         wire::zero_words(slots);
@@ -348,20 +348,19 @@ impl<'a> Source<'a> {
         }
     }
 
-    fn fill_slots(&self, slots: &mut [u32], from: usize)
-        requires { from < 4294967296 }
+    fn fill_slots(&self, slots: &mut [u32], from: u32)
         ensures { Reaches (pairs_in self.now) from slots.new }
     {
         self.note_pairs(slots, from);
         run_up(slots);
     }
 
-    fn fill(&self, words: &mut [u32], from: usize, size: usize)
-        requires { (from < 4294967296) × (size < 4294967296) × (2 + size ≤ length words.old) }
+    fn fill(&self, words: &mut [u32], from: u32, size: u32)
+        requires { 2 + size ≤ length words.old }
         ensures { Window (pairs_in self.now) words.new × (get_or words.new 0 0 ≡ from) × (get_or words.new 1 0 ≡ size) }
     {
         put_bounds(words, from, size);
-        self.fill_slots(&mut words[2..2 + size], from);
+        self.fill_slots(&mut words[2..2 + size as usize], from);
     }
 
     // The reach at an offset, by a new window with that offset in it. Windows begin at multiples of their size, to serve both ways.
@@ -372,7 +371,7 @@ impl<'a> Source<'a> {
     {
         let n = next_size(room_in(words.len()), size);
         let j = o % n;
-        self.fill(words, o - j, n);
+        self.fill(words, (o - j) as u32, n as u32);
         words[2 + j]
     }
 

@@ -51,7 +51,7 @@ fn target_of(book: &Stored, edit: &Edit, work: &mut [u32]) -> Result<Target, Ref
         tape: book.tape,
         bytes: book.bytes,
         places: p,
-        store: st,
+        store: &st,
     };
     let region = region::chosen_region(&book, edit, work)?;
     Ok(Target { p, st, region })
@@ -119,13 +119,13 @@ fn check_cuts(book: &Stored, reading: &Stored, f: Fitting, work: &mut [u32]) -> 
         tape: book.tape,
         bytes: book.bytes,
         places: p,
-        store: f.st,
+        store: &f.st,
     };
     let own = Book {
         tape: reading.tape,
         bytes: reading.bytes,
         places: q,
-        store: f.own,
+        store: &f.own,
     };
     if introduces::introduces_ruby_format_dependency(&old, &own, work, w.start, w.end) {
         return Err(Refusal::NewRubyFormatDependency);

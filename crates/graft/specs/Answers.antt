@@ -51,8 +51,8 @@ module _ {t d : List ℕ} {p : Plan} {m : Mark} {work strs : List ℕ} (good : G
     };
   }
 
-pub told_none : {t d : List ℕ} {st : Store} {p : Plan} {m : Mark} {out work strs : List ℕ} {a : Added} → Ready t d st p m out work strs a → Told t d p m out work strs out work strs m true (layer_from p work strs m)
-told_none {t} {d} {st} {p} {m} {out} {work} {strs} r = told_nothing r.good r.named r.has out
+pub told_none : {t d : List ℕ} {p : Plan} {m : Mark} {out work strs : List ℕ} {a : Added} → Ready t d p m out work strs a → Told t d p m out work strs out work strs m true (layer_from p work strs m)
+told_none {t} {d} {p} {m} {out} {work} {strs} r = told_nothing r.good r.named r.has out
 
 -- ---- one content
 
@@ -92,7 +92,7 @@ module _ {A : Type 0} {t d : List ℕ} (k : Codec A) (p : Plan) (m : Mark) (plac
 -- ---- runs
 
 module _ (l : ℕ) (t d : List ℕ) (st : Store) (source : Source t d st) (p : Plan) (m : Mark) (out work strs : List ℕ) (start len : ℕ) where
-  pub content_run_empty : len ≡ 0 → {a : Added} → Ready t d st p m out work strs a → StartTold t d p m out work strs out work strs m (Some (p.contents + m.contents)) (content_run_from l t d start len (layer_from p work strs m))
+  pub content_run_empty : len ≡ 0 → {a : Added} → Ready t d p m out work strs a → StartTold t d p m out work strs out work strs m (Some (p.contents + m.contents)) (content_run_from l t d start len (layer_from p work strs m))
   unfolding content_run_from resolve_content_range graft_contents show_contents push_contents
   content_run_empty z r = rw z (record { told = told_none r; start = λ at o. let q = same_Some (p.contents + m.contents) at o in omega (arith, q) })
 
@@ -125,7 +125,7 @@ module _ (l : ℕ) (t d : List ℕ) (st : Store) (source : Source t d st) (p : P
       ap (λ (n : ℕ). records_at content_codec t n len) e ∙ sym (content_range_lem t st source.fit.stored (drop (word_at t 1 + word_at t 5) d) start len h) in
       rw (← is) (record { told = record { room = b.room; made = λ o. absurd (true≢false (sym o)) }; start = λ k o. absurd (none-some k o) })
 
-  pub segment_run_empty : len ≡ 0 → {a : Added} → Ready t d st p m out work strs a → StartTold t d p m out work strs out work strs m (Some (p.segments + m.segments)) (segment_run_from l t d start len (layer_from p work strs m))
+  pub segment_run_empty : len ≡ 0 → {a : Added} → Ready t d p m out work strs a → StartTold t d p m out work strs out work strs m (Some (p.segments + m.segments)) (segment_run_from l t d start len (layer_from p work strs m))
   unfolding segment_run_from resolve_seg_range graft_segments show_segments push_segments
   segment_run_empty z r = rw z (record { told = told_none r; start = λ at o. let q = same_Some (p.segments + m.segments) at o in omega (arith, q) })
 

@@ -105,12 +105,12 @@ module _ (l : ℕ) (t d : List ℕ) (p : Plan) (m : Mark) (out work strs : List 
     unfolding field_from
     field_string a b y = rw (ne_eqb f.usage 3 a, ne_eqb f.usage 5 b) y
 
-  module _ (st : Store) (inner : Body → Added) (y : Ready t d st p m out work strs (used_adds inner t st f)) where
-    pub field_contents_ready : f.usage ≡ 3 → Ready t d st p m out work strs (content_run_adds inner t st f.first f.second)
+  module _ (st : Store) (inner : Body → Added) (y : Ready t d p m out work strs (used_adds inner t st f)) where
+    pub field_contents_ready : f.usage ≡ 3 → Ready t d p m out work strs (content_run_adds inner t st f.first f.second)
     unfolding used_adds
     field_contents_ready e = rw (eq-eqb f.usage 3 e) at y
 
-    pub field_segments_ready : (f.usage ≡ 3 → ⊥) → f.usage ≡ 5 → Ready t d st p m out work strs (segment_run_adds inner t st f.first f.second)
+    pub field_segments_ready : (f.usage ≡ 3 → ⊥) → f.usage ≡ 5 → Ready t d p m out work strs (segment_run_adds inner t st f.first f.second)
     unfolding used_adds
     field_segments_ready n e = rw (ne_eqb f.usage 3 n, eq-eqb f.usage 5 e) at y
 
@@ -132,7 +132,7 @@ module _ (st : Store) (b : Body) (j : ℕ) where
       rw e (by_bool (word_in st b (field_word b.kind j)) (λ x. x) (λ x. absurd (true≢false (sym h ∙ sym (body_failed st b (field_word b.kind j) k x)))))
 
   pub place_ready : {t d : List ℕ} {p : Plan} {m : Mark} {out work strs : List ℕ} (inner : Body → Added) (f : UsedWords) → f ≡ field_words b j
-      → Ready t d st p m out work strs (place_adds inner t st b j) → Ready t d st p m out work strs (used_adds inner t st f)
+      → Ready t d p m out work strs (place_adds inner t st b j) → Ready t d p m out work strs (used_adds inner t st f)
   unfolding place_adds
   place_ready inner f e y = rw e y
 
@@ -171,7 +171,7 @@ body_fields_lem : (b : Body) (i : ℕ) → i ≤ 6 → Parts (fields_up_to b i) 
 unfolding fields_of
 body_fields_lem b i h = let r = places_parts b.kind b.tag i 6 0 h in record { rest = r.rest; is = sym (fields_in_order b.kind b.tag) ∙ r.is }
 
-module _ (l : ℕ) (t d : List ℕ) (st : Store) (p : Plan) (m : Mark) (b : Body) (out work strs : List ℕ) (y : Ready t d st p m out work strs (body_adds l t st b)) (h : body_in st b ≡ true) where
+module _ (l : ℕ) (t d : List ℕ) (st : Store) (p : Plan) (m : Mark) (b : Body) (out work strs : List ℕ) (source : Source t d st) (y : Ready t d p m out work strs (body_adds l t st b)) (h : body_in st b ≡ true) where
   abbrev inner : Body → Added
   inner = inner_adds l t st
 
@@ -194,7 +194,7 @@ module _ (l : ℕ) (t d : List ℕ) (st : Store) (p : Plan) (m : Mark) (b : Body
   unfolding body_from
   first_grows i k =
       roomy out work strs (space_left (fields_add inner t st b (fields_up_to b i)) (fields_add inner t st b (body_fields_lem b i k).rest) (rw (first_adds i k) at y.space))
-      (fields_add_lem t d st y.source l b (fields_up_to b i) (replicate 6 0) (layer_from p work strs m) (first_in_lem i k))
+      (fields_add_lem t d st source l b (fields_up_to b i) (replicate 6 0) (layer_from p work strs m) (first_in_lem i k))
 
   pub body_first : BodySoFar l t d p m b out work strs out work strs m (replicate 6 0) 0
   unfolding body_from place_fields show_fields graft_fields
@@ -222,13 +222,13 @@ module _ (l : ℕ) (t d : List ℕ) (st : Store) (p : Plan) (m : Mark) (b : Body
     pub body_last : 6 ≤ j → j ≤ 6 → WordsTold t d p m out work strs out' work' strs' u (Some ws) (body_from l t d p work strs m b 6)
     body_last x z = let e : j ≡ 6 = omega arith in rw e at a.told
 
-    pub body_ready : j < 6 → Ready t d st p u out' work' strs' (place_adds inner t st b j)
+    pub body_ready : j < 6 → Ready t d p u out' work' strs' (place_adds inner t st b j)
     unfolding body_from
     body_ready k =
         let q : body_adds l t st b ≡ add (add (fields_add inner t st b (fields_up_to b j)) (place_adds inner t st b j)) (fields_add inner t st b (body_fields_lem b (j + 1) (omega arith)).rest)
         = first_adds (j + 1) (omega arith) ∙ ap (λ (x : Added). add x (fields_add inner t st b (body_fields_lem b (j + 1) (omega arith)).rest)) (place_adds_lem j) in
         ready_item p m out work strs (a.told.told.made refl) (fields_add inner t st b (fields_up_to b j))
-        (fields_add_lem t d st y.source l b (fields_up_to b j) (replicate 6 0) (layer_from p work strs m) (first_in_lem j (omega arith)))
+        (fields_add_lem t d st source l b (fields_up_to b j) (replicate 6 0) (layer_from p work strs m) (first_in_lem j (omega arith)))
         (place_adds inner t st b j) (fields_add inner t st b (body_fields_lem b (j + 1) (omega arith)).rest) a.told.told.room a.long (rw q at y)
 
     body_joined : body_from l t d p work strs m b (j + 1) ≡ (let x = place_from l t d b j ws (layer_from p work' strs' u) in (x.0, behind (body_from l t d p work strs m b j).1 x.1))

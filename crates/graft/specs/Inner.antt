@@ -19,7 +19,7 @@ use Rattle.sizes.specs.declared.Sizes.{Sizes}
 use Rattle.graft.specs.Grafted.{layer_from, Roomy}
 use Rattle.graft.specs.Runs.{with_contents, with_segments}
 use Rattle.graft.specs.Named.{source_store}
-use Rattle.graft.specs.Walk.{shown_contents, shown_segments, Ready, StartTold, ContentsTold, SegmentsTold, content_run_from, segment_run_from}
+use Rattle.graft.specs.Walk.{Source, shown_contents, shown_segments, Ready, StartTold, ContentsTold, SegmentsTold, content_run_from, segment_run_from}
 use Rattle.graft.specs.Rooms.{ready_left, roomy, content_run_adds_lem, segment_run_adds_lem, shown_contents_grow, shown_segments_grow}
 use Rattle.graft.specs.Answers.{content_run_told, segment_run_told}
 use Rattle.graft.specs.declared.Plan.{Plan}
@@ -52,7 +52,7 @@ module _ (a : Added) (x : a.contents < 2 ^ 32) (y : a.segments < 2 ^ 32) {r : Op
 -- ---- a run of contents
 
 module _ {t d : List ℕ} {st : Store} {p : Plan} {m : Mark} {out work strs : List ℕ} (l start len : ℕ) (h : contents_in st start len ≡ true)
-    (y : Ready t d st p m out work strs (content_run_adds (inner_adds l t st) t st start len)) (at : ℕ) (e : at ≡ content_place st start) where
+    (source : Source t d st) (y : Ready t d p m out work strs (content_run_adds (inner_adds l t st) t st start len)) (at : ℕ) (e : at ≡ content_place st start) where
   abbrev own : Added
   own = contents_add (inner_adds l t st) t st at len
 
@@ -60,7 +60,7 @@ module _ {t d : List ℕ} {st : Store} {p : Plan} {m : Mark} {out work strs : Li
   unfolding content_run_adds content_count
   whole = rw (h, e) refl
 
-  pub contents_ready : Ready t d st p m out work strs own
+  pub contents_ready : Ready t d p m out work strs own
   contents_ready = ready_left own (new_contents len) (rw (whole ∙ add_comm (new_contents len) own) at y)
 
   pub contents_high : p.contentsat + 10 * (m.contents + own.contents + len) ≤ p.segmentsat
@@ -77,13 +77,13 @@ module _ {t d : List ℕ} {st : Store} {p : Plan} {m : Mark} {out work strs : Li
 
   pub contents_within : (len ≡ 0 → ⊥) → at + 10 * len ≤ length t
   unfolding content_count
-  contents_within z = contents_inside t st y.source.fit start len len at z (rw h refl) e
+  contents_within z = contents_inside t st source.fit start len len at z (rw h refl) e
 
   pub contents_known : all (content_in st) (records_at content_codec t at len) ≡ true
   unfolding resolve_content_range
   contents_known =
-      let is = content_range_lem t st y.source.fit.stored (drop (word_at t 1 + word_at t 5) d) start len h in
-      rw (e, ← is) (all_take (content_in st) len (drop start (source_store t d).contents) (all_drop (content_in st) start (source_store t d).contents y.source.contents))
+      let is = content_range_lem t st source.fit.stored (drop (word_at t 1 + word_at t 5) d) start len h in
+      rw (e, ← is) (all_take (content_in st) len (drop start (source_store t d).contents) (all_drop (content_in st) start (source_store t d).contents source.contents))
 
   pub content_run_answer : (to : ℕ) → to ≡ m.contents + own.contents → {out' work' strs' : List ℕ} {r : Mark}
       → ContentsTold t d p m to out work strs out' work' strs' r true (shown_contents l t d (records_at content_codec t at len) (layer_from p work strs m))
@@ -92,16 +92,16 @@ module _ {t d : List ℕ} {st : Store} {p : Plan} {m : Mark} {out work strs : Li
   content_run_answer to z b =
       let f = layer_from p work strs m in
       let is : records_at content_codec t at len ≡ resolve_content_range (source_store t d) start len =
-      ap (λ (n : ℕ). records_at content_codec t n len) e ∙ sym (content_range_lem t st y.source.fit.stored (drop (word_at t 1 + word_at t 5) d) start len h) in
+      ap (λ (n : ℕ). records_at content_codec t n len) e ∙ sym (content_range_lem t st source.fit.stored (drop (word_at t 1 + word_at t 5) d) start len h) in
       let w = shown_contents l t d (records_at content_codec t at len) f in
-      let room : Roomy p m out (push_contents w.0 w.1).1 = rw is (roomy out work strs y.space (content_run_adds_lem t d st y.source l start len f h)) in
-      let g = shown_contents_grow t d st y.source l (records_at content_codec t at len) f contents_known in
-      content_run_told l t d st y.source p m out work strs start len h at to e (omega (arith, z, g.contents)) room b
+      let room : Roomy p m out (push_contents w.0 w.1).1 = rw is (roomy out work strs y.space (content_run_adds_lem t d st source l start len f h)) in
+      let g = shown_contents_grow t d st source l (records_at content_codec t at len) f contents_known in
+      content_run_told l t d st source p m out work strs start len h at to e (omega (arith, z, g.contents)) room b
 
 -- ---- a run of segments
 
 module _ {t d : List ℕ} {st : Store} {p : Plan} {m : Mark} {out work strs : List ℕ} (l start len : ℕ) (h : segments_in st start len ≡ true)
-    (y : Ready t d st p m out work strs (segment_run_adds (inner_adds l t st) t st start len)) (at : ℕ) (e : at ≡ segment_place st start) where
+    (source : Source t d st) (y : Ready t d p m out work strs (segment_run_adds (inner_adds l t st) t st start len)) (at : ℕ) (e : at ≡ segment_place st start) where
   abbrev theirs : Added
   theirs = segments_add (inner_adds l t st) t at len
 
@@ -109,7 +109,7 @@ module _ {t d : List ℕ} {st : Store} {p : Plan} {m : Mark} {out work strs : Li
   unfolding segment_run_adds segment_count
   all_theirs = rw (h, e) refl
 
-  pub segments_ready : Ready t d st p m out work strs theirs
+  pub segments_ready : Ready t d p m out work strs theirs
   segments_ready = ready_left theirs (new_segments len) (rw (all_theirs ∙ add_comm (new_segments len) theirs) at y)
 
   pub segments_high : p.segmentsat + 37 * (m.segments + theirs.segments + len) ≤ length out
@@ -126,13 +126,13 @@ module _ {t d : List ℕ} {st : Store} {p : Plan} {m : Mark} {out work strs : Li
 
   pub segments_within : (len ≡ 0 → ⊥) → at + 37 * len ≤ length t
   unfolding segment_count
-  segments_within z = segments_inside t st y.source.fit start len len at z (rw h refl) e
+  segments_within z = segments_inside t st source.fit start len len at z (rw h refl) e
 
   pub segments_known : all (segment_in st) (records_at segment_codec t at len) ≡ true
   unfolding resolve_seg_range
   segments_known =
-      let is = segment_range t st y.source.fit.stored (drop (word_at t 1 + word_at t 5) d) start len h in
-      rw (e, ← is) (all_take (segment_in st) len (drop start (source_store t d).segments) (all_drop (segment_in st) start (source_store t d).segments y.source.segments))
+      let is = segment_range t st source.fit.stored (drop (word_at t 1 + word_at t 5) d) start len h in
+      rw (e, ← is) (all_take (segment_in st) len (drop start (source_store t d).segments) (all_drop (segment_in st) start (source_store t d).segments source.segments))
 
   pub segment_run_answer : (to : ℕ) → to ≡ m.segments + theirs.segments → {out' work' strs' : List ℕ} {r : Mark}
       → SegmentsTold t d p m to out work strs out' work' strs' r true (shown_segments l t d (records_at segment_codec t at len) (layer_from p work strs m))
@@ -141,8 +141,8 @@ module _ {t d : List ℕ} {st : Store} {p : Plan} {m : Mark} {out work strs : Li
   segment_run_answer to z b =
       let f = layer_from p work strs m in
       let is : records_at segment_codec t at len ≡ resolve_seg_range (source_store t d) start len =
-      ap (λ (n : ℕ). records_at segment_codec t n len) e ∙ sym (segment_range t st y.source.fit.stored (drop (word_at t 1 + word_at t 5) d) start len h) in
+      ap (λ (n : ℕ). records_at segment_codec t n len) e ∙ sym (segment_range t st source.fit.stored (drop (word_at t 1 + word_at t 5) d) start len h) in
       let w = shown_segments l t d (records_at segment_codec t at len) f in
-      let room : Roomy p m out (push_segments w.0 w.1).1 = rw is (roomy out work strs y.space (segment_run_adds_lem t d st y.source l start len f h)) in
-      let g = shown_segments_grow t d st y.source l (records_at segment_codec t at len) f segments_known in
-      segment_run_told l t d st y.source p m out work strs start len h at to e (omega (arith, z, g.segments)) room b
+      let room : Roomy p m out (push_segments w.0 w.1).1 = rw is (roomy out work strs y.space (segment_run_adds_lem t d st source l start len f h)) in
+      let g = shown_segments_grow t d st source l (records_at segment_codec t at len) f segments_known in
+      segment_run_told l t d st source p m out work strs start len h at to e (omega (arith, z, g.segments)) room b

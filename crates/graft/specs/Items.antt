@@ -1,30 +1,27 @@
 -- One content and one segment: what its function asks of the others, and its returns.
-use Rattle.std.specs.Prelude.{◌≡◌, ℕ, zero, suc, ◌+◌, ◌-◌, ◌*◌, ◌<◌, Some, None, false, List, [], ◌∷◌, length, replicate}
+use Rattle.std.specs.Prelude.{◌≡◌, ℕ, zero, suc, ◌+◌, ◌-◌, ◌*◌, ◌<◌, Option, Some, None, false, List, [], ◌∷◌}
 use Rattle.std.proofs.Math.Path.{refl, sym}
 use Rattle.std.proofs.Common.{ap, ◌∙◌, subst}
 use native.Mathlib.Omega.{arith}
 use Rattle.std.proofs.Math.Bool.{true}
 use borrow.Author.Tests.{eq-eqb, ne_eqb, ltb-true}
-use Rattle.model.specs.Bytes.{byte_at, word_at}
 use Rattle.model.specs.Types.{Body, Content, Segment}
 use Rattle.model.specs.Store.{resolve_str}
-use Rattle.model.specs.Tape.{record_at, operands_at, record_bytes, content_codec, segment_codec}
-use Rattle.model.specs.Tree.{show_body}
+use Rattle.model.specs.Tape.{record_at, record_bytes, content_codec, segment_codec}
 use Rattle.model.specs.Graft.{With, graft_str}
 use Rattle.wire.specs.Overwrite.{overwrite}
-use Rattle.records.specs.Values.{body_at, content_of, segment_body}
+use Rattle.records.specs.Values.{body_at, body_of, content_of, segment_of, segment_body}
 use Rattle.records.specs.declared.Content.{Content as ContentRead}
+use Rattle.records.specs.declared.Segment.{Segment as SegmentRead}
 use Rattle.store.specs.declared.Store.{Store}
 use Rattle.ids.specs.Tests.{body_in, content_in, segment_in, segments_in}
 use Rattle.sizes.specs.Added.{Added}
 use Rattle.sizes.specs.InPlace.{inner_adds, body_adds, content_adds, segment_run_adds}
 use Rattle.graft.specs.Grafted.{layer_from, Told}
-use Rattle.graft.specs.Widths.{node_six}
-use Rattle.put_records.specs.Written.{six_of, six_of_lem, segment_with}
 use Rattle.graft.specs.Named.{source_store}
 use Rattle.graft.specs.Walk.{Source, shown_contents, shown_segments, Ready, StartTold, WordsTold, ContentsTold, SegmentsTold, segment_run_from, body_from}
 use Rattle.graft.specs.Answers.{one_plain, one_segments, item_refused, item_made}
-use Rattle.graft.specs.Bodies.{one_zero, one_body, body_from_lem}
+use Rattle.graft.specs.Bodies.{zero_body, one_zero, one_body, body_from_lem}
 use Rattle.graft.specs.declared.Plan.{Plan}
 use Rattle.graft.specs.declared.Mark.{Mark}
 
@@ -44,11 +41,11 @@ module _ (t : List ℕ) (st : Store) (at : ℕ) (c : ContentRead) (e : content_o
     run_known z = let g : content_in st (content_of c) ≡ true = subst (λ (x : Content). content_in st x ≡ true) (sym e) h in rw (ne_eqb c.tag 0 z) at g
 
   pub run_ready : {d : List ℕ} {p : Plan} {m : Mark} {out work strs : List ℕ} (inner : Body → Added) → (c.tag ≡ 0 → ⊥)
-      → Ready t d st p m out work strs (content_adds inner t st (record_at content_codec t at)) → Ready t d st p m out work strs (segment_run_adds inner t st c.first c.second)
+      → Ready t d p m out work strs (content_adds inner t st (record_at content_codec t at)) → Ready t d p m out work strs (segment_run_adds inner t st c.first c.second)
   unfolding content_adds
   run_ready {d} {p} {m} {out} {work} {strs} inner z y =
-      let g : Ready t d st p m out work strs (content_adds inner t st (content_of c)) =
-      subst (λ (x : Content). Ready t d st p m out work strs (content_adds inner t st x)) (sym e) y in
+      let g : Ready t d p m out work strs (content_adds inner t st (content_of c)) =
+      subst (λ (x : Content). Ready t d p m out work strs (content_adds inner t st x)) (sym e) y in
       rw (ne_eqb c.tag 0 z) at g
 
   module _ (l : ℕ) (d : List ℕ) (p : Plan) (m : Mark) (to : ℕ) (out work strs : List ℕ) {out₁ work₁ strs₁ : List ℕ} {r : Mark} where
@@ -78,77 +75,54 @@ pub body_known : (st : Store) (t : List ℕ) (at : ℕ) → segment_in st (recor
 unfolding segment_in
 body_known st t at h = ap (body_in st) (segment_body t at) ∙ h
 
-pub below_ready : {t d : List ℕ} {st : Store} {p : Plan} {m : Mark} {out work strs : List ℕ} (l at : ℕ) → (l ≡ 0 → ⊥)
-    → Ready t d st p m out work strs (inner_adds l t st (record_at segment_codec t at).body) → Ready t d st p m out work strs (body_adds (l - 1) t st (body_at t (at + 3)))
+pub below_ready : {t d : List ℕ} (st : Store) {p : Plan} {m : Mark} {out work strs : List ℕ} (l at : ℕ) → (l ≡ 0 → ⊥)
+    → Ready t d p m out work strs (inner_adds l t st (record_at segment_codec t at).body) → Ready t d p m out work strs (body_adds (l - 1) t st (body_at t (at + 3)))
 unfolding inner_adds body_adds
-below_ready zero at z y = absurd (z refl)
-below_ready {t} {d} {st} {p} {m} {out} {work} {strs} (suc l) at z y =
+below_ready st zero at z y = absurd (z refl)
+below_ready {t} {d} st {p} {m} {out} {work} {strs} (suc l) at z y =
     let e : suc l - 1 ≡ l = omega arith in
-    let b : Ready t d st p m out work strs (body_adds l t st (body_at t (at + 3))) = rw (segment_body t at) y in
+    let b : Ready t d p m out work strs (body_adds l t st (body_at t (at + 3))) = rw (segment_body t at) y in
     rw e b
 
-module _ (t d : List ℕ) (at : ℕ) where
-  abbrev found : Segment
-  found = record_at segment_codec t at
+-- a segment as it was read
+module _ (t d : List ℕ) (at : ℕ) (s : SegmentRead) (e : segment_of s ≡ record_at segment_codec t at) where
+  body_is : body_of s.body ≡ body_at t (at + 3)
+  body_is = ap (λ (x : Segment). x.body) e ∙ sym (segment_body t at)
 
-  found_is : found ≡ record { tag = byte_at t (at + 1); level = byte_at t (at + 2); body = body_at t (at + 3) }
-  unfolding record_at operands_at segment_codec
-  found_is = let e = segment_body t at in λ i. record { tag = byte_at t (at + 1); level = byte_at t (at + 2); body = sym e i }
+  -- with another body
+  abbrev with_body : Body → Segment
+  with_body b = record { tag = s.tag; level = s.level; body = b }
+
+  -- with other words
+  abbrev with_own : List ℕ → Segment
+  with_own ws = with_body (record { kind = s.body.kind; tag = s.body.tag; plain1 = s.body.plain1; plain2 = s.body.plain2; words = ws })
 
   module _ (p : Plan) (m : Mark) (to : ℕ) (out work strs : List ℕ) where
     pub segment_zero : (l : ℕ) → l ≡ 0 → Told t d p m out work strs out work strs m true (layer_from p work strs m) → {out₂ : List ℕ}
-        → out₂ ≡ overwrite out (p.segmentsat + 37 * to) (record_bytes segment_codec (segment_with (byte_at t (at + 1)) (byte_at t (at + 2)) 0 0 0 0 (replicate 6 0)))
-        → SegmentsTold t d p m to out work strs out₂ work strs m true (shown_segments l t d (found ∷ []) (layer_from p work strs m))
-    unfolding six_of
+        → out₂ ≡ overwrite out (p.segmentsat + 37 * to) (record_bytes segment_codec (with_body zero_body))
+        → SegmentsTold t d p m to out work strs out₂ work strs m true (shown_segments l t d (record_at segment_codec t at ∷ []) (layer_from p work strs m))
     segment_zero l z k w =
-        rw found_is (item_made segment_codec p m (p.segmentsat + 37 * to) out work strs k (one_zero t d (record { tag = byte_at t (at + 1); level = byte_at t (at + 2); body = body_at t (at + 3) }) (layer_from p work strs m) l z)
-        (segment_with (byte_at t (at + 1)) (byte_at t (at + 2)) 0 0 0 0 (replicate 6 0)) refl w)
+        rw (← e) (item_made segment_codec p m (p.segmentsat + 37 * to) out work strs k (one_zero t d (segment_of s) (layer_from p work strs m) l z) (with_body zero_body) refl w)
 
     module _ (l : ℕ) (z : l ≡ 0 → ⊥) where
-      abbrev body : Body
-      body = body_at t (at + 3)
-
-      abbrev ws : List ℕ
-      ws = (body_from (l - 1) t d p work strs m (body_at t (at + 3)) 6).0
-
-      below : shown_segments l t d (found ∷ []) (layer_from p work strs m)
-          ≡ (
-            record { tag = byte_at t (at + 1); level = byte_at t (at + 2); body = record { kind = body.kind; tag = body.tag; plain1 = body.plain1; plain2 = body.plain2; words = ws } } ∷ [],
-            (body_from (l - 1) t d p work strs m (body_at t (at + 3)) 6).1,
-          )
+      below : shown_segments l t d (segment_of s ∷ []) (layer_from p work strs m)
+          ≡ (with_own (body_from (l - 1) t d p work strs m (body_of s.body) 6).0 ∷ [], (body_from (l - 1) t d p work strs m (body_of s.body) 6).1)
       below =
-          ap (λ (s : Segment). shown_segments l t d (s ∷ []) (layer_from p work strs m)) found_is
-          ∙ one_body t d (record { tag = byte_at t (at + 1); level = byte_at t (at + 2); body = body_at t (at + 3) }) (layer_from p work strs m) l z
-          ∙ ap (λ (b : With Body). (record { tag = byte_at t (at + 1); level = byte_at t (at + 2); body = b.0 } ∷ [], b.1)) (body_from_lem (l - 1) t d p work strs m (body_at t (at + 3)))
+          one_body t d (segment_of s) (layer_from p work strs m) l z
+          ∙ ap (λ (b : With Body). (with_body b.0 ∷ [], b.1)) (body_from_lem (l - 1) t d p work strs m (body_of s.body))
 
-      pub below_refused : {out₁ work₁ strs₁ : List ℕ} {r : Mark} → WordsTold t d p m out work strs out₁ work₁ strs₁ r None (body_from (l - 1) t d p work strs m (body_at t (at + 3)) 6)
-          → SegmentsTold t d p m to out work strs out₁ work₁ strs₁ r false (shown_segments l t d (found ∷ []) (layer_from p work strs m))
-      below_refused x = item_refused segment_codec p m (p.segmentsat + 37 * to) out work strs x.told below refl
+      module _ {out₁ work₁ strs₁ : List ℕ} {r : Mark} where
+        told_here : {x : Option (List ℕ)} → WordsTold t d p m out work strs out₁ work₁ strs₁ r x (body_from (l - 1) t d p work strs m (body_at t (at + 3)) 6)
+            → WordsTold t d p m out work strs out₁ work₁ strs₁ r x (body_from (l - 1) t d p work strs m (body_of s.body) 6)
+        told_here {x} y = subst (λ (b : Body). WordsTold t d p m out work strs out₁ work₁ strs₁ r x (body_from (l - 1) t d p work strs m b 6)) (sym body_is) y
 
-      module _ {out₁ work₁ strs₁ : List ℕ} {r : Mark} (own : List ℕ) (x : WordsTold t d p m out work strs out₁ work₁ strs₁ r (Some own) (body_from (l - 1) t d p work strs m (body_at t (at + 3)) 6)) where
-        six : six_of own ≡ ws
-        six =
-            let n = (node_six (show_body (l - 1) (source_store t d) body) (layer_from p work strs m)).is in
-            let k : length ws ≡ 6 = ap (λ (b : With Body). length b.0.words) (sym (body_from_lem (l - 1) t d p work strs m body)) ∙ n in
-            ap six_of (x.words own refl) ∙ six_of_lem ws k
+        pub below_refused : WordsTold t d p m out work strs out₁ work₁ strs₁ r None (body_from (l - 1) t d p work strs m (body_at t (at + 3)) 6)
+            → SegmentsTold t d p m to out work strs out₁ work₁ strs₁ r false (shown_segments l t d (record_at segment_codec t at ∷ []) (layer_from p work strs m))
+        below_refused x = rw (← e) (item_refused segment_codec p m (p.segmentsat + 37 * to) out work strs (told_here x).told below refl)
 
-        same : segment_with (byte_at t (at + 1)) (byte_at t (at + 2)) (byte_at t (at + 3)) (byte_at t (at + 4)) (word_at t (at + 5)) (word_at t (at + 9)) own
-            ≡ record { tag = byte_at t (at + 1); level = byte_at t (at + 2); body = record { kind = body.kind; tag = body.tag; plain1 = body.plain1; plain2 = body.plain2; words = ws } }
-        unfolding body_at
-        same =
-            let a : at + 4 ≡ at + 3 + 1 = omega arith in
-            let b : at + 5 ≡ at + 3 + 2 = omega arith in
-            let g : at + 9 ≡ at + 3 + 6 = omega arith in
-            let y = six in
-            λ i. record {
-              tag = byte_at t (at + 1);
-              level = byte_at t (at + 2);
-              body = record { kind = byte_at t (at + 3); tag = byte_at t (a i); plain1 = word_at t (b i); plain2 = word_at t (g i); words = y i };
-            }
-
-        pub below_made : (first second : ℕ) → first ≡ word_at t (at + 5) → second ≡ word_at t (at + 9) → {out₂ : List ℕ}
-            → out₂ ≡ overwrite out₁ (p.segmentsat + 37 * to) (record_bytes segment_codec (segment_with (byte_at t (at + 1)) (byte_at t (at + 2)) (byte_at t (at + 3)) (byte_at t (at + 4)) first second own))
-            → SegmentsTold t d p m to out work strs out₂ work₁ strs₁ r true (shown_segments l t d (found ∷ []) (layer_from p work strs m))
-        below_made first second a b {out₂} w =
-            let v : out₂ ≡ overwrite out₁ (p.segmentsat + 37 * to) (record_bytes segment_codec (segment_with (byte_at t (at + 1)) (byte_at t (at + 2)) (byte_at t (at + 3)) (byte_at t (at + 4)) (word_at t (at + 5)) (word_at t (at + 9)) own)) = rw (← a, ← b) w in
-            item_made segment_codec p m (p.segmentsat + 37 * to) out work strs x.told below (segment_with (byte_at t (at + 1)) (byte_at t (at + 2)) (byte_at t (at + 3)) (byte_at t (at + 4)) (word_at t (at + 5)) (word_at t (at + 9)) own) same v
+        pub below_made : (own : List ℕ) → WordsTold t d p m out work strs out₁ work₁ strs₁ r (Some own) (body_from (l - 1) t d p work strs m (body_at t (at + 3)) 6) → {out₂ : List ℕ}
+            → out₂ ≡ overwrite out₁ (p.segmentsat + 37 * to) (record_bytes segment_codec (with_own own))
+            → SegmentsTold t d p m to out work strs out₂ work₁ strs₁ r true (shown_segments l t d (record_at segment_codec t at ∷ []) (layer_from p work strs m))
+        below_made own x w =
+            let y = told_here x in
+            rw (← e) (item_made segment_codec p m (p.segmentsat + 37 * to) out work strs y.told below (with_own own) (ap with_own (y.words own refl)) w)

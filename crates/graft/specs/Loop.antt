@@ -79,7 +79,7 @@ module _ {A : Type 0} {t : List ℕ} {k : Codec A} {size : ℕ} {run : List A �
 
   -- ---- the loop
 
-  module _ {d : List ℕ} {st : Store} {p : Plan} {m : Mark} {out work strs : List ℕ} (at count place : ℕ) (y : Ready t d st p m out work strs (sum at count)) (h : all known (records_at k t at count) ≡ true) where
+  module _ {d : List ℕ} {p : Plan} {m : Mark} {out work strs : List ℕ} (at count place : ℕ) (y : Ready t d p m out work strs (sum at count)) (h : all known (records_at k t at count) ≡ true) where
     abbrev items : ℕ → With (List A)
     items i = run (records_at k t at i) (layer_from p work strs m)
 
@@ -148,7 +148,7 @@ module _ {A : Type 0} {t : List ℕ} {k : Codec A} {size : ℕ} {run : List A �
       pub items_last : count ≤ i → i ≤ count → ItemsTold t d k p m place out work strs out' work' strs' u true (items count)
       items_last x z = let e : i ≡ count = omega arith in rw e at a.told
 
-      pub item_ready : i < count → Ready t d st p u out' work' strs' (adds (item i))
+      pub item_ready : i < count → Ready t d p u out' work' strs' (adds (item i))
       item_ready j =
           let x = a.told.made refl in
           let z : i + 1 ≤ count = omega arith in

@@ -1,7 +1,7 @@
 -- The last answer's string by its representative (crate `representatives`): so that equal long strings are not compared again and again.
-use Rattle.std.specs.Prelude.{◌≡◌, ℕ, ◌+◌, ◌-◌, ◌≤◌, true, not, ◌&&◌, List, length, take, drop, eqb}
-use Rattle.std.proofs.Common.{sym, ap, ◌∙◌, arith, true≢false, length-drop, drop-drop, take_all, eq-eqb, eqb-true}
-use Rattle.laws.specs.Lists.{both}
+use Rattle.std.specs.Prelude.{◌≡◌, refl, Option, Some, None, IfSome, ℕ, ◌+◌, ◌-◌, ◌≤◌, Bool, true, false, List, length, take, drop, eqb}
+use Rattle.std.proofs.Common.{sym, ap, ◌∙◌, arith, length-drop, drop-drop, take_all, eqb-true}
+use Rattle.std.proofs.lemmas.Bool.{false≢true}
 use Rattle.model.specs.Bytes.{word_at}
 use Rattle.model.specs.Store.{NodeStore, store_of, resolve_str}
 use Rattle.model.specs.Intern.{holds}
@@ -20,29 +20,37 @@ pair_words work = drop (16384 - 15360) (drop 15360 work)
 
 -- where a representative is known, the last answer's string is the one that it shows
 abbrev pub Named : List ℕ → List ℕ → List ℕ → List ℕ → Mark → Type 0
-Named t d work strs m = (m.answered ≡ 0 → ⊥) → holds (state_of work strs m.state).strings m.state.last (resolve_str (source_store t d) (m.answered - 1)) ≡ true
+Named t d work strs m = (r : ℕ) → m.answered ≡ Some r → holds (state_of work strs m.state).strings m.state.last (resolve_str (source_store t d) r) ≡ true
 
--- `known` is 0, or 1 more than the id of a string that is equal to string id
-abbrev pub ShowsAs : List ℕ → List ℕ → ℕ → ℕ → Type 0
-ShowsAs t d known id = (known ≡ 0 → ⊥) → resolve_str (source_store t d) (known - 1) ≡ resolve_str (source_store t d) id
+-- what is known of string id is the id of an equal string
+abbrev pub ShowsAs : List ℕ → List ℕ → Option ℕ → ℕ → Type 0
+ShowsAs t d known id = (r : ℕ) → known ≡ Some r → resolve_str (source_store t d) r ≡ resolve_str (source_store t d) id
 
 -- the words behind the index, as they are lent
 pub pairs_lent : (work : List ℕ) → 16384 ≤ length work → take (length work - 16384) (drop 16384 work) ≡ pair_words work
 pairs_lent work h = take_all (length work - 16384) (drop 16384 work) (rw length-drop (omega arith)) ∙ sym (drop-drop (16384 - 15360) 15360 work)
 
-pub shows_by : (t d work : List ℕ) → 16384 ≤ length work → Pairs (resolve_str (source_store t d)) (pair_words work) → {known id : ℕ}
-    → ((K : ℕ → List ℕ) → Pairs K (take (length work - 16384) (drop 16384 work)) → (known ≡ 0 → ⊥) → K (known - 1) ≡ K id) → ShowsAs t d known id
-shows_by t d work h q f n = f (resolve_str (source_store t d)) (rw (pairs_lent work h) q) n
+pub shows_by : (t d work : List ℕ) → 16384 ≤ length work → Pairs (resolve_str (source_store t d)) (pair_words work) → {known : Option ℕ} (id : ℕ)
+    → ((K : ℕ → List ℕ) → Pairs K (take (length work - 16384) (drop 16384 work)) → IfSome known (λ (r : ℕ). K r ≡ K id)) → ShowsAs t d known id
+shows_by t d work h q id f r e = rw e at (f (resolve_str (source_store t d)) (rw (pairs_lent work h) q))
+
+-- are both known, and the same?
+unfoldable pub same_known : Option ℕ → Option ℕ → Bool
+same_known (Some r) (Some a) = eqb r a
+same_known (Some r) None = false
+same_known None a = false
 
 -- a string whose representative is that of the last answer's string is that string
-module _ (t d work strs : List ℕ) (m : Mark) (named : Named t d work strs m) (known id : ℕ) (shows : ShowsAs t d known id) (e : (not (eqb known 0) && eqb known m.answered) ≡ true) where
-  known_some : known ≡ 0 → ⊥
-  known_some z = true≢false (sym (both (not (eqb known 0)) (eqb known m.answered) e).0 ∙ ap not (eq-eqb known 0 z))
+module _ (t d work strs : List ℕ) (m : Mark) where
+  abbrev last_is : ℕ → Bool
+  last_is i = holds (state_of work strs m.state).strings m.state.last (resolve_str (source_store t d) i)
 
-  answered_is : known ≡ m.answered
-  answered_is = eqb-true known m.answered (both (not (eqb known 0)) (eqb known m.answered) e).1
+  answered_by : (id : ℕ) (k a : Option ℕ) → ShowsAs t d k id → ((r : ℕ) → a ≡ Some r → last_is r ≡ true) → same_known k a ≡ true → last_is id ≡ true
+  unfolding same_known
+  answered_by id (Some r) (Some a) s n e =
+      ap (holds (state_of work strs m.state).strings m.state.last) (sym (s r refl) ∙ ap (resolve_str (source_store t d)) (eqb-true r a e)) ∙ n a refl
+  answered_by id (Some r) None s n e = absurd (false≢true e)
+  answered_by id None a s n e = absurd (false≢true e)
 
-  pub is_answered : holds (state_of work strs m.state).strings m.state.last (resolve_str (source_store t d) id) ≡ true
-  is_answered =
-      ap (holds (state_of work strs m.state).strings m.state.last) (sym (shows known_some) ∙ ap (λ (n : ℕ). resolve_str (source_store t d) (n - 1)) answered_is)
-      ∙ named (λ z. known_some (answered_is ∙ z))
+  pub is_answered : Named t d work strs m → (known : Option ℕ) (id : ℕ) → ShowsAs t d known id → same_known known m.answered ≡ true → last_is id ≡ true
+  is_answered named known id shows e = answered_by id known m.answered shows named e

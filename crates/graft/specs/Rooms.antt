@@ -35,8 +35,8 @@ space_left a b s = record {
   calls = omega (arith, s.calls);
 }
 
-pub ready_left : {t d : List ℕ} {st : Store} {p : Plan} {m : Mark} {out work strs : List ℕ} (a b : Added) → Ready t d st p m out work strs (add a b) → Ready t d st p m out work strs a
-ready_left a b r = record { source = r.source; index = r.index; pairs = r.pairs; good = r.good; named = r.named; has = r.has; space = space_left a b r.space }
+pub ready_left : {t d : List ℕ} {p : Plan} {m : Mark} {out work strs : List ℕ} (a b : Added) → Ready t d p m out work strs (add a b) → Ready t d p m out work strs a
+ready_left a b r = record { index = r.index; pairs = r.pairs; good = r.good; named = r.named; has = r.has; space = space_left a b r.space }
 
 module _ {t d : List ℕ} (p : Plan) (m : Mark) (out work strs : List ℕ) {out' work' strs' : List ℕ} {r : Mark} {g : NewLayer} (x : Made t d p m out work strs out' work' strs' r g) (a : Added) (k : Grew (layer_from p work strs m) g a) where
   calls_on : r.state.stats.calls ≡ m.state.stats.calls + a.calls
@@ -54,10 +54,9 @@ module _ {t d : List ℕ} (p : Plan) (m : Mark) (out work strs : List ℕ) {out'
     calls = omega (arith, s.calls, calls_on);
   }
 
-  pub ready_next : {tape : List ℕ} {st : Store} (b : Added) → true ≡ has_room (length strs) m.state.base g.interner → length tape ≡ length out
-      → Ready t d st p m out work strs (add a b) → Ready t d st p r tape work' strs' b
-  ready_next {tape} {st} b o l y = record {
-    source = y.source;
+  pub ready_next : {tape : List ℕ} (b : Added) → true ≡ has_room (length strs) m.state.base g.interner → length tape ≡ length out
+      → Ready t d p m out work strs (add a b) → Ready t d p r tape work' strs' b
+  ready_next {tape} b o l y = record {
     index = rw x.free y.index;
     pairs = rw x.free y.pairs;
     good = x.good;
@@ -67,8 +66,8 @@ module _ {t d : List ℕ} (p : Plan) (m : Mark) (out work strs : List ℕ) {out'
   }
 
   -- room for the item behind the first part, whatever follows it
-  pub ready_item : {tape : List ℕ} {st : Store} (b rest : Added) → true ≡ has_room (length strs) m.state.base g.interner → length tape ≡ length out
-      → Ready t d st p m out work strs (add (add a b) rest) → Ready t d st p r tape work' strs' b
+  pub ready_item : {tape : List ℕ} (b rest : Added) → true ≡ has_room (length strs) m.state.base g.interner → length tape ≡ length out
+      → Ready t d p m out work strs (add (add a b) rest) → Ready t d p r tape work' strs' b
   ready_item b rest o l y = ready_left b rest (ready_next (add b rest) o l (rw (add_assoc a b rest) at y))
 
 pub roomy : {p : Plan} {m : Mark} (out work strs : List ℕ) {g : NewLayer} {a : Added} → Space p m (length out) a → Grew (layer_from p work strs m) g a → Roomy p m out g

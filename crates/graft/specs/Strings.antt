@@ -1,5 +1,5 @@
 -- Section 3: where a string's bytes stand.
-use Rattle.std.specs.Prelude.{◌≡◌, Some, None, ℕ, suc, ◌+◌, ◌-◌, ◌≤◌, ◌<◌, ◌^◌, length, get_or}
+use Rattle.std.specs.Prelude.{◌≡◌, Option, Some, None, ℕ, suc, ◌+◌, ◌-◌, ◌≤◌, ◌<◌, ◌^◌, length, get_or}
 use Rattle.std.proofs.Math.Path.{sym, ap}
 use Rattle.std.proofs.Common.{refl, true≢false, ◌∙◌, drop-drop}
 use Rattle.std.proofs.lemmas.Option.{none-some, same_Some}
@@ -88,7 +88,7 @@ module _ (p : Plan) (m : Mark) (work strs work' strs' s : List ℕ) (u : Interne
     unfolding graft_str
     str_refused told = rw (← q) (record { told = record { room = told.room; made = λ o. absurd (true≢false (sym o)) }; start = λ k o. absurd (none-some k o) })
 
-    pub str_answer_lem : Good work strs m.state → length strs' ≡ length strs → (known : ℕ) → ShowsAs t d known id → (a : ℕ) → InternTold work strs m.state work' strs' u (Some a) (intern (state_of work strs m.state) s)
+    pub str_answer_lem : Good work strs m.state → length strs' ≡ length strs → (known : Option ℕ) → ShowsAs t d known id → (a : ℕ) → InternTold work strs m.state work' strs' u (Some a) (intern (state_of work strs m.state) s)
         → StartTold t d p m out work strs out work' strs' (record { contents = m.contents; segments = m.segments; state = u; answered = known }) (Some (p.strings + a)) (graft_str (resolve_str (source_store t d) id) (layer_from p work strs m))
     unfolding graft_str records_bytes flatten
     str_answer_lem good long known shows a told =
@@ -106,8 +106,8 @@ module _ (p : Plan) (m : Mark) (work strs work' strs' s : List ℕ) (u : Interne
               kept = ap (λ (n : ℕ). take n strs') (sym y.base) ∙ answered_base work strs m.state work' strs' u a (intern (state_of work strs m.state) s) good y;
               free = y.free;
               long = long;
-              named = λ n.
-                  ap (holds (state_of work' strs' u).strings u.last) (shows n ∙ sym q)
+              named = λ r k.
+                  ap (holds (state_of work' strs' u).strings u.last) (shows r k ∙ sym q)
                   ∙ ap (λ (i : StrInterner). holds i.strings i.last s) y.state
                   ∙ last_holds (state_of work strs m.state) s;
             };

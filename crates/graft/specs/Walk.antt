@@ -84,8 +84,7 @@ SegmentsTold t d p m to = ItemsTold t d segment_codec p m (p.segmentsat + 37 * t
 -- ---- what the functions of the walk graft
 
 -- what a function of the walk is given
-pub record Ready (t d : List ℕ) (st : Store) (p : Plan) (m : Mark) (out work strs : List ℕ) (a : Added) : Type 0 where
-  pub source : Source t d st
+pub record Ready (t d : List ℕ) (p : Plan) (m : Mark) (out work strs : List ℕ) (a : Added) : Type 0 where
   pub index : Indexed (lengths_in t) (index_words work)
   pub pairs : Pairs (resolve_str (source_store t d)) (pair_words work)
   pub good : Good work strs m.state

@@ -12,103 +12,70 @@ ghost use Rattle.graft.specs.NodeItems.{shown_of, refs_from, NodesTold};
 ghost use Rattle.graft.specs.Walk.{Ready};
 ghost use Rattle.graft.specs.Walk.{WordsTold};
 
+use graft::Walk;
+use places::Run;
+use records::{Body, SourceNode};
+
 // Section 5. `graft_node_ref`: the words of the node at `at`. A node of class 2 or 3 has none; the levels in the runs of another are at most 32.
 pub fn graft_node(
-    tape: &[u8],
-    bytes: &[u8],
-    st: store::Store,
+    w: &Walk<'_>,
     out: &mut [u8],
     work: &mut [u32],
     strs: &mut [u8],
-    p: graft::Plan,
     m: &mut graft::Mark,
     at: usize,
 ) -> Option<[u32; 6]>
-    requires ready { Ready tape.now bytes.now st p m.old out.old work.old strs.old (node_adds tape.now st (record_at node_codec tape.now at)) }
-    requires at_in_bounds { (at + 49 ≤ length tape.now) × (node_in st (record_at node_codec tape.now at) ≡ true) }
-    ensures { WordsTold tape.now bytes.now p m.old out.old work.old strs.old out.new work.new strs.new m.new result
-        (node_words tape.now bytes.now (record_at node_codec tape.now at) (layer_from p work.old strs.old m.old)) }
+    requires ready { Ready w.now.tape.now w.now.bytes.now w.now.plan m.old out.old work.old strs.old (node_adds w.now.tape.now w.now.st.now (record_at node_codec w.now.tape.now at)) }
+    requires at_in_bounds { (at + 49 ≤ length w.now.tape.now) × (node_in w.now.st.now (record_at node_codec w.now.tape.now at) ≡ true) }
+    ensures { WordsTold w.now.tape.now w.now.bytes.now w.now.plan m.old out.old work.old strs.old out.new work.new strs.new m.new result
+        (node_words w.now.tape.now w.now.bytes.now (record_at node_codec w.now.tape.now at) (layer_from w.now.plan work.old strs.old m.old)) }
 {
-    if !records::has_words(tape, at) {
+    if !records::has_words(w.tape, at) {
         return Some([0u32; 6]);
     }
-    graft::graft_body(tape, bytes, st, out, work, strs, p, m, at + 15, 33)
+    graft::graft_body(w, out, work, strs, m, at + 15, 33)
 }
 
 // Section 5. `graft_node_ref`, its record written at `to` with the span of the reading.
 fn graft_node_at(
-    tape: &[u8],
-    bytes: &[u8],
-    st: store::Store,
+    w: &Walk<'_>,
     out: &mut [u8],
     work: &mut [u32],
     strs: &mut [u8],
-    p: graft::Plan,
     m: &mut graft::Mark,
     at: usize,
     to: usize,
 ) -> Option<()>
-    requires ready { Ready tape.now bytes.now st p m.old out.old work.old strs.old (node_adds tape.now st (record_at node_codec tape.now at)) }
-    requires at_in_bounds { (at + 49 ≤ length tape.now) × (node_in st (record_at node_codec tape.now at) ≡ true) × (to + 49 ≤ length out.old) }
-    ensures { NodesTold tape.now bytes.now p m.old to out.old work.old strs.old out.new work.new strs.new m.new (is_some result)
-        (refs_from p work.old strs.old m.old (shown_of tape.now bytes.now (record_at node_codec tape.now at ∷ []))) }
+    requires ready { Ready w.now.tape.now w.now.bytes.now w.now.plan m.old out.old work.old strs.old (node_adds w.now.tape.now w.now.st.now (record_at node_codec w.now.tape.now at)) }
+    requires at_in_bounds { (at + 49 ≤ length w.now.tape.now) × (node_in w.now.st.now (record_at node_codec w.now.tape.now at) ≡ true) × (to + 49 ≤ length out.old) }
+    ensures { NodesTold w.now.tape.now w.now.bytes.now w.now.plan m.old to out.old work.old strs.old out.new work.new strs.new m.new (is_some result)
+        (refs_from w.now.plan work.old strs.old m.old (shown_of w.now.tape.now w.now.bytes.now (record_at node_codec w.now.tape.now at ∷ []))) }
 {
-    let words = graft_node(tape, bytes, st, out, work, strs, p, m, at)?;
-    let start = wire::u32_at(tape, at + 3);
-    let stop = wire::u32_at(tape, at + 7);
-    let offset = wire::u32_at(tape, at + 11);
-    let first = wire::u32_at(tape, at + 17);
-    let second = wire::u32_at(tape, at + 21);
-    put_records::put_node(
-        out,
-        to,
-        tape[at + 1],
-        tape[at + 2],
-        start,
-        stop,
-        offset,
-        tape[at + 15],
-        tape[at + 16],
-        first,
-        second,
-        words,
-    );
+    let words = graft_node(w, out, work, strs, m, at)?;
+    let n = records::node_at(w.tape, at);
+    let body = Body { words, ..n.body };
+    put_records::put_node(out, to, SourceNode { body, ..n });
     Some(())
 }
 
-// Section 5. The nodes of the reading, `count` of them from `at` on, their records from `nodesat` on.
+// Section 5. The nodes of the reading, their records from `nodesat` on.
 pub fn graft_nodes(
-    tape: &[u8],
-    bytes: &[u8],
-    st: store::Store,
+    w: &Walk<'_>,
     out: &mut [u8],
     work: &mut [u32],
     strs: &mut [u8],
-    p: graft::Plan,
     m: &mut graft::Mark,
-    at: usize,
-    count: usize,
+    run: Run,
     nodesat: usize,
 ) -> Option<()>
-    requires ready { Ready tape.now bytes.now st p m.old out.old work.old strs.old (nodes_add tape.now st at count) }
-    requires count_in_bounds { (at + 49 * count ≤ length tape.now) × (all (node_in st) (records_at node_codec tape.now at count) ≡ true) }
-    requires count_bound { (p.segmentsat + 37 * (m.old.segments + (nodes_add tape.now st at count).segments) ≤ nodesat) × (nodesat + 49 * count ≤ length out.old) }
-    ensures { NodesTold tape.now bytes.now p m.old nodesat out.old work.old strs.old out.new work.new strs.new m.new (is_some result)
-        (refs_from p work.old strs.old m.old (shown_of tape.now bytes.now (records_at node_codec tape.now at count))) }
+    requires ready { Ready w.now.tape.now w.now.bytes.now w.now.plan m.old out.old work.old strs.old (nodes_add w.now.tape.now w.now.st.now run.at run.count) }
+    requires count_in_bounds { (run.at + 49 * run.count ≤ length w.now.tape.now) × (all (node_in w.now.st.now) (records_at node_codec w.now.tape.now run.at run.count) ≡ true) }
+    requires count_bound { (w.now.plan.segmentsat + 37 * (m.old.segments + (nodes_add w.now.tape.now w.now.st.now run.at run.count).segments) ≤ nodesat) × (nodesat + 49 * run.count ≤ length out.old) }
+    ensures { NodesTold w.now.tape.now w.now.bytes.now w.now.plan m.old nodesat out.old work.old strs.old out.new work.new strs.new m.new (is_some result)
+        (refs_from w.now.plan work.old strs.old m.old (shown_of w.now.tape.now w.now.bytes.now (records_at node_codec w.now.tape.now run.at run.count))) }
 {
-    for i in 0..count {
-        graft_node_at(
-            tape,
-            bytes,
-            st,
-            out,
-            work,
-            strs,
-            p,
-            m,
-            at + 49 * i,
-            nodesat + 49 * i,
-        )?;
+    for i in 0..run.count {
+        graft_node_at(w, out, work, strs, m, run.at + 49 * i, nodesat + 49 * i)?;
     }
     Some(())
 }

@@ -17,7 +17,7 @@ use records::{RUBY, Use};
 use store::Store;
 
 // The id of a missing string.
-const NO_STRING: u32 = 4294967295;
+pub const NO_STRING: u32 = 4294967295;
 
 // Number 4. A word by its use: an id, an id that may be missing, the start of a range whose length is the next word. From here on
 // the store is lent: it is 408 bytes, and copied for each word it costs more than the test.

@@ -1,19 +1,20 @@
 -- The returns of the code, and what is known of a book that is not refused.
-use Rattle.std.specs.Prelude.{Some, ◌≡◌, ℕ, ◌+◌, ◌-◌, ◌≤◌, ◌<◌, false, cond, ◌&&◌, List, ◌++◌, length, take, drop, leb, ltb, eqb}
+use Rattle.std.specs.Prelude.{Some, ◌≡◌, ℕ, ◌+◌, ◌-◌, ◌≤◌, false, cond, ◌&&◌, List, ◌++◌, length, take, drop, leb, ltb, eqb}
 use Rattle.std.proofs.Math.Path.{refl}
-use Rattle.std.proofs.Common.{sym, ap, ◌∙◌, arith, append_assoc, length-take}
+use Rattle.std.proofs.Common.{sym, ap, ◌∙◌, arith, length-take}
 use Rattle.std.proofs.Math.Option.{Option, none, some}
-use Rattle.std.proofs.lemmas.List.{length-replicate}
-use borrow.Author.Tests.{leb-true, ltb-false, eqb-true, eqb-false, lt-ltb, le-ltb, le-leb, lt-leb, eq-eqb, ne_eqb}
+use borrow.Author.Tests.{leb-true, ltb-false, eqb-true, eqb-false, eq-eqb, ne_eqb}
 use Rattle.model.specs.Lists.{ascii}
 use Rattle.model.specs.Limits.{max_part}
-use Rattle.model.specs.Bytes.{word_at, part, zeros}
+use Rattle.model.specs.Bytes.{word_at, part}
 use Rattle.model.specs.Offset.{Span}
 use Rattle.model.specs.Types.{LexOutput}
 use Rattle.model.specs.Tape.{book_at}
 use Rattle.model.specs.Refusal.{Checked, Checked.refused, Checked.accepted, ◌>>=◌, refuse◌if◌, number_of}
 use Rattle.model.specs.WellFormed.{check_book}
 use Rattle.model.specs.Region.{Edit, region_text, chosen_region, choose_region, edit_of}
+use Rattle.refusal.specs.declared.Refusal.{Refusal}
+use Rattle.refusal.specs.Refusal.{number, checked_map, number_bounds, checked_map-bind}
 use Rattle.laws.specs.Lists.{both}
 use Rattle.laws.specs.Numbers.{UpTo, book_up_to}
 use Rattle.wire.specs.Loops.{by_bool}
@@ -21,17 +22,11 @@ use Rattle.places.specs.declared.Places.{Places}
 use Rattle.places.specs.Found.{places_of}
 use Rattle.store.specs.declared.Store.{Store}
 use Rattle.store.specs.Stored.{StoreFits, store_at}
-use Rattle.tape.specs.Accepted.{Accepted, refusal_of, accepted_book, accepted_place, accepted_store}
+use Rattle.tape.specs.Accepted.{Accepted, accepted_book, accepted_place, accepted_store}
 use Rattle.lines.specs.Text.{numbered}
 use Rattle.lines.specs.Quoted.{quoted}
 use Rattle.listing.specs.Strings.{Printable, text_short}
-use Rattle.inspect.specs.declared.Outcome.{Outcome}
-use Rattle.inspect.specs.Inspect.{tape_in, bytes_in, behind, edit_at, asked_book, asked_edit, asked_behind, asked, mark_of, book_of, passage_line}
-
--- A number, or the mark of a book that is shown; the number is 0 then.
-unfoldable pub outcome_of : Checked (Option Span) → Outcome
-outcome_of (refused n) = record { number = n; mark = mark_of none }
-outcome_of (accepted r) = record { number = 0; mark = mark_of r }
+use Rattle.inspect.specs.Inspect.{tape_in, bytes_in, behind, edit_at, asked_book, asked_edit, asked_behind, asked, book_of, passage_line}
 
 -- ---- the input's own numbers
 
@@ -69,25 +64,6 @@ behind_by s p =
     (λ c. rw (a, b, c) refl))
     (λ b. rw (a, b) refl))
 
--- ---- the returns
-
-pub head_short : (s : List ℕ) → length s < 8 → 1 ≡ head_number s
-unfolding head_number
-head_short s h = rw (lt-ltb (length s) 8 h) refl
-
-module _ (s : List ℕ) (h : 8 ≤ length s) {a b : ℕ} (p : a ≡ word_at s 0) (q : b ≡ word_at s 4) where
-  pub head_tape : max_part < a → 3 ≡ head_number s
-  unfolding head_number
-  head_tape g = rw (le-ltb (length s) 8 h, ← p, lt-leb a max_part g) refl
-
-  pub head_bytes_lem : a ≤ max_part → max_part < b → 3 ≡ head_number s
-  unfolding head_number
-  head_bytes_lem f g = rw (le-ltb (length s) 8 h, ← p, ← q, le-leb a max_part f, lt-leb b max_part g) refl
-
-  pub head_none : a ≤ max_part → b ≤ max_part → 0 ≡ head_number s
-  unfolding head_number
-  head_none f g = rw (le-ltb (length s) 8 h, ← p, ← q, le-leb a max_part f, le-leb b max_part g) refl
-
 -- what is known of an input without a number
 pub record Headed (s : List ℕ) : Type 0 where
   pub head : 8 ≤ length s
@@ -109,24 +85,6 @@ headed s e z =
 pub behind_few : {s : List ℕ} → Headed s → behind s ≤ 131080
 behind_few h = omega (arith, h.tape, h.bytes)
 
-module _ (s : List ℕ) (p : ℕ) where
-  pub edit_short : length s < p + 12 → 1 ≡ edit_number s p
-  unfolding edit_number
-  edit_short h = rw (lt-ltb (length s) (p + 12) h) refl
-
-  module _ (h : p + 12 ≤ length s) {r : ℕ} (e : r ≡ word_at s (p + 8)) where
-    pub edit_long : max_part < r → 3 ≡ edit_number s p
-    unfolding edit_number
-    edit_long g = rw (le-ltb (length s) (p + 12) h, ← e, lt-leb r max_part g) refl
-
-    pub edit_size : r ≤ max_part → (length s ≡ p + 12 + r → ⊥) → 1 ≡ edit_number s p
-    unfolding edit_number
-    edit_size f g = rw (le-ltb (length s) (p + 12) h, ← e, le-leb r max_part f, ne_eqb (length s) (p + 12 + r) g) refl
-
-    pub edit_none : r ≤ max_part → length s ≡ p + 12 + r → 0 ≡ edit_number s p
-    unfolding edit_number
-    edit_none f g = rw (le-ltb (length s) (p + 12) h, ← e, le-leb r max_part f, eq-eqb (length s) (p + 12 + r) g) refl
-
 pub edit_there : (s : List ℕ) (p : ℕ) {n : ℕ} → n ≡ edit_number s p → n ≡ 0 → (p + 12 ≤ length s) × (word_at s (p + 8) ≤ 65536)
 unfolding edit_number
 edit_there s p e z =
@@ -147,69 +105,57 @@ module _ (s : List ℕ) {a : ℕ} (p : a ≡ word_at s 0) where
 
 -- ---- the answers
 
-refused_answer : (x : Checked (Option Span)) (n : ℕ) → x ≡ refused n → {r : Outcome} → r ≡ outcome_of (refused n) → r ≡ outcome_of x
-refused_answer x n e q = q ∙ ap outcome_of (sym e)
+-- a refusal's number is not 0
+refused_here : (r : Refusal) {n : ℕ} → number r ≡ n → eqb n 0 ≡ false
+refused_here r {n} e = ne_eqb n 0 (λ z. let b = number_bounds r in omega (arith, b, e, z))
 
-module _ (s : List ℕ) {n : ℕ} (e : n ≡ head_number s) where
-  pub answer_head : (n ≡ 0 → ⊥) → {r : Outcome} → r ≡ outcome_of (refused n) → r ≡ outcome_of (asked s)
-  answer_head h q = refused_answer (asked s) n (asked_by s ∙ rw (← e, ne_eqb n 0 h) refl) q
+module _ (s : List ℕ) where
+  pub head_refused : (r : Refusal) → number r ≡ head_number s → refused (number r) ≡ asked s
+  head_refused r e = sym (asked_by s ∙ rw (refused_here r e, e) refl)
 
-  module _ (z : n ≡ 0) where
+  module _ (z : 0 ≡ head_number s) where
     here : asked s ≡ book_or_edit s
-    here = asked_by s ∙ rw (← e, z) refl
+    here = asked_by s ∙ rw (← z) refl
 
     module _ {t d : List ℕ} (f : t ≡ tape_in s) (g : d ≡ bytes_in s) {p : ℕ} (q : p ≡ behind s) where
-      pub answer_book : length s ≡ p → {r : Outcome} → r ≡ outcome_of (asked_book t d) → r ≡ outcome_of (asked s)
-      answer_book l i =
-          let k : asked s ≡ asked_book t d = here ∙ rw (eq-eqb (length s) (behind s) (l ∙ q), f, g) refl in
-          i ∙ ap outcome_of (sym k)
+      pub book_asked : length s ≡ p → asked s ≡ asked_book t d
+      book_asked l = here ∙ rw (eq-eqb (length s) (behind s) (l ∙ q), f, g) refl
 
-      module _ (l : length s ≡ p → ⊥) {k : ℕ} (o : k ≡ edit_number s p) where
+      module _ (l : length s ≡ p → ⊥) where
         there : asked s ≡ asked_behind s p
         there = here ∙ rw (ne_eqb (length s) (behind s) (λ w. l (w ∙ sym q)), q) refl
 
-        pub answer_edit : (k ≡ 0 → ⊥) → {r : Outcome} → r ≡ outcome_of (refused k) → r ≡ outcome_of (asked s)
-        answer_edit h i = refused_answer (asked s) k (there ∙ behind_by s p ∙ rw (← o, ne_eqb k 0 h) refl) i
+        pub edit_refused : (r : Refusal) → number r ≡ edit_number s p → refused (number r) ≡ asked s
+        edit_refused r e = sym (there ∙ behind_by s p ∙ rw (refused_here r e, e) refl)
 
-        pub answer_region : k ≡ 0 → {r : Outcome} → r ≡ outcome_of (asked_edit t d (edit_at s p)) → r ≡ outcome_of (asked s)
-        answer_region h i =
-            let m : asked s ≡ asked_edit t d (edit_at s p) = there ∙ behind_by s p ∙ rw (← o, h, f, g) refl in
-            i ∙ ap outcome_of (sym m)
+        pub edit_asked : 0 ≡ edit_number s p → asked s ≡ asked_edit t d (edit_at s p)
+        edit_asked e = there ∙ behind_by s p ∙ rw (← e, f, g) refl
 
 -- ---- tape and bytes
 
-pub book_refused : (t d : List ℕ) {n : ℕ} → check_book t d ≡ refused n → outcome_of (refused n) ≡ outcome_of (asked_book t d)
+pub book_refused : (t d : List ℕ) {n : ℕ} → check_book t d ≡ refused n → refused n ≡ asked_book t d
 unfolding asked_book ◌>>=◌
-book_refused t d e = ap outcome_of (sym (rw e refl))
+book_refused t d e = sym (rw e refl)
 
-pub book_shown : {t d : List ℕ} → Accepted t d → record { number = 0; mark = record { edit = false; start = 0; end = 0 } } ≡ outcome_of (asked_book t d)
-unfolding asked_book ◌>>=◌ outcome_of mark_of
+pub book_shown : {t d : List ℕ} → Accepted t d → accepted none ≡ asked_book t d
+unfolding asked_book ◌>>=◌
 book_shown a = rw a.book refl
 
--- what a chosen region or a refusal answers
-abbrev pub told : Checked Span → Outcome
-told (refused n) = outcome_of (refused n)
-told (accepted r) = outcome_of (accepted (some r))
+-- the edit, as the code cuts it out
+pub edit_read : (s : List ℕ) (p : ℕ) {start end n : ℕ} {w : List ℕ} → start ≡ word_at s p → end ≡ word_at s (p + 4) → n ≡ word_at s (p + 8)
+    → w ≡ part s (p + 12) (p + 12 + n - (p + 12)) → edit_of start end w ≡ edit_at s p
+unfolding edit_of
+edit_read s p {n = n} e f g h = let z : p + 12 + n - (p + 12) ≡ n = omega arith in rw (h, z, e, f, g) refl
 
-told_chosen : (x : Checked Span) → told x ≡ outcome_of (x >>= λ r. accepted (some r))
-unfolding ◌>>=◌
-told_chosen (refused n) = refl
-told_chosen (accepted r) = refl
-
-pub edit_told : (t d : List ℕ) (s : List ℕ) (p : ℕ) {start end n : ℕ} {w : List ℕ} → start ≡ word_at s p → end ≡ word_at s (p + 4) → n ≡ word_at s (p + 8)
-    → w ≡ part s (p + 12) (p + 12 + n - (p + 12)) → {x : Checked Span} → x ≡ choose_region t d (edit_of start end w) → {r : Outcome} → r ≡ told x
-    → r ≡ outcome_of (asked_edit t d (edit_at s p))
-unfolding asked_edit edit_of
-edit_told t d s p {start} {end} {n} e f g h c q =
-    let z : p + 12 + n - (p + 12) ≡ n = omega arith in
-    q ∙ ap told c ∙ told_chosen (choose_region t d (edit_of start end _)) ∙ rw (h, z, e, f, g) refl
+pub edit_told : (t d : List ℕ) (e : Edit) {x : Checked Span} → x ≡ choose_region t d e → checked_map (λ (r : Span). some r) x ≡ asked_edit t d e
+unfolding asked_edit
+edit_told t d e {x} c = checked_map-bind (λ (r : Span). some r) x ∙ rw c refl
 
 -- ---- a book that is not refused
 
-numbers : (x : Checked (Option Span)) → (outcome_of x).number ≡ number_of x
-unfolding outcome_of number_of
-numbers (refused n) = refl
-numbers (accepted r) = refl
+pub number_none : {A : Type 0} {a : A} {x : Checked A} → accepted a ≡ x → number_of x ≡ 0
+unfolding number_of
+number_none e = sym (ap number_of e)
 
 -- a chain that passes has passed its first step
 passed_first : {A B : Type 0} (x : Checked A) (f : A → Checked B) → UpTo 7 x → number_of (x >>= f) ≡ 0 → number_of x ≡ 0
@@ -266,10 +212,6 @@ asked_passed s z =
     let m : asked s ≡ refused (head_number s) = asked_by s ∙ rw a refl in
     absurd (eqb-false (head_number s) 0 a (sym (ap number_of m) ∙ z)))
 
--- the number of an outcome is 0: its input is not refused
-pub outcome_none : (s : List ℕ) {r : Outcome} → r ≡ outcome_of (asked s) → r.number ≡ 0 → number_of (asked s) ≡ 0
-outcome_none s e z = sym (numbers (asked s)) ∙ sym (ap (λ (x : Outcome). x.number) e) ∙ z
-
 pub asked_shown : (s : List ℕ) → number_of (asked s) ≡ 0 → {t d : List ℕ} → t ≡ tape_in s → d ≡ bytes_in s → Shown t d
 asked_shown s z f g =
     let a = asked_passed s z in
@@ -290,10 +232,10 @@ passage_short t d r h e =
     k (let l = length-take (word_at t 1) d in omega (arith, l, h)) e
 
 -- its parts, one behind the other
-pub passage_whole : (b : LexOutput) (r : Span) {text a c d e f : List ℕ} → text ≡ region_text b r → a ≡ numbered (ascii "passage ") r.start → c ≡ a ++ numbered (ascii " ") r.end
-    → d ≡ c ++ ascii " " → e ≡ d ++ quoted text → f ≡ e ++ ascii "\n" → f ≡ passage_line b r
+pub passage_put : (b : LexOutput) (r : Span) {x y : ℕ} {text : List ℕ} → x ≡ r.start → y ≡ r.end → text ≡ region_text b r
+    → numbered (ascii "passage ") x ++ (numbered (ascii " ") y ++ (ascii " " ++ (quoted text ++ ascii "\n"))) ≡ passage_line b r
 unfolding passage_line
-passage_whole b r h p q u v w = w ∙ rw (v, u, q, p, h, append_assoc, append_assoc, append_assoc) refl
+passage_put b r p q e = rw (p, q, e) refl
 
 -- what the printing of a line asks
 pub shown_store_lem : {t d : List ℕ} → Shown t d → {p : Places} → Some p ≡ places_of t d → StoreFits t p.layers
@@ -301,10 +243,3 @@ shown_store_lem w {p} e = accepted_store w.passed (accepted_place w.passed e)
 
 pub shown_printable : {t d : List ℕ} → Shown t d → {st : Store} → st ≡ store_at t → Printable t d st
 shown_printable w e = record { passed = w.passed; stored = e; short = w.short }
-
--- a buffer of zeros is as long as it was made; stated of every length, since no list of that many is to be written out
-pub zeros_length : (n : ℕ) → n ≡ length (zeros n)
-zeros_length n = sym (length-replicate n 0)
-
-pub zeros_room : (n : ℕ) → n ≤ length (zeros n)
-zeros_room n = let e : length (zeros n) ≡ n = length-replicate n 0 in omega (arith, e)

@@ -1,14 +1,12 @@
 -- How much of the input has to be read.
-use Rattle.std.specs.Prelude.{◌≡◌, refl, ℕ, ◌+◌, ◌≤◌, ◌<◌, Bool, true, false, cond, not, ◌&&◌, List, [], ◌∷◌, length, take, leb, ltb, eqb}
-use Rattle.std.proofs.Common.{sym, ap, ◌∙◌, arith, length-take-le}
-use Rattle.std.proofs.Math.Option.{Option}
+use Rattle.std.specs.Prelude.{◌≡◌, refl, ℕ, ◌+◌, ◌≤◌, Bool, true, false, cond, ◌&&◌, List, [], ◌∷◌, length, take, leb, ltb, eqb}
+use Rattle.std.proofs.Common.{sym, ap, ◌∙◌, arith}
 use Rattle.std.proofs.Math.ListN.{length-take}
 use Rattle.std.proofs.Math.Seq.{take_all}
 use borrow.Author.Tests.{leb-true, leb-false, le-ltb, ne_eqb}
 use Rattle.model.specs.Limits.{max_part}
 use Rattle.model.specs.Bytes.{word_at}
-use Rattle.model.specs.Offset.{Span}
-use Rattle.model.specs.Refusal.{Checked, Checked.refused, ◌>>=◌, refuse◌if◌, number_of}
+use Rattle.model.specs.Refusal.{Checked.refused, ◌>>=◌, refuse◌if◌, number_of}
 use Rattle.laws.specs.Lists.{both}
 use Rattle.wire.specs.Loops.{by_bool}
 use Rattle.lines.specs.Text.{refused_line}
@@ -99,18 +97,11 @@ module _ (s : List ℕ) where
       let l = length-take 196629 s in
       absurd (long_refused (take 196629 s) (ap number_of (sym (long_asked (take 196629 s) (omega (arith, l, h)))) ∙ z)))
 
--- ---- of a stream, n bytes stand in a buffer: all of them or as many as it holds
+-- ---- of a stream s, all bytes stand in a buffer, or as many as it holds
 
-module _ (x : List ℕ) (l : length x ≡ 196629) (n : ℕ) (s : List ℕ) (e : take (length x) s ≡ take n x) where
-  first : take 196629 s ≡ take n x
-  first = ap (λ (k : ℕ). take k s) (sym l) ∙ e
+module _ (x s : List ℕ) (e : take 196629 s ≡ x) where
+  pub read_asked : asked x ≡ asked s
+  read_asked = ap asked (sym e) ∙ asked_cut s
 
-  pub read_asked : asked (take n x) ≡ asked s
-  read_asked = ap asked (sym first) ∙ asked_cut s
-
-  pub read_stream : number_of (asked (take n x)) ≡ 0 → take n x ≡ s
-  read_stream z = sym first ∙ read_whole s (ap (λ (y : List ℕ). number_of (asked y)) first ∙ z)
-
--- what stands there is such a stream
-pub read_itself : (x : List ℕ) (n : ℕ) → n ≤ length x → take (length x) (take n x) ≡ take n x
-read_itself x n h = let l = length-take-le n x h in take_all (length x) (take n x) (omega (arith, l, h))
+  pub read_stream : number_of (asked x) ≡ 0 → x ≡ s
+  read_stream z = sym e ∙ read_whole s (ap (λ (y : List ℕ). number_of (asked y)) e ∙ z)

@@ -2,7 +2,7 @@
 -- u32, the lengths of tape and bytes, and these two parts; then nothing, or an edit: three u32, start, end, length of the replacement, and the
 -- replacement. Each part is at most 65536 bytes (else 3, tested once the numbers that give it are read). Short or surplus input is 1; both
 -- precede all else. Then numbers 1 to 7 of the book, with an edit those up to 11.
-use Rattle.std.specs.Prelude.{ℕ, ◌+◌, true, false, cond, not, ◌&&◌, List, [], ◌∷◌, ◌++◌, length, leb, ltb, eqb}
+use Rattle.std.specs.Prelude.{ℕ, ◌+◌, cond, not, ◌&&◌, List, [], ◌∷◌, ◌++◌, length, leb, ltb, eqb}
 use Rattle.std.proofs.Math.Option.{Option, none, some}
 use Rattle.model.specs.Lists.{ascii}
 use Rattle.model.specs.Limits.{max_part}
@@ -15,7 +15,6 @@ use Rattle.model.specs.WellFormed.{check_book}
 use Rattle.model.specs.Region.{Edit, region_text, choose_region}
 use Rattle.lines.specs.Text.{numbered, refused_line}
 use Rattle.lines.specs.Quoted.{quoted}
-use Rattle.listing.specs.declared.Mark.{Mark}
 use Rattle.listing.specs.Listing.{listing}
 
 -- ---- the input
@@ -62,10 +61,6 @@ asked s = do
 
 -- ---- the output
 
-unfoldable pub mark_of : Option Span → Mark
-mark_of none = record { edit = false; start = 0; end = 0 }
-mark_of (some r) = record { edit = true; start = r.start; end = r.end }
-
 -- the book of a tape and its bytes, where they are accepted
 abbrev pub book_of : List ℕ → List ℕ → LexOutput
 book_of t d = book_at t (places t) d
@@ -79,7 +74,7 @@ passage_lines b none = []
 passage_lines b (some r) = passage_line b r ∷ []
 
 unfoldable pub book_lines : List ℕ → List ℕ → Option Span → List (List ℕ)
-book_lines t d r = passage_lines (book_of t d) r ++ listing t d (mark_of r)
+book_lines t d r = passage_lines (book_of t d) r ++ listing t d r
 
 unfoldable pub lines_of : List ℕ → Checked (Option Span) → List (List ℕ)
 lines_of s (refused n) = refused_line n ∷ []

@@ -1,3 +1,4 @@
 pub mod Inspect
 pub mod Answers
 pub mod Cut
+pub mod Read

@@ -40,7 +40,7 @@ offsets_of p = record { strings = p.strings; contents = p.contents; segments = p
 
 -- nothing pushed yet
 abbrev pub fresh_mark : Interner → Mark
-fresh_mark r = record { contents = 0; segments = 0; state = r; answered = 0 }
+fresh_mark r = record { contents = 0; segments = 0; state = r; answered = None }
 
 -- ---- the index
 
@@ -95,13 +95,12 @@ module _ {t d : List ℕ} {q : Places} {st : Store} (f : SourceFits t d q st) {w
   no_calls : s.stats.calls ≡ 0
   no_calls = ap (λ (x : StrInterner). x.stats.calls) b.state
 
-  pub walk_ready : WalkRoom p nodesat q.nodes.count (length out) (source_adds t d) → Ready t d st p (fresh_mark s) out work strs (nodes_add t st q.nodes.at q.nodes.count)
+  pub walk_ready : WalkRoom p nodesat q.nodes.count (length out) (source_adds t d) → Ready t d p (fresh_mark s) out work strs (nodes_add t st q.nodes.at q.nodes.count)
   walk_ready w = rw (source_adds_lem f) (record {
-    source = source_of f;
     index = index_kept t work₀ base b.words index;
     pairs = rw (b.words, start_high work₀ 0 base 15360 (omega arith), stay) pairs;
     good = b.good;
-    named = λ n. absurd (n refl);
+    named = λ m e. absurd (none-some m e);
     has = sym (room_same work strs s b.good);
     space = record {
       contents = omega (arith, w.contents);

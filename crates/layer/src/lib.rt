@@ -20,7 +20,9 @@ ghost use Rattle.layer.specs.Layered.{OffsetsFit, room_left, plan_of, source_add
 ghost use Rattle.layer.specs.Walked.{offsets_of, WalkRoom, Walked};
 ghost use Rattle.layer.specs.Answers.{Finished, Exact, LayerTold};
 
+use graft::Walk;
 use interner::StrInterner;
+use region::Book;
 use table::STARTS;
 
 const MAX_POOL: usize = 1048575;
@@ -31,6 +33,14 @@ pub struct Offsets {
     pub strings: u32,
     pub contents: u32,
     pub segments: u32,
+}
+
+// Where a layer goes: above layers of these counts, its records from `at` on, its strings' bytes from `base` on.
+#[derive(Clone, Copy)]
+struct Place {
+    below: Offsets,
+    at: usize,
+    base: usize,
 }
 
 // The layer that was written: the bytes of its records, its command with them, how many items it has, and its interner.
@@ -142,20 +152,16 @@ fn plan_of(o: Offsets, at: usize, contents: u32) -> graft::Plan
 }
 
 // An index of the source's strings, in the work words that the interner leaves free.
-fn index_words(tape: &[u8], st: store::Store, room: usize, work: &mut [u32])
-    requires readable { Readable tape.now st room }
+fn index_words(r: &Book<'_>, work: &mut [u32])
     requires min_work_words_in_bounds { min_work_words ≤ length work.old }
-    ensures { Indexed (lengths_in tape.now) (index_words work.new) × (pair_words work.new ≡ pair_words work.old) }
+    ensures { Indexed (lengths_in r.now.tape.now) (index_words work.new) × (pair_words work.new ≡ pair_words work.old) }
 {
-    strings::index_strings(tape, st, room, &mut work[15360..16384]);
+    strings::index_strings(r.tape, r.store, r.bytes.len(), &mut work[15360..16384]);
 }
 
 // Section 5. The source's nodes, grafted into a layer that has nothing yet.
 fn walk(
-    tape: &[u8],
-    bytes: &[u8],
-    p: places::Places,
-    st: store::Store,
+    r: &Book<'_>,
     out: &mut [u8],
     work: &mut [u32],
     strs: &mut [u8],
@@ -163,31 +169,24 @@ fn walk(
     base: usize,
     nodesat: usize,
 ) -> Option<graft::Mark>
-    requires source_fits { SourceFits tape.now bytes.now p st }
-    requires walk_room { WalkRoom plan nodesat p.nodes.count (length out.old) (source_adds tape.now bytes.now) }
-    requires min_work_words_in_bounds { (min_work_words ≤ length work.old) × (base ≤ length strs.old) × Pairs (resolve_str (source_store tape.now bytes.now)) (pair_words work.old) }
-    ensures { Walked plan base nodesat out.old strs.old out.new work.new strs.new result (grafted_into tape.now bytes.now (offsets_of plan)) }
+    requires walk_room { WalkRoom plan nodesat r.now.places.nodes.count (length out.old) (source_adds r.now.tape.now r.now.bytes.now) }
+    requires min_work_words_in_bounds { (min_work_words ≤ length work.old) × (base ≤ length strs.old) × Pairs (resolve_str (source_store r.now.tape.now r.now.bytes.now)) (pair_words work.old) }
+    ensures { Walked plan base nodesat out.old strs.old out.new work.new strs.new result (grafted_into r.now.tape.now r.now.bytes.now (offsets_of plan)) }
 {
-    index_words(tape, st, bytes.len(), work);
+    index_words(r, work);
+    let w = Walk {
+        tape: r.tape,
+        bytes: r.bytes,
+        st: r.store,
+        plan,
+    };
     let mut m = graft::Mark {
         contents: 0,
         segments: 0,
         state: StrInterner::new(work, base),
-        answered: 0,
+        answered: None,
     };
-    graft_nodes::graft_nodes(
-        tape,
-        bytes,
-        st,
-        out,
-        work,
-        strs,
-        plan,
-        &mut m,
-        p.nodes.at,
-        p.nodes.count,
-        nodesat,
-    )?;
+    graft_nodes::graft_nodes(&w, out, work, strs, &mut m, r.places.nodes, nodesat)?;
     Some(m)
 }
 
@@ -223,138 +222,87 @@ fn finish(
 
 // `graft_layer` where the sizes are known, by these words: behind 16384 of them stand pairs of crate `representatives`.
 fn graft_by(
-    tape: &[u8],
-    bytes: &[u8],
-    p: places::Places,
-    st: store::Store,
+    r: &Book<'_>,
     out: &mut [u8],
     work: &mut [u32],
     strs: &mut [u8],
-    o: Offsets,
-    at: usize,
-    base: usize,
+    to: Place,
     s: sizes::Sizes,
 ) -> Option<Layer>
-    requires source_fits { SourceFits tape.now bytes.now p st × OffsetsFit o × Exact (room_left o) (source_adds tape.now bytes.now) s }
-    requires min_work_words_in_bounds { (min_work_words ≤ length work.old) × (base ≤ length strs.old) × (at ≤ length out.old) × Pairs (resolve_str (source_store tape.now bytes.now)) (pair_words work.old) }
-    ensures { LayerTold out.old strs.old out.new strs.new at base o result (grafted_into tape.now bytes.now o) }
+    requires source_fits { OffsetsFit to.below × Exact (room_left to.below) (source_adds r.now.tape.now r.now.bytes.now) s }
+    requires min_work_words_in_bounds { (min_work_words ≤ length work.old) × (to.base ≤ length strs.old) × (to.at ≤ length out.old) × Pairs (resolve_str (source_store r.now.tape.now r.now.bytes.now)) (pair_words work.old) }
+    ensures { LayerTold out.old strs.old out.new strs.new to.at to.base to.below result (grafted_into r.now.tape.now r.now.bytes.now to.below) }
 {
     let len = layer_length(s.contents, s.segments);
-    let rest = nodes_length(p);
-    if out.len() - at < len + rest {
+    let rest = nodes_length(r.places);
+    if out.len() - to.at < len + rest {
         return None;
     }
-    let plan = plan_of(o, at, s.contents);
-    let m = walk(tape, bytes, p, st, out, work, strs, plan, base, at + len)?;
-    finish(out, work, o.strings, at, len, rest, m)
+    let plan = plan_of(to.below, to.at, s.contents);
+    let m = walk(r, out, work, strs, plan, to.base, to.at + len)?;
+    finish(out, work, to.below.strings, to.at, len, rest, m)
 }
 
 // The pairs of a source's long strings, behind the words that a walk uses.
-fn pair_words(tape: &[u8], bytes: &[u8], p: places::Places, st: store::Store, words: &mut [u32])
-    requires source_fits { SourceFits tape.now bytes.now p st }
+fn pair_words(r: &Book<'_>, words: &mut [u32])
     requires min_work_words_in_bounds { min_work_words < length words.old }
-    ensures { Pairs (resolve_str (source_store tape.now bytes.now)) (pair_words words.new) }
+    ensures { Pairs (resolve_str (source_store r.now.tape.now r.now.bytes.now)) (pair_words words.new) }
 {
-    let book = region::Book {
-        tape,
-        bytes,
-        places: p,
-        store: st,
-    };
-    let least = representatives::long_from(bytes.len());
+    let least = representatives::long_from(r.bytes.len());
     let n = words.len();
-    representatives::pair_strings(&book.strings(), &mut words[16384..n], least);
+    representatives::pair_strings(&r.strings(), &mut words[16384..n], least);
 }
 
 // The same with a representative for each long string, so that no two of them are compared again and again.
 fn graft_paired(
-    tape: &[u8],
-    bytes: &[u8],
-    p: places::Places,
-    st: store::Store,
+    r: &Book<'_>,
     out: &mut [u8],
     words: &mut [u32],
     strs: &mut [u8],
-    o: Offsets,
-    at: usize,
-    base: usize,
+    to: Place,
     s: sizes::Sizes,
 ) -> Option<Layer>
-    requires source_fits { SourceFits tape.now bytes.now p st × OffsetsFit o × Exact (room_left o) (source_adds tape.now bytes.now) s }
-    requires min_work_words_in_bounds { (min_work_words < length words.old) × (base ≤ length strs.old) × (at ≤ length out.old) }
-    ensures { LayerTold out.old strs.old out.new strs.new at base o result (grafted_into tape.now bytes.now o) }
+    requires source_fits { OffsetsFit to.below × Exact (room_left to.below) (source_adds r.now.tape.now r.now.bytes.now) s }
+    requires min_work_words_in_bounds { (min_work_words < length words.old) × (to.base ≤ length strs.old) × (to.at ≤ length out.old) }
+    ensures { LayerTold out.old strs.old out.new strs.new to.at to.base to.below result (grafted_into r.now.tape.now r.now.bytes.now to.below) }
 {
-    pair_words(tape, bytes, p, st, words);
-    graft_by(tape, bytes, p, st, out, words, strs, o, at, base, s)
+    pair_words(r, words);
+    graft_by(r, out, words, strs, to, s)
 }
 
 // The same by words of its own: those that are lent have no room for pairs.
 fn graft_long(
-    tape: &[u8],
-    bytes: &[u8],
-    p: places::Places,
-    st: store::Store,
+    r: &Book<'_>,
     out: &mut [u8],
     strs: &mut [u8],
-    o: Offsets,
-    at: usize,
-    base: usize,
+    to: Place,
     s: sizes::Sizes,
 ) -> Option<Layer>
-    requires source_fits { SourceFits tape.now bytes.now p st × OffsetsFit o × Exact (room_left o) (source_adds tape.now bytes.now) s }
-    requires base_in_bounds { (base ≤ length strs.old) × (at ≤ length out.old) }
-    ensures { LayerTold out.old strs.old out.new strs.new at base o result (grafted_into tape.now bytes.now o) }
+    requires source_fits { OffsetsFit to.below × Exact (room_left to.below) (source_adds r.now.tape.now r.now.bytes.now) s }
+    requires base_in_bounds { (to.base ≤ length strs.old) × (to.at ≤ length out.old) }
+    ensures { LayerTold out.old strs.old out.new strs.new to.at to.base to.below result (grafted_into r.now.tape.now r.now.bytes.now to.below) }
 {
     let mut words = [0u32; 24577];
-    graft_paired(
-        tape,
-        bytes,
-        p,
-        st,
-        out,
-        &mut words[0..24577],
-        strs,
-        o,
-        at,
-        base,
-        s,
-    )
+    graft_paired(r, out, &mut words[0..24577], strs, to, s)
 }
 
 // `graft_layer` where the sizes are known.
 fn graft_sized(
-    tape: &[u8],
-    bytes: &[u8],
-    p: places::Places,
-    st: store::Store,
+    r: &Book<'_>,
     out: &mut [u8],
     work: &mut [u32],
     strs: &mut [u8],
-    o: Offsets,
-    at: usize,
-    base: usize,
+    to: Place,
     s: sizes::Sizes,
 ) -> Option<Layer>
-    requires source_fits { SourceFits tape.now bytes.now p st × OffsetsFit o × Exact (room_left o) (source_adds tape.now bytes.now) s }
-    requires min_work_words_in_bounds { (min_work_words ≤ length work.old) × (base ≤ length strs.old) × (at ≤ length out.old) }
-    ensures { LayerTold out.old strs.old out.new strs.new at base o result (grafted_into tape.now bytes.now o) }
+    requires source_fits { OffsetsFit to.below × Exact (room_left to.below) (source_adds r.now.tape.now r.now.bytes.now) s }
+    requires min_work_words_in_bounds { (min_work_words ≤ length work.old) × (to.base ≤ length strs.old) × (to.at ≤ length out.old) }
+    ensures { LayerTold out.old strs.old out.new strs.new to.at to.base to.below result (grafted_into r.now.tape.now r.now.bytes.now to.below) }
 {
-    if representatives::any_long(tape, st, representatives::long_from(bytes.len())) {
-        return graft_long(tape, bytes, p, st, out, strs, o, at, base, s);
+    if representatives::any_long(r.tape, r.store, representatives::long_from(r.bytes.len())) {
+        return graft_long(r, out, strs, to, s);
     }
-    graft_by(
-        tape,
-        bytes,
-        p,
-        st,
-        out,
-        &mut work[0..16384],
-        strs,
-        o,
-        at,
-        base,
-        s,
-    )
+    graft_by(r, out, &mut work[0..16384], strs, to, s)
 }
 
 // Sections 3 and 5. The nodes of a source that passed 1 to 7, grafted into one new layer above layers of these counts: the layer's
@@ -376,8 +324,13 @@ pub fn graft_layer(
     requires min_work_words_in_bounds { (min_work_words ≤ length work.old) × (base ≤ length strs.old) × (at ≤ length out.old) }
     ensures { LayerTold out.old strs.old out.new strs.new at base o result (grafted_into tape.now bytes.now o) }
 {
-    match sizes::reading_sizes(tape, st, p, room_left(o)) {
-        Some(s) => graft_sized(tape, bytes, p, st, out, work, strs, o, at, base, s),
-        None => None,
-    }
+    let s = sizes::reading_sizes(tape, st, p, room_left(o))?;
+    let r = Book {
+        tape,
+        bytes,
+        places: p,
+        store: &st,
+    };
+    let to = Place { below: o, at, base };
+    graft_sized(&r, out, work, strs, to, s)
 }

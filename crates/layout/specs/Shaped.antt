@@ -59,31 +59,6 @@ pub record ListsFit (t : List ℕ) (p : Places) : Type 0 where
   pub pairs : p.pairs.at + 18 * p.pairs.count ≤ length t
   pub diagnostics : p.diagnostics.at + 18 * p.diagnostics.count ≤ length t
 
--- ---- the tests of a layer, and of the lists
-
-module _ (t : List ℕ) (l : LayerRuns) (x : Bool) (e : x ≡ all content_shape (records_at content_codec t l.contents.at l.contents.count)) where
-  pub runs_failed : x ≡ false → false ≡ runs_shape t l
-  unfolding runs_shape
-  runs_failed f = rw (← e, f) refl
-
-  pub runs_last : x ≡ true → (y : Bool) → y ≡ all segment_shape (records_at segment_codec t l.segments.at l.segments.count) → y ≡ runs_shape t l
-  unfolding runs_shape
-  runs_last f y g = rw (← e, f) g
-
-module _ (t : List ℕ) (p : Places) (x : Bool) (e : x ≡ all node_shape (records_at node_codec t p.nodes.at p.nodes.count)) where
-  pub nodes_failed : x ≡ false → false ≡ lists_shape t p
-  unfolding lists_shape
-  nodes_failed f = rw (← e, f) refl
-
-  module _ (f : x ≡ true) (y : Bool) (g : y ≡ all pair_shape (records_at pair_codec t p.pairs.at p.pairs.count)) where
-    pub pairs_failed : y ≡ false → false ≡ lists_shape t p
-    unfolding lists_shape
-    pairs_failed h = rw (← e, f, ← g, h) refl
-
-    pub lists_last : y ≡ true → (z : Bool) → z ≡ all diagnostic_shape (records_at diagnostic_codec t p.diagnostics.at p.diagnostics.count) → z ≡ lists_shape t p
-    unfolding lists_shape
-    lists_last h z k = rw (← e, f, ← g, h) k
-
 -- ---- the loop over the layers
 
 shape_here : (t : List ℕ) (i : ℕ) (ls : List LayerPlaces) (default : LayerPlaces) → i < length ls

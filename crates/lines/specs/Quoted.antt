@@ -2,7 +2,7 @@
 use Rattle.std.specs.Prelude.{◌≡◌, ℕ, ◌+◌, ◌/◌, ◌%◌, ◌<◌, Bool, true, false, cond, ◌&&◌, not, length, get_or, take, leb, eqb}
 use Rattle.std.proofs.Math.Path.{refl}
 use Rattle.std.proofs.Common.{sym, ap, ◌∙◌, add-one, take-suc}
-use mathlib.Core.List.{List, [], ◌∷◌, ◌++◌, map, flatten, append_assoc, append-nil}
+use mathlib.Core.List.{List, [], ◌∷◌, ◌++◌, map, flatten}
 use borrow.Author.Tests.{ne_eqb}
 use Rattle.model.specs.Lists.{ascii}
 use Rattle.laws.specs.Lists.{map_append, flatten_snoc}
@@ -52,21 +52,8 @@ module _ (b : ℕ) where
 
 -- ---- the loop
 
-pub escapes_none : {l : List ℕ} → l ≡ l ++ escapes []
-unfolding escapes flatten
-escapes_none {l} = sym (append-nil l)
-
-pub escapes_more : (before s : List ℕ) (i : ℕ) → i < length s → {l l' : List ℕ} → l ≡ before ++ escapes (take i s) → l' ≡ l ++ escaped (get_or s i 0)
-    → l' ≡ before ++ escapes (take (i + 1) s)
+pub escapes_more : (s : List ℕ) (i : ℕ) → i < length s → escapes (take i s) ++ escaped (get_or s i 0) ≡ escapes (take (i + 1) s)
 unfolding escapes
-escapes_more before s i h e q =
-    q ∙ ap (λ (x : List ℕ). x ++ escaped (get_or s i 0)) e
-    ∙ append_assoc before (flatten (map escaped (take i s))) (escaped (get_or s i 0))
-    ∙ ap (λ (x : List ℕ). before ++ x)
-    (sym (flatten_snoc (map escaped (take i s)) (escaped (get_or s i 0)))
-    ∙ ap flatten (sym (map_append escaped (take i s) (get_or s i 0 ∷ [])) ∙ ap (map escaped) (sym (take-suc s i 0 h) ∙ ap (λ (k : ℕ). take k s) (sym (add-one i)))))
-
--- a quote, the string, a quote
-pub quoted_whole : (before s : List ℕ) {a b c : List ℕ} → a ≡ before ++ ascii "\"" → b ≡ a ++ escapes s → c ≡ b ++ ascii "\"" → c ≡ before ++ quoted s
-unfolding quoted
-quoted_whole before s p q r = r ∙ rw (q, p, append_assoc, append_assoc) refl
+escapes_more s i h =
+    sym (flatten_snoc (map escaped (take i s)) (escaped (get_or s i 0)))
+    ∙ ap flatten (sym (map_append escaped (take i s) (get_or s i 0 ∷ [])) ∙ ap (map escaped) (sym (take-suc s i 0 h) ∙ ap (λ (k : ℕ). take k s) (sym (add-one i))))

@@ -1,16 +1,16 @@
 -- The lines of a book: a line a record, in tape order. Each shows the fields that Table.antt names.
-use Rattle.std.specs.Prelude.{ℕ, zero, suc, ◌+◌, ◌-◌, ◌*◌, Bool, cond, length, get_or, set, replicate, leb, ltb, eqb}
+use Rattle.std.specs.Prelude.{ℕ, zero, suc, ◌+◌, ◌-◌, ◌*◌, Bool, true, false, cond, length, get_or, set, replicate, leb, ltb, eqb}
 use Rattle.std.proofs.Math.Option.{Option, none, some}
 use mathlib.Core.List.{List, [], ◌∷◌, ◌++◌, map, flatten}
 use Rattle.model.specs.Lists.{ascii}
 use Rattle.model.specs.Bytes.{byte_at, word_at, part}
+use Rattle.model.specs.Offset.{Span}
 use Rattle.model.specs.Types.{LexOutput}
 use Rattle.model.specs.Tape.{places, book_at}
 use Rattle.model.specs.Lookup.{lookup_str}
 use Rattle.model.specs.Runs.{decimal}
 use Rattle.records.specs.Uses.{word_use}
 use Rattle.lines.specs.Quoted.{quoted}
-use Rattle.listing.specs.declared.Mark.{Mark}
 use Rattle.listing.specs.declared.Cursor.{Cursor}
 use Rattle.listing.specs.Table.{Shows, Shows.label_only, Shows.ordinal, Shows.own_string, Shows.byte, Shows.word, Shows.name, Shows.string_id, Shows.body_word, Shows.region_start, Shows.region_end, Shows.text_part, Field, labels, rows, word_labels, sizes}
 
@@ -50,12 +50,23 @@ item_bytes b d i = i.label ++ value_bytes b d i.value
 unfoldable pub word_item : ℕ → ℕ → ℕ → ℕ → Item
 word_item kind role i w = cond (eqb role 0) (item [] no_value) (item (get_or (get_or word_labels kind []) i []) (cond (leb role 2) (string w) (number w)))
 
+-- whether there is a region, and an empty one where there is none
+abbrev pub marked : Option Span → Bool
+marked none = false
+marked (some r) = true
+
+abbrev pub region_of : Option Span → Span
+region_of none = record { start = 0; end = 0 }
+region_of (some r) = r
+
 -- Of a text of `size` bytes: 0 before the region, 1 the region, 2 behind it, 3 all.
-unfoldable pub part_of : Mark → ℕ → ℕ → Value
-part_of m size k = cond (eqb k 0) (text 0 m.start) (cond (eqb k 1) (text m.start m.end) (cond (eqb k 2) (text m.end size) (text 0 size)))
+unfoldable pub part_of : Option Span → ℕ → ℕ → Value
+part_of m size k =
+    let r = region_of m in
+    cond (eqb k 0) (text 0 r.start) (cond (eqb k 1) (text r.start r.end) (cond (eqb k 2) (text r.end size) (text 0 size)))
 
 -- of the record at p, the n-th of its command
-unfoldable pub shown : List ℕ → Mark → ℕ → ℕ → List ℕ → Shows → Item
+unfoldable pub shown : List ℕ → Option Span → ℕ → ℕ → List ℕ → Shows → Item
 shown t m p n l label_only = item l no_value
 shown t m p n l ordinal = item l (number n)
 shown t m p n l own_string = item l (string n)
@@ -64,8 +75,8 @@ shown t m p n l (word k) = item l (number (word_at t (p + k)))
 shown t m p n l (name first k) = item (get_or labels (first + byte_at t (p + k)) []) no_value
 shown t m p n l (string_id k) = item l (string (word_at t (p + k)))
 shown t m p n l (body_word k i) = word_item (byte_at t (p + k)) (word_use (byte_at t (p + k)) (byte_at t (p + k + 1)) i) i (word_at t (p + k + 10 + 4 * i))
-shown t m p n l region_start = item l (number m.start)
-shown t m p n l region_end = item l (number m.end)
+shown t m p n l region_start = item l (number (region_of m).start)
+shown t m p n l region_end = item l (number (region_of m).end)
 shown t m p n l (text_part k) = item l (part_of m (word_at t 1) k)
 
 -- ---- a line
@@ -86,12 +97,12 @@ row_of t edit p = row_for (byte_at t p) edit (byte_at t (p + 1))
 unfoldable pub number_in : List ℕ → Cursor → ℕ
 number_in t c = cond (ltb 10 (byte_at t c.at)) 0 (get_or c.seen (byte_at t c.at) 0)
 
-unfoldable pub field_bytes : List ℕ → List ℕ → Mark → ℕ → ℕ → Field → List ℕ
+unfoldable pub field_bytes : List ℕ → List ℕ → Option Span → ℕ → ℕ → Field → List ℕ
 field_bytes t d m p n f = item_bytes (book_at t (places t) d) d (shown t m p n f.label f.shows)
 
 -- the line of the record at a cursor, in a book of tape t and bytes d
-unfoldable pub line_at : List ℕ → List ℕ → Mark → Cursor → List ℕ
-line_at t d m c = flatten (map (field_bytes t d m c.at (number_in t c)) (get_or rows (row_of t m.edit c.at) [])) ++ ascii "\n"
+unfoldable pub line_at : List ℕ → List ℕ → Option Span → Cursor → List ℕ
+line_at t d m c = flatten (map (field_bytes t d m c.at (number_in t c)) (get_or rows (row_of t (marked m) c.at) [])) ++ ascii "\n"
 
 -- ---- all lines
 
@@ -106,11 +117,11 @@ next_line t c = record {
 }
 
 -- the lines from a cursor on; the tape's length bounds how many they are
-unfoldable pub lines_from : ℕ → List ℕ → List ℕ → Mark → Cursor → List (List ℕ)
+unfoldable pub lines_from : ℕ → List ℕ → List ℕ → Option Span → Cursor → List (List ℕ)
 lines_from zero t d m c = []
 lines_from (suc n) t d m c =
     let more = line_at t d m c ∷ lines_from n t d m (next_line t c) in
     cond (ltb c.at (length t)) more []
 
-unfoldable pub listing : List ℕ → List ℕ → Mark → List (List ℕ)
+unfoldable pub listing : List ℕ → List ℕ → Option Span → List (List ℕ)
 listing t d m = lines_from (length t) t d m first_line

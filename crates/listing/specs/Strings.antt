@@ -52,7 +52,6 @@ pub none_bytes : (id : ℕ) {o : Option (List ℕ)} → o ≡ none → ascii "no
 unfolding string_bytes
 none_bytes id e = rw e refl
 
-pub some_bytes : (before : List ℕ) (id : ℕ) {o : Option (List ℕ)} {s a b c : List ℕ} → o ≡ some s → a ≡ before ++ numbered [] id → b ≡ a ++ ascii " " → c ≡ b ++ quoted s
-    → c ≡ before ++ string_bytes id o
+pub some_bytes : (id : ℕ) {o : Option (List ℕ)} {s : List ℕ} → o ≡ some s → (numbered [] id ++ ascii " ") ++ quoted s ≡ string_bytes id o
 unfolding string_bytes numbered
-some_bytes before id e p q r = r ∙ rw (q, p, e, append_assoc, append_assoc) refl
+some_bytes id e = rw (e, append_assoc) refl

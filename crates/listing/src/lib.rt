@@ -4,31 +4,35 @@
 
 mod tables;
 
-ghost use Rattle.std.specs.Prelude.{◌≡◌, [], ◌++◌, ℕ, ◌+◌, ◌-◌, ◌*◌, ◌≤◌, ◌<◌, length, take, get_or};
+ghost use Rattle.std.specs.Prelude.{◌≡◌, [], ◌+◌, ◌*◌, ◌≤◌, ◌<◌, length, get_or, true};
+ghost use mathlib.Core.List.{map, flatten};
 ghost use Rattle.std.proofs.Math.Option.{some};
-ghost use Rattle.model.specs.Bytes.{byte_at, word_at, part};
+ghost use Rattle.model.specs.Bytes.{byte_at, word_at};
 ghost use Rattle.model.specs.Tape.{places as places_in, book_at};
 ghost use Rattle.model.specs.Lookup.{lookup_str};
 ghost use Rattle.records.specs.Uses.{word_use};
-ghost use Rattle.listing.specs.Table.{labels, word_labels};
-ghost use Rattle.listing.specs.Coded.{row_starts, label_bytes, label_starts, coded_field, shows_of, edit_shows};
-ghost use Rattle.listing.specs.Listing.{item, string_bytes, Value.no_value, Value.number, Value.string, Value.text, word_item, part_of, shown, row_for, row_of, number_in, field_bytes, line_at, first_line, next_line, item_bytes, value_bytes};
-ghost use Rattle.listing.specs.Pieces.{value_of, piece_item};
+ghost use Rattle.span.specs.Values.{span_of};
+ghost use Rattle.lines.specs.Put.{room, Put};
+ghost use Rattle.listing.specs.Table.{labels, rows, word_labels};
+ghost use Rattle.listing.specs.Coded.{part_number, shows_of, field_of, field_fits};
+ghost use Rattle.listing.specs.Listing.{region_of, marked, string_bytes, word_item, part_of, shown, row_for, row_of, number_in, field_bytes, line_at, first_line, next_line, item_bytes, value_bytes};
+ghost use Rattle.listing.specs.Pieces.{mark_of, value_of, item_of};
 ghost use Rattle.listing.specs.Strings.{Printable};
-ghost use Rattle.listing.specs.Lines.{fields_from};
 ghost use Rattle.listing.specs.Walk.{Counted};
 
+use lines::Line;
 use records::Use;
-use tables::{
-    FIELD_LABELS, FIELD_NUMBERS, FIELD_PLACES, FIELD_SHOWS, LABEL_STARTS, ROWS, SIZES, WORD_LABELS,
-};
+use span::Span;
+use tables::{Field, LABELS, Part, ROWS, SIZES, Shows, WORD_LABELS};
 
-// The region of an edit, where there is one.
+// A book that has passed 1 to 7, its store, and the region of an edit, where there is one.
 #[derive(Clone, Copy)]
-pub struct Mark {
-    pub edit: bool,
-    pub start: u32,
-    pub end: u32,
+pub struct Book<'a> {
+    pub tape: &'a [u8],
+    pub bytes: &'a [u8],
+    pub st: &'a store::Store,
+    pub region: Option<Span>,
+    ghost printable: { Printable tape.now bytes.now st.now },
 }
 
 // Where a record stands, and how many records of each command stand before it.
@@ -38,445 +42,234 @@ pub struct Cursor {
     pub seen: [usize; 11],
 }
 
-fn wide8(x: u8) -> usize
-    ensures { result ≡ x }
-{
-    x as usize
+// What stands behind a label: nothing, a number, the string of an id, or the bytes of the buffer from one place up to another.
+#[derive(Clone, Copy)]
+enum Value {
+    Nothing,
+    Number(usize),
+    Str(usize),
+    Text(usize, usize),
 }
 
-fn wide16(x: u16) -> usize
-    ensures { result ≡ x }
+// A label, and what stands behind it.
+#[derive(Clone, Copy)]
+struct Item(&'static [u8], Value);
+
+// ---- the tables
+
+fn label(i: usize) -> &'static [u8]
+    ensures { result.now ≡ get_or labels i [] }
 {
-    x as usize
+    if i < 76 { LABELS[i] } else { b"" }
 }
 
-fn label_number(x: u8) -> u16
-    ensures { result ≡ x }
+#[tactic(auto, unfolding(crate::specs::Table::word_labels))]
+fn word_label(kind: u8, i: usize) -> &'static [u8]
+    requires { i < 6 }
+    ensures { result.now ≡ get_or (get_or word_labels kind []) i [] }
 {
-    x as u16
+    if kind < 16 {
+        WORD_LABELS[usize::from(kind)][i]
+    } else {
+        b""
+    }
 }
 
-fn wide(x: u32) -> usize
-    ensures { result ≡ x }
+#[tactic(auto, unfolding(crate::specs::Table::rows))]
+fn fields(row: usize) -> &'static [Field]
+    requires { row < 14 }
+    ensures { map field_of result.now ≡ get_or rows row [] }
 {
-    x as usize
+    ROWS[row]
+}
+
+// The row of a record by its command and the byte behind it.
+#[tactic(auto, using(std::proofs::lemmas::Bool::Decides::nat_tests), unfolding(crate::specs::Listing::row_for))]
+fn row_for(command: u8, edit: bool, second: u8) -> usize
+    ensures { result ≡ row_for command edit second }
+{
+    match command {
+        1 if edit => 11,
+        4 if second != 0 => 12,
+        6 if 2 <= second => 13,
+        0..=10 => usize::from(command),
+        _ => 0,
+    }
 }
 
 // ---- what a field shows
 
-// A label by its number, and behind it: 0 nothing, 1 the number a, 2 the string of id a, 3 the bytes of the buffer from a up to b.
-#[derive(Clone, Copy)]
-pub struct Piece {
-    pub label: u16,
-    pub kind: u8,
-    pub a: usize,
-    pub b: usize,
-}
+impl<'a> Book<'a> {
+    // The byte or the word at a place of the record at `at`.
+    fn byte(&self, at: usize, k: u8) -> u8
+        requires { at < length self.now.tape.now }
+        ensures { result ≡ byte_at self.now.tape.now (at + k) }
+    {
+        wire::byte_at(self.tape, at + usize::from(k))
+    }
 
-fn label_only(label: u16) -> Piece
-    ensures { piece_item result ≡ item (get_or labels label []) no_value }
-{
-    Piece {
-        label: label,
-        kind: 0,
-        a: 0,
-        b: 0,
+    fn word(&self, at: usize, k: u8) -> usize
+        requires { at < length self.now.tape.now }
+        ensures { result ≡ word_at self.now.tape.now (at + k) }
+    {
+        wire::u32_or_zero(self.tape, at + usize::from(k)) as usize
     }
-}
 
-fn number_piece(label: u16, n: usize) -> Piece
-    ensures { piece_item result ≡ item (get_or labels label []) (number n) }
-{
-    Piece {
-        label: label,
-        kind: 1,
-        a: n,
-        b: 0,
+    // The region, or an empty one where there is none.
+    fn region(&self) -> Span
+        ensures { span_of result ≡ region_of (mark_of self.now.region) }
+    {
+        self.region.unwrap_or(Span { start: 0, end: 0 })
     }
-}
 
-fn string_piece(label: u16, id: usize) -> Piece
-    ensures { piece_item result ≡ item (get_or labels label []) (string id) }
-{
-    Piece {
-        label: label,
-        kind: 2,
-        a: id,
-        b: 0,
-    }
-}
-
-fn text_piece(label: u16, from: usize, to: usize) -> Piece
-    ensures { piece_item result ≡ item (get_or labels label []) (text from to) }
-{
-    Piece {
-        label: label,
-        kind: 3,
-        a: from,
-        b: to,
-    }
-}
-
-fn word_label(kind: u8, i: usize) -> u16
-    requires { i < 6 }
-    ensures { get_or labels result [] ≡ get_or (get_or word_labels kind []) i [] }
-{
-    if 16 <= kind {
-        return 0;
-    }
-    let n = 6 * wide8(kind) + i;
-    label_number(WORD_LABELS[n])
-}
-
-// Word i of the body at a place, by its use: an unused word is not shown.
-fn word_piece(tape: &[u8], body: usize, i: usize) -> Piece
-    requires { (body < length tape.now + 256) × (i < 6) }
-    ensures { piece_item result ≡ word_item (byte_at tape.now body) (word_use (byte_at tape.now body) (byte_at tape.now (body + 1)) i) i (word_at tape.now (body + 10 + 4 * i)) }
-{
-    let kind = wire::byte_at(tape, body);
-    let tag = wire::byte_at(tape, body + 1);
-    let label = word_label(kind, i);
-    let w = wide(wire::u32_or_zero(tape, body + 10 + 4 * i));
-    match records::word_use(kind, tag, i) {
-        Use::Unused => label_only(0),
-        Use::Str | Use::OptStr => string_piece(label, w),
-        _ => number_piece(label, w),
-    }
-}
-
-// A part of the text of `size` bytes: 0 before the region, 1 the region, 2 behind it, 3 all.
-fn part_piece(m: Mark, label: u16, size: usize, k: usize) -> Piece
-    ensures { piece_item result ≡ item (get_or labels label []) (part_of m size k) }
-{
-    let start = wide(m.start);
-    let end = wide(m.end);
-    if k == 0 {
-        return text_piece(label, 0, start);
-    }
-    if k == 1 {
-        return text_piece(label, start, end);
-    }
-    if k == 2 {
-        return text_piece(label, end, size);
-    }
-    text_piece(label, 0, size)
-}
-
-fn edit_piece(tape: &[u8], m: Mark, label: u16, shows: u8, k: usize) -> Piece
-    ensures { (p n : ℕ) → piece_item result ≡ shown tape.now m p n (get_or labels label []) (edit_shows shows k) }
-{
-    if shows == 8 {
-        return number_piece(label, wide(m.start));
-    }
-    if shows == 9 {
-        return number_piece(label, wide(m.end));
-    }
-    if shows == 10 {
-        return part_piece(m, label, wide(wire::u32_or_zero(tape, 1)), k);
-    }
-    label_only(label)
-}
-
-// Of the record at a place, the n-th of its command.
-fn shown_piece(
-    tape: &[u8],
-    m: Mark,
-    at: usize,
-    n: usize,
-    label: u16,
-    shows: u8,
-    k: usize,
-    more: u8,
-) -> Piece
-    requires { (at < length tape.now) × (k < 256) × (shows ≡ 7 → more < 6) }
-    ensures { piece_item result ≡ shown tape.now m at n (get_or labels label []) (shows_of shows k more) }
-{
-    if shows == 1 {
-        return number_piece(label, n);
-    }
-    if shows == 2 {
-        return string_piece(label, n);
-    }
-    if shows == 3 {
-        return number_piece(label, wide8(wire::byte_at(tape, at + k)));
-    }
-    if shows == 4 {
-        return number_piece(label, wide(wire::u32_or_zero(tape, at + k)));
-    }
-    if shows == 5 {
-        return label_only(label_number(more) + label_number(wire::byte_at(tape, at + k)));
-    }
-    if shows == 6 {
-        return string_piece(label, wide(wire::u32_or_zero(tape, at + k)));
-    }
-    if shows == 7 {
-        return word_piece(tape, at + k, wide8(more));
-    }
-    edit_piece(tape, m, label, shows, k)
-}
-
-fn field_piece(tape: &[u8], m: Mark, at: usize, n: usize, f: usize) -> Piece
-    requires { (at < length tape.now) × (f < 70) }
-    ensures { piece_item result ≡ shown tape.now m at n (coded_field f).label (coded_field f).shows }
-{
-    shown_piece(
-        tape,
-        m,
-        at,
-        n,
-        label_number(FIELD_LABELS[f]),
-        FIELD_SHOWS[f],
-        wide8(FIELD_PLACES[f]),
-        FIELD_NUMBERS[f],
-    )
-}
-
-// ---- the row of a record
-
-fn row_for(command: u8, edit: bool, second: u8) -> usize
-    ensures { result ≡ row_for command edit second }
-{
-    if 10 < command {
-        return 0;
-    }
-    if command == 1 {
-        if edit {
-            return 11;
+    fn text_part(&self, part: Part) -> Value
+        ensures { value_of result ≡ part_of (mark_of self.now.region) (word_at self.now.tape.now 1) (part_number part) }
+    {
+        let start = self.region().start as usize;
+        let end = self.region().end as usize;
+        let size = wire::u32_or_zero(self.tape, 1) as usize;
+        match part {
+            Part::Before => Value::Text(0, start),
+            Part::Region => Value::Text(start, end),
+            Part::Behind => Value::Text(end, size),
+            Part::Whole => Value::Text(0, size),
         }
-        return 1;
     }
-    if command == 4 {
-        if second == 0 {
-            return 4;
+
+    // Word i of the body at a place, by its use: an unused word is not shown.
+    fn body_word(&self, body: usize, i: usize) -> Item
+        requires { (body < length self.now.tape.now + 256) × (i < 6) }
+        ensures { item_of result ≡ word_item (byte_at self.now.tape.now body) (word_use (byte_at self.now.tape.now body) (byte_at self.now.tape.now (body + 1)) i) i (word_at self.now.tape.now (body + 10 + 4 * i)) }
+    {
+        let kind = wire::byte_at(self.tape, body);
+        let tag = wire::byte_at(self.tape, body + 1);
+        let word = wire::u32_or_zero(self.tape, body + 10 + 4 * i) as usize;
+        let label = word_label(kind, i);
+        match records::word_use(kind, tag, i) {
+            Use::Unused => Item(b"", Value::Nothing),
+            Use::Str | Use::OptStr => Item(label, Value::Str(word)),
+            _ => Item(label, Value::Number(word)),
         }
-        return 12;
     }
-    if command == 6 {
-        if second < 2 {
-            return 6;
+
+    // Of the record at a place, the n-th of its command.
+    fn item(&self, at: usize, n: usize, field: Field) -> Item
+        requires { (at < length self.now.tape.now) × (field_fits (field_of field) ≡ true) }
+        ensures { item_of result ≡ shown self.now.tape.now (mark_of self.now.region) at n (field_of field).label (field_of field).shows }
+    {
+        let Field(own, shows) = field;
+        match shows {
+            Shows::LabelOnly => Item(own, Value::Nothing),
+            Shows::Ordinal => Item(own, Value::Number(n)),
+            Shows::OwnString => Item(own, Value::Str(n)),
+            Shows::Byte(k) => Item(own, Value::Number(usize::from(self.byte(at, k)))),
+            Shows::Word(k) => Item(own, Value::Number(self.word(at, k))),
+            Shows::Name(first, k) => {
+                let name = label(usize::from(first) + usize::from(self.byte(at, k)));
+                Item(name, Value::Nothing)
+            }
+            Shows::StringId(k) => Item(own, Value::Str(self.word(at, k))),
+            Shows::BodyWord(k, i) => self.body_word(at + usize::from(k), usize::from(i)),
+            Shows::RegionStart => Item(own, Value::Number(self.region().start as usize)),
+            Shows::RegionEnd => Item(own, Value::Number(self.region().end as usize)),
+            Shows::TextPart(part) => Item(own, self.text_part(part)),
         }
-        return 13;
     }
-    command as usize
-}
 
-fn row_of(tape: &[u8], edit: bool, at: usize) -> usize
-    requires { at < length tape.now }
-    ensures { result ≡ row_of tape.now edit at }
-{
-    row_for(wire::byte_at(tape, at), edit, wire::byte_at(tape, at + 1))
-}
+    // ---- an item put behind a line's other items
 
-fn row_start(row: usize) -> usize
-    requires { row < 15 }
-    ensures { result ≡ get_or row_starts row 0 }
-{
-    wide8(ROWS[row])
-}
-
-// ---- an item put behind a line's other items
-
-fn label_start(i: usize) -> usize
-    ensures { result ≡ get_or label_starts i 612 }
-{
-    if 77 <= i {
-        return 612;
+    // The string of an id: behind both texts and the strings before it.
+    fn string_bytes(&self, id: u32) -> &'a [u8]
+        requires { id < self.now.st.now.totals.strings }
+        ensures { (length result.now ≤ 65536) × (lookup_str (book_at self.now.tape.now (places_in self.now.tape.now) self.now.bytes.now) id ≡ some result.now) }
+    {
+        let texts = wire::u32_or_zero(self.tape, 1) as usize
+            + wire::u32_or_zero(self.tape, 5) as usize;
+        let start = texts + strings::start_from(self.tape, self.st, self.bytes.len(), 0, id, 0);
+        let len = strings::string_length(self.tape, self.st, id);
+        wire::between(self.bytes, start, start + len)
     }
-    wide16(LABEL_STARTS[i])
-}
 
-// The label of a number; `text` holds all of them.
-fn put_label(out: &mut [u8], at: usize, text: &[u8], i: u16) -> usize
-    requires at_in_bounds { at + 24 ≤ length out.old }
-    requires text_value { text.now ≡ label_bytes }
-    ensures { (result ≤ at + 24) × (take result out.new ≡ take at out.old ++ get_or labels i []) }
-{
-    let from = label_start(wide16(i));
-    let to = label_start(wide16(i) + 1);
-    lines::put_text(out, at, wire::between(text, from, to))
-}
-
-// The string of an id: behind both texts and the strings before it.
-fn string_bytes<'a>(tape: &[u8], bytes: &'a [u8], st: store::Store, id: u32) -> &'a [u8]
-    requires printable { Printable tape.now bytes.now st }
-    requires id_lt_strings { id < st.totals.strings }
-    ensures { (length result.now ≤ 65536) × (lookup_str (book_at tape.now (places_in tape.now) bytes.now) id ≡ some result.now) }
-{
-    let from = wide(wire::u32_or_zero(tape, 1)) + wide(wire::u32_or_zero(tape, 5));
-    let start = from + strings::start_from(tape, st, bytes.len(), 0, id, 0);
-    let len = strings::string_length(tape, st, id);
-    wire::between(bytes, start, start + len)
-}
-
-// An id with its string; `none` for an id that shows none, as a missing one.
-fn put_string(
-    out: &mut [u8],
-    at: usize,
-    tape: &[u8],
-    bytes: &[u8],
-    st: store::Store,
-    id: usize,
-) -> usize
-    requires at_in_bounds { at + 262167 ≤ length out.old }
-    requires printable { Printable tape.now bytes.now st }
-    ensures { (result ≤ at + 262167) × (take result out.new ≡ take at out.old ++ string_bytes id (lookup_str (book_at tape.now (places_in tape.now) bytes.now) id)) }
-{
-    if wide(st.totals.strings) <= id {
-        return lines::put_text(out, at, b"none");
+    // An id with its string; `none` for an id that shows none, as a missing one.
+    fn put_string(&self, line: &mut Line<'_>, id: usize)
+        requires { 262167 ≤ room line.old }
+        ensures { Put line.old line.new 262167 (string_bytes id (lookup_str (book_at self.now.tape.now (places_in self.now.tape.now) self.now.bytes.now) id)) }
+    {
+        if self.st.totals.strings as usize <= id {
+            line.put_text(b"none");
+        } else {
+            line.put_number(b"", id as u64);
+            line.put_text(b" ");
+            line.put_quoted(self.string_bytes(id as u32));
+        }
     }
-    let behind = lines::put_number(out, at, b"", id as u64);
-    let quote = lines::put_text(out, behind, b" ");
-    lines::put_quoted(out, quote, string_bytes(tape, bytes, st, id as u32))
-}
 
-// What a piece shows behind its label; at most 65536 bytes are quoted.
-fn put_value(
-    out: &mut [u8],
-    at: usize,
-    tape: &[u8],
-    bytes: &[u8],
-    st: store::Store,
-    x: Piece,
-) -> usize
-    requires at_in_bounds { at + 262167 ≤ length out.old }
-    requires printable { Printable tape.now bytes.now st }
-    ensures { (result ≤ at + 262167) × (take result out.new ≡ take at out.old ++ value_bytes (book_at tape.now (places_in tape.now) bytes.now) bytes.now (value_of x.kind x.a x.b)) }
-{
-    if x.kind == 1 {
-        return lines::put_number(out, at, b"", x.a as u64);
+    // At most 65536 bytes are quoted.
+    fn put_value(&self, line: &mut Line<'_>, value: Value)
+        requires { 262167 ≤ room line.old }
+        ensures { Put line.old line.new 262167 (value_bytes (book_at self.now.tape.now (places_in self.now.tape.now) self.now.bytes.now) self.now.bytes.now (value_of value)) }
+    {
+        match value {
+            Value::Nothing => {}
+            Value::Number(n) => line.put_number(b"", n as u64),
+            Value::Str(id) => self.put_string(line, id),
+            Value::Text(from, to) => line.put_quoted(wire::between(self.bytes, from, to)),
+        }
     }
-    if x.kind == 2 {
-        return put_string(out, at, tape, bytes, st, x.a);
+
+    fn put_field(&self, line: &mut Line<'_>, at: usize, n: usize, field: Field)
+        requires room { 262191 ≤ room line.old }
+        requires in_bounds { (at < length self.now.tape.now) × (field_fits (field_of field) ≡ true) }
+        ensures { Put line.old line.new 262191 (field_bytes self.now.tape.now self.now.bytes.now (mark_of self.now.region) at n (field_of field)) }
+    {
+        let Item(label, value) = self.item(at, n, field);
+        line.put_text(label);
+        self.put_value(line, value);
     }
-    if x.kind == 3 {
-        return lines::put_quoted(out, at, wire::between(bytes, x.a, x.b));
+
+    // ---- a line
+
+    fn put_fields(&self, line: &mut Line<'_>, row: usize, at: usize, n: usize)
+        requires room { 3932865 ≤ room line.old }
+        requires in_bounds { (at < length self.now.tape.now) × (row < 14) }
+        ensures { Put line.old line.new 3932865 (flatten (map (field_bytes self.now.tape.now self.now.bytes.now (mark_of self.now.region) at n) (get_or rows row []))) }
+    {
+        for field in fields(row) {
+            self.put_field(line, at, n, *field);
+        }
     }
-    at
-}
 
-fn put_piece(
-    out: &mut [u8],
-    at: usize,
-    text: &[u8],
-    tape: &[u8],
-    bytes: &[u8],
-    st: store::Store,
-    x: Piece,
-) -> usize
-    requires at_in_bounds { at + 262191 ≤ length out.old }
-    requires text_value { text.now ≡ label_bytes }
-    requires printable { Printable tape.now bytes.now st }
-    ensures { (result ≤ at + 262191) × (take result out.new ≡ take at out.old ++ item_bytes (book_at tape.now (places_in tape.now) bytes.now) bytes.now (piece_item x)) }
-{
-    let behind = put_label(out, at, text, x.label);
-    put_value(out, behind, tape, bytes, st, x)
-}
-
-// Field f of the tables, of the record at p, the n-th of its command.
-fn put_field(
-    out: &mut [u8],
-    at: usize,
-    text: &[u8],
-    tape: &[u8],
-    bytes: &[u8],
-    st: store::Store,
-    m: Mark,
-    p: usize,
-    n: usize,
-    f: usize,
-) -> usize
-    requires at_in_bounds { (at + 262191 ≤ length out.old) × (p < length tape.now) × (f < 70) }
-    requires text_value { text.now ≡ label_bytes }
-    requires printable { Printable tape.now bytes.now st }
-    ensures { (result ≤ at + 262191) × (take result out.new ≡ take at out.old ++ field_bytes tape.now bytes.now m p n (coded_field f)) }
-{
-    put_piece(
-        out,
-        at,
-        text,
-        tape,
-        bytes,
-        st,
-        field_piece(tape, m, p, n, f),
-    )
-}
-
-// ---- a line
-
-fn number_in(tape: &[u8], c: Cursor) -> usize
-    ensures { result ≡ number_in tape.now c }
-{
-    let command = wire::byte_at(tape, c.at);
-    if 10 < command {
-        return 0;
+    // The line of the record at a cursor: 15 fields of at most 262191 bytes each, and a newline.
+    pub fn put_line(&self, line: &mut Line<'_>, c: Cursor)
+        requires room { 3932866 ≤ room line.old }
+        requires at_in_bounds { c.at < length self.now.tape.now }
+        ensures { Put line.old line.new 3932866 (line_at self.now.tape.now self.now.bytes.now (mark_of self.now.region) c) }
+    {
+        let command = wire::byte_at(self.tape, c.at);
+        let second = wire::byte_at(self.tape, c.at + 1);
+        let row = row_for(command, self.region.is_some(), second);
+        self.put_fields(line, row, c.at, number_in(self.tape, c));
+        line.put_text(b"\n");
     }
-    let seen = c.seen;
-    seen[wide8(command)]
-}
-
-fn put_fields(
-    out: &mut [u8],
-    text: &[u8],
-    tape: &[u8],
-    bytes: &[u8],
-    st: store::Store,
-    m: Mark,
-    p: usize,
-    n: usize,
-    from: usize,
-    to: usize,
-) -> usize
-    requires in_bounds { (3932866 ≤ length out.old) × (p < length tape.now) × (from ≤ to) × (to ≤ 70) × (to ≤ from + 15) }
-    requires text_value { text.now ≡ label_bytes }
-    requires printable { Printable tape.now bytes.now st }
-    ensures { (result ≤ 3932865) × (take result out.new ≡ fields_from tape.now bytes.now m p n from (to - from)) }
-{
-    let mut at = 0;
-    let mut f = from;
-    while f < to {
-        at = put_field(out, at, text, tape, bytes, st, m, p, n, f);
-        f += 1;
-    }
-    at
-}
-
-// The line of the record at a cursor, in the first bytes of the buffer: 15 fields of at most 262191 bytes each, and a newline. `text` holds
-// all labels.
-pub fn put_line(
-    out: &mut [u8],
-    text: &[u8],
-    tape: &[u8],
-    bytes: &[u8],
-    st: store::Store,
-    m: Mark,
-    c: Cursor,
-) -> usize
-    requires in_bounds { (3932866 ≤ length out.old) × (c.at < length tape.now) }
-    requires text_value { text.now ≡ label_bytes }
-    requires printable { Printable tape.now bytes.now st }
-    ensures { (result ≤ length out.new) × (take result out.new ≡ line_at tape.now bytes.now m c) }
-{
-    let row = row_of(tape, m.edit, c.at);
-    let n = number_in(tape, c);
-    let from = row_start(row);
-    let to = row_start(row + 1);
-    let end = put_fields(out, text, tape, bytes, st, m, c.at, n, from, to);
-    lines::put_text(out, end, b"\n")
 }
 
 // ---- from record to record
 
-pub fn labels() -> [u8; 612]
-    ensures { result ≡ label_bytes }
+// How many records of its command stand before the one at a cursor.
+fn number_in(tape: &[u8], c: Cursor) -> usize
+    ensures { result ≡ number_in tape.now c }
 {
-    *b" Text Gaiji Directive Node Inline BlockLeaf BlockOpen BlockClose Bracket Ruby AngleQuote Tortoise Quote UnresolvedGaiji NonCanonicalDirective UnclosedBracket UnmatchedClose Other text Ruby Format Gaiji Line PageBreak SectionBreak BodyEnd ForcedBreak Heading HeadingHint Illustration Kaeriten Directive AngleQuote MarginNotetext  normalized  layer string content  plain segment  level  tag node .. at pair container  open  close diagnostic  code end region  |  segments  inline  string  base  reading  target  payload  hint  mencode  text  file  number  dimensions  description  caption  mark  raw  content  note "
+    let command = usize::from(wire::byte_at(tape, c.at));
+    if command <= 10 { c.seen[command] } else { 0 }
 }
 
 pub fn first_line() -> Cursor
     ensures { result ≡ first_line }
 {
-    let seen = [0usize; 11];
-    Cursor { at: 0, seen: seen }
+    Cursor {
+        at: 0,
+        seen: [0; 11],
+    }
 }
 
 pub fn next_line(tape: &[u8], c: Cursor) -> Cursor
@@ -484,19 +277,13 @@ pub fn next_line(tape: &[u8], c: Cursor) -> Cursor
     requires counted { Counted c }
     ensures { result ≡ next_line tape.now c }
 {
-    let command = wire::byte_at(tape, c.at);
-    let mut seen = c.seen;
-    if 10 < command {
-        return Cursor {
-            at: c.at + 1,
-            seen: seen,
-        };
+    let command = usize::from(wire::byte_at(tape, c.at));
+    let mut next = c;
+    if command <= 10 {
+        next.seen[command] += 1;
+        next.at += SIZES[command];
+    } else {
+        next.at += 1;
     }
-    let n = number_in(tape, c);
-    let k = wide8(command);
-    seen[k] = n + 1;
-    Cursor {
-        at: c.at + wide8(SIZES[k]),
-        seen: seen,
-    }
+    next
 }

@@ -1,44 +1,266 @@
-// The rows of specs/Table.antt as numbers; specs/Coded.antt has the same numbers and proves that they hold the rows. Where each row's fields begin;
-// of each field its label, what it shows, a place and a second number; the labels of a body's six words, kind after kind; where each label begins
-// in `labels`; the size of each command's record.
-pub const ROWS: [u8; 15] = [0, 0, 3, 4, 5, 7, 20, 35, 41, 45, 51, 52, 59, 62, 70];
+// The rows of specs/Table.antt; specs/Coded.antt proves that these are the same.
 
-pub const FIELD_LABELS: [u8; 70] = [
-    35, 36, 37, 38, 39, 40, 41, 42, 0, 43, 0, 44, 41, 37, 0, 0, 0, 0, 0, 0, 45, 0, 37, 46, 47, 0,
-    44, 41, 37, 0, 0, 0, 0, 0, 0, 48, 0, 37, 46, 37, 46, 49, 41, 50, 51, 52, 0, 53, 37, 46, 41, 54,
-    35, 36, 55, 37, 37, 56, 56, 40, 57, 37, 45, 0, 58, 37, 46, 47, 41, 37,
+use Shows::{
+    BodyWord, Byte, LabelOnly, Name, Ordinal, OwnString, RegionEnd, RegionStart, StringId,
+    TextPart, Word,
+};
+
+// A part of the text: before the region of the edit, of it, behind it; or all of it.
+#[derive(Clone, Copy)]
+pub enum Part {
+    Before,
+    Region,
+    Behind,
+    Whole,
+}
+
+// What a field shows; a place counts from the record's command byte.
+#[derive(Clone, Copy)]
+pub enum Shows {
+    LabelOnly,
+    // how many records of its command stand before this one
+    Ordinal,
+    // the string of that number
+    OwnString,
+    // the byte or the word at a place
+    Byte(u8),
+    Word(u8),
+    // the label of the first name, and the place of the byte that is named
+    Name(u8, u8),
+    // the string whose id stands at a place
+    StringId(u8),
+    // of the body at a place, the word of a number 0 to 5
+    BodyWord(u8, u8),
+    RegionStart,
+    RegionEnd,
+    TextPart(Part),
+}
+
+// A label, and what stands behind it.
+#[derive(Clone, Copy)]
+pub struct Field(pub &'static [u8], pub Shows);
+
+// where in `LABELS` the names of each kind begin
+const SEGMENT_TAGS: u8 = 1;
+
+const NODE_CLASSES: u8 = 5;
+
+const PAIR_KINDS: u8 = 9;
+
+const DIAGNOSTIC_KINDS: u8 = 14;
+
+const BODY_KINDS: u8 = 19;
+
+pub static LABELS: [&[u8]; 76] = [
+    b"",
+    b" Text",
+    b" Gaiji",
+    b" Directive",
+    b" Node",
+    b" Inline",
+    b" BlockLeaf",
+    b" BlockOpen",
+    b" BlockClose",
+    b" Bracket",
+    b" Ruby",
+    b" AngleQuote",
+    b" Tortoise",
+    b" Quote",
+    b" UnresolvedGaiji",
+    b" NonCanonicalDirective",
+    b" UnclosedBracket",
+    b" UnmatchedClose",
+    b" Other",
+    b" text",
+    b" Ruby",
+    b" Format",
+    b" Gaiji",
+    b" Line",
+    b" PageBreak",
+    b" SectionBreak",
+    b" BodyEnd",
+    b" ForcedBreak",
+    b" Heading",
+    b" HeadingHint",
+    b" Illustration",
+    b" Kaeriten",
+    b" Directive",
+    b" AngleQuote",
+    b" MarginNote",
+    b"text ",
+    b" normalized ",
+    b" ",
+    b"layer ",
+    b"string ",
+    b"content ",
+    b" plain ",
+    b"segment ",
+    b" level ",
+    b" tag ",
+    b"node ",
+    b"..",
+    b" at ",
+    b"pair ",
+    b"container ",
+    b" open ",
+    b" close ",
+    b"diagnostic ",
+    b" code ",
+    b"end",
+    b" region ",
+    b" | ",
+    b" segments ",
+    b" inline ",
+    b" string ",
+    b" base ",
+    b" reading ",
+    b" target ",
+    b" payload ",
+    b" hint ",
+    b" mencode ",
+    b" text ",
+    b" file ",
+    b" number ",
+    b" dimensions ",
+    b" description ",
+    b" caption ",
+    b" mark ",
+    b" raw ",
+    b" content ",
+    b" note ",
 ];
 
-pub const FIELD_SHOWS: [u8; 70] = [
-    4, 4, 10, 1, 2, 1, 6, 1, 5, 3, 5, 3, 4, 4, 7, 7, 7, 7, 7, 7, 1, 5, 4, 4, 4, 5, 3, 4, 4, 7, 7,
-    7, 7, 7, 7, 1, 5, 4, 4, 4, 4, 1, 4, 4, 4, 1, 5, 4, 4, 4, 4, 0, 4, 4, 8, 9, 10, 10, 10, 1, 4, 4,
-    1, 5, 3, 4, 4, 4, 4, 4,
+pub static ROWS: [&[Field]; 14] = [
+    // no command
+    &[],
+    // 1 head
+    &[
+        Field(b"text ", Word(1)),
+        Field(b" normalized ", Word(5)),
+        Field(b" ", TextPart(Part::Whole)),
+    ],
+    // 2 layer
+    &[Field(b"layer ", Ordinal)],
+    // 3 string
+    &[Field(b"string ", OwnString)],
+    // 4 content, Plain
+    &[Field(b"content ", Ordinal), Field(b" plain ", StringId(2))],
+    // 5 segment
+    &[
+        Field(b"segment ", Ordinal),
+        Field(b"", Name(SEGMENT_TAGS, 1)),
+        Field(b" level ", Byte(2)),
+        Field(b"", Name(BODY_KINDS, 3)),
+        Field(b" tag ", Byte(4)),
+        Field(b" plain ", Word(5)),
+        Field(b" ", Word(9)),
+        Field(b"", BodyWord(3, 0)),
+        Field(b"", BodyWord(3, 1)),
+        Field(b"", BodyWord(3, 2)),
+        Field(b"", BodyWord(3, 3)),
+        Field(b"", BodyWord(3, 4)),
+        Field(b"", BodyWord(3, 5)),
+    ],
+    // 6 node, Inline or BlockLeaf
+    &[
+        Field(b"node ", Ordinal),
+        Field(b"", Name(NODE_CLASSES, 1)),
+        Field(b" ", Word(3)),
+        Field(b"..", Word(7)),
+        Field(b" at ", Word(11)),
+        Field(b"", Name(BODY_KINDS, 15)),
+        Field(b" tag ", Byte(16)),
+        Field(b" plain ", Word(17)),
+        Field(b" ", Word(21)),
+        Field(b"", BodyWord(15, 0)),
+        Field(b"", BodyWord(15, 1)),
+        Field(b"", BodyWord(15, 2)),
+        Field(b"", BodyWord(15, 3)),
+        Field(b"", BodyWord(15, 4)),
+        Field(b"", BodyWord(15, 5)),
+    ],
+    // 7 pair
+    &[
+        Field(b"pair ", Ordinal),
+        Field(b"", Name(PAIR_KINDS, 1)),
+        Field(b" ", Word(2)),
+        Field(b"..", Word(6)),
+        Field(b" ", Word(10)),
+        Field(b"..", Word(14)),
+    ],
+    // 8 container
+    &[
+        Field(b"container ", Ordinal),
+        Field(b" plain ", Word(1)),
+        Field(b" open ", Word(5)),
+        Field(b" close ", Word(9)),
+    ],
+    // 9 diagnostic
+    &[
+        Field(b"diagnostic ", Ordinal),
+        Field(b"", Name(DIAGNOSTIC_KINDS, 1)),
+        Field(b" code ", Word(2)),
+        Field(b" ", Word(6)),
+        Field(b"..", Word(10)),
+        Field(b" plain ", Word(14)),
+    ],
+    // 10 end
+    &[Field(b"end", LabelOnly)],
+    // 1 head, with an edit
+    &[
+        Field(b"text ", Word(1)),
+        Field(b" normalized ", Word(5)),
+        Field(b" region ", RegionStart),
+        Field(b" ", RegionEnd),
+        Field(b" ", TextPart(Part::Before)),
+        Field(b" | ", TextPart(Part::Region)),
+        Field(b" | ", TextPart(Part::Behind)),
+    ],
+    // 4 content, Segments
+    &[
+        Field(b"content ", Ordinal),
+        Field(b" segments ", Word(2)),
+        Field(b" ", Word(6)),
+    ],
+    // 6 node, BlockOpen or BlockClose
+    &[
+        Field(b"node ", Ordinal),
+        Field(b"", Name(NODE_CLASSES, 1)),
+        Field(b" inline ", Byte(2)),
+        Field(b" ", Word(3)),
+        Field(b"..", Word(7)),
+        Field(b" at ", Word(11)),
+        Field(b" plain ", Word(17)),
+        Field(b" ", Word(21)),
+    ],
 ];
 
-pub const FIELD_PLACES: [u8; 70] = [
-    1, 5, 3, 0, 0, 0, 2, 0, 1, 2, 3, 4, 5, 9, 3, 3, 3, 3, 3, 3, 0, 1, 3, 7, 11, 15, 16, 17, 21, 15,
-    15, 15, 15, 15, 15, 0, 1, 2, 6, 10, 14, 0, 1, 5, 9, 0, 1, 2, 6, 10, 14, 0, 1, 5, 0, 0, 0, 1, 2,
-    0, 2, 6, 0, 1, 2, 3, 7, 11, 17, 21,
+// the labels of a body's words, by its kind
+pub static WORD_LABELS: [[&[u8]; 6]; 16] = [
+    [b" string ", b"", b"", b"", b"", b""], // 0 text
+    [b" base ", b" ", b" reading ", b" ", b"", b""], // 1 Ruby
+    [b" target ", b" ", b" payload ", b"", b"", b""], // 2 Format
+    [b" hint ", b" mencode ", b"", b"", b"", b""], // 3 Gaiji
+    [b"", b"", b"", b"", b"", b""], // 4 Line
+    [b"", b"", b"", b"", b"", b""], // 5 PageBreak
+    [b"", b"", b"", b"", b"", b""], // 6 SectionBreak
+    [b"", b"", b"", b"", b"", b""], // 7 BodyEnd
+    [b"", b"", b"", b"", b"", b""], // 8 ForcedBreak
+    [b" text ", b" ", b"", b"", b"", b""], // 9 Heading
+    [b" target ", b"", b"", b"", b"", b""], // 10 HeadingHint
+    [
+        b" file ",
+        b" number ",
+        b" dimensions ",
+        b" description ",
+        b" caption ",
+        b" ",
+    ], // 11 Illustration
+    [b" mark ", b"", b"", b"", b"", b""], // 12 Kaeriten
+    [b" raw ", b"", b"", b"", b"", b""], // 13 Directive
+    [b" content ", b" ", b"", b"", b"", b""], // 14 AngleQuote
+    [b" base ", b" ", b" note ", b" ", b"", b""], // 15 MarginNote
 ];
 
-pub const FIELD_NUMBERS: [u8; 70] = [
-    0, 0, 0, 0, 0, 0, 0, 0, 1, 0, 19, 0, 0, 0, 0, 1, 2, 3, 4, 5, 0, 5, 0, 0, 0, 19, 0, 0, 0, 0, 1,
-    2, 3, 4, 5, 0, 9, 0, 0, 0, 0, 0, 0, 0, 0, 0, 14, 0, 0, 0, 0, 0, 0, 0, 0, 0, 0, 0, 0, 0, 0, 0,
-    0, 5, 0, 0, 0, 0, 0, 0,
-];
-
-pub const WORD_LABELS: [u8; 96] = [
-    59, 0, 0, 0, 0, 0, 60, 37, 61, 37, 0, 0, 62, 37, 63, 0, 0, 0, 64, 65, 0, 0, 0, 0, 0, 0, 0, 0,
-    0, 0, 0, 0, 0, 0, 0, 0, 0, 0, 0, 0, 0, 0, 0, 0, 0, 0, 0, 0, 0, 0, 0, 0, 0, 0, 66, 37, 0, 0, 0,
-    0, 62, 0, 0, 0, 0, 0, 67, 68, 69, 70, 71, 37, 72, 0, 0, 0, 0, 0, 73, 0, 0, 0, 0, 0, 74, 37, 0,
-    0, 0, 0, 60, 37, 75, 37, 0, 0,
-];
-
-pub const LABEL_STARTS: [u16; 77] = [
-    0, 0, 5, 11, 21, 26, 33, 43, 53, 64, 72, 77, 88, 97, 103, 119, 141, 157, 172, 178, 183, 188,
-    195, 201, 206, 216, 229, 237, 249, 257, 269, 282, 291, 301, 312, 323, 328, 340, 341, 347, 354,
-    362, 369, 377, 384, 389, 394, 396, 400, 405, 415, 421, 428, 439, 445, 448, 456, 459, 469, 477,
-    485, 491, 500, 508, 517, 523, 532, 538, 544, 552, 564, 577, 586, 592, 597, 606, 612,
-];
-
-pub const SIZES: [u8; 11] = [1, 9, 1, 5, 10, 37, 49, 18, 13, 18, 1];
+// how many bytes a record of each command takes
+pub static SIZES: [usize; 11] = [1, 9, 1, 5, 10, 37, 49, 18, 13, 18, 1];

@@ -109,8 +109,8 @@ fn str_in(tape: &[u8], st: store::Store, room: usize, from: usize, id: u32) -> O
     if st.totals.strings <= id {
         return None;
     }
-    let start = strings::start_from(tape, st, room, 0, id, 0);
-    let len = strings::string_length(tape, st, id);
+    let start = strings::start_from(tape, &st, room, 0, id, 0);
+    let len = strings::string_length(tape, &st, id);
     Some(StrAt {
         start: from + start,
         end: from + start + len,

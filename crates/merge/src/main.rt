@@ -4,15 +4,17 @@
 
 ghost use Rattle.std.specs.Prelude.{◌≡◌, ℕ, ◌+◌, ◌≤◌, List, length, take, OnOk, IfSome};
 ghost use Rattle.std.specs.Io.KnownBytes.{Appends};
-ghost use Rattle.model.specs.Runs.{asked, program, line};
+ghost use Rattle.model.specs.Runs.{asked, program, line as line_of};
 ghost use Rattle.model.specs.Merge.{stored_of};
 ghost use Rattle.books.specs.Values.{stored_value};
 ghost use Rattle.refusal.specs.Refusal.{checked};
 ghost use Rattle.output.specs.Answer.{output_of};
+ghost use Rattle.lines.specs.Put.{room, Put};
 ghost use Rattle.runs.specs.Input.{Whole};
 
 use books::{Correction, Stored};
 use edit::Edit;
+use lines::Line;
 use output::IncrementalOutput;
 use refusal::Refusal;
 use std::io;
@@ -76,18 +78,12 @@ fn answer(
     merge_parts(input, outtape, outbytes, work)
 }
 
-// The line of an input, in the first bytes of the buffer.
-fn run(
-    input: &[u8],
-    outtape: &mut [u8],
-    outbytes: &mut [u8],
-    work: &mut [u32],
-    out: &mut [u8],
-) -> usize
-    requires { (length outtape.old ≡ 65536) × (length outbytes.old ≡ 65536) × (length work.old ≡ 16384) × (160 ≤ length out.old) }
-    ensures { (result ≤ length out.new) × (take result out.new ≡ line (program input.now)) }
+// The line of an input.
+fn run(input: &[u8], outtape: &mut [u8], outbytes: &mut [u8], work: &mut [u32], line: &mut Line<'_>)
+    requires { (length outtape.old ≡ 65536) × (length outbytes.old ≡ 65536) × (length work.old ≡ 16384) × (160 ≤ room line.old) }
+    ensures { Put line.old line.new 160 (line_of (program input.now)) }
 {
-    runs::put_line(out, answer(input, outtape, outbytes, work))
+    runs::put_line(line, answer(input, outtape, outbytes, work));
 }
 
 // The line of a stream: `n` of its bytes stand in the buffer, all of them or as many as it holds. That is enough (`program_cut` in crate
@@ -98,27 +94,28 @@ fn run_read(
     outtape: &mut [u8],
     outbytes: &mut [u8],
     work: &mut [u32],
-    out: &mut [u8],
-) -> usize
+    line: &mut Line<'_>,
+)
     requires input_len { (length input.now ≡ 327709) × (n ≤ length input.now) }
-    requires outtape_len { (length outtape.old ≡ 65536) × (length outbytes.old ≡ 65536) × (length work.old ≡ 16384) × (160 ≤ length out.old) }
-    ensures { (result ≤ length out.new) × ((s : List ℕ) → take (length input.now) s ≡ take n input.now → take result out.new ≡ line (program s)) }
+    requires outtape_len { (length outtape.old ≡ 65536) × (length outbytes.old ≡ 65536) × (length work.old ≡ 16384) × (160 ≤ room line.old) }
+    ensures { (s : List ℕ) → take (length input.now) s ≡ take n input.now → Put line.old line.new 160 (line_of (program s)) }
 {
-    run(&input[..n], outtape, outbytes, work, out)
+    run(&input[..n], outtape, outbytes, work, line)
 }
 
 // The program: the line of the stream that the reader gives goes to the writer.
 fn answer_stream<R: Read, W: Write>(reader: &mut R, writer: &mut W) -> io::Result<()>
-    ensures { OnOk result (IfSome (R.remaining reader.old) (λ s. Appends (W.contents writer.old) (W.contents writer.new) (line (program s)))) }
+    ensures { OnOk result (IfSome (R.remaining reader.old) (λ s. Appends (W.contents writer.old) (W.contents writer.new) (line_of (program s)))) }
 {
     let mut input = [0u8; 327709];
     let mut outtape = [0u8; 65536];
     let mut outbytes = [0u8; 65536];
     let mut work = [0u32; 16384];
     let mut out = [0u8; 160];
+    let mut line = Line::new(&mut out);
     let n = stream::read_full(reader, &mut input)?;
-    let k = run_read(&input, n, &mut outtape, &mut outbytes, &mut work, &mut out);
-    writer.write_all(&out[..k])
+    run_read(&input, n, &mut outtape, &mut outbytes, &mut work, &mut line);
+    writer.write_all(line.written())
 }
 
 fn main(rt: HostRuntime) -> io::Result<()> {

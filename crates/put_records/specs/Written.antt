@@ -2,7 +2,7 @@
 use Rattle.std.specs.Prelude.{◌≡◌, refl, ℕ, ◌+◌, ◌*◌, ◌%◌, ◌/◌, List, [], ◌∷◌, ◌++◌, length, get_or}
 use Rattle.std.proofs.Common.{sym, ap, ◌∙◌, arith, append-nil, append_assoc}
 use Rattle.model.specs.Bytes.{word_bytes}
-use Rattle.model.specs.Types.{Segment, SourceNode}
+use Rattle.model.specs.Types.{Body, Segment, SourceNode}
 use Rattle.model.specs.Tape.{record_bytes, operand_bytes, content_codec, segment_codec, node_codec}
 use Rattle.wire.specs.Overwrite.{overwrite, Wrote}
 
@@ -54,48 +54,57 @@ six_of_lem (a ∷ b ∷ d ∷ e ∷ []) h = absurd (omega arith)
 six_of_lem (a ∷ b ∷ d ∷ e ∷ f ∷ []) h = absurd (omega arith)
 six_of_lem (a ∷ b ∷ d ∷ e ∷ f ∷ g ∷ k ∷ l) h = absurd (omega arith)
 
-abbrev pub segment_with : ℕ → ℕ → ℕ → ℕ → ℕ → ℕ → List ℕ → Segment
-segment_with tag level kind variant first second ws = record {
-  tag = tag;
-  level = level;
-  body = record { kind = kind; tag = variant; plain1 = first; plain2 = second; words = six_of ws };
-}
-
 pub length_words : (ws : List ℕ) → length (words_bytes ws) ≡ 24
 unfolding words_bytes word_bytes
 length_words ws = refl
 
-pub segment_written : (d l : List ℕ) (at tag level kind variant first second : ℕ) (ws : List ℕ)
-    → Wrote d at ((((5 ∷ tag ∷ level ∷ kind ∷ variant ∷ []) ++ word_bytes first) ++ word_bytes second) ++ words_bytes ws) l
-    → l ≡ overwrite d at (record_bytes segment_codec (segment_with tag level kind variant first second ws))
+-- ---- a body, and what has one
+
+unfoldable pub body_bytes : Body → List ℕ
+body_bytes b = ((((b.kind ∷ []) ++ (b.tag ∷ [])) ++ word_bytes b.plain1) ++ word_bytes b.plain2) ++ words_bytes b.words
+
+pub length_body : (b : Body) → length (body_bytes b) ≡ 34
+unfolding body_bytes words_bytes word_bytes
+length_body b = refl
+
+-- the same with its words one by one
+with_six : (b : Body) → length b.words ≡ 6 → b ≡ record { kind = b.kind; tag = b.tag; plain1 = b.plain1; plain2 = b.plain2; words = six_of b.words }
+with_six b h = let e = six_of_lem b.words h in λ i. record { kind = b.kind; tag = b.tag; plain1 = b.plain1; plain2 = b.plain2; words = sym e i }
+
+spread : (x k t p q w : List ℕ) → x ++ ((((k ++ t) ++ p) ++ q) ++ w) ≡ ((((x ++ k) ++ t) ++ p) ++ q) ++ w
+spread x k t p q w = simp append_assoc
+
+-- a body behind other bytes, part by part
+body_behind : (x : List ℕ) (b : Body) → x ++ body_bytes b ≡ ((((x ++ (b.kind ∷ [])) ++ (b.tag ∷ [])) ++ word_bytes b.plain1) ++ word_bytes b.plain2) ++ words_bytes b.words
+unfolding body_bytes
+body_behind x b = spread x (b.kind ∷ []) (b.tag ∷ []) (word_bytes b.plain1) (word_bytes b.plain2) (words_bytes b.words)
+
+segment_six : (tag level : ℕ) (b : Body) → ((((5 ∷ []) ++ (tag ∷ [])) ++ (level ∷ [])) ++ body_bytes b)
+    ≡ record_bytes segment_codec (record { tag = tag; level = level; body = record { kind = b.kind; tag = b.tag; plain1 = b.plain1; plain2 = b.plain2; words = six_of b.words } })
 unfolding record_bytes operand_bytes segment_codec six_of words_bytes
-segment_written d l at tag level kind variant first second ws w = w.is ∙ ap (overwrite d at) (simp (append_assoc, append-nil))
+segment_six tag level b = body_behind (((5 ∷ []) ++ (tag ∷ [])) ++ (level ∷ [])) b ∙ simp (append_assoc, append-nil)
 
--- ---- a node
+pub segment_written : (d l : List ℕ) (at : ℕ) (s : Segment) → length s.body.words ≡ 6
+    → Wrote d at ((((5 ∷ []) ++ (s.tag ∷ [])) ++ (s.level ∷ [])) ++ body_bytes s.body) l → l ≡ overwrite d at (record_bytes segment_codec s)
+segment_written d l at s h w =
+    w.is ∙ ap (overwrite d at) (segment_six s.tag s.level s.body
+    ∙ ap (λ (b : Body). record_bytes segment_codec (record { tag = s.tag; level = s.level; body = b })) (sym (with_six s.body h)))
 
-unfoldable pub node_head : ℕ → ℕ → ℕ → ℕ → ℕ → List ℕ
-node_head class inline start stop offset = (((((6 ∷ []) ++ (class ∷ [])) ++ (inline ∷ [])) ++ word_bytes start) ++ word_bytes stop) ++ word_bytes offset
+node_six : (class inline start end offset : ℕ) (b : Body) → ((((((6 ∷ []) ++ (class ∷ [])) ++ (inline ∷ [])) ++ word_bytes start) ++ word_bytes end) ++ word_bytes offset) ++ body_bytes b
+    ≡ record_bytes node_codec (record {
+      class = class;
+      inline = inline;
+      source_span = record { start = start; end = end };
+      normalized_offset = offset;
+      body = record { kind = b.kind; tag = b.tag; plain1 = b.plain1; plain2 = b.plain2; words = six_of b.words };
+    })
+unfolding record_bytes operand_bytes node_codec six_of words_bytes
+node_six class inline start end offset b =
+    body_behind ((((((6 ∷ []) ++ (class ∷ [])) ++ (inline ∷ [])) ++ word_bytes start) ++ word_bytes end) ++ word_bytes offset) b ∙ simp (append_assoc, append-nil)
 
-pub length_node_head : (class inline start stop offset : ℕ) → length (node_head class inline start stop offset) ≡ 15
-unfolding node_head word_bytes
-length_node_head class inline start stop offset = refl
-
-pub node_head_written : (d l : List ℕ) (at class inline start stop offset : ℕ)
-    → Wrote d at ((((((6 ∷ []) ++ (class ∷ [])) ++ (inline ∷ [])) ++ word_bytes start) ++ word_bytes stop) ++ word_bytes offset) l → l ≡ overwrite d at (node_head class inline start stop offset)
-unfolding node_head
-node_head_written d l at class inline start stop offset w = w.is
-
-abbrev pub node_with : ℕ → ℕ → ℕ → ℕ → ℕ → ℕ → ℕ → ℕ → ℕ → List ℕ → SourceNode
-node_with class inline start stop offset kind variant first second ws = record {
-  class = class;
-  inline = inline;
-  source_span = record { start = start; end = stop };
-  normalized_offset = offset;
-  body = record { kind = kind; tag = variant; plain1 = first; plain2 = second; words = six_of ws };
-}
-
-pub node_written : (d l : List ℕ) (at class inline start stop offset kind variant first second : ℕ) (ws : List ℕ)
-    → Wrote d at (((((node_head class inline start stop offset ++ (kind ∷ [])) ++ (variant ∷ [])) ++ word_bytes first) ++ word_bytes second) ++ words_bytes ws) l
-    → l ≡ overwrite d at (record_bytes node_codec (node_with class inline start stop offset kind variant first second ws))
-unfolding record_bytes operand_bytes node_codec six_of words_bytes node_head
-node_written d l at class inline start stop offset kind variant first second ws w = w.is ∙ ap (overwrite d at) (simp (append_assoc, append-nil))
+pub node_written : (d l : List ℕ) (at : ℕ) (n : SourceNode) → length n.body.words ≡ 6
+    → Wrote d at ((((((((6 ∷ []) ++ (n.class ∷ [])) ++ (n.inline ∷ [])) ++ word_bytes n.source_span.start) ++ word_bytes n.source_span.end) ++ word_bytes n.normalized_offset)) ++ body_bytes n.body) l
+    → l ≡ overwrite d at (record_bytes node_codec n)
+node_written d l at n h w =
+    w.is ∙ ap (overwrite d at) (node_six n.class n.inline n.source_span.start n.source_span.end n.normalized_offset n.body
+    ∙ ap (λ (b : Body). record_bytes node_codec (record { class = n.class; inline = n.inline; source_span = n.source_span; normalized_offset = n.normalized_offset; body = b })) (sym (with_six n.body h)))

@@ -4,7 +4,10 @@
 ghost use Rattle.std.specs.Prelude.{◌≡◌, [], ◌∷◌, ◌+◌, ◌≤◌, length};
 ghost use Rattle.model.specs.Tape.{content_codec, segment_codec, node_codec, record_bytes};
 ghost use Rattle.wire.specs.Overwrite.{overwrite};
-ghost use Rattle.put_records.specs.Written.{words_bytes, segment_with, node_head, node_with};
+ghost use Rattle.records.specs.Values.{body_of, segment_of, source_node_of};
+ghost use Rattle.put_records.specs.Written.{words_bytes, body_bytes};
+
+use records::{Body, Segment, SourceNode};
 
 pub fn put_content(out: &mut [u8], at: usize, tag: u8, first: u32, second: u32)
     requires { at + 10 ≤ length out.old }
@@ -28,78 +31,37 @@ fn put_words(out: &mut [u8], at: usize, words: [u32; 6])
     wire::put_u32(out, at + 20, words[5]);
 }
 
-fn put_head(out: &mut [u8], at: usize, tag: u8, level: u8, kind: u8, variant: u8)
-    requires { at + 5 ≤ length out.old }
-    ensures { out.new ≡ overwrite out.old at (5 ∷ tag ∷ level ∷ kind ∷ variant ∷ []) }
+// A body: its kind and tag, two plain words and its six words.
+fn put_body(out: &mut [u8], at: usize, b: Body)
+    requires { at + 34 ≤ length out.old }
+    ensures { out.new ≡ overwrite out.old at (body_bytes (body_of b)) }
+{
+    wire::put_u8(out, at, b.kind);
+    wire::put_u8(out, at + 1, b.tag);
+    wire::put_u32(out, at + 2, b.plain1);
+    wire::put_u32(out, at + 6, b.plain2);
+    put_words(out, at + 10, b.words);
+}
+
+pub fn put_segment(out: &mut [u8], at: usize, s: Segment)
+    requires { at + 37 ≤ length out.old }
+    ensures { out.new ≡ overwrite out.old at (record_bytes segment_codec (segment_of s)) }
 {
     wire::put_u8(out, at, 5);
-    wire::put_u8(out, at + 1, tag);
-    wire::put_u8(out, at + 2, level);
-    wire::put_u8(out, at + 3, kind);
-    wire::put_u8(out, at + 4, variant);
+    wire::put_u8(out, at + 1, s.tag);
+    wire::put_u8(out, at + 2, s.level);
+    put_body(out, at + 3, s.body);
 }
 
-pub fn put_segment(
-    out: &mut [u8],
-    at: usize,
-    tag: u8,
-    level: u8,
-    kind: u8,
-    variant: u8,
-    first: u32,
-    second: u32,
-    words: [u32; 6],
-)
-    requires { at + 37 ≤ length out.old }
-    ensures { out.new ≡ overwrite out.old at (record_bytes segment_codec (segment_with tag level kind variant first second words)) }
-{
-    put_head(out, at, tag, level, kind, variant);
-    wire::put_u32(out, at + 5, first);
-    wire::put_u32(out, at + 9, second);
-    put_words(out, at + 13, words);
-}
-
-fn put_node_head(
-    out: &mut [u8],
-    at: usize,
-    class: u8,
-    inline: u8,
-    start: u32,
-    stop: u32,
-    offset: u32,
-)
-    requires { at + 15 ≤ length out.old }
-    ensures { out.new ≡ overwrite out.old at (node_head class inline start stop offset) }
+pub fn put_node(out: &mut [u8], at: usize, n: SourceNode)
+    requires { at + 49 ≤ length out.old }
+    ensures { out.new ≡ overwrite out.old at (record_bytes node_codec (source_node_of n)) }
 {
     wire::put_u8(out, at, 6);
-    wire::put_u8(out, at + 1, class);
-    wire::put_u8(out, at + 2, inline);
-    wire::put_u32(out, at + 3, start);
-    wire::put_u32(out, at + 7, stop);
-    wire::put_u32(out, at + 11, offset);
-}
-
-pub fn put_node(
-    out: &mut [u8],
-    at: usize,
-    class: u8,
-    inline: u8,
-    start: u32,
-    stop: u32,
-    offset: u32,
-    kind: u8,
-    variant: u8,
-    first: u32,
-    second: u32,
-    words: [u32; 6],
-)
-    requires { at + 49 ≤ length out.old }
-    ensures { out.new ≡ overwrite out.old at (record_bytes node_codec (node_with class inline start stop offset kind variant first second words)) }
-{
-    put_node_head(out, at, class, inline, start, stop, offset);
-    wire::put_u8(out, at + 15, kind);
-    wire::put_u8(out, at + 16, variant);
-    wire::put_u32(out, at + 17, first);
-    wire::put_u32(out, at + 21, second);
-    put_words(out, at + 25, words);
+    wire::put_u8(out, at + 1, n.class);
+    wire::put_u8(out, at + 2, n.inline);
+    wire::put_u32(out, at + 3, n.start);
+    wire::put_u32(out, at + 7, n.end);
+    wire::put_u32(out, at + 11, n.offset);
+    put_body(out, at + 15, n.body);
 }

@@ -1,4 +1,4 @@
--- Numbers 13 and 14, as the code goes: both depths in one walk over the nodes, and a diagnostic by its kind.
+-- Number 13, as the code goes: both depths in one walk over the nodes.
 use Rattle.std.specs.Prelude.{◌≡◌, Bool, not, ◌&&◌, ◌||◌, List, [], ◌∷◌}
 use Rattle.std.proofs.Math.Path.{refl, ap}
 use Rattle.std.proofs.Common.{sym, ap₂, ◌∙◌}
@@ -7,26 +7,14 @@ use native.Mathlib.Omega.{arith}
 use Rattle.std.proofs.Math.Bool.{true, false, and-false}
 use Rattle.std.proofs.lemmas.Bool.{false≢true}
 use Rattle.std.proofs.Math.Dec.{eqb}
-use borrow.Author.Tests.{eq-eqb, ne_eqb}
-use Rattle.model.specs.Types.{SourceNode, Diagnostic}
+use Rattle.model.specs.Types.{SourceNode}
 use Rattle.model.specs.Tape.{record_at, records_at, node_codec}
 use Rattle.model.specs.Region.{is_block_open, is_block_close, is_warichu_open, is_warichu_close, depth_behind}
-use Rattle.model.specs.Merge.{balanced_from, balanced_nodes, is_unclosed}
+use Rattle.model.specs.Merge.{balanced_from, balanced_nodes}
 use Rattle.records.specs.Runs.{run_cons, run_none}
 use Rattle.cuts.specs.Gaps.{depths_zero, depth_small}
 use Rattle.cuts.specs.Gaps.{closes_nothing}
 use Rattle.cuts.specs.Depths.{closes_unopened}
-
--- ---- number 14, one diagnostic
-
-module _ (d : Diagnostic) {k : ℕ} (e : k ≡ d.kind) where
-  pub unclosed_bracket : k ≡ 2 → true ≡ is_unclosed d
-  unfolding is_unclosed
-  unclosed_bracket h = rw (← e, eq-eqb k 2 h) refl
-
-  pub unclosed_close : (k ≡ 2 → ⊥) → eqb k 3 ≡ is_unclosed d
-  unfolding is_unclosed
-  unclosed_close h = rw (← e, ne_eqb k 2 h) refl
 
 -- ---- number 13
 

@@ -27,12 +27,17 @@ pub fn balanced_nodes(tape: &[u8], nodes: places::Run) -> bool
     depths.are_zero()
 }
 
+// Kinds of diagnostics: a bracket left open, a close left over.
+const UNCLOSED_BRACKET: u8 = 2;
+
+const UNMATCHED_CLOSE: u8 = 3;
+
 #[tactic(auto, using(std::proofs::lemmas::Bool::Decides::nat_tests), unfolding(model::specs::Merge::is_unclosed, model::specs::Tape::record_at, model::specs::Tape::operands_at, model::specs::Tape::diagnostic_codec))]
 fn is_unclosed(tape: &[u8], at: usize) -> bool
     requires { at + 18 ≤ length tape.now }
     ensures { result ≡ is_unclosed (record_at diagnostic_codec tape.now at) }
 {
-    matches!(tape[at + 1], 2 | 3)
+    matches!(tape[at + 1], UNCLOSED_BRACKET | UNMATCHED_CLOSE)
 }
 
 // Number 14. A diagnostic that tells of a bracket left open or of a close left over.

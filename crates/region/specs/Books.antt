@@ -24,7 +24,7 @@ book_of b = book_at b.tape.now (places b.tape.now) b.bytes.now
 -- its strings
 pub record StringsOf (b : Book) (ss : Strings) : Type 0 where
   pub tape : ss.tape.now ≡ b.tape.now
-  pub store : ss.store.now ≡ b.store
+  pub store : ss.store.now ≡ b.store.now
   pub layers : layers_of ss ≡ (book_of b).layers
 
 -- its nodes with them

@@ -14,8 +14,8 @@ pub struct Book<'a> {
     pub tape: &'a [u8],
     pub bytes: &'a [u8],
     pub places: Places,
-    pub store: Store,
-    pub ghost held: { Held tape.now bytes.now places store },
+    pub store: &'a Store,
+    pub ghost held: { Held tape.now bytes.now places store.now },
     pub ghost tape_small: { length tape.now < 2 ^ 63 },
     pub ghost bytes_small: { length bytes.now < 2 ^ 63 },
 }
@@ -28,7 +28,7 @@ impl<'a> Book<'a> {
 
     // Where the bytes of the last layer's strings begin: behind both texts and the strings of the other layers.
     fn last_strings_at(&self) -> usize
-        ensures { result ≡ self.now.places.text + self.now.places.normalized + start_in self.now.tape.now (old_strings self.now.store) }
+        ensures { result ≡ self.now.places.text + self.now.places.normalized + start_in self.now.tape.now (old_strings self.now.store.now) }
     {
         let first = self.places.text as usize + self.places.normalized as usize;
         let olds = strings::old_strings(self.store);
@@ -36,14 +36,14 @@ impl<'a> Book<'a> {
     }
 
     // Its strings, by no index yet.
-    pub fn strings(&self) -> Strings<'_>
+    pub fn strings(&self) -> Strings<'a>
         ensures { StringsOf self.now result }
     {
         let first = self.places.text as usize + self.places.normalized as usize;
         let cut = self.last_strings_at();
         Strings {
             tape: self.tape,
-            store: &self.store,
+            store: self.store,
             index: &[],
             old: &self.bytes[first..cut],
             new: &self.bytes[cut..self.bytes.len()],
@@ -51,7 +51,7 @@ impl<'a> Book<'a> {
     }
 
     // Its nodes, with those strings.
-    pub fn nodes(&self) -> Nodes<'_>
+    pub fn nodes(&self) -> Nodes<'a>
         ensures { NodesOf self.now result }
     {
         Nodes {

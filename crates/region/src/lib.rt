@@ -71,11 +71,12 @@ fn region_of(tape: &[u8], bytes: &[u8], edit: &Edit, words: &mut [u32]) -> Resul
     ensures { (checked_map span_of (checked result) ≡ choose_region tape.now bytes.now (edit_of edit.now.start edit.now.end edit.now.replacement.now)) × (length words.new ≡ length words.old) }
 {
     let p = tape::checked_book(tape, bytes)?;
+    let store = store::store_of(tape, p.layers);
     let book = Book {
         tape,
         bytes,
         places: p,
-        store: store::store_of(tape, p.layers),
+        store: &store,
     };
     chosen_region(&book, edit, words)
 }

@@ -1,5 +1,5 @@
 -- How a pair is found by its id, where the ids of the pairs rise.
-use Rattle.std.specs.Prelude.{◌≡◌, ℕ, ◌+◌, ◌*◌, ◌≤◌, ◌<◌, List, get_or, ltb}
+use Rattle.std.specs.Prelude.{◌≡◌, Option, Some, None, ℕ, ◌+◌, ◌*◌, ◌≤◌, ◌<◌, List, get_or, ltb}
 use Rattle.std.proofs.Common.{ap, ◌∙◌, arith, ltb-true, ltb-false}
 use Rattle.wire.specs.Loops.{by_bool}
 use Rattle.representatives.specs.Pairs.{pairs_in}
@@ -44,6 +44,11 @@ module _ {words : List ℕ} {m id lo hi : ℕ} (split : Split words m id lo hi) 
 
 -- ---- what is answered
 
+-- an answer as the second word of a pair has it: plus 1, or 0 for none
+abbrev pub word_of : Option ℕ → ℕ
+word_of (Some r) = r + 1
+word_of None = 0
+
 -- for an id that has a pair, where they rise: the second word of the pair
 pub record Known (words : List ℕ) (id r : ℕ) : Type 0 where
   pub is : Rising words (pairs_in words) → (j : ℕ) → j < pairs_in words → get_or words (2 * j + 1) 0 ≡ id → r ≡ get_or words (2 * j + 2) 0
@@ -64,12 +69,15 @@ module _ {words : List ℕ} {m : ℕ} (n : m ≡ pairs_in words) {id p : ℕ} (s
       absurd (omega (arith, a, b, e)))
       (λ u. let l = ltb-false p j u in omega (arith, g, l)))
 
-  -- the three returns of `representative`
+  -- the returns of `representative`
   pub known_end : m ≤ p → {r : ℕ} → Known words id r
   known_end g = record { is = λ rising j h e. let z = place rising j h e in absurd (omega (arith, z, h, g, n)) }
 
   pub known_other : (get_or words (2 * p + 1) 0 ≡ id → ⊥) → {r : ℕ} → Known words id r
   known_other d = record { is = λ rising j h e. absurd (d (ap (λ (k : ℕ). get_or words (2 * k + 1) 0) (place rising j h e) ∙ e)) }
 
-  pub known_here : Known words id (get_or words (2 * p + 2) 0)
-  known_here = record { is = λ rising j h e. ap (λ (k : ℕ). get_or words (2 * k + 2) 0) (place rising j h e) }
+  pub known_here : {r : ℕ} → r ≡ get_or words (2 * p + 2) 0 → Known words id r
+  known_here e = rw e here
+    where
+      here : Known words id (get_or words (2 * p + 2) 0)
+      here = record { is = λ rising j h e. ap (λ (k : ℕ). get_or words (2 * k + 2) 0) (place rising j h e) }

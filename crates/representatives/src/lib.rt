@@ -3,16 +3,17 @@
 // by bisection and looked at before it is used: so it need not be there, and what it says is right wherever it stands (specs/Pairs.antt).
 #![tactic(auto)]
 
-ghost use Rattle.std.specs.Prelude.{◌≡◌, List, ℕ, ◌+◌, ◌-◌, ◌*◌, ◌^◌, ◌≤◌, ◌<◌, length, get_or, leb};
+ghost use Rattle.std.specs.Prelude.{◌≡◌, IfSome, List, ℕ, ◌+◌, ◌-◌, ◌*◌, ◌^◌, ◌≤◌, ◌<◌, length, get_or, leb};
 ghost use Rattle.wire.specs.Loops.{any_up_to};
 ghost use Rattle.strings.specs.Starts.{lengths_in, OfTape};
 ghost use Rattle.strings.specs.Lent.{string_in};
 ghost use Rattle.sorted_ids.specs.Row.{Row};
 ghost use Rattle.representatives.specs.Long.{long_from};
 ghost use Rattle.representatives.specs.Pairs.{Pairs, pairs_in, pair_put, Paired};
-ghost use Rattle.representatives.specs.Bisection.{Rising, Split, Known};
+ghost use Rattle.representatives.specs.Bisection.{Rising, Split, Known, word_of};
 ghost use Rattle.representatives.specs.Ordered.{Ordered};
 
+use store::Store;
 use strings::Strings;
 
 const LONG: usize = 1024;
@@ -29,9 +30,9 @@ pub fn long_from(n: usize) -> usize
 }
 
 // Is a string of the book so long?
-pub fn any_long(tape: &[u8], st: store::Store, least: usize) -> bool
-    requires { OfTape tape.now st }
-    ensures { result ≡ any_up_to st.totals.strings (λ (i : ℕ). leb least (get_or (lengths_in tape.now) i 0)) }
+pub fn any_long(tape: &[u8], st: &Store, least: usize) -> bool
+    requires { OfTape tape.now st.now }
+    ensures { result ≡ any_up_to st.now.totals.strings (λ (i : ℕ). leb least (get_or (lengths_in tape.now) i 0)) }
 {
     (0..st.totals.strings).any(|i| least <= strings::string_length(tape, st, i))
 }
@@ -65,20 +66,23 @@ fn pairs_in(words: &[u32]) -> usize
     (words[0] as usize).min((words.len() - 1) / 2)
 }
 
-// The representative of a string plus 1, or 0 where none is known. What it says is right in any case, and an id that has a pair is found where the ids rise.
-pub fn representative(words: &[u32], id: u32) -> u32
-    ensures by_index { (K : ℕ → List ℕ) → Pairs K words.now → (result ≡ 0 → ⊥) → K (result - 1) ≡ K id }
-    ensures known { Known words.now id result }
+// The representative of a string, where one is known. What it says is right in any case, and an id that has a pair is found where the ids rise.
+pub fn representative(words: &[u32], id: u32) -> Option<u32>
+    ensures by_index { (K : ℕ → List ℕ) → Pairs K words.now → IfSome result (λ r. K r ≡ K id) }
+    ensures known { Known words.now id (word_of result) }
 {
     let m = pairs_in(words);
     let p = rank_of(words, m, id);
     if m <= p {
-        return 0;
+        return None;
     }
     if words[2 * p + 1] != id {
-        return 0;
+        return None;
     }
-    words[2 * p + 2]
+    match words[2 * p + 2] {
+        0 => None,
+        word => Some(word - 1),
+    }
 }
 
 // One pair more, the n-th.

@@ -65,7 +65,7 @@ impl<'a> Nodes<'a> {
         let tape = self.strings.tape;
         let start = records::body_word(tape, body, 0);
         let len = records::body_word(tape, body, 1);
-        strings::content_range_as_plain(tape, *self.strings.store, start, len)
+        strings::content_range_as_plain(tape, self.strings.store, start, len)
     }
 
     // The string that a Ruby or a Referenced Format names.

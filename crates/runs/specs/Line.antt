@@ -35,11 +35,3 @@ line_is (accepted m) =
 
 pub program_line : (s : List ℕ) {r : Checked Output} → r ≡ output_of (program s) → {l : List ℕ} → l ≡ line_of r → l ≡ line (program s)
 program_line s e q = q ∙ ap line_of e ∙ line_is (program s)
-
--- ---- the returns of the code
-
-pub whole_line : (r : Output) {a b c d e f g : List ℕ} → a ≡ numbered (ascii "region ") r.start → b ≡ a ++ numbered (ascii " ") r.end
-    → c ≡ b ++ numbered (ascii " reused ") r.reused → d ≡ c ++ numbered (ascii " reread ") r.reread → e ≡ d ++ numbered (ascii " calls ") r.stats.calls
-    → f ≡ e ++ numbered (ascii " probes ") r.stats.probesteps → g ≡ f ++ ascii "\n" → g ≡ accepted_line r
-unfolding accepted_line
-whole_line r p₁ p₂ p₃ p₄ p₅ p₆ p₇ = p₇ ∙ rw (p₆, p₅, p₄, p₃, p₂, p₁) refl

@@ -1,12 +1,14 @@
 // The input and the line of document 01's 'Runs': seven words and five parts, and the line of P5 or the number of the refusal.
 #![tactic(auto)]
 
-ghost use Rattle.std.specs.Prelude.{◌≡◌, [], ◌∷◌, ◌+◌, ◌≤◌, length, take};
+ghost use Rattle.std.specs.Prelude.{◌≡◌, [], ◌∷◌, ◌+◌, ◌≤◌};
 ghost use Rattle.model.specs.Runs.{line};
 ghost use Rattle.refusal.specs.Refusal.{number_in, checked};
+ghost use Rattle.lines.specs.Put.{room, Put};
 ghost use Rattle.runs.specs.Input.{parts_fit, input_number};
 ghost use Rattle.runs.specs.Line.{accepted_line, line_of};
 
+use lines::Line;
 use output::IncrementalOutput;
 use refusal::Refusal;
 
@@ -55,27 +57,28 @@ pub fn check_input(input: &[u8]) -> Result<(), Refusal>
 }
 
 // P5's line: region start, end; kept, reread nodes; intern calls, slots probed.
-fn put_accepted(out: &mut [u8], a: IncrementalOutput) -> usize
-    requires { 160 ≤ length out.old }
-    ensures { (result ≤ length out.new) × (take result out.new ≡ accepted_line a) }
+fn put_accepted(line: &mut Line<'_>, a: IncrementalOutput)
+    requires { 160 ≤ room line.old }
+    ensures { Put line.old line.new 160 (accepted_line a) }
 {
     let c = a.stats;
-    let start = lines::put_number(out, 0, b"region ", a.start as u64);
-    let end = lines::put_number(out, start, b" ", a.end as u64);
-    let reused = lines::put_number(out, end, b" reused ", a.reused as u64);
-    let reread = lines::put_number(out, reused, b" reread ", a.reread as u64);
-    let calls = lines::put_number(out, reread, b" calls ", c.calls);
-    let probes = lines::put_number(out, calls, b" probes ", c.probesteps);
-    lines::put_text(out, probes, b"\n")
+    line.put_number(b"region ", u64::from(a.start));
+    line.put_number(b" ", u64::from(a.end));
+    line.put_number(b" reused ", u64::from(a.reused));
+    line.put_number(b" reread ", u64::from(a.reread));
+    line.put_number(b" calls ", c.calls);
+    line.put_number(b" probes ", c.probesteps);
+    line.put_text(b"\n");
 }
 
+// The line of an answer.
 #[tactic(auto, unfolding(crate::specs::Line::line_of))]
-pub fn put_line(out: &mut [u8], a: Result<IncrementalOutput, Refusal>) -> usize
-    requires { 160 ≤ length out.old }
-    ensures { (result ≤ length out.new) × (take result out.new ≡ line_of (checked a)) }
+pub fn put_line(line: &mut Line<'_>, a: Result<IncrementalOutput, Refusal>)
+    requires { 160 ≤ room line.old }
+    ensures { Put line.old line.new 160 (line_of (checked a)) }
 {
     match a {
-        Ok(a) => put_accepted(out, a),
-        Err(refusal) => lines::put_refused(out, u32::from(refusal)),
+        Ok(a) => put_accepted(line, a),
+        Err(refusal) => line.put_refused(u32::from(refusal)),
     }
 }

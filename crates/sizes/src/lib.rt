@@ -7,6 +7,8 @@
 // shown trees adds.
 #![tactic(auto)]
 
+mod lent;
+
 ghost use Rattle.std.specs.Prelude.{◌≡◌, ℕ, ◌+◌, ◌*◌, ◌≤◌, ◌<◌, min, true, List, length, Option, Some};
 ghost use Rattle.model.specs.Lists.{all};
 ghost use Rattle.model.specs.WellFormed.{word_of};
@@ -15,7 +17,6 @@ ghost use Rattle.model.specs.Tree.{shown_nodes};
 ghost use Rattle.records.specs.Values.{body_at};
 ghost use Rattle.memo.specs.Memo.{entry_in};
 ghost use Rattle.ids.specs.Whole.{IdsFit, ids_in};
-ghost use Rattle.store.specs.Stored.{OfTape};
 ghost use Rattle.sizes.specs.Trees.{nodes_size};
 ghost use Rattle.sizes.specs.Order.{field_word};
 ghost use Rattle.sizes.specs.Capped.{capped, sizes_in, plus, Kept};
@@ -30,7 +31,11 @@ ghost use Rattle.sizes.specs.Words.{words_of};
 ghost use Rattle.sizes.specs.InPlace.{content_count, segment_count, field_words, string_adds, used_adds, inner_adds, body_adds};
 ghost use Rattle.sizes.specs.InPlace.{content_adds, contents_add, content_run_adds, segments_add, segment_run_adds, node_adds, nodes_add};
 
+use ids::NO_STRING;
+pub use lent::Walk;
+use places::Run;
 use records::{RUBY, TEXT, Use};
+use store::Store;
 
 // How many contents and segments may still be added.
 #[derive(Clone, Copy)]
@@ -46,9 +51,6 @@ pub struct Sizes {
     pub segments: u32,
     pub calls: u32,
 }
-
-// The id of a missing string.
-const NO_STRING: u32 = 4294967295;
 
 // The use of a field, the word at which it begins, and the word behind that.
 #[derive(Clone, Copy)]
@@ -94,16 +96,16 @@ fn again(room: Room, before: Sizes, after: Sizes, k: usize) -> Option<Sizes>
 }
 
 // How many contents a range names, and how many segments; none where it is no range.
-fn content_count(st: store::Store, start: u32, len: u32) -> u32
-    requires { st.layers ≤ 32 }
-    ensures { result ≡ content_count st start len }
+fn content_count(st: &Store, start: u32, len: u32) -> u32
+    requires { st.now.layers ≤ 32 }
+    ensures { result ≡ content_count st.now start len }
 {
     if st.has_contents(start, len) { len } else { 0 }
 }
 
-fn segment_count(st: store::Store, start: u32, len: u32) -> u32
-    requires { st.layers ≤ 32 }
-    ensures { result ≡ segment_count st start len }
+fn segment_count(st: &Store, start: u32, len: u32) -> u32
+    requires { st.now.layers ≤ 32 }
+    ensures { result ≡ segment_count st.now start len }
 {
     if st.has_segments(start, len) { len } else { 0 }
 }
@@ -186,106 +188,84 @@ fn note(memo: &mut [u32], e: usize, at: usize, level: u8, before: Sizes, after: 
 
 // Section 5. What a body of that level adds: its fields in order.
 #[cycle(tree_sizes)]
-fn body_sizes(
-    tape: &[u8],
-    st: store::Store,
-    memo: &mut [u32],
-    room: Room,
-    t: Sizes,
-    at: usize,
-    level: u8,
-) -> Option<Sizes>
-    requires of_tape { OfTape tape.now st × Known tape.now st memo.old }
-    requires kept { Kept room t }
-    requires at_in_bounds { at + 34 ≤ length tape.now }
-    ensures { (result ≡ plus room t (body_adds level tape.now st (body_at tape.now at))) × Known tape.now st memo.new }
+fn body_sizes(w: &Walk<'_>, memo: &mut [u32], t: Sizes, at: usize, level: u8) -> Option<Sizes>
+    requires known { Known w.now.tape.now w.now.st.now memo.old }
+    requires kept { Kept w.now.room t }
+    requires at_in_bounds { at + 34 ≤ length w.now.tape.now }
+    ensures { (result ≡ plus w.now.room t (body_adds level w.now.tape.now w.now.st.now (body_at w.now.tape.now at))) × Known w.now.tape.now w.now.st.now memo.new }
 {
     let mut u = t;
     for j in 0..6 {
-        let f = field_at(tape, at, j);
-        u = field_sizes(tape, st, memo, room, u, f, level)?;
+        let f = field_at(w.tape, at, j);
+        u = field_sizes(w, memo, u, f, level)?;
     }
     Some(u)
 }
 
 #[cycle(tree_sizes)]
 #[tactic(auto, using(std::proofs::lemmas::Bool::Decides::nat_tests), unfolding(crate::specs::InPlace::used_adds))]
-fn field_sizes(
-    tape: &[u8],
-    st: store::Store,
-    memo: &mut [u32],
-    room: Room,
-    t: Sizes,
-    f: FieldWords,
-    level: u8,
-) -> Option<Sizes>
-    requires of_tape { OfTape tape.now st × Known tape.now st memo.old }
-    requires kept { Kept room t }
-    ensures { (result ≡ plus room t (used_adds (inner_adds level tape.now st) tape.now st (words_of f))) × Known tape.now st memo.new }
+fn field_sizes(w: &Walk<'_>, memo: &mut [u32], t: Sizes, f: FieldWords, level: u8) -> Option<Sizes>
+    requires known { Known w.now.tape.now w.now.st.now memo.old }
+    requires kept { Kept w.now.room t }
+    ensures { (result ≡ plus w.now.room t (used_adds (inner_adds level w.now.tape.now w.now.st.now) w.now.tape.now w.now.st.now (words_of f))) × Known w.now.tape.now w.now.st.now memo.new }
 {
     match f.usage {
-        Use::Contents => content_run_sizes(tape, st, memo, room, t, f.first, f.second, level),
-        Use::Segments => segment_run_sizes(tape, st, memo, room, t, f.first, f.second, level),
-        _ => string_sizes(room, t, f.usage, f.first),
+        Use::Contents => content_run_sizes(w, memo, t, f.first, f.second, level),
+        Use::Segments => segment_run_sizes(w, memo, t, f.first, f.second, level),
+        _ => string_sizes(w.room, t, f.usage, f.first),
     }
 }
 
-// Section 5. A run of contents that a body of that level names, with what is pushed before it.
+// Section 5. A run of contents that a body of that level names, with what is pushed before it. For segments, the same below: a cycle of
+// calls that goes through the methods of a trait gets no proof, so each kind has functions of its own.
 #[cycle(tree_sizes)]
 fn content_run_sizes(
-    tape: &[u8],
-    st: store::Store,
+    w: &Walk<'_>,
     memo: &mut [u32],
-    room: Room,
     t: Sizes,
     start: u32,
     len: u32,
     level: u8,
 ) -> Option<Sizes>
-    requires of_tape { OfTape tape.now st × Known tape.now st memo.old }
-    requires kept { Kept room t }
-    ensures { (result ≡ plus room t (content_run_adds (inner_adds level tape.now st) tape.now st start len)) × Known tape.now st memo.new }
+    requires known { Known w.now.tape.now w.now.st.now memo.old }
+    requires kept { Kept w.now.room t }
+    ensures { (result ≡ plus w.now.room t (content_run_adds (inner_adds level w.now.tape.now w.now.st.now) w.now.tape.now w.now.st.now start len)) × Known w.now.tape.now w.now.st.now memo.new }
 {
-    let n = content_count(st, start, len);
-    let u = with_added(room, t, n, 0, 0)?;
+    let n = content_count(w.st, start, len);
+    let u = with_added(w.room, t, n, 0, 0)?;
     if n == 0 {
         return Some(u);
     }
-    let at = st.content_place(start);
-    contents_walk(tape, st, memo, room, u, at, n as usize, level)
+    let run = Run {
+        at: w.st.content_place(start),
+        count: n as usize,
+    };
+    contents_walk(w, memo, u, run, level)
 }
 
 // Section 5. What is pushed before a run of contents.
 #[cycle(tree_sizes)]
-fn contents_walk(
-    tape: &[u8],
-    st: store::Store,
-    memo: &mut [u32],
-    room: Room,
-    t: Sizes,
-    at: usize,
-    count: usize,
-    level: u8,
-) -> Option<Sizes>
-    requires of_tape { OfTape tape.now st × Known tape.now st memo.old }
-    requires kept { Kept room t }
-    requires count_in_bounds { at + 10 * count ≤ length tape.now }
-    ensures { (result ≡ plus room t (contents_add (inner_adds level tape.now st) tape.now st at count)) × Known tape.now st memo.new }
+fn contents_walk(w: &Walk<'_>, memo: &mut [u32], t: Sizes, run: Run, level: u8) -> Option<Sizes>
+    requires known { Known w.now.tape.now w.now.st.now memo.old }
+    requires kept { Kept w.now.room t }
+    requires count_in_bounds { run.at + 10 * run.count ≤ length w.now.tape.now }
+    ensures { (result ≡ plus w.now.room t (contents_add (inner_adds level w.now.tape.now w.now.st.now) w.now.tape.now w.now.st.now run.at run.count)) × Known w.now.tape.now w.now.st.now memo.new }
 {
     let mut u = t;
     let mut i = 0;
-    while i < count {
-        let next = content_sizes(tape, st, memo, room, u, at + 10 * i, level)?;
-        let k = alike::contents_alike(tape, at + 10 * i, count - i - 1);
-        u = again(room, u, next, k)?;
+    // Contents that are alike are passed at once: i rises by how many they are.
+    while i < run.count {
+        let next = content_sizes(w, memo, u, run.at + 10 * i, level)?;
+        let k = alike::contents_alike(w.tape, run.at + 10 * i, run.count - i - 1);
+        u = again(w.room, u, next, k)?;
         i += 1 + k;
     }
     Some(u)
 }
 
-// Where segment i of a store of one layer stands, 0 for any other. By single fields of the store, which costs no copy of it.
-fn lone_place(st: store::Store, i: u32) -> usize
-    ensures { result ≡ lone_place st i }
+// Where segment i of a store of one layer stands, 0 for any other.
+fn lone_place(st: &Store, i: u32) -> usize
+    ensures { result ≡ lone_place st.now i }
 {
     if st.layers != 1 {
         return 0;
@@ -301,83 +281,68 @@ fn lone_place(st: store::Store, i: u32) -> usize
 
 // Section 5. Plain is a string, Segments a run; one of a single segment is that segment.
 #[cycle(tree_sizes)]
-fn content_sizes(
-    tape: &[u8],
-    st: store::Store,
-    memo: &mut [u32],
-    room: Room,
-    t: Sizes,
-    at: usize,
-    level: u8,
-) -> Option<Sizes>
-    requires of_tape { OfTape tape.now st × Known tape.now st memo.old }
-    requires kept { Kept room t }
-    requires at_in_bounds { at + 10 ≤ length tape.now }
-    ensures { (result ≡ plus room t (content_adds (inner_adds level tape.now st) tape.now st (record_at content_codec tape.now at))) × Known tape.now st memo.new }
+fn content_sizes(w: &Walk<'_>, memo: &mut [u32], t: Sizes, at: usize, level: u8) -> Option<Sizes>
+    requires known { Known w.now.tape.now w.now.st.now memo.old }
+    requires kept { Kept w.now.room t }
+    requires at_in_bounds { at + 10 ≤ length w.now.tape.now }
+    ensures { (result ≡ plus w.now.room t (content_adds (inner_adds level w.now.tape.now w.now.st.now) w.now.tape.now w.now.st.now (record_at content_codec w.now.tape.now at))) × Known w.now.tape.now w.now.st.now memo.new }
 {
-    let c = records::content_at(tape, at);
+    let c = records::content_at(w.tape, at);
     if c.is_plain() {
-        return with_added(room, t, 0, 0, 1);
+        return with_added(w.room, t, 0, 0, 1);
     }
     if c.second != 1 {
-        return segment_run_sizes(tape, st, memo, room, t, c.first, c.second, level);
+        return segment_run_sizes(w, memo, t, c.first, c.second, level);
     }
-    let place = lone_place(st, c.first);
+    let place = lone_place(w.st, c.first);
     if place == 0 {
-        return segment_run_sizes(tape, st, memo, room, t, c.first, c.second, level);
+        return segment_run_sizes(w, memo, t, c.first, c.second, level);
     }
-    let u = with_added(room, t, 0, 1, 0)?;
-    segment_sizes(tape, st, memo, room, u, place, level)
+    let u = with_added(w.room, t, 0, 1, 0)?;
+    segment_sizes(w, memo, u, place, level)
 }
 
 // Section 5. A run of segments that a body of that level names, with what is pushed before it.
 #[cycle(tree_sizes)]
 fn segment_run_sizes(
-    tape: &[u8],
-    st: store::Store,
+    w: &Walk<'_>,
     memo: &mut [u32],
-    room: Room,
     t: Sizes,
     start: u32,
     len: u32,
     level: u8,
 ) -> Option<Sizes>
-    requires of_tape { OfTape tape.now st × Known tape.now st memo.old }
-    requires kept { Kept room t }
-    ensures { (result ≡ plus room t (segment_run_adds (inner_adds level tape.now st) tape.now st start len)) × Known tape.now st memo.new }
+    requires known { Known w.now.tape.now w.now.st.now memo.old }
+    requires kept { Kept w.now.room t }
+    ensures { (result ≡ plus w.now.room t (segment_run_adds (inner_adds level w.now.tape.now w.now.st.now) w.now.tape.now w.now.st.now start len)) × Known w.now.tape.now w.now.st.now memo.new }
 {
-    let n = segment_count(st, start, len);
-    let u = with_added(room, t, 0, n, 0)?;
+    let n = segment_count(w.st, start, len);
+    let u = with_added(w.room, t, 0, n, 0)?;
     if n == 0 {
         return Some(u);
     }
-    let at = st.segment_place(start);
-    segments_walk(tape, st, memo, room, u, at, n as usize, level)
+    let run = Run {
+        at: w.st.segment_place(start),
+        count: n as usize,
+    };
+    segments_walk(w, memo, u, run, level)
 }
 
 // Section 5. What is pushed before a run of segments.
 #[cycle(tree_sizes)]
-fn segments_walk(
-    tape: &[u8],
-    st: store::Store,
-    memo: &mut [u32],
-    room: Room,
-    t: Sizes,
-    at: usize,
-    count: usize,
-    level: u8,
-) -> Option<Sizes>
-    requires of_tape { OfTape tape.now st × Known tape.now st memo.old }
-    requires kept { Kept room t }
-    requires count_in_bounds { at + 37 * count ≤ length tape.now }
-    ensures { (result ≡ plus room t (segments_add (inner_adds level tape.now st) tape.now at count)) × Known tape.now st memo.new }
+fn segments_walk(w: &Walk<'_>, memo: &mut [u32], t: Sizes, run: Run, level: u8) -> Option<Sizes>
+    requires known { Known w.now.tape.now w.now.st.now memo.old }
+    requires kept { Kept w.now.room t }
+    requires count_in_bounds { run.at + 37 * run.count ≤ length w.now.tape.now }
+    ensures { (result ≡ plus w.now.room t (segments_add (inner_adds level w.now.tape.now w.now.st.now) w.now.tape.now run.at run.count)) × Known w.now.tape.now w.now.st.now memo.new }
 {
     let mut u = t;
     let mut i = 0;
-    while i < count {
-        let next = segment_sizes(tape, st, memo, room, u, at + 37 * i, level)?;
-        let k = alike::segments_alike(tape, at + 37 * i, count - i - 1);
-        u = again(room, u, next, k)?;
+    // As for contents, i rises by how many are alike.
+    while i < run.count {
+        let next = segment_sizes(w, memo, u, run.at + 37 * i, level)?;
+        let k = alike::segments_alike(w.tape, run.at + 37 * i, run.count - i - 1);
+        u = again(w.room, u, next, k)?;
         i += 1 + k;
     }
     Some(u)
@@ -385,109 +350,81 @@ fn segments_walk(
 
 // The body of a segment is of the level below; below level 0 there is none. A text is one call; what is in the memo is not walked again.
 #[cycle(tree_sizes)]
-fn segment_sizes(
-    tape: &[u8],
-    st: store::Store,
-    memo: &mut [u32],
-    room: Room,
-    t: Sizes,
-    at: usize,
-    level: u8,
-) -> Option<Sizes>
-    requires of_tape { OfTape tape.now st × Known tape.now st memo.old }
-    requires kept { Kept room t }
-    requires at_in_bounds { at + 37 ≤ length tape.now }
-    ensures { (result ≡ plus room t (inner_adds level tape.now st (record_at segment_codec tape.now at).body)) × Known tape.now st memo.new }
+fn segment_sizes(w: &Walk<'_>, memo: &mut [u32], t: Sizes, at: usize, level: u8) -> Option<Sizes>
+    requires known { Known w.now.tape.now w.now.st.now memo.old }
+    requires kept { Kept w.now.room t }
+    requires at_in_bounds { at + 37 ≤ length w.now.tape.now }
+    ensures { (result ≡ plus w.now.room t (inner_adds level w.now.tape.now w.now.st.now (record_at segment_codec w.now.tape.now at).body)) × Known w.now.tape.now w.now.st.now memo.new }
 {
     if level == 0 {
         return Some(t);
     }
-    if tape[at + 3] == TEXT {
-        return with_added(room, t, 0, 0, 1);
+    if w.tape[at + 3] == TEXT {
+        return with_added(w.room, t, 0, 0, 1);
     }
     let e = memo::entry_of(at, level);
     if memo::is_of(memo, e, at, level) {
-        return with_entry(room, t, memo, e);
+        return with_entry(w.room, t, memo, e);
     }
-    segment_walk(tape, st, memo, room, t, at, level, e)
+    segment_walk(w, memo, t, at, level, e)
 }
 
 // The same by a walk, which is put into the memo as entry e.
 #[cycle(tree_sizes)]
 fn segment_walk(
-    tape: &[u8],
-    st: store::Store,
+    w: &Walk<'_>,
     memo: &mut [u32],
-    room: Room,
     t: Sizes,
     at: usize,
     level: u8,
     e: usize,
 ) -> Option<Sizes>
-    requires of_tape { OfTape tape.now st × Known tape.now st memo.old }
-    requires kept { Kept room t }
-    requires at_in_bounds { (at + 37 ≤ length tape.now) × (1 ≤ level) × (e < 4096) }
-    ensures { (result ≡ plus room t (inner_adds level tape.now st (record_at segment_codec tape.now at).body)) × Known tape.now st memo.new }
+    requires known { Known w.now.tape.now w.now.st.now memo.old }
+    requires kept { Kept w.now.room t }
+    requires at_in_bounds { (at + 37 ≤ length w.now.tape.now) × (1 ≤ level) × (e < 4096) }
+    ensures { (result ≡ plus w.now.room t (inner_adds level w.now.tape.now w.now.st.now (record_at segment_codec w.now.tape.now at).body)) × Known w.now.tape.now w.now.st.now memo.new }
 {
-    let r = body_sizes(tape, st, memo, room, t, at + 3, level - 1)?;
+    let r = body_sizes(w, memo, t, at + 3, level - 1)?;
     note(memo, e, at, level, t, r);
     Some(r)
 }
 
 // The two walks for a caller that has no memo.
-pub fn contents_sizes(
-    tape: &[u8],
-    st: store::Store,
-    room: Room,
-    t: Sizes,
-    at: usize,
-    count: usize,
-    level: u8,
-) -> Option<Sizes>
-    requires of_tape { OfTape tape.now st }
-    requires kept { Kept room t }
-    requires count_in_bounds { at + 10 * count ≤ length tape.now }
-    ensures { result ≡ plus room t (contents_add (inner_adds level tape.now st) tape.now st at count) }
+pub fn contents_sizes(w: &Walk<'_>, t: Sizes, run: Run, level: u8) -> Option<Sizes>
+    requires kept { Kept w.now.room t }
+    requires count_in_bounds { run.at + 10 * run.count ≤ length w.now.tape.now }
+    ensures { result ≡ plus w.now.room t (contents_add (inner_adds level w.now.tape.now w.now.st.now) w.now.tape.now w.now.st.now run.at run.count) }
 {
     let mut memo = [0u32; 1];
-    contents_walk(tape, st, &mut memo[..], room, t, at, count, level)
+    contents_walk(w, &mut memo[..], t, run, level)
 }
 
-pub fn segments_sizes(
-    tape: &[u8],
-    st: store::Store,
-    room: Room,
-    t: Sizes,
-    at: usize,
-    count: usize,
-    level: u8,
-) -> Option<Sizes>
-    requires of_tape { OfTape tape.now st }
-    requires kept { Kept room t }
-    requires count_in_bounds { at + 37 * count ≤ length tape.now }
-    ensures { result ≡ plus room t (segments_add (inner_adds level tape.now st) tape.now at count) }
+pub fn segments_sizes(w: &Walk<'_>, t: Sizes, run: Run, level: u8) -> Option<Sizes>
+    requires kept { Kept w.now.room t }
+    requires count_in_bounds { run.at + 37 * run.count ≤ length w.now.tape.now }
+    ensures { result ≡ plus w.now.room t (segments_add (inner_adds level w.now.tape.now w.now.st.now) w.now.tape.now run.at run.count) }
 {
     let mut memo = [0u32; 1];
-    segments_walk(tape, st, &mut memo[..], room, t, at, count, level)
+    segments_walk(w, &mut memo[..], t, run, level)
 }
 
 // ---- Rubies of plain contents, by far the commonest nodes, without the walk
 
 // Where the contents of a store of one layer stand; of none, for any other.
-fn only_contents(st: store::Store) -> places::Run
-    requires { st.layers ≤ 32 }
-    ensures { Whole st result }
+fn only_contents(st: &Store) -> Run
+    requires { st.now.layers ≤ 32 }
+    ensures { Whole st.now result }
 {
     if st.layers != 1 {
-        return places::Run { at: 0, count: 0 };
+        return Run { at: 0, count: 0 };
     }
     if st.contents[0] != 0 {
-        return places::Run { at: 0, count: 0 };
+        return Run { at: 0, count: 0 };
     }
     if st.totals.contents == 0 {
-        return places::Run { at: 0, count: 0 };
+        return Run { at: 0, count: 0 };
     }
-    places::Run {
+    Run {
         at: st.content_place(0),
         count: st.totals.contents as usize,
     }
@@ -501,7 +438,7 @@ fn plain_contents(tape: &[u8], at: usize, count: usize) -> bool
 }
 
 // A range of these contents, all of them plain.
-fn plain_run(tape: &[u8], own: places::Run, start: u32, len: u32) -> bool
+fn plain_run(tape: &[u8], own: Run, start: u32, len: u32) -> bool
     requires { own.at + 10 * own.count ≤ length tape.now }
     ensures { result ≡ plain_run tape.now own start len }
 {
@@ -514,7 +451,7 @@ fn plain_run(tape: &[u8], own: places::Run, start: u32, len: u32) -> bool
 }
 
 // A Ruby whose base and reading are such ranges.
-fn plain_ruby(tape: &[u8], own: places::Run, at: usize) -> bool
+fn plain_ruby(tape: &[u8], own: Run, at: usize) -> bool
     requires { (own.at + 10 * own.count ≤ length tape.now) × (at + 49 ≤ length tape.now) }
     ensures { result ≡ plain_ruby tape.now own at }
 {
@@ -553,83 +490,71 @@ fn ruby_sizes(tape: &[u8], room: Room, t: Sizes, at: usize) -> Option<Sizes>
 }
 
 // Section 5. A node of class 2 or 3 has no words; the levels in the runs of another are at most 32.
-fn node_sizes(
-    tape: &[u8],
-    st: store::Store,
-    own: places::Run,
-    memo: &mut [u32],
-    room: Room,
-    t: Sizes,
-    at: usize,
-) -> Option<Sizes>
-    requires of_tape { OfTape tape.now st × Known tape.now st memo.old × Whole st own × (own.at + 10 * own.count ≤ length tape.now) }
-    requires kept { Kept room t }
-    requires at_in_bounds { at + 49 ≤ length tape.now }
-    ensures { (result ≡ plus room t (node_adds tape.now st (record_at node_codec tape.now at))) × Known tape.now st memo.new }
+fn node_sizes(w: &Walk<'_>, own: Run, memo: &mut [u32], t: Sizes, at: usize) -> Option<Sizes>
+    requires known { Known w.now.tape.now w.now.st.now memo.old × Whole w.now.st.now own × (own.at + 10 * own.count ≤ length w.now.tape.now) }
+    requires kept { Kept w.now.room t }
+    requires at_in_bounds { at + 49 ≤ length w.now.tape.now }
+    ensures { (result ≡ plus w.now.room t (node_adds w.now.tape.now w.now.st.now (record_at node_codec w.now.tape.now at))) × Known w.now.tape.now w.now.st.now memo.new }
 {
-    if plain_ruby(tape, own, at) {
-        return ruby_sizes(tape, room, t, at);
+    if plain_ruby(w.tape, own, at) {
+        return ruby_sizes(w.tape, w.room, t, at);
     }
-    if !records::has_words(tape, at) {
+    if !records::has_words(w.tape, at) {
         return Some(t);
     }
-    body_sizes(tape, st, memo, room, t, at + 15, 33)
+    body_sizes(w, memo, t, at + 15, 33)
 }
 
 // Section 5. The nodes that stand from `at` on.
-fn nodes_sizes(
-    tape: &[u8],
-    st: store::Store,
-    memo: &mut [u32],
-    room: Room,
-    at: usize,
-    count: usize,
-) -> Option<Sizes>
-    requires of_tape { OfTape tape.now st × Known tape.now st memo.old }
-    requires count_in_bounds { at + 49 * count ≤ length tape.now }
-    ensures { result ≡ capped room (nodes_add tape.now st at count) }
+fn nodes_sizes(w: &Walk<'_>, memo: &mut [u32], run: Run) -> Option<Sizes>
+    requires known { Known w.now.tape.now w.now.st.now memo.old }
+    requires count_in_bounds { run.at + 49 * run.count ≤ length w.now.tape.now }
+    ensures { result ≡ capped w.now.room (nodes_add w.now.tape.now w.now.st.now run.at run.count) }
 {
-    let own = only_contents(st);
+    let own = only_contents(w.st);
     let mut u = Sizes {
         contents: 0,
         segments: 0,
         calls: 0,
     };
-    for i in 0..count {
-        u = node_sizes(tape, st, own, memo, room, u, at + 49 * i)?;
+    for i in 0..run.count {
+        u = node_sizes(w, own, memo, u, run.at + 49 * i)?;
     }
     Some(u)
 }
 
 // The same with a memo of our own.
-fn nodes_noted(tape: &[u8], st: store::Store, room: Room, at: usize, count: usize) -> Option<Sizes>
-    requires of_tape { OfTape tape.now st }
-    requires count_in_bounds { at + 49 * count ≤ length tape.now }
-    ensures { result ≡ capped room (nodes_add tape.now st at count) }
+fn nodes_noted(w: &Walk<'_>, run: Run) -> Option<Sizes>
+    requires count_in_bounds { run.at + 49 * run.count ≤ length w.now.tape.now }
+    ensures { result ≡ capped w.now.room (nodes_add w.now.tape.now w.now.st.now run.at run.count) }
 {
     let mut memo = [0u32; 20480];
-    nodes_sizes(tape, st, &mut memo[..], room, at, count)
+    nodes_sizes(w, &mut memo[..], run)
 }
 
 // Without segments there is nothing to remember, and no memo to clear.
-fn nodes_bare(tape: &[u8], st: store::Store, room: Room, at: usize, count: usize) -> Option<Sizes>
-    requires of_tape { OfTape tape.now st }
-    requires count_in_bounds { at + 49 * count ≤ length tape.now }
-    ensures { result ≡ capped room (nodes_add tape.now st at count) }
+fn nodes_bare(w: &Walk<'_>, run: Run) -> Option<Sizes>
+    requires count_in_bounds { run.at + 49 * run.count ≤ length w.now.tape.now }
+    ensures { result ≡ capped w.now.room (nodes_add w.now.tape.now w.now.st.now run.at run.count) }
 {
     let mut memo = [0u32; 1];
-    nodes_sizes(tape, st, &mut memo[..], room, at, count)
+    nodes_sizes(w, &mut memo[..], run)
 }
 
 // Section 5. What the nodes of a tape with these places and this store add, whatever the bytes of its texts are.
-pub fn reading_sizes(tape: &[u8], st: store::Store, p: places::Places, room: Room) -> Option<Sizes>
+pub fn reading_sizes(tape: &[u8], st: Store, p: places::Places, room: Room) -> Option<Sizes>
     requires ids_fit { IdsFit tape.now st p }
     requires st_value { ids_in tape.now st ≡ true }
     requires limited { Limited room p.nodes.count }
     ensures { (d : List ℕ) → result ≡ sizes_in room (nodes_size (shown_nodes (book_at tape.now (places tape.now) d))) }
 {
+    let w = Walk {
+        tape,
+        st: &st,
+        room,
+    };
     if st.totals.segments == 0 {
-        return nodes_bare(tape, st, room, p.nodes.at, p.nodes.count);
+        return nodes_bare(&w, p.nodes);
     }
-    nodes_noted(tape, st, room, p.nodes.at, p.nodes.count)
+    nodes_noted(&w, p.nodes)
 }

@@ -10,7 +10,6 @@ use Rattle.wire.specs.Overwrite.{overwrite, get_d_behind}
 use Rattle.wire.specs.Words.{word_at_behind}
 use Rattle.splice.specs.Parts.{Kind, PutUpTo, is_in, as_in, part_of, span_in, part_reading, item_put, put_first, put_last, put_more}
 use Rattle.splice.specs.Counted.{reading_room}
-use Rattle.put_records.specs.Written.{node_with, six_of_lem}
 use Rattle.splice.specs.declared.Part.TheVariants.{Reading}
 
 module _ (d : List ℕ) (at : ℕ) (bs : List ℕ) (fits : at + length bs ≤ length d) (q : ℕ) (h : at + length bs ≤ q) where
@@ -55,14 +54,3 @@ module _ {A : Type 0} {c : Codec A} {l : Located A} {z : ℕ} (k : Kind c l z) (
 pub six_read : (t : List ℕ) (q : ℕ) (n : SourceNode) {ws : List ℕ} → n ≡ record_at node_codec t q → ws ≡ n.body.words → length ws ≡ 6
 unfolding record_at operands_at node_codec
 six_read t q n e f = ap length f ∙ ap (λ (x : SourceNode). length x.body.words) e
-
-pub node_again : (d l : List ℕ) (at class inline start stop offset kind variant first second : ℕ) (ws : List ℕ) → length ws ≡ 6
-    → l ≡ overwrite d at (record_bytes node_codec (node_with class inline start stop offset kind variant first second ws))
-    → l ≡ overwrite d at (record_bytes node_codec (record {
-      class = class;
-      inline = inline;
-      source_span = record { start = start; end = stop };
-      normalized_offset = offset;
-      body = record { kind = kind; tag = variant; plain1 = first; plain2 = second; words = ws };
-    }))
-node_again d l at class inline start stop offset kind variant first second ws h e = rw (six_of_lem ws h) at e

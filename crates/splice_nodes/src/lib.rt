@@ -28,22 +28,7 @@ fn put_node(out: &mut [u8], at: usize, n: records::SourceNode)
     requires { (at + 49 ≤ length out.old) × (length n.body.words ≡ 6) }
     ensures { out.new ≡ overwrite out.old at (record_bytes node_codec (source_node_of n)) }
 {
-    let body = n.body;
-    let words = body.words;
-    put_records::put_node(
-        out,
-        at,
-        n.class,
-        n.inline,
-        n.start,
-        n.end,
-        n.offset,
-        body.kind,
-        body.tag,
-        body.plain1,
-        body.plain2,
-        words,
-    );
+    put_records::put_node(out, at, n);
 }
 
 pub struct Nodes;
@@ -86,6 +71,7 @@ fn place_node(out: &mut [u8], at: usize, w: splice::Window)
     put_node(out, at, node_as_in(n, w, splice::Part::Reading));
 }
 
+// The nodes of the reading, which are `count` from `at` on: the caller has two sums, and no run of them.
 pub fn place_nodes(out: &mut [u8], at: usize, count: usize, w: splice::Window)
     requires { at + 49 * count ≤ length out.old }
     ensures { out.new ≡ overwrite out.old at (records_bytes node_codec (map (node_located.placed (window_value w)) (records_at node_codec out.old at count))) }

@@ -29,7 +29,7 @@ pub struct Store {
 
 // Where layer i of a pool begins; past the last layer, where the pool ends.
 #[tactic(auto, using(std::proofs::lemmas::Bool::Decides::nat_tests))]
-pub fn start_or(starts: &[u32; 32], layers: usize, total: u32, i: usize) -> u32
+fn start_or(starts: &[u32; 32], layers: usize, total: u32, i: usize) -> u32
     requires { layers ≤ 32 }
     ensures { result ≡ start_or starts.now layers total i }
 {
@@ -70,7 +70,7 @@ fn range_ok(starts: &[u32; 32], layers: usize, total: u32, start: u32, len: u32)
 }
 
 // The last layer that begins at or before item i: the one that holds it.
-pub fn layer_of(starts: &[u32; 32], layers: usize, i: u32) -> usize
+fn layer_of(starts: &[u32; 32], layers: usize, i: u32) -> usize
     requires { layers ≤ 32 }
     ensures { result ≡ layer_of starts.now layers i }
 {
@@ -224,18 +224,4 @@ impl Store {
         let b = self.content_start(k + 1) as usize;
         10 + k + 5 * a + 10 * b + 37 * i as usize
     }
-}
-
-pub fn string_place(st: Store, i: u32) -> usize
-    requires { st.layers ≤ 32 }
-    ensures { result ≡ string_place st i }
-{
-    st.string_place(i)
-}
-
-pub fn content_place(st: Store, i: u32) -> usize
-    requires { st.layers ≤ 32 }
-    ensures { result ≡ content_place st i }
-{
-    st.content_place(i)
 }

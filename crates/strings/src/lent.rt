@@ -26,7 +26,7 @@ impl<'a> Strings<'a> {
         requires { id < self.now.store.now.totals.strings }
         ensures { result ≡ get_or (lengths_in self.now.tape.now) id 0 }
     {
-        crate::string_length(self.tape, *self.store, id)
+        crate::string_length(self.tape, self.store, id)
     }
 
     // Section 3. `resolve_str`.
@@ -35,9 +35,9 @@ impl<'a> Strings<'a> {
         ensures shown { result.now ≡ shown_in self.now.tape.now self.now.store.now self.now.old.now self.now.new.now id }
         ensures resolved { result.now ≡ resolve_str (store_in self.now.tape.now (self.now.old.now ++ self.now.new.now)) id }
     {
-        let olds = crate::old_strings(*self.store);
+        let olds = crate::old_strings(self.store);
         let room = self.old.len() + self.new.len();
-        let start = crate::string_start(self.tape, *self.store, room, self.index, id);
+        let start = crate::string_start(self.tape, self.store, room, self.index, id);
         let len = self.string_length(id);
         crate::resolve(self.old, self.new, olds, id, start, len)
     }
@@ -49,7 +49,7 @@ impl<'a> Strings<'a> {
     {
         crate::index_strings(
             self.tape,
-            *self.store,
+            self.store,
             self.old.len() + self.new.len(),
             words,
         );

@@ -16,59 +16,58 @@ ghost use Rattle.strings.specs.PlainContent.{plain_of};
 ghost use Rattle.strings.specs.Shown.{old_strings, Lies, part_of};
 
 pub use lent::Strings;
+use store::Store;
 
 // The word for a start that does not fit one.
 const NOT_STORED: u32 = u32::MAX;
 
 // Section 4. 3: string length.
-pub fn string_length(tape: &[u8], st: store::Store, id: u32) -> usize
-    requires of_tape { OfTape tape.now st }
-    requires id_lt_strings { id < st.totals.strings }
+pub fn string_length(tape: &[u8], st: &Store, id: u32) -> usize
+    requires of_tape { OfTape tape.now st.now }
+    requires id_lt_strings { id < st.now.totals.strings }
     ensures { result ≡ get_or (lengths_in tape.now) id 0 }
 {
-    let at = store::string_place(st, id);
+    let at = st.string_place(id);
     wire::u32_at(tape, at + 1) as usize
 }
 
 // Where the layer of string i ends in the pool, or `to` if that comes first.
 #[tactic(auto, using(store::specs::Pools::layer_few), unfolding(crate::specs::Starts::run_end))]
-fn run_end(st: store::Store, i: u32, to: u32) -> u32
-    requires { st.layers ≤ 32 }
-    ensures { result ≡ run_end st i to }
+fn run_end(st: &Store, i: u32, to: u32) -> u32
+    requires { st.now.layers ≤ 32 }
+    ensures { result ≡ run_end st.now i to }
 {
-    let strings = st.strings;
-    let k = store::layer_of(&strings, st.layers, i);
-    let end = store::start_or(&strings, st.layers, st.totals.strings, k + 1);
-    to.min(end)
+    to.min(st.string_start(st.string_layer(i) + 1))
 }
 
 // The start of string `next`, from that of string i of the same layer.
-fn start_after(tape: &[u8], st: store::Store, room: usize, i: u32, next: u32, start: usize) -> usize
-    requires readable { Readable tape.now st room }
-    requires in_layer { InLayer st i next }
+fn start_after(tape: &[u8], st: &Store, room: usize, i: u32, next: u32, start: usize) -> usize
+    requires readable { Readable tape.now st.now room }
+    requires in_layer { InLayer st.now i next }
     requires start_value { start ≡ start_in tape.now i }
     ensures { result ≡ start_in tape.now next }
 {
-    let at = store::string_place(st, i);
+    let at = st.string_place(i);
     start + places::strings_length(tape, at, (next - i) as usize, room)
 }
 
 // The start of string `to`, from that of string `from`: one step a string, and a search for the layer a layer.
 pub fn start_from(
     tape: &[u8],
-    st: store::Store,
+    st: &Store,
     room: usize,
     from: u32,
     to: u32,
     start: usize,
 ) -> usize
-    requires readable { Readable tape.now st room }
-    requires between { Between st from to }
+    requires readable { Readable tape.now st.now room }
+    requires between { Between st.now from to }
     requires start_value { start ≡ start_in tape.now from }
     ensures { result ≡ start_in tape.now to }
 {
     let mut i = from;
     let mut place = start;
+    // From layer to layer, or to `to`.
     while i < to {
         let next = run_end(st, i, to);
         place = start_after(tape, st, room, i, next, place);
@@ -94,8 +93,8 @@ fn entry_of(start: usize) -> u32
 }
 
 // Every k-th start, k as small as the words allow; the rest of the words is kept.
-pub fn index_strings(tape: &[u8], st: store::Store, room: usize, words: &mut [u32])
-    requires { Readable tape.now st room }
+pub fn index_strings(tape: &[u8], st: &Store, room: usize, words: &mut [u32])
+    requires { Readable tape.now st.now room }
     ensures { words.new ≡ overwrite words.old 0 (index_in (lengths_in tape.now) words.old) }
 {
     let count = st.totals.strings;
@@ -111,10 +110,10 @@ pub fn index_strings(tape: &[u8], st: store::Store, room: usize, words: &mut [u3
 }
 
 // Section 3. Where a string begins: from the last start that the index has at or before it.
-pub fn string_start(tape: &[u8], st: store::Store, room: usize, words: &[u32], id: u32) -> usize
-    requires readable { Readable tape.now st room }
+pub fn string_start(tape: &[u8], st: &Store, room: usize, words: &[u32], id: u32) -> usize
+    requires readable { Readable tape.now st.now room }
     requires indexed { Indexed (lengths_in tape.now) words.now }
-    requires id_lt_strings { id < st.totals.strings }
+    requires id_lt_strings { id < st.now.totals.strings }
     ensures { result ≡ (string_span (lengths_in tape.now) id).start }
 {
     let step = step_of(st.totals.strings, words.len());
@@ -133,28 +132,27 @@ pub fn string_start(tape: &[u8], st: store::Store, room: usize, words: &[u32], i
 fn plain_of(c: records::Content) -> Option<u32>
     ensures { result ≡ plain_of (content_of c ∷ []) }
 {
-    if c.tag == 0 { Some(c.first) } else { None }
+    if c.is_plain() { Some(c.first) } else { None }
 }
 
 // Section 6. A range of exactly one Plain content gives its string, all others none.
-pub fn content_range_as_plain(tape: &[u8], st: store::Store, start: u32, len: u32) -> Option<u32>
-    requires of_tape { OfTape tape.now st }
-    requires len_value { range_in st.contents st.layers st.totals.contents start len ≡ true }
+pub fn content_range_as_plain(tape: &[u8], st: &Store, start: u32, len: u32) -> Option<u32>
+    requires of_tape { OfTape tape.now st.now }
+    requires len_value { range_in st.now.contents st.now.layers st.now.totals.contents start len ≡ true }
     ensures { (b : List ℕ) → result ≡ plain_of (resolve_content_range (store_in tape.now b) start len) }
 {
     if len != 1 {
         return None;
     }
-    let at = store::content_place(st, start);
+    let at = st.content_place(start);
     plain_of(records::content_at(tape, at))
 }
 
-pub fn old_strings(st: store::Store) -> u32
-    requires { (0 < st.layers) × (st.layers ≤ 32) }
-    ensures { result ≡ old_strings st }
+pub fn old_strings(st: &Store) -> u32
+    requires { (0 < st.now.layers) × (st.now.layers ≤ 32) }
+    ensures { result ≡ old_strings st.now }
 {
-    let strings = st.strings;
-    store::start_or(&strings, st.layers, st.totals.strings, st.layers - 1)
+    st.string_start(st.layers - 1)
 }
 
 // Section 3. A part of the old string bytes or of the new layer's, chosen by the id: the old strings come first.

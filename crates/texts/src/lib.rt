@@ -23,6 +23,7 @@ const MAX_LIST: usize = 262143;
 const MAX_LAYERS: usize = 32;
 
 // Number 3. By `few_within` it is `within_limits` of the tape's book.
+#[tactic(auto, unfolding(crate::specs::Limits::few_enough))]
 pub fn within_limits(p: places::Places) -> bool
     ensures { result ≡ few_enough p }
 {

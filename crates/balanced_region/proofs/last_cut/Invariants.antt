@@ -5,8 +5,8 @@ use mathlib.Core.Path.{◌≡◌}
 use lib.ListN.{length}
 use Rattle.balanced_region.proofs.last_cut.Given as goal
 
-abbrev pub invariant-loop-i : goal.invariant-loop-i
-invariant-loop-i l = DownWalk l.source.text.now l.source.tape.now l.source.nodes l.source.pairs l.d l.bound l.i l.depths.blocks l.depths.warichu l.hi × Window (pairs_in l.source) l.words × (length l.words ≡ length l.initial.words)
+abbrev pub invariant-loop-d : goal.invariant-loop-d
+invariant-loop-d l = DownWalk l.source.text.now l.source.tape.now l.source.nodes l.source.pairs l.d l.bound l.i l.depths.blocks l.depths.warichu l.hi × Window (pairs_in l.source) l.words × (length l.words ≡ length l.initial.words)
 
-abbrev pub decreases-loop-i : goal.decreases-loop-i
-decreases-loop-i l = l.i
+abbrev pub decreases-loop-d : goal.decreases-loop-d
+decreases-loop-d l = l.i

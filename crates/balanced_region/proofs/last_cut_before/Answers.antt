@@ -1,12 +1,11 @@
 use Rattle.balanced_region.specs.Walks.{last_walk_none, last_walk_stop, last_walk_more, last_walk_done}
-use Rattle.cuts.specs.Gaps.{apart_in_order}
 use mathlib.Core.Path.{refl, ◌∙◌}
 use native.Mathlib.Omega.{arith}
 use Rattle.balanced_region.proofs.last_cut_before.Goals as goal
 
 pub loop-i-init : goal.loop-i-init
 loop-i-init c =
-    (last_walk_none _ _ _ _ _ (apart_in_order c.args.source.now.nodes_apart), c.requires.window, refl)
+    (last_walk_none _ _ _ _ _ c.args.source.now.nodes_apart, c.requires.window, refl)
 
 pub gap_last-requires : goal.gap_last-requires
 gap_last-requires c =

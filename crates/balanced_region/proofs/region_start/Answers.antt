@@ -1,7 +1,6 @@
 use Rattle.std.proofs.Common.{rules}
 use Rattle.balanced_region.specs.Walks.{start_front, start_falls, start_walk_found, start_walk_first, start_walk_rest}
 use Rattle.balanced_region.specs.StartSearch.{start_end}
-use Rattle.cuts.specs.Gaps.{apart_in_order}
 use mathlib.Core.Path.{refl, sym, ◌∙◌}
 use native.Mathlib.Omega.{arith}
 use Rattle.balanced_region.proofs.region_start.Goals as goal
@@ -25,7 +24,7 @@ pub returns-then-c-gt0 : goal.returns-then-c-gt0
 returns-then-c-gt0 c =
     record {
       value = start_walk_found _ _ _ _ c.depths_before-d.ensures _ _ c.requires.inside _ c.ends_behind_newline.ensures c.if-ends_behind_newline.false
-          (apart_in_order c.args.source.now.nodes_apart) _ c.last_cut-c.ensures.value c.if-c-gt0.true;
+          c.args.source.now.nodes_apart _ c.last_cut-c.ensures.value c.if-c-gt0.true;
       window_2 = c.last_cut-c.ensures.window_2;
     }
 
@@ -33,7 +32,7 @@ pub returns-then-d-eq0 : goal.returns-then-d-eq0
 returns-then-d-eq0 c =
     record {
       value = start_walk_first _ _ _ _ c.depths_before-d.ensures _ _ c.requires.inside _ c.ends_behind_newline.ensures c.if-ends_behind_newline.false
-          (apart_in_order c.args.source.now.nodes_apart) _ c.last_cut-c.ensures.value c.if-c-gt0.false c.if-d-eq0.true;
+          c.args.source.now.nodes_apart _ c.last_cut-c.ensures.value c.if-c-gt0.false c.if-d-eq0.true;
       window_2 = c.last_cut-c.ensures.window_2;
     }
 
@@ -60,7 +59,7 @@ pub returns : goal.returns
 returns c =
     record {
       value = start_walk_rest _ _ _ _ c.depths_before-d.ensures _ _ c.requires.inside _ c.ends_behind_newline.ensures c.if-ends_behind_newline.false
-          (apart_in_order c.args.source.now.nodes_apart) _ c.last_cut-c.ensures.value c.if-c-gt0.false c.if-d-eq0.false _ refl _ c.node_start-start.ensures _ (search rules) _
+          c.args.source.now.nodes_apart _ c.last_cut-c.ensures.value c.if-c-gt0.false c.if-d-eq0.false _ refl _ c.node_start-start.ensures _ (search rules) _
           c.last_cut_before.ensures.value;
       window_2 = c.last_cut_before.ensures.window_2;
     }

@@ -3,17 +3,19 @@ use Rattle.sizes.specs.Capped.{kept_none}
 use Rattle.sizes.specs.InPlace.{inner_adds, segments_add}
 use Rattle.graft.proofs.inner_segments.Goals as goal
 
+pub invariant_of-all : goal.invariant_of-all
+invariant_of-all c = record { fit = c.args.w.now.source.fit }
+
 pub segments_sizes-inner-requires : goal.segments_sizes-inner-requires
 segments_sizes-inner-requires c =
     record {
-      of_tape = c.requires.of_tape;
       kept = kept_none wide_room;
       count_in_bounds = c.requires.count_in_bounds;
     }
 
 pub unwrap-requires : goal.unwrap-requires
-unwrap-requires c = inner_some (segments_add (inner_adds c.args.level c.args.tape.now c.args.st) c.args.tape.now c.args.at c.args.count) c.requires.count_bound.0 c.requires.count_bound.1 c.segments_sizes-inner.ensures
+unwrap-requires c = inner_some (segments_add (inner_adds c.args.level c.args.w.now.tape.now c.args.w.now.st.now) c.args.w.now.tape.now c.args.run.at c.args.run.count) c.requires.count_bound.0 c.requires.count_bound.1 c.segments_sizes-inner.ensures
 
 pub returns : goal.returns
 returns c =
-    segments_exact (segments_add (inner_adds c.args.level c.args.tape.now c.args.st) c.args.tape.now c.args.at c.args.count) c.requires.count_bound.0 c.requires.count_bound.1 c.segments_sizes-inner.ensures c.unwrap.ensures
+    segments_exact (segments_add (inner_adds c.args.level c.args.w.now.tape.now c.args.w.now.st.now) c.args.w.now.tape.now c.args.run.at c.args.run.count) c.requires.count_bound.0 c.requires.count_bound.1 c.segments_sizes-inner.ensures c.unwrap.ensures

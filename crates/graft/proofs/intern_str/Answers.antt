@@ -20,7 +20,6 @@ returns-then-is_last c =
 pub string_from-from-requires : goal.string_from-from-requires
 string_from-from-requires c =
     record {
-      source = c.requires.source;
       indexed = c.requires.indexed;
       id_lt_strings = c.requires.id_lt_strings.0;
     }
@@ -28,18 +27,18 @@ string_from-from-requires c =
 pub string_length-len-requires : goal.string_length-len-requires
 string_length-len-requires c =
     record {
-      of_tape = source_tape _ _ _ c.requires.source;
+      of_tape = source_tape _ _ _ c.args.w.now.source;
       id_lt_strings = c.requires.id_lt_strings.0;
     }
 
 pub overflow_add-from : goal.overflow_add-from
 overflow_add-from c =
-    omega (arith, part_inside c.args.tape.now c.args.bytes.now c.args.st c.requires.source c.args.id c.requires.id_lt_strings.0 c.string_from-from.result c.string_length-len.result c.string_from-from.ensures c.string_length-len.ensures)
+    omega (arith, part_inside c.args.w.now.tape.now c.args.w.now.bytes.now c.args.w.now.st.now c.args.w.now.source c.args.id c.requires.id_lt_strings.0 c.string_from-from.result c.string_length-len.result c.string_from-from.ensures c.string_length-len.ensures)
 
 pub slice_bounds-intern-end : goal.slice_bounds-intern-end
 slice_bounds-intern-end c =
-    omega (arith, part_inside c.args.tape.now c.args.bytes.now c.args.st c.requires.source c.args.id c.requires.id_lt_strings.0 c.string_from-from.result c.string_length-len.result c.string_from-from.ensures c.string_length-len.ensures)
+    omega (arith, part_inside c.args.w.now.tape.now c.args.w.now.bytes.now c.args.w.now.st.now c.args.w.now.source c.args.id c.requires.id_lt_strings.0 c.string_from-from.result c.string_length-len.result c.string_from-from.ensures c.string_length-len.ensures)
 
 pub returns : goal.returns
 returns c =
-    rw (part_shows c.args.tape.now c.args.bytes.now c.args.st c.requires.source c.args.id c.requires.id_lt_strings.0 c.string_from-from.result c.string_length-len.result c.string_from-from.ensures c.string_length-len.ensures) at c.intern.ensures
+    rw (part_shows c.args.w.now.tape.now c.args.w.now.bytes.now c.args.w.now.st.now c.args.w.now.source c.args.id c.requires.id_lt_strings.0 c.string_from-from.result c.string_length-len.result c.string_from-from.ensures c.string_length-len.ensures) at c.intern.ensures

@@ -4,7 +4,7 @@ use Rattle.graft_nodes.proofs.graft_node_at.Goals as goal
 
 pub returns-in_err-words : goal.returns-in_err-words
 returns-in_err-words c =
-    rw c.from_residual.ensures (ref_refused c.args.tape.now c.args.bytes.now c.args.st c.args.at c.args.p c.args.m.now c.args.to c.args.out.now c.args.work.now c.args.strs.now c.in_err-words.ensures)
+    rw c.from_residual.ensures (ref_refused c.args.w.now.tape.now c.args.w.now.bytes.now c.args.w.now.st.now c.args.at c.args.w.now.plan c.args.m.now c.args.to c.args.out.now c.args.work.now c.args.strs.now c.in_err-words.ensures)
 
 pub put_node-requires : goal.put_node-requires
 put_node-requires c =
@@ -12,4 +12,4 @@ put_node-requires c =
 
 pub returns : goal.returns
 returns c =
-    ref_made c.args.tape.now c.args.bytes.now c.args.st c.args.at c.args.p c.args.m.now c.args.to c.args.out.now c.args.work.now c.args.strs.now c.in_ok-words.words c.in_ok-words.ensures c.u32_at-start.result c.u32_at-stop.result c.u32_at-offset.result c.u32_at-first.result c.u32_at-second.result c.u32_at-start.ensures c.u32_at-stop.ensures c.u32_at-offset.ensures c.u32_at-first.ensures c.u32_at-second.ensures c.put_node.ensures
+    ref_made c.args.w.now.tape.now c.args.w.now.bytes.now c.args.w.now.st.now c.args.at c.args.w.now.plan c.args.m.now c.args.to c.args.out.now c.args.work.now c.args.strs.now c.node_at-n.result c.node_at-n.ensures c.in_ok-words.words c.in_ok-words.ensures c.put_node.ensures

@@ -7,4 +7,4 @@ use Rattle.graft.specs.Loop.{ItemsUpTo}
 use Rattle.graft_nodes.proofs.graft_nodes.Given as goal
 
 abbrev pub invariant-loop-i : goal.invariant-loop-i
-invariant-loop-i l = ItemsUpTo l.tape l.bytes node_codec (λ (ns : List SourceNode). graft_node_refs (shown_of l.tape l.bytes ns)) l.p l.initial.m l.at l.nodesat l.initial.out l.initial.work l.initial.strs l.out l.work l.strs l.m l.i
+invariant-loop-i l = ItemsUpTo l.w.tape.now l.w.bytes.now node_codec (λ (ns : List SourceNode). graft_node_refs (shown_of l.w.tape.now l.w.bytes.now ns)) l.w.plan l.initial.m l.run.at l.nodesat l.initial.out l.initial.work l.initial.strs l.out l.work l.strs l.m l.i

@@ -1,7 +1,5 @@
 use Rattle.inspect.specs.Answers.{tape_part}
-use mathlib.Core.Path.{◌∙◌}
 use Rattle.inspect.proofs.tape_in.Goals as goal
 
 pub returns : goal.returns
-returns c =
-    tape_part _ (c.wide.ensures ∙ c.u32_or_zero.ensures) c.between.ensures
+returns c = tape_part _ c.u32_or_zero.ensures c.between.ensures

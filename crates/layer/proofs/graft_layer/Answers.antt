@@ -12,18 +12,20 @@ reading_sizes-requires c =
       limited = left_limited c.args.o c.room_left.ensures (source_few c.requires.source_fits.0);
     }
 
-pub returns-in-None : goal.returns-in-None
-returns-in-None c =
-    pools_refused c.args.out.now c.args.strs.now c.args.at c.args.base c.args.o c.requires.source_fits.1 _ (source_sizes c.requires.source_fits.0 c.args.o) (left_sizes c.args.o (source_adds c.args.tape.now c.args.bytes.now) c.room_left.ensures (c.reading_sizes.ensures c.args.bytes.now)) c.in-None.is
+pub returns-in_err-s : goal.returns-in_err-s
+returns-in_err-s c =
+    rw c.from_residual.ensures (pools_refused c.args.out.now c.args.strs.now c.args.at c.args.base c.args.o c.requires.source_fits.1 _ (source_sizes c.requires.source_fits.0 c.args.o) (left_sizes c.args.o (source_adds c.args.tape.now c.args.bytes.now) c.room_left.ensures (c.reading_sizes.ensures c.args.bytes.now)) c.in_err-s.was)
+
+pub invariant_of-r-clause-held : goal.invariant_of-r-clause-held
+invariant_of-r-clause-held c = c.requires.source_fits.0
 
 pub graft_sized-requires : goal.graft_sized-requires
 graft_sized-requires c =
     record {
       source_fits = (
-        c.requires.source_fits.0,
         c.requires.source_fits.1,
         sizes_exact (room_left c.args.o) (source_adds c.args.tape.now c.args.bytes.now)
-            (left_sizes c.args.o (source_adds c.args.tape.now c.args.bytes.now) c.room_left.ensures (c.reading_sizes.ensures c.args.bytes.now)) c.in-Some.is,
+            (left_sizes c.args.o (source_adds c.args.tape.now c.args.bytes.now) c.room_left.ensures (c.reading_sizes.ensures c.args.bytes.now)) c.in_ok-s.was,
       );
       min_work_words_in_bounds = c.requires.min_work_words_in_bounds;
     }

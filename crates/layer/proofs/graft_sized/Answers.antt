@@ -5,7 +5,7 @@ use Rattle.layer.proofs.graft_sized.Goals as goal
 
 pub any_long-requires : goal.any_long-requires
 any_long-requires c =
-    (source_of c.requires.source_fits.0).fit
+    (source_of c.args.r.now.held).fit
 
 pub graft_by-requires : goal.graft_by-requires
 graft_by-requires c =

@@ -1,5 +1,10 @@
 use Rattle.layer.specs.Walked.{index_there, pairs_there}
+use native.Mathlib.Omega.{arith}
+use Rattle.layer.specs.Source.{source_readable}
 use Rattle.layer.proofs.index_words.Goals as goal
+
+pub index_strings-requires : goal.index_strings-requires
+index_strings-requires c = source_readable c.args.r.now.held (omega arith)
 
 pub returns : goal.returns
 returns c =

@@ -2,9 +2,6 @@ use Rattle.std.proofs.Common.{◌∙◌, arith}
 use Rattle.layer.specs.Paired.{words_paired, behind_length}
 use Rattle.layer.proofs.pair_words.Goals as goal
 
-pub invariant_of-book-clause-held : goal.invariant_of-book-clause-held
-invariant_of-book-clause-held c = c.requires.source_fits
-
 pub pair_strings-requires : goal.pair_strings-requires
 pair_strings-requires c = omega (arith, c.requires.min_work_words_in_bounds, behind_length c.args.words.now (omega (arith, c.requires.min_work_words_in_bounds)))
 

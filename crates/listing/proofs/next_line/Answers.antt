@@ -1,23 +1,13 @@
+use Rattle.std.proofs.Common.{refl, ◌≤◌, arith}
 use Rattle.listing.specs.Table.{sizes}
-use Rattle.listing.specs.Coded.{size_small}
-use Rattle.listing.specs.Walk.{number_few, next_none, next_read}
-use native.Mathlib.Omega.{arith}
+use Rattle.listing.specs.Walk.{number_read, next_none, next_read}
 use Rattle.listing.proofs.next_line.Goals as goal
 
-pub returns-then-command-gt10 : goal.returns-then-command-gt10
-returns-then-command-gt10 c =
-    next_none _ _ c.byte_at-command.ensures c.if-command-gt10.true
-
-pub overflow_add-seen : goal.overflow_add-seen
-overflow_add-seen c =
-    omega (arith, number_few c.args.tape.now c.requires.counted, c.number_in-n.ensures, c.requires.at_in_bounds)
-
-pub overflow_add-result-2 : goal.overflow_add-result-2
+pub returns-then-command-le10 : goal.returns-then-command-le10
 unfolding sizes
-overflow_add-result-2 c =
-    omega (arith, size_small c.wide8-k.result, c.wide8.ensures, c.requires.at_in_bounds)
+returns-then-command-le10 c =
+    let few : c.byte_at.result ≤ 10 = omega (arith, c.if-command-le10.true, c.from-command.ensures) in
+    next_read _ _ c.byte_at.ensures few c.from-command.ensures (number_read _ _ c.byte_at.ensures few c.from-command.ensures refl) refl
 
-pub returns : goal.returns
-unfolding sizes
-returns c =
-    next_read _ _ c.byte_at-command.ensures c.if-command-gt10.false c.wide8-k.ensures c.number_in-n.ensures c.wide8.ensures
+pub returns-else-command-le10 : goal.returns-else-command-le10
+returns-else-command-le10 c = next_none _ _ c.byte_at.ensures (omega (arith, c.if-command-le10.false, c.from-command.ensures))

@@ -3,7 +3,9 @@ use Prim.Native.Nat.{ℕ}
 use mathlib.Core.List.{List}
 use lib.ListN.{take}
 use lib.Seq.{length-take-le}
+use native.Mathlib.Omega.{arith}
 use Rattle.model.specs.Runs.{program, line}
+use Rattle.lines.specs.Put.{put_as}
 use Rattle.runs.specs.Input.{program_cut}
 use borrow.Author.Rules.{rules}
 use Rattle.merge.proofs.run_read.Goals as goal
@@ -14,11 +16,6 @@ slice_bounds-run-end c =
 
 pub returns : goal.returns
 returns c =
-    let run = c.run in
-    let start = c in (
-      run.ensures.0,
-      λ s e.
-          run.ensures.1
-          ∙ ap (λ (l : List ℕ). line (program l)) (sym e ∙ ap (λ (k : ℕ). take k s) start.requires.input_len.0)
-          ∙ ap line (program_cut s),
-    )
+    λ s e.
+    put_as c.run.ensures (omega arith)
+    (ap (λ (l : List ℕ). line (program l)) (sym e ∙ ap (λ (k : ℕ). take k s) c.requires.input_len.0) ∙ ap line (program_cut s))

@@ -1,18 +1,23 @@
+use Rattle.std.proofs.Common.{rules}
 use Prim.Native.Nat.{◌+◌}
 use native.Mathlib.Omega.{arith}
 use Rattle.model.specs.Bytes.{word_bytes}
+use Rattle.records.specs.Values.{body_of, source_node_of}
 use Rattle.wire.specs.Overwrite.{Wrote, wrote_next}
-use Rattle.put_records.specs.Written.{node_written, node_head, length_node_head, words_bytes, length_words, length_word}
+use Rattle.put_records.specs.Written.{node_written, body_bytes, length_body, length_word}
 use mathlib.Core.List.{[], ◌∷◌}
 use lib.ListN.{length-append}
 use Rattle.put_records.proofs.put_node.Goals as goal
 
 pub returns : goal.returns
 returns c =
-    let w1 : Wrote c.args.out.now c.args.at (node_head c.args.class c.args.inline c.args.start c.args.stop c.args.offset) c.put_node_head.new.out = record { is = c.put_node_head.ensures } in
-    let w2 = wrote_next w1 (c.args.at + 15) (c.args.kind ∷ []) c.put_u8.ensures (simp length_node_head) (omega (arith, c.requires)) in
-    let w3 = wrote_next w2 (c.args.at + 16) (c.args.variant ∷ []) c.put_u8-2.ensures (simp (length-append, length_node_head) (omega arith)) (omega (arith, c.requires)) in
-    let w4 = wrote_next w3 (c.args.at + 17) (word_bytes c.args.first) c.put_u32.ensures (simp (length-append, length_node_head) (omega arith)) (simp length_word (omega (arith, c.requires))) in
-    let w5 = wrote_next w4 (c.args.at + 21) (word_bytes c.args.second) c.put_u32-2.ensures (simp (length-append, length_node_head, length_word) (omega arith)) (simp length_word (omega (arith, c.requires))) in
-    let w6 = wrote_next w5 (c.args.at + 25) (words_bytes c.args.words) c.put_words.ensures (simp (length-append, length_node_head, length_word) (omega arith)) (simp length_words (omega (arith, c.requires))) in
-    node_written c.args.out.now _ c.args.at c.args.class c.args.inline c.args.start c.args.stop c.args.offset c.args.kind c.args.variant c.args.first c.args.second c.args.words w6
+    let n = c.args.n in
+    let at = c.args.at in
+    let w1 : Wrote c.args.out.now at (6 ∷ []) c.put_u8.new.out = record { is = c.put_u8.ensures } in
+    let w2 = wrote_next w1 (at + 1) (n.class ∷ []) c.put_u8-2.ensures (omega arith) (omega (arith, c.requires)) in
+    let w3 = wrote_next w2 (at + 2) (n.inline ∷ []) c.put_u8-3.ensures (omega arith) (omega (arith, c.requires)) in
+    let w4 = wrote_next w3 (at + 3) (word_bytes n.start) c.put_u32.ensures (omega arith) (simp length_word (omega (arith, c.requires))) in
+    let w5 = wrote_next w4 (at + 7) (word_bytes n.end) c.put_u32-2.ensures (simp length_word (omega arith)) (simp length_word (omega (arith, c.requires))) in
+    let w6 = wrote_next w5 (at + 11) (word_bytes n.offset) c.put_u32-3.ensures (simp (length-append, length_word) (omega arith)) (simp length_word (omega (arith, c.requires))) in
+    let w7 = wrote_next w6 (at + 15) (body_bytes (body_of n.body)) c.put_body.ensures (simp (length-append, length_word) (omega arith)) (simp length_body (omega (arith, c.requires))) in
+    node_written c.args.out.now _ at (source_node_of n) (search rules) w7

@@ -8,11 +8,11 @@ pub returns-in_err-p : goal.returns-in_err-p
 returns-in_err-p c =
     (rw (handed_on _ c.from_residual.ensures.1) (choose_refused _ _ _ (was_refused _ _ c.in_err-p.ensures)), refl)
 
-pub store_of-requires : goal.store_of-requires
-store_of-requires c = choose_store (passed_book c.in_ok-p.ensures)
+pub store_of-store-requires : goal.store_of-store-requires
+store_of-store-requires c = choose_store (passed_book c.in_ok-p.ensures)
 
 pub invariant_of-book-clause-held : goal.invariant_of-book-clause-held
-invariant_of-book-clause-held c = choose_held (passed_book c.in_ok-p.ensures) c.store_of.ensures
+invariant_of-book-clause-held c = choose_held (passed_book c.in_ok-p.ensures) c.store_of-store.ensures
 
 pub returns : goal.returns
 returns c =

@@ -1,28 +1,11 @@
-use mathlib.Core.Path.{◌∙◌}
-use native.Mathlib.Omega.{arith}
-use Rattle.runs.specs.Line.{whole_line}
+use Rattle.std.proofs.Common.{refl, arith}
+use Rattle.lines.specs.Put.{put_as, put_both}
+use Rattle.runs.specs.Line.{accepted_line}
 use Rattle.runs.proofs.put_accepted.Goals as goal
 
-pub put_number-reread-requires : goal.put_number-reread-requires
-put_number-reread-requires c =
-    omega (arith, c.requires, c.put_number-start.ensures.0, c.put_number-start.auto.out, c.put_number-end.ensures.0, c.put_number-end.auto.out, c.put_number-reused.ensures.0, c.put_number-reused.auto.out)
-
-pub put_number-calls-requires : goal.put_number-calls-requires
-put_number-calls-requires c =
-    omega (arith, c.requires, c.put_number-start.ensures.0, c.put_number-start.auto.out, c.put_number-end.ensures.0, c.put_number-end.auto.out, c.put_number-reused.ensures.0, c.put_number-reused.auto.out, c.put_number-reread.ensures.0, c.put_number-reread.auto.out)
-
-pub put_number-probes-requires : goal.put_number-probes-requires
-put_number-probes-requires c =
-    omega (arith, c.requires, c.put_number-start.ensures.0, c.put_number-start.auto.out, c.put_number-end.ensures.0, c.put_number-end.auto.out, c.put_number-reused.ensures.0, c.put_number-reused.auto.out, c.put_number-reread.ensures.0, c.put_number-reread.auto.out, c.put_number-calls.ensures.0, c.put_number-calls.auto.out)
-
-pub put_text-requires : goal.put_text-requires
-put_text-requires c =
-    omega (arith, c.requires, c.put_number-start.ensures.0, c.put_number-start.auto.out, c.put_number-end.ensures.0, c.put_number-end.auto.out, c.put_number-reused.ensures.0, c.put_number-reused.auto.out, c.put_number-reread.ensures.0, c.put_number-reread.auto.out, c.put_number-calls.ensures.0, c.put_number-calls.auto.out, c.put_number-probes.ensures.0, c.put_number-probes.auto.out)
-
-pub shape_of-out : goal.shape_of-out
-shape_of-out c =
-    c.put_text.auto.out ∙ c.put_number-probes.auto.out ∙ c.put_number-calls.auto.out ∙ c.put_number-reread.auto.out ∙ c.put_number-reused.auto.out ∙ c.put_number-end.auto.out ∙ c.put_number-start.auto.out
-
 pub returns : goal.returns
+unfolding accepted_line
 returns c =
-    (omega (arith, c.requires, c.put_number-start.ensures.0, c.put_number-start.auto.out, c.put_number-end.ensures.0, c.put_number-end.auto.out, c.put_number-reused.ensures.0, c.put_number-reused.auto.out, c.put_number-reread.ensures.0, c.put_number-reread.auto.out, c.put_number-calls.ensures.0, c.put_number-calls.auto.out, c.put_number-probes.ensures.0, c.put_number-probes.auto.out, c.put_text.ensures.0, c.put_text.auto.out), whole_line _ c.put_number-start.ensures.1 c.put_number-end.ensures.1 c.put_number-reused.ensures.1 c.put_number-reread.ensures.1 c.put_number-calls.ensures.1 c.put_number-probes.ensures.1 c.put_text.ensures.1)
+    put_as
+    (put_both (put_both (put_both (put_both (put_both (put_both c.put_number.ensures c.put_number-2.ensures) c.put_number-3.ensures) c.put_number-4.ensures) c.put_number-5.ensures) c.put_number-6.ensures) c.put_text.ensures)
+    (omega arith) (rw (c.from.ensures, c.from-2.ensures, c.from-3.ensures, c.from-4.ensures) refl)

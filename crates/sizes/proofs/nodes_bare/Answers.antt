@@ -4,6 +4,6 @@ use Rattle.sizes.proofs.nodes_bare.Goals as goal
 pub nodes_sizes-requires : goal.nodes_sizes-requires
 nodes_sizes-requires c =
     record {
-      of_tape = (c.requires.of_tape, known_none c.args.tape.now c.args.st 1);
+      known = known_none c.args.w.now.tape.now c.args.w.now.st.now 1;
       count_in_bounds = c.requires.count_in_bounds;
     }

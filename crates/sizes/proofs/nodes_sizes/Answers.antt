@@ -5,17 +5,17 @@ use Rattle.sizes.specs.Plain.{whole_inside}
 use Rattle.sizes.proofs.nodes_sizes.Goals as goal
 
 pub loop-i-init : goal.loop-i-init
-loop-i-init c = (adding_none (node_from c.args.tape.now c.args.st c.args.at) c.args.count (kept_none c.args.room), c.requires.of_tape.1, refl)
+loop-i-init c = (adding_none (node_from c.args.w.now.tape.now c.args.w.now.st.now c.args.run.at) c.args.run.count (kept_none c.args.w.now.room), c.requires.known, refl)
 
-pub node_sizes-requires-clause-of_tape : goal.node_sizes-requires-clause-of_tape
-node_sizes-requires-clause-of_tape c =
-    (c.requires.of_tape.0, c.loop-i.invariant.1, c.only_contents-own.ensures, whole_inside c.args.tape.now c.args.st c.requires.of_tape.0 c.only_contents-own.result c.only_contents-own.ensures)
+pub node_sizes-requires-clause-known : goal.node_sizes-requires-clause-known
+node_sizes-requires-clause-known c =
+    (c.loop-i.invariant.1, c.only_contents-own.ensures, whole_inside c.args.w.now.tape.now c.args.w.now.st.now c.args.w.now.fit c.only_contents-own.result c.only_contents-own.ensures)
 
 pub returns-in_err-u : goal.returns-in_err-u
 unfolding node_from
 returns-in_err-u c =
-    c.from_residual.ensures ∙ adding_over c.loop-i.invariant.0 c.loop-i-test.true c.in_err-u.ensures.0 ∙ plus_none c.args.room _
-    ∙ ap (capped c.args.room) (nodes_from_lem c.args.tape.now c.args.at c.args.count c.args.st)
+    c.from_residual.ensures ∙ adding_over c.loop-i.invariant.0 c.loop-i-test.true c.in_err-u.ensures.0 ∙ plus_none c.args.w.now.room _
+    ∙ ap (capped c.args.w.now.room) (nodes_from_lem c.args.w.now.tape.now c.args.run.at c.args.run.count c.args.w.now.st.now)
 
 pub loop-i-preserved : goal.loop-i-preserved
 unfolding node_from
@@ -24,4 +24,4 @@ loop-i-preserved c =
 
 pub returns : goal.returns
 returns c =
-    adding_all c.loop-i.invariant.0 c.loop-i-test.false ∙ plus_none c.args.room _ ∙ ap (capped c.args.room) (nodes_from_lem c.args.tape.now c.args.at c.args.count c.args.st)
+    adding_all c.loop-i.invariant.0 c.loop-i-test.false ∙ plus_none c.args.w.now.room _ ∙ ap (capped c.args.w.now.room) (nodes_from_lem c.args.w.now.tape.now c.args.run.at c.args.run.count c.args.w.now.st.now)

@@ -5,4 +5,4 @@ use Rattle.sizes.specs.Known.{Known}
 use Rattle.sizes.proofs.nodes_sizes.Given as goal
 
 abbrev pub invariant-loop-i : goal.invariant-loop-i
-invariant-loop-i l = Adding l.room no_sizes (node_from l.tape l.st l.at) l.count l.i l.u × Known l.tape l.st l.memo × (length l.memo ≡ length l.initial.memo)
+invariant-loop-i l = Adding l.w.room no_sizes (node_from l.w.tape.now l.w.st.now l.run.at) l.run.count l.i l.u × Known l.w.tape.now l.w.st.now l.memo × (length l.memo ≡ length l.initial.memo)

@@ -5,7 +5,7 @@ use Rattle.strings.proofs.index_strings.Goals as goal
 
 pub nonzero_div-j-end : goal.nonzero_div-j-end
 nonzero_div-j-end c =
-    omega (arith, step_some c.args.st.totals.strings (length c.args.words.now), c.step_of-step.ensures)
+    omega (arith, step_some c.args.st.now.totals.strings (length c.args.words.now), c.step_of-step.ensures)
 
 pub loop-j-init : goal.loop-j-init
 loop-j-init c = (refl, indexing_none _ _ _)

@@ -5,7 +5,7 @@ use Rattle.strings.proofs.string_start.Goals as goal
 
 pub nonzero_div-q : goal.nonzero_div-q
 nonzero_div-q c =
-    omega (arith, step_some c.args.st.totals.strings (length c.args.words.now), c.step_of-step.ensures)
+    omega (arith, step_some c.args.st.now.totals.strings (length c.args.words.now), c.step_of-step.ensures)
 
 pub returns-then-q-eq0 : goal.returns-then-q-eq0
 returns-then-q-eq0 c =

@@ -7,13 +7,13 @@ pub nonzero_rem-j : goal.nonzero_rem-j
 nonzero_rem-j c =
     let f = window_fits _ _ _ _ c.args.o c.requires.1 c.room_in.ensures c.next_size-n.ensures in f.0
 
+pub overflow_cast-n : goal.overflow_cast-n
+overflow_cast-n c =
+    let f = window_fits _ _ _ _ c.args.o c.requires.1 c.room_in.ensures c.next_size-n.ensures in omega (arith, f.2)
+
 pub fill-requires : goal.fill-requires
 fill-requires c =
-    let f = window_fits _ _ _ _ c.args.o c.requires.1 c.room_in.ensures c.next_size-n.ensures in (
-      omega (arith, f.4, c.requires.0),
-      f.2,
-      f.1,
-    )
+    (window_fits _ _ _ _ c.args.o c.requires.1 c.room_in.ensures c.next_size-n.ensures).1
 
 pub bounds-words-j : goal.bounds-words-j
 bounds-words-j c =

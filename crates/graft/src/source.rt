@@ -1,0 +1,17 @@
+// What a walk of this crate is lent.
+#![tactic(auto)]
+
+ghost use Rattle.graft.specs.Walk.{Source};
+
+use super::Plan;
+use store::Store;
+
+// What a walk reads, a source that passed numbers 1 and 4, and the plan of what it writes. It is lent as a whole.
+#[derive(Clone, Copy)]
+pub struct Walk<'a> {
+    pub tape: &'a [u8],
+    pub bytes: &'a [u8],
+    pub st: &'a Store,
+    pub plan: Plan,
+    ghost source: { Source tape.now bytes.now st.now },
+}

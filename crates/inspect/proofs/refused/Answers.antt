@@ -1,9 +1,0 @@
-use Rattle.inspect.specs.Inspect.{mark_of}
-use Rattle.inspect.specs.Answers.{outcome_of}
-use mathlib.Core.Path.{refl}
-use Rattle.inspect.proofs.refused.Goals as goal
-
-pub returns : goal.returns
-unfolding outcome_of mark_of
-returns c =
-    refl

@@ -1,0 +1,7 @@
+use Rattle.std.proofs.Common.{refl, arith}
+use Rattle.lines.specs.Put.{written}
+use Rattle.lines.proofs.Line.clear.Goals as goal
+
+pub returns : goal.returns
+unfolding written
+returns c = (refl, omega arith)

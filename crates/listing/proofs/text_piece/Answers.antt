@@ -1,8 +1,0 @@
-use Rattle.listing.specs.Pieces.{piece_item, value_of}
-use mathlib.Core.Path.{refl}
-use Rattle.listing.proofs.text_piece.Goals as goal
-
-pub returns : goal.returns
-unfolding piece_item value_of
-returns c =
-    refl
