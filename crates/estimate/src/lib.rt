@@ -63,7 +63,7 @@ fn price_by(reread: u32, s: Option<sizes::Sizes>, bytes: usize) -> Price
 
 // The price of a book and a reading that passed 1 to 17.
 fn price_fitted(m: &Merging) -> Price
-    requires { Books m.now.book.tape.now m.now.book.bytes.now m.now.book.places m.now.book.store (edit_value m.now.edit) (window_value m.now.window) m.now.reading.tape.now m.now.reading.bytes.now m.now.reading.places m.now.reading.store }
+    requires { Books m.now.book.tape.now m.now.book.bytes.now m.now.book.places m.now.book.store.now (edit_value m.now.edit) (window_value m.now.window) m.now.reading.tape.now m.now.reading.bytes.now m.now.reading.places m.now.reading.store.now }
     ensures { result ≡ price_value (price_in (book_in m.now.book.tape.now m.now.book.bytes.now) (edit_value m.now.edit)
         (book_in m.now.reading.tape.now m.now.reading.bytes.now) (window_value m.now.window)) }
 {
@@ -73,7 +73,7 @@ fn price_fitted(m: &Merging) -> Price
         contents: MAX_POOL,
         segments: MAX_POOL,
     };
-    let s = sizes::reading_sizes(m.reading.tape, m.reading.store, q, room);
+    let s = sizes::reading_sizes(m.reading.tape, *m.reading.store, q, room);
     price_by(q.nodes.count as u32, s, l.base)
 }
 
@@ -90,13 +90,13 @@ fn estimate_checked<'a>(
         tape: book.tape,
         bytes: book.bytes,
         places: f.p,
-        store: f.st,
+        store: &f.st,
     };
     let reading = Book {
         tape: correction.reading.tape,
         bytes: correction.reading.bytes,
         places: f.q,
-        store: f.own,
+        store: &f.own,
     };
     let merging = Merging {
         book,

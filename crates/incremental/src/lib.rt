@@ -29,13 +29,13 @@ fn merge_checked<'a>(
         tape: book.tape,
         bytes: book.bytes,
         places: f.p,
-        store: f.st,
+        store: &f.st,
     };
     let reading = Book {
         tape: correction.reading.tape,
         bytes: correction.reading.bytes,
         places: f.q,
-        store: f.own,
+        store: &f.own,
     };
     let merging = Merging {
         book,

@@ -71,7 +71,7 @@ fn graft_reading(
     at: usize,
     base: usize,
 ) -> Option<Graft>
-    requires source_fits { SourceFits reading.now.tape.now reading.now.bytes.now reading.now.places reading.now.store }
+    requires source_fits { SourceFits reading.now.tape.now reading.now.bytes.now reading.now.places reading.now.store.now }
     requires strings_le_max_pool { (below.strings ≤ max_pool) × (below.contents ≤ max_pool) × (below.segments ≤ max_pool) }
     requires min_work_words_in_bounds { (min_work_words ≤ length work.old) × (base ≤ length strs.old) × (at ≤ length out.old) }
     ensures { GraftTold out.old strs.old out.new strs.new at base (offsets_of below) (is_empty (book_in reading.now.tape.now reading.now.bytes.now).source_nodes) result (grafted_into reading.now.tape.now reading.now.bytes.now (offsets_of below)) }
@@ -93,7 +93,7 @@ fn graft_reading(
         reading.tape,
         reading.bytes,
         p,
-        reading.store,
+        *reading.store,
         out,
         work,
         strs,
@@ -118,10 +118,10 @@ fn put_store(
     outbytes: &mut [u8],
     work: &mut [u32],
 ) -> Option<Graft>
-    requires books { Books m.now.book.tape.now m.now.book.bytes.now m.now.book.places m.now.book.store (edit_of m.now.edit.start m.now.edit.end m.now.edit.replacement.now) (window_value m.now.window) m.now.reading.tape.now m.now.reading.bytes.now m.now.reading.places m.now.reading.store }
+    requires books { Books m.now.book.tape.now m.now.book.bytes.now m.now.book.places m.now.book.store.now (edit_of m.now.edit.start m.now.edit.end m.now.edit.replacement.now) (window_value m.now.window) m.now.reading.tape.now m.now.reading.bytes.now m.now.reading.places m.now.reading.store.now }
     requires l_value { l ≡ lengths_of m.now.book.places m.now.reading.places m.now.edit.start m.now.edit.end (length m.now.edit.replacement.now) m.now.window.nstart m.now.window.nend (length m.now.book.bytes.now) }
     requires min_work_words_in_bounds { (min_work_words ≤ length work.old) × (l.normalized ≤ max_text) × (l.base ≤ length outbytes.old) × (m.now.book.places.nodes.at ≤ length outtape.old) }
-    ensures { StoreTold (book_in m.now.book.tape.now m.now.book.bytes.now) (edit_of m.now.edit.start m.now.edit.end m.now.edit.replacement.now) (book_in m.now.reading.tape.now m.now.reading.bytes.now) (window_value m.now.window) outtape.old outbytes.old outtape.new outbytes.new m.now.book.places.nodes.at l.base (offsets_of m.now.book.store.totals) result }
+    ensures { StoreTold (book_in m.now.book.tape.now m.now.book.bytes.now) (edit_of m.now.edit.start m.now.edit.end m.now.edit.replacement.now) (book_in m.now.reading.tape.now m.now.reading.bytes.now) (window_value m.now.window) outtape.old outbytes.old outtape.new outbytes.new m.now.book.places.nodes.at l.base (offsets_of m.now.book.store.now.totals) result }
 {
     let at = m.book.places.nodes.at;
     put_new_texts(outbytes, m);
@@ -144,7 +144,7 @@ pub fn merge_books(
     outbytes: &mut [u8],
     work: &mut [u32],
 ) -> Result<IncrementalOutput, Refusal>
-    requires { Books m.now.book.tape.now m.now.book.bytes.now m.now.book.places m.now.book.store (edit_of m.now.edit.start m.now.edit.end m.now.edit.replacement.now) (window_value m.now.window) m.now.reading.tape.now m.now.reading.bytes.now m.now.reading.places m.now.reading.store }
+    requires { Books m.now.book.tape.now m.now.book.bytes.now m.now.book.places m.now.book.store.now (edit_of m.now.edit.start m.now.edit.end m.now.edit.replacement.now) (window_value m.now.window) m.now.reading.tape.now m.now.reading.bytes.now m.now.reading.places m.now.reading.store.now }
     ensures { Written (result_checked (book_in m.now.book.tape.now m.now.book.bytes.now) (edit_of m.now.edit.start m.now.edit.end m.now.edit.replacement.now) (book_in m.now.reading.tape.now m.now.reading.bytes.now) (window_value m.now.window) (room_of outtape.old outbytes.old work.old)) (checked result) outtape.old outbytes.old work.old outtape.new outbytes.new work.new }
 {
     let p = m.book.places;
