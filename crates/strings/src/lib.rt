@@ -52,14 +52,7 @@ fn start_after(tape: &[u8], st: &Store, room: usize, i: u32, next: u32, start: u
 }
 
 // The start of string `to`, from that of string `from`: one step a string, and a search for the layer a layer.
-pub fn start_from(
-    tape: &[u8],
-    st: &Store,
-    room: usize,
-    from: u32,
-    to: u32,
-    start: usize,
-) -> usize
+pub fn start_from(tape: &[u8], st: &Store, room: usize, from: u32, to: u32, start: usize) -> usize
     requires readable { Readable tape.now st.now room }
     requires between { Between st.now from to }
     requires start_value { start ≡ start_in tape.now from }
