@@ -96,12 +96,12 @@ merge_answer (refused n) = record {
   reused = 0;
   reread = 0;
   calls = 0;
-  cachehits = 0;
-  tablehits = 0;
+  cache_hits = 0;
+  table_hits = 0;
   allocs = 0;
-  longbypass = 0;
+  long_bypass = 0;
   resizes = 0;
-  probesteps = 0;
+  probe_steps = 0;
   tape = 0;
   bytes = 0;
 }
@@ -112,22 +112,22 @@ merge_answer (accepted a) = record {
   reused = a.reused;
   reread = a.reread;
   calls = a.stats.calls;
-  cachehits = a.stats.cachehits;
-  tablehits = a.stats.tablehits;
+  cache_hits = a.stats.cache_hits;
+  table_hits = a.stats.table_hits;
   allocs = a.stats.allocs;
-  longbypass = a.stats.longbypass;
+  long_bypass = a.stats.long_bypass;
   resizes = a.stats.resizes;
-  probesteps = a.stats.probesteps;
+  probe_steps = a.stats.probe_steps;
   tape = a.tape;
   bytes = a.bytes;
 }
 
 abbrev pub orders_answer : Answers → OrdersAnswer
 orders_answer r = record {
-  earlierfirst = merge_answer r.earlier_first;
-  latersecond = merge_answer r.later_second;
-  laterfirst = merge_answer r.later_first;
-  earliersecond = merge_answer r.earlier_second;
+  earlier_first = merge_answer r.earlier_first;
+  later_second = merge_answer r.later_second;
+  later_first = merge_answer r.later_first;
+  earlier_second = merge_answer r.earlier_second;
 }
 
 -- The answer of the entry, read back.
@@ -141,12 +141,12 @@ output_read r =
       reread = r.reread;
       stats = record {
         calls = r.calls;
-        cachehits = r.cachehits;
-        tablehits = r.tablehits;
+        cache_hits = r.cache_hits;
+        table_hits = r.table_hits;
         allocs = r.allocs;
-        longbypass = r.longbypass;
+        long_bypass = r.long_bypass;
         resizes = r.resizes;
-        probesteps = r.probesteps;
+        probe_steps = r.probe_steps;
       };
       tape = r.tape;
       bytes = r.bytes;
@@ -155,10 +155,10 @@ output_read r =
 
 abbrev pub orders_read : OrdersAnswer → Answers
 orders_read r = record {
-  earlier_first = output_read r.earlierfirst;
-  later_second = output_read r.latersecond;
-  later_first = output_read r.laterfirst;
-  earlier_second = output_read r.earliersecond;
+  earlier_first = output_read r.earlier_first;
+  later_second = output_read r.later_second;
+  later_first = output_read r.later_first;
+  earlier_second = output_read r.earlier_second;
 }
 
 -- Its number is that of the struct.
@@ -182,8 +182,8 @@ merge_back a e = ap output_read e ∙ output_back a
 pub orders_back : {r : OrdersAnswer} (a : BothOrders) → r ≡ orders_answer (answers_of a) → orders_read r ≡ answers_of a
 orders_back a e =
     λ i. record {
-      earlier_first = merge_back a.earlier_first (ap (λ (x : OrdersAnswer). x.earlierfirst) e) i;
-      later_second = merge_back a.later_second (ap (λ (x : OrdersAnswer). x.latersecond) e) i;
-      later_first = merge_back a.later_first (ap (λ (x : OrdersAnswer). x.laterfirst) e) i;
-      earlier_second = merge_back a.earlier_second (ap (λ (x : OrdersAnswer). x.earliersecond) e) i;
+      earlier_first = merge_back a.earlier_first (ap (λ (x : OrdersAnswer). x.earlier_first) e) i;
+      later_second = merge_back a.later_second (ap (λ (x : OrdersAnswer). x.later_second) e) i;
+      later_first = merge_back a.later_first (ap (λ (x : OrdersAnswer). x.later_first) e) i;
+      earlier_second = merge_back a.earlier_second (ap (λ (x : OrdersAnswer). x.earlier_second) e) i;
     }

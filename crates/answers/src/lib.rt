@@ -93,12 +93,12 @@ pub struct MergeAnswer {
     pub reused: u32,
     pub reread: u32,
     pub calls: u64,
-    pub cachehits: u64,
-    pub tablehits: u64,
+    pub cache_hits: u64,
+    pub table_hits: u64,
     pub allocs: u64,
-    pub longbypass: u64,
+    pub long_bypass: u64,
     pub resizes: u64,
-    pub probesteps: u64,
+    pub probe_steps: u64,
     pub tape: usize,
     pub bytes: usize,
 }
@@ -107,10 +107,10 @@ pub struct MergeAnswer {
 #[repr(C)]
 #[derive(Clone, Copy)]
 pub struct OrdersAnswer {
-    pub earlierfirst: MergeAnswer,
-    pub latersecond: MergeAnswer,
-    pub laterfirst: MergeAnswer,
-    pub earliersecond: MergeAnswer,
+    pub earlier_first: MergeAnswer,
+    pub later_second: MergeAnswer,
+    pub later_first: MergeAnswer,
+    pub earlier_second: MergeAnswer,
 }
 
 // The number of an answer that is nothing else: 0 where it is accepted.
@@ -298,12 +298,12 @@ impl From<Result<IncrementalOutput, Refusal>> for MergeAnswer {
                 reused: a.reused,
                 reread: a.reread,
                 calls: a.stats.calls,
-                cachehits: a.stats.cachehits,
-                tablehits: a.stats.tablehits,
+                cache_hits: a.stats.cache_hits,
+                table_hits: a.stats.table_hits,
                 allocs: a.stats.allocs,
-                longbypass: a.stats.longbypass,
+                long_bypass: a.stats.long_bypass,
                 resizes: a.stats.resizes,
-                probesteps: a.stats.probesteps,
+                probe_steps: a.stats.probe_steps,
                 tape: a.tape,
                 bytes: a.bytes,
             },
@@ -320,10 +320,10 @@ impl From<BothOrders> for OrdersAnswer {
 
     fn from(a: BothOrders) -> OrdersAnswer {
         OrdersAnswer {
-            earlierfirst: MergeAnswer::from(a.earlier_first),
-            latersecond: MergeAnswer::from(a.later_second),
-            laterfirst: MergeAnswer::from(a.later_first),
-            earliersecond: MergeAnswer::from(a.earlier_second),
+            earlier_first: MergeAnswer::from(a.earlier_first),
+            later_second: MergeAnswer::from(a.later_second),
+            later_first: MergeAnswer::from(a.later_first),
+            earlier_second: MergeAnswer::from(a.earlier_second),
         }
     }
 }

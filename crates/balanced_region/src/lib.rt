@@ -21,6 +21,8 @@ ghost use Rattle.balanced_region.specs.StartSearch.{gap_last, last_cut, ends_beh
 
 use cuts::{Depths, Source};
 
+// An offset that is asked about is another at each call, so that it lies in the text is said there.
+
 // The next offset to try for a cut that text and pairs allow: where a pair lies across, all up to its end are refused. The words hold a window
 // from one call to the next; why they are lent, and no part of a struct, is said at `Source::reach_at`.
 fn next_try(source: &Source, o: usize, words: &mut [u32]) -> usize

@@ -64,13 +64,13 @@ pub fn lookup_segments(tape: &[u8], bytes: &[u8], start: u32, len: u32) -> answe
 pub fn copy_book(
     tape: &[u8],
     bytes: &[u8],
-    outtape: &mut [u8],
-    outbytes: &mut [u8],
+    out_tape: &mut [u8],
+    out_bytes: &mut [u8],
 ) -> answers::CopyAnswer
-    ensures { let copy = copy_into tape.now bytes.now (length outtape.old) (length outbytes.old) in
+    ensures { let copy = copy_into tape.now bytes.now (length out_tape.old) (length out_bytes.old) in
         (result ≡ copy_answer (copied_of copy))
-        × (outtape.new ≡ copied_tape (length outtape.old) copy)
-        × (outbytes.new ≡ copied_bytes (length outbytes.old) copy) }
+        × (out_tape.new ≡ copied_tape (length out_tape.old) copy)
+        × (out_bytes.new ≡ copied_bytes (length out_bytes.old) copy) }
 {
-    answers::CopyAnswer::from(copy::copy_book(tape, bytes, outtape, outbytes))
+    answers::CopyAnswer::from(copy::copy_book(tape, bytes, out_tape, out_bytes))
 }

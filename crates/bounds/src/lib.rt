@@ -1,7 +1,8 @@
 // Where the records of a tape point, document 01 section 4 from 'Well formed' on: numbers 6 and 7 over the runs of nodes,
 // pairs, containers and diagnostics, and two questions of a book that passed them.
 // The nodes are walked once: `nodes_placed` tests spans, order and normalized offsets and sums images and spans for number 7.
-// A `requires` says only that the run lies inside the tape; of the search, that its nodes are in order, as number 6 tells.
+// A `requires` says only that the run lies inside the tape; of the search, that its nodes are in order, as number 6 tells. Each is called from one
+// place, so that a struct of tape, run and that fact would be made for one call.
 #![tactic(auto)]
 
 ghost use Rattle.std.specs.Prelude.{◌≡◌, ◌+◌, ◌*◌, ◌≤◌, ◌<◌, length};
@@ -26,9 +27,9 @@ pub fn span_ok(start: u32, end: u32, size: usize) -> bool
 pub fn pair_ok(p: records::PairLink, size: usize) -> bool
     ensures { result ≡ pair_ok size (pair_link_of p) }
 {
-    span_ok(p.openstart, p.openend, size)
-        && span_ok(p.closestart, p.closeend, size)
-        && p.openend <= p.closestart
+    span_ok(p.open_start, p.open_end, size)
+        && span_ok(p.close_start, p.close_end, size)
+        && p.open_end <= p.close_start
 }
 
 #[tactic(auto, using(std::proofs::lemmas::Bool::Decides::nat_tests), unfolding(model::specs::WellFormed::container_ok))]

@@ -43,26 +43,26 @@ fn copy_padded(out: &mut [u8], s: &[u8])
 pub fn copy_book(
     tape: &[u8],
     bytes: &[u8],
-    outtape: &mut [u8],
-    outbytes: &mut [u8],
+    out_tape: &mut [u8],
+    out_bytes: &mut [u8],
 ) -> Result<Copied, Refusal>
-    ensures { let copy = copy_into tape.now bytes.now (length outtape.old) (length outbytes.old) in
+    ensures { let copy = copy_into tape.now bytes.now (length out_tape.old) (length out_bytes.old) in
         (checked result ≡ copied_of copy)
-        × (outtape.new ≡ copied_tape (length outtape.old) copy)
-        × (outbytes.new ≡ copied_bytes (length outbytes.old) copy) }
+        × (out_tape.new ≡ copied_tape (length out_tape.old) copy)
+        × (out_bytes.new ≡ copied_bytes (length out_bytes.old) copy) }
 {
-    match check_copy(tape, bytes, outtape.len(), outbytes.len()) {
+    match check_copy(tape, bytes, out_tape.len(), out_bytes.len()) {
         Ok(()) => {
-            copy_padded(outtape, tape);
-            copy_padded(outbytes, bytes);
+            copy_padded(out_tape, tape);
+            copy_padded(out_bytes, bytes);
             Ok(Copied {
                 tape: tape.len(),
                 bytes: bytes.len(),
             })
         }
         Err(refusal) => {
-            wire::zero_from(outtape, 0);
-            wire::zero_from(outbytes, 0);
+            wire::zero_from(out_tape, 0);
+            wire::zero_from(out_bytes, 0);
             Err(refusal)
         }
     }

@@ -93,7 +93,7 @@ const WARICHU_OPEN: u8 = 4;
 
 const WARICHU_CLOSE: u8 = 5;
 
-// Blocks are opened and closed by nodes of their own, by class.
+// Blocks are opened and closed by nodes of their own, by class. A node is named by its place, as in crate `records`.
 #[tactic(auto, using(std::proofs::lemmas::Bool::Decides::nat_tests), unfolding(crate::specs::Depths::effect_of, model::specs::Tape::record_at, model::specs::Tape::operands_at, model::specs::Tape::node_codec))]
 fn block_effect(tape: &[u8], at: usize) -> Effect
     requires { at + 49 ≤ length tape.now }

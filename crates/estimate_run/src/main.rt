@@ -32,17 +32,17 @@ fn show(rt: &(impl Alloc + Print), c: cases::Case) -> io::Result<()> {
     let rest = c.replacement;
     let lent = wire::u32_or_zero(rest, 0).min(16384);
     let mut work = vec![in rt.alloc(); 7u32; lent as usize]?;
-    let readingtape = HEAD + wire::u32_or_zero(rest, 4) as usize;
-    let readingbytes = readingtape + wire::u32_or_zero(rest, 8) as usize;
+    let reading_tape = HEAD + wire::u32_or_zero(rest, 4) as usize;
+    let reading_bytes = reading_tape + wire::u32_or_zero(rest, 8) as usize;
     let book = stored(c.tape, c.bytes);
     let edit = Edit {
         start: c.start,
         end: c.end,
-        replacement: wire::between(rest, HEAD, readingtape),
+        replacement: wire::between(rest, HEAD, reading_tape),
     };
     let reading = stored(
-        wire::between(rest, readingtape, readingbytes),
-        wire::between(rest, readingbytes, rest.len()),
+        wire::between(rest, reading_tape, reading_bytes),
+        wire::between(rest, reading_bytes, rest.len()),
     );
     let price = estimate::estimate(&book, &Correction { edit, reading }, &mut work);
     rt.write_all(c.label)?;

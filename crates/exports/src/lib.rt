@@ -99,15 +99,15 @@ pub extern "C" fn aozora_lookup_segments(
 pub extern "C" fn aozora_copy_book(
     tape: &[u8],
     bytes: &[u8],
-    outtape: &mut [u8],
-    outbytes: &mut [u8],
+    out_tape: &mut [u8],
+    out_bytes: &mut [u8],
 ) -> answers::CopyAnswer
-    ensures { let copy = copy_into tape.now bytes.now (length outtape.old) (length outbytes.old) in
+    ensures { let copy = copy_into tape.now bytes.now (length out_tape.old) (length out_bytes.old) in
         (result ≡ copy_answer (copied_of copy))
-        × (outtape.new ≡ copied_tape (length outtape.old) copy)
-        × (outbytes.new ≡ copied_bytes (length outbytes.old) copy) }
+        × (out_tape.new ≡ copied_tape (length out_tape.old) copy)
+        × (out_bytes.new ≡ copied_bytes (length out_bytes.old) copy) }
 {
-    book_answers::copy_book(tape, bytes, outtape, outbytes)
+    book_answers::copy_book(tape, bytes, out_tape, out_bytes)
 }
 
 #[unsafe(no_mangle)]
@@ -132,11 +132,11 @@ pub extern "C" fn aozora_estimate<'a>(
     start: u32,
     end: u32,
     replacement: &'a [u8],
-    readingtape: &'a [u8],
-    readingbytes: &'a [u8],
+    reading_tape: &'a [u8],
+    reading_bytes: &'a [u8],
     work: &mut [u32],
 ) -> answers::PriceAnswer
-    ensures { (result ≡ price_answer (estimate_of (estimate (stored_of tape.now bytes.now) (edit_of start end replacement.now) (stored_of readingtape.now readingbytes.now))))
+    ensures { (result ≡ price_answer (estimate_of (estimate (stored_of tape.now bytes.now) (edit_of start end replacement.now) (stored_of reading_tape.now reading_bytes.now))))
         × (work.new ≡ zeros (length work.old)) }
 {
     let book = Stored { tape, bytes };
@@ -146,8 +146,8 @@ pub extern "C" fn aozora_estimate<'a>(
         replacement,
     };
     let reading = Stored {
-        tape: readingtape,
-        bytes: readingbytes,
+        tape: reading_tape,
+        bytes: reading_bytes,
     };
     answers::PriceAnswer::from(estimate::estimate(&book, &Correction { edit, reading }, work))
 }
@@ -159,16 +159,16 @@ pub extern "C" fn aozora_merge<'a>(
     start: u32,
     end: u32,
     replacement: &'a [u8],
-    readingtape: &'a [u8],
-    readingbytes: &'a [u8],
-    outtape: &mut [u8],
-    outbytes: &mut [u8],
+    reading_tape: &'a [u8],
+    reading_bytes: &'a [u8],
+    out_tape: &mut [u8],
+    out_bytes: &mut [u8],
     work: &mut [u32],
 ) -> answers::MergeAnswer
     ensures { Merged
-        (merge (record { tape = tape.now; bytes = bytes.now }) (edit_of start end replacement.now) (record { tape = readingtape.now; bytes = readingbytes.now })
-        (room_of outtape.old outbytes.old work.old))
-        (room_of outtape.old outbytes.old work.old) (output_read result) outtape.new outbytes.new work.new × (result ≡ merge_answer (output_read result)) }
+        (merge (record { tape = tape.now; bytes = bytes.now }) (edit_of start end replacement.now) (record { tape = reading_tape.now; bytes = reading_bytes.now })
+        (room_of out_tape.old out_bytes.old work.old))
+        (room_of out_tape.old out_bytes.old work.old) (output_read result) out_tape.new out_bytes.new work.new × (result ≡ merge_answer (output_read result)) }
 {
     let book = Stored { tape, bytes };
     let edit = Edit {
@@ -177,14 +177,14 @@ pub extern "C" fn aozora_merge<'a>(
         replacement,
     };
     let reading = Stored {
-        tape: readingtape,
-        bytes: readingbytes,
+        tape: reading_tape,
+        bytes: reading_bytes,
     };
     let merged = incremental::merge(
         &book,
         &Correction { edit, reading },
-        outtape,
-        outbytes,
+        out_tape,
+        out_bytes,
         work,
     );
     answers::MergeAnswer::from(merged)
@@ -197,13 +197,13 @@ pub extern "C" fn aozora_merge_both_orders<'a>(
     start1: u32,
     end1: u32,
     replacement1: &'a [u8],
-    readingtape1: &'a [u8],
-    readingbytes1: &'a [u8],
+    reading_tape1: &'a [u8],
+    reading_bytes1: &'a [u8],
     start2: u32,
     end2: u32,
     replacement2: &'a [u8],
-    readingtape2: &'a [u8],
-    readingbytes2: &'a [u8],
+    reading_tape2: &'a [u8],
+    reading_bytes2: &'a [u8],
     tape1: &mut [u8],
     bytes1: &mut [u8],
     tape2: &mut [u8],
@@ -215,8 +215,8 @@ pub extern "C" fn aozora_merge_both_orders<'a>(
     work: &mut [u32],
 ) -> answers::OrdersAnswer
     ensures { MergedBothOrders (stored_of tape.now bytes.now)
-        (correction_of start1 end1 replacement1.now readingtape1.now readingbytes1.now)
-        (correction_of start2 end2 replacement2.now readingtape2.now readingbytes2.now)
+        (correction_of start1 end1 replacement1.now reading_tape1.now reading_bytes1.now)
+        (correction_of start2 end2 replacement2.now reading_tape2.now reading_bytes2.now)
         (room_of tape1.old bytes1.old work.old)
         (room_of tape2.old bytes2.old work.old)
         (room_of tape3.old bytes3.old work.old)
@@ -233,8 +233,8 @@ pub extern "C" fn aozora_merge_both_orders<'a>(
             replacement: replacement1,
         },
         reading: Stored {
-            tape: readingtape1,
-            bytes: readingbytes1,
+            tape: reading_tape1,
+            bytes: reading_bytes1,
         },
     };
     let later = Correction {
@@ -244,8 +244,8 @@ pub extern "C" fn aozora_merge_both_orders<'a>(
             replacement: replacement2,
         },
         reading: Stored {
-            tape: readingtape2,
-            bytes: readingbytes2,
+            tape: reading_tape2,
+            bytes: reading_bytes2,
         },
     };
     answers::OrdersAnswer::from(orders::merge_both_orders(

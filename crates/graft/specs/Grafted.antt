@@ -27,10 +27,10 @@ layer_from p work strs m = record {
 
 -- where the next content and the next segment are written
 abbrev pub content_at : Plan → Mark → ℕ
-content_at p m = p.contentsat + 10 * m.contents
+content_at p m = p.contents_at + 10 * m.contents
 
 abbrev pub segment_at : Plan → Mark → ℕ
-segment_at p m = p.segmentsat + 37 * m.segments
+segment_at p m = p.segments_at + 37 * m.segments
 
 -- the items that the layer g has, written from there on
 abbrev pub laid : Plan → Mark → List ℕ → NewLayer → List ℕ
@@ -42,8 +42,8 @@ pub record Sized (g : NewLayer) : Type 0 where
   pub segments : length (records_bytes segment_codec g.segments) ≡ 37 * length g.segments
 
 pub record Roomy (p : Plan) (m : Mark) (out : List ℕ) (g : NewLayer) : Type 0 where
-  pub contents : p.contentsat + 10 * (m.contents + length g.contents) ≤ p.segmentsat
-  pub segments : p.segmentsat + 37 * (m.segments + length g.segments) ≤ length out
+  pub contents : p.contents_at + 10 * (m.contents + length g.contents) ≤ p.segments_at
+  pub segments : p.segments_at + 37 * (m.segments + length g.segments) ≤ length out
 
 pub empty_sized : (p : Plan) (work strs : List ℕ) (m : Mark) → Sized (layer_from p work strs m)
 unfolding records_bytes flatten

@@ -63,7 +63,7 @@ module _ {t d : List ℕ} {st : Store} {p : Plan} {m : Mark} {out work strs : Li
   pub contents_ready : Ready t d p m out work strs own
   contents_ready = ready_left own (new_contents len) (rw (whole ∙ add_comm (new_contents len) own) at y)
 
-  pub contents_high : p.contentsat + 10 * (m.contents + own.contents + len) ≤ p.segmentsat
+  pub contents_high : p.contents_at + 10 * (m.contents + own.contents + len) ≤ p.segments_at
   unfolding add
   contents_high = let s = rw whole at y.space in omega (arith, s.contents)
 
@@ -112,7 +112,7 @@ module _ {t d : List ℕ} {st : Store} {p : Plan} {m : Mark} {out work strs : Li
   pub segments_ready : Ready t d p m out work strs theirs
   segments_ready = ready_left theirs (new_segments len) (rw (all_theirs ∙ add_comm (new_segments len) theirs) at y)
 
-  pub segments_high : p.segmentsat + 37 * (m.segments + theirs.segments + len) ≤ length out
+  pub segments_high : p.segments_at + 37 * (m.segments + theirs.segments + len) ≤ length out
   unfolding add
   segments_high = let s = rw all_theirs at y.space in omega (arith, s.segments)
 

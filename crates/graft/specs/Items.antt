@@ -52,22 +52,22 @@ module _ (t : List ℕ) (st : Store) (at : ℕ) (c : ContentRead) (e : content_o
     module _ (z : c.tag ≡ 0) where
       pub plain_refused : StartTold t d p m out work strs out₁ work₁ strs₁ r None (graft_str (resolve_str (source_store t d) c.first) (layer_from p work strs m))
           → ContentsTold t d p m to out work strs out₁ work₁ strs₁ r false (shown_contents l t d (record_at content_codec t at ∷ []) (layer_from p work strs m))
-      plain_refused x = rw (← e) (item_refused content_codec p m (p.contentsat + 10 * to) out work strs x.told (one_plain l t d (content_of c) (layer_from p work strs m) z) refl)
+      plain_refused x = rw (← e) (item_refused content_codec p m (p.contents_at + 10 * to) out work strs x.told (one_plain l t d (content_of c) (layer_from p work strs m) z) refl)
 
       pub plain_made : (id : ℕ) → StartTold t d p m out work strs out₁ work₁ strs₁ r (Some id) (graft_str (resolve_str (source_store t d) c.first) (layer_from p work strs m))
-          → {out₂ : List ℕ} → out₂ ≡ overwrite out₁ (p.contentsat + 10 * to) (record_bytes content_codec (record { tag = 0; first = id; second = 0 }))
+          → {out₂ : List ℕ} → out₂ ≡ overwrite out₁ (p.contents_at + 10 * to) (record_bytes content_codec (record { tag = 0; first = id; second = 0 }))
           → ContentsTold t d p m to out work strs out₂ work₁ strs₁ r true (shown_contents l t d (record_at content_codec t at ∷ []) (layer_from p work strs m))
-      plain_made id x w = rw (← e) (item_made content_codec p m (p.contentsat + 10 * to) out work strs x.told (one_plain l t d (content_of c) (layer_from p work strs m) z) (content_with 0 0 id) (ap (content_with 0 0) (x.start id refl)) w)
+      plain_made id x w = rw (← e) (item_made content_codec p m (p.contents_at + 10 * to) out work strs x.told (one_plain l t d (content_of c) (layer_from p work strs m) z) (content_with 0 0 id) (ap (content_with 0 0) (x.start id refl)) w)
 
     module _ (source : Source t d st) (h : segments_in st c.first c.second ≡ true) (z : c.tag ≡ 0 → ⊥) where
       pub run_refused : StartTold t d p m out work strs out₁ work₁ strs₁ r None (segment_run_from l t d c.first c.second (layer_from p work strs m))
           → ContentsTold t d p m to out work strs out₁ work₁ strs₁ r false (shown_contents l t d (record_at content_codec t at ∷ []) (layer_from p work strs m))
-      run_refused x = rw (← e) (item_refused content_codec p m (p.contentsat + 10 * to) out work strs x.told (one_segments l t d (content_of c) (layer_from p work strs m) st source h z) refl)
+      run_refused x = rw (← e) (item_refused content_codec p m (p.contents_at + 10 * to) out work strs x.told (one_segments l t d (content_of c) (layer_from p work strs m) st source h z) refl)
 
       pub run_made : (start : ℕ) → StartTold t d p m out work strs out₁ work₁ strs₁ r (Some start) (segment_run_from l t d c.first c.second (layer_from p work strs m))
-          → {out₂ : List ℕ} → out₂ ≡ overwrite out₁ (p.contentsat + 10 * to) (record_bytes content_codec (record { tag = 1; first = start; second = c.second }))
+          → {out₂ : List ℕ} → out₂ ≡ overwrite out₁ (p.contents_at + 10 * to) (record_bytes content_codec (record { tag = 1; first = start; second = c.second }))
           → ContentsTold t d p m to out work strs out₂ work₁ strs₁ r true (shown_contents l t d (record_at content_codec t at ∷ []) (layer_from p work strs m))
-      run_made start x w = rw (← e) (item_made content_codec p m (p.contentsat + 10 * to) out work strs x.told (one_segments l t d (content_of c) (layer_from p work strs m) st source h z) (content_with 1 c.second start) (ap (content_with 1 c.second) (x.start start refl)) w)
+      run_made start x w = rw (← e) (item_made content_codec p m (p.contents_at + 10 * to) out work strs x.told (one_segments l t d (content_of c) (layer_from p work strs m) st source h z) (content_with 1 c.second start) (ap (content_with 1 c.second) (x.start start refl)) w)
 
 -- ---- a segment
 
@@ -99,10 +99,10 @@ module _ (t d : List ℕ) (at : ℕ) (s : SegmentRead) (e : segment_of s ≡ rec
 
   module _ (p : Plan) (m : Mark) (to : ℕ) (out work strs : List ℕ) where
     pub segment_zero : (l : ℕ) → l ≡ 0 → Told t d p m out work strs out work strs m true (layer_from p work strs m) → {out₂ : List ℕ}
-        → out₂ ≡ overwrite out (p.segmentsat + 37 * to) (record_bytes segment_codec (with_body zero_body))
+        → out₂ ≡ overwrite out (p.segments_at + 37 * to) (record_bytes segment_codec (with_body zero_body))
         → SegmentsTold t d p m to out work strs out₂ work strs m true (shown_segments l t d (record_at segment_codec t at ∷ []) (layer_from p work strs m))
     segment_zero l z k w =
-        rw (← e) (item_made segment_codec p m (p.segmentsat + 37 * to) out work strs k (one_zero t d (segment_of s) (layer_from p work strs m) l z) (with_body zero_body) refl w)
+        rw (← e) (item_made segment_codec p m (p.segments_at + 37 * to) out work strs k (one_zero t d (segment_of s) (layer_from p work strs m) l z) (with_body zero_body) refl w)
 
     module _ (l : ℕ) (z : l ≡ 0 → ⊥) where
       below : shown_segments l t d (segment_of s ∷ []) (layer_from p work strs m)
@@ -118,11 +118,11 @@ module _ (t d : List ℕ) (at : ℕ) (s : SegmentRead) (e : segment_of s ≡ rec
 
         pub below_refused : WordsTold t d p m out work strs out₁ work₁ strs₁ r None (body_from (l - 1) t d p work strs m (body_at t (at + 3)) 6)
             → SegmentsTold t d p m to out work strs out₁ work₁ strs₁ r false (shown_segments l t d (record_at segment_codec t at ∷ []) (layer_from p work strs m))
-        below_refused x = rw (← e) (item_refused segment_codec p m (p.segmentsat + 37 * to) out work strs (told_here x).told below refl)
+        below_refused x = rw (← e) (item_refused segment_codec p m (p.segments_at + 37 * to) out work strs (told_here x).told below refl)
 
         pub below_made : (own : List ℕ) → WordsTold t d p m out work strs out₁ work₁ strs₁ r (Some own) (body_from (l - 1) t d p work strs m (body_at t (at + 3)) 6) → {out₂ : List ℕ}
-            → out₂ ≡ overwrite out₁ (p.segmentsat + 37 * to) (record_bytes segment_codec (with_own own))
+            → out₂ ≡ overwrite out₁ (p.segments_at + 37 * to) (record_bytes segment_codec (with_own own))
             → SegmentsTold t d p m to out work strs out₂ work₁ strs₁ r true (shown_segments l t d (record_at segment_codec t at ∷ []) (layer_from p work strs m))
         below_made own x w =
             let y = told_here x in
-            rw (← e) (item_made segment_codec p m (p.segmentsat + 37 * to) out work strs y.told below (with_own own) (ap with_own (y.words own refl)) w)
+            rw (← e) (item_made segment_codec p m (p.segments_at + 37 * to) out work strs y.told below (with_own own) (ap with_own (y.words own refl)) w)

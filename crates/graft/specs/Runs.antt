@@ -30,7 +30,7 @@ pub record ItemsTold {A : Type 0} (t d : List ℕ) (k : Codec A) (p : Plan) (m :
 
 -- n bytes from `place` on meet neither the new contents nor the new segments, so many of each
 abbrev pub Clear : Plan → Mark → ℕ → ℕ → ℕ → ℕ → ℕ → Type 0
-Clear p m size contents segments place n = Apart (p.contentsat + 10 * (m.contents + contents)) p.segmentsat (p.segmentsat + 37 * (m.segments + segments)) size place n
+Clear p m size contents segments place n = Apart (p.contents_at + 10 * (m.contents + contents)) p.segments_at (p.segments_at + 37 * (m.segments + segments)) size place n
 
 -- a step below pending items
 under_step : {t d : List ℕ} {p : Plan} {m : Mark} {out work strs out' work' strs' : List ℕ} {r : Mark} {g : NewLayer} (under : List ℕ) → Made t d p m out work strs out' work' strs' r g → Made t d p m under work strs (laid p m under g) work' strs' r g
@@ -80,7 +80,7 @@ with_segments r n = record { contents = r.contents; segments = n; state = r.stat
 
 module _ {t d : List ℕ} (p : Plan) (m : Mark) (to : ℕ) (out work strs : List ℕ) {out' work' strs' : List ℕ} {r : Mark} {g : NewLayer} (sg : Sized g) where
   pub contents_pushed : {items : List Content} → to ≡ m.contents + length g.contents → length (records_bytes content_codec items) ≡ 10 * length items
-      → Roomy p m out (push_contents items g).1 → ItemsSoFar t d content_codec p m (p.contentsat + 10 * to) out work strs out' work' strs' r items g
+      → Roomy p m out (push_contents items g).1 → ItemsSoFar t d content_codec p m (p.contents_at + 10 * to) out work strs out' work' strs' r items g
       → (n : ℕ) → n ≡ to + length items → Made t d p m out work strs out' work' strs' (with_contents r n) (push_contents items g).1
   unfolding push_contents
   contents_pushed {items} e si room a n f =
@@ -92,8 +92,8 @@ module _ {t d : List ℕ} (p : Plan) (m : Mark) (to : ℕ) (out work strs : List
         contents = omega (arith, e, f, x);
         segments = a.made.segments;
         wrote =
-            a.wrote ∙ ap (λ (d : List ℕ). overwrite d (p.contentsat + 10 * to) bytes) a.made.wrote
-            ∙ push_first out (content_at p m) (segment_at p m) (records_bytes content_codec g.contents) (records_bytes segment_codec g.segments) (p.contentsat + 10 * to) bytes
+            a.wrote ∙ ap (λ (d : List ℕ). overwrite d (p.contents_at + 10 * to) bytes) a.made.wrote
+            ∙ push_first out (content_at p m) (segment_at p m) (records_bytes content_codec g.contents) (records_bytes segment_codec g.segments) (p.contents_at + 10 * to) bytes
             (omega (arith, e, sg.contents)) (omega (arith, e, si, x, room.contents)) (omega (arith, sg.segments, room.segments))
             ∙ ap (λ (l : List ℕ). blocks out (content_at p m) (segment_at p m) l (records_bytes segment_codec g.segments)) (sym (bytes_append content_codec g.contents items));
         base = a.made.base;
@@ -104,7 +104,7 @@ module _ {t d : List ℕ} (p : Plan) (m : Mark) (to : ℕ) (out work strs : List
       }
 
   pub segments_pushed : {items : List Segment} → to ≡ m.segments + length g.segments → length (records_bytes segment_codec items) ≡ 37 * length items
-      → Roomy p m out (push_segments items g).1 → ItemsSoFar t d segment_codec p m (p.segmentsat + 37 * to) out work strs out' work' strs' r items g
+      → Roomy p m out (push_segments items g).1 → ItemsSoFar t d segment_codec p m (p.segments_at + 37 * to) out work strs out' work' strs' r items g
       → (n : ℕ) → n ≡ to + length items → Made t d p m out work strs out' work' strs' (with_segments r n) (push_segments items g).1
   unfolding push_segments
   segments_pushed {items} e si room a n f =
@@ -116,8 +116,8 @@ module _ {t d : List ℕ} (p : Plan) (m : Mark) (to : ℕ) (out work strs : List
         contents = a.made.contents;
         segments = omega (arith, e, f, x);
         wrote =
-            a.wrote ∙ ap (λ (d : List ℕ). overwrite d (p.segmentsat + 37 * to) bytes) a.made.wrote
-            ∙ push_second out (content_at p m) (segment_at p m) (records_bytes content_codec g.contents) (records_bytes segment_codec g.segments) (p.segmentsat + 37 * to) bytes
+            a.wrote ∙ ap (λ (d : List ℕ). overwrite d (p.segments_at + 37 * to) bytes) a.made.wrote
+            ∙ push_second out (content_at p m) (segment_at p m) (records_bytes content_codec g.contents) (records_bytes segment_codec g.segments) (p.segments_at + 37 * to) bytes
             (omega (arith, sg.contents, room.contents)) (omega (arith, e, sg.segments)) (omega (arith, e, si, x, room.segments))
             ∙ ap (blocks out (content_at p m) (segment_at p m) (records_bytes content_codec g.contents)) (sym (bytes_append segment_codec g.segments items));
         base = a.made.base;

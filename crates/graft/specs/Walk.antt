@@ -55,8 +55,8 @@ shown_segments l t d ss = graft_segments (show_segments (show_inner l (source_st
 
 -- Numbers 3 and 18 of what is added: places in the tape, numbers and calls. `size` is the length of the tape.
 pub record Space (p : Plan) (m : Mark) (size : ℕ) (a : Added) : Type 0 where
-  pub contents : p.contentsat + 10 * (m.contents + a.contents) ≤ p.segmentsat
-  pub segments : p.segmentsat + 37 * (m.segments + a.segments) ≤ size
+  pub contents : p.contents_at + 10 * (m.contents + a.contents) ≤ p.segments_at
+  pub segments : p.segments_at + 37 * (m.segments + a.segments) ≤ size
   pub content_numbers : p.contents + m.contents + a.contents < 2 ^ 32
   pub segment_numbers : p.segments + m.segments + a.segments < 2 ^ 32
   pub string_numbers : p.strings + 4096 < 2 ^ 32
@@ -76,10 +76,10 @@ pub record WordsTold (t d : List ℕ) (p : Plan) (m : Mark) (out work strs out' 
 
 -- a run's items at their final places, the first at number `to`
 abbrev pub ContentsTold : List ℕ → List ℕ → Plan → Mark → ℕ → List ℕ → List ℕ → List ℕ → List ℕ → List ℕ → List ℕ → Mark → Bool → With (List Content) → Type 0
-ContentsTold t d p m to = ItemsTold t d content_codec p m (p.contentsat + 10 * to)
+ContentsTold t d p m to = ItemsTold t d content_codec p m (p.contents_at + 10 * to)
 
 abbrev pub SegmentsTold : List ℕ → List ℕ → Plan → Mark → ℕ → List ℕ → List ℕ → List ℕ → List ℕ → List ℕ → List ℕ → Mark → Bool → With (List Segment) → Type 0
-SegmentsTold t d p m to = ItemsTold t d segment_codec p m (p.segmentsat + 37 * to)
+SegmentsTold t d p m to = ItemsTold t d segment_codec p m (p.segments_at + 37 * to)
 
 -- ---- what the functions of the walk graft
 

@@ -61,8 +61,8 @@ pub struct Plan {
     pub strings: u32,
     pub contents: u32,
     pub segments: u32,
-    pub contentsat: usize,
-    pub segmentsat: usize,
+    pub contents_at: usize,
+    pub segments_at: usize,
 }
 
 // How far the walk is: contents and segments pushed, and the interner. `answered`: the representative of the last answer's string,
@@ -332,7 +332,7 @@ fn graft_contents(
 ) -> Option<()>
     requires ready { Ready w.now.tape.now w.now.bytes.now w.now.plan m.old out.old work.old strs.old (contents_add (inner_adds level w.now.tape.now w.now.st.now) w.now.tape.now w.now.st.now run.at run.count) }
     requires count_in_bounds { (run.at + 10 * run.count ≤ length w.now.tape.now) × (all (content_in w.now.st.now) (records_at content_codec w.now.tape.now run.at run.count) ≡ true) }
-    requires count_bound { (m.old.contents + (contents_add (inner_adds level w.now.tape.now w.now.st.now) w.now.tape.now w.now.st.now run.at run.count).contents ≤ to) × (w.now.plan.contentsat + 10 * (to + run.count) ≤ w.now.plan.segmentsat) × (to + run.count < 2 ^ 32) }
+    requires count_bound { (m.old.contents + (contents_add (inner_adds level w.now.tape.now w.now.st.now) w.now.tape.now w.now.st.now run.at run.count).contents ≤ to) × (w.now.plan.contents_at + 10 * (to + run.count) ≤ w.now.plan.segments_at) × (to + run.count < 2 ^ 32) }
     ensures { ContentsTold w.now.tape.now w.now.bytes.now w.now.plan m.old to out.old work.old strs.old out.new work.new strs.new m.new (is_some result)
         (shown_contents level w.now.tape.now w.now.bytes.now (records_at content_codec w.now.tape.now run.at run.count) (layer_from w.now.plan work.old strs.old m.old)) }
 {
@@ -356,12 +356,12 @@ fn graft_content(
 ) -> Option<()>
     requires ready { Ready w.now.tape.now w.now.bytes.now w.now.plan m.old out.old work.old strs.old (content_adds (inner_adds level w.now.tape.now w.now.st.now) w.now.tape.now w.now.st.now (record_at content_codec w.now.tape.now at)) }
     requires at_in_bounds { (at + 10 ≤ length w.now.tape.now) × (content_in w.now.st.now (record_at content_codec w.now.tape.now at) ≡ true) }
-    requires at_bound { (m.old.contents + (content_adds (inner_adds level w.now.tape.now w.now.st.now) w.now.tape.now w.now.st.now (record_at content_codec w.now.tape.now at)).contents ≤ to) × (w.now.plan.contentsat + 10 * (to + 1) ≤ w.now.plan.segmentsat) }
+    requires at_bound { (m.old.contents + (content_adds (inner_adds level w.now.tape.now w.now.st.now) w.now.tape.now w.now.st.now (record_at content_codec w.now.tape.now at)).contents ≤ to) × (w.now.plan.contents_at + 10 * (to + 1) ≤ w.now.plan.segments_at) }
     ensures { ContentsTold w.now.tape.now w.now.bytes.now w.now.plan m.old to out.old work.old strs.old out.new work.new strs.new m.new (is_some result)
         (shown_contents level w.now.tape.now w.now.bytes.now (record_at content_codec w.now.tape.now at ∷ []) (layer_from w.now.plan work.old strs.old m.old)) }
 {
     let c = records::content_at(w.tape, at);
-    let place = w.plan.contentsat + 10 * (to as usize);
+    let place = w.plan.contents_at + 10 * (to as usize);
     if c.is_plain() {
         let id = graft_str(w, work, strs, m, c.first)?;
         put_records::put_content(out, place, 0, id, 0);
@@ -416,7 +416,7 @@ fn graft_segments(
 ) -> Option<()>
     requires ready { Ready w.now.tape.now w.now.bytes.now w.now.plan m.old out.old work.old strs.old (segments_add (inner_adds level w.now.tape.now w.now.st.now) w.now.tape.now run.at run.count) }
     requires count_in_bounds { (run.at + 37 * run.count ≤ length w.now.tape.now) × (all (segment_in w.now.st.now) (records_at segment_codec w.now.tape.now run.at run.count) ≡ true) }
-    requires count_bound { (m.old.segments + (segments_add (inner_adds level w.now.tape.now w.now.st.now) w.now.tape.now run.at run.count).segments ≤ to) × (w.now.plan.segmentsat + 37 * (to + run.count) ≤ length out.old) × (to + run.count < 2 ^ 32) }
+    requires count_bound { (m.old.segments + (segments_add (inner_adds level w.now.tape.now w.now.st.now) w.now.tape.now run.at run.count).segments ≤ to) × (w.now.plan.segments_at + 37 * (to + run.count) ≤ length out.old) × (to + run.count < 2 ^ 32) }
     ensures { SegmentsTold w.now.tape.now w.now.bytes.now w.now.plan m.old to out.old work.old strs.old out.new work.new strs.new m.new (is_some result)
         (shown_segments level w.now.tape.now w.now.bytes.now (records_at segment_codec w.now.tape.now run.at run.count) (layer_from w.now.plan work.old strs.old m.old)) }
 {
@@ -440,11 +440,11 @@ fn graft_segment(
 ) -> Option<()>
     requires ready { Ready w.now.tape.now w.now.bytes.now w.now.plan m.old out.old work.old strs.old (inner_adds level w.now.tape.now w.now.st.now (record_at segment_codec w.now.tape.now at).body) }
     requires at_in_bounds { (at + 37 ≤ length w.now.tape.now) × (segment_in w.now.st.now (record_at segment_codec w.now.tape.now at) ≡ true) }
-    requires at_bound { (m.old.segments + (inner_adds level w.now.tape.now w.now.st.now (record_at segment_codec w.now.tape.now at).body).segments ≤ to) × (w.now.plan.segmentsat + 37 * (to + 1) ≤ length out.old) }
+    requires at_bound { (m.old.segments + (inner_adds level w.now.tape.now w.now.st.now (record_at segment_codec w.now.tape.now at).body).segments ≤ to) × (w.now.plan.segments_at + 37 * (to + 1) ≤ length out.old) }
     ensures { SegmentsTold w.now.tape.now w.now.bytes.now w.now.plan m.old to out.old work.old strs.old out.new work.new strs.new m.new (is_some result)
         (shown_segments level w.now.tape.now w.now.bytes.now (record_at segment_codec w.now.tape.now at ∷ []) (layer_from w.now.plan work.old strs.old m.old)) }
 {
-    let place = w.plan.segmentsat + 37 * (to as usize);
+    let place = w.plan.segments_at + 37 * (to as usize);
     let s = records::segment_at(w.tape, at);
     if level == 0 {
         put_records::put_segment(out, place, Segment { body: NO_BODY, ..s });

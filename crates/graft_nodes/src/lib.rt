@@ -70,7 +70,7 @@ pub fn graft_nodes(
 ) -> Option<()>
     requires ready { Ready w.now.tape.now w.now.bytes.now w.now.plan m.old out.old work.old strs.old (nodes_add w.now.tape.now w.now.st.now run.at run.count) }
     requires count_in_bounds { (run.at + 49 * run.count ≤ length w.now.tape.now) × (all (node_in w.now.st.now) (records_at node_codec w.now.tape.now run.at run.count) ≡ true) }
-    requires count_bound { (w.now.plan.segmentsat + 37 * (m.old.segments + (nodes_add w.now.tape.now w.now.st.now run.at run.count).segments) ≤ nodesat) × (nodesat + 49 * run.count ≤ length out.old) }
+    requires count_bound { (w.now.plan.segments_at + 37 * (m.old.segments + (nodes_add w.now.tape.now w.now.st.now run.at run.count).segments) ≤ nodesat) × (nodesat + 49 * run.count ≤ length out.old) }
     ensures { NodesTold w.now.tape.now w.now.bytes.now w.now.plan m.old nodesat out.old work.old strs.old out.new work.new strs.new m.new (is_some result)
         (refs_from w.now.plan work.old strs.old m.old (shown_of w.now.tape.now w.now.bytes.now (records_at node_codec w.now.tape.now run.at run.count))) }
 {

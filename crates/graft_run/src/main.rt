@@ -32,7 +32,7 @@ fn put_layer(
     )?;
     print!(rt;
         ", calls {} cache hits {} table hits {} allocs {} long {} resizes {} probes {}",
-        c.calls, c.cachehits, c.tablehits, c.allocs, c.longbypass, c.resizes, c.probesteps,
+        c.calls, c.cache_hits, c.table_hits, c.allocs, c.long_bypass, c.resizes, c.probe_steps,
     )?;
     print!(rt;
         ", tape {:016x} strings {:016x}",

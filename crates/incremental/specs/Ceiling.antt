@@ -28,10 +28,10 @@ module _ (book : Stored) (c : Correction) (room : Room) {r : Output} {out text w
       (merge_ceiling book c.edit c.reading room value.0 value.1)
 
   -- Where m is not known: it is at most the number of strings of a new layer.
-  pub merged_most : r.stats.probesteps ≤ r.stats.calls * max_new_strings
+  pub merged_most : r.stats.probe_steps ≤ r.stats.calls * max_new_strings
   unfolding output_value
   merged_most =
-      subst (λ (x : Output). x.stats.probesteps ≤ x.stats.calls * max_new_strings) (sym value.2)
+      subst (λ (x : Output). x.stats.probe_steps ≤ x.stats.calls * max_new_strings) (sym value.2)
       (merge_most book c.edit c.reading room value.0 value.1)
 
 -- The counts hang on the reading alone: merged into another book, by another edit or in another order, it has the same.

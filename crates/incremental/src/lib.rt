@@ -18,11 +18,11 @@ use region::Book;
 fn merge_checked<'a>(
     book: &Stored<'a>,
     correction: &Correction<'a>,
-    outtape: &mut [u8],
-    outbytes: &mut [u8],
+    out_tape: &mut [u8],
+    out_bytes: &mut [u8],
     work: &mut [u32],
 ) -> Result<IncrementalOutput, Refusal>
-    ensures { Written (merge_of (stored_value book.now) (correction_value correction.now) (room_of outtape.old outbytes.old work.old)) (checked result) outtape.old outbytes.old work.old outtape.new outbytes.new work.new }
+    ensures { Written (merge_of (stored_value book.now) (correction_value correction.now) (room_of out_tape.old out_bytes.old work.old)) (checked result) out_tape.old out_bytes.old work.old out_tape.new out_bytes.new work.new }
 {
     let f = fitting::fitted(book, correction, work)?;
     let book = Book {
@@ -43,21 +43,21 @@ fn merge_checked<'a>(
         window: f.w,
         reading,
     };
-    result::merge_books(&merging, outtape, outbytes, work)
+    result::merge_books(&merging, out_tape, out_bytes, work)
 }
 
 // `merge`: the merged book in both result buffers, zeros behind it, and zeros in all work words; after a refusal zeros everywhere.
 pub fn merge(
     book: &Stored,
     correction: &Correction,
-    outtape: &mut [u8],
-    outbytes: &mut [u8],
+    out_tape: &mut [u8],
+    out_bytes: &mut [u8],
     work: &mut [u32],
 ) -> Result<IncrementalOutput, Refusal>
-    ensures { Merged (merge_of (stored_value book.now) (correction_value correction.now) (room_of outtape.old outbytes.old work.old)) (room_of outtape.old outbytes.old work.old) (checked result) outtape.new outbytes.new work.new }
+    ensures { Merged (merge_of (stored_value book.now) (correction_value correction.now) (room_of out_tape.old out_bytes.old work.old)) (room_of out_tape.old out_bytes.old work.old) (checked result) out_tape.new out_bytes.new work.new }
 {
-    let r = merge_checked(book, correction, outtape, outbytes, work);
-    let (tapeend, bytesend) = output::taken(r);
-    output::clear_rest(outtape, outbytes, work, tapeend, bytesend);
+    let r = merge_checked(book, correction, out_tape, out_bytes, work);
+    let (tape_end, bytes_end) = output::taken(r);
+    output::clear_rest(out_tape, out_bytes, work, tape_end, bytes_end);
     r
 }

@@ -1,6 +1,7 @@
 // A call of the interner, section 2 of document 01: each is proved equal to model's `intern`, id, strings, table, last answer and
 // counts. The state is crate `interner`'s. It, the words and the bytes are lent side by side to each call, and no struct holds them:
-// between two calls the words from 15360 on are others', so that it would have to be made anew each time.
+// between two calls the words from 15360 on are others', so that it would have to be made anew each time. That a table is there and has room
+// holds within one call alone, from `table_for` on.
 #![tactic(auto)]
 
 ghost use Rattle.std.specs.Prelude.{◌≡◌, true, Some, List, ℕ, ◌-◌, ◌*◌, ◌^◌, ◌<◌, ◌≤◌, get_or};

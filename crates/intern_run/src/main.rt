@@ -28,15 +28,16 @@ fn show(rt: &impl Print, label: &str, st: &StrInterner, id: Option<u32>) -> io::
     put(rt, " slots ", st.slots as u64)?;
     put(rt, " strings ", st.count as u64)?;
     put(rt, " calls ", c.calls)?;
-    put(rt, " cache ", c.cachehits)?;
-    put(rt, " table ", c.tablehits)?;
+    put(rt, " cache ", c.cache_hits)?;
+    put(rt, " table ", c.table_hits)?;
     put(rt, " allocs ", c.allocs)?;
-    put(rt, " long ", c.longbypass)?;
+    put(rt, " long ", c.long_bypass)?;
     put(rt, " resizes ", c.resizes)?;
-    put(rt, " probes ", c.probesteps)?;
+    put(rt, " probes ", c.probe_steps)?;
     println!(rt)
 }
 
+// The state, the words and the bytes go side by side, as crate `intern` has them and for its reason.
 fn begin(work: &mut [u32], strs: &[u8]) -> StrInterner
     requires { 16384 ≤ length work.old }
     ensures { Good work.new strs.now result }

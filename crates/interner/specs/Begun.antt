@@ -43,7 +43,7 @@ module _ (work strs : List ℕ) (base : ℕ) (room : 16384 ≤ length work) (fit
           fits = fits;
           begins = omega arith;
           laid = sym (append-nil (take base strs));
-          counts = record { cachehits = lit≤ tt; tablehits = lit≤ tt; allocs = lit≤ tt; longbypass = lit≤ tt; resizes = lit≤ tt; probesteps = lit≤ tt };
+          counts = record { cache_hits = lit≤ tt; table_hits = lit≤ tt; allocs = lit≤ tt; long_bypass = lit≤ tt; resizes = lit≤ tt; probe_steps = lit≤ tt };
           row = λ some. absurd (omega (arith, some));
         };
         state = refl;

@@ -42,7 +42,8 @@ pub struct StrInterner {
     pub stats: InternStats,
 }
 
-// An interner beside the words and bytes that are lent to it, to be read.
+// An interner beside the words and bytes that are lent to it, to be read. Before the first call it has no table, so that there is one is asked for by
+// the three functions that look into it.
 #[derive(Clone, Copy)]
 pub struct Layer<'a> {
     pub st: &'a StrInterner,
@@ -51,7 +52,8 @@ pub struct Layer<'a> {
     ghost good: { Good work.now strs.now st.now } by { Good-prop work.now strs.now st.now },
 }
 
-// No far strings.
+// No far strings. The words that are written are lent to each call: of a struct of them each method would have to promise that they are the same
+// words yet, and as many.
 fn forget(work: &mut [u32])
     requires { min_work_words ≤ length work.old }
     ensures { work.new ≡ set work.old 8191 0 }

@@ -72,7 +72,7 @@ abbrev pub room_left : Offsets → Room
 room_left o = record { contents = 1048575 - o.contents; segments = 1048575 - o.segments }
 
 abbrev pub plan_of : Offsets → ℕ → ℕ → Plan
-plan_of o at contents = record { strings = o.strings; contents = o.contents; segments = o.segments; contentsat = at + 1; segmentsat = at + 1 + 10 * contents }
+plan_of o at contents = record { strings = o.strings; contents = o.contents; segments = o.segments; contents_at = at + 1; segments_at = at + 1 + 10 * contents }
 
 abbrev pub layer_by : Mark → ℕ → Layer
 layer_by m len = record { len = len; strings = m.state.count; contents = m.contents; segments = m.segments; state = m.state }

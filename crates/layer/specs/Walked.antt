@@ -69,8 +69,8 @@ index_kept t work₀ base e i = rw (ap index_words e ∙ ap (λ (l : List ℕ). 
 
 -- Room for all that is added, a, and for the nodes' records behind it in a tape of `size` bytes.
 pub record WalkRoom (p : Plan) (nodesat nodes size : ℕ) (a : Added) : Type 0 where
-  pub contents : p.contentsat + 10 * a.contents ≤ p.segmentsat
-  pub segments : p.segmentsat + 37 * a.segments ≤ nodesat
+  pub contents : p.contents_at + 10 * a.contents ≤ p.segments_at
+  pub segments : p.segments_at + 37 * a.segments ≤ nodesat
   pub records : nodesat + 49 * nodes ≤ size
   pub content_numbers : p.contents + a.contents < 2 ^ 32
   pub segment_numbers : p.segments + a.segments < 2 ^ 32
@@ -83,7 +83,7 @@ pub record WalkMade (p : Plan) (base nodesat : ℕ) (out strs out' work' strs' :
   pub begins : r.state.base ≡ base
   pub contents : r.contents ≡ length g.1.contents
   pub segments : r.segments ≡ length g.1.segments
-  pub wrote : out' ≡ overwrite (blocks out p.contentsat p.segmentsat (records_bytes content_codec g.1.contents) (records_bytes segment_codec g.1.segments)) nodesat (records_bytes node_codec g.0)
+  pub wrote : out' ≡ overwrite (blocks out p.contents_at p.segments_at (records_bytes content_codec g.1.contents) (records_bytes segment_codec g.1.segments)) nodesat (records_bytes node_codec g.0)
   pub kept : take base strs' ≡ take base strs
   pub long : length strs' ≡ length strs
 
@@ -112,7 +112,7 @@ module _ {t d : List ℕ} {q : Places} {st : Store} (f : SourceFits t d q st) {w
     };
   })
 
-  pub walk_low : WalkRoom p nodesat q.nodes.count (length out) (source_adds t d) → p.segmentsat + 37 * (0 + (nodes_add t st q.nodes.at q.nodes.count).segments) ≤ nodesat
+  pub walk_low : WalkRoom p nodesat q.nodes.count (length out) (source_adds t d) → p.segments_at + 37 * (0 + (nodes_add t st q.nodes.at q.nodes.count).segments) ≤ nodesat
   walk_low w = rw (source_adds_lem f) (omega (arith, w.segments))
 
   same_layer : layer_from p work strs (fresh_mark s) ≡ new_layer (offsets_of p)
@@ -132,8 +132,8 @@ module _ {t d : List ℕ} {q : Places} {st : Store} (f : SourceFits t d q st) {w
 
     from_here : {g : With (List SourceNode)} → NodesTold t d p (fresh_mark s) nodesat out work strs out' work' strs' r true g → Walked p base nodesat out strs out' work' strs' (Some r) g
     from_here {g} k =
-        let x : p.contentsat + 10 * 0 ≡ p.contentsat = omega arith in
-        let y : p.segmentsat + 37 * 0 ≡ p.segmentsat = omega arith in
+        let x : p.contents_at + 10 * 0 ≡ p.contents_at = omega arith in
+        let y : p.segments_at + 37 * 0 ≡ p.segments_at = omega arith in
         let m = k.made refl in
         let own : WalkMade p base nodesat out strs out' work' strs' r g = record {
           good = m.made.good;

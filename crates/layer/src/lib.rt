@@ -146,8 +146,8 @@ fn plan_of(o: Offsets, at: usize, contents: u32) -> graft::Plan
         strings: o.strings,
         contents: o.contents,
         segments: o.segments,
-        contentsat: at + 1,
-        segmentsat: at + 1 + 10 * (contents as usize),
+        contents_at: at + 1,
+        segments_at: at + 1 + 10 * (contents as usize),
     }
 }
 

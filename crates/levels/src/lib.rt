@@ -26,12 +26,14 @@ use places::Run;
 use records::{NODE, Use};
 use store::Store;
 
-// A tape and its store, which is lent.
+// A tape and its store, which is lent, and how many layers it has.
 #[derive(Clone, Copy)]
 struct Book<'a> {
     tape: &'a [u8],
     st: &'a Store,
+    layers: usize,
     ghost of_tape: { OfTape tape.now st.now },
+    ghost counted: { layers ≡ length (places tape.now).layers },
 }
 
 // The same with a table of the levels that its segments are below.
@@ -179,13 +181,12 @@ impl<'a> Book<'a> {
     }
 
     // The layers behind the first, which was walked and ends at `from`.
-    fn levels_quick(&self, from: usize, layers: usize) -> bool
-        requires layers_value { layers ≡ length (places self.now.tape.now).layers }
-        requires le_layers { (1 ≤ layers) × Walked self.now.tape.now self.now.st.now 1 from }
+    fn levels_quick(&self, from: usize) -> bool
+        requires le_layers { (1 ≤ self.now.layers) × Walked self.now.tape.now self.now.st.now 1 from }
         ensures { result ≡ true → levels_in self.now.tape.now self.now.st.now ≡ true }
     {
         let mut at = from;
-        for _layer in 1..layers {
+        for _layer in 1..self.layers {
             let l = places::next_layer(self.tape, at);
             if !self.run_levels_quick(l.segments) {
                 return false;
@@ -493,8 +494,7 @@ impl<'a> TopTable<'a> {
 }
 
 impl<'a> Book<'a> {
-    fn levels_tabled(&self, layers: usize) -> bool
-        requires layers_value { layers ≡ length (places self.now.tape.now).layers }
+    fn levels_tabled(&self) -> bool
         ensures { result ≡ levels_in self.now.tape.now self.now.st.now }
     {
         let mut tops = [0u8; 69904];
@@ -514,7 +514,7 @@ impl<'a> Book<'a> {
             tops: &tops,
             heights: &heights,
         };
-        tables.levels_by(layers)
+        tables.levels_by(self.layers)
     }
 }
 
@@ -532,15 +532,16 @@ pub fn levels_ok(tape: &[u8], st: Store, layers: usize) -> bool
         return true;
     }
     let book = Book {
-        tape: tape,
+        tape,
         st: &st,
+        layers,
     };
     let l = places::next_layer(tape, 9);
     if !book.run_levels_quick(l.segments) {
-        return book.levels_tabled(layers);
+        return book.levels_tabled();
     }
-    if book.levels_quick(l.end, layers) {
+    if book.levels_quick(l.end) {
         return true;
     }
-    book.levels_tabled(layers)
+    book.levels_tabled()
 }

@@ -30,12 +30,12 @@ fn stored<'a>(tape: &'a [u8], bytes: &'a [u8]) -> Stored<'a>
 // The merge that an input of the right length asks for.
 fn merge_parts(
     input: &[u8],
-    outtape: &mut [u8],
-    outbytes: &mut [u8],
+    out_tape: &mut [u8],
+    out_bytes: &mut [u8],
     work: &mut [u32],
 ) -> Result<IncrementalOutput, Refusal>
     requires whole { Whole input.now }
-    requires outtape_len { (length outtape.old ≡ 65536) × (length outbytes.old ≡ 65536) × (length work.old ≡ 16384) }
+    requires out_tape_len { (length out_tape.old ≡ 65536) × (length out_bytes.old ≡ 65536) × (length work.old ≡ 16384) }
     ensures { checked result ≡ output_of (asked input.now) }
 {
     let oldbytes = runs::HEAD + wire::u32_at(input, 0) as usize;
@@ -59,31 +59,31 @@ fn merge_parts(
     incremental::merge(
         &book,
         &Correction { edit, reading },
-        outtape,
-        outbytes,
+        out_tape,
+        out_bytes,
         work,
     )
 }
 
 fn answer(
     input: &[u8],
-    outtape: &mut [u8],
-    outbytes: &mut [u8],
+    out_tape: &mut [u8],
+    out_bytes: &mut [u8],
     work: &mut [u32],
 ) -> Result<IncrementalOutput, Refusal>
-    requires { (length outtape.old ≡ 65536) × (length outbytes.old ≡ 65536) × (length work.old ≡ 16384) }
+    requires { (length out_tape.old ≡ 65536) × (length out_bytes.old ≡ 65536) × (length work.old ≡ 16384) }
     ensures { checked result ≡ output_of (program input.now) }
 {
     runs::check_input(input)?;
-    merge_parts(input, outtape, outbytes, work)
+    merge_parts(input, out_tape, out_bytes, work)
 }
 
 // The line of an input.
-fn run(input: &[u8], outtape: &mut [u8], outbytes: &mut [u8], work: &mut [u32], line: &mut Line<'_>)
-    requires { (length outtape.old ≡ 65536) × (length outbytes.old ≡ 65536) × (length work.old ≡ 16384) × (160 ≤ room line.old) }
+fn run(input: &[u8], out_tape: &mut [u8], out_bytes: &mut [u8], work: &mut [u32], line: &mut Line<'_>)
+    requires { (length out_tape.old ≡ 65536) × (length out_bytes.old ≡ 65536) × (length work.old ≡ 16384) × (160 ≤ room line.old) }
     ensures { Put line.old line.new 160 (line_of (program input.now)) }
 {
-    runs::put_line(line, answer(input, outtape, outbytes, work));
+    runs::put_line(line, answer(input, out_tape, out_bytes, work));
 }
 
 // The line of a stream: `n` of its bytes stand in the buffer, all of them or as many as it holds. That is enough (`program_cut` in crate
@@ -91,16 +91,16 @@ fn run(input: &[u8], outtape: &mut [u8], outbytes: &mut [u8], work: &mut [u32], 
 fn run_read(
     input: &[u8],
     n: usize,
-    outtape: &mut [u8],
-    outbytes: &mut [u8],
+    out_tape: &mut [u8],
+    out_bytes: &mut [u8],
     work: &mut [u32],
     line: &mut Line<'_>,
 )
     requires input_len { (length input.now ≡ 327709) × (n ≤ length input.now) }
-    requires outtape_len { (length outtape.old ≡ 65536) × (length outbytes.old ≡ 65536) × (length work.old ≡ 16384) × (160 ≤ room line.old) }
+    requires out_tape_len { (length out_tape.old ≡ 65536) × (length out_bytes.old ≡ 65536) × (length work.old ≡ 16384) × (160 ≤ room line.old) }
     ensures { (s : List ℕ) → take (length input.now) s ≡ take n input.now → Put line.old line.new 160 (line_of (program s)) }
 {
-    run(&input[..n], outtape, outbytes, work, line)
+    run(&input[..n], out_tape, out_bytes, work, line)
 }
 
 // The program: the line of the stream that the reader gives goes to the writer.
@@ -108,13 +108,13 @@ fn answer_stream<R: Read, W: Write>(reader: &mut R, writer: &mut W) -> io::Resul
     ensures { OnOk result (IfSome (R.remaining reader.old) (λ s. Appends (W.contents writer.old) (W.contents writer.new) (line_of (program s)))) }
 {
     let mut input = [0u8; 327709];
-    let mut outtape = [0u8; 65536];
-    let mut outbytes = [0u8; 65536];
+    let mut out_tape = [0u8; 65536];
+    let mut out_bytes = [0u8; 65536];
     let mut work = [0u32; 16384];
     let mut out = [0u8; 160];
     let mut line = Line::new(&mut out);
     let n = stream::read_full(reader, &mut input)?;
-    run_read(&input, n, &mut outtape, &mut outbytes, &mut work, &mut line);
+    run_read(&input, n, &mut out_tape, &mut out_bytes, &mut work, &mut line);
     writer.write_all(line.written())
 }
 

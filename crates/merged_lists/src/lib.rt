@@ -167,11 +167,11 @@ fn put_nodes(
     requires reading_in_bounds { to + 49 * total_of (sides_of node_located (window_value w) (records_at node_codec old.now.tape.now old.now.run.at old.now.run.count)) reading ≤ length out.old }
     ensures { out.new ≡ overwrite out.old to (node_bytes (window_value w) (records_at node_codec old.now.tape.now old.now.run.at old.now.run.count) (records_at node_codec out.old to reading)) }
 {
-    let behindto = to + 49 * before + 49 * reading;
+    let behind_to = to + 49 * before + 49 * reading;
     moves::move_up(out, to, 49 * reading, 49 * before);
     splice::put_before::<splice_nodes::Nodes>(old.tape, old.run, w, out, to);
     splice_nodes::place_nodes(out, to + 49 * before, reading, w);
-    splice::put_behind::<splice_nodes::Nodes>(old.tape, old.run, w, out, behindto);
+    splice::put_behind::<splice_nodes::Nodes>(old.tape, old.run, w, out, behind_to);
 }
 
 // `merge_pairs`, `merge_container_pairs`, and `merge_diagnostics` before its sort.
@@ -188,11 +188,11 @@ fn put_list<K: splice::Spliced>(
     requires list_in_bounds { to + K.SIZE * total_of (sides_of K.located (window_value w) (records_at K.codec old.now.tape.now old.now.run.at old.now.run.count)) new.now.run.count ≤ length out.old }
     ensures { out.new ≡ overwrite out.old to (records_bytes K.codec (spliced K.located (window_value w) (records_at K.codec old.now.tape.now old.now.run.at old.now.run.count) (records_at K.codec new.now.tape.now new.now.run.at new.now.run.count))) }
 {
-    let readingto = to + K::SIZE * before;
-    let behindto = readingto + K::SIZE * new.run.count;
+    let reading_to = to + K::SIZE * before;
+    let behind_to = reading_to + K::SIZE * new.run.count;
     splice::put_before::<K>(old.tape, old.run, w, out, to);
-    splice::put_reading::<K>(new.tape, new.run, w, out, readingto);
-    splice::put_behind::<K>(old.tape, old.run, w, out, behindto);
+    splice::put_reading::<K>(new.tape, new.run, w, out, reading_to);
+    splice::put_behind::<K>(old.tape, old.run, w, out, behind_to);
 }
 
 // `merge_diagnostics`: `all` of them, sorted.

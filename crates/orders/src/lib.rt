@@ -55,24 +55,24 @@ fn merge_in_order(
     book: &Stored,
     first: &Correction,
     second: &Correction,
-    outtape: &mut [u8],
-    outbytes: &mut [u8],
-    nexttape: &mut [u8],
-    nextbytes: &mut [u8],
+    out_tape: &mut [u8],
+    out_bytes: &mut [u8],
+    next_tape: &mut [u8],
+    next_bytes: &mut [u8],
     work: &mut [u32],
 ) -> InOrder
     ensures { MergedInOrder (stored_value book.now) (correction_value first.now) (correction_value second.now)
-        (room_of outtape.old outbytes.old work.old)
-        (room_of nexttape.old nextbytes.old work.old)
-        (checked result.first) (checked result.second) (stored_of outtape.new outbytes.new) (stored_of nexttape.new nextbytes.new) work.new }
+        (room_of out_tape.old out_bytes.old work.old)
+        (room_of next_tape.old next_bytes.old work.old)
+        (checked result.first) (checked result.second) (stored_of out_tape.new out_bytes.new) (stored_of next_tape.new next_bytes.new) work.new }
 {
-    let one = incremental::merge(book, first, outtape, outbytes, work);
-    let (tapeend, bytesend) = output::taken(one);
+    let one = incremental::merge(book, first, out_tape, out_bytes, work);
+    let (tape_end, bytes_end) = output::taken(one);
     let merged = Stored {
-        tape: &outtape[0..tapeend],
-        bytes: &outbytes[0..bytesend],
+        tape: &out_tape[0..tape_end],
+        bytes: &out_bytes[0..bytes_end],
     };
-    let two = incremental::merge(&merged, second, nexttape, nextbytes, work);
+    let two = incremental::merge(&merged, second, next_tape, next_bytes, work);
     InOrder {
         first: one,
         second: two,

@@ -13,12 +13,12 @@ use Rattle.output.specs.declared.BothOrders.{BothOrders}
 abbrev pub counters_of : InternStats → Counters
 counters_of s = record {
   calls = s.calls;
-  cachehits = s.cache_hits;
-  tablehits = s.table_hits;
+  cache_hits = s.cache_hits;
+  table_hits = s.table_hits;
   allocs = s.allocs;
-  longbypass = s.long_bypass;
+  long_bypass = s.long_bypass;
   resizes = s.resizes;
-  probesteps = s.probe_steps;
+  probe_steps = s.probe_steps;
 }
 
 abbrev pub output_by : ℕ → ℕ → ℕ → ℕ → Counters → ℕ → ℕ → Output

@@ -44,19 +44,19 @@ pub fn taken(a: Result<IncrementalOutput, Refusal>) -> (usize, usize)
 
 // What is not result is cleared: both result buffers behind as many bytes as the book takes of each, and all work words.
 pub fn clear_rest(
-    outtape: &mut [u8],
-    outbytes: &mut [u8],
+    out_tape: &mut [u8],
+    out_bytes: &mut [u8],
     work: &mut [u32],
     tape: usize,
     bytes: usize,
 )
-    requires { (tape ≤ length outtape.old) × (bytes ≤ length outbytes.old) }
-    ensures { (outtape.new ≡ padded (length outtape.old) (take tape outtape.old))
-        × (outbytes.new ≡ padded (length outbytes.old) (take bytes outbytes.old))
+    requires { (tape ≤ length out_tape.old) × (bytes ≤ length out_bytes.old) }
+    ensures { (out_tape.new ≡ padded (length out_tape.old) (take tape out_tape.old))
+        × (out_bytes.new ≡ padded (length out_bytes.old) (take bytes out_bytes.old))
         × (work.new ≡ zeros (length work.old)) }
 {
-    wire::zero_from(outtape, tape);
-    wire::zero_from(outbytes, bytes);
+    wire::zero_from(out_tape, tape);
+    wire::zero_from(out_bytes, bytes);
     let words = work.len();
     table::clear_part(work, 0, words);
 }

@@ -9,6 +9,8 @@ ghost use Rattle.model.specs.Merge.{balanced_nodes, is_unclosed, normalized_offs
 ghost use Rattle.bounds.specs.Search.{InOrder};
 ghost use Rattle.reading.specs.Until.{Until};
 
+// Each of these is asked of a run once or twice: a struct of tape, run and the fact that it lies inside would be made for that alone.
+
 use cuts::Depths;
 
 // Number 13. `balanced_nodes`: no close falls below 0, and all that opens is closed.

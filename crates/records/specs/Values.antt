@@ -34,8 +34,8 @@ source_node_of n = record {
 abbrev pub pair_link_of : PairLinkRead → PairLink
 pair_link_of p = record {
   kind = p.kind;
-  opening = record { start = p.openstart; end = p.openend };
-  closing = record { start = p.closestart; end = p.closeend };
+  opening = record { start = p.open_start; end = p.open_end };
+  closing = record { start = p.close_start; end = p.close_end };
 }
 
 abbrev pub container_pair_of : ContainerPairRead → ContainerPair

@@ -77,10 +77,10 @@ pub struct SourceNode {
 #[derive(Clone, Copy)]
 pub struct PairLink {
     pub kind: u8,
-    pub openstart: u32,
-    pub openend: u32,
-    pub closestart: u32,
-    pub closeend: u32,
+    pub open_start: u32,
+    pub open_end: u32,
+    pub close_start: u32,
+    pub close_end: u32,
 }
 
 #[derive(Clone, Copy)]
@@ -184,7 +184,8 @@ pub fn has_words(tape: &[u8], at: usize) -> bool
     tape[at + 1] < BARE
 }
 
-// Single fields of a node, for the walks over all nodes.
+// Single fields of a node, for the walks over all nodes. A record is named by its place, whose bound is the walk's: a struct of tape and place would
+// be made anew at each turn, and the bound be shown there.
 pub fn node_start(tape: &[u8], at: usize) -> u32
     requires { at + 49 ≤ length tape.now }
     ensures { result ≡ (record_at node_codec tape.now at).source_span.start }
@@ -212,10 +213,10 @@ pub fn pair_at(tape: &[u8], at: usize) -> PairLink
 {
     PairLink {
         kind: tape[at + 1],
-        openstart: wire::u32_at(tape, at + 2),
-        openend: wire::u32_at(tape, at + 6),
-        closestart: wire::u32_at(tape, at + 10),
-        closeend: wire::u32_at(tape, at + 14),
+        open_start: wire::u32_at(tape, at + 2),
+        open_end: wire::u32_at(tape, at + 6),
+        close_start: wire::u32_at(tape, at + 10),
+        close_end: wire::u32_at(tape, at + 14),
     }
 }
 

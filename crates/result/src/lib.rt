@@ -114,24 +114,24 @@ fn graft_reading(
 fn put_store(
     m: &Merging,
     l: merged_lists::Lengths,
-    outtape: &mut [u8],
-    outbytes: &mut [u8],
+    out_tape: &mut [u8],
+    out_bytes: &mut [u8],
     work: &mut [u32],
 ) -> Option<Graft>
     requires books { Books m.now.book.tape.now m.now.book.bytes.now m.now.book.places m.now.book.store.now (edit_of m.now.edit.start m.now.edit.end m.now.edit.replacement.now) (window_value m.now.window) m.now.reading.tape.now m.now.reading.bytes.now m.now.reading.places m.now.reading.store.now }
     requires l_value { l ≡ lengths_of m.now.book.places m.now.reading.places m.now.edit.start m.now.edit.end (length m.now.edit.replacement.now) m.now.window.nstart m.now.window.nend (length m.now.book.bytes.now) }
-    requires min_work_words_in_bounds { (min_work_words ≤ length work.old) × (l.normalized ≤ max_text) × (l.base ≤ length outbytes.old) × (m.now.book.places.nodes.at ≤ length outtape.old) }
-    ensures { StoreTold (book_in m.now.book.tape.now m.now.book.bytes.now) (edit_of m.now.edit.start m.now.edit.end m.now.edit.replacement.now) (book_in m.now.reading.tape.now m.now.reading.bytes.now) (window_value m.now.window) outtape.old outbytes.old outtape.new outbytes.new m.now.book.places.nodes.at l.base (offsets_of m.now.book.store.now.totals) result }
+    requires min_work_words_in_bounds { (min_work_words ≤ length work.old) × (l.normalized ≤ max_text) × (l.base ≤ length out_bytes.old) × (m.now.book.places.nodes.at ≤ length out_tape.old) }
+    ensures { StoreTold (book_in m.now.book.tape.now m.now.book.bytes.now) (edit_of m.now.edit.start m.now.edit.end m.now.edit.replacement.now) (book_in m.now.reading.tape.now m.now.reading.bytes.now) (window_value m.now.window) out_tape.old out_bytes.old out_tape.new out_bytes.new m.now.book.places.nodes.at l.base (offsets_of m.now.book.store.now.totals) result }
 {
     let at = m.book.places.nodes.at;
-    put_new_texts(outbytes, m);
-    merged_texts::put_head(outtape, m.book.tape, at, l.text as u32, l.normalized as u32);
+    put_new_texts(out_bytes, m);
+    merged_texts::put_head(out_tape, m.book.tape, at, l.text as u32, l.normalized as u32);
     graft_reading(
         &m.reading,
         m.book.store.totals,
-        outtape,
+        out_tape,
         work,
-        outbytes,
+        out_bytes,
         at,
         l.base,
     )
@@ -140,12 +140,12 @@ fn put_store(
 // Number 18, and the merged book, of a book and a reading that passed 1 to 17.
 pub fn merge_books(
     m: &Merging,
-    outtape: &mut [u8],
-    outbytes: &mut [u8],
+    out_tape: &mut [u8],
+    out_bytes: &mut [u8],
     work: &mut [u32],
 ) -> Result<IncrementalOutput, Refusal>
     requires { Books m.now.book.tape.now m.now.book.bytes.now m.now.book.places m.now.book.store.now (edit_of m.now.edit.start m.now.edit.end m.now.edit.replacement.now) (window_value m.now.window) m.now.reading.tape.now m.now.reading.bytes.now m.now.reading.places m.now.reading.store.now }
-    ensures { Written (result_checked (book_in m.now.book.tape.now m.now.book.bytes.now) (edit_of m.now.edit.start m.now.edit.end m.now.edit.replacement.now) (book_in m.now.reading.tape.now m.now.reading.bytes.now) (window_value m.now.window) (room_of outtape.old outbytes.old work.old)) (checked result) outtape.old outbytes.old work.old outtape.new outbytes.new work.new }
+    ensures { Written (result_checked (book_in m.now.book.tape.now m.now.book.bytes.now) (edit_of m.now.edit.start m.now.edit.end m.now.edit.replacement.now) (book_in m.now.reading.tape.now m.now.reading.bytes.now) (window_value m.now.window) (room_of out_tape.old out_bytes.old work.old)) (checked result) out_tape.old out_bytes.old work.old out_tape.new out_bytes.new work.new }
 {
     let p = m.book.places;
     let q = m.reading.places;
@@ -157,20 +157,20 @@ pub fn merge_books(
         k,
         q,
         p.nodes.at,
-        outtape.len(),
-        outbytes.len(),
+        out_tape.len(),
+        out_bytes.len(),
         work.len(),
     ) {
         return Err(Refusal::NoRoom);
     }
-    let Some(g) = put_store(m, l, outtape, outbytes, work) else {
+    let Some(g) = put_store(m, l, out_tape, out_bytes, work) else {
         return Err(Refusal::NoRoom);
     };
     let at = p.nodes.at + g.len;
     let size = merged_lists::lists_end(at, k, q);
-    if outtape.len() < size {
+    if out_tape.len() < size {
         return Err(Refusal::NoRoom);
     }
-    merged_lists::put_lists(m, k, outtape, at);
+    merged_lists::put_lists(m, k, out_tape, at);
     Ok(merged_lists::output_of(w, k.nodes, q.nodes.count, g.stats, size, l.base + g.bytes))
 }

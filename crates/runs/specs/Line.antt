@@ -14,7 +14,7 @@ use Rattle.output.specs.declared.IncrementalOutput.{IncrementalOutput as Output}
 unfoldable pub accepted_line : Output → List ℕ
 accepted_line r =
     ((((((numbered (ascii "region ") r.start ++ numbered (ascii " ") r.end) ++ numbered (ascii " reused ") r.reused) ++ numbered (ascii " reread ") r.reread)
-    ++ numbered (ascii " calls ") r.stats.calls) ++ numbered (ascii " probes ") r.stats.probesteps) ++ ascii "\n")
+    ++ numbered (ascii " calls ") r.stats.calls) ++ numbered (ascii " probes ") r.stats.probe_steps) ++ ascii "\n")
 
 -- the line of an answer
 unfoldable pub line_of : Checked Output → List ℕ

@@ -67,7 +67,7 @@ fn put_accepted(line: &mut Line<'_>, a: IncrementalOutput)
     line.put_number(b" reused ", u64::from(a.reused));
     line.put_number(b" reread ", u64::from(a.reread));
     line.put_number(b" calls ", c.calls);
-    line.put_number(b" probes ", c.probesteps);
+    line.put_number(b" probes ", c.probe_steps);
     line.put_text(b"\n");
 }
 

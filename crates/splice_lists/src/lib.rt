@@ -33,10 +33,10 @@ fn pair_as_in(p: records::PairLink, w: splice::Window, part: splice::Part) -> re
 {
     records::PairLink {
         kind: p.kind,
-        openstart: splice::source_in(p.openstart, w, part),
-        openend: splice::source_in(p.openend, w, part),
-        closestart: splice::source_in(p.closestart, w, part),
-        closeend: splice::source_in(p.closeend, w, part),
+        open_start: splice::source_in(p.open_start, w, part),
+        open_end: splice::source_in(p.open_end, w, part),
+        close_start: splice::source_in(p.close_start, w, part),
+        close_end: splice::source_in(p.close_end, w, part),
     }
 }
 
@@ -44,7 +44,7 @@ fn put_pair(out: &mut [u8], at: usize, p: records::PairLink)
     requires { at + 18 ≤ length out.old }
     ensures { out.new ≡ overwrite out.old at (record_bytes pair_codec (pair_link_of p)) }
 {
-    let words = [p.openstart, p.openend, p.closestart, p.closeend];
+    let words = [p.open_start, p.open_end, p.close_start, p.close_end];
     put_four(out, at, 7, p.kind, words);
 }
 

@@ -5,16 +5,16 @@
 ghost use Rattle.std.specs.Prelude.{◌≡◌, ◌+◌, ◌^◌, ◌<◌, ◌≤◌};
 ghost use Rattle.stats.specs.Counts.{plus_call, plus_cache_hit, plus_bypass, plus_table_hit, plus_alloc, plus_resizes, plus_probes, Counted};
 
-// The Rust's names without their underscores. By default all are 0, as before the first call.
+// The Rust's names. By default all are 0, as before the first call.
 #[derive(Clone, Copy, Debug, Default, PartialEq, Eq)]
 pub struct InternStats {
     pub calls: u64,
-    pub cachehits: u64,
-    pub tablehits: u64,
+    pub cache_hits: u64,
+    pub table_hits: u64,
     pub allocs: u64,
-    pub longbypass: u64,
+    pub long_bypass: u64,
     pub resizes: u64,
-    pub probesteps: u64,
+    pub probe_steps: u64,
 }
 
 impl InternStats {
@@ -30,27 +30,27 @@ impl InternStats {
 
     // The string was the last answer's.
     pub fn count_cache_hit(&mut self)
-        requires { self.old.cachehits + 1 < 2 ^ 64 }
+        requires { self.old.cache_hits + 1 < 2 ^ 64 }
         ensures { self.new ≡ plus_cache_hit self.old }
     {
-        self.cachehits += 1;
+        self.cache_hits += 1;
     }
 
     // The string has over 64 bytes: a bypass, and an alloc.
     pub fn count_bypass(&mut self)
-        requires { (self.old.allocs + 1 < 2 ^ 64) × (self.old.longbypass + 1 < 2 ^ 64) }
+        requires { (self.old.allocs + 1 < 2 ^ 64) × (self.old.long_bypass + 1 < 2 ^ 64) }
         ensures { self.new ≡ plus_bypass self.old }
     {
         self.allocs += 1;
-        self.longbypass += 1;
+        self.long_bypass += 1;
     }
 
     // The probe ended at an equal string.
     pub fn count_table_hit(&mut self)
-        requires { self.old.tablehits + 1 < 2 ^ 64 }
+        requires { self.old.table_hits + 1 < 2 ^ 64 }
         ensures { self.new ≡ plus_table_hit self.old }
     {
-        self.tablehits += 1;
+        self.table_hits += 1;
     }
 
     // The probe ended at an empty slot.
@@ -71,13 +71,14 @@ impl InternStats {
 
     // The call inspected so many slots.
     pub fn count_probes(&mut self, n: u64)
-        requires { self.old.probesteps + n < 2 ^ 64 }
+        requires { self.old.probe_steps + n < 2 ^ 64 }
         ensures { self.new ≡ plus_probes self.old n }
     {
-        self.probesteps += n;
+        self.probe_steps += n;
     }
 
-    // ---- a call, by the way it ends
+    // ---- a call, by the way it ends. That no count is above that of the calls is asked for and is no field's fact: between two of the methods above
+    // it does not hold.
 
     pub fn cache_hit(mut self) -> InternStats
         requires { Counted self × (self.calls < 2 ^ 32) }

@@ -27,7 +27,8 @@ pub struct Store {
     pub totals: Totals,
 }
 
-// Where layer i of a pool begins; past the last layer, where the pool ends.
+// Where layer i of a pool begins; past the last layer, where the pool ends. Of one pool's starts the first so many count, as specs/Pools has it: of a
+// slice of them each law of the store would be needed twice.
 #[tactic(auto, using(std::proofs::lemmas::Bool::Decides::nat_tests))]
 fn start_or(starts: &[u32; 32], layers: usize, total: u32, i: usize) -> u32
     requires { layers ≤ 32 }
@@ -124,7 +125,8 @@ pub fn store_of(tape: &[u8], layers: usize) -> Store
     }
 }
 
-// What is asked of a store. A store may be of any tape, so that it has at most 32 layers is asked for and is no field's fact.
+// What is asked of a store. That it has at most 32 layers is asked for and is no field's fact: `store_at` is the store of any tape, and would have to
+// say what that of a tape with more of them is.
 impl Store {
     // Where layer k begins among the strings; past the last layer, where they end. For contents and segments, the same.
     pub fn string_start(&self, k: usize) -> u32

@@ -40,7 +40,8 @@ fn run_end(st: &Store, i: u32, to: u32) -> u32
     to.min(st.string_start(st.string_layer(i) + 1))
 }
 
-// The start of string `next`, from that of string i of the same layer.
+// The start of string `next`, from that of string i of the same layer. Tape, store and room are named one by one here: who asks where a string starts
+// has them in a struct of his own (`Strings`, a book, the walk of a graft), and asks once.
 fn start_after(tape: &[u8], st: &Store, room: usize, i: u32, next: u32, start: usize) -> usize
     requires readable { Readable tape.now st.now room }
     requires in_layer { InLayer st.now i next }

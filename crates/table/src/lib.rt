@@ -144,7 +144,8 @@ pub fn clear_part(w: &mut [u32], a: usize, e: usize)
     wire::zero_words(&mut w[a..e]);
 }
 
-// Puts the entry e into the table of n slots, at the first empty slot from its string's on.
+// Puts the entry e into the table of n slots, at the first empty slot from its string's on. The words are lent to each call: each method of a struct
+// that held them would have to promise that they are the same words yet, and as many.
 fn place(work: &mut [u32], strs: &[u8], count: usize, n: usize, e: u32)
     requires work { Work work.old (length strs.now) count }
     requires le_n { (256 ≤ n) × (n ≤ 4096) }

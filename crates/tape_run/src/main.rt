@@ -25,17 +25,17 @@ fn put_copied(rt: &impl Print, a: Result<Copied, Refusal>) -> io::Result<()> {
 
 // The lengths, and how the two buffers begin.
 fn copy(rt: &impl Print, tape: &[u8], bytes: &[u8]) -> io::Result<()> {
-    let mut outtape = [7u8; 2048];
-    let mut outbytes = [7u8; 64];
+    let mut out_tape = [7u8; 2048];
+    let mut out_bytes = [7u8; 64];
     print!(rt; "  copy: ")?;
     put_copied(
         rt,
-        copy::copy_book(tape, bytes, &mut outtape, &mut outbytes),
+        copy::copy_book(tape, bytes, &mut out_tape, &mut out_bytes),
     )?;
     print!(rt; ", ")?;
-    put_hex(rt, wire::between(&outtape, 0, 16))?;
+    put_hex(rt, wire::between(&out_tape, 0, 16))?;
     print!(rt; " ")?;
-    put_hex(rt, wire::between(&outbytes, 0, 16))?;
+    put_hex(rt, wire::between(&out_bytes, 0, 16))?;
     println!(rt)
 }
 

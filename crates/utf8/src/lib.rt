@@ -1,6 +1,7 @@
 // UTF-8 by RFC 3629, for document 01's returned numbers 2 (a text is not UTF-8), 8 and 16 (a place inside a character): a walk by
 // characters. specs/Skips.antt: runs of ASCII, and of three bytes, are skipped together. specs/Blocks.antt: 64 bytes are
-// judged together by their neighbours. The walks below step by what they have passed, one byte to 64, so they are `while` loops.
+// judged together by their neighbours. The walks below step by what they have passed, one byte to 64, so they are `while` loops. They look back at
+// what they have passed too, so the text goes whole, with a place in it, and not as the slice of what is left.
 #![tactic(auto)]
 
 ghost use Rattle.std.specs.Prelude.{◌≡◌, ◌&&◌, ◌+◌, ◌≤◌, ◌<◌, length, get_or, ltb};

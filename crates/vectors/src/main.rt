@@ -29,7 +29,7 @@ fn put_answer(
             r.reused,
             r.reread,
             r.stats.calls,
-            r.stats.probesteps,
+            r.stats.probe_steps,
             hash::fx_hash(wire::between(out, 0, r.tape)),
             hash::fx_hash(wire::between(strs, 0, r.bytes)),
         ),
@@ -45,9 +45,9 @@ fn put_rest(
     strs: &[u8],
     work: &[u32],
 ) -> io::Result<()> {
-    let (tapeend, bytesend) = output::taken(answer);
-    let tape = wire::between(out, tapeend, out.len());
-    let bytes = wire::between(strs, bytesend, strs.len());
+    let (tape_end, bytes_end) = output::taken(answer);
+    let tape = wire::between(out, tape_end, out.len());
+    let bytes = wire::between(strs, bytes_end, strs.len());
     print!(rt;
         ", rest {} {} {}",
         tape.iter().filter(|x| **x != 0).count(),
@@ -69,17 +69,17 @@ fn show(rt: &(impl Alloc + Print), c: cases::Case) -> io::Result<()> {
     let mut out = vec![in rt.alloc(); 7u8; tape as usize]?;
     let mut strs = vec![in rt.alloc(); 7u8; bytes as usize]?;
     let mut work = vec![in rt.alloc(); 7u32; words as usize]?;
-    let readingtape = HEAD + wire::u32_or_zero(rest, 12) as usize;
-    let readingbytes = readingtape + wire::u32_or_zero(rest, 16) as usize;
+    let reading_tape = HEAD + wire::u32_or_zero(rest, 12) as usize;
+    let reading_bytes = reading_tape + wire::u32_or_zero(rest, 16) as usize;
     let book = stored(c.tape, c.bytes);
     let edit = Edit {
         start: c.start,
         end: c.end,
-        replacement: wire::between(rest, HEAD, readingtape),
+        replacement: wire::between(rest, HEAD, reading_tape),
     };
     let reading = stored(
-        wire::between(rest, readingtape, readingbytes),
-        wire::between(rest, readingbytes, rest.len()),
+        wire::between(rest, reading_tape, reading_bytes),
+        wire::between(rest, reading_bytes, rest.len()),
     );
     let r = incremental::merge(
         &book,

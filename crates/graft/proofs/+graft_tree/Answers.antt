@@ -183,7 +183,7 @@ graft_segment_run-returns t c =
 
 pub graft_contents-loop-i-init : goal.graft_contents-loop-i-init
 graft_contents-loop-i-init t c =
-    items_first (content_grafts c.args.w.now.source c.args.level) c.args.run.at c.args.run.count (c.args.w.now.plan.contentsat + 10 * c.args.to) c.requires.ready c.requires.count_in_bounds.1
+    items_first (content_grafts c.args.w.now.source c.args.level) c.args.run.at c.args.run.count (c.args.w.now.plan.contents_at + 10 * c.args.to) c.requires.ready c.requires.count_in_bounds.1
 
 pub graft_contents-overflow_cast-i : goal.graft_contents-overflow_cast-i
 graft_contents-overflow_cast-i t c =
@@ -195,23 +195,23 @@ graft_contents-overflow_add-to t c =
 
 pub graft_contents-graft_content-requires : goal.graft_contents-graft_content-requires
 graft_contents-graft_content-requires t c =
-    (omega arith, (item_ready (content_grafts c.args.w.now.source c.args.level) c.args.run.at c.args.run.count (c.args.w.now.plan.contentsat + 10 * c.args.to) c.requires.ready c.requires.count_in_bounds.1 c.loop-i.invariant (omega arith), ((omega (arith, c.requires.count_in_bounds.0), item_known (content_grafts c.args.w.now.source c.args.level) c.args.run.at c.args.run.count (c.args.w.now.plan.contentsat + 10 * c.args.to) c.requires.ready c.requires.count_in_bounds.1 c.loop-i.i (omega arith)), (omega (arith, (item_low (content_grafts c.args.w.now.source c.args.level) c.args.run.at c.args.run.count (c.args.w.now.plan.contentsat + 10 * c.args.to) c.requires.ready c.requires.count_in_bounds.1 c.loop-i.invariant (omega arith)).0, c.requires.count_bound.0), omega (arith, c.requires.count_bound.1)))))
+    (omega arith, (item_ready (content_grafts c.args.w.now.source c.args.level) c.args.run.at c.args.run.count (c.args.w.now.plan.contents_at + 10 * c.args.to) c.requires.ready c.requires.count_in_bounds.1 c.loop-i.invariant (omega arith), ((omega (arith, c.requires.count_in_bounds.0), item_known (content_grafts c.args.w.now.source c.args.level) c.args.run.at c.args.run.count (c.args.w.now.plan.contents_at + 10 * c.args.to) c.requires.ready c.requires.count_in_bounds.1 c.loop-i.i (omega arith)), (omega (arith, (item_low (content_grafts c.args.w.now.source c.args.level) c.args.run.at c.args.run.count (c.args.w.now.plan.contents_at + 10 * c.args.to) c.requires.ready c.requires.count_in_bounds.1 c.loop-i.invariant (omega arith)).0, c.requires.count_bound.0), omega (arith, c.requires.count_bound.1)))))
 
 pub graft_contents-returns-in_err-graft_content : goal.graft_contents-returns-in_err-graft_content
 graft_contents-returns-in_err-graft_content t c =
-    rw c.from_residual.ensures (items_refused (content_grafts c.args.w.now.source c.args.level) c.args.run.at c.args.run.count (c.args.w.now.plan.contentsat + 10 * c.args.to) c.requires.ready c.requires.count_in_bounds.1 (c.loop-i.i + 1) (omega arith) (item_turn (content_grafts c.args.w.now.source c.args.level) c.args.run.at c.args.run.count (c.args.w.now.plan.contentsat + 10 * c.args.to) c.requires.ready c.requires.count_in_bounds.1 c.loop-i.invariant (omega arith) (between (omega (arith, c.requires.count_bound.0)) (omega (arith, c.requires.count_bound.1))) (c.args.w.now.plan.contentsat + 10 * (c.args.to + c.loop-i.i)) (omega arith) c.in_err-graft_content.ensures))
+    rw c.from_residual.ensures (items_refused (content_grafts c.args.w.now.source c.args.level) c.args.run.at c.args.run.count (c.args.w.now.plan.contents_at + 10 * c.args.to) c.requires.ready c.requires.count_in_bounds.1 (c.loop-i.i + 1) (omega arith) (item_turn (content_grafts c.args.w.now.source c.args.level) c.args.run.at c.args.run.count (c.args.w.now.plan.contents_at + 10 * c.args.to) c.requires.ready c.requires.count_in_bounds.1 c.loop-i.invariant (omega arith) (between (omega (arith, c.requires.count_bound.0)) (omega (arith, c.requires.count_bound.1))) (c.args.w.now.plan.contents_at + 10 * (c.args.to + c.loop-i.i)) (omega arith) c.in_err-graft_content.ensures))
 
 pub graft_contents-loop-i-preserved : goal.graft_contents-loop-i-preserved
 graft_contents-loop-i-preserved t c =
-    items_more (content_grafts c.args.w.now.source c.args.level) c.args.run.at c.args.run.count (c.args.w.now.plan.contentsat + 10 * c.args.to) c.requires.ready c.requires.count_in_bounds.1 c.loop-i.invariant (omega arith) (between (omega (arith, c.requires.count_bound.0)) (omega (arith, c.requires.count_bound.1))) (c.args.w.now.plan.contentsat + 10 * (c.args.to + c.loop-i.i)) (omega arith) c.in_ok-graft_content.ensures c.graft_content.auto.out refl
+    items_more (content_grafts c.args.w.now.source c.args.level) c.args.run.at c.args.run.count (c.args.w.now.plan.contents_at + 10 * c.args.to) c.requires.ready c.requires.count_in_bounds.1 c.loop-i.invariant (omega arith) (between (omega (arith, c.requires.count_bound.0)) (omega (arith, c.requires.count_bound.1))) (c.args.w.now.plan.contents_at + 10 * (c.args.to + c.loop-i.i)) (omega arith) c.in_ok-graft_content.ensures c.graft_content.auto.out refl
 
 pub graft_contents-returns : goal.graft_contents-returns
 graft_contents-returns t c =
-    items_last (content_grafts c.args.w.now.source c.args.level) c.args.run.at c.args.run.count (c.args.w.now.plan.contentsat + 10 * c.args.to) c.requires.ready c.requires.count_in_bounds.1 c.loop-i.invariant (omega arith) (omega arith)
+    items_last (content_grafts c.args.w.now.source c.args.level) c.args.run.at c.args.run.count (c.args.w.now.plan.contents_at + 10 * c.args.to) c.requires.ready c.requires.count_in_bounds.1 c.loop-i.invariant (omega arith) (omega arith)
 
 pub graft_segments-loop-i-init : goal.graft_segments-loop-i-init
 graft_segments-loop-i-init t c =
-    items_first (segment_grafts c.args.w.now.source c.args.level) c.args.run.at c.args.run.count (c.args.w.now.plan.segmentsat + 37 * c.args.to) c.requires.ready c.requires.count_in_bounds.1
+    items_first (segment_grafts c.args.w.now.source c.args.level) c.args.run.at c.args.run.count (c.args.w.now.plan.segments_at + 37 * c.args.to) c.requires.ready c.requires.count_in_bounds.1
 
 pub graft_segments-overflow_cast-i : goal.graft_segments-overflow_cast-i
 graft_segments-overflow_cast-i t c =
@@ -223,19 +223,19 @@ graft_segments-overflow_add-to t c =
 
 pub graft_segments-graft_segment-requires : goal.graft_segments-graft_segment-requires
 graft_segments-graft_segment-requires t c =
-    (omega arith, (item_ready (segment_grafts c.args.w.now.source c.args.level) c.args.run.at c.args.run.count (c.args.w.now.plan.segmentsat + 37 * c.args.to) c.requires.ready c.requires.count_in_bounds.1 c.loop-i.invariant (omega arith), ((omega (arith, c.requires.count_in_bounds.0), item_known (segment_grafts c.args.w.now.source c.args.level) c.args.run.at c.args.run.count (c.args.w.now.plan.segmentsat + 37 * c.args.to) c.requires.ready c.requires.count_in_bounds.1 c.loop-i.i (omega arith)), (omega (arith, (item_low (segment_grafts c.args.w.now.source c.args.level) c.args.run.at c.args.run.count (c.args.w.now.plan.segmentsat + 37 * c.args.to) c.requires.ready c.requires.count_in_bounds.1 c.loop-i.invariant (omega arith)).1, c.requires.count_bound.0), omega (arith, c.requires.count_bound.1)))))
+    (omega arith, (item_ready (segment_grafts c.args.w.now.source c.args.level) c.args.run.at c.args.run.count (c.args.w.now.plan.segments_at + 37 * c.args.to) c.requires.ready c.requires.count_in_bounds.1 c.loop-i.invariant (omega arith), ((omega (arith, c.requires.count_in_bounds.0), item_known (segment_grafts c.args.w.now.source c.args.level) c.args.run.at c.args.run.count (c.args.w.now.plan.segments_at + 37 * c.args.to) c.requires.ready c.requires.count_in_bounds.1 c.loop-i.i (omega arith)), (omega (arith, (item_low (segment_grafts c.args.w.now.source c.args.level) c.args.run.at c.args.run.count (c.args.w.now.plan.segments_at + 37 * c.args.to) c.requires.ready c.requires.count_in_bounds.1 c.loop-i.invariant (omega arith)).1, c.requires.count_bound.0), omega (arith, c.requires.count_bound.1)))))
 
 pub graft_segments-returns-in_err-graft_segment : goal.graft_segments-returns-in_err-graft_segment
 graft_segments-returns-in_err-graft_segment t c =
-    rw c.from_residual.ensures (items_refused (segment_grafts c.args.w.now.source c.args.level) c.args.run.at c.args.run.count (c.args.w.now.plan.segmentsat + 37 * c.args.to) c.requires.ready c.requires.count_in_bounds.1 (c.loop-i.i + 1) (omega arith) (item_turn (segment_grafts c.args.w.now.source c.args.level) c.args.run.at c.args.run.count (c.args.w.now.plan.segmentsat + 37 * c.args.to) c.requires.ready c.requires.count_in_bounds.1 c.loop-i.invariant (omega arith) (beyond (omega (arith, c.requires.count_bound.0)) (omega (arith, c.requires.count_bound.1))) (c.args.w.now.plan.segmentsat + 37 * (c.args.to + c.loop-i.i)) (omega arith) c.in_err-graft_segment.ensures))
+    rw c.from_residual.ensures (items_refused (segment_grafts c.args.w.now.source c.args.level) c.args.run.at c.args.run.count (c.args.w.now.plan.segments_at + 37 * c.args.to) c.requires.ready c.requires.count_in_bounds.1 (c.loop-i.i + 1) (omega arith) (item_turn (segment_grafts c.args.w.now.source c.args.level) c.args.run.at c.args.run.count (c.args.w.now.plan.segments_at + 37 * c.args.to) c.requires.ready c.requires.count_in_bounds.1 c.loop-i.invariant (omega arith) (beyond (omega (arith, c.requires.count_bound.0)) (omega (arith, c.requires.count_bound.1))) (c.args.w.now.plan.segments_at + 37 * (c.args.to + c.loop-i.i)) (omega arith) c.in_err-graft_segment.ensures))
 
 pub graft_segments-loop-i-preserved : goal.graft_segments-loop-i-preserved
 graft_segments-loop-i-preserved t c =
-    items_more (segment_grafts c.args.w.now.source c.args.level) c.args.run.at c.args.run.count (c.args.w.now.plan.segmentsat + 37 * c.args.to) c.requires.ready c.requires.count_in_bounds.1 c.loop-i.invariant (omega arith) (beyond (omega (arith, c.requires.count_bound.0)) (omega (arith, c.requires.count_bound.1))) (c.args.w.now.plan.segmentsat + 37 * (c.args.to + c.loop-i.i)) (omega arith) c.in_ok-graft_segment.ensures c.graft_segment.auto.out refl
+    items_more (segment_grafts c.args.w.now.source c.args.level) c.args.run.at c.args.run.count (c.args.w.now.plan.segments_at + 37 * c.args.to) c.requires.ready c.requires.count_in_bounds.1 c.loop-i.invariant (omega arith) (beyond (omega (arith, c.requires.count_bound.0)) (omega (arith, c.requires.count_bound.1))) (c.args.w.now.plan.segments_at + 37 * (c.args.to + c.loop-i.i)) (omega arith) c.in_ok-graft_segment.ensures c.graft_segment.auto.out refl
 
 pub graft_segments-returns : goal.graft_segments-returns
 graft_segments-returns t c =
-    items_last (segment_grafts c.args.w.now.source c.args.level) c.args.run.at c.args.run.count (c.args.w.now.plan.segmentsat + 37 * c.args.to) c.requires.ready c.requires.count_in_bounds.1 c.loop-i.invariant (omega arith) (omega arith)
+    items_last (segment_grafts c.args.w.now.source c.args.level) c.args.run.at c.args.run.count (c.args.w.now.plan.segments_at + 37 * c.args.to) c.requires.ready c.requires.count_in_bounds.1 c.loop-i.invariant (omega arith) (omega arith)
 
 pub graft_content-content_at-c-requires : goal.graft_content-content_at-c-requires
 graft_content-content_at-c-requires t c =

@@ -20,10 +20,6 @@ run_levels_quick-requires c =
       count_in_bounds = walked_fits (walked_none _ _) c.requires.layers_value (omega (arith, c.if-layers-eq0.false)) c.next_layer-l.ensures c.requires.of_tape;
     }
 
-pub levels_tabled-requires : goal.levels_tabled-requires
-levels_tabled-requires c =
-    record { layers_value = c.requires.layers_value }
-
 pub returns-then-not-run_levels_quick : goal.returns-then-not-run_levels_quick
 returns-then-not-run_levels_quick c =
     c.levels_tabled.ensures
@@ -33,17 +29,12 @@ levels_quick-requires c =
     let passed = c.run_levels_quick.ensures c.if-not-run_levels_quick.false in
     let first = walked_more (walked_none _ _) c.requires.layers_value (omega (arith, c.if-layers-eq0.false)) c.next_layer-l.ensures (sym passed) refl in
     record {
-      layers_value = c.requires.layers_value;
       le_layers = (omega (arith, c.if-layers-eq0.false), first);
     }
 
 pub returns-then-levels_quick : goal.returns-then-levels_quick
 returns-then-levels_quick c =
     sym (c.levels_quick.ensures c.if-levels_quick.true)
-
-pub levels_tabled-requires-2 : goal.levels_tabled-requires-2
-levels_tabled-requires-2 c =
-    record { layers_value = c.requires.layers_value }
 
 pub returns : goal.returns
 returns c =

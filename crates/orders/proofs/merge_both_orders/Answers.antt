@@ -4,11 +4,11 @@ use Rattle.orders.proofs.merge_both_orders.Goals as goal
 
 pub shape_of-tape1 : goal.shape_of-tape1
 shape_of-tape1 c =
-    c.merge_in_order-a.auto.outtape
+    c.merge_in_order-a.auto.out_tape
 
 pub shape_of-bytes1 : goal.shape_of-bytes1
 shape_of-bytes1 c =
-    c.merge_in_order-a.auto.outbytes
+    c.merge_in_order-a.auto.out_bytes
 
 pub returns : goal.returns
 returns c =

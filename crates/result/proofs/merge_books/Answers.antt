@@ -27,7 +27,7 @@ room_for-requires c =
 pub returns-then-not-room_for : goal.returns-then-not-room_for
 unfolding edit_of
 returns-then-not-room_for c =
-    no_room c.requires c.kept_in-k.ensures c.new_lengths-l.ensures c.args.outtape.now c.args.outbytes.now c.args.work.now c.room_for.ensures c.if-not-room_for.true
+    no_room c.requires c.kept_in-k.ensures c.new_lengths-l.ensures c.args.out_tape.now c.args.out_bytes.now c.args.work.now c.room_for.ensures c.if-not-room_for.true
 
 pub put_store-requires : goal.put_store-requires
 put_store-requires c =
@@ -40,35 +40,35 @@ put_store-requires c =
 pub returns-in_default : goal.returns-in_default
 unfolding edit_of
 returns-in_default c =
-    no_graft c.requires c.kept_in-k.ensures c.new_lengths-l.ensures c.args.outtape.now c.args.outbytes.now c.args.work.now c.in_default.ensures c.put_store.auto.outtape c.put_store.auto.outbytes c.put_store.auto.work
+    no_graft c.requires c.kept_in-k.ensures c.new_lengths-l.ensures c.args.out_tape.now c.args.out_bytes.now c.args.work.now c.in_default.ensures c.put_store.auto.out_tape c.put_store.auto.out_bytes c.put_store.auto.work
 
 pub overflow_add-at : goal.overflow_add-at
 unfolding edit_of
 overflow_add-at c =
-    let x = at_small c.requires c.kept_in-k.ensures c.new_lengths-l.ensures c.args.outtape.now c.args.outbytes.now c.args.work.now c.in-Some.ensures c.put_store.auto.outtape c.put_store.auto.outbytes refl in omega (arith, x, c.well_formed)
+    let x = at_small c.requires c.kept_in-k.ensures c.new_lengths-l.ensures c.args.out_tape.now c.args.out_bytes.now c.args.work.now c.in-Some.ensures c.put_store.auto.out_tape c.put_store.auto.out_bytes refl in omega (arith, x, c.well_formed)
 
 pub lists_end-size-requires : goal.lists_end-size-requires
 unfolding edit_of
 lists_end-size-requires c =
-    let x = at_small c.requires c.kept_in-k.ensures c.new_lengths-l.ensures c.args.outtape.now c.args.outbytes.now c.args.work.now c.in-Some.ensures c.put_store.auto.outtape c.put_store.auto.outbytes refl in record {
+    let x = at_small c.requires c.kept_in-k.ensures c.new_lengths-l.ensures c.args.out_tape.now c.args.out_bytes.now c.args.work.now c.in-Some.ensures c.put_store.auto.out_tape c.put_store.auto.out_bytes refl in record {
       small = small c.requires c.kept_in-k.ensures;
       at_bound = omega (arith, x, c.well_formed);
     }
 
-pub returns-then-outtape-size : goal.returns-then-outtape-size
+pub returns-then-out_tape-size : goal.returns-then-out_tape-size
 unfolding edit_of
-returns-then-outtape-size c =
-    no_size c.requires c.kept_in-k.ensures c.new_lengths-l.ensures c.args.outtape.now c.args.outbytes.now c.args.work.now c.in-Some.ensures c.put_store.auto.outtape c.put_store.auto.outbytes refl c.put_store.auto.work c.lists_end-size.ensures (omega (arith, c.if-outtape-size.true, c.put_store.auto.outtape))
+returns-then-out_tape-size c =
+    no_size c.requires c.kept_in-k.ensures c.new_lengths-l.ensures c.args.out_tape.now c.args.out_bytes.now c.args.work.now c.in-Some.ensures c.put_store.auto.out_tape c.put_store.auto.out_bytes refl c.put_store.auto.work c.lists_end-size.ensures (omega (arith, c.if-out_tape-size.true, c.put_store.auto.out_tape))
 
 pub put_lists-requires : goal.put_lists-requires
 unfolding edit_of
 put_lists-requires c =
-    lists_ready c.requires c.kept_in-k.ensures c.new_lengths-l.ensures c.args.outtape.now c.args.outbytes.now c.args.work.now c.in-Some.ensures c.put_store.auto.outtape c.put_store.auto.outbytes refl c.room_for.ensures c.if-not-room_for.false c.lists_end-size.ensures (omega (arith, c.if-outtape-size.false, c.put_store.auto.outtape))
+    lists_ready c.requires c.kept_in-k.ensures c.new_lengths-l.ensures c.args.out_tape.now c.args.out_bytes.now c.args.work.now c.in-Some.ensures c.put_store.auto.out_tape c.put_store.auto.out_bytes refl c.room_for.ensures c.if-not-room_for.false c.lists_end-size.ensures (omega (arith, c.if-out_tape-size.false, c.put_store.auto.out_tape))
 
 pub overflow_add-l : goal.overflow_add-l
 unfolding edit_of
 overflow_add-l c =
-    let x = bytes_small c.requires c.kept_in-k.ensures c.new_lengths-l.ensures c.args.outtape.now c.args.outbytes.now c.args.work.now c.in-Some.ensures c.put_store.auto.outtape c.put_store.auto.outbytes refl c.room_for.ensures c.if-not-room_for.false c.lists_end-size.ensures (omega (arith, c.if-outtape-size.false, c.put_store.auto.outtape)) in omega (arith, x, c.well_formed)
+    let x = bytes_small c.requires c.kept_in-k.ensures c.new_lengths-l.ensures c.args.out_tape.now c.args.out_bytes.now c.args.work.now c.in-Some.ensures c.put_store.auto.out_tape c.put_store.auto.out_bytes refl c.room_for.ensures c.if-not-room_for.false c.lists_end-size.ensures (omega (arith, c.if-out_tape-size.false, c.put_store.auto.out_tape)) in omega (arith, x, c.well_formed)
 
 pub output_of-requires : goal.output_of-requires
 output_of-requires c =
@@ -77,4 +77,4 @@ output_of-requires c =
 pub returns : goal.returns
 unfolding edit_of
 returns c =
-    merged c.requires c.kept_in-k.ensures c.new_lengths-l.ensures c.args.outtape.now c.args.outbytes.now c.args.work.now c.in-Some.ensures c.put_store.auto.outtape c.put_store.auto.outbytes refl c.room_for.ensures c.if-not-room_for.false c.lists_end-size.ensures (omega (arith, c.if-outtape-size.false, c.put_store.auto.outtape)) c.put_store.auto.work c.put_lists.ensures (c.put_lists.auto.out ∙ c.put_store.auto.outtape) c.output_of.ensures
+    merged c.requires c.kept_in-k.ensures c.new_lengths-l.ensures c.args.out_tape.now c.args.out_bytes.now c.args.work.now c.in-Some.ensures c.put_store.auto.out_tape c.put_store.auto.out_bytes refl c.room_for.ensures c.if-not-room_for.false c.lists_end-size.ensures (omega (arith, c.if-out_tape-size.false, c.put_store.auto.out_tape)) c.put_store.auto.work c.put_lists.ensures (c.put_lists.auto.out ∙ c.put_store.auto.out_tape) c.output_of.ensures

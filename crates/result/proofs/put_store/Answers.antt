@@ -38,4 +38,4 @@ graft_reading-requires c =
 pub returns : goal.returns
 unfolding edit_of
 returns c =
-    store_told c.requires.books c.requires.l_value c.args.outtape.now c.args.outbytes.now c.requires.min_work_words_in_bounds.3 c.requires.min_work_words_in_bounds.2 c.put_new_texts.ensures c.put_head.ensures c.graft_reading.ensures
+    store_told c.requires.books c.requires.l_value c.args.out_tape.now c.args.out_bytes.now c.requires.min_work_words_in_bounds.3 c.requires.min_work_words_in_bounds.2 c.put_new_texts.ensures c.put_head.ensures c.graft_reading.ensures

@@ -4,4 +4,4 @@ use Rattle.splice_lists.proofs.pair_as_in.Goals as goal
 
 pub returns : goal.returns
 returns c =
-    rw (c.source_in.ensures, c.source_in-2.ensures, c.source_in-3.ensures, c.source_in-4.ensures) (pair_as_in (window_value c.args.w) c.args.part c.args.p.kind c.args.p.openstart c.args.p.openend c.args.p.closestart c.args.p.closeend)
+    rw (c.source_in.ensures, c.source_in-2.ensures, c.source_in-3.ensures, c.source_in-4.ensures) (pair_as_in (window_value c.args.w) c.args.part c.args.p.kind c.args.p.open_start c.args.p.open_end c.args.p.close_start c.args.p.close_end)

@@ -6,4 +6,4 @@ use Rattle.splice_lists.proofs.put_pair.Goals as goal
 
 pub returns : goal.returns
 returns c =
-    c.put_four.ensures ∙ ap (overwrite c.args.out.now c.args.at) (pair_bytes_lem c.args.p.kind c.args.p.openstart c.args.p.openend c.args.p.closestart c.args.p.closeend)
+    c.put_four.ensures ∙ ap (overwrite c.args.out.now c.args.at) (pair_bytes_lem c.args.p.kind c.args.p.open_start c.args.p.open_end c.args.p.close_start c.args.p.close_end)

@@ -8,18 +8,18 @@ loop-layer-init c =
 
 pub next_layer-l-requires : goal.next_layer-l-requires
 next_layer-l-requires c =
-    walked_inside c.loop-layer.invariant c.requires.layers_value c.loop-layer-test.true
+    walked_inside c.loop-layer.invariant c.args.self.now.counted c.loop-layer-test.true
 
 pub run_levels_quick-requires : goal.run_levels_quick-requires
 run_levels_quick-requires c =
     record {
-      count_in_bounds = walked_fits c.loop-layer.invariant c.requires.layers_value c.loop-layer-test.true c.next_layer-l.ensures c.args.self.now.of_tape;
+      count_in_bounds = walked_fits c.loop-layer.invariant c.args.self.now.counted c.loop-layer-test.true c.next_layer-l.ensures c.args.self.now.of_tape;
     }
 
 pub loop-layer-preserved : goal.loop-layer-preserved
 loop-layer-preserved c =
-    walked_more c.loop-layer.invariant c.requires.layers_value c.loop-layer-test.true c.next_layer-l.ensures (sym (c.run_levels_quick.ensures c.if-not-run_levels_quick.false)) refl
+    walked_more c.loop-layer.invariant c.args.self.now.counted c.loop-layer-test.true c.next_layer-l.ensures (sym (c.run_levels_quick.ensures c.if-not-run_levels_quick.false)) refl
 
 pub returns : goal.returns
 returns c =
-    λ e. sym (walked_all c.loop-layer.invariant c.requires.layers_value c.loop-layer-test.false)
+    λ e. sym (walked_all c.loop-layer.invariant c.args.self.now.counted c.loop-layer-test.false)

@@ -25,7 +25,7 @@ put_uppers-requires-2 c =
 pub levels_by-requires : goal.levels_by-requires
 levels_by-requires c =
     record {
-      layers_value = c.requires.layers_value;
+      layers_value = c.args.self.now.counted;
     }
 
 pub returns : goal.returns
