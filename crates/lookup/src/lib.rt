@@ -46,6 +46,8 @@ pub fn node_at_source(tape: &[u8], bytes: &[u8], offset: u32) -> Result<Option<u
     Ok(bounds::node_at_source(tape, nodes, offset))
 }
 
+// For segments the same below: each is two questions to the store, by methods of that pool. One function for both would take the methods' answers,
+// and so would have to ask for a place before it knows that there is one.
 fn contents_in(st: store::Store, start: u32, len: u32) -> Option<RangeAt>
     requires { st.layers ≤ 32 }
     ensures { result ≡ range_if (range_in st.contents st.layers st.totals.contents start len) (content_place st start) len }

@@ -165,7 +165,7 @@ impl Store {
         id < self.totals.strings
     }
 
-    // Number 4. Is that a range of contents?
+    // Number 4. Is that a range of contents? For segments the same below: each hands one pool's fields to the function that they share.
     pub fn has_contents(&self, start: u32, len: u32) -> bool
         requires { self.now.layers ≤ 32 }
         ensures { result ≡ range_in self.now.contents self.now.layers self.now.totals.contents start len }

@@ -2,10 +2,6 @@ use Rattle.tape.specs.Numbers.{pools_ids, pools_levels, levels_pass, pools_four,
 use mathlib.Core.Path.{sym, ◌∙◌}
 use Rattle.tape.proofs.check_pools.Goals as goal
 
-pub store_of-st-requires : goal.store_of-st-requires
-store_of-st-requires c =
-    c.requires.1
-
 pub ids_ok-requires : goal.ids_ok-requires
 ids_ok-requires c =
     pools_ids c.requires.0 c.requires.1 c.store_of-st.ensures
