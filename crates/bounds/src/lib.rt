@@ -15,6 +15,8 @@ ghost use Rattle.bounds.specs.Spans.{span_of, diagnostic_inside, allows_incremen
 ghost use Rattle.bounds.specs.Walk.{padding_of, in_image, node_placed, sums_if_placed};
 ghost use Rattle.bounds.specs.Search.{start_of, Split, InOrder, found_of};
 
+use records::{BLOCK_LEAF, INLINE, UNCLOSED_BRACKET};
+
 // Not empty, and inside a text of `size` bytes.
 #[tactic(auto, using(std::proofs::lemmas::Bool::Decides::nat_tests), unfolding(model::specs::WellFormed::span_ok))]
 pub fn span_ok(start: u32, end: u32, size: usize) -> bool
@@ -67,20 +69,13 @@ pub fn diagnostics_placed(tape: &[u8], diagnostics: places::Run, size: usize) ->
     })
 }
 
-// The first kind of diagnostic that allows no reading of a part: before it are UnresolvedGaiji and NonCanonicalDirective.
-const UNCLOSED_BRACKET: u8 = 2;
-
+// UnclosedBracket is the first kind that allows no reading of a part: before it are UnresolvedGaiji and NonCanonicalDirective.
 pub fn diagnostics_allow_incremental(tape: &[u8], diagnostics: places::Run) -> bool
     requires { diagnostics.at + 18 * diagnostics.count ≤ length tape.now }
     ensures { result ≡ diagnostics_allow_incremental (records_at diagnostic_codec tape.now diagnostics.at diagnostics.count) }
 {
     (0..diagnostics.count).all(|i| tape[diagnostics.at + 18 * i + 1] < UNCLOSED_BRACKET)
 }
-
-// Classes of nodes.
-const INLINE: u8 = 0;
-
-const BLOCK_LEAF: u8 = 1;
 
 // Section 4. `standalone_padding`.
 #[tactic(auto, using(std::proofs::lemmas::Bool::Decides::nat_tests), unfolding(crate::specs::Walk::padding_of))]

@@ -14,7 +14,8 @@ pub fn within(lo: u8, hi: u8, b: u8) -> bool
     lo <= b && b <= hi
 }
 
-// The second byte of three, whose range the first one narrows.
+// The second byte of three, whose range the first one narrows; of four, the same below. RFC 3629 gives a row for each of these first bytes: a function
+// for both would take two rows and what the other bytes allow.
 fn second_of_three(a: u8, b: u8) -> bool
     requires { (0xe0 ≤ a) × (a < 0xf0) }
     ensures { utf8_step (utf8_first a) b ≡ cond result tail1 bad }

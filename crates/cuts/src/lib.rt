@@ -13,6 +13,8 @@ ghost use Rattle.cuts.specs.Window.{noted, Noted, Risen, Reaches, Window, next_s
 ghost use Rattle.cuts.specs.Depths.{effect_of, behind, before, is_unopened, closes_unopened};
 ghost use Rattle.cuts.specs.Gaps.{NodesApart, depths_zero, nodes_of};
 
+use records::{BLOCK_CLOSE, BLOCK_OPEN, DIRECTIVE};
+
 // A book's text, and the records of its tape that lie over it: nodes, one behind the other, and pairs.
 #[derive(Clone, Copy)]
 pub struct Source<'a> {
@@ -81,14 +83,7 @@ impl Effect {
     }
 }
 
-// Classes of nodes: the first and the last one of a block.
-const BLOCK_OPEN: u8 = 2;
-
-const BLOCK_CLOSE: u8 = 3;
-
-// The kind of a Directive, and the tags of those about a warichu.
-const DIRECTIVE: u8 = 13;
-
+// The tags of the Directives about a warichu.
 const WARICHU_OPEN: u8 = 4;
 
 const WARICHU_CLOSE: u8 = 5;
@@ -153,7 +148,7 @@ impl Depths {
         }
     }
 
-    // Before the node at `at`, counted backwards.
+    // Before the node at `at`, counted backwards. One function for both would take as a closure what an effect does to a depth, and its clauses with it.
     pub fn before(self, tape: &[u8], at: usize) -> Depths
         requires { (at + 49 ≤ length tape.now) × (self.blocks < 9223372036854775808) × (self.warichu < 9223372036854775808) }
         ensures block_depth { result.blocks ≡ depth_behind is_block_close is_block_open self.blocks (record_at node_codec tape.now at) }

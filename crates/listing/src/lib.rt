@@ -68,6 +68,7 @@ fn word_label(kind: u8, i: usize) -> &'static [u8]
     requires { i < 6 }
     ensures { result.now ≡ get_or (get_or word_labels kind []) i [] }
 {
+    // a byte of the tape, which indexes a table of sixteen
     if kind < 16 {
         WORD_LABELS[usize::from(kind)][i]
     } else {
@@ -255,7 +256,7 @@ impl<'a> Book<'a> {
 
 // ---- from record to record
 
-// How many records of its command stand before the one at a cursor.
+// How many records of its command stand before the one at a cursor. A command indexes two tables, and a byte of the tape may be no command.
 fn number_in(tape: &[u8], c: Cursor) -> usize
     ensures { result ≡ number_in tape.now c }
 {

@@ -120,7 +120,8 @@ pub fn count_at(tape: &[u8], at: usize, command: u8, size: usize) -> usize
     n
 }
 
-// The bytes of a run of strings; once they pass `room`, room + 1. (A layer reaches at most 36 bytes past the tape's end.)
+// The bytes of a run of strings; once they pass `room`, room + 1. (A layer reaches at most 36 bytes past the tape's end.) The caller asks of a
+// part of a run too, by a place that it has added up.
 pub fn strings_length(tape: &[u8], at: usize, count: usize, room: usize) -> usize
     requires { (at + 5 * count ≤ length tape.now + 36) × (room < 2 ^ 63) }
     ensures { result ≡ capped room (sum (records_at string_codec tape.now at count)) }

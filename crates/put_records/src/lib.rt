@@ -43,6 +43,8 @@ fn put_body(out: &mut [u8], at: usize, b: Body)
     put_words(out, at + 10, b.words);
 }
 
+// Each kind of record has its own fields, in document 01's order.
+
 pub fn put_segment(out: &mut [u8], at: usize, s: Segment)
     requires { at + 37 ≤ length out.old }
     ensures { out.new ≡ overwrite out.old at (record_bytes segment_codec (segment_of s)) }

@@ -12,6 +12,7 @@ ghost use Rattle.reading.specs.Until.{Until};
 // Each of these is asked of a run once or twice: a struct of tape, run and the fact that it lies inside would be made for that alone.
 
 use cuts::Depths;
+use records::{UNCLOSED_BRACKET, UNMATCHED_CLOSE};
 
 // Number 13. `balanced_nodes`: no close falls below 0, and all that opens is closed.
 pub fn balanced_nodes(tape: &[u8], nodes: places::Run) -> bool
@@ -28,11 +29,6 @@ pub fn balanced_nodes(tape: &[u8], nodes: places::Run) -> bool
     }
     depths.are_zero()
 }
-
-// Kinds of diagnostics: a bracket left open, a close left over.
-const UNCLOSED_BRACKET: u8 = 2;
-
-const UNMATCHED_CLOSE: u8 = 3;
 
 #[tactic(auto, using(std::proofs::lemmas::Bool::Decides::nat_tests), unfolding(model::specs::Merge::is_unclosed, model::specs::Tape::record_at, model::specs::Tape::operands_at, model::specs::Tape::diagnostic_codec))]
 fn is_unclosed(tape: &[u8], at: usize) -> bool

@@ -18,18 +18,24 @@ ghost use Rattle.records.specs.Uses.{use_number, format_uses, gaiji_uses, image_
 ghost use Rattle.records.specs.Shapes.{segment_head, node_head};
 ghost use Rattle.records.specs.Sizes.{content_size, segment_size, node_size, pair_size, diagnostic_size};
 
+// The numbers of kinds, tags and classes stand here by name, once for all crates. They are bytes of a tape, which may hold any other as well: an enum
+// of them would have to be asked for at each byte before it could be matched.
+
 // Kinds of bodies.
 pub const TEXT: u8 = 0;
 
 pub const RUBY: u8 = 1;
 
-const FORMAT: u8 = 2;
+pub const FORMAT: u8 = 2;
 
 const GAIJI: u8 = 3;
 
 const IMAGE: u8 = 11;
 
-const DIRECTIVE: u8 = 13;
+pub const DIRECTIVE: u8 = 13;
+
+// The tag of a Gaiji that may have a mencode.
+const UNRESOLVED: u8 = 2;
 
 // The tag of a content that is one string.
 const PLAIN: u8 = 0;
@@ -37,8 +43,27 @@ const PLAIN: u8 = 0;
 // The tag of a segment that holds a node; those below hold a text.
 pub const NODE: u8 = 3;
 
-// The class of nodes from which on they have no words.
-const BARE: u8 = 2;
+// Classes of nodes.
+pub const INLINE: u8 = 0;
+
+pub const BLOCK_LEAF: u8 = 1;
+
+pub const BLOCK_OPEN: u8 = 2;
+
+pub const BLOCK_CLOSE: u8 = 3;
+
+// The class from which on nodes have no words.
+const BARE: u8 = BLOCK_OPEN;
+
+// Kinds of diagnostics: a bracket left open, a close left over.
+pub const UNCLOSED_BRACKET: u8 = 2;
+
+pub const UNMATCHED_CLOSE: u8 = 3;
+
+// How many kinds of pairs there are, and of diagnostics.
+const PAIR_KINDS: u8 = 5;
+
+const DIAGNOSTIC_KINDS: u8 = 5;
 
 // Section 4. A body: what a `Node` or a text holds.
 #[derive(Clone, Copy)]
@@ -207,6 +232,8 @@ pub fn node_offset(tape: &[u8], at: usize) -> u32
     wire::u32_at(tape, at + 11)
 }
 
+// A record of each other kind: each has its own fields, at places of their own.
+
 pub fn pair_at(tape: &[u8], at: usize) -> PairLink
     requires { at + 18 ≤ length tape.now }
     ensures { pair_link_of result ≡ record_at pair_codec tape.now at }
@@ -293,7 +320,11 @@ fn format_uses(tag: u8) -> [Use; 6]
 fn gaiji_uses(tag: u8) -> [Use; 6]
     ensures { result ≡ gaiji_uses tag }
 {
-    let mencode = if tag == 2 { Use::OptStr } else { Use::Unused };
+    let mencode = if tag == UNRESOLVED {
+        Use::OptStr
+    } else {
+        Use::Unused
+    };
     [
         Use::Str,
         mencode,
@@ -415,7 +446,7 @@ fn segment_head(tag: u8, kind: u8) -> bool
         0 => kind == TEXT,
         1 => kind == GAIJI,
         2 => kind == DIRECTIVE,
-        NODE => 1 <= kind,
+        NODE => TEXT < kind,
         _ => false,
     }
 }
@@ -433,8 +464,8 @@ fn node_head(class: u8, inline: u8, kind: u8) -> bool
     ensures { result ≡ node_head class inline kind }
 {
     match class {
-        0 | 1 => 1 <= kind && inline == 0,
-        2 | 3 => kind == TEXT && inline < 2,
+        INLINE | BLOCK_LEAF => TEXT < kind && inline == 0,
+        BLOCK_OPEN | BLOCK_CLOSE => kind == TEXT && inline < 2,
         _ => false,
     }
 }
@@ -451,7 +482,7 @@ pub fn node_shape(n: SourceNode) -> bool
 pub fn pair_shape(p: PairLink) -> bool
     ensures { result ≡ pair_shape (pair_link_of p) }
 {
-    p.kind < 5
+    p.kind < PAIR_KINDS
 }
 
 // Section 4. Kinds 0..4.
@@ -459,7 +490,7 @@ pub fn pair_shape(p: PairLink) -> bool
 pub fn diagnostic_shape(d: Diagnostic) -> bool
     ensures { result ≡ diagnostic_shape (diagnostic_of d) }
 {
-    d.kind < 5
+    d.kind < DIAGNOSTIC_KINDS
 }
 
 // A kind of record of which the shape is tested where it stands.

@@ -171,6 +171,7 @@ impl TryFrom<u8> for PairKind {
 }
 
 impl PairKind {
+    // The conversion by its name; it is public, and calls it.
     pub fn number(self) -> u8
         ensures { result ≡ kind_number self }
     {
