@@ -1,6 +1,6 @@
 -- Whole characters in the model's machine: from `between` a character leads back to `between`, and what is none leads to a
 -- state that never comes back.
-use Rattle.std.specs.Prelude.{ℕ, zero, suc, ◌+◌, ◌-◌, ◌≤◌, ◌<◌, ◌≡◌, Bool, true, false, cond, List, [], ◌∷◌, length, get_or, drop}
+use Rattle.std.specs.Prelude.{Option, Some, None, ℕ, zero, suc, ◌+◌, ◌-◌, ◌≤◌, ◌<◌, ◌≡◌, Bool, true, false, cond, List, [], ◌∷◌, length, get_or, drop}
 use Rattle.std.proofs.Math.Path.{refl, sym, ap}
 use Rattle.std.proofs.Common.{◌∙◌, true≢false, arith, drop_of_length-le, drop-cons, drop-drop}
 use Rattle.std.proofs.Math.ListN.{length-drop}
@@ -31,6 +31,11 @@ bytes_from t (b ∷ bs) = bytes_by (utf8_step t b) (bytes_from (utf8_step t b) b
 -- how many bytes the character that the bytes begin with has, 0 where they begin with none
 unfoldable pub char_len : List ℕ → ℕ
 char_len bs = bytes_from between bs
+
+-- the same as the code answers it: no character has 0 bytes
+abbrev pub length_if : ℕ → Option ℕ
+length_if zero = None
+length_if (suc n) = Some (suc n)
 
 -- how many bytes a state asks for
 abbrev pub asks : Utf8State → ℕ

@@ -5,7 +5,7 @@
 
 ghost use Rattle.std.specs.Prelude.{◌≡◌, cond, ◌+◌, ◌≤◌, ◌<◌, length, get_or, drop};
 ghost use Rattle.model.specs.Utf8.{utf8_first, utf8_step, within as is_within, tail1, tail2, bad};
-ghost use Rattle.chars.specs.Chars.{char_len};
+ghost use Rattle.chars.specs.Chars.{char_len, length_if};
 
 #[tactic(auto, using(std::proofs::lemmas::Bool::Decides::nat_tests))]
 pub fn within(lo: u8, hi: u8, b: u8) -> bool
@@ -38,65 +38,65 @@ fn second_of_four(a: u8, b: u8) -> bool
     }
 }
 
-fn two(s: &[u8], at: usize) -> usize
+fn two(s: &[u8], at: usize) -> Option<usize>
     requires { (at < length s.now) × (0xc2 ≤ get_or s.now at 0) × (get_or s.now at 0 < 0xe0) }
-    ensures { result ≡ char_len (drop at s.now) }
+    ensures { result ≡ length_if (char_len (drop at s.now)) }
 {
     if s.len() - at < 2 {
-        return 0;
+        return None;
     }
     if !within(0x80, 0xbf, s[at + 1]) {
-        return 0;
+        return None;
     }
-    2
+    Some(2)
 }
 
-fn three(s: &[u8], at: usize) -> usize
+fn three(s: &[u8], at: usize) -> Option<usize>
     requires { (at < length s.now) × (0xe0 ≤ get_or s.now at 0) × (get_or s.now at 0 < 0xf0) }
-    ensures { result ≡ char_len (drop at s.now) }
+    ensures { result ≡ length_if (char_len (drop at s.now)) }
 {
     if s.len() - at < 3 {
-        return 0;
+        return None;
     }
     if !second_of_three(s[at], s[at + 1]) {
-        return 0;
+        return None;
     }
     if !within(0x80, 0xbf, s[at + 2]) {
-        return 0;
+        return None;
     }
-    3
+    Some(3)
 }
 
-fn four(s: &[u8], at: usize) -> usize
+fn four(s: &[u8], at: usize) -> Option<usize>
     requires { (at < length s.now) × (0xf0 ≤ get_or s.now at 0) × (get_or s.now at 0 < 0xf5) }
-    ensures { result ≡ char_len (drop at s.now) }
+    ensures { result ≡ length_if (char_len (drop at s.now)) }
 {
     if s.len() - at < 4 {
-        return 0;
+        return None;
     }
     if !second_of_four(s[at], s[at + 1]) {
-        return 0;
+        return None;
     }
     if !within(0x80, 0xbf, s[at + 2]) {
-        return 0;
+        return None;
     }
     if !within(0x80, 0xbf, s[at + 3]) {
-        return 0;
+        return None;
     }
-    4
+    Some(4)
 }
 
-// How many bytes the character at `at` has, 0 where there is none.
+// How many bytes the character at `at` has, if there is one.
 #[tactic(auto, using(crate::proofs::Lengths::one_byte, crate::proofs::Lengths::none_low, crate::proofs::Lengths::none_high))]
-pub fn char_len(s: &[u8], at: usize) -> usize
+pub fn char_len(s: &[u8], at: usize) -> Option<usize>
     requires { at < length s.now }
-    ensures { result ≡ char_len (drop at s.now) }
+    ensures { result ≡ length_if (char_len (drop at s.now)) }
 {
     match s[at] {
-        0x00..=0x7f => 1,
+        0x00..=0x7f => Some(1),
         0xc2..=0xdf => two(s, at),
         0xe0..=0xef => three(s, at),
         0xf0..=0xf4 => four(s, at),
-        _ => 0,
+        _ => None,
     }
 }

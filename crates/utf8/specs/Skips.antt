@@ -1,11 +1,12 @@
 -- Whole characters that are skipped together: runs of ASCII, and of three bytes E1-EC 80-BF 80-BF, which most of Japanese is.
-use Rattle.std.specs.Prelude.{ℕ, zero, suc, ◌+◌, ◌-◌, ◌≤◌, ◌<◌, ◌≡◌, refl, Bool, true, false, ◌&&◌, List, length, get_or, drop, ltb, leb}
+use Rattle.std.specs.Prelude.{Option, Some, MatchOption, ℕ, zero, suc, ◌+◌, ◌-◌, ◌≤◌, ◌<◌, ◌≡◌, refl, Bool, true, false, ◌&&◌, List, length, get_or, drop, ltb, leb}
+use Rattle.std.proofs.lemmas.Option.{MatchOption-at_some}
 use Rattle.std.proofs.Common.{sym, ap, ◌∙◌, arith, add-zero, ltb-true, leb-true}
 use Rattle.std.proofs.Math.Bool.{and_assoc, and-true}
 use Rattle.model.specs.Utf8.{Utf8State, tail2, within, utf8_first, utf8_step, utf8}
 use Rattle.laws.specs.Lists.{both}
 use Rattle.wire.specs.Loops.{all_up_to}
-use Rattle.chars.specs.Chars.{char_len, asks, len_1, three_whole, char_next, char_none, char_fits}
+use Rattle.chars.specs.Chars.{char_len, length_if, asks, len_1, three_whole, char_next, char_none, char_fits}
 use Rattle.chars.specs.Leads.{lead_1, lead_3}
 
 -- between the places `at` and r there are whole characters, so that the rest is UTF-8 from either
@@ -14,11 +15,9 @@ pub record Skipped (s : List ℕ) (at r : ℕ) : Type 0 where
   pub fits : r ≤ length s
   pub rest : utf8 (drop at s) ≡ utf8 (drop r s)
 
--- the same of the n bytes from `at` on; or n is 0, where there is no character
-pub record Step (s : List ℕ) (at n : ℕ) : Type 0 where
-  pub fits : at + n ≤ length s
-  pub none : n ≡ 0 → utf8 (drop at s) ≡ false
-  pub some : (n ≡ 0 → ⊥) → utf8 (drop at s) ≡ utf8 (drop (at + n) s)
+-- the next characters from `at` on, of n bytes; None where there is none
+abbrev pub Step : List ℕ → ℕ → Option ℕ → Type 0
+Step s at r = MatchOption r (utf8 (drop at s) ≡ false) (λ n. (0 < n) × Skipped s at (at + n))
 
 pub skipped_none : (s : List ℕ) (at : ℕ) → at ≤ length s → Skipped s at at
 skipped_none s at h = record { order = omega arith; fits = h; rest = refl }
@@ -27,17 +26,13 @@ pub skipped_more : {s : List ℕ} {at i r : ℕ} → Skipped s at i → Skipped 
 skipped_more p q = record { order = omega (arith, p.order, q.order); fits = q.fits; rest = p.rest ∙ q.rest }
 
 -- a place that lies ahead
-pub step_skipped : {s : List ℕ} {at r : ℕ} → Skipped s at r → at < r → Step s at (r - at)
+pub step_skipped : {s : List ℕ} {at r : ℕ} → Skipped s at r → at < r → Step s at (Some (r - at))
 step_skipped {s} {at} {r} p h =
     let e : at + (r - at) ≡ r = omega arith in
-    record { fits = rw e p.fits; none = λ z. absurd (omega arith); some = λ z. rw e p.rest }
+    (omega (arith, h), rw e p)
 
--- the characters from a place i that lies ahead
-pub step_stop : {s : List ℕ} {at i n : ℕ} → Skipped s at i → Step s i n → n ≡ 0 → Step s at 0
-step_stop p q z = record { fits = omega (arith, p.order, p.fits); none = λ e. p.rest ∙ q.none z; some = λ e. absurd (e refl) }
-
-pub step_on : {s : List ℕ} {at i n : ℕ} → Skipped s at i → Step s i n → (n ≡ 0 → ⊥) → Skipped s at (i + n)
-step_on p q z = record { order = omega (arith, p.order); fits = q.fits; rest = p.rest ∙ q.some z }
+pub step_some : (s : List ℕ) (at : ℕ) {n : ℕ} {r : Option ℕ} → Step s at r → r ≡ Some n → (0 < n) × Skipped s at (at + n)
+step_some s at {n} p e = MatchOption-at_some (utf8 (drop at s) ≡ false) (λ m. (0 < m) × Skipped s at (at + m)) n e p
 
 module _ (s : List ℕ) (at : ℕ) (h : at < length s) where
   pub skip_char : (n : ℕ) → n ≡ char_len (drop at s) → (n ≡ 0 → ⊥) → Skipped s at (at + n)
@@ -46,11 +41,15 @@ module _ (s : List ℕ) (at : ℕ) (h : at < length s) where
   pub skip_1 : get_or s at 0 < 0x80 → Skipped s at (at + 1)
   skip_1 a = skip_char 1 (len_1 s at h (lead_1 (get_or s at 0) a)) (λ e. omega arith)
 
-  pub step_char : (n : ℕ) → n ≡ char_len (drop at s) → Step s at n
-  step_char n e = record { fits = char_fits s at n e (omega arith); none = char_none s at n e h; some = char_next s at n e h }
+  pub step_char : {r : Option ℕ} → r ≡ length_if (char_len (drop at s)) → Step s at r
+  step_char {r} e = rw e (go (char_len (drop at s)) refl)
+    where
+      go : (n : ℕ) → n ≡ char_len (drop at s) → Step s at (length_if n)
+      go zero q = char_none s at zero q h refl
+      go (suc n) q = (omega arith, skip_char (suc n) q (λ z. absurd (omega (arith, z))))
 
-  pub step_1 : get_or s at 0 < 0x80 → Step s at 1
-  step_1 a = step_char 1 (len_1 s at h (lead_1 (get_or s at 0) a))
+  pub step_1 : get_or s at 0 < 0x80 → Step s at (Some 1)
+  step_1 a = (omega arith, skip_1 a)
 
 -- ---- ASCII
 

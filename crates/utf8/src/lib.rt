@@ -4,7 +4,7 @@
 // what they have passed too, so the text goes whole, with a place in it, and not as the slice of what is left.
 #![tactic(auto)]
 
-ghost use Rattle.std.specs.Prelude.{◌≡◌, ◌&&◌, ◌+◌, ◌≤◌, ◌<◌, length, get_or, ltb};
+ghost use Rattle.std.specs.Prelude.{◌≡◌, Some, ◌&&◌, ◌+◌, ◌≤◌, ◌<◌, length, get_or, ltb};
 ghost use Rattle.model.specs.Utf8.{utf8, is_char_boundary};
 ghost use Rattle.wire.specs.Loops.{all_up_to, any_up_to};
 ghost use Rattle.utf8.specs.Skips.{Skipped, Step, ascii_at, is_three};
@@ -97,9 +97,10 @@ fn three_end(s: &[u8], at: usize) -> usize
     i
 }
 
+// How many bytes the ASCII at `at` has, one byte or many.
 fn ascii_len(s: &[u8], at: usize) -> usize
     requires { (at < length s.now) × (get_or s.now at 0 < 0x80) }
-    ensures { Step s.now at result }
+    ensures { Step s.now at (Some result) }
 {
     let end = ascii_end(s, ascii_blocks(s, at));
     if at < end {
@@ -108,24 +109,24 @@ fn ascii_len(s: &[u8], at: usize) -> usize
     1
 }
 
-fn three_len(s: &[u8], at: usize) -> usize
+fn three_len(s: &[u8], at: usize) -> Option<usize>
     requires { at < length s.now }
     ensures { Step s.now at result }
 {
     let end = three_end(s, at);
     if at < end {
-        return end - at;
+        return Some(end - at);
     }
     chars::char_len(s, at)
 }
 
-// How many bytes the next characters have, one or many, 0 where there is none.
-fn step_len(s: &[u8], at: usize) -> usize
+// How many bytes the next characters have, one or many; None where there is none.
+fn step_len(s: &[u8], at: usize) -> Option<usize>
     requires { at < length s.now }
     ensures { Step s.now at result }
 {
     if s[at] < 0x80 {
-        return ascii_len(s, at);
+        return Some(ascii_len(s, at));
     }
     if chars::within(0xe1, 0xec, s[at]) {
         return three_len(s, at);
@@ -133,23 +134,19 @@ fn step_len(s: &[u8], at: usize) -> usize
     chars::char_len(s, at)
 }
 
-// At least 64 bytes of characters, or all that are left; 0 where there is none.
-fn slow_len(s: &[u8], at: usize) -> usize
+// At least 64 bytes of characters, or all that are left; None where there is none.
+fn slow_len(s: &[u8], at: usize) -> Option<usize>
     requires { at < length s.now }
     ensures { Step s.now at result }
 {
     let mut i = at;
     while i < s.len() {
         if 64 <= i - at {
-            return i - at;
+            return Some(i - at);
         }
-        let n = step_len(s, i);
-        if n == 0 {
-            return 0;
-        }
-        i += n;
+        i += step_len(s, i)?;
     }
-    i - at
+    Some(i - at)
 }
 
 // The byte b behind p and q is not as its neighbours ask, or leads a character that is not judged by neighbours.
@@ -230,10 +227,9 @@ pub fn is_utf8(s: &[u8]) -> bool
         if s.len() <= at {
             return true;
         }
-        let n = slow_len(s, at);
-        if n == 0 {
+        let Some(n) = slow_len(s, at) else {
             return false;
-        }
+        };
         at += n;
     }
     true

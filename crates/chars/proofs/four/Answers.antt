@@ -1,7 +1,7 @@
 use Rattle.model.specs.Utf8.{utf8_first}
 use Rattle.chars.specs.Leads.{asks_4}
-use Rattle.chars.specs.Chars.{asks, len_short, four_second, four_third, four_fourth, four_whole}
-use mathlib.Core.Path.{◌≡◌, sym, ◌∙◌}
+use Rattle.chars.specs.Chars.{length_if, asks, len_short, four_second, four_third, four_fourth, four_whole}
+use mathlib.Core.Path.{◌≡◌, sym, ap, ◌∙◌}
 use native.Mathlib.Omega.{arith}
 use lib.ListN.{get_or}
 use Rattle.chars.proofs.four.Goals as goal
@@ -9,20 +9,20 @@ use Rattle.chars.proofs.four.Goals as goal
 pub returns-then-s-at-lt4 : goal.returns-then-s-at-lt4
 returns-then-s-at-lt4 c =
     let q : asks (utf8_first (get_or c.args.s.now c.args.at 0)) ≡ 3 = asks_4 _ c.requires.1 c.requires.2 in
-    len_short _ _ c.requires.0 (omega (arith, q)) (omega (arith, q))
+    ap length_if (len_short _ _ c.requires.0 (omega (arith, q)) (omega (arith, q)))
 
 pub returns-then-not-second_of_four : goal.returns-then-not-second_of_four
 returns-then-not-second_of_four c =
-    four_second c.args.s.now c.args.at (omega arith) (asks_4 _ c.requires.1 c.requires.2) c.second_of_four.result c.second_of_four.ensures c.if-not-second_of_four.true
+    ap length_if (four_second c.args.s.now c.args.at (omega arith) (asks_4 _ c.requires.1 c.requires.2) c.second_of_four.result c.second_of_four.ensures c.if-not-second_of_four.true)
 
 pub returns-then-not-within : goal.returns-then-not-within
 returns-then-not-within c =
-    four_third c.args.s.now c.args.at (omega arith) (asks_4 _ c.requires.1 c.requires.2) c.second_of_four.result c.second_of_four.ensures c.if-not-second_of_four.false (sym c.within.ensures ∙ c.if-not-within.true)
+    ap length_if (four_third c.args.s.now c.args.at (omega arith) (asks_4 _ c.requires.1 c.requires.2) c.second_of_four.result c.second_of_four.ensures c.if-not-second_of_four.false (sym c.within.ensures ∙ c.if-not-within.true))
 
 pub returns-then-not-within-2 : goal.returns-then-not-within-2
 returns-then-not-within-2 c =
-    four_fourth c.args.s.now c.args.at (omega arith) (asks_4 _ c.requires.1 c.requires.2) c.second_of_four.result c.second_of_four.ensures c.if-not-second_of_four.false (sym c.within.ensures ∙ c.if-not-within.false) (sym c.within-2.ensures ∙ c.if-not-within-2.true)
+    ap length_if (four_fourth c.args.s.now c.args.at (omega arith) (asks_4 _ c.requires.1 c.requires.2) c.second_of_four.result c.second_of_four.ensures c.if-not-second_of_four.false (sym c.within.ensures ∙ c.if-not-within.false) (sym c.within-2.ensures ∙ c.if-not-within-2.true))
 
 pub returns : goal.returns
 returns c =
-    four_whole c.args.s.now c.args.at (omega arith) (asks_4 _ c.requires.1 c.requires.2) c.second_of_four.result c.second_of_four.ensures c.if-not-second_of_four.false (sym c.within.ensures ∙ c.if-not-within.false) (sym c.within-2.ensures ∙ c.if-not-within-2.false)
+    ap length_if (four_whole c.args.s.now c.args.at (omega arith) (asks_4 _ c.requires.1 c.requires.2) c.second_of_four.result c.second_of_four.ensures c.if-not-second_of_four.false (sym c.within.ensures ∙ c.if-not-within.false) (sym c.within-2.ensures ∙ c.if-not-within-2.false))

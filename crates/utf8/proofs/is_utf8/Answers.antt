@@ -1,5 +1,5 @@
 use Rattle.chars.specs.Chars.{utf8_end}
-use Rattle.utf8.specs.Skips.{skipped_more, skipped_none, step_on}
+use Rattle.utf8.specs.Skips.{skipped_more, skipped_none, step_some}
 use mathlib.Core.Path.{sym, ◌∙◌}
 use native.Mathlib.Omega.{arith}
 use Rattle.utf8.proofs.is_utf8.Goals as goal
@@ -20,25 +20,18 @@ pub returns-then-s-at : goal.returns-then-s-at
 returns-then-s-at c =
     sym (c.loop-at.invariant.rest ∙ c.ascii_blocks.ensures.rest ∙ c.plain_end-at.ensures.rest ∙ utf8_end _ _ c.if-s-at.true)
 
-pub slow_len-n-requires : goal.slow_len-n-requires
-slow_len-n-requires c =
-    c.if-s-at.false
-
-pub returns-then-n-eq0 : goal.returns-then-n-eq0
-returns-then-n-eq0 c =
-    sym (c.loop-at.invariant.rest ∙ c.ascii_blocks.ensures.rest ∙ c.plain_end-at.ensures.rest ∙ c.slow_len-n.ensures.none c.if-n-eq0.true)
-
 pub overflow_add-at : goal.overflow_add-at
 overflow_add-at c =
-    omega (arith, c.slow_len-n.ensures.fits)
+    omega (arith, (step_some c.args.s.now c.plain_end-at.result c.slow_len.ensures c.in-Some.is).1.fits)
 
 pub loop-at-smaller : goal.loop-at-smaller
 loop-at-smaller c =
-    omega (arith, c.slow_len-n.ensures.fits, c.if-n-eq0.false, c.ascii_blocks.ensures.order, c.plain_end-at.ensures.order)
+    let next = step_some c.args.s.now c.plain_end-at.result c.slow_len.ensures c.in-Some.is in
+    omega (arith, next.0, next.1.fits, c.ascii_blocks.ensures.order, c.plain_end-at.ensures.order)
 
 pub loop-at-preserved : goal.loop-at-preserved
 loop-at-preserved c =
-    step_on (skipped_more (skipped_more c.loop-at.invariant c.ascii_blocks.ensures) c.plain_end-at.ensures) c.slow_len-n.ensures c.if-n-eq0.false
+    skipped_more (skipped_more (skipped_more c.loop-at.invariant c.ascii_blocks.ensures) c.plain_end-at.ensures) (step_some c.args.s.now c.plain_end-at.result c.slow_len.ensures c.in-Some.is).1
 
 pub returns : goal.returns
 returns c =

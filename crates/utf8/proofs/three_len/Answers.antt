@@ -7,4 +7,4 @@ returns-then-at-end c =
 
 pub returns : goal.returns
 returns c =
-    step_char _ _ c.requires _ c.char_len.ensures
+    step_char c.args.s.now c.args.at c.requires {r = c.char_len.result} c.char_len.ensures
