@@ -220,6 +220,7 @@ fn last_cut(source: &Source, d: Passed, bound: usize, words: &mut [u32]) -> usiz
     let mut i = d.count;
     let mut depths = d.depths;
     let mut hi = bound;
+    // Each turn begins where the one before has stopped, and the last is the one that finds a cut: no `for`.
     loop {
         let lo = gap_from(source, i);
         let c = gap_last(source, lo, hi + 1, depths, hi.min(lo - 1), words);

@@ -30,7 +30,7 @@ const FAR: usize = 8191;
 const PLACES: usize = 4096;
 
 // `StrInterner`, beside the words and bytes: slots of the table (0 before its first use) and how many are taken; how many strings
-// there are, where in the buffer they begin and end; one more than the last answer's id (0: none), as model's `holds` takes it.
+// there are, where in the buffer they begin and end; the last answer as a slot would have it, 0 or its id plus 1, which is how model's `holds` takes it.
 #[derive(Clone, Copy, Debug, Default, PartialEq, Eq)]
 pub struct StrInterner {
     pub slots: usize,

@@ -42,7 +42,7 @@ pub struct Cursor {
     pub seen: [usize; 11],
 }
 
-// What stands behind a label: nothing, a number, the string of an id, or the bytes of the buffer from one place up to another.
+// What stands behind a label, each in its own form (an `Option` of three of them would be matched twice): nothing, a number, the string of an id, or the bytes of the buffer from one place up to another.
 #[derive(Clone, Copy)]
 enum Value {
     Nothing,

@@ -23,7 +23,7 @@ pub const STARTS: usize = 8192;
 // what the second word of a place counts
 const HIGH: usize = 4294967296;
 
-// Where a probe ended: the slot's place and content, and how many slots were inspected.
+// Where a probe ended: the slot's place, its content as the table has it (0, or an id plus 1), and how many slots were inspected.
 #[derive(Clone, Copy)]
 pub struct Probed {
     pub at: usize,
