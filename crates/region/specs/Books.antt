@@ -46,6 +46,13 @@ module _ {b : Book} {ss : Strings} (s : StringsOf b ss) where
         small = subst (λ (t : List ℕ). length t < 2 ^ 63) (sym s.tape) b.tape_small;
       }
 
+-- number 10, by the nodes of the tape
+pub book_depends : (b : Book) (start : ℕ) {x : Bool}
+    → x ≡ depends_from (store_of (book_of b).layers) start [] (records_at node_codec b.tape.now b.places.nodes.at b.places.nodes.count)
+    → (end : ℕ) (replacement : List ℕ) → x ≡ has_ruby_format_dependency (book_of b) (edit_of start end replacement)
+unfolding has_ruby_format_dependency edit_of
+book_depends b start q end replacement = q ∙ ap (depends_from (store_of (book_of b).layers) start []) (held_nodes b.held)
+
 module _ {b : Book} {ns : Nodes} (s : NodesOf b ns) where
   -- the model's store, and the model's nodes
   pub nodes_store : lent.store_of ns ≡ store_of (book_of b).layers

@@ -6,10 +6,10 @@
 
 mod book;
 
-ghost use Rattle.std.specs.Prelude.{◌≡◌, length};
+ghost use Rattle.std.specs.Prelude.{◌≡◌, ℕ, List, length};
 ghost use Rattle.model.specs.Bytes.{zeros};
 ghost use Rattle.model.specs.Types.{LexOutput};
-ghost use Rattle.model.specs.Region.{chosen_region, choose_region, region_text, edit_of};
+ghost use Rattle.model.specs.Region.{has_ruby_format_dependency, chosen_region, choose_region, region_text, edit_of};
 ghost use Rattle.refusal.specs.Refusal.{checked, checked_map};
 ghost use Rattle.span.specs.Values.{span_of};
 ghost use Rattle.region.specs.Chosen.{whole_text};
@@ -32,6 +32,17 @@ fn is_whole(text: u32, r: balanced_region::Region) -> bool
     r.end == text as usize
 }
 
+// Number 10. The strings are walked only where a Format asks for its target.
+fn has_ruby_format_dependency(book: &Book, words: &mut [u32], from: u32) -> bool
+    ensures { (end : ℕ) (replacement : List ℕ) → result ≡ has_ruby_format_dependency (book_of book.now) (edit_of from end replacement) }
+{
+    let asked = ruby_formats::asked_nodes(book.tape, book.places.nodes, from);
+    if asked == 0 {
+        return false;
+    }
+    dependency::has_ruby_format_dependency(&book.nodes(), words, from)
+}
+
 // Numbers 8 to 11 of a book that passed 1 to 7, or the region in offsets of the old text. The words may hold anything.
 pub fn chosen_region<'a>(
     book: &Book<'a>,
@@ -42,7 +53,7 @@ pub fn chosen_region<'a>(
 {
     let text = &book.bytes[0..book.places.text as usize];
     edit::check_edit(text, edit)?;
-    if dependency::has_ruby_format_dependency(&book.nodes(), words, edit.start) {
+    if has_ruby_format_dependency(book, words, edit.start) {
         return Err(Refusal::RubyFormatDependency);
     }
     let edited = Edited {

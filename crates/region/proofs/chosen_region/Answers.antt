@@ -2,7 +2,6 @@ use Rattle.std.proofs.Common.{arith, refl}
 use Rattle.refusal.specs.Refusal.{handed_on, number_bounds}
 use Rattle.cuts.specs.Gaps.{nodes_apart}
 use Rattle.region.specs.Held.{held_texts_inside, held_runs}
-use Rattle.region.specs.Books.{nodes_depend}
 use Rattle.region.specs.Stage.{stage_short, stage_edit, stage_depends, stage_region, stage_nodes, stage_fits, stage_whole, stage_chosen}
 use Rattle.region.proofs.chosen_region.Goals as goal
 
@@ -20,7 +19,7 @@ returns-in_err-check_edit c =
 
 pub returns-then-has_ruby_format_dependency : goal.returns-then-has_ruby_format_dependency
 returns-then-has_ruby_format_dependency c =
-    stage_depends c.args.book.now.held _ _ _ c.in_ok-check_edit.ensures refl (nodes_depend c.nodes.ensures _ c.has_ruby_format_dependency.ensures) c.if-has_ruby_format_dependency.true
+    stage_depends c.args.book.now.held _ _ _ c.in_ok-check_edit.ensures refl c.has_ruby_format_dependency.ensures c.if-has_ruby_format_dependency.true
 
 pub invariant_of-edited-clause-nodes_inside : goal.invariant_of-edited-clause-nodes_inside
 invariant_of-edited-clause-nodes_inside c =
@@ -32,32 +31,32 @@ invariant_of-edited-clause-pairs_inside c =
 
 pub invariant_of-edited-clause-nodes_apart : goal.invariant_of-edited-clause-nodes_apart
 invariant_of-edited-clause-nodes_apart c =
-    nodes_apart (stage_nodes c.args.book.now.held _ _ _ c.in_ok-check_edit.ensures refl (nodes_depend c.nodes.ensures _ c.has_ruby_format_dependency.ensures))
+    nodes_apart (stage_nodes c.args.book.now.held _ _ _ c.in_ok-check_edit.ensures refl c.has_ruby_format_dependency.ensures)
 
 pub invariant_of-edited-2-clause-nodes_in : goal.invariant_of-edited-2-clause-nodes_in
 invariant_of-edited-2-clause-nodes_in c =
-    stage_nodes c.args.book.now.held _ _ _ c.in_ok-check_edit.ensures refl (nodes_depend c.nodes.ensures _ c.has_ruby_format_dependency.ensures)
+    stage_nodes c.args.book.now.held _ _ _ c.in_ok-check_edit.ensures refl c.has_ruby_format_dependency.ensures
 
 pub invariant_of-edited-2-clause-start_inside : goal.invariant_of-edited-2-clause-start_inside
 invariant_of-edited-2-clause-start_inside c =
-    (stage_region c.args.book.now.held _ _ _ c.in_ok-check_edit.ensures refl (nodes_depend c.nodes.ensures _ c.has_ruby_format_dependency.ensures)).0
+    (stage_region c.args.book.now.held _ _ _ c.in_ok-check_edit.ensures refl c.has_ruby_format_dependency.ensures).0
 
 pub invariant_of-edited-2-clause-end_inside : goal.invariant_of-edited-2-clause-end_inside
 invariant_of-edited-2-clause-end_inside c =
-    (stage_region c.args.book.now.held _ _ _ c.in_ok-check_edit.ensures refl (nodes_depend c.nodes.ensures _ c.has_ruby_format_dependency.ensures)).1
+    (stage_region c.args.book.now.held _ _ _ c.in_ok-check_edit.ensures refl c.has_ruby_format_dependency.ensures).1
 
 pub returns-then-is_whole : goal.returns-then-is_whole
 returns-then-is_whole c =
-    stage_whole c.args.book.now.held _ _ _ c.in_ok-check_edit.ensures refl (nodes_depend c.nodes.ensures _ c.has_ruby_format_dependency.ensures) c.if-has_ruby_format_dependency.false c.balanced_region-r.ensures c.is_whole.ensures c.if-is_whole.true
+    stage_whole c.args.book.now.held _ _ _ c.in_ok-check_edit.ensures refl c.has_ruby_format_dependency.ensures c.if-has_ruby_format_dependency.false c.balanced_region-r.ensures c.is_whole.ensures c.if-is_whole.true
 
 pub overflow_cast-result : goal.overflow_cast-result
 overflow_cast-result c =
-    let f = stage_fits c.args.book.now.held _ _ _ c.in_ok-check_edit.ensures refl (nodes_depend c.nodes.ensures _ c.has_ruby_format_dependency.ensures) c.if-has_ruby_format_dependency.false c.balanced_region-r.ensures in omega (arith, f)
+    let f = stage_fits c.args.book.now.held _ _ _ c.in_ok-check_edit.ensures refl c.has_ruby_format_dependency.ensures c.if-has_ruby_format_dependency.false c.balanced_region-r.ensures in omega (arith, f)
 
 pub overflow_cast-result-2 : goal.overflow_cast-result-2
 overflow_cast-result-2 c =
-    let f = stage_fits c.args.book.now.held _ _ _ c.in_ok-check_edit.ensures refl (nodes_depend c.nodes.ensures _ c.has_ruby_format_dependency.ensures) c.if-has_ruby_format_dependency.false c.balanced_region-r.ensures in omega (arith, f)
+    let f = stage_fits c.args.book.now.held _ _ _ c.in_ok-check_edit.ensures refl c.has_ruby_format_dependency.ensures c.if-has_ruby_format_dependency.false c.balanced_region-r.ensures in omega (arith, f)
 
 pub returns : goal.returns
 returns c =
-    stage_chosen c.args.book.now.held _ _ _ c.in_ok-check_edit.ensures refl (nodes_depend c.nodes.ensures _ c.has_ruby_format_dependency.ensures) c.if-has_ruby_format_dependency.false c.balanced_region-r.ensures c.is_whole.ensures c.if-is_whole.false
+    stage_chosen c.args.book.now.held _ _ _ c.in_ok-check_edit.ensures refl c.has_ruby_format_dependency.ensures c.if-has_ruby_format_dependency.false c.balanced_region-r.ensures c.is_whole.ensures c.if-is_whole.false
