@@ -15,7 +15,8 @@ use Rattle.ruby_formats.specs.Asks.{asks_target, asks_at}
 use Rattle.dependency.specs.Bases.{among_bases, refers_back}
 use Rattle.dependency.specs.Parts.{refers_among}
 use Rattle.dependency.specs.Pieces.{run_join, among_join}
-use Rattle.ruby_formats.specs.Named.{named_by, same_plain, same_first, asks_again}
+use Rattle.strings.specs.PlainContent.{same_known}
+use Rattle.ruby_formats.specs.Named.{named_by, same_first, asks_again}
 
 -- ---- what is left to a later place
 
@@ -75,10 +76,10 @@ module _ (ss : Strings) (from at n i v count : ℕ) {x : Bool} (e : (b : List �
   abbrev node : ℕ → SourceNode
   node k = record_at node_codec t (at + 49 * k)
 
-  parts : (nat_lt i v ≡ true) × (nat_lt v count ≡ true) × (asks_target from (node v) ≡ true) × (same_plain (named_by t (at + 49 * i) all) (named_by t (at + 49 * v) all) ≡ true)
+  parts : (nat_lt i v ≡ true) × (nat_lt v count ≡ true) × (asks_target from (node v) ≡ true) × (same_known (named_by t (at + 49 * i) all) (named_by t (at + 49 * v) all) ≡ true)
   unfolding asks_again asks_at
   parts =
-      let a = both (nat_lt i v && nat_lt v count && asks_target from (node v)) (same_plain (named_by t (at + 49 * i) all) (named_by t (at + 49 * v) all)) (sym (e all) ∙ f) in
+      let a = both (nat_lt i v && nat_lt v count && asks_target from (node v)) (same_known (named_by t (at + 49 * i) all) (named_by t (at + 49 * v) all)) (sym (e all) ∙ f) in
       let b = both (nat_lt i v && nat_lt v count) (asks_target from (node v)) a.0 in
       let d = both (nat_lt i v) (nat_lt v count) b.0 in
       (d.0, d.1, b.1, a.1)

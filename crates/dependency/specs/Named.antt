@@ -15,7 +15,8 @@ use Rattle.strings.specs.Lent.{lent_store}
 use Rattle.sorted_ids.specs.Row.{holds_at}
 use Rattle.dependency.specs.Bases.{is_plain, has_base}
 use Rattle.dependency.specs.Rows.{is_base_of, Rowed, rowed_one}
-use Rattle.ruby_formats.specs.Named.{named_by, same_plain, same_first, base_again}
+use Rattle.strings.specs.PlainContent.{same_known}
+use Rattle.ruby_formats.specs.Named.{named_by, same_first, base_again}
 
 module _ (ss : Strings) (at n i v : ℕ) {words : List ℕ} {m : ℕ} (r : Rowed ss (records_at node_codec ss.tape.now at (min n i)) words m) (h : i < n)
     {x : Bool} (e : (b : List ℕ) → x ≡ base_again ss.tape.now at i v b) (f : x ≡ true) where
@@ -31,10 +32,10 @@ module _ (ss : Strings) (at n i v : ℕ) {words : List ℕ} {m : ℕ} (r : Rowed
   abbrev node : ℕ → SourceNode
   node k = record_at node_codec t (at + 49 * k)
 
-  parts : (nat_lt v i ≡ true) × (is_ruby (node v) ≡ true) × (same_plain (named_by t (at + 49 * i) all) (named_by t (at + 49 * v) all) ≡ true)
+  parts : (nat_lt v i ≡ true) × (is_ruby (node v) ≡ true) × (same_known (named_by t (at + 49 * i) all) (named_by t (at + 49 * v) all) ≡ true)
   unfolding base_again
   parts =
-      let a = both (nat_lt v i && is_ruby (node v)) (same_plain (named_by t (at + 49 * i) all) (named_by t (at + 49 * v) all)) (sym (e all) ∙ f) in
+      let a = both (nat_lt v i && is_ruby (node v)) (same_known (named_by t (at + 49 * i) all) (named_by t (at + 49 * v) all)) (sym (e all) ∙ f) in
       let b = both (nat_lt v i) (is_ruby (node v)) a.0 in
       (b.0, b.1, a.1)
 

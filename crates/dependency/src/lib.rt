@@ -16,7 +16,7 @@ ghost use Rattle.strings.specs.Lent.{lent_store, string_in};
 ghost use Rattle.strings.specs.PlainContent.{plain_string};
 ghost use Rattle.wire.specs.Loops.{any_up_to};
 ghost use Rattle.ruby_formats.specs.Sound.{PlainIn};
-ghost use Rattle.ruby_formats.specs.Nodes.{node_in, first_nodes, store_of};
+ghost use Rattle.ruby_formats.specs.Nodes.{node_in, first_nodes, nodes_store};
 ghost use Rattle.dependency.specs.Bases.{is_plain, has_base, among_bases};
 ghost use Rattle.dependency.specs.Among.{refers_first};
 ghost use Rattle.dependency.specs.Noted.{filter_key, inserted_plain, noted_by, Noted};
@@ -49,7 +49,7 @@ fn is_plain(strings: &Strings, p: Option<u32>, s: &[u8]) -> bool
 // A Ruby with this plain base.
 fn has_base(nodes: &Nodes, i: usize, s: &[u8]) -> bool
     requires { i < nodes.now.run.count }
-    ensures { result ≡ has_base (store_of nodes.now) s.now (node_in nodes.now i) }
+    ensures { result ≡ has_base (nodes_store nodes.now) s.now (node_in nodes.now i) }
 {
     nodes.is_ruby(i) && is_plain(&nodes.strings, nodes.first_plain(i), s)
 }
@@ -57,7 +57,7 @@ fn has_base(nodes: &Nodes, i: usize, s: &[u8]) -> bool
 // Is it the plain base of a Ruby among the first n nodes?
 pub fn is_ruby_base(nodes: &Nodes, n: usize, s: &[u8]) -> bool
     requires { n ≤ nodes.now.run.count }
-    ensures { result ≡ any (has_base (store_of nodes.now) s.now) (first_nodes nodes.now n) }
+    ensures { result ≡ any (has_base (nodes_store nodes.now) s.now) (first_nodes nodes.now n) }
 {
     for i in 0..n {
         if has_base(nodes, i, s) {
@@ -100,8 +100,8 @@ pub const MOST_IN_VAIN: u32 = 128;
 // The same, with the filter of these bases asked first.
 pub fn is_filtered_base(nodes: &Nodes, n: usize, filter: &[u32], s: &[u8]) -> Answer
     requires n_le_count { n ≤ nodes.now.run.count }
-    requires noted { Noted (store_of nodes.now) (first_nodes nodes.now n) filter.now }
-    ensures { Told result (any (has_base (store_of nodes.now) s.now) (first_nodes nodes.now n)) }
+    requires noted { Noted (nodes_store nodes.now) (first_nodes nodes.now n) filter.now }
+    ensures { Told result (any (has_base (nodes_store nodes.now) s.now) (first_nodes nodes.now n)) }
 {
     if !bloom::may_contain(filter, filter_key(s)) {
         return Answer::No;
@@ -117,9 +117,9 @@ pub fn is_filtered_base(nodes: &Nodes, n: usize, filter: &[u32], s: &[u8]) -> An
 
 fn is_target_base(nodes: &Nodes, n: usize, filter: &[u32], p: Option<u32>) -> Answer
     requires n_le_count { n ≤ nodes.now.run.count }
-    requires noted { Noted (store_of nodes.now) (first_nodes nodes.now n) filter.now }
+    requires noted { Noted (nodes_store nodes.now) (first_nodes nodes.now n) filter.now }
     requires plain_in { PlainIn nodes.now.strings.store.now p }
-    ensures { Told result (among_bases (store_of nodes.now) (first_nodes nodes.now n) (plain_string (store_of nodes.now) p)) }
+    ensures { Told result (among_bases (nodes_store nodes.now) (first_nodes nodes.now n) (plain_string (nodes_store nodes.now) p)) }
 {
     match p {
         Some(id) => is_filtered_base(nodes, n, filter, nodes.strings.resolve_str(id)),
@@ -130,7 +130,7 @@ fn is_target_base(nodes: &Nodes, n: usize, filter: &[u32], p: Option<u32>) -> An
 // Number 10, node i: a Referenced Format that ends behind `from` and whose target is the base of an earlier Ruby among the first n nodes.
 fn refers_among(nodes: &Nodes, n: usize, filter: &[u32], i: usize, from: u32) -> Answer
     requires i_lt_count { i < nodes.now.run.count }
-    requires noted { Noted (store_of nodes.now) (first_nodes nodes.now (min n i)) filter.now }
+    requires noted { Noted (nodes_store nodes.now) (first_nodes nodes.now (min n i)) filter.now }
     ensures { Told result (refers_first nodes.now from n i) }
 {
     if !nodes.asks_target(i, from) {
@@ -152,7 +152,7 @@ fn insert_plain(strings: &Strings, filter: &mut [u32], p: Option<u32>)
 // The plain base of a Ruby, inserted.
 pub fn note_ruby(nodes: &Nodes, i: usize, filter: &mut [u32])
     requires { i < nodes.now.run.count }
-    ensures { filter.new ≡ noted_by (store_of nodes.now) filter.old (node_in nodes.now i) }
+    ensures { filter.new ≡ noted_by (nodes_store nodes.now) filter.old (node_in nodes.now i) }
 {
     if nodes.is_ruby(i) {
         insert_plain(&nodes.strings, filter, nodes.first_plain(i));
@@ -162,8 +162,8 @@ pub fn note_ruby(nodes: &Nodes, i: usize, filter: &mut [u32])
 // Node i, if it is one of the first n.
 fn note_first(nodes: &Nodes, n: usize, filter: &mut [u32], i: usize)
     requires i_lt_count { i < nodes.now.run.count }
-    requires noted { Noted (store_of nodes.now) (first_nodes nodes.now (min n i)) filter.old }
-    ensures { Noted (store_of nodes.now) (first_nodes nodes.now (min n (i + 1))) filter.new }
+    requires noted { Noted (nodes_store nodes.now) (first_nodes nodes.now (min n i)) filter.old }
+    ensures { Noted (nodes_store nodes.now) (first_nodes nodes.now (min n (i + 1))) filter.new }
 {
     if i < n {
         note_ruby(nodes, i, filter);
@@ -292,7 +292,7 @@ pub fn insert_base(nodes: &Nodes, i: usize, row: &mut [u32], m: usize) -> usize
     requires i_lt_count { i < nodes.now.run.count }
     requires row { Row nodes.now.strings row.old m }
     requires m_in_bounds { m < length row.old }
-    ensures { Inserted nodes.now.strings (is_base_of (store_of nodes.now) (node_in nodes.now i)) row.old m row.new result }
+    ensures { Inserted nodes.now.strings (is_base_of (nodes_store nodes.now) (node_in nodes.now i)) row.old m row.new result }
 {
     if !nodes.is_ruby(i) {
         return m;
@@ -408,7 +408,7 @@ fn refers_to_part(nodes: &Nodes, n: usize, words: &mut [u32], from: u32) -> bool
 // Number 10 in parts of half as many nodes as there are words, a walk from each part on: so a target is seldom compared.
 fn refers_in_parts(nodes: &Nodes, words: &mut [u32], from: u32) -> bool
     requires { 2 ≤ length words.old }
-    ensures { result ≡ depends_from (store_of nodes.now) from [] (first_nodes nodes.now nodes.now.run.count) }
+    ensures { result ≡ depends_from (nodes_store nodes.now) from [] (first_nodes nodes.now nodes.now.run.count) }
 {
     let size = words.len() / 2 + 1;
     // From part to part, and the last may be shorter.
@@ -434,7 +434,7 @@ fn refers_in_parts(nodes: &Nodes, words: &mut [u32], from: u32) -> bool
 // Number 10 by words that may hold anything: an index of the strings in the first quarter, the filter or the row in the others.
 fn refers_by_words(nodes: &Nodes, words: &mut [u32], from: u32) -> bool
     requires { 2 ≤ length words.old }
-    ensures { result ≡ depends_from (store_of nodes.now) from [] (first_nodes nodes.now nodes.now.run.count) }
+    ensures { result ≡ depends_from (nodes_store nodes.now) from [] (first_nodes nodes.now nodes.now.run.count) }
 {
     let (index, words) = words.split_at_mut(words.len() / 4);
     nodes.strings.write_index(index);
@@ -454,7 +454,7 @@ fn refers_by_words(nodes: &Nodes, words: &mut [u32], from: u32) -> bool
 
 // The same by words of its own, where so few are lent that there would be many parts.
 fn refers_by_own(nodes: &Nodes, from: u32) -> bool
-    ensures { result ≡ depends_from (store_of nodes.now) from [] (first_nodes nodes.now nodes.now.run.count) }
+    ensures { result ≡ depends_from (nodes_store nodes.now) from [] (first_nodes nodes.now nodes.now.run.count) }
 {
     let mut own = [0u32; 65536];
     refers_by_words(nodes, &mut own[..], from)
@@ -469,7 +469,7 @@ pub fn in_many_parts(words: usize, nodes: usize) -> bool
 
 // Number 10. `has_ruby_format_dependency`. The words may hold anything. A book without a Format that refers to a target behind `from` needs none.
 pub fn has_ruby_format_dependency(nodes: &Nodes, words: &mut [u32], from: u32) -> bool
-    ensures { result ≡ depends_from (store_of nodes.now) from [] (first_nodes nodes.now nodes.now.run.count) }
+    ensures { result ≡ depends_from (nodes_store nodes.now) from [] (first_nodes nodes.now nodes.now.run.count) }
 {
     let n = ruby_formats::asked_nodes(nodes.strings.tape, nodes.run, from);
     if n == 0 {

@@ -10,9 +10,9 @@ use Rattle.model.specs.Merge.{introduces_ruby_format_dependency}
 use Rattle.laws.specs.Nodes.{ends_by, starts_at}
 use Rattle.bounds.specs.Spans.{span_of}
 use Rattle.ruby_formats.specs.declared.nodes.Nodes.{Nodes}
-use Rattle.ruby_formats.specs.Nodes as lent
+use Rattle.ruby_formats.specs.Nodes.{nodes_store, first_nodes}
 use Rattle.region.specs.declared.book.Book.{Book}
-use Rattle.region.specs.Books.{book_of, NodesOf, nodes_store, nodes_are}
+use Rattle.region.specs.Books.{book_of, NodesOf, nodes_store_lem, nodes_are}
 use Rattle.introduces.specs.Linked.{ruby_for_later, refers_to, none_refers, introduces_is}
 
 -- does a Referenced Format of the reading refer to a base before an offset?
@@ -22,8 +22,8 @@ refers_before b r start =
 
 -- by the nodes at hand, of which the first n end by the offset
 pub refers_by : {b r : Book} {ns ms : Nodes} → NodesOf b ns → NodesOf r ms → (start : ℕ) {earlier : List SourceNode} → earlier ≡ keep (ends_by start) (book_of b).source_nodes
-    → {x : Bool} → x ≡ any (refers_to (lent.store_of ns) earlier (lent.store_of ms)) (lent.first_nodes ms ms.run.count) → x ≡ refers_before b r start
-refers_by s m start e q = q ∙ rw (nodes_store s, e, nodes_store m, nodes_are m) refl
+    → {x : Bool} → x ≡ any (refers_to (nodes_store ns) earlier (nodes_store ms)) (first_nodes ms ms.run.count) → x ≡ refers_before b r start
+refers_by s m start e q = q ∙ rw (nodes_store_lem s, e, nodes_store_lem m, nodes_are m) refl
 
 -- ---- number 15
 

@@ -13,10 +13,10 @@ use Rattle.wire.specs.Loops.{Missed, by_bool}
 use Rattle.records.specs.Runs.{test_at}
 use Rattle.strings.specs.declared.lent.Strings.{Strings}
 use Rattle.strings.specs.Lent.{lent_store}
-use Rattle.strings.specs.PlainContent.{plain_of, plain_string}
+use Rattle.strings.specs.PlainContent.{plain_of, same_known, plain_string}
 use Rattle.ruby_formats.specs.Sound.{first_contents, plain_first}
 use Rattle.dependency.specs.Rows.{Rowed, among_row, among_row_lem}
-use Rattle.ruby_formats.specs.Named.{named_by, same_plain, same_first, target_again}
+use Rattle.ruby_formats.specs.Named.{named_by, same_first, target_again}
 use Rattle.introduces.specs.Linked.{refers_to}
 
 -- a Referenced Format whose target, in a store of its own, is in the row
@@ -53,10 +53,10 @@ module _ (ss : Strings) (words : List ℕ) (m : ℕ) (rs : Strings) (at i v : �
   abbrev node : ℕ → SourceNode
   node k = record_at node_codec rs.tape.now (at + 49 * k)
 
-  parts : (ltb v i ≡ true) × (is_referenced_format (node v) ≡ true) × (same_plain (named_by rs.tape.now (at + 49 * i) all) (named_by rs.tape.now (at + 49 * v) all) ≡ true)
+  parts : (ltb v i ≡ true) × (is_referenced_format (node v) ≡ true) × (same_known (named_by rs.tape.now (at + 49 * i) all) (named_by rs.tape.now (at + 49 * v) all) ≡ true)
   unfolding target_again
   parts =
-      let a = both (ltb v i && is_referenced_format (node v)) (same_plain (named_by rs.tape.now (at + 49 * i) all) (named_by rs.tape.now (at + 49 * v) all)) (sym (e all) ∙ f) in
+      let a = both (ltb v i && is_referenced_format (node v)) (same_known (named_by rs.tape.now (at + 49 * i) all) (named_by rs.tape.now (at + 49 * v) all)) (sym (e all) ∙ f) in
       let b = both (ltb v i) (is_referenced_format (node v)) a.0 in
       (b.0, b.1, a.1)
 

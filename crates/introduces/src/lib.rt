@@ -17,7 +17,7 @@ ghost use Rattle.bounds.specs.Spans.{span_of};
 ghost use Rattle.strings.specs.Lent.{lent_store};
 ghost use Rattle.strings.specs.PlainContent.{plain_string};
 ghost use Rattle.ruby_formats.specs.Sound.{PlainIn};
-ghost use Rattle.ruby_formats.specs.Nodes.{node_in, first_nodes, store_of};
+ghost use Rattle.ruby_formats.specs.Nodes.{node_in, first_nodes, nodes_store};
 ghost use Rattle.sorted_ids.specs.Row.{Row};
 ghost use Rattle.dependency.specs.Bases.{among_bases};
 ghost use Rattle.dependency.specs.Noted.{Noted};
@@ -53,7 +53,7 @@ fn ruby_for_later(book: &Book, reading: &Book, end: u32) -> bool
 
 // The bases of the Rubies among these nodes, in a filter that begins as zeros.
 fn note_bases(nodes: &Nodes, filter: &mut [u32])
-    ensures { Noted (store_of nodes.now) (first_nodes nodes.now nodes.now.run.count) filter.new }
+    ensures { Noted (nodes_store nodes.now) (first_nodes nodes.now nodes.now.run.count) filter.new }
 {
     filter.fill(0);
     for i in 0..nodes.run.count {
@@ -63,9 +63,9 @@ fn note_bases(nodes: &Nodes, filter: &mut [u32])
 
 // Is a string of the reading the base of a Ruby among the old nodes?
 fn is_base_of(nodes: &Nodes, filter: &[u32], reading: &Strings, p: Option<u32>) -> Answer
-    requires noted { Noted (store_of nodes.now) (first_nodes nodes.now nodes.now.run.count) filter.now }
+    requires noted { Noted (nodes_store nodes.now) (first_nodes nodes.now nodes.now.run.count) filter.now }
     requires plain_in { PlainIn reading.now.store.now p }
-    ensures { Told result (among_bases (store_of nodes.now) (first_nodes nodes.now nodes.now.run.count) (plain_string (lent_store reading.now) p)) }
+    ensures { Told result (among_bases (nodes_store nodes.now) (first_nodes nodes.now nodes.now.run.count) (plain_string (lent_store reading.now) p)) }
 {
     match p {
         Some(id) => {
@@ -78,9 +78,9 @@ fn is_base_of(nodes: &Nodes, filter: &[u32], reading: &Strings, p: Option<u32>) 
 
 // Node i of the reading: a Referenced Format whose target is the base of a Ruby among the old nodes.
 fn refers_to(nodes: &Nodes, filter: &[u32], reading: &Nodes, i: usize) -> Answer
-    requires noted { Noted (store_of nodes.now) (first_nodes nodes.now nodes.now.run.count) filter.now }
+    requires noted { Noted (nodes_store nodes.now) (first_nodes nodes.now nodes.now.run.count) filter.now }
     requires i_lt_count { i < reading.now.run.count }
-    ensures { Told result (refers_to (store_of nodes.now) (first_nodes nodes.now nodes.now.run.count) (store_of reading.now) (node_in reading.now i)) }
+    ensures { Told result (refers_to (nodes_store nodes.now) (first_nodes nodes.now nodes.now.run.count) (nodes_store reading.now) (node_in reading.now i)) }
 {
     if !reading.is_referenced_format(i) {
         return Answer::No;
@@ -90,8 +90,8 @@ fn refers_to(nodes: &Nodes, filter: &[u32], reading: &Nodes, i: usize) -> Answer
 
 // The same of any node of the reading; None for not known, as in the walk of number 10.
 fn any_refers_to(nodes: &Nodes, filter: &[u32], reading: &Nodes) -> Option<bool>
-    requires { Noted (store_of nodes.now) (first_nodes nodes.now nodes.now.run.count) filter.now }
-    ensures { IfSome result (λ r. r ≡ any (refers_to (store_of nodes.now) (first_nodes nodes.now nodes.now.run.count) (store_of reading.now)) (first_nodes reading.now reading.now.run.count)) }
+    requires { Noted (nodes_store nodes.now) (first_nodes nodes.now nodes.now.run.count) filter.now }
+    ensures { IfSome result (λ r. r ≡ any (refers_to (nodes_store nodes.now) (first_nodes nodes.now nodes.now.run.count) (nodes_store reading.now)) (first_nodes reading.now reading.now.run.count)) }
 {
     let mut vain = 0;
     for i in 0..reading.run.count {
@@ -136,7 +136,7 @@ fn is_in_row(strings: &Strings, row: &[u32], m: usize, reading: &Strings, p: Opt
 fn refers_to_row(strings: &Strings, row: &[u32], m: usize, reading: &Nodes, i: usize) -> bool
     requires row { Row strings.now row.now m }
     requires i_lt_count { i < reading.now.run.count }
-    ensures { result ≡ refers_to_row strings.now row.now m (store_of reading.now) (node_in reading.now i) }
+    ensures { result ≡ refers_to_row strings.now row.now m (nodes_store reading.now) (node_in reading.now i) }
 {
     reading.is_referenced_format(i)
         && is_in_row(strings, row, m, &reading.strings, reading.first_plain(i))
@@ -153,8 +153,8 @@ fn refers_first_to_row(
 ) -> bool
     requires row { Row strings.now row.now m }
     requires i_lt_count { i < reading.now.run.count }
-    requires missed { Missed (test_at node_codec (refers_to_row strings.now row.now m (store_of reading.now)) reading.now.strings.tape.now reading.now.run.at) i }
-    ensures { result ≡ refers_to_row strings.now row.now m (store_of reading.now) (node_in reading.now i) }
+    requires missed { Missed (test_at node_codec (refers_to_row strings.now row.now m (nodes_store reading.now)) reading.now.strings.tape.now reading.now.run.at) i }
+    ensures { result ≡ refers_to_row strings.now row.now m (nodes_store reading.now) (node_in reading.now i) }
 {
     if let Some(v) = dependency::noted_place(reading, i, first) {
         if reading.is_target_again(i, v) {
@@ -172,7 +172,7 @@ fn any_refers_to_row(
     first: &[u64],
 ) -> bool
     requires { Row strings.now row.now m }
-    ensures { result ≡ any (refers_to_row strings.now row.now m (store_of reading.now)) (first_nodes reading.now reading.now.run.count) }
+    ensures { result ≡ any (refers_to_row strings.now row.now m (nodes_store reading.now)) (first_nodes reading.now reading.now.run.count) }
 {
     for i in 0..reading.run.count {
         if refers_first_to_row(strings, row, m, reading, i, first) {
@@ -184,7 +184,7 @@ fn any_refers_to_row(
 
 // A Referenced Format of the reading whose target is the base of a Ruby among the old nodes. None for not known.
 fn refers_by_filter(nodes: &Nodes, reading: &Nodes, filter: &mut [u32]) -> Option<bool>
-    ensures { IfSome result (λ r. r ≡ any (refers_to (store_of nodes.now) (first_nodes nodes.now nodes.now.run.count) (store_of reading.now)) (first_nodes reading.now reading.now.run.count)) }
+    ensures { IfSome result (λ r. r ≡ any (refers_to (nodes_store nodes.now) (first_nodes nodes.now nodes.now.run.count) (nodes_store reading.now)) (first_nodes reading.now reading.now.run.count)) }
 {
     note_bases(nodes, filter);
     any_refers_to(nodes, filter, reading)
@@ -193,7 +193,7 @@ fn refers_by_filter(nodes: &Nodes, reading: &Nodes, filter: &mut [u32]) -> Optio
 // The same by a row of the bases, with words of its own for the first places of long strings.
 fn refers_by_row(nodes: &Nodes, reading: &Nodes, row: &mut [u32]) -> bool
     requires { nodes.now.run.count ≤ length row.old }
-    ensures { result ≡ any (refers_to (store_of nodes.now) (first_nodes nodes.now nodes.now.run.count) (store_of reading.now)) (first_nodes reading.now reading.now.run.count) }
+    ensures { result ≡ any (refers_to (nodes_store nodes.now) (first_nodes nodes.now nodes.now.run.count) (nodes_store reading.now)) (first_nodes reading.now reading.now.run.count) }
 {
     let mut first = [0u64; 4096];
     let mut asked = [0u64; 4096];
@@ -208,7 +208,7 @@ fn refers_by_row(nodes: &Nodes, reading: &Nodes, row: &mut [u32]) -> bool
 // The same by a filter, or by a row where the filter does not tell.
 fn refers_to_some(nodes: &Nodes, reading: &Nodes, words: &mut [u32]) -> bool
     requires { nodes.now.run.count ≤ length words.old }
-    ensures { result ≡ any (refers_to (store_of nodes.now) (first_nodes nodes.now nodes.now.run.count) (store_of reading.now)) (first_nodes reading.now reading.now.run.count) }
+    ensures { result ≡ any (refers_to (nodes_store nodes.now) (first_nodes nodes.now nodes.now.run.count) (nodes_store reading.now)) (first_nodes reading.now reading.now.run.count) }
 {
     match refers_by_filter(nodes, reading, words) {
         Some(refers) => refers,
@@ -219,7 +219,7 @@ fn refers_to_some(nodes: &Nodes, reading: &Nodes, words: &mut [u32]) -> bool
 // The same, with half as many old nodes at a time as there are words.
 fn refers_in_parts(nodes: &Nodes, reading: &Nodes, words: &mut [u32]) -> bool
     requires { 2 ≤ length words.old }
-    ensures { result ≡ any (refers_to (store_of nodes.now) (first_nodes nodes.now nodes.now.run.count) (store_of reading.now)) (first_nodes reading.now reading.now.run.count) }
+    ensures { result ≡ any (refers_to (nodes_store nodes.now) (first_nodes nodes.now nodes.now.run.count) (nodes_store reading.now)) (first_nodes reading.now reading.now.run.count) }
 {
     let size = words.len() / 2 + 1;
     // From part to part, and the last may be shorter.
@@ -244,7 +244,7 @@ fn refers_in_parts(nodes: &Nodes, reading: &Nodes, words: &mut [u32]) -> bool
 // The same by words that may hold anything: an index of the old book's strings in the first eighth, of the reading's in the last.
 fn refers_by_words(nodes: &Nodes, reading: &Nodes, words: &mut [u32]) -> bool
     requires { 6 ≤ length words.old }
-    ensures { result ≡ any (refers_to (store_of nodes.now) (first_nodes nodes.now nodes.now.run.count) (store_of reading.now)) (first_nodes reading.now reading.now.run.count) }
+    ensures { result ≡ any (refers_to (nodes_store nodes.now) (first_nodes nodes.now nodes.now.run.count) (nodes_store reading.now)) (first_nodes reading.now reading.now.run.count) }
 {
     let eighth = words.len() / 8;
     let (first, rest) = words.split_at_mut(eighth);
@@ -277,7 +277,7 @@ fn refers_by_words(nodes: &Nodes, reading: &Nodes, words: &mut [u32]) -> bool
 
 // The same by words of its own, where few are lent.
 fn refers_by_own(nodes: &Nodes, reading: &Nodes) -> bool
-    ensures { result ≡ any (refers_to (store_of nodes.now) (first_nodes nodes.now nodes.now.run.count) (store_of reading.now)) (first_nodes reading.now reading.now.run.count) }
+    ensures { result ≡ any (refers_to (nodes_store nodes.now) (first_nodes nodes.now nodes.now.run.count) (nodes_store reading.now)) (first_nodes reading.now reading.now.run.count) }
 {
     let mut words = [0u32; 65536];
     refers_by_words(nodes, reading, &mut words[..])

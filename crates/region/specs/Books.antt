@@ -13,7 +13,7 @@ use Rattle.laws.specs.Layers.{ids_pools}
 use Rattle.strings.specs.declared.lent.Strings.{Strings}
 use Rattle.ruby_formats.specs.declared.nodes.Nodes.{Nodes}
 use Rattle.ruby_formats.specs.Sound.{layers_of, Sound}
-use Rattle.ruby_formats.specs.Nodes as lent
+use Rattle.ruby_formats.specs.Nodes.{nodes_store, first_nodes}
 use Rattle.region.specs.Held.{held_nodes, held_runs}
 use Rattle.region.specs.declared.book.Book.{Book}
 
@@ -55,14 +55,14 @@ book_depends b start q end replacement = q ∙ ap (depends_from (store_of (book_
 
 module _ {b : Book} {ns : Nodes} (s : NodesOf b ns) where
   -- the model's store, and the model's nodes
-  pub nodes_store : lent.store_of ns ≡ store_of (book_of b).layers
-  nodes_store = ap store_of s.strings.layers
+  pub nodes_store_lem : nodes_store ns ≡ store_of (book_of b).layers
+  nodes_store_lem = ap store_of s.strings.layers
 
-  pub nodes_are : lent.first_nodes ns ns.run.count ≡ (book_of b).source_nodes
+  pub nodes_are : first_nodes ns ns.run.count ≡ (book_of b).source_nodes
   nodes_are = ap₂ (λ t run. records_at node_codec t run.at run.count) s.strings.tape s.run ∙ held_nodes b.held
 
   -- number 10
-  pub nodes_depend : (start : ℕ) {x : Bool} → x ≡ depends_from (lent.store_of ns) start [] (lent.first_nodes ns ns.run.count)
+  pub nodes_depend : (start : ℕ) {x : Bool} → x ≡ depends_from (nodes_store ns) start [] (first_nodes ns ns.run.count)
       → (end : ℕ) (replacement : List ℕ) → x ≡ has_ruby_format_dependency (book_of b) (edit_of start end replacement)
   unfolding has_ruby_format_dependency edit_of
-  nodes_depend start q end replacement = q ∙ ap₂ (λ s ns. depends_from s start [] ns) nodes_store nodes_are
+  nodes_depend start q end replacement = q ∙ ap₂ (λ s ns. depends_from s start [] ns) nodes_store_lem nodes_are

@@ -1,5 +1,5 @@
 -- Which string a node names, and two nodes that name one by the same id.
-use Rattle.std.specs.Prelude.{Option, Some, None, ◌≡◌, ℕ, ◌+◌, ◌*◌, Bool, ◌||◌, ◌&&◌, List, ltb, eqb}
+use Rattle.std.specs.Prelude.{Option, Some, None, ◌≡◌, ℕ, ◌+◌, ◌*◌, Bool, ◌||◌, ◌&&◌, List, ltb}
 use Rattle.std.proofs.Math.Path.{refl, ap}
 use Rattle.std.proofs.Common.{sym, ◌∙◌, arith}
 use Rattle.std.proofs.Math.Bool.{true, false, cond}
@@ -10,7 +10,7 @@ use Rattle.model.specs.Region.{is_referenced_format, is_ruby, first_plain}
 use Rattle.model.specs.WellFormed.{word_of}
 use Rattle.store.specs.declared.Store.{Store}
 use Rattle.strings.specs.Starts.{store_in}
-use Rattle.strings.specs.PlainContent.{plain_of, plain_string, plain_string_lem}
+use Rattle.strings.specs.PlainContent.{plain_of, same_known, plain_string, plain_string_lem}
 use Rattle.ruby_formats.specs.Asks.{asks_at}
 use Rattle.ruby_formats.specs.Sound.{PlainIn, first_contents}
 
@@ -29,23 +29,14 @@ nothing_in = record { inside = λ id q. absurd (no_id id q) }
 
 -- ---- the same id
 
-unfoldable pub is_id : ℕ → Option ℕ → Bool
-is_id id (Some own) = eqb own id
-is_id id None = false
-
-unfoldable pub same_plain : Option ℕ → Option ℕ → Bool
-same_plain p (Some id) = is_id id p
-same_plain p None = false
-
-same_is : (p q : Option ℕ) → same_plain p q ≡ true → p ≡ q
-unfolding same_plain is_id
+same_is : (p q : Option ℕ) → same_known p q ≡ true → p ≡ q
+unfolding same_known
 same_is (Some a) (Some b) e = ap Some (eqb-true a b e)
-same_is None (Some b) e = absurd (false≢true e)
 same_is (Some a) None e = absurd (false≢true e)
-same_is None None e = refl
+same_is None q e = absurd (false≢true e)
 
 -- the strings of two nodes
-module _ (t b : List ℕ) (p q : ℕ) (e : same_plain (named_by t p b) (named_by t q b) ≡ true) where
+module _ (t b : List ℕ) (p q : ℕ) (e : same_known (named_by t p b) (named_by t q b) ≡ true) where
   first_is : (p : ℕ) → first_plain (store_in t b) (record_at node_codec t p) ≡ plain_string (store_in t b) (plain_of (first_contents t p b))
   unfolding first_plain first_contents
   first_is p = plain_string_lem (store_in t b) (word_of (record_at node_codec t p).body 0) (word_of (record_at node_codec t p).body 1) refl
@@ -67,16 +58,16 @@ module _ (t b : List ℕ) (p q : ℕ) (e : same_plain (named_by t p b) (named_by
 
 -- a Ruby before node i with its base by the same id
 unfoldable pub base_again : List ℕ → ℕ → ℕ → ℕ → List ℕ → Bool
-base_again t at i v b = ltb v i && is_ruby (record_at node_codec t (at + 49 * v)) && same_plain (named_by t (at + 49 * i) b) (named_by t (at + 49 * v) b)
+base_again t at i v b = ltb v i && is_ruby (record_at node_codec t (at + 49 * v)) && same_known (named_by t (at + 49 * i) b) (named_by t (at + 49 * v) b)
 
 -- ---- a target again: of an earlier node
 
 -- a Format before node i with its target by the same id
 unfoldable pub target_again : List ℕ → ℕ → ℕ → ℕ → List ℕ → Bool
-target_again t at i v b = ltb v i && is_referenced_format (record_at node_codec t (at + 49 * v)) && same_plain (named_by t (at + 49 * i) b) (named_by t (at + 49 * v) b)
+target_again t at i v b = ltb v i && is_referenced_format (record_at node_codec t (at + 49 * v)) && same_known (named_by t (at + 49 * i) b) (named_by t (at + 49 * v) b)
 
 -- ---- of a later node
 
 -- a later node that asks for the target of node i by the same id
 unfoldable pub asks_again : ℕ → List ℕ → ℕ → ℕ → ℕ → ℕ → List ℕ → Bool
-asks_again from t at i v count b = ltb i v && ltb v count && asks_at from t at v && same_plain (named_by t (at + 49 * i) b) (named_by t (at + 49 * v) b)
+asks_again from t at i v count b = ltb i v && ltb v count && asks_at from t at v && same_known (named_by t (at + 49 * i) b) (named_by t (at + 49 * v) b)

@@ -14,5 +14,5 @@ abbrev pub first_nodes : Nodes → ℕ → List SourceNode
 first_nodes ns n = records_at node_codec ns.strings.tape.now ns.run.at n
 
 -- the store that has their strings
-abbrev pub store_of : Nodes → NodeStore
-store_of ns = lent_store ns.strings
+abbrev pub nodes_store : Nodes → NodeStore
+nodes_store ns = lent_store ns.strings

@@ -12,6 +12,10 @@ ghost use Rattle.ruby_formats.specs.Asks.{asks_target, asks_at, count_to_last, f
 
 pub use nodes::Nodes;
 use places::Run;
+use records::{FORMAT, INLINE, RUBY};
+
+// The `ForwardOrigin` of a Format that refers to its target.
+const REFERENCED: u8 = 1;
 
 // An Inline Ruby.
 #[tactic(auto, unfolding(model::specs::Tape::record_at, model::specs::Tape::operands_at, model::specs::Tape::node_codec))]
@@ -19,7 +23,7 @@ pub fn is_ruby(tape: &[u8], at: usize) -> bool
     requires { at + 49 ≤ length tape.now }
     ensures { result ≡ is_ruby (record_at node_codec tape.now at) }
 {
-    tape[at + 1] == 0 && tape[at + 15] == 1
+    tape[at + 1] == INLINE && tape[at + 15] == RUBY
 }
 
 pub fn any_ruby(tape: &[u8], nodes: Run) -> bool
@@ -35,7 +39,7 @@ pub fn is_referenced_format(tape: &[u8], at: usize) -> bool
     requires { at + 49 ≤ length tape.now }
     ensures { result ≡ is_referenced_format (record_at node_codec tape.now at) }
 {
-    tape[at + 1] == 0 && tape[at + 15] == 2 && tape[at + 16] / 4 == 1
+    tape[at + 1] == INLINE && tape[at + 15] == FORMAT && tape[at + 16] / 4 == REFERENCED
 }
 
 // A Referenced Format that starts at or behind an offset.

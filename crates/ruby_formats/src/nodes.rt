@@ -18,9 +18,9 @@ impl<'a> Nodes<'a> {
     ghost use Rattle.model.specs.Region.{is_ruby, is_referenced_format};
     ghost use Rattle.ruby_formats.specs.Asks.{names_one, asks_target};
     ghost use Rattle.ruby_formats.specs.Sound.{PlainIn, first_contents};
-    ghost use Rattle.strings.specs.PlainContent.{plain_of};
+    ghost use Rattle.strings.specs.PlainContent.{plain_of, same_known};
     ghost use Rattle.ruby_formats.specs.Nodes.{node_in};
-    ghost use Rattle.ruby_formats.specs.Named.{named_by, same_plain, base_again, target_again, asks_again};
+    ghost use Rattle.ruby_formats.specs.Named.{named_by, base_again, target_again, asks_again};
 
     // Where node i stands.
     pub fn at(&self, i: usize) -> usize
@@ -82,10 +82,10 @@ impl<'a> Nodes<'a> {
     }
 
     // Do two nodes name a string by the same id?
-    #[tactic(auto, unfolding(crate::specs::Named::same_plain, crate::specs::Named::is_id))]
+    #[tactic(auto, unfolding(strings::specs::PlainContent::same_known))]
     fn same_named(&self, i: usize, v: usize) -> bool
         requires { (i < self.now.run.count) × (v < self.now.run.count) }
-        ensures { (b : List ℕ) → result ≡ same_plain (named_by self.now.strings.tape.now (self.now.run.at + 49 * i) b) (named_by self.now.strings.tape.now (self.now.run.at + 49 * v) b) }
+        ensures { (b : List ℕ) → result ≡ same_known (named_by self.now.strings.tape.now (self.now.run.at + 49 * i) b) (named_by self.now.strings.tape.now (self.now.run.at + 49 * v) b) }
     {
         match (self.named(i), self.named(v)) {
             (Some(first), Some(second)) => first == second,

@@ -19,6 +19,12 @@ plain_of [] = None
 plain_of (c ∷ []) = cond (eqb c.tag 0) (Some c.first) None
 plain_of (c ∷ d ∷ cs) = None
 
+-- are both known, and the same?
+unfoldable pub same_known : Option ℕ → Option ℕ → Bool
+same_known (Some a) (Some b) = eqb a b
+same_known (Some a) None = false
+same_known None q = false
+
 -- the string of an answer
 unfoldable pub plain_string : NodeStore → Option ℕ → ModelOption (List ℕ)
 plain_string st (Some id) = some (resolve_str st id)

@@ -1,5 +1,5 @@
 use Rattle.std.proofs.Common.{refl, ◌∙◌, arith}
-use Rattle.ruby_formats.specs.Nodes.{store_of}
+use Rattle.ruby_formats.specs.Nodes.{nodes_store}
 use Rattle.dependency.specs.Pieces.{sound_piece}
 use Rattle.dependency.specs.Parts.{parts_none, parts_more, parts_found, parts_all}
 use Rattle.dependency.proofs.refers_in_parts.Goals as goal
@@ -8,7 +8,7 @@ pub loop-i-init : goal.loop-i-init
 loop-i-init c = (
   omega arith,
   refl,
-  parts_none (store_of c.args.nodes.now) c.args.from c.args.nodes.now.strings.tape.now c.args.nodes.now.run.at c.args.nodes.now.run.count,
+  parts_none (nodes_store c.args.nodes.now) c.args.from c.args.nodes.now.strings.tape.now c.args.nodes.now.run.at c.args.nodes.now.run.count,
   omega (arith, c.requires),
 )
 
@@ -17,19 +17,19 @@ invariant_of-rest c = record { sound = sound_piece c.args.nodes.now.sound c.loop
 
 pub returns-then-refers_to_part : goal.returns-then-refers_to_part
 returns-then-refers_to_part c =
-    parts_found (store_of c.args.nodes.now) c.args.from c.args.nodes.now.strings.tape.now
+    parts_found (nodes_store c.args.nodes.now) c.args.from c.args.nodes.now.strings.tape.now
     c.args.nodes.now.run.at c.args.nodes.now.run.count c.loop-i.i _ c.loop-i.invariant.0 c.refers_to_part.ensures c.if-refers_to_part.true
 
 pub loop-i-preserved : goal.loop-i-preserved
 loop-i-preserved c = (
   omega (arith, c.min-n.ensures, c.loop-i.invariant.0),
   c.refers_to_part.auto.words ∙ c.loop-i.invariant.1,
-  parts_more (store_of c.args.nodes.now) c.args.from c.args.nodes.now.strings.tape.now
+  parts_more (nodes_store c.args.nodes.now) c.args.from c.args.nodes.now.strings.tape.now
       c.args.nodes.now.run.at c.args.nodes.now.run.count c.loop-i.i _ c.loop-i.invariant.0 c.refers_to_part.ensures c.loop-i.invariant.2 c.if-refers_to_part.false,
   c.loop-i.invariant.3,
 )
 
 pub returns : goal.returns
 returns c =
-    parts_all (store_of c.args.nodes.now) c.args.from c.args.nodes.now.strings.tape.now
+    parts_all (nodes_store c.args.nodes.now) c.args.from c.args.nodes.now.strings.tape.now
     c.args.nodes.now.run.at c.args.nodes.now.run.count c.loop-i.i (omega (arith, c.loop-i.invariant.0, c.loop-i-test.false)) c.loop-i.invariant.2

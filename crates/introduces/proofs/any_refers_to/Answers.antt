@@ -2,7 +2,7 @@ use Rattle.std.proofs.Common.{refl, arith}
 use Rattle.model.specs.Tape.{node_codec}
 use Rattle.wire.specs.Loops.{missed_none}
 use Rattle.records.specs.Runs.{run_missed, run_found, run_nowhere}
-use Rattle.ruby_formats.specs.Nodes.{store_of, first_nodes}
+use Rattle.ruby_formats.specs.Nodes.{nodes_store, first_nodes}
 use Rattle.dependency.specs.Rows.{yes_told, no_told, vain_told}
 use Rattle.introduces.specs.Linked.{refers_to}
 use Rattle.introduces.proofs.any_refers_to.Goals as goal
@@ -16,7 +16,7 @@ unfolding node_codec
 returns-in-Yes c =
     let ns = c.args.nodes.now in
     let own = c.args.reading.now in
-    let test = refers_to (store_of ns) (first_nodes ns ns.run.count) (store_of own) in
+    let test = refers_to (nodes_store ns) (first_nodes ns ns.run.count) (nodes_store own) in
     run_found node_codec test own.strings.tape.now own.run.at c.loop-i.i _ refl _ (yes_told c.in-Yes.ensures) _ c.loop-i-test.true refl
 
 pub loop-i-preserved : goal.loop-i-preserved
@@ -24,7 +24,7 @@ unfolding node_codec
 loop-i-preserved c =
     let ns = c.args.nodes.now in
     let own = c.args.reading.now in
-    let test = refers_to (store_of ns) (first_nodes ns ns.run.count) (store_of own) in (
+    let test = refers_to (nodes_store ns) (first_nodes ns ns.run.count) (nodes_store own) in (
       elim c.match-refers_to.branch [
         | in-InVain w ↦ run_missed node_codec test own.strings.tape.now own.run.at c.loop-i.i _ refl _ (vain_told w.in-InVain.ensures) refl c.loop-i.invariant.0
         | in-No w ↦ run_missed node_codec test own.strings.tape.now own.run.at c.loop-i.i _ refl _ (no_told w.in-No.ensures) refl c.loop-i.invariant.0
@@ -37,5 +37,5 @@ unfolding node_codec
 returns c =
     let ns = c.args.nodes.now in
     let own = c.args.reading.now in
-    let test = refers_to (store_of ns) (first_nodes ns ns.run.count) (store_of own) in
+    let test = refers_to (nodes_store ns) (first_nodes ns ns.run.count) (nodes_store own) in
     run_nowhere node_codec test own.strings.tape.now own.run.at _ c.loop-i.i (omega arith) c.loop-i.invariant.0

@@ -1,12 +1,12 @@
 use Rattle.std.proofs.Common.{◌≡◌, ◌-◌, ◌≤◌, length}
-use Rattle.ruby_formats.specs.Nodes.{store_of, first_nodes}
+use Rattle.ruby_formats.specs.Nodes.{nodes_store, first_nodes}
 use Rattle.introduces.specs.Pieces.{Unreferred}
 use Rattle.introduces.proofs.refers_in_parts.Given as goal
 
 abbrev pub invariant-loop-i : goal.invariant-loop-i
 invariant-loop-i l = (l.i ≤ l.nodes.run.count)
     × (length l.words ≡ length l.initial.words)
-    × Unreferred (store_of l.nodes) (store_of l.reading) (first_nodes l.reading l.reading.run.count) l.nodes.strings.tape.now l.nodes.run.at l.i
+    × Unreferred (nodes_store l.nodes) (nodes_store l.reading) (first_nodes l.reading l.reading.run.count) l.nodes.strings.tape.now l.nodes.run.at l.i
     × (l.size ≤ length l.initial.words)
 
 abbrev pub decreases-loop-i : goal.decreases-loop-i

@@ -6,34 +6,10 @@ pub loop-n-init : goal.loop-n-init
 loop-n-init c =
     (omega arith, refl)
 
-pub overflow_sub-n : goal.overflow_sub-n
-overflow_sub-n c =
-    omega arith
-
-pub overflow_mul-n : goal.overflow_mul-n
-overflow_mul-n c =
-    omega arith
-
-pub overflow_add-nodes : goal.overflow_add-nodes
-overflow_add-nodes c =
-    omega arith
-
-pub asks_target-requires : goal.asks_target-requires
-asks_target-requires c =
-    omega arith
-
 pub returns-then-asks_target : goal.returns-then-asks_target
 unfolding asks_at
 returns-then-asks_target c =
     last_here (asks_at c.args.from c.args.tape.now c.args.nodes.at) c.loop-n.n c.loop-n-test.true (sym c.asks_target.ensures ∙ c.if-asks_target.true) ∙ c.loop-n.invariant.1
-
-pub overflow_sub-n-in-loop-n : goal.overflow_sub-n-in-loop-n
-overflow_sub-n-in-loop-n c =
-    omega arith
-
-pub loop-n-smaller : goal.loop-n-smaller
-loop-n-smaller c =
-    omega arith
 
 pub loop-n-preserved : goal.loop-n-preserved
 unfolding asks_at
