@@ -115,14 +115,21 @@ pub fn is_filtered_base(nodes: &Nodes, n: usize, filter: &[u32], s: &[u8]) -> An
     Answer::InVain
 }
 
-fn is_target_base(nodes: &Nodes, n: usize, filter: &[u32], p: Option<u32>) -> Answer
+// The same of the string of an answer `p`, which is one of `of`.
+pub fn is_target_base(
+    nodes: &Nodes,
+    n: usize,
+    filter: &[u32],
+    of: &Strings,
+    p: Option<u32>,
+) -> Answer
     requires n_le_count { n ≤ nodes.now.run.count }
     requires noted { Noted (nodes_store nodes.now) (first_nodes nodes.now n) filter.now }
-    requires plain_in { PlainIn nodes.now.strings.store.now p }
-    ensures { Told result (among_bases (nodes_store nodes.now) (first_nodes nodes.now n) (plain_string (nodes_store nodes.now) p)) }
+    requires plain_in { PlainIn of.now.store.now p }
+    ensures { Told result (among_bases (nodes_store nodes.now) (first_nodes nodes.now n) (plain_string (lent_store of.now) p)) }
 {
     match p {
-        Some(id) => is_filtered_base(nodes, n, filter, nodes.strings.resolve_str(id)),
+        Some(id) => is_filtered_base(nodes, n, filter, of.resolve_str(id)),
         None => Answer::No,
     }
 }
@@ -136,7 +143,13 @@ fn refers_among(nodes: &Nodes, n: usize, filter: &[u32], i: usize, from: u32) ->
     if !nodes.asks_target(i, from) {
         return Answer::No;
     }
-    is_target_base(nodes, n.min(i), filter, nodes.first_plain(i))
+    is_target_base(
+        nodes,
+        n.min(i),
+        filter,
+        &nodes.strings,
+        nodes.first_plain(i),
+    )
 }
 
 // The string of an answer, inserted.
@@ -253,14 +266,20 @@ fn last_targets(nodes: &Nodes, from: u32, places: &mut [u64]) -> usize
     m
 }
 
-// Is the string of an answer in the row of m ids?
-fn is_plain_in_row(strings: &Strings, row: &[u32], m: usize, p: Option<u32>) -> bool
+// Is the string of an answer `p`, which is one of `of`, in the row of m ids?
+pub fn is_plain_in_row(
+    strings: &Strings,
+    row: &[u32],
+    m: usize,
+    of: &Strings,
+    p: Option<u32>,
+) -> bool
     requires row { Row strings.now row.now m }
-    requires plain_in { PlainIn strings.now.store.now p }
-    ensures { result ≡ among_row strings.now row.now m (plain_string (lent_store strings.now) p) }
+    requires plain_in { PlainIn of.now.store.now p }
+    ensures { result ≡ among_row strings.now row.now m (plain_string (lent_store of.now) p) }
 {
     match p {
-        Some(id) => sorted_ids::contains(strings, row, m, strings.resolve_str(id)),
+        Some(id) => sorted_ids::contains(strings, row, m, of.resolve_str(id)),
         None => false,
     }
 }
@@ -271,7 +290,8 @@ fn refers_to_row(nodes: &Nodes, row: &[u32], m: usize, i: usize, from: u32) -> b
     requires row { Row nodes.now.strings row.now m }
     ensures { result ≡ refers_row nodes.now.strings from row.now m (node_in nodes.now i) }
 {
-    nodes.asks_target(i, from) && is_plain_in_row(&nodes.strings, row, m, nodes.first_plain(i))
+    nodes.asks_target(i, from)
+        && is_plain_in_row(&nodes.strings, row, m, &nodes.strings, nodes.first_plain(i))
 }
 
 // The string of an answer, put into the row.

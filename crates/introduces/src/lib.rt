@@ -14,14 +14,10 @@ ghost use Rattle.model.specs.Region.{is_referenced_format};
 ghost use Rattle.model.specs.Merge.{introduces_ruby_format_dependency};
 ghost use Rattle.laws.specs.Nodes.{starts_at};
 ghost use Rattle.bounds.specs.Spans.{span_of};
-ghost use Rattle.strings.specs.Lent.{lent_store};
-ghost use Rattle.strings.specs.PlainContent.{plain_string};
-ghost use Rattle.ruby_formats.specs.Sound.{PlainIn};
 ghost use Rattle.ruby_formats.specs.Nodes.{node_in, first_nodes, nodes_store};
 ghost use Rattle.sorted_ids.specs.Row.{Row};
-ghost use Rattle.dependency.specs.Bases.{among_bases};
 ghost use Rattle.dependency.specs.Noted.{Noted};
-ghost use Rattle.dependency.specs.Rows.{Told, Rowed, among_row};
+ghost use Rattle.dependency.specs.Rows.{Told, Rowed};
 ghost use Rattle.region.specs.Books.{book_of};
 ghost use Rattle.introduces.specs.Linked.{refers_to, ruby_for_later};
 ghost use Rattle.introduces.specs.Books.{refers_before};
@@ -61,21 +57,6 @@ fn note_bases(nodes: &Nodes, filter: &mut [u32])
     }
 }
 
-// Is a string of the reading the base of a Ruby among the old nodes?
-fn is_base_of(nodes: &Nodes, filter: &[u32], reading: &Strings, p: Option<u32>) -> Answer
-    requires noted { Noted (nodes_store nodes.now) (first_nodes nodes.now nodes.now.run.count) filter.now }
-    requires plain_in { PlainIn reading.now.store.now p }
-    ensures { Told result (among_bases (nodes_store nodes.now) (first_nodes nodes.now nodes.now.run.count) (plain_string (lent_store reading.now) p)) }
-{
-    match p {
-        Some(id) => {
-            let n = nodes.run.count;
-            dependency::is_filtered_base(nodes, n, filter, reading.resolve_str(id))
-        }
-        None => Answer::No,
-    }
-}
-
 // Node i of the reading: a Referenced Format whose target is the base of a Ruby among the old nodes.
 fn refers_to(nodes: &Nodes, filter: &[u32], reading: &Nodes, i: usize) -> Answer
     requires noted { Noted (nodes_store nodes.now) (first_nodes nodes.now nodes.now.run.count) filter.now }
@@ -85,7 +66,8 @@ fn refers_to(nodes: &Nodes, filter: &[u32], reading: &Nodes, i: usize) -> Answer
     if !reading.is_referenced_format(i) {
         return Answer::No;
     }
-    is_base_of(nodes, filter, &reading.strings, reading.first_plain(i))
+    let n = nodes.run.count;
+    dependency::is_target_base(nodes, n, filter, &reading.strings, reading.first_plain(i))
 }
 
 // The same of any node of the reading; None for not known, as in the walk of number 10.
@@ -121,17 +103,6 @@ fn row_of(nodes: &Nodes, row: &mut [u32], first: &[u64]) -> usize
     m
 }
 
-fn is_in_row(strings: &Strings, row: &[u32], m: usize, reading: &Strings, p: Option<u32>) -> bool
-    requires row { Row strings.now row.now m }
-    requires plain_in { PlainIn reading.now.store.now p }
-    ensures { result ≡ among_row strings.now row.now m (plain_string (lent_store reading.now) p) }
-{
-    match p {
-        Some(id) => sorted_ids::contains(strings, row, m, reading.resolve_str(id)),
-        None => false,
-    }
-}
-
 // Node i of the reading: a Referenced Format whose target is in the row.
 fn refers_to_row(strings: &Strings, row: &[u32], m: usize, reading: &Nodes, i: usize) -> bool
     requires row { Row strings.now row.now m }
@@ -139,7 +110,7 @@ fn refers_to_row(strings: &Strings, row: &[u32], m: usize, reading: &Nodes, i: u
     ensures { result ≡ refers_to_row strings.now row.now m (nodes_store reading.now) (node_in reading.now i) }
 {
     reading.is_referenced_format(i)
-        && is_in_row(strings, row, m, &reading.strings, reading.first_plain(i))
+        && dependency::is_plain_in_row(strings, row, m, &reading.strings, reading.first_plain(i))
 }
 
 // The same where no node before it refers to the row: one that has the target of an earlier node by its id is not asked again.

@@ -13,5 +13,5 @@ first_plain-requires-clause-names c = format_names _ c.is_referenced_format.ensu
 
 pub returns : goal.returns
 returns c =
-    told_as c.is_base_of.ensures
+    told_as c.is_target_base.ensures
     (refers_target _ _ c.args.reading.now.strings (c.args.reading.now.run.at + 49 * c.args.i) c.is_referenced_format.ensures c.if-not-is_referenced_format.false c.first_plain.ensures.plain refl)
