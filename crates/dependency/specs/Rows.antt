@@ -1,5 +1,5 @@
 -- The bases of the Rubies passed, in a row of ids: a string is a base exactly if the row has it. It serves where the filter is crowded.
-use Rattle.std.specs.Prelude.{Option, Some, None, ◌≡◌, ℕ, ◌+◌, ◌*◌, ◌<◌, ◌≤◌, min, Bool, true, false, ◌&&◌, ◌||◌, List, ◌≢◌}
+use Rattle.std.specs.Prelude.{Option, Some, None, ◌≡◌, ℕ, ◌+◌, ◌*◌, ◌<◌, ◌≤◌, min, Bool, true, false, ◌&&◌, ◌||◌, List, ◌≢◌, ◌-◌, length, take}
 use Rattle.std.proofs.Math.Path.{refl, sym, ap}
 use Rattle.std.proofs.Common.{ap₂, ◌∙◌, arith, add-one}
 use Rattle.std.proofs.Math.Option.{Option as ModelOption, none, some}
@@ -12,7 +12,9 @@ use Rattle.wire.specs.Loops.{any_up_to, tabulate_last}
 use Rattle.strings.specs.declared.lent.Strings.{Strings}
 use Rattle.strings.specs.Lent.{lent_store, string_in}
 use Rattle.strings.specs.PlainContent.{plain_of, plain_string}
-use Rattle.sorted_ids.specs.Row.{Row, holds_at, is_string, Inserted, inserted_none, inserted_as}
+use Rattle.sorted_ids.specs.declared.Row.{Row}
+use Rattle.sorted_ids.specs.Has.{has}
+use Rattle.sorted_ids.specs.Row.{Sorted, cut_holds, holds_at, is_string, Inserted, inserted_none, inserted_as}
 use Rattle.ruby_formats.specs.Asks.{asks_target}
 use Rattle.dependency.specs.Bases.{is_plain, has_base, among_bases, refers_back, any_snoc}
 use Rattle.ruby_formats.specs.Sound.{first_contents, plain_first}
@@ -65,12 +67,12 @@ module _ {ss : Strings} {words : List ℕ} {m : ℕ} where
   unfolding is_string is_one plain_string is_plain
   row_some id e i = rw e (inserted_as i (is_one (some (string_in ss id))) (λ s. refl))
 
-  pub row_none : Row ss words m → {r : Option ℕ} → r ≡ None → Inserted ss (is_one (plain_string (lent_store ss) r)) words m words m
+  pub row_none : Sorted ss words m → {r : Option ℕ} → r ≡ None → Inserted ss (is_one (plain_string (lent_store ss) r)) words m words m
   unfolding is_one plain_string is_plain
   row_none row e = rw e (inserted_none row (is_one none) (λ s. refl))
 
 module _ (ss : Strings) (p : ℕ) {x : Bool} (e : x ≡ is_ruby (record_at node_codec ss.tape.now p)) {words : List ℕ} {m : ℕ} where
-  pub row_other : x ≡ false → Row ss words m → Inserted ss (is_base_of (lent_store ss) (record_at node_codec ss.tape.now p)) words m words m
+  pub row_other : x ≡ false → Sorted ss words m → Inserted ss (is_base_of (lent_store ss) (record_at node_codec ss.tape.now p)) words m words m
   unfolding is_base_of has_base
   row_other h row = inserted_none row (is_base_of (lent_store ss) (record_at node_codec ss.tape.now p)) (λ s. ap (λ (b : Bool). b && is_plain s (first_plain (lent_store ss) (record_at node_codec ss.tape.now p))) (sym e ∙ h))
 
@@ -83,7 +85,7 @@ module _ (ss : Strings) (p : ℕ) {x : Bool} (e : x ≡ is_ruby (record_at node_
 -- ---- a row of the bases of some nodes
 
 pub record Rowed (ss : Strings) (ns : List SourceNode) (words : List ℕ) (m : ℕ) : Type 0 where
-  pub row : Row ss words m
+  pub row : Sorted ss words m
   pub holds : (s : List ℕ) → any (has_base (lent_store ss) s) ns ≡ any_up_to m (holds_at ss s words)
 
 module _ (ss : Strings) (t : List ℕ) (at : ℕ) where
@@ -121,45 +123,54 @@ module _ (ss : Strings) (t : List ℕ) (at : ℕ) where
   pub rowed_start : (n : ℕ) (words : List ℕ) → Rowed ss (records_at node_codec t at (min n 0)) words 0
   rowed_start n words = let e : min n 0 ≡ 0 = omega arith in rw e (rowed_none words)
 
+-- ---- a row as it is asked
+
+-- its strings are the bases of these nodes
+pub record RowOf (st : NodeStore) (ns : List SourceNode) (r : Row) : Type 0 where
+  pub holds : (s : List ℕ) → any (has_base st s) ns ≡ has r s
+
+-- the first m words by themselves
+pub rowed_cut : {ss : Strings} {ns : List SourceNode} {words : List ℕ} {m : ℕ} → Rowed ss ns words m → (s : List ℕ)
+    → any (has_base (lent_store ss) s) ns ≡ any_up_to (length (take (m - 0) words)) (holds_at ss s (take (m - 0) words))
+rowed_cut r s = r.holds s ∙ sym (cut_holds r.row s)
+
 -- ---- a target among them
 
-unfoldable pub among_row : Strings → List ℕ → ℕ → ModelOption (List ℕ) → Bool
-among_row ss words m none = false
-among_row ss words m (some s) = any_up_to m (holds_at ss s words)
+unfoldable pub among_row : Row → ModelOption (List ℕ) → Bool
+among_row r none = false
+among_row r (some s) = has r s
 
-pub among_row_lem : {ss : Strings} {ns : List SourceNode} {words : List ℕ} {m : ℕ} → Rowed ss ns words m → (p : ModelOption (List ℕ))
-    → among_row ss words m p ≡ among_bases (lent_store ss) ns p
+pub among_row_lem : {st : NodeStore} {ns : List SourceNode} {r : Row} → RowOf st ns r → (p : ModelOption (List ℕ)) → among_row r p ≡ among_bases st ns p
 unfolding among_row among_bases
-among_row_lem r none = refl
-among_row_lem r (some s) = sym (r.holds s)
+among_row_lem of none = refl
+among_row_lem of (some s) = sym (of.holds s)
 
-module _ (ss : Strings) (other : NodeStore) (words : List ℕ) (m : ℕ) where
-  pub among_some : (id : ℕ) {r : Option ℕ} → r ≡ Some id → {s : List ℕ} → s ≡ resolve_str other id → {x : Bool} → x ≡ any_up_to m (holds_at ss s words)
-      → x ≡ among_row ss words m (plain_string other r)
+module _ (r : Row) (other : NodeStore) where
+  pub among_some : (id : ℕ) {p : Option ℕ} → p ≡ Some id → {s : List ℕ} → s ≡ resolve_str other id → {x : Bool} → x ≡ has r s → x ≡ among_row r (plain_string other p)
   unfolding among_row plain_string
   among_some id e f q = rw (e, ← f) q
 
-  pub among_nothing : {r : Option ℕ} → r ≡ None → false ≡ among_row ss words m (plain_string other r)
+  pub among_nothing : {p : Option ℕ} → p ≡ None → false ≡ among_row r (plain_string other p)
   unfolding among_row plain_string
   among_nothing e = rw e refl
 
 -- Number 10, one node: its target is asked for and in the row.
-unfoldable pub refers_row : Strings → ℕ → List ℕ → ℕ → SourceNode → Bool
-refers_row ss from words m n = asks_target from n && among_row ss words m (first_plain (lent_store ss) n)
+unfoldable pub refers_row : NodeStore → ℕ → Row → SourceNode → Bool
+refers_row st from r n = asks_target from n && among_row r (first_plain st n)
 
-module _ (ss : Strings) (p from : ℕ) (words : List ℕ) (m : ℕ) {x : Bool} (e : x ≡ asks_target from (record_at node_codec ss.tape.now p)) where
-  pub row_asks_not : x ≡ false → false ≡ refers_row ss from words m (record_at node_codec ss.tape.now p)
+module _ (ss : Strings) (p from : ℕ) (r : Row) {x : Bool} (e : x ≡ asks_target from (record_at node_codec ss.tape.now p)) where
+  pub row_asks_not : x ≡ false → false ≡ refers_row (lent_store ss) from r (record_at node_codec ss.tape.now p)
   unfolding refers_row
   row_asks_not h = rw (← e, h) refl
 
-  pub row_target : x ≡ true → {r : Option ℕ} → ((b : List ℕ) → r ≡ plain_of (first_contents ss.tape.now p b)) → {y : Bool}
-      → y ≡ among_row ss words m (plain_string (lent_store ss) r) → y ≡ refers_row ss from words m (record_at node_codec ss.tape.now p)
+  pub row_target : x ≡ true → {o : Option ℕ} → ((b : List ℕ) → o ≡ plain_of (first_contents ss.tape.now p b)) → {y : Bool}
+      → y ≡ among_row r (plain_string (lent_store ss) o) → y ≡ refers_row (lent_store ss) from r (record_at node_codec ss.tape.now p)
   unfolding refers_row
-  row_target h f q = rw (← e, h) (q ∙ ap (among_row ss words m) (sym (plain_first ss p f)))
+  row_target h f q = rw (← e, h) (q ∙ ap (among_row r) (sym (plain_first ss p f)))
 
-pub rowed_refers : {ss : Strings} (from : ℕ) (t : List ℕ) (at n i : ℕ) {words : List ℕ} {m : ℕ} → Rowed ss (records_at node_codec t at (min n i)) words m
-    → {x : Bool} → x ≡ refers_row ss from words m (record_at node_codec t (at + 49 * i)) → x ≡ refers_among (lent_store ss) from t at n i
+pub rowed_refers : {st : NodeStore} (from : ℕ) (t : List ℕ) (at n i : ℕ) {r : Row} → RowOf st (records_at node_codec t at (min n i)) r
+    → {x : Bool} → x ≡ refers_row st from r (record_at node_codec t (at + 49 * i)) → x ≡ refers_among st from t at n i
 unfolding refers_row refers_among refers_back
-rowed_refers {ss} from t at n i r q =
+rowed_refers {st} from t at n i of q =
     let node = record_at node_codec t (at + 49 * i) in
-    q ∙ ap (λ (b : Bool). asks_target from node && b) (among_row_lem r (first_plain (lent_store ss) node))
+    q ∙ ap (λ (b : Bool). asks_target from node && b) (among_row_lem of (first_plain st node))

@@ -20,12 +20,13 @@ ghost use Rattle.ruby_formats.specs.Nodes.{node_in, first_nodes, nodes_store};
 ghost use Rattle.dependency.specs.Bases.{is_plain, has_base, among_bases};
 ghost use Rattle.dependency.specs.Among.{refers_first};
 ghost use Rattle.dependency.specs.Noted.{filter_key, inserted_plain, noted_by, Noted};
-ghost use Rattle.dependency.specs.Rows.{Told, is_one, is_base_of, Rowed, among_row, refers_row};
+ghost use Rattle.dependency.specs.Rows.{Told, is_one, is_base_of, Rowed, RowOf, among_row, refers_row};
 ghost use Rattle.dependency.specs.Later.{Settled};
-ghost use Rattle.sorted_ids.specs.Row.{Row, Inserted};
+ghost use Rattle.sorted_ids.specs.Row.{Sorted, Inserted};
 
 use places::Run;
 use ruby_formats::Nodes;
+use sorted_ids::Row;
 use strings::Strings;
 
 // Is it the string of an id? Lengths first: where they differ, the string is not looked for.
@@ -266,37 +267,28 @@ fn last_targets(nodes: &Nodes, from: u32, places: &mut [u64]) -> usize
     m
 }
 
-// Is the string of an answer `p`, which is one of `of`, in the row of m ids?
-pub fn is_plain_in_row(
-    strings: &Strings,
-    row: &[u32],
-    m: usize,
-    of: &Strings,
-    p: Option<u32>,
-) -> bool
-    requires row { Row strings.now row.now m }
-    requires plain_in { PlainIn of.now.store.now p }
-    ensures { result ≡ among_row strings.now row.now m (plain_string (lent_store of.now) p) }
+// Is the string of an answer `p`, which is one of `of`, in the row?
+pub fn is_plain_in_row(row: &Row, of: &Strings, p: Option<u32>) -> bool
+    requires { PlainIn of.now.store.now p }
+    ensures { result ≡ among_row row.now (plain_string (lent_store of.now) p) }
 {
     match p {
-        Some(id) => sorted_ids::contains(strings, row, m, of.resolve_str(id)),
+        Some(id) => row.contains(of.resolve_str(id)),
         None => false,
     }
 }
 
 // Number 10, node i: a Referenced Format that ends behind `from` and whose target is in the row.
-fn refers_to_row(nodes: &Nodes, row: &[u32], m: usize, i: usize, from: u32) -> bool
-    requires i_lt_count { i < nodes.now.run.count }
-    requires row { Row nodes.now.strings row.now m }
-    ensures { result ≡ refers_row nodes.now.strings from row.now m (node_in nodes.now i) }
+fn refers_to_row(nodes: &Nodes, row: &Row, i: usize, from: u32) -> bool
+    requires { i < nodes.now.run.count }
+    ensures { result ≡ refers_row (nodes_store nodes.now) from row.now (node_in nodes.now i) }
 {
-    nodes.asks_target(i, from)
-        && is_plain_in_row(&nodes.strings, row, m, &nodes.strings, nodes.first_plain(i))
+    nodes.asks_target(i, from) && is_plain_in_row(row, &nodes.strings, nodes.first_plain(i))
 }
 
 // The string of an answer, put into the row.
 fn insert_id(strings: &Strings, row: &mut [u32], m: usize, p: Option<u32>) -> usize
-    requires row { Row strings.now row.old m }
+    requires row { Sorted strings.now row.old m }
     requires m_in_bounds { m < length row.old }
     requires plain_in { PlainIn strings.now.store.now p }
     ensures { Inserted strings.now (is_one (plain_string (lent_store strings.now) p)) row.old m row.new result }
@@ -310,7 +302,7 @@ fn insert_id(strings: &Strings, row: &mut [u32], m: usize, p: Option<u32>) -> us
 // The plain base of a Ruby, put into the row.
 pub fn insert_base(nodes: &Nodes, i: usize, row: &mut [u32], m: usize) -> usize
     requires i_lt_count { i < nodes.now.run.count }
-    requires row { Row nodes.now.strings row.old m }
+    requires row { Sorted nodes.now.strings row.old m }
     requires m_in_bounds { m < length row.old }
     ensures { Inserted nodes.now.strings (is_base_of (nodes_store nodes.now) (node_in nodes.now i)) row.old m row.new result }
 {
@@ -321,17 +313,9 @@ pub fn insert_base(nodes: &Nodes, i: usize, row: &mut [u32], m: usize) -> usize
 }
 
 // Number 10, node i, unless a later node asks for its target too: then it is left to that node.
-fn refers_or_later(
-    nodes: &Nodes,
-    n: usize,
-    row: &[u32],
-    m: usize,
-    i: usize,
-    from: u32,
-    last: &[u64],
-) -> bool
+fn refers_or_later(nodes: &Nodes, n: usize, row: &Row, i: usize, from: u32, last: &[u64]) -> bool
     requires i_lt_count { i < nodes.now.run.count }
-    requires rowed { Rowed nodes.now.strings (first_nodes nodes.now (min n i)) row.now m }
+    requires bases { RowOf (nodes_store nodes.now) (first_nodes nodes.now (min n i)) row.now }
     ensures { Settled (refers_first nodes.now from n) nodes.now.run.count i result }
 {
     if let Some(v) = noted_place(nodes, i, last) {
@@ -339,7 +323,7 @@ fn refers_or_later(
             return false;
         }
     }
-    refers_to_row(nodes, row, m, i, from)
+    refers_to_row(nodes, row, i, from)
 }
 
 // Node i, if it is one of the first n and no Ruby before it has its base by the same id.
@@ -381,7 +365,11 @@ fn any_refers_sorted(
 {
     let mut m = 0;
     for i in 0..nodes.run.count {
-        if refers_or_later(nodes, n, row, m, i, from, last) {
+        let bases = Row {
+            strings: &nodes.strings,
+            ids: &row[0..m],
+        };
+        if refers_or_later(nodes, n, &bases, i, from, last) {
             return true;
         }
         m = insert_first(nodes, n, row, m, i, first);

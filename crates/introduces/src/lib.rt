@@ -15,7 +15,6 @@ ghost use Rattle.model.specs.Merge.{introduces_ruby_format_dependency};
 ghost use Rattle.laws.specs.Nodes.{starts_at};
 ghost use Rattle.bounds.specs.Spans.{span_of};
 ghost use Rattle.ruby_formats.specs.Nodes.{node_in, first_nodes, nodes_store};
-ghost use Rattle.sorted_ids.specs.Row.{Row};
 ghost use Rattle.dependency.specs.Noted.{Noted};
 ghost use Rattle.dependency.specs.Rows.{Told, Rowed};
 ghost use Rattle.region.specs.Books.{book_of};
@@ -29,6 +28,7 @@ use dependency::Answer;
 use places::Run;
 use region::Book;
 use ruby_formats::Nodes;
+use sorted_ids::Row;
 use strings::Strings;
 
 // A Referenced Format that starts at or behind an offset.
@@ -104,49 +104,33 @@ fn row_of(nodes: &Nodes, row: &mut [u32], first: &[u64]) -> usize
 }
 
 // Node i of the reading: a Referenced Format whose target is in the row.
-fn refers_to_row(strings: &Strings, row: &[u32], m: usize, reading: &Nodes, i: usize) -> bool
-    requires row { Row strings.now row.now m }
-    requires i_lt_count { i < reading.now.run.count }
-    ensures { result ≡ refers_to_row strings.now row.now m (nodes_store reading.now) (node_in reading.now i) }
+fn refers_to_row(row: &Row, reading: &Nodes, i: usize) -> bool
+    requires { i < reading.now.run.count }
+    ensures { result ≡ refers_to_row row.now (nodes_store reading.now) (node_in reading.now i) }
 {
     reading.is_referenced_format(i)
-        && dependency::is_plain_in_row(strings, row, m, &reading.strings, reading.first_plain(i))
+        && dependency::is_plain_in_row(row, &reading.strings, reading.first_plain(i))
 }
 
 // The same where no node before it refers to the row: one that has the target of an earlier node by its id is not asked again.
-fn refers_first_to_row(
-    strings: &Strings,
-    row: &[u32],
-    m: usize,
-    reading: &Nodes,
-    i: usize,
-    first: &[u64],
-) -> bool
-    requires row { Row strings.now row.now m }
+fn refers_first_to_row(row: &Row, reading: &Nodes, i: usize, first: &[u64]) -> bool
     requires i_lt_count { i < reading.now.run.count }
-    requires missed { Missed (test_at node_codec (refers_to_row strings.now row.now m (nodes_store reading.now)) reading.now.strings.tape.now reading.now.run.at) i }
-    ensures { result ≡ refers_to_row strings.now row.now m (nodes_store reading.now) (node_in reading.now i) }
+    requires missed { Missed (test_at node_codec (refers_to_row row.now (nodes_store reading.now)) reading.now.strings.tape.now reading.now.run.at) i }
+    ensures { result ≡ refers_to_row row.now (nodes_store reading.now) (node_in reading.now i) }
 {
     if let Some(v) = dependency::noted_place(reading, i, first) {
         if reading.is_target_again(i, v) {
             return false;
         }
     }
-    refers_to_row(strings, row, m, reading, i)
+    refers_to_row(row, reading, i)
 }
 
-fn any_refers_to_row(
-    strings: &Strings,
-    row: &[u32],
-    m: usize,
-    reading: &Nodes,
-    first: &[u64],
-) -> bool
-    requires { Row strings.now row.now m }
-    ensures { result ≡ any (refers_to_row strings.now row.now m (nodes_store reading.now)) (first_nodes reading.now reading.now.run.count) }
+fn any_refers_to_row(row: &Row, reading: &Nodes, first: &[u64]) -> bool
+    ensures { result ≡ any (refers_to_row row.now (nodes_store reading.now)) (first_nodes reading.now reading.now.run.count) }
 {
     for i in 0..reading.run.count {
-        if refers_first_to_row(strings, row, m, reading, i, first) {
+        if refers_first_to_row(row, reading, i, first) {
             return true;
         }
     }
@@ -173,7 +157,11 @@ fn refers_by_row(nodes: &Nodes, reading: &Nodes, row: &mut [u32]) -> bool
     let n = reading.run.count;
     let z = dependency::first_places(reading, n, &mut asked, |i| reading.is_referenced_format(i));
     let m = row_of(nodes, row, &first[0..a]);
-    any_refers_to_row(&nodes.strings, row, m, reading, &asked[0..z])
+    let bases = Row {
+        strings: &nodes.strings,
+        ids: &row[0..m],
+    };
+    any_refers_to_row(&bases, reading, &asked[0..z])
 }
 
 // The same by a filter, or by a row where the filter does not tell.

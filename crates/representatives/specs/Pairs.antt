@@ -6,7 +6,7 @@ use Rattle.std.proofs.lemmas.Bool.{eqb-false}
 use Rattle.wire.specs.Loops.{by_bool}
 use Rattle.strings.specs.declared.lent.Strings.{Strings}
 use Rattle.strings.specs.Lent.{string_in}
-use Rattle.sorted_ids.specs.Row.{Row, Inserted}
+use Rattle.sorted_ids.specs.Row.{Sorted, Inserted}
 
 -- What words say of strings that K shows by their ids: a pair whose second word is not 0 has the id of an equal string there, plus 1.
 pub record Pairs (K : ℕ → List ℕ) (words : List ℕ) : Type 0 where
@@ -86,7 +86,7 @@ module _ (words : List ℕ) (n id representative : ℕ) (h : 2 * n + 2 < length 
 -- After at most n strings: the words have pairs, and a row has m of the strings.
 pub record Paired (ss : Strings) (row : List ℕ) (m n : ℕ) (words : List ℕ) : Type 0 where
   pub pairs : Pairs (string_in ss) words
-  pub rising : Row ss row m
+  pub rising : Sorted ss row m
   pub few : m ≤ n
 
 module _ {ss : Strings} {row : List ℕ} where
@@ -99,7 +99,7 @@ module _ {ss : Strings} {row : List ℕ} where
 
   module _ {m : ℕ} {words : List ℕ} (p : Pairs (string_in ss) words) where
     -- the row has the string
-    pub paired_known : Row ss row m → Paired ss row m (m + 1) words
+    pub paired_known : Sorted ss row m → Paired ss row m (m + 1) words
     paired_known r = record { pairs = p; rising = r; few = omega arith }
 
     -- it is put in

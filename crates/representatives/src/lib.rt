@@ -7,12 +7,13 @@ ghost use Rattle.std.specs.Prelude.{◌≡◌, IfSome, List, ℕ, ◌+◌, ◌-�
 ghost use Rattle.wire.specs.Loops.{any_up_to};
 ghost use Rattle.strings.specs.Starts.{lengths_in, OfTape};
 ghost use Rattle.strings.specs.Lent.{string_in};
-ghost use Rattle.sorted_ids.specs.Row.{Row};
+ghost use Rattle.sorted_ids.specs.Row.{Sorted};
 ghost use Rattle.representatives.specs.Long.{long_from};
 ghost use Rattle.representatives.specs.Pairs.{Pairs, pairs_in, pair_put, Paired};
 ghost use Rattle.representatives.specs.Bisection.{Rising, Split, Known, word_of};
 ghost use Rattle.representatives.specs.Ordered.{Ordered};
 
+use sorted_ids::Row;
 use store::Store;
 use strings::Strings;
 
@@ -105,7 +106,7 @@ fn pair_string(
     n: usize,
     id: u32,
 ) -> usize
-    requires row { Row strings.now row.old m }
+    requires row { Sorted strings.now row.old m }
     requires m_in_bounds { (m < length row.old) × (id < strings.now.store.now.totals.strings) × (strings.now.store.now.totals.strings < 2 ^ 32) }
     requires n_bound { (n < 4096) × (2 * n + 2 < length words.old) }
     requires pairs { Pairs (string_in strings.now) words.old }
@@ -113,7 +114,11 @@ fn pair_string(
     ensures paired { Paired strings.now row.new result (m + 1) words.new }
     ensures ordered_2 { Ordered words.new (n + 1) (id + 1) }
 {
-    if let Some(known) = sorted_ids::find(strings, row, m, strings.resolve_str(id)) {
+    let own = Row {
+        strings: &*strings,
+        ids: &row[0..m],
+    };
+    if let Some(known) = own.find(strings.resolve_str(id)) {
         put_pair(words, n, id, known);
         return m;
     }

@@ -8,8 +8,8 @@ first_plain-requires-clause-names c = target_names _ _ c.asks_target.ensures c.i
 
 pub returns-then-asks_target : goal.returns-then-asks_target
 returns-then-asks_target c =
-    row_target c.args.nodes.now.strings (c.args.nodes.now.run.at + 49 * c.args.i) _ _ _ c.asks_target.ensures c.if-asks_target.true c.first_plain.ensures.plain c.is_plain_in_row.ensures
+    row_target c.args.nodes.now.strings (c.args.nodes.now.run.at + 49 * c.args.i) _ _ c.asks_target.ensures c.if-asks_target.true c.first_plain.ensures.plain c.is_plain_in_row.ensures
 
 pub returns-else-asks_target : goal.returns-else-asks_target
 returns-else-asks_target c =
-    c.if-asks_target.false ∙ row_asks_not c.args.nodes.now.strings (c.args.nodes.now.run.at + 49 * c.args.i) _ _ _ c.asks_target.ensures c.if-asks_target.false
+    c.if-asks_target.false ∙ row_asks_not c.args.nodes.now.strings (c.args.nodes.now.run.at + 49 * c.args.i) _ _ c.asks_target.ensures c.if-asks_target.false

@@ -13,18 +13,18 @@ pub returns-then-refers_first_to_row : goal.returns-then-refers_first_to_row
 unfolding node_codec
 returns-then-refers_first_to_row c =
     let own = c.args.reading.now in
-    let test = refers_to_row c.args.strings.now c.args.row.now c.args.m (nodes_store own) in
+    let test = refers_to_row c.args.row.now (nodes_store own) in
     run_found node_codec test own.strings.tape.now own.run.at c.loop-i.i _ refl _ c.refers_first_to_row.ensures _ c.loop-i-test.true c.if-refers_first_to_row.true
 
 pub loop-i-preserved : goal.loop-i-preserved
 unfolding node_codec
 loop-i-preserved c =
     let own = c.args.reading.now in
-    let test = refers_to_row c.args.strings.now c.args.row.now c.args.m (nodes_store own) in
+    let test = refers_to_row c.args.row.now (nodes_store own) in
     run_missed node_codec test own.strings.tape.now own.run.at c.loop-i.i _ refl _ c.refers_first_to_row.ensures c.if-refers_first_to_row.false c.loop-i.invariant
 
 pub returns : goal.returns
 returns c =
     let own = c.args.reading.now in
-    let test = refers_to_row c.args.strings.now c.args.row.now c.args.m (nodes_store own) in
+    let test = refers_to_row c.args.row.now (nodes_store own) in
     run_nowhere node_codec test own.strings.tape.now own.run.at _ c.loop-i.i (omega arith) c.loop-i.invariant

@@ -6,4 +6,4 @@ use Rattle.introduces.specs.Rows.{refers_to_row}
 use Rattle.introduces.proofs.any_refers_to_row.Given as goal
 
 abbrev pub invariant-loop-i : goal.invariant-loop-i
-invariant-loop-i l = Missed (test_at node_codec (refers_to_row l.strings l.row l.m (nodes_store l.reading)) l.reading.strings.tape.now l.reading.run.at) l.i
+invariant-loop-i l = Missed (test_at node_codec (refers_to_row l.row (nodes_store l.reading)) l.reading.strings.tape.now l.reading.run.at) l.i

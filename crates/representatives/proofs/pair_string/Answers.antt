@@ -1,7 +1,11 @@
 use Rattle.std.proofs.Common.{refl, sym, ◌∙◌, arith}
+use Rattle.sorted_ids.specs.Row.{sorted_cut}
 use Rattle.representatives.specs.Pairs.{pairs_put, paired_known, paired_new}
 use Rattle.representatives.specs.Ordered.{ordered_put}
 use Rattle.representatives.proofs.pair_string.Goals as goal
+
+pub invariant_of-own : goal.invariant_of-own
+invariant_of-own c = record { sorted = sorted_cut c.requires.row }
 
 pub put_pair-requires : goal.put_pair-requires
 put_pair-requires c = record {

@@ -1,4 +1,4 @@
-use Rattle.representatives.specs.Bisection.{known_end, known_other, known_here}
+use Rattle.representatives.specs.Bisection.{known_end, known_other}
 use Rattle.representatives.proofs.representative.Goals as goal
 
 pub returns-then-m-p-clause-known : goal.returns-then-m-p-clause-known
