@@ -3,7 +3,7 @@
 use Rattle.std.specs.Prelude.{◌≡◌, ℕ, ◌+◌, ◌-◌, ◌*◌, ◌≤◌, ◌<◌, Bool, true, false, cond, ◌&&◌, List, length, leb, ltb, eqb}
 use Rattle.std.proofs.Math.Path.{refl, sym, ap}
 use Rattle.std.proofs.Common.{◌∙◌, arith}
-use borrow.Author.Tests.{ne_eqb, lt-ltb, le-ltb, leb-true, ltb-true, ltb-false}
+use borrow.Author.Tests.{lt-ltb, le-ltb, leb-true, ltb-true, ltb-false}
 use Rattle.model.specs.Lists.{all}
 use Rattle.model.specs.Bytes.{byte_at}
 use Rattle.model.specs.Limits.{max_level}
@@ -13,8 +13,9 @@ use Rattle.model.specs.Tape.{Field, Field.str, Field.opt_str, Field.content_rang
 use Rattle.laws.specs.Lists.{both}
 use Rattle.wire.specs.Loops.{all_up_to, Passed, all_passed, all_failed, by_bool}
 use Rattle.records.specs.Values.{body_at, segment_body}
-use Rattle.records.specs.Uses.{word_use, uses_of, use_among}
+use Rattle.records.specs.Uses.{word_use, uses_of, use_among, use_number}
 use Rattle.records.specs.declared.Use.{Use}
+use Rattle.records.specs.declared.Use.TheVariants.{Unused, Str, OptStr, Contents, ContentsLen, Segments, SegmentsLen}
 use Rattle.records.proofs.Uses.{uses_right, unused_from}
 use Rattle.records.specs.Words.{word_test, all_by_words}
 use Rattle.store.specs.Pools.{range_in}
@@ -54,6 +55,17 @@ level_in t st s = cond (ltb s.tag 3) (eqb s.level 0) (leb 1 s.level && leb s.lev
 unfoldable pub used_below : List ℕ → Store → ℕ → ℕ → ℕ → ℕ → Bool
 used_below t st level u w next =
     cond (eqb u 1) true (cond (eqb u 2) true (cond (eqb u 3) (contents_below t st level w next) (cond (eqb u 5) (segments_below t st level w next) true)))
+
+-- a word of another use
+pub used_other : (t : List ℕ) (st : Store) (level w next : ℕ) (u : Use) → (u ≡ Contents → ⊥) → (u ≡ Segments → ⊥) → true ≡ used_below t st level (use_number u) w next
+unfolding used_below
+used_other t st level w next Unused a b = refl
+used_other t st level w next Str a b = refl
+used_other t st level w next OptStr a b = refl
+used_other t st level w next Contents a b = absurd (a refl)
+used_other t st level w next ContentsLen a b = refl
+used_other t st level w next Segments a b = absurd (b refl)
+used_other t st level w next SegmentsLen a b = refl
 
 unfoldable pub word_below : List ℕ → Store → ℕ → Body → ℕ → Bool
 word_below t st level b i = used_below t st level (word_use b.kind b.tag i) (word_of b i) (word_of b (i + 1))

@@ -40,47 +40,47 @@ pub record Filled (P : ℕ → ℕ → Bool) (total : ℕ) (table : List ℕ) (n
 pub record Said (table : List ℕ) (level start len : ℕ) (test : ℕ → Bool) : Type 0 where
   pub says : (n : ℕ) → n < len → Says table level (start + n) → test n ≡ true
 
--- a step from item i, whose own test is b, up to r: no step where that fails
-pub record Step (table : List ℕ) (level : ℕ) (b : Bool) (i end r : ℕ) : Type 0 where
+-- a step from item i, whose own test is b, up to r: no step where that fails, or is not told
+pub record Step (tabled : Bool) (table : List ℕ) (level : ℕ) (b : Bool) (i end r : ℕ) : Type 0 where
   pub on : i ≤ r
   pub far : r ≤ end
-  pub stuck : r ≡ i → b ≡ false
+  pub stuck : r ≡ i → tabled ≡ true → b ≡ false
   pub passed : (test : ℕ → Bool) → ((j : ℕ) → i ≤ j → j < end → Says table level j → test j ≡ true) → b ≡ test i → (j : ℕ) → i ≤ j → j < r → test j ≡ true
 
 -- ---- steps
 
-module _ {table : List ℕ} {level i end : ℕ} (h : i < end) where
-  pub step_end : {b : Bool} {r : ℕ} → Skips table level i r → end < r → Step table level b i end end
+module _ {tabled : Bool} {table : List ℕ} {level i end : ℕ} (h : i < end) where
+  pub step_end : {b : Bool} {r : ℕ} → Skips table level i r → end < r → Step tabled table level b i end end
   step_end k l = record {
     on = omega (arith, h);
     far = omega arith;
-    stuck = λ e. absurd (omega (arith, e, h));
+    stuck = λ e _. absurd (omega (arith, e, h));
     passed = λ test known e j a b. known j a b (k.says j a (omega (arith, b, l)));
   }
 
-  pub step_known : {b : Bool} {r : ℕ} → Skips table level i r → r ≤ end → i < r → Step table level b i end r
+  pub step_known : {b : Bool} {r : ℕ} → Skips table level i r → r ≤ end → i < r → Step tabled table level b i end r
   step_known k l m = record {
     on = k.on;
     far = l;
-    stuck = λ e. absurd (omega (arith, e, m));
+    stuck = λ e _. absurd (omega (arith, e, m));
     passed = λ test known e j a b. known j a (omega (arith, b, l)) (k.says j a b);
   }
 
-  pub step_one : {b : Bool} → b ≡ true → Step table level b i end (i + 1)
+  pub step_one : {b : Bool} → b ≡ true → Step tabled table level b i end (i + 1)
   step_one y = record {
     on = omega arith;
     far = omega (arith, h);
-    stuck = λ e. absurd (omega (arith, e));
+    stuck = λ e _. absurd (omega (arith, e));
     passed = λ test known e j a b. let q : j ≡ i = omega (arith, a, b) in rw q (sym e ∙ y);
   }
 
-  pub step_none : {b : Bool} → b ≡ false → Step table level b i end i
+  pub step_none : {b : Bool} → (tabled ≡ true → b ≡ false) → Step tabled table level b i end i
   step_none n = record { on = omega arith; far = omega (arith, h); stuck = λ e. n; passed = λ test known e j a b. absurd (omega (arith, a, b)) }
 
 -- a turn of a walk, and where it ends
-pub walk_more : (test : ℕ → Bool) {table : List ℕ} {level start k len r : ℕ} {b : Bool} → Step table level b (start + k) (start + len) r → Said table level start len test → b ≡ test k
+pub walk_more : (test : ℕ → Bool) {tabled : Bool} {table : List ℕ} {level start k len r : ℕ} {b : Bool} → Step tabled table level b (start + k) (start + len) r → Said table level start len test → b ≡ test k
     → Passed test k → Passed test (r - start)
-walk_more test {table} {level} {start} {k} {len} {r} s said e p = record {
+walk_more test {tabled} {table} {level} {start} {k} {len} {r} s said e p = record {
   all = λ n h.
       by_bool (ltb n k) (λ x. p.all n (ltb-true n k x))
       (λ x. let y = ltb-false n k x in let on = s.on in
@@ -101,23 +101,18 @@ item_read c t pool default start len at n q e f h =
 
 -- ---- the two pools
 
-pub record Tops (t : List ℕ) (st : Store) (tops : List ℕ) : Type 0 where
-  pub fit : OfTape t st
-  pub risen : Risen tops 69904
-  pub filled : Filled (segment_test t st) st.totals.segments tops 65536
-
-pub record Tables (t : List ℕ) (st : Store) (tops heights : List ℕ) : Type 0 where
-  pub segments : Tops t st tops
-  pub risen : Risen heights 69904
-  pub filled : Filled (content_test t st) st.totals.contents heights 65536
+-- the table of a pool, made
+pub record Made (P : ℕ → ℕ → Bool) (total : ℕ) (table : List ℕ) : Type 0 where
+  pub risen : Risen table 69904
+  pub filled : Filled P total table 65536
 
 module _ (t : List ℕ) (st : Store) (level start len at : ℕ) where
-  pub segments_said : {tops : List ℕ} → Tops t st tops → {r : Bool} → r ≡ segments_in st start len → r ≡ true → at ≡ segment_place st start
+  pub segments_said : {tops : List ℕ} → OfTape t st → Made (segment_test t st) st.totals.segments tops → {r : Bool} → r ≡ segments_in st start len → r ≡ true → at ≡ segment_place st start
       → Said tops level start len (test_at segment_codec (below level) t at)
   unfolding test_at segment_test resolve_seg_range
-  segments_said {tops} w e y place = record {
+  segments_said {tops} fit w e y place = record {
     says = λ n h s.
-        let stored = w.fit.stored in
+        let stored = fit.stored in
         let within = range_within st.segments st.layers st.totals.segments start len (sym e ∙ y) in
         let run = segment_range t st stored [] start len (sym e ∙ y) ∙ ap (λ (p : ℕ). records_at segment_codec t p len) (sym place) in
         let item = segment_at_lem t st stored [] (start + n) (omega (arith, within, h)) (record_at segment_codec t 0) in
@@ -125,12 +120,12 @@ module _ (t : List ℕ) (st : Store) (level start len at : ℕ) where
         ∙ w.filled.right (start + n) level (omega (arith, within, h)) (let k = s.inside in omega (arith, k)) s.low s.known;
   }
 
-  pub contents_said : {tops heights : List ℕ} → Tables t st tops heights → {r : Bool} → r ≡ contents_in st start len → r ≡ true → at ≡ content_place st start
+  pub contents_said : {heights : List ℕ} → OfTape t st → Made (content_test t st) st.totals.contents heights → {r : Bool} → r ≡ contents_in st start len → r ≡ true → at ≡ content_place st start
       → Said heights level start len (test_at content_codec (content_below t st level) t at)
   unfolding test_at content_test resolve_content_range
-  contents_said {tops} {heights} w e y place = record {
+  contents_said {heights} fit w e y place = record {
     says = λ n h s.
-        let stored = w.segments.fit.stored in
+        let stored = fit.stored in
         let within = range_within st.contents st.layers st.totals.contents start len (sym e ∙ y) in
         let run = content_range_lem t st stored [] start len (sym e ∙ y) ∙ ap (λ (p : ℕ). records_at content_codec t p len) (sym place) in
         let item = content_at_lem t st stored [] (start + n) (omega (arith, within, h)) (record_at content_codec t 0) in
@@ -173,13 +168,13 @@ bound_segment t st i m r at e h l = record {
       ap (λ (p : ℕ). below level (record_at segment_codec t p)) (sym e) ∙ sym (level_read t at level) ∙ lt-ltb (byte_at t (at + 2)) level (omega (arith, l, a));
 }
 
-pub bound_content : (t : List ℕ) (st : Store) (i m r at : ℕ) → at ≡ content_place st i → m ≤ r → {b : Bool} → b ≡ content_below t st r (record_at content_codec t at) → b ≡ true
+pub bound_content : (t : List ℕ) (st : Store) (i m r at : ℕ) → at ≡ content_place st i → m ≤ r → content_below t st r (record_at content_codec t at) ≡ true
     → Bound (content_test t st) i m r
 unfolding content_test
-bound_content t st i m r at e h q y = record {
+bound_content t st i m r at e h y = record {
   more = h;
   here = λ level a b.
-      ap (λ (p : ℕ). content_below t st level (record_at content_codec t p)) (sym e) ∙ content_more t st r level (record_at content_codec t at) a (sym q ∙ y);
+      ap (λ (p : ℕ). content_below t st level (record_at content_codec t p)) (sym e) ∙ content_more t st r level (record_at content_codec t at) a y;
 }
 
 pub segment_fits : (t : List ℕ) (st : Store) (i at : ℕ) → OfTape t st → i < st.totals.segments → at ≡ segment_place st i → at + 37 ≤ length t
@@ -233,10 +228,5 @@ filled_all w h = record { size = w.size; right = λ j level x y z v. w.right j l
 pub filled_kept : {P : ℕ → ℕ → Bool} {total : ℕ} {d l : List ℕ} → Filled P total d 65536 → Kept d l → length l ≡ 69904 → Filled P total l 65536
 filled_kept w k e = record { size = e; right = λ j level x y z v. let g = k.kept (j / 16) y in w.right j level x y (omega (arith, g, z)) v }
 
--- ---- both tables made
-
-pub tops_made : {t : List ℕ} {st : Store} {d l : List ℕ} → OfTape t st → Filled (segment_test t st) st.totals.segments d 65536 → Risen l 69904 → Kept d l → Tops t st l
-tops_made f w r k = record { fit = f; risen = r; filled = filled_kept w k r.size }
-
-pub tables_made : {t : List ℕ} {st : Store} {tops d l : List ℕ} → Tops t st tops → Filled (content_test t st) st.totals.contents d 65536 → Risen l 69904 → Kept d l → Tables t st tops l
-tables_made s w r k = record { segments = s; risen = r; filled = filled_kept w k r.size }
+pub made_kept : {P : ℕ → ℕ → Bool} {total : ℕ} {d l : List ℕ} → Filled P total d 65536 → Risen l 69904 → Kept d l → Made P total l
+made_kept w r k = record { risen = r; filled = filled_kept w k r.size }

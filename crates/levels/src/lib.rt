@@ -3,12 +3,14 @@
 // number 4. specs/Below.antt says what is tested, by the starts that a store remembers, and specs/Number.antt that for the store
 // of the tape it is the model's `levels_ok` wherever number 4 holds.
 //
-// A run may be named by every segment, and be as long as its pool. So a book is first tested with every range up to 16 read one by
-// one (`.._quick`, whose 'false' says nothing). Where that does not say yes, two tables are made (crate `level_blocks`), of the segments
-// and of the contents. A range is then walked from block to block, and an item is read only where its block is not below the level.
+// A run may be named by every segment, and be as long as its pool. So a book is first tested without tables: every range up to 16 is read one by
+// one, a longer one is answered 'no', and then a 'no' says nothing. Where that does not say yes, two tables are made (crate `level_blocks`), of the
+// segments and of the contents. A range is then walked from block to block, and an item is read only where its block is not below the level.
+// specs/Says.antt is what an answer says, without tables and with them.
 #![tactic(auto)]
 
-ghost use Rattle.std.specs.Prelude.{◌≡◌, true, ◌+◌, ◌*◌, ◌^◌, ◌≤◌, ◌<◌, length};
+ghost use Rattle.std.specs.Prelude.{◌≡◌, true, is_some, ◌&&◌, ◌+◌, ◌*◌, ◌^◌, ◌≤◌, ◌<◌, length};
+ghost use Rattle.std.specs.Option.{ForSome};
 ghost use Rattle.model.specs.Lists.{all};
 ghost use Rattle.model.specs.Tape.{record_at, records_at, content_codec, segment_codec, places};
 ghost use Rattle.records.specs.Values.{body_at};
@@ -19,193 +21,42 @@ ghost use Rattle.level_blocks.specs.Level.{below};
 ghost use Rattle.level_blocks.specs.Blocks.{Risen};
 ghost use Rattle.store.specs.Stored.{OfTape};
 ghost use Rattle.levels.specs.Below.{segments_below, content_below, contents_below, used_below, body_below, level_in};
-ghost use Rattle.levels.specs.Table.{segment_test, content_test, Step, Said, Filled, Bound, Block, Tops, Tables};
+ghost use Rattle.levels.specs.Table.{segment_test, content_test, Step, Said, Filled, Bound, Block, Made};
+ghost use Rattle.levels.specs.Says.{Says};
 ghost use Rattle.levels.specs.Whole.{levels_in, Walked};
 
 use places::Run;
 use records::{NODE, Use};
 use store::Store;
 
-// A tape and its store, which is lent, and how many layers it has.
+// A range of so many items is not read one by one.
+const MANY: u32 = 16;
+
+// A tape and its store, both lent, how many layers it has, and two tables as far as they are made: of the levels that its segments are below, and of
+// those that the segments which its contents name are below.
 #[derive(Clone, Copy)]
-struct Book<'a> {
+struct Book<'a, 't, 'h> {
     tape: &'a [u8],
     st: &'a Store,
     layers: usize,
+    tops: Option<&'t [u8]>,
+    heights: Option<&'h [u8]>,
     ghost of_tape: { OfTape tape.now st.now },
     ghost counted: { layers ≡ length (places tape.now).layers },
+    ghost tops_made: { ForSome tops (λ w. Made (segment_test tape.now st.now) st.now.totals.segments w.now) },
+    ghost heights_made: { ForSome heights (λ w. Made (content_test tape.now st.now) st.now.totals.contents w.now) },
 }
 
-// The same with a table of the levels that its segments are below.
-#[derive(Clone, Copy)]
-struct TopTable<'a> {
-    tape: &'a [u8],
-    st: &'a Store,
-    tops: &'a [u8],
-    ghost made: { Tops tape.now st.now tops.now },
-}
+// ---- ranges by a table. Of segments and of contents: a table each, made after the other, with facts and a record's size of its own.
 
-// The same with a table of the levels that the segments which its contents name are below.
-#[derive(Clone, Copy)]
-struct HeightTable<'a> {
-    tape: &'a [u8],
-    st: &'a Store,
-    tops: &'a [u8],
-    heights: &'a [u8],
-    ghost made: { Tables tape.now st.now tops.now heights.now },
-}
-
-// ---- ranges up to 16; 'false' says nothing. These have the form of those by the tables below, and no function for both: a 'true' of theirs is sure
-// and a 'false' is not, so that each clause of such a function, and each step of its loops, would have to tell the two apart.
-
-impl<'a> Book<'a> {
-    fn segments_quick(&self, start: u32, len: u32, level: u8) -> bool
-        ensures { result ≡ true → segments_below self.now.tape.now self.now.st.now level start len ≡ true }
-    {
-        if 16 < len {
-            return false;
-        }
-        if !self.st.has_segments(start, len) {
-            return false;
-        }
-        if len == 0 {
-            return true;
-        }
-        let at = self.st.segment_place(start);
-        level_blocks::levels_below(self.tape, at, len as usize, level)
-    }
-
-    fn content_quick(&self, at: usize, level: u8) -> bool
-        requires at_in_bounds { at + 10 ≤ length self.now.tape.now }
-        ensures { result ≡ true → content_below self.now.tape.now self.now.st.now level (record_at content_codec self.now.tape.now at) ≡ true }
-    {
-        let c = records::content_at(self.tape, at);
-        if c.is_plain() {
-            return true;
-        }
-        self.segments_quick(c.first, c.second, level)
-    }
-
-    fn run_quick(&self, run: Run, level: u8) -> bool
-        requires count_in_bounds { run.at + 10 * run.count ≤ length self.now.tape.now }
-        ensures { result ≡ true → all (content_below self.now.tape.now self.now.st.now level) (records_at content_codec self.now.tape.now run.at run.count) ≡ true }
-    {
-        for i in 0..run.count {
-            if !self.content_quick(run.at + 10 * i, level) {
-                return false;
-            }
-        }
-        true
-    }
-
-    fn contents_quick(&self, start: u32, len: u32, level: u8) -> bool
-        ensures { result ≡ true → contents_below self.now.tape.now self.now.st.now level start len ≡ true }
-    {
-        if 16 < len {
-            return false;
-        }
-        if !self.st.has_contents(start, len) {
-            return false;
-        }
-        if len == 0 {
-            return true;
-        }
-        let run = Run {
-            at: self.st.content_place(start),
-            count: len as usize,
-        };
-        self.run_quick(run, level)
-    }
-
-    #[tactic(auto, using(std::proofs::lemmas::Bool::Decides::nat_tests), unfolding(crate::specs::Below::used_below))]
-    fn used_quick(&self, usage: Use, w: u32, next: u32, level: u8) -> bool
-        ensures { result ≡ true → used_below self.now.tape.now self.now.st.now level (use_number usage) w next ≡ true }
-    {
-        match usage {
-            Use::Contents => self.contents_quick(w, next, level),
-            Use::Segments => self.segments_quick(w, next, level),
-            _ => true,
-        }
-    }
-
-    // Word i of the body at `at`, which has that use.
-    fn word_quick(&self, usage: Use, at: usize, i: usize, level: u8) -> bool
-        requires at_in_bounds { (at + 34 ≤ length self.now.tape.now) × (i < 6) }
-        ensures { result ≡ true → used_below self.now.tape.now self.now.st.now level (use_number usage) (word_of (body_at self.now.tape.now at) i) (word_of (body_at self.now.tape.now at) (i + 1)) ≡ true }
-    {
-        let w = records::body_word(self.tape, at, i);
-        let next = ids::next_word(self.tape, at, i);
-        self.used_quick(usage, w, next, level)
-    }
-
-    fn body_quick(&self, at: usize, level: u8) -> bool
-        requires at_in_bounds { at + 34 ≤ length self.now.tape.now }
-        ensures { result ≡ true → body_below self.now.tape.now self.now.st.now level (body_at self.now.tape.now at) ≡ true }
-    {
-        let uses = records::uses_of(self.tape[at], self.tape[at + 1]);
-        for i in 0..6 {
-            if let Use::Unused = uses[i] {
-                return true;
-            }
-            if !self.word_quick(uses[i], at, i, level) {
-                return false;
-            }
-        }
-        true
-    }
-
-    fn level_quick(&self, at: usize) -> bool
-        requires at_in_bounds { at + 37 ≤ length self.now.tape.now }
-        ensures { result ≡ true → level_in self.now.tape.now self.now.st.now (record_at segment_codec self.now.tape.now at) ≡ true }
-    {
-        let level = self.tape[at + 2];
-        if self.tape[at + 1] < NODE {
-            return level == 0;
-        }
-        if !level_blocks::level_in_range(level) {
-            return false;
-        }
-        self.body_quick(at + 3, level)
-    }
-
-    fn run_levels_quick(&self, run: Run) -> bool
-        requires count_in_bounds { run.at + 37 * run.count ≤ length self.now.tape.now }
-        ensures { result ≡ true → all (level_in self.now.tape.now self.now.st.now) (records_at segment_codec self.now.tape.now run.at run.count) ≡ true }
-    {
-        for i in 0..run.count {
-            if !self.level_quick(run.at + 37 * i) {
-                return false;
-            }
-        }
-        true
-    }
-
-    // The layers behind the first, which was walked and ends at `from`.
-    fn levels_quick(&self, from: usize) -> bool
-        requires le_layers { (1 ≤ self.now.layers) × Walked self.now.tape.now self.now.st.now 1 from }
-        ensures { result ≡ true → levels_in self.now.tape.now self.now.st.now ≡ true }
-    {
-        let mut at = from;
-        for _layer in 1..self.layers {
-            let l = places::next_layer(self.tape, at);
-            if !self.run_levels_quick(l.segments) {
-                return false;
-            }
-            at = l.end;
-        }
-        true
-    }
-}
-
-// ---- ranges by the tables. Of segments and of contents: a table each, made after the other, with facts and a record's size of its own.
-
-impl<'a> TopTable<'a> {
+impl Book<'_, '_, '_> {
     // How far the items from i on are below the level, at most to `end`: by the table, or by the segment i itself, which stands at `at`.
-    fn segment_step(&self, at: usize, i: usize, end: usize, level: u8) -> usize
+    fn segment_step(&self, tops: &[u8], at: usize, i: usize, end: usize, level: u8) -> usize
+        requires risen { Risen tops.now 69904 }
         requires at_in_bounds { (at + 37 ≤ length self.now.tape.now) × (i < end) }
-        ensures { Step self.now.tops.now level (below level (record_at segment_codec self.now.tape.now at)) i end result }
+        ensures { Step true tops.now level (below level (record_at segment_codec self.now.tape.now at)) i end result }
     {
-        let r = level_blocks::known_end(self.tops, i, level);
+        let r = level_blocks::known_end(tops, i, level);
         if end < r {
             return end;
         }
@@ -218,15 +69,16 @@ impl<'a> TopTable<'a> {
         i
     }
 
-    fn segments_walk(&self, at: usize, start: usize, len: usize, level: u8) -> bool
+    fn segments_walk(&self, tops: &[u8], at: usize, start: usize, len: usize, level: u8) -> bool
+        requires risen { Risen tops.now 69904 }
         requires len_in_bounds { (at + 37 * len ≤ length self.now.tape.now) × (start + len < 2 ^ 33) }
-        requires said { Said self.now.tops.now level start len (test_at segment_codec (below level) self.now.tape.now at) }
+        requires said { Said tops.now level start len (test_at segment_codec (below level) self.now.tape.now at) }
         ensures { result ≡ all (below level) (records_at segment_codec self.now.tape.now at len) }
     {
         let mut k = 0;
         // A step says how far it goes: k rises by as much.
         while k < len {
-            let r = self.segment_step(at + 37 * k, start + k, start + len, level);
+            let r = self.segment_step(tops, at + 37 * k, start + k, start + len, level);
             if r == start + k {
                 return false;
             }
@@ -237,7 +89,7 @@ impl<'a> TopTable<'a> {
 
     // Number 5. Every segment of a range is below a level.
     fn segments_below(&self, start: u32, len: u32, level: u8) -> bool
-        ensures { result ≡ segments_below self.now.tape.now self.now.st.now level start len }
+        ensures { Says (is_some self.now.tops) result (segments_below self.now.tape.now self.now.st.now level start len) }
     {
         if !self.st.has_segments(start, len) {
             return false;
@@ -246,12 +98,18 @@ impl<'a> TopTable<'a> {
             return true;
         }
         let at = self.st.segment_place(start);
-        self.segments_walk(at, start as usize, len as usize, level)
+        if let Some(tops) = self.tops {
+            return self.segments_walk(tops, at, start as usize, len as usize, level);
+        }
+        if MANY < len {
+            return false;
+        }
+        level_blocks::levels_below(self.tape, at, len as usize, level)
     }
 
     fn content_below(&self, at: usize, level: u8) -> bool
         requires at_in_bounds { at + 10 ≤ length self.now.tape.now }
-        ensures { result ≡ content_below self.now.tape.now self.now.st.now level (record_at content_codec self.now.tape.now at) }
+        ensures { Says (is_some self.now.tops) result (content_below self.now.tape.now self.now.st.now level (record_at content_codec self.now.tape.now at)) }
     {
         let c = records::content_at(self.tape, at);
         if c.is_plain() {
@@ -259,41 +117,36 @@ impl<'a> TopTable<'a> {
         }
         self.segments_below(c.first, c.second, level)
     }
-}
 
-impl<'a> HeightTable<'a> {
     // The same as `segment_step`, of the content i at `at`.
-    fn content_step(&self, at: usize, i: usize, end: usize, level: u8) -> usize
+    fn content_step(&self, heights: &[u8], at: usize, i: usize, end: usize, level: u8) -> usize
+        requires risen { Risen heights.now 69904 }
         requires at_in_bounds { (at + 10 ≤ length self.now.tape.now) × (i < end) }
-        ensures { Step self.now.heights.now level (content_below self.now.tape.now self.now.st.now level (record_at content_codec self.now.tape.now at)) i end result }
+        ensures { Step (is_some self.now.tops) heights.now level (content_below self.now.tape.now self.now.st.now level (record_at content_codec self.now.tape.now at)) i end result }
     {
-        let r = level_blocks::known_end(self.heights, i, level);
+        let r = level_blocks::known_end(heights, i, level);
         if end < r {
             return end;
         }
         if i < r {
             return r;
         }
-        let by_tops = TopTable {
-            tape: self.tape,
-            st: self.st,
-            tops: self.tops,
-        };
-        if by_tops.content_below(at, level) {
+        if self.content_below(at, level) {
             return i + 1;
         }
         i
     }
 
-    fn contents_walk(&self, at: usize, start: usize, len: usize, level: u8) -> bool
+    fn contents_walk(&self, heights: &[u8], at: usize, start: usize, len: usize, level: u8) -> bool
+        requires risen { Risen heights.now 69904 }
         requires len_in_bounds { (at + 10 * len ≤ length self.now.tape.now) × (start + len < 2 ^ 33) }
-        requires said { Said self.now.heights.now level start len (test_at content_codec (content_below self.now.tape.now self.now.st.now level) self.now.tape.now at) }
-        ensures { result ≡ all (content_below self.now.tape.now self.now.st.now level) (records_at content_codec self.now.tape.now at len) }
+        requires said { Said heights.now level start len (test_at content_codec (content_below self.now.tape.now self.now.st.now level) self.now.tape.now at) }
+        ensures { Says (is_some self.now.tops) result (all (content_below self.now.tape.now self.now.st.now level) (records_at content_codec self.now.tape.now at len)) }
     {
         let mut k = 0;
         // A step says how far it goes: k rises by as much.
         while k < len {
-            let r = self.content_step(at + 10 * k, start + k, start + len, level);
+            let r = self.content_step(heights, at + 10 * k, start + k, start + len, level);
             if r == start + k {
                 return false;
             }
@@ -302,9 +155,22 @@ impl<'a> HeightTable<'a> {
         true
     }
 
+    // The same of contents that are read one by one.
+    fn run_below(&self, run: Run, level: u8) -> bool
+        requires count_in_bounds { run.at + 10 * run.count ≤ length self.now.tape.now }
+        ensures { Says (is_some self.now.tops) result (all (content_below self.now.tape.now self.now.st.now level) (records_at content_codec self.now.tape.now run.at run.count)) }
+    {
+        for i in 0..run.count {
+            if !self.content_below(run.at + 10 * i, level) {
+                return false;
+            }
+        }
+        true
+    }
+
     // Number 5. Every segment that a range of contents names is below a level.
     fn contents_below(&self, start: u32, len: u32, level: u8) -> bool
-        ensures { result ≡ contents_below self.now.tape.now self.now.st.now level start len }
+        ensures { Says (is_some self.now.tops && is_some self.now.heights) result (contents_below self.now.tape.now self.now.st.now level start len) }
     {
         if !self.st.has_contents(start, len) {
             return false;
@@ -313,21 +179,29 @@ impl<'a> HeightTable<'a> {
             return true;
         }
         let at = self.st.content_place(start);
-        self.contents_walk(at, start as usize, len as usize, level)
-    }
-
-    #[tactic(auto, using(std::proofs::lemmas::Bool::Decides::nat_tests), unfolding(crate::specs::Below::used_below))]
-    fn used_below(&self, usage: Use, w: u32, next: u32, level: u8) -> bool
-        ensures { result ≡ used_below self.now.tape.now self.now.st.now level (use_number usage) w next }
-    {
-        let by_tops = TopTable {
-            tape: self.tape,
-            st: self.st,
-            tops: self.tops,
+        if let Some(heights) = self.heights {
+            return self.contents_walk(heights, at, start as usize, len as usize, level);
+        }
+        if MANY < len {
+            return false;
+        }
+        let run = Run {
+            at,
+            count: len as usize,
         };
+        self.run_below(run, level)
+    }
+}
+
+// ---- bodies, segments and layers
+
+impl Book<'_, '_, '_> {
+    fn used_below(&self, usage: Use, w: u32, next: u32, level: u8) -> bool
+        ensures { Says (is_some self.now.tops && is_some self.now.heights) result (used_below self.now.tape.now self.now.st.now level (use_number usage) w next) }
+    {
         match usage {
             Use::Contents => self.contents_below(w, next, level),
-            Use::Segments => by_tops.segments_below(w, next, level),
+            Use::Segments => self.segments_below(w, next, level),
             _ => true,
         }
     }
@@ -335,7 +209,7 @@ impl<'a> HeightTable<'a> {
     // Word i of the body at `at`, which has that use.
     fn word_below(&self, usage: Use, at: usize, i: usize, level: u8) -> bool
         requires at_in_bounds { (at + 34 ≤ length self.now.tape.now) × (i < 6) }
-        ensures { result ≡ used_below self.now.tape.now self.now.st.now level (use_number usage) (word_of (body_at self.now.tape.now at) i) (word_of (body_at self.now.tape.now at) (i + 1)) }
+        ensures { Says (is_some self.now.tops && is_some self.now.heights) result (used_below self.now.tape.now self.now.st.now level (use_number usage) (word_of (body_at self.now.tape.now at) i) (word_of (body_at self.now.tape.now at) (i + 1))) }
     {
         let w = records::body_word(self.tape, at, i);
         let next = ids::next_word(self.tape, at, i);
@@ -344,7 +218,7 @@ impl<'a> HeightTable<'a> {
 
     fn body_below(&self, at: usize, level: u8) -> bool
         requires at_in_bounds { at + 34 ≤ length self.now.tape.now }
-        ensures { result ≡ body_below self.now.tape.now self.now.st.now level (body_at self.now.tape.now at) }
+        ensures { Says (is_some self.now.tops && is_some self.now.heights) result (body_below self.now.tape.now self.now.st.now level (body_at self.now.tape.now at)) }
     {
         let uses = records::uses_of(self.tape[at], self.tape[at + 1]);
         for i in 0..6 {
@@ -361,7 +235,7 @@ impl<'a> HeightTable<'a> {
     // Number 5. The level of the segment at `at`.
     fn level_ok(&self, at: usize) -> bool
         requires at_in_bounds { at + 37 ≤ length self.now.tape.now }
-        ensures { result ≡ level_in self.now.tape.now self.now.st.now (record_at segment_codec self.now.tape.now at) }
+        ensures { Says (is_some self.now.tops && is_some self.now.heights) result (level_in self.now.tape.now self.now.st.now (record_at segment_codec self.now.tape.now at)) }
     {
         let level = self.tape[at + 2];
         if self.tape[at + 1] < NODE {
@@ -375,7 +249,7 @@ impl<'a> HeightTable<'a> {
 
     fn run_levels_ok(&self, run: Run) -> bool
         requires count_in_bounds { run.at + 37 * run.count ≤ length self.now.tape.now }
-        ensures { result ≡ all (level_in self.now.tape.now self.now.st.now) (records_at segment_codec self.now.tape.now run.at run.count) }
+        ensures { Says (is_some self.now.tops && is_some self.now.heights) result (all (level_in self.now.tape.now self.now.st.now) (records_at segment_codec self.now.tape.now run.at run.count)) }
     {
         for i in 0..run.count {
             if !self.level_ok(run.at + 37 * i) {
@@ -385,12 +259,13 @@ impl<'a> HeightTable<'a> {
         true
     }
 
-    fn levels_by(&self, layers: usize) -> bool
-        requires layers_value { layers ≡ length (places self.now.tape.now).layers }
-        ensures { result ≡ levels_in self.now.tape.now self.now.st.now }
+    // The layers from the one that begins at `from` on; those before it were walked.
+    fn layers_ok(&self, first: usize, from: usize) -> bool
+        requires walked { (first ≤ self.now.layers) × Walked self.now.tape.now self.now.st.now first from }
+        ensures { Says (is_some self.now.tops && is_some self.now.heights) result (levels_in self.now.tape.now self.now.st.now) }
     {
-        let mut at = 9;
-        for _layer in 0..layers {
+        let mut at = from;
+        for _layer in first..self.layers {
             let l = places::next_layer(self.tape, at);
             if !self.run_levels_ok(l.segments) {
                 return false;
@@ -403,7 +278,7 @@ impl<'a> HeightTable<'a> {
 
 // ---- the tables made
 
-impl<'a> Book<'a> {
+impl Book<'_, '_, '_> {
     // The least level, from m on, that segment i is below; 255 above 32.
     fn segment_bound(&self, i: u32, m: u8) -> u8
         requires i_lt_segments { i < self.now.st.now.totals.segments }
@@ -449,7 +324,7 @@ impl<'a> Book<'a> {
     }
 }
 
-impl<'a> TopTable<'a> {
+impl Book<'_, '_, '_> {
     // The least level, from m on, that content i is below; 255 above 33.
     fn content_bound(&self, i: u32, m: u8) -> u8
         requires i_lt_contents { i < self.now.st.now.totals.contents }
@@ -493,28 +368,46 @@ impl<'a> TopTable<'a> {
     }
 }
 
-impl<'a> Book<'a> {
+impl Book<'_, '_, '_> {
+    fn levels_by_heights(&self, heights: &[u8]) -> bool
+        requires tops { is_some self.now.tops ≡ true }
+        requires made { Made (content_test self.now.tape.now self.now.st.now) self.now.st.now.totals.contents heights.now }
+        ensures { result ≡ levels_in self.now.tape.now self.now.st.now }
+    {
+        let tabled = Book {
+            tape: self.tape,
+            st: self.st,
+            layers: self.layers,
+            tops: self.tops,
+            heights: Some(heights),
+        };
+        tabled.layers_ok(0, 9)
+    }
+
+    fn levels_by_tops(&self, tops: &[u8]) -> bool
+        requires made { Made (segment_test self.now.tape.now self.now.st.now) self.now.st.now.totals.segments tops.now }
+        ensures { result ≡ levels_in self.now.tape.now self.now.st.now }
+    {
+        let by_tops = Book {
+            tape: self.tape,
+            st: self.st,
+            layers: self.layers,
+            tops: Some(tops),
+            heights: None,
+        };
+        let mut heights = [0u8; 69904];
+        by_tops.put_heights(&mut heights);
+        level_blocks::put_uppers(&mut heights);
+        by_tops.levels_by_heights(&heights)
+    }
+
     fn levels_tabled(&self) -> bool
         ensures { result ≡ levels_in self.now.tape.now self.now.st.now }
     {
         let mut tops = [0u8; 69904];
-        let mut heights = [0u8; 69904];
         self.put_tops(&mut tops);
         level_blocks::put_uppers(&mut tops);
-        let by_tops = TopTable {
-            tape: self.tape,
-            st: self.st,
-            tops: &tops,
-        };
-        by_tops.put_heights(&mut heights);
-        level_blocks::put_uppers(&mut heights);
-        let tables = HeightTable {
-            tape: self.tape,
-            st: self.st,
-            tops: &tops,
-            heights: &heights,
-        };
-        tables.levels_by(self.layers)
+        self.levels_by_tops(&tops)
     }
 }
 
@@ -535,12 +428,14 @@ pub fn levels_ok(tape: &[u8], st: Store, layers: usize) -> bool
         tape,
         st: &st,
         layers,
+        tops: None,
+        heights: None,
     };
     let l = places::next_layer(tape, 9);
-    if !book.run_levels_quick(l.segments) {
+    if !book.run_levels_ok(l.segments) {
         return book.levels_tabled();
     }
-    if book.levels_quick(l.end) {
+    if book.layers_ok(1, l.end) {
         return true;
     }
     book.levels_tabled()

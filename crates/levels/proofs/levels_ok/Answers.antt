@@ -14,27 +14,25 @@ pub next_layer-l-requires : goal.next_layer-l-requires
 next_layer-l-requires c =
     walked_inside (walked_none _ c.args.st) c.requires.layers_value (omega (arith, c.if-layers-eq0.false))
 
-pub run_levels_quick-requires : goal.run_levels_quick-requires
-run_levels_quick-requires c =
+pub run_levels_ok-requires : goal.run_levels_ok-requires
+run_levels_ok-requires c =
     record {
       count_in_bounds = walked_fits (walked_none _ _) c.requires.layers_value (omega (arith, c.if-layers-eq0.false)) c.next_layer-l.ensures c.requires.of_tape;
     }
 
-pub returns-then-not-run_levels_quick : goal.returns-then-not-run_levels_quick
-returns-then-not-run_levels_quick c =
+pub returns-then-not-run_levels_ok : goal.returns-then-not-run_levels_ok
+returns-then-not-run_levels_ok c =
     c.levels_tabled.ensures
 
-pub levels_quick-requires : goal.levels_quick-requires
-levels_quick-requires c =
-    let passed = c.run_levels_quick.ensures c.if-not-run_levels_quick.false in
+pub layers_ok-requires : goal.layers_ok-requires
+layers_ok-requires c =
+    let passed = c.run_levels_ok.ensures.sure c.if-not-run_levels_ok.false in
     let first = walked_more (walked_none _ _) c.requires.layers_value (omega (arith, c.if-layers-eq0.false)) c.next_layer-l.ensures (sym passed) refl in
-    record {
-      le_layers = (omega (arith, c.if-layers-eq0.false), first);
-    }
+    record { walked = (omega (arith, c.if-layers-eq0.false), first) }
 
-pub returns-then-levels_quick : goal.returns-then-levels_quick
-returns-then-levels_quick c =
-    sym (c.levels_quick.ensures c.if-levels_quick.true)
+pub returns-then-layers_ok : goal.returns-then-layers_ok
+returns-then-layers_ok c =
+    sym (c.layers_ok.ensures.sure c.if-layers_ok.true)
 
 pub returns : goal.returns
 returns c =

@@ -1,5 +1,6 @@
 use Rattle.std.proofs.Common.{ℕ}
 use Rattle.std.proofs.lemmas.List.{length-replicate}
+use Rattle.levels.specs.Table.{made_kept}
 use Rattle.levels.proofs.Book.levels_tabled.Goals as goal
 
 pub put_tops-requires : goal.put_tops-requires
@@ -12,22 +13,8 @@ pub put_uppers-requires : goal.put_uppers-requires
 put_uppers-requires c =
     c.put_tops.ensures.size
 
-pub put_heights-requires : goal.put_heights-requires
-put_heights-requires c =
+pub levels_by_tops-requires : goal.levels_by_tops-requires
+levels_by_tops-requires c =
     record {
-      heights_len = length-replicate {A = ℕ} 69904 0;
+      made = made_kept c.put_tops.ensures c.put_uppers.ensures.0 c.put_uppers.ensures.1;
     }
-
-pub put_uppers-requires-2 : goal.put_uppers-requires-2
-put_uppers-requires-2 c =
-    c.put_heights.ensures.size
-
-pub levels_by-requires : goal.levels_by-requires
-levels_by-requires c =
-    record {
-      layers_value = c.args.self.now.counted;
-    }
-
-pub returns : goal.returns
-returns c =
-    c.levels_by.ensures

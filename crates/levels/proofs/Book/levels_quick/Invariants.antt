@@ -1,5 +1,0 @@
-use Rattle.levels.specs.Whole.{Walked}
-use Rattle.levels.proofs.Book.levels_quick.Given as goal
-
-abbrev pub invariant-loop-layer : goal.invariant-loop-layer
-invariant-loop-layer l = Walked l.self.tape.now l.self.st.now l._layer l.at
