@@ -156,6 +156,10 @@ pub record Bound (P : ℕ → ℕ → Bool) (i m r : ℕ) : Type 0 where
   pub more : m ≤ r
   pub here : (level : ℕ) → r ≤ level → level < 255 → P level i ≡ true
 
+-- what a call answers is such a bound
+abbrev pub Bounds : (ℕ → ℕ → Bool) → ℕ → (ℕ → ℕ → ℕ → Type 0) → Type 0
+Bounds P total gives = (i m r : ℕ) → i < total → gives i m r → Bound P i m r
+
 pub bound_none : (P : ℕ → ℕ → Bool) (i m : ℕ) → m ≤ 255 → Bound P i m 255
 bound_none P i m h = record { more = h; here = λ level a b. absurd (omega (arith, a, b)) }
 

@@ -9,7 +9,7 @@
 // specs/Says.antt is what an answer says, without tables and with them.
 #![tactic(auto)]
 
-ghost use Rattle.std.specs.Prelude.{◌≡◌, true, is_some, ◌&&◌, ◌+◌, ◌*◌, ◌^◌, ◌≤◌, ◌<◌, length};
+ghost use Rattle.std.specs.Prelude.{◌≡◌, ℕ, Bool, true, is_some, ◌&&◌, ◌+◌, ◌*◌, ◌^◌, ◌≤◌, ◌<◌, length};
 ghost use Rattle.std.specs.Option.{ForSome};
 ghost use Rattle.model.specs.Lists.{all};
 ghost use Rattle.model.specs.Tape.{record_at, records_at, content_codec, segment_codec, places};
@@ -21,7 +21,7 @@ ghost use Rattle.level_blocks.specs.Level.{below};
 ghost use Rattle.level_blocks.specs.Blocks.{Risen};
 ghost use Rattle.store.specs.Stored.{OfTape};
 ghost use Rattle.levels.specs.Below.{segments_below, content_below, contents_below, used_below, body_below, level_in};
-ghost use Rattle.levels.specs.Table.{segment_test, content_test, Step, Said, Filled, Bound, Block, Made};
+ghost use Rattle.levels.specs.Table.{segment_test, content_test, Step, Said, Filled, Bound, Bounds, Block, Made};
 ghost use Rattle.levels.specs.Says.{Says};
 ghost use Rattle.levels.specs.Whole.{levels_in, Walked};
 
@@ -278,6 +278,36 @@ impl Book<'_, '_, '_> {
 
 // ---- the tables made
 
+// The least level that all items of block k are below: item by item, `bound` raises it.
+fn block_of<F: Fn(u32, u8) -> u8>(total: u32, k: usize, bound: &F) -> u8
+    requires k_bound { k < 65536 }
+    requires callable { (i m : ℕ) → i < total → F.pre bound.now i m }
+    ensures { (P : ℕ → ℕ → Bool) → Bounds P total (F.post bound.now) → Block P total (16 * k) (16 * k + 16) result }
+{
+    let mut m = 1;
+    for i in 16 * k..16 * k + 16 {
+        if total as usize <= i {
+            return m;
+        }
+        m = bound(i as u32, m);
+    }
+    m
+}
+
+// The entries of all blocks of a pool.
+fn put_blocks<F: Fn(u32, u8) -> u8>(table: &mut [u8], total: u32, bound: F)
+    requires table_len { length table.old ≡ 69904 }
+    requires callable { (i m : ℕ) → i < total → F.pre bound i m }
+    ensures { (P : ℕ → ℕ → Bool) → Bounds P total (F.post bound) → Filled P total table.new 65536 }
+{
+    for k in 0..65536 {
+        if total as usize <= 16 * k {
+            return;
+        }
+        table[k] = block_of(total, k, &bound);
+    }
+}
+
 impl Book<'_, '_, '_> {
     // The least level, from m on, that segment i is below; 255 above 32.
     fn segment_bound(&self, i: u32, m: u8) -> u8
@@ -295,36 +325,20 @@ impl Book<'_, '_, '_> {
         v + 1
     }
 
-    fn top_of(&self, k: usize) -> u8
-        requires k_bound { k < 65536 }
-        ensures { Block (segment_test self.now.tape.now self.now.st.now) self.now.st.now.totals.segments (16 * k) (16 * k + 16) result }
-    {
-        let total = self.st.totals.segments as usize;
-        let mut m = 1;
-        for i in 16 * k..16 * k + 16 {
-            if total <= i {
-                return m;
-            }
-            m = self.segment_bound(i as u32, m);
-        }
-        m
-    }
-
     fn put_tops(&self, tops: &mut [u8])
         requires tops_len { length tops.old ≡ 69904 }
         ensures { Filled (segment_test self.now.tape.now self.now.st.now) self.now.st.now.totals.segments tops.new 65536 }
     {
-        let total = self.st.totals.segments as usize;
-        for k in 0..65536 {
-            if total <= 16 * k {
-                return;
-            }
-            tops[k] = self.top_of(k);
-        }
+        put_blocks(
+            tops,
+            self.st.totals.segments,
+            |i, m| -> u8
+                requires { i < self.now.st.now.totals.segments }
+                ensures { Bound (segment_test self.entry.now.tape.now self.entry.now.st.now) i m result }
+            { self.segment_bound(i, m) },
+        );
     }
-}
 
-impl Book<'_, '_, '_> {
     // The least level, from m on, that content i is below; 255 above 33.
     fn content_bound(&self, i: u32, m: u8) -> u8
         requires i_lt_contents { i < self.now.st.now.totals.contents }
@@ -339,36 +353,20 @@ impl Book<'_, '_, '_> {
         255
     }
 
-    fn height_of(&self, k: usize) -> u8
-        requires k_bound { k < 65536 }
-        ensures { Block (content_test self.now.tape.now self.now.st.now) self.now.st.now.totals.contents (16 * k) (16 * k + 16) result }
-    {
-        let total = self.st.totals.contents as usize;
-        let mut m = 1;
-        for i in 16 * k..16 * k + 16 {
-            if total <= i {
-                return m;
-            }
-            m = self.content_bound(i as u32, m);
-        }
-        m
-    }
-
     fn put_heights(&self, heights: &mut [u8])
         requires heights_len { length heights.old ≡ 69904 }
         ensures { Filled (content_test self.now.tape.now self.now.st.now) self.now.st.now.totals.contents heights.new 65536 }
     {
-        let total = self.st.totals.contents as usize;
-        for k in 0..65536 {
-            if total <= 16 * k {
-                return;
-            }
-            heights[k] = self.height_of(k);
-        }
+        put_blocks(
+            heights,
+            self.st.totals.contents,
+            |i, m| -> u8
+                requires { i < self.now.st.now.totals.contents }
+                ensures { Bound (content_test self.entry.now.tape.now self.entry.now.st.now) i m result }
+            { self.content_bound(i, m) },
+        );
     }
-}
 
-impl Book<'_, '_, '_> {
     fn levels_by_heights(&self, heights: &[u8]) -> bool
         requires tops { is_some self.now.tops ≡ true }
         requires made { Made (content_test self.now.tape.now self.now.st.now) self.now.st.now.totals.contents heights.now }

@@ -1,37 +1,6 @@
-use Rattle.std.proofs.Common.{◌≡◌, refl, arith, length-set}
-use Rattle.levels.specs.Table.{filled_none, filled_more, filled_all}
+use Rattle.levels.specs.Table.{segment_test}
 use Rattle.levels.proofs.Book.put_tops.Goals as goal
-
-pub loop-k-init : goal.loop-k-init
-loop-k-init c =
-    (refl, filled_none _ _ _ c.requires.tops_len)
-
-pub shape_of-tops-then-total-k : goal.shape_of-tops-then-total-k
-shape_of-tops-then-total-k c =
-    c.loop-k.invariant.0
-
-pub returns-then-total-k : goal.returns-then-total-k
-returns-then-total-k c =
-    filled_all c.loop-k.invariant.1 c.if-total-k.true
-
-pub top_of-requires : goal.top_of-requires
-top_of-requires c =
-    record {
-      k_bound = c.loop-k-test.true;
-    }
-
-pub bounds-tops-k : goal.bounds-tops-k
-bounds-tops-k c =
-    let e = c.loop-k.invariant.1.size in omega (arith, e, c.loop-k-test.true)
-
-pub loop-k-preserved : goal.loop-k-preserved
-loop-k-preserved c =
-    (simp length-set c.loop-k.invariant.0, filled_more c.loop-k.invariant.1 c.loop-k-test.true _ c.top_of.ensures)
-
-pub shape_of-tops : goal.shape_of-tops
-shape_of-tops c =
-    c.loop-k.invariant.0
 
 pub returns : goal.returns
 returns c =
-    let e : c.loop-k.k ≡ 65536 = omega arith in rw e at c.loop-k.invariant.1
+    c.put_blocks.ensures (segment_test c.args.self.now.tape.now c.args.self.now.st.now) (λ i m r h e. e)
