@@ -1,5 +1,5 @@
 pub mod Below
+pub mod Told
 pub mod Table
-pub mod Says
 pub mod Whole
 pub mod Number

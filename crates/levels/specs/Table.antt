@@ -1,8 +1,7 @@
 -- The tables of the two pools: an item's test is known wherever its entry, or one above it, is at most the level.
-use Rattle.std.specs.Prelude.{◌≡◌, refl, ℕ, ◌+◌, ◌*◌, ◌-◌, ◌/◌, ◌≤◌, ◌<◌, Bool, true, false, length, get_or, take, drop, set, ltb, eqb}
+use Rattle.std.specs.Prelude.{◌≡◌, refl, ℕ, ◌+◌, ◌*◌, ◌-◌, ◌/◌, ◌≤◌, ◌<◌, Bool, true, length, get_or, take, drop, set, ltb, eqb}
 use Rattle.std.proofs.Common.{sym, ◌∙◌, arith, length-set, get_or-take, get_or-drop, get_or-set_same, get_or-set_other, lt-ltb, ltb-true, ltb-false, eqb-true}
 use Rattle.std.proofs.Math.Path.{ap}
-use Rattle.std.proofs.Math.Nat.{add-sub_cancel_left}
 use mathlib.Core.List.{List, [], ◌∷◌}
 use Rattle.std.proofs.lemmas.Bool.{eqb-false}
 use Rattle.model.specs.Lists.{all}
@@ -11,7 +10,8 @@ use Rattle.model.specs.Types.{Content, Segment}
 use Rattle.model.specs.Store.{store_of, resolve_content_range, resolve_seg_range}
 use Rattle.model.specs.Tape.{Codec, record_size, record_at, records_at, content_codec, segment_codec, places, layers_at}
 use Rattle.laws.specs.Lists.{both, get_d_tabulate}
-use Rattle.wire.specs.Loops.{Passed, by_bool}
+use Rattle.wire.specs.Loops.{all_up_to, Passed, passed_more, all_passed, by_bool}
+use Rattle.levels.specs.Told.{Told}
 use Rattle.records.specs.Runs.{test_at}
 use Rattle.store.specs.Standing.{content_place, segment_place, content_at_lem, segment_at_lem, content_range_lem, segment_range, content_inside, segment_inside}
 use Rattle.store.specs.declared.Store.{Store}
@@ -40,55 +40,27 @@ pub record Filled (P : ℕ → ℕ → Bool) (total : ℕ) (table : List ℕ) (n
 pub record Said (table : List ℕ) (level start len : ℕ) (test : ℕ → Bool) : Type 0 where
   pub says : (n : ℕ) → n < len → Says table level (start + n) → test n ≡ true
 
--- a step from item i, whose own test is b, up to r: no step where that fails, or is not told
-pub record Step (tabled : Bool) (table : List ℕ) (level : ℕ) (b : Bool) (i end r : ℕ) : Type 0 where
-  pub on : i ≤ r
-  pub far : r ≤ end
-  pub stuck : r ≡ i → tabled ≡ true → b ≡ false
-  pub passed : (test : ℕ → Bool) → ((j : ℕ) → i ≤ j → j < end → Says table level j → test j ≡ true) → b ≡ test i → (j : ℕ) → i ≤ j → j < r → test j ≡ true
+-- what a call answers of item k is its test
+abbrev pub Tests : Bool → (ℕ → Bool) → ℕ → (ℕ → Bool → Type 0) → Type 0
+Tests tabled test len gives = (k : ℕ) (r : Bool) → k < len → gives k r → Told tabled r (test k)
 
--- ---- steps
+-- ---- a walk, whose first items up to i have passed
 
-module _ {tabled : Bool} {table : List ℕ} {level i end : ℕ} (h : i < end) where
-  pub step_end : {b : Bool} {r : ℕ} → Skips table level i r → end < r → Step tabled table level b i end end
-  step_end k l = record {
-    on = omega (arith, h);
-    far = omega arith;
-    stuck = λ e _. absurd (omega (arith, e, h));
-    passed = λ test known e j a b. known j a b (k.says j a (omega (arith, b, l)));
-  }
-
-  pub step_known : {b : Bool} {r : ℕ} → Skips table level i r → r ≤ end → i < r → Step tabled table level b i end r
-  step_known k l m = record {
-    on = k.on;
-    far = l;
-    stuck = λ e _. absurd (omega (arith, e, m));
-    passed = λ test known e j a b. known j a (omega (arith, b, l)) (k.says j a b);
-  }
-
-  pub step_one : {b : Bool} → b ≡ true → Step tabled table level b i end (i + 1)
-  step_one y = record {
-    on = omega arith;
-    far = omega (arith, h);
-    stuck = λ e _. absurd (omega (arith, e));
-    passed = λ test known e j a b. let q : j ≡ i = omega (arith, a, b) in rw q (sym e ∙ y);
-  }
-
-  pub step_none : {b : Bool} → (tabled ≡ true → b ≡ false) → Step tabled table level b i end i
-  step_none n = record { on = omega arith; far = omega (arith, h); stuck = λ e. n; passed = λ test known e j a b. absurd (omega (arith, a, b)) }
-
--- a turn of a walk, and where it ends
-pub walk_more : (test : ℕ → Bool) {tabled : Bool} {table : List ℕ} {level start k len r : ℕ} {b : Bool} → Step tabled table level b (start + k) (start + len) r → Said table level start len test → b ≡ test k
-    → Passed test k → Passed test (r - start)
-walk_more test {tabled} {table} {level} {start} {k} {len} {r} s said e p = record {
-  all = λ n h.
-      by_bool (ltb n k) (λ x. p.all n (ltb-true n k x))
-      (λ x. let y = ltb-false n k x in let on = s.on in
-      let back : (n : ℕ) → start + n - start ≡ n = λ n. add-sub_cancel_left start n in
-      sym (ap test (back n)) ∙ s.passed (λ (j : ℕ). test (j - start))
-      (λ j a g z. let q : start + (j - start) ≡ j = omega (arith, a) in said.says (j - start) (omega (arith, a, g)) (rw q z))
-      (e ∙ ap test (sym (back k))) (start + n) (omega (arith, y)) (omega (arith, h, on)));
+-- by the table
+pub walk_known : {test : ℕ → Bool} {table : List ℕ} {level start len i r : ℕ} (n : ℕ) → Said table level start len test → Passed test (i - start) → start ≤ i → Skips table level i r
+    → n ≤ r → n ≤ start + len → Passed test (n - start)
+walk_known {test} {table} {level} {start} {len} {i} n said p l s low far = record {
+  all = λ k h.
+      by_bool (ltb k (i - start)) (λ x. p.all k (ltb-true k (i - start) x))
+      (λ x. let y = ltb-false k (i - start) x in said.says k (omega (arith, h, far)) (s.says (start + k) (omega (arith, y, l)) (omega (arith, h, low))));
 }
+
+-- by item i itself
+pub walk_one : {test : ℕ → Bool} {start i : ℕ} → start ≤ i → Passed test (i - start) → test (i - start) ≡ true → Passed test (i + 1 - start)
+walk_one {test} {start} {i} l p h = let q : i + 1 - start ≡ i - start + 1 = omega (arith, l) in rw q (passed_more test (i - start) p h)
+
+pub walk_end : {test : ℕ → Bool} (start len : ℕ) {i : ℕ} → i ≡ start + len → Passed test (i - start) → all_up_to len test ≡ true
+walk_end {test} start len {i} e p = let q : i - start ≡ len = omega (arith, e) in all_passed test len (rw q at p)
 
 -- ---- a run of a pool, item by item
 

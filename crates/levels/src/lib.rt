@@ -6,7 +6,7 @@
 // A run may be named by every segment, and be as long as its pool. So a book is first tested without tables: every range up to 16 is read one by
 // one, a longer one is answered 'no', and then a 'no' says nothing. Where that does not say yes, two tables are made (crate `level_blocks`), of the
 // segments and of the contents. A range is then walked from block to block, and an item is read only where its block is not below the level.
-// specs/Says.antt is what an answer says, without tables and with them.
+// specs/Told.antt is what an answer told, without tables and with them.
 #![tactic(auto)]
 
 ghost use Rattle.std.specs.Prelude.{◌≡◌, ℕ, Bool, true, is_some, ◌&&◌, ◌+◌, ◌*◌, ◌^◌, ◌≤◌, ◌<◌, length};
@@ -21,8 +21,9 @@ ghost use Rattle.level_blocks.specs.Level.{below};
 ghost use Rattle.level_blocks.specs.Blocks.{Risen};
 ghost use Rattle.store.specs.Stored.{OfTape};
 ghost use Rattle.levels.specs.Below.{segments_below, content_below, contents_below, used_below, body_below, level_in};
-ghost use Rattle.levels.specs.Table.{segment_test, content_test, Step, Said, Filled, Bound, Bounds, Block, Made};
-ghost use Rattle.levels.specs.Says.{Says};
+ghost use Rattle.levels.specs.Table.{segment_test, content_test, Said, Tests, Filled, Bound, Bounds, Block, Made};
+ghost use Rattle.wire.specs.Loops.{all_up_to};
+ghost use Rattle.levels.specs.Told.{Told};
 ghost use Rattle.levels.specs.Whole.{levels_in, Walked};
 
 use places::Run;
@@ -47,49 +48,35 @@ struct Book<'a, 't, 'h> {
     ghost heights_made: { ForSome heights (λ w. Made (content_test tape.now st.now) st.now.totals.contents w.now) },
 }
 
-// ---- ranges by a table. Of segments and of contents: a table each, made after the other, with facts and a record's size of its own.
+// Do all items of a range pass? A table says so of many, and item k of the range is asked only where it does not.
+fn walk<F: Fn(usize) -> bool>(table: &[u8], start: usize, len: usize, level: u8, passes: F) -> bool
+    requires risen { Risen table.now 69904 }
+    requires len_bound { start + len < 2 ^ 33 }
+    requires callable { (k : ℕ) → k < len → F.pre passes k }
+    ensures { (tabled : Bool) (test : ℕ → Bool) → Said table.now level start len test → Tests tabled test len (F.post passes) → Told tabled result (all_up_to len test) }
+{
+    let end = start + len;
+    let mut i = start;
+    // i rises as far as the table says, or past the one item.
+    while i < end {
+        let known = level_blocks::known_end(table, i, level);
+        if i < known {
+            i = known.min(end);
+        } else if passes(i - start) {
+            i += 1;
+        } else {
+            return false;
+        }
+    }
+    true
+}
+
+// ---- ranges. Of segments and of contents: a table each, made after the other, with a record's size of its own.
 
 impl Book<'_, '_, '_> {
-    // How far the items from i on are below the level, at most to `end`: by the table, or by the segment i itself, which stands at `at`.
-    fn segment_step(&self, tops: &[u8], at: usize, i: usize, end: usize, level: u8) -> usize
-        requires risen { Risen tops.now 69904 }
-        requires at_in_bounds { (at + 37 ≤ length self.now.tape.now) × (i < end) }
-        ensures { Step true tops.now level (below level (record_at segment_codec self.now.tape.now at)) i end result }
-    {
-        let r = level_blocks::known_end(tops, i, level);
-        if end < r {
-            return end;
-        }
-        if i < r {
-            return r;
-        }
-        if level_blocks::level_below(self.tape, at, level) {
-            return i + 1;
-        }
-        i
-    }
-
-    fn segments_walk(&self, tops: &[u8], at: usize, start: usize, len: usize, level: u8) -> bool
-        requires risen { Risen tops.now 69904 }
-        requires len_in_bounds { (at + 37 * len ≤ length self.now.tape.now) × (start + len < 2 ^ 33) }
-        requires said { Said tops.now level start len (test_at segment_codec (below level) self.now.tape.now at) }
-        ensures { result ≡ all (below level) (records_at segment_codec self.now.tape.now at len) }
-    {
-        let mut k = 0;
-        // A step says how far it goes: k rises by as much.
-        while k < len {
-            let r = self.segment_step(tops, at + 37 * k, start + k, start + len, level);
-            if r == start + k {
-                return false;
-            }
-            k = r - start;
-        }
-        true
-    }
-
     // Number 5. Every segment of a range is below a level.
     fn segments_below(&self, start: u32, len: u32, level: u8) -> bool
-        ensures { Says (is_some self.now.tops) result (segments_below self.now.tape.now self.now.st.now level start len) }
+        ensures { Told (is_some self.now.tops) result (segments_below self.now.tape.now self.now.st.now level start len) }
     {
         if !self.st.has_segments(start, len) {
             return false;
@@ -99,7 +86,16 @@ impl Book<'_, '_, '_> {
         }
         let at = self.st.segment_place(start);
         if let Some(tops) = self.tops {
-            return self.segments_walk(tops, at, start as usize, len as usize, level);
+            return walk(
+                tops,
+                start as usize,
+                len as usize,
+                level,
+                |k| -> bool
+                    requires { at + 37 * k + 37 ≤ length self.now.tape.now }
+                    ensures { result ≡ below level (record_at segment_codec self.entry.now.tape.now (at + 37 * k)) }
+                { level_blocks::level_below(self.tape, at + 37 * k, level) },
+            );
         }
         if MANY < len {
             return false;
@@ -109,7 +105,7 @@ impl Book<'_, '_, '_> {
 
     fn content_below(&self, at: usize, level: u8) -> bool
         requires at_in_bounds { at + 10 ≤ length self.now.tape.now }
-        ensures { Says (is_some self.now.tops) result (content_below self.now.tape.now self.now.st.now level (record_at content_codec self.now.tape.now at)) }
+        ensures { Told (is_some self.now.tops) result (content_below self.now.tape.now self.now.st.now level (record_at content_codec self.now.tape.now at)) }
     {
         let c = records::content_at(self.tape, at);
         if c.is_plain() {
@@ -118,47 +114,10 @@ impl Book<'_, '_, '_> {
         self.segments_below(c.first, c.second, level)
     }
 
-    // The same as `segment_step`, of the content i at `at`.
-    fn content_step(&self, heights: &[u8], at: usize, i: usize, end: usize, level: u8) -> usize
-        requires risen { Risen heights.now 69904 }
-        requires at_in_bounds { (at + 10 ≤ length self.now.tape.now) × (i < end) }
-        ensures { Step (is_some self.now.tops) heights.now level (content_below self.now.tape.now self.now.st.now level (record_at content_codec self.now.tape.now at)) i end result }
-    {
-        let r = level_blocks::known_end(heights, i, level);
-        if end < r {
-            return end;
-        }
-        if i < r {
-            return r;
-        }
-        if self.content_below(at, level) {
-            return i + 1;
-        }
-        i
-    }
-
-    fn contents_walk(&self, heights: &[u8], at: usize, start: usize, len: usize, level: u8) -> bool
-        requires risen { Risen heights.now 69904 }
-        requires len_in_bounds { (at + 10 * len ≤ length self.now.tape.now) × (start + len < 2 ^ 33) }
-        requires said { Said heights.now level start len (test_at content_codec (content_below self.now.tape.now self.now.st.now level) self.now.tape.now at) }
-        ensures { Says (is_some self.now.tops) result (all (content_below self.now.tape.now self.now.st.now level) (records_at content_codec self.now.tape.now at len)) }
-    {
-        let mut k = 0;
-        // A step says how far it goes: k rises by as much.
-        while k < len {
-            let r = self.content_step(heights, at + 10 * k, start + k, start + len, level);
-            if r == start + k {
-                return false;
-            }
-            k = r - start;
-        }
-        true
-    }
-
-    // The same of contents that are read one by one.
+    // All contents of a run, read one by one.
     fn run_below(&self, run: Run, level: u8) -> bool
         requires count_in_bounds { run.at + 10 * run.count ≤ length self.now.tape.now }
-        ensures { Says (is_some self.now.tops) result (all (content_below self.now.tape.now self.now.st.now level) (records_at content_codec self.now.tape.now run.at run.count)) }
+        ensures { Told (is_some self.now.tops) result (all (content_below self.now.tape.now self.now.st.now level) (records_at content_codec self.now.tape.now run.at run.count)) }
     {
         for i in 0..run.count {
             if !self.content_below(run.at + 10 * i, level) {
@@ -170,7 +129,7 @@ impl Book<'_, '_, '_> {
 
     // Number 5. Every segment that a range of contents names is below a level.
     fn contents_below(&self, start: u32, len: u32, level: u8) -> bool
-        ensures { Says (is_some self.now.tops && is_some self.now.heights) result (contents_below self.now.tape.now self.now.st.now level start len) }
+        ensures { Told (is_some self.now.tops && is_some self.now.heights) result (contents_below self.now.tape.now self.now.st.now level start len) }
     {
         if !self.st.has_contents(start, len) {
             return false;
@@ -180,7 +139,16 @@ impl Book<'_, '_, '_> {
         }
         let at = self.st.content_place(start);
         if let Some(heights) = self.heights {
-            return self.contents_walk(heights, at, start as usize, len as usize, level);
+            return walk(
+                heights,
+                start as usize,
+                len as usize,
+                level,
+                |k| -> bool
+                    requires { (at + 10 * k + 10 ≤ length self.now.tape.now) × (at + 10 * k < 2 ^ 63) }
+                    ensures { Told (is_some self.entry.now.tops) result (content_below self.entry.now.tape.now self.entry.now.st.now level (record_at content_codec self.entry.now.tape.now (at + 10 * k))) }
+                { self.content_below(at + 10 * k, level) },
+            );
         }
         if MANY < len {
             return false;
@@ -197,7 +165,7 @@ impl Book<'_, '_, '_> {
 
 impl Book<'_, '_, '_> {
     fn used_below(&self, usage: Use, w: u32, next: u32, level: u8) -> bool
-        ensures { Says (is_some self.now.tops && is_some self.now.heights) result (used_below self.now.tape.now self.now.st.now level (use_number usage) w next) }
+        ensures { Told (is_some self.now.tops && is_some self.now.heights) result (used_below self.now.tape.now self.now.st.now level (use_number usage) w next) }
     {
         match usage {
             Use::Contents => self.contents_below(w, next, level),
@@ -209,7 +177,7 @@ impl Book<'_, '_, '_> {
     // Word i of the body at `at`, which has that use.
     fn word_below(&self, usage: Use, at: usize, i: usize, level: u8) -> bool
         requires at_in_bounds { (at + 34 ≤ length self.now.tape.now) × (i < 6) }
-        ensures { Says (is_some self.now.tops && is_some self.now.heights) result (used_below self.now.tape.now self.now.st.now level (use_number usage) (word_of (body_at self.now.tape.now at) i) (word_of (body_at self.now.tape.now at) (i + 1))) }
+        ensures { Told (is_some self.now.tops && is_some self.now.heights) result (used_below self.now.tape.now self.now.st.now level (use_number usage) (word_of (body_at self.now.tape.now at) i) (word_of (body_at self.now.tape.now at) (i + 1))) }
     {
         let w = records::body_word(self.tape, at, i);
         let next = ids::next_word(self.tape, at, i);
@@ -218,7 +186,7 @@ impl Book<'_, '_, '_> {
 
     fn body_below(&self, at: usize, level: u8) -> bool
         requires at_in_bounds { at + 34 ≤ length self.now.tape.now }
-        ensures { Says (is_some self.now.tops && is_some self.now.heights) result (body_below self.now.tape.now self.now.st.now level (body_at self.now.tape.now at)) }
+        ensures { Told (is_some self.now.tops && is_some self.now.heights) result (body_below self.now.tape.now self.now.st.now level (body_at self.now.tape.now at)) }
     {
         let uses = records::uses_of(self.tape[at], self.tape[at + 1]);
         for i in 0..6 {
@@ -235,7 +203,7 @@ impl Book<'_, '_, '_> {
     // Number 5. The level of the segment at `at`.
     fn level_ok(&self, at: usize) -> bool
         requires at_in_bounds { at + 37 ≤ length self.now.tape.now }
-        ensures { Says (is_some self.now.tops && is_some self.now.heights) result (level_in self.now.tape.now self.now.st.now (record_at segment_codec self.now.tape.now at)) }
+        ensures { Told (is_some self.now.tops && is_some self.now.heights) result (level_in self.now.tape.now self.now.st.now (record_at segment_codec self.now.tape.now at)) }
     {
         let level = self.tape[at + 2];
         if self.tape[at + 1] < NODE {
@@ -249,7 +217,7 @@ impl Book<'_, '_, '_> {
 
     fn run_levels_ok(&self, run: Run) -> bool
         requires count_in_bounds { run.at + 37 * run.count ≤ length self.now.tape.now }
-        ensures { Says (is_some self.now.tops && is_some self.now.heights) result (all (level_in self.now.tape.now self.now.st.now) (records_at segment_codec self.now.tape.now run.at run.count)) }
+        ensures { Told (is_some self.now.tops && is_some self.now.heights) result (all (level_in self.now.tape.now self.now.st.now) (records_at segment_codec self.now.tape.now run.at run.count)) }
     {
         for i in 0..run.count {
             if !self.level_ok(run.at + 37 * i) {
@@ -262,7 +230,7 @@ impl Book<'_, '_, '_> {
     // The layers from the one that begins at `from` on; those before it were walked.
     fn layers_ok(&self, first: usize, from: usize) -> bool
         requires walked { (first ≤ self.now.layers) × Walked self.now.tape.now self.now.st.now first from }
-        ensures { Says (is_some self.now.tops && is_some self.now.heights) result (levels_in self.now.tape.now self.now.st.now) }
+        ensures { Told (is_some self.now.tops && is_some self.now.heights) result (levels_in self.now.tape.now self.now.st.now) }
     {
         let mut at = from;
         for _layer in first..self.layers {

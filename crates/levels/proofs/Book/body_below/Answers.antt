@@ -1,5 +1,5 @@
 use Rattle.std.proofs.Common.{refl, sym, ap, ◌∙◌, arith}
-use Rattle.levels.specs.Says.{says, says_no}
+use Rattle.levels.specs.Told.{told, told_no}
 use Rattle.levels.specs.Below.{word_read, body_failed, body_passed, body_rest}
 use Rattle.records.specs.Values.{body_at}
 use Rattle.records.specs.Uses.{use_number}
@@ -12,13 +12,13 @@ loop-i-init c =
 
 pub returns-in-Unused : goal.returns-in-Unused
 returns-in-Unused c =
-    says (body_rest c.args.self.now.tape.now c.args.self.now.st.now c.args.level c.args.at c.loop-i.i c.uses_of-uses.ensures c.loop-i-test.true (ap use_number c.in-Unused.is) c.loop-i.invariant)
+    told (body_rest c.args.self.now.tape.now c.args.self.now.st.now c.args.level c.args.at c.loop-i.i c.uses_of-uses.ensures c.loop-i-test.true (ap use_number c.in-Unused.is) c.loop-i.invariant)
 
 pub returns-then-not-word_below : goal.returns-then-not-word_below
 returns-then-not-word_below c =
     let tape = c.args.self.now.tape.now in
     let st = c.args.self.now.st.now in
-    says_no c.word_below.ensures c.if-not-word_below.true
+    told_no c.word_below.ensures c.if-not-word_below.true
     (λ n. body_failed tape st c.args.level (body_at tape c.args.at) c.loop-i.i c.loop-i-test.true (word_read tape st c.args.level c.args.at c.loop-i.i c.uses_of-uses.ensures c.loop-i-test.true refl ∙ n))
 
 pub loop-i-preserved : goal.loop-i-preserved
@@ -27,4 +27,4 @@ loop-i-preserved c =
 
 pub returns : goal.returns
 returns c =
-    says (body_passed c.args.self.now.tape.now c.args.self.now.st.now c.args.level (body_at c.args.self.now.tape.now c.args.at) c.loop-i.i (omega arith) (omega arith) c.loop-i.invariant)
+    told (body_passed c.args.self.now.tape.now c.args.self.now.st.now c.args.level (body_at c.args.self.now.tape.now c.args.at) c.loop-i.i (omega arith) (omega arith) c.loop-i.invariant)

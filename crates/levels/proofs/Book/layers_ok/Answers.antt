@@ -1,5 +1,5 @@
 use Rattle.std.proofs.Common.{refl, sym}
-use Rattle.levels.specs.Says.{says, says_no}
+use Rattle.levels.specs.Told.{told, told_no}
 use Rattle.levels.specs.Whole.{walked_inside, walked_fits, walked_failed, walked_more, walked_all}
 use Rattle.levels.proofs.Book.layers_ok.Goals as goal
 
@@ -19,7 +19,7 @@ run_levels_ok-requires c =
 
 pub returns-then-not-run_levels_ok : goal.returns-then-not-run_levels_ok
 returns-then-not-run_levels_ok c =
-    says_no c.run_levels_ok.ensures c.if-not-run_levels_ok.true
+    told_no c.run_levels_ok.ensures c.if-not-run_levels_ok.true
     (λ n. walked_failed c.loop-layer.invariant c.args.self.now.counted c.loop-layer-test.true c.next_layer-l.ensures refl n)
 
 pub loop-layer-preserved : goal.loop-layer-preserved
@@ -28,4 +28,4 @@ loop-layer-preserved c =
 
 pub returns : goal.returns
 returns c =
-    says (walked_all c.loop-layer.invariant c.args.self.now.counted c.loop-layer-test.false)
+    told (walked_all c.loop-layer.invariant c.args.self.now.counted c.loop-layer-test.false)

@@ -1,6 +1,6 @@
 use Rattle.std.proofs.Common.{is_some}
 use Rattle.levels.specs.Below.{used_below, used_other}
-use Rattle.levels.specs.Says.{says, says_less}
+use Rattle.levels.specs.Told.{told, told_less}
 use Rattle.levels.proofs.Book.used_below.Goals as goal
 
 pub returns-in-Contents : goal.returns-in-Contents
@@ -11,8 +11,8 @@ returns-in-Contents c =
 pub returns-in-Segments : goal.returns-in-Segments
 unfolding used_below
 returns-in-Segments c =
-    rw c.in-Segments.is (says_less (is_some c.args.self.now.heights) c.segments_below.ensures)
+    rw c.in-Segments.is (told_less (is_some c.args.self.now.heights) c.segments_below.ensures)
 
 pub returns-in_default : goal.returns-in_default
 returns-in_default c =
-    says (used_other _ _ _ _ _ c.args.usage c.in_default.not-Contents c.in_default.not-Segments)
+    told (used_other _ _ _ _ _ c.args.usage c.in_default.not-Contents c.in_default.not-Segments)
