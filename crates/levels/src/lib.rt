@@ -6,7 +6,7 @@
 // A run may be named by every segment, and be as long as its pool. So a book is first tested without tables: every range up to 16 is read one by
 // one, a longer one is answered 'no', and then a 'no' says nothing. Where that does not say yes, two tables are made (crate `level_blocks`), of the
 // segments and of the contents. A range is then walked from block to block, and an item is read only where its block is not below the level.
-// specs/Told.antt is what an answer told, without tables and with them.
+// specs/Told.antt is what an answer tells, without tables and with them.
 #![tactic(auto)]
 
 ghost use Rattle.std.specs.Prelude.{◌≡◌, ℕ, Bool, true, is_some, ◌&&◌, ◌+◌, ◌*◌, ◌^◌, ◌≤◌, ◌<◌, length};
@@ -30,8 +30,8 @@ use places::Run;
 use records::{NODE, Use};
 use store::Store;
 
-// A range of so many items is not read one by one.
-const MANY: u32 = 16;
+// The longest range that is read item by item where there is no table.
+const MOST_READ: u32 = 16;
 
 // A tape and its store, both lent, how many layers it has, and two tables as far as they are made: of the levels that its segments are below, and of
 // those that the segments which its contents name are below.
@@ -74,7 +74,7 @@ fn walk<F: Fn(usize) -> bool>(table: &[u8], start: usize, len: usize, level: u8,
 // ---- ranges. Of segments and of contents: a table each, made after the other, with a record's size of its own.
 
 impl Book<'_, '_, '_> {
-    // Number 5. Every segment of a range is below a level.
+    // Number 5. Every segment of a range is below a level. For contents the same below: each asks its own pool of the store, and its own table.
     fn segments_below(&self, start: u32, len: u32, level: u8) -> bool
         ensures { Told (is_some self.now.tops) result (segments_below self.now.tape.now self.now.st.now level start len) }
     {
@@ -97,7 +97,7 @@ impl Book<'_, '_, '_> {
                 { level_blocks::level_below(self.tape, at + 37 * k, level) },
             );
         }
-        if MANY < len {
+        if MOST_READ < len {
             return false;
         }
         level_blocks::levels_below(self.tape, at, len as usize, level)
@@ -150,7 +150,7 @@ impl Book<'_, '_, '_> {
                 { self.content_below(at + 10 * k, level) },
             );
         }
-        if MANY < len {
+        if MOST_READ < len {
             return false;
         }
         let run = Run {
@@ -335,6 +335,7 @@ impl Book<'_, '_, '_> {
         );
     }
 
+    // By both tables.
     fn levels_by_heights(&self, heights: &[u8]) -> bool
         requires tops { is_some self.now.tops ≡ true }
         requires made { Made (content_test self.now.tape.now self.now.st.now) self.now.st.now.totals.contents heights.now }
@@ -350,6 +351,7 @@ impl Book<'_, '_, '_> {
         tabled.layers_ok(0, 9)
     }
 
+    // By the table of the segments, and then by one of the contents that it serves to make.
     fn levels_by_tops(&self, tops: &[u8]) -> bool
         requires made { Made (segment_test self.now.tape.now self.now.st.now) self.now.st.now.totals.segments tops.now }
         ensures { result ≡ levels_in self.now.tape.now self.now.st.now }
@@ -367,6 +369,7 @@ impl Book<'_, '_, '_> {
         by_tops.levels_by_heights(&heights)
     }
 
+    // By tables of its own.
     fn levels_tabled(&self) -> bool
         ensures { result ≡ levels_in self.now.tape.now self.now.st.now }
     {

@@ -38,8 +38,8 @@ returns-in-Some c =
     told_as (told_less (is_some c.args.self.now.heights) answer)
     (contents_read c.args.self.now.tape.now c.args.self.now.st.now c.args.level c.args.start c.args.len c.has_contents.ensures c.if-not-has_contents.false _ c.content_place-at.ensures (sym (all-records_at content_codec test c.args.self.now.tape.now c.content_place-at.result c.args.len)))
 
-pub returns-then-len-gt-MANY : goal.returns-then-len-gt-MANY
-returns-then-len-gt-MANY c =
+pub returns-then-len-gt-MOST_READ : goal.returns-then-len-gt-MOST_READ
+returns-then-len-gt-MOST_READ c =
     told_quick (not_both (is_some c.args.self.now.tops) (ap is_some c.in_default.is)) (λ y. absurd (true≢false (sym y)))
 
 pub run_below-requires : goal.run_below-requires

@@ -38,8 +38,8 @@ returns-in-Some c =
     told_as answer
     (segments_read c.args.self.now.tape.now c.args.self.now.st.now c.args.level c.args.start c.args.len c.has_segments.ensures c.if-not-has_segments.false _ c.segment_place-at.ensures (sym (all-records_at segment_codec test c.args.self.now.tape.now c.segment_place-at.result c.args.len)))
 
-pub returns-then-len-gt-MANY : goal.returns-then-len-gt-MANY
-returns-then-len-gt-MANY c =
+pub returns-then-len-gt-MOST_READ : goal.returns-then-len-gt-MOST_READ
+returns-then-len-gt-MOST_READ c =
     told_quick (ap is_some c.in_default.is) (λ y. absurd (true≢false (sym y)))
 
 pub levels_below-requires : goal.levels_below-requires
