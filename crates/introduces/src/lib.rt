@@ -24,7 +24,7 @@ ghost use Rattle.introduces.specs.Rows.{refers_to_row};
 ghost use Rattle.records.specs.Runs.{test_at};
 ghost use Rattle.wire.specs.Loops.{Missed};
 
-use dependency::Answer;
+use dependency::{Answer, Filter};
 use places::Run;
 use region::Book;
 use ruby_formats::Nodes;
@@ -58,26 +58,23 @@ fn note_bases(nodes: &Nodes, filter: &mut [u32])
 }
 
 // Node i of the reading: a Referenced Format whose target is the base of a Ruby among the old nodes.
-fn refers_to(nodes: &Nodes, filter: &[u32], reading: &Nodes, i: usize) -> Answer
-    requires noted { Noted (nodes_store nodes.now) (first_nodes nodes.now nodes.now.run.count) filter.now }
-    requires i_lt_count { i < reading.now.run.count }
-    ensures { Told result (refers_to (nodes_store nodes.now) (first_nodes nodes.now nodes.now.run.count) (nodes_store reading.now) (node_in reading.now i)) }
+fn refers_to(filter: &Filter, reading: &Nodes, i: usize) -> Answer
+    requires { i < reading.now.run.count }
+    ensures { Told result (refers_to (nodes_store filter.now.nodes.now) (first_nodes filter.now.nodes.now filter.now.count) (nodes_store reading.now) (node_in reading.now i)) }
 {
     if !reading.is_referenced_format(i) {
         return Answer::No;
     }
-    let n = nodes.run.count;
-    dependency::is_target_base(nodes, n, filter, &reading.strings, reading.first_plain(i))
+    filter.is_target_base(&reading.strings, reading.first_plain(i))
 }
 
 // The same of any node of the reading; None for not known, as in the walk of number 10.
-fn any_refers_to(nodes: &Nodes, filter: &[u32], reading: &Nodes) -> Option<bool>
-    requires { Noted (nodes_store nodes.now) (first_nodes nodes.now nodes.now.run.count) filter.now }
-    ensures { IfSome result (λ r. r ≡ any (refers_to (nodes_store nodes.now) (first_nodes nodes.now nodes.now.run.count) (nodes_store reading.now)) (first_nodes reading.now reading.now.run.count)) }
+fn any_refers_to(filter: &Filter, reading: &Nodes) -> Option<bool>
+    ensures { IfSome result (λ r. r ≡ any (refers_to (nodes_store filter.now.nodes.now) (first_nodes filter.now.nodes.now filter.now.count) (nodes_store reading.now)) (first_nodes reading.now reading.now.run.count)) }
 {
     let mut vain = 0;
     for i in 0..reading.run.count {
-        match refers_to(nodes, filter, reading, i) {
+        match refers_to(filter, reading, i) {
             Answer::Yes => return Some(true),
             Answer::Unknown => return None,
             Answer::InVain => vain += 1,
@@ -138,11 +135,16 @@ fn any_refers_to_row(row: &Row, reading: &Nodes, first: &[u64]) -> bool
 }
 
 // A Referenced Format of the reading whose target is the base of a Ruby among the old nodes. None for not known.
-fn refers_by_filter(nodes: &Nodes, reading: &Nodes, filter: &mut [u32]) -> Option<bool>
+fn refers_by_filter(nodes: &Nodes, reading: &Nodes, words: &mut [u32]) -> Option<bool>
     ensures { IfSome result (λ r. r ≡ any (refers_to (nodes_store nodes.now) (first_nodes nodes.now nodes.now.run.count) (nodes_store reading.now)) (first_nodes reading.now reading.now.run.count)) }
 {
-    note_bases(nodes, filter);
-    any_refers_to(nodes, filter, reading)
+    note_bases(nodes, words);
+    let filter = Filter {
+        nodes: &*nodes,
+        count: nodes.run.count,
+        words,
+    };
+    any_refers_to(&filter, reading)
 }
 
 // The same by a row of the bases, with words of its own for the first places of long strings.
