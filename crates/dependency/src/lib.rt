@@ -6,7 +6,9 @@
 // into a row of ids that is sorted by their strings, and a target is found by bisection. Many nodes may name one long string: by its id, a
 // base goes in where a Ruby names it first, and a target is asked for where a Format names it last. specs/Bases.antt says what is asked,
 // specs/Noted.antt what the filter says, specs/Rows.antt what the row says, specs/Named.antt and specs/Later.antt what nodes that name
-// one id share; crate `ruby_formats` has what is asked of one node and what number 4 has shown of it.
+// one id share; crate `ruby_formats` has what is asked of one node and what number 4 has shown of it. That a node's number lies in the run is
+// said by each function that is asked of one node, and that an answer is an id of the strings by each that is asked of an answer: both are
+// others at each turn, and a value of nodes and number, or of strings and answer, would be made anew there, and the same be shown there.
 #![tactic(auto)]
 
 mod filter;
