@@ -58,22 +58,29 @@ refers_join st from a b n =
     spread false x y = refl
 
 module _ (st : NodeStore) (from : ℕ) (t : List ℕ) (at : ℕ) where
+  abbrev node : ℕ → SourceNode
+  node p = record_at node_codec t p
+
+  -- n nodes from place p on
+  abbrev nodes : ℕ → ℕ → List SourceNode
+  nodes p n = records_at node_codec t p n
+
   -- node i + k, by the first i nodes and by the next m
-  piece : (i m k : ℕ) → refers_back st from (records_at node_codec t at (i + m)) (record_at node_codec t (at + 49 * (i + k)))
-      ≡ refers_back st from (records_at node_codec t at i) (record_at node_codec t (at + 49 * (i + k))) || refers_back st from (records_at node_codec t (at + 49 * i) m) (record_at node_codec t (at + 49 * i + 49 * k))
+  piece : (i m k : ℕ) → refers_back st from (nodes at (i + m)) (node (at + 49 * (i + k)))
+      ≡ refers_back st from (nodes at i) (node (at + 49 * (i + k))) || refers_back st from (nodes (at + 49 * i) m) (node (at + 49 * i + 49 * k))
   piece i m k =
       let e : at + 49 * (i + k) ≡ at + 49 * i + 49 * k = omega arith in
-      ap (λ (l : List SourceNode). refers_back st from l (record_at node_codec t (at + 49 * (i + k)))) (run_join t at i m)
-      ∙ refers_join st from (records_at node_codec t at i) (records_at node_codec t (at + 49 * i) m) (record_at node_codec t (at + 49 * (i + k)))
-      ∙ ap (λ (p : ℕ). refers_back st from (records_at node_codec t at i) (record_at node_codec t (at + 49 * (i + k))) || refers_back st from (records_at node_codec t (at + 49 * i) m) (record_at node_codec t p)) e
+      ap (λ (l : List SourceNode). refers_back st from l (node (at + 49 * (i + k)))) (run_join t at i m)
+      ∙ refers_join st from (nodes at i) (nodes (at + 49 * i) m) (node (at + 49 * (i + k)))
+      ∙ ap (λ (p : ℕ). refers_back st from (nodes at i) (node (at + 49 * (i + k))) || refers_back st from (nodes (at + 49 * i) m) (node p)) e
 
   pub parts_none : (count : ℕ) → Missed (refers_among st from t at 0) count
   unfolding refers_among refers_back
   parts_none count = record {
     none = λ k h.
         let e : min 0 k ≡ 0 = omega arith in
-        let n = record_at node_codec t (at + 49 * k) in
-        ap (λ (m : ℕ). asks_target from n && among_bases st (records_at node_codec t at m) (first_plain st n)) e
+        let n = node (at + 49 * k) in
+        ap (λ (m : ℕ). asks_target from n && among_bases st (nodes at m) (first_plain st n)) e
         ∙ ap (λ (l : List SourceNode). asks_target from n && among_bases st l (first_plain st n)) (run_none node_codec t at)
         ∙ ap (λ (x : Bool). asks_target from n && x) (among_none st (first_plain st n)) ∙ and-false (asks_target from n);
   }
@@ -84,48 +91,50 @@ module _ (st : NodeStore) (from : ℕ) (t : List ℕ) (at : ℕ) where
     unfolding refers_among
     parts_more m f = record { none = λ j b. by_bool (nat_lt j i) (λ s. before j b (ltb-true j i s)) (λ s. behind j b (ltb-false j i s)) }
       where
-        before : (j : ℕ) → j < count → j < i → refers_back st from (records_at node_codec t at (min (i + n) j)) (record_at node_codec t (at + 49 * j)) ≡ false
+        before : (j : ℕ) → j < count → j < i → refers_back st from (nodes at (min (i + n) j)) (node (at + 49 * j)) ≡ false
         before j b s =
             let q : min (i + n) j ≡ min i j = omega arith in
-            ap (λ (k : ℕ). refers_back st from (records_at node_codec t at k) (record_at node_codec t (at + 49 * j))) q ∙ m.none j b
+            ap (λ (k : ℕ). refers_back st from (nodes at k) (node (at + 49 * j))) q ∙ m.none j b
 
-        behind : (j : ℕ) → j < count → i ≤ j → refers_back st from (records_at node_codec t at (min (i + n) j)) (record_at node_codec t (at + 49 * j)) ≡ false
+        behind : (j : ℕ) → j < count → i ≤ j → refers_back st from (nodes at (min (i + n) j)) (node (at + 49 * j)) ≡ false
         behind j b s =
             let k = j - i in
             let q : min (i + n) j ≡ i + min n k = omega arith in
             let r : j ≡ i + k = omega arith in
             let u : min i j ≡ i = omega arith in
-            let first = ap₂ (λ (a c : ℕ). refers_back st from (records_at node_codec t at a) (record_at node_codec t (at + 49 * c))) (sym u) (sym r) ∙ m.none j b in
+            let first = ap₂ (λ (a c : ℕ). refers_back st from (nodes at a) (node (at + 49 * c))) (sym u) (sym r) ∙ m.none j b in
             let next = any_false (refers_among st from t (at + 49 * i) n) (count - i) k (sym e ∙ f) (omega arith) in
-            ap₂ (λ (a c : ℕ). refers_back st from (records_at node_codec t at a) (record_at node_codec t (at + 49 * c))) q r
+            ap₂ (λ (a c : ℕ). refers_back st from (nodes at a) (node (at + 49 * c))) q r
             ∙ piece i (min n k) k ∙ ap₂ (λ (a b : Bool). a || b) first next
 
-    pub parts_found : x ≡ true → true ≡ depends_from st from [] (records_at node_codec t at count)
+    pub parts_found : x ≡ true → true ≡ depends_from st from [] (nodes at count)
     unfolding refers_among refers_at
     parts_found f =
         by_bool (any_up_to count (refers_at st from t at))
         (λ s. sym (depends_records st from t at count ∙ s))
         (λ s. absurd (true≢false (sym f ∙ e ∙ any_missed (refers_among st from t (at + 49 * i) n) (count - i) (record { none = λ k b. absent s k b }))))
       where
-        absent : any_up_to count (refers_at st from t at) ≡ false → (k : ℕ) → k < count - i → refers_back st from (records_at node_codec t (at + 49 * i) (min n k)) (record_at node_codec t (at + 49 * i + 49 * k)) ≡ false
+        absent : any_up_to count (refers_at st from t at) ≡ false → (k : ℕ) → k < count - i → refers_back st from (nodes (at + 49 * i) (min n k)) (node (at + 49 * i + 49 * k)) ≡ false
         absent s k b =
-            let whole : refers_back st from (records_at node_codec t at (i + k)) (record_at node_codec t (at + 49 * (i + k))) ≡ false = any_false (refers_at st from t at) count (i + k) s (omega arith) in
-            let before = refers_back st from (records_at node_codec t at i) (record_at node_codec t (at + 49 * (i + k))) in
-            let behind = refers_back st from (records_at node_codec t (at + 49 * i) k) (record_at node_codec t (at + 49 * i + 49 * k)) in
+            let whole : refers_back st from (nodes at (i + k)) (node (at + 49 * (i + k))) ≡ false = any_false (refers_at st from t at) count (i + k) s (omega arith) in
+            let before = refers_back st from (nodes at i) (node (at + 49 * (i + k))) in
+            let behind = refers_back st from (nodes (at + 49 * i) k) (node (at + 49 * i + 49 * k)) in
             let own : behind ≡ false = (neither before behind (sym (piece i k k) ∙ whole)).1 in
             let q : k ≡ min n k + (k - min n k) = omega arith in
-            (neither (refers_back st from (records_at node_codec t (at + 49 * i) (min n k)) (record_at node_codec t (at + 49 * i + 49 * k)))
-            (refers_back st from (records_at node_codec t (at + 49 * i + 49 * min n k) (k - min n k)) (record_at node_codec t (at + 49 * i + 49 * k))) (sym (ap (λ (l : List SourceNode). refers_back st from l (record_at node_codec t (at + 49 * i + 49 * k)))
-            (ap (records_at node_codec t (at + 49 * i)) q ∙ run_join t (at + 49 * i) (min n k) (k - min n k))
-            ∙ refers_join st from (records_at node_codec t (at + 49 * i) (min n k)) (records_at node_codec t (at + 49 * i + 49 * min n k) (k - min n k)) (record_at node_codec t (at + 49 * i + 49 * k))) ∙ own)).0
+            let here = node (at + 49 * i + 49 * k) in
+            let first = nodes (at + 49 * i) (min n k) in
+            let last = nodes (at + 49 * i + 49 * min n k) (k - min n k) in
+            (neither (refers_back st from first here) (refers_back st from last here)
+            (sym (ap (λ (l : List SourceNode). refers_back st from l here) (ap (nodes (at + 49 * i)) q ∙ run_join t (at + 49 * i) (min n k) (k - min n k))
+            ∙ refers_join st from first last here) ∙ own)).0
 
-  pub parts_all : (count i : ℕ) → i ≡ count → Missed (refers_among st from t at i) count → false ≡ depends_from st from [] (records_at node_codec t at count)
+  pub parts_all : (count i : ℕ) → i ≡ count → Missed (refers_among st from t at i) count → false ≡ depends_from st from [] (nodes at count)
   unfolding refers_among refers_at
   parts_all count i e m =
       sym (depends_records st from t at count ∙ any_missed (refers_at st from t at) count (record {
         none = λ k b.
             let q : min i k ≡ k = omega arith in
-            ap (λ (a : ℕ). refers_back st from (records_at node_codec t at a) (record_at node_codec t (at + 49 * k))) (sym q) ∙ m.none k b;
+            ap (λ (a : ℕ). refers_back st from (nodes at a) (node (at + 49 * k))) (sym q) ∙ m.none k b;
       }))
 
 -- ---- one node, each return of the code

@@ -74,7 +74,9 @@ module _ {ss : Strings} {words : List ℕ} {m : ℕ} where
 module _ (ss : Strings) (p : ℕ) {x : Bool} (e : x ≡ is_ruby (record_at node_codec ss.tape.now p)) {words : List ℕ} {m : ℕ} where
   pub row_other : x ≡ false → Sorted ss words m → Inserted ss (is_base_of (lent_store ss) (record_at node_codec ss.tape.now p)) words m words m
   unfolding is_base_of has_base
-  row_other h row = inserted_none row (is_base_of (lent_store ss) (record_at node_codec ss.tape.now p)) (λ s. ap (λ (b : Bool). b && is_plain s (first_plain (lent_store ss) (record_at node_codec ss.tape.now p))) (sym e ∙ h))
+  row_other h row =
+      let n = record_at node_codec ss.tape.now p in
+      inserted_none row (is_base_of (lent_store ss) n) (λ s. ap (λ (b : Bool). b && is_plain s (first_plain (lent_store ss) n)) (sym e ∙ h))
 
   pub row_ruby : x ≡ true → {r : Option ℕ} → ((b : List ℕ) → r ≡ plain_of (first_contents ss.tape.now p b)) → {after : List ℕ} {n : ℕ}
       → Inserted ss (is_one (plain_string (lent_store ss) r)) words m after n → Inserted ss (is_base_of (lent_store ss) (record_at node_codec ss.tape.now p)) words m after n

@@ -6,8 +6,12 @@
 // into a row of ids that is sorted by their strings, and a target is found by bisection. Many nodes may name one long string: by its id, a
 // base goes in where a Ruby names it first, and a target is asked for where a Format names it last. specs/Bases.antt says what is asked,
 // specs/Noted.antt what the filter says, specs/Rows.antt what the row says, specs/Named.antt and specs/Later.antt what nodes that name
-// one id share; crate `ruby_formats` has what is asked of one node and what number 4 has shown of it.
+// one id share; crate `ruby_formats` has what is asked of one node and what number 4 has shown of it. That a node's number lies in the run is
+// said by each function that is asked of one node, and that an answer is an id of the strings by each that is asked of an answer: both are
+// others at each turn, and a value of nodes and number, or of strings and answer, would be made anew there, and the same be shown there.
 #![tactic(auto)]
+
+mod filter;
 
 ghost use Rattle.std.specs.Prelude.{◌≡◌, ℕ, IfSome, ◌+◌, ◌*◌, ◌<◌, ◌≤◌, min, ◌&&◌, [], length, nat_lt};
 ghost use Rattle.model.specs.Lists.{any, same as same_bytes};
@@ -17,13 +21,14 @@ ghost use Rattle.strings.specs.PlainContent.{plain_string};
 ghost use Rattle.wire.specs.Loops.{any_up_to};
 ghost use Rattle.ruby_formats.specs.Sound.{PlainIn};
 ghost use Rattle.ruby_formats.specs.Nodes.{node_in, first_nodes, nodes_store};
-ghost use Rattle.dependency.specs.Bases.{is_plain, has_base, among_bases};
+ghost use Rattle.dependency.specs.Bases.{is_plain, has_base};
 ghost use Rattle.dependency.specs.Among.{refers_first};
 ghost use Rattle.dependency.specs.Noted.{filter_key, inserted_plain, noted_by, Noted};
 ghost use Rattle.dependency.specs.Rows.{Told, is_one, is_base_of, Rowed, RowOf, among_row, refers_row};
 ghost use Rattle.dependency.specs.Later.{Settled};
 ghost use Rattle.sorted_ids.specs.Row.{Sorted, Inserted};
 
+pub use filter::Filter;
 use places::Run;
 use ruby_formats::Nodes;
 use sorted_ids::Row;
@@ -98,43 +103,6 @@ pub enum Answer {
 // How many targets a walk compares in vain before it gives up: then bases crowd the filter.
 pub const MOST_IN_VAIN: u32 = 128;
 
-// The same, with the filter of these bases asked first.
-pub fn is_filtered_base(nodes: &Nodes, n: usize, filter: &[u32], s: &[u8]) -> Answer
-    requires n_le_count { n ≤ nodes.now.run.count }
-    requires noted { Noted (nodes_store nodes.now) (first_nodes nodes.now n) filter.now }
-    ensures { Told result (any (has_base (nodes_store nodes.now) s.now) (first_nodes nodes.now n)) }
-{
-    if !bloom::may_contain(filter, filter_key(s)) {
-        return Answer::No;
-    }
-    if LONG_STRING < s.len() {
-        return Answer::Unknown;
-    }
-    if is_ruby_base(nodes, n, s) {
-        return Answer::Yes;
-    }
-    Answer::InVain
-}
-
-// The same of the string of an answer `p`, which is one of `of`.
-pub fn is_target_base(
-    nodes: &Nodes,
-    n: usize,
-    filter: &[u32],
-    of: &Strings,
-    p: Option<u32>,
-) -> Answer
-    requires n_le_count { n ≤ nodes.now.run.count }
-    requires noted { Noted (nodes_store nodes.now) (first_nodes nodes.now n) filter.now }
-    requires plain_in { PlainIn of.now.store.now p }
-    ensures { Told result (among_bases (nodes_store nodes.now) (first_nodes nodes.now n) (plain_string (lent_store of.now) p)) }
-{
-    match p {
-        Some(id) => is_filtered_base(nodes, n, filter, of.resolve_str(id)),
-        None => Answer::No,
-    }
-}
-
 // Number 10, node i: a Referenced Format that ends behind `from` and whose target is the base of an earlier Ruby among the first n nodes.
 fn refers_among(nodes: &Nodes, n: usize, filter: &[u32], i: usize, from: u32) -> Answer
     requires i_lt_count { i < nodes.now.run.count }
@@ -144,13 +112,12 @@ fn refers_among(nodes: &Nodes, n: usize, filter: &[u32], i: usize, from: u32) ->
     if !nodes.asks_target(i, from) {
         return Answer::No;
     }
-    is_target_base(
-        nodes,
-        n.min(i),
-        filter,
-        &nodes.strings,
-        nodes.first_plain(i),
-    )
+    let bases = Filter {
+        nodes: &*nodes,
+        count: n.min(i),
+        words: filter,
+    };
+    bases.is_target_base(&nodes.strings, nodes.first_plain(i))
 }
 
 // The string of an answer, inserted.

@@ -2,3 +2,4 @@ pub mod Linked
 pub mod Pieces
 pub mod Books
 pub mod Rows
+pub mod Among

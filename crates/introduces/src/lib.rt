@@ -4,7 +4,8 @@
 // costs one walk over the reading's. Where the filter does not tell, the bases of a part go into a row that is bisected, as number 10 has it:
 // a long string goes in, and is asked for, once for each id that names it. The words have three parts: an index of the old book's strings in
 // an eighth of them, the filter or the row, an index of the reading's strings in the last eighth. Where few are lent, number 15 has words
-// of its own.
+// of its own. That a node's number lies in the reading is said by each function that is asked of one node: it is another number at each
+// turn, and a value of nodes and number would be made anew there, and the bound be shown there all the same.
 #![tactic(auto)]
 
 ghost use Rattle.std.specs.Prelude.{◌≡◌, IfSome, ◌+◌, ◌*◌, ◌≤◌, ◌<◌, length};
@@ -18,13 +19,14 @@ ghost use Rattle.ruby_formats.specs.Nodes.{node_in, first_nodes, nodes_store};
 ghost use Rattle.dependency.specs.Noted.{Noted};
 ghost use Rattle.dependency.specs.Rows.{Told, Rowed};
 ghost use Rattle.region.specs.Books.{book_of};
-ghost use Rattle.introduces.specs.Linked.{refers_to, ruby_for_later};
+ghost use Rattle.introduces.specs.Linked.{ruby_for_later};
+ghost use Rattle.introduces.specs.Among.{refers_to_first, any_refers};
 ghost use Rattle.introduces.specs.Books.{refers_before};
 ghost use Rattle.introduces.specs.Rows.{refers_to_row};
 ghost use Rattle.records.specs.Runs.{test_at};
 ghost use Rattle.wire.specs.Loops.{Missed};
 
-use dependency::Answer;
+use dependency::{Answer, Filter};
 use places::Run;
 use region::Book;
 use ruby_formats::Nodes;
@@ -58,26 +60,23 @@ fn note_bases(nodes: &Nodes, filter: &mut [u32])
 }
 
 // Node i of the reading: a Referenced Format whose target is the base of a Ruby among the old nodes.
-fn refers_to(nodes: &Nodes, filter: &[u32], reading: &Nodes, i: usize) -> Answer
-    requires noted { Noted (nodes_store nodes.now) (first_nodes nodes.now nodes.now.run.count) filter.now }
-    requires i_lt_count { i < reading.now.run.count }
-    ensures { Told result (refers_to (nodes_store nodes.now) (first_nodes nodes.now nodes.now.run.count) (nodes_store reading.now) (node_in reading.now i)) }
+fn refers_to(filter: &Filter, reading: &Nodes, i: usize) -> Answer
+    requires { i < reading.now.run.count }
+    ensures { Told result (refers_to_first filter.now.nodes.now filter.now.count reading.now (node_in reading.now i)) }
 {
     if !reading.is_referenced_format(i) {
         return Answer::No;
     }
-    let n = nodes.run.count;
-    dependency::is_target_base(nodes, n, filter, &reading.strings, reading.first_plain(i))
+    filter.is_target_base(&reading.strings, reading.first_plain(i))
 }
 
 // The same of any node of the reading; None for not known, as in the walk of number 10.
-fn any_refers_to(nodes: &Nodes, filter: &[u32], reading: &Nodes) -> Option<bool>
-    requires { Noted (nodes_store nodes.now) (first_nodes nodes.now nodes.now.run.count) filter.now }
-    ensures { IfSome result (λ r. r ≡ any (refers_to (nodes_store nodes.now) (first_nodes nodes.now nodes.now.run.count) (nodes_store reading.now)) (first_nodes reading.now reading.now.run.count)) }
+fn any_refers_to(filter: &Filter, reading: &Nodes) -> Option<bool>
+    ensures { IfSome result (λ r. r ≡ any_refers filter.now.nodes.now filter.now.count reading.now) }
 {
     let mut vain = 0;
     for i in 0..reading.run.count {
-        match refers_to(nodes, filter, reading, i) {
+        match refers_to(filter, reading, i) {
             Answer::Yes => return Some(true),
             Answer::Unknown => return None,
             Answer::InVain => vain += 1,
@@ -138,17 +137,22 @@ fn any_refers_to_row(row: &Row, reading: &Nodes, first: &[u64]) -> bool
 }
 
 // A Referenced Format of the reading whose target is the base of a Ruby among the old nodes. None for not known.
-fn refers_by_filter(nodes: &Nodes, reading: &Nodes, filter: &mut [u32]) -> Option<bool>
-    ensures { IfSome result (λ r. r ≡ any (refers_to (nodes_store nodes.now) (first_nodes nodes.now nodes.now.run.count) (nodes_store reading.now)) (first_nodes reading.now reading.now.run.count)) }
+fn refers_by_filter(nodes: &Nodes, reading: &Nodes, words: &mut [u32]) -> Option<bool>
+    ensures { IfSome result (λ r. r ≡ any_refers nodes.now nodes.now.run.count reading.now) }
 {
-    note_bases(nodes, filter);
-    any_refers_to(nodes, filter, reading)
+    note_bases(nodes, words);
+    let filter = Filter {
+        nodes: &*nodes,
+        count: nodes.run.count,
+        words,
+    };
+    any_refers_to(&filter, reading)
 }
 
 // The same by a row of the bases, with words of its own for the first places of long strings.
 fn refers_by_row(nodes: &Nodes, reading: &Nodes, row: &mut [u32]) -> bool
     requires { nodes.now.run.count ≤ length row.old }
-    ensures { result ≡ any (refers_to (nodes_store nodes.now) (first_nodes nodes.now nodes.now.run.count) (nodes_store reading.now)) (first_nodes reading.now reading.now.run.count) }
+    ensures { result ≡ any_refers nodes.now nodes.now.run.count reading.now }
 {
     let mut first = [0u64; 4096];
     let mut asked = [0u64; 4096];
@@ -167,7 +171,7 @@ fn refers_by_row(nodes: &Nodes, reading: &Nodes, row: &mut [u32]) -> bool
 // The same by a filter, or by a row where the filter does not tell.
 fn refers_to_some(nodes: &Nodes, reading: &Nodes, words: &mut [u32]) -> bool
     requires { nodes.now.run.count ≤ length words.old }
-    ensures { result ≡ any (refers_to (nodes_store nodes.now) (first_nodes nodes.now nodes.now.run.count) (nodes_store reading.now)) (first_nodes reading.now reading.now.run.count) }
+    ensures { result ≡ any_refers nodes.now nodes.now.run.count reading.now }
 {
     match refers_by_filter(nodes, reading, words) {
         Some(refers) => refers,
@@ -178,7 +182,7 @@ fn refers_to_some(nodes: &Nodes, reading: &Nodes, words: &mut [u32]) -> bool
 // The same, with half as many old nodes at a time as there are words.
 fn refers_in_parts(nodes: &Nodes, reading: &Nodes, words: &mut [u32]) -> bool
     requires { 2 ≤ length words.old }
-    ensures { result ≡ any (refers_to (nodes_store nodes.now) (first_nodes nodes.now nodes.now.run.count) (nodes_store reading.now)) (first_nodes reading.now reading.now.run.count) }
+    ensures { result ≡ any_refers nodes.now nodes.now.run.count reading.now }
 {
     let size = words.len() / 2 + 1;
     // From part to part, and the last may be shorter.
@@ -203,7 +207,7 @@ fn refers_in_parts(nodes: &Nodes, reading: &Nodes, words: &mut [u32]) -> bool
 // The same by words that may hold anything: an index of the old book's strings in the first eighth, of the reading's in the last.
 fn refers_by_words(nodes: &Nodes, reading: &Nodes, words: &mut [u32]) -> bool
     requires { 6 ≤ length words.old }
-    ensures { result ≡ any (refers_to (nodes_store nodes.now) (first_nodes nodes.now nodes.now.run.count) (nodes_store reading.now)) (first_nodes reading.now reading.now.run.count) }
+    ensures { result ≡ any_refers nodes.now nodes.now.run.count reading.now }
 {
     let eighth = words.len() / 8;
     let (first, rest) = words.split_at_mut(eighth);
@@ -236,7 +240,7 @@ fn refers_by_words(nodes: &Nodes, reading: &Nodes, words: &mut [u32]) -> bool
 
 // The same by words of its own, where few are lent.
 fn refers_by_own(nodes: &Nodes, reading: &Nodes) -> bool
-    ensures { result ≡ any (refers_to (nodes_store nodes.now) (first_nodes nodes.now nodes.now.run.count) (nodes_store reading.now)) (first_nodes reading.now reading.now.run.count) }
+    ensures { result ≡ any_refers nodes.now nodes.now.run.count reading.now }
 {
     let mut words = [0u32; 65536];
     refers_by_words(nodes, reading, &mut words[..])

@@ -5,6 +5,7 @@ use Rattle.std.proofs.Common.{sym, ◌∙◌, arith}
 use Rattle.std.proofs.Math.Bool.{true, false, cond}
 use Rattle.std.proofs.lemmas.Bool.{false≢true}
 use borrow.Author.Tests.{eqb-true}
+use Rattle.model.specs.Types.{SourceNode}
 use Rattle.model.specs.Tape.{record_at, node_codec}
 use Rattle.model.specs.Region.{is_referenced_format, is_ruby, first_plain}
 use Rattle.model.specs.WellFormed.{word_of}
@@ -37,21 +38,24 @@ same_is None q e = absurd (false≢true e)
 
 -- the strings of two nodes
 module _ (t b : List ℕ) (p q : ℕ) (e : same_known (named_by t p b) (named_by t q b) ≡ true) where
-  first_is : (p : ℕ) → first_plain (store_in t b) (record_at node_codec t p) ≡ plain_string (store_in t b) (plain_of (first_contents t p b))
-  unfolding first_plain first_contents
-  first_is p = plain_string_lem (store_in t b) (word_of (record_at node_codec t p).body 0) (word_of (record_at node_codec t p).body 1) refl
+  abbrev node : ℕ → SourceNode
+  node p = record_at node_codec t p
 
-  named_is : (p : ℕ) → (is_ruby (record_at node_codec t p) || is_referenced_format (record_at node_codec t p)) ≡ true → first_plain (store_in t b) (record_at node_codec t p) ≡ plain_string (store_in t b) (named_by t p b)
+  first_is : (p : ℕ) → first_plain (store_in t b) (node p) ≡ plain_string (store_in t b) (plain_of (first_contents t p b))
+  unfolding first_plain first_contents
+  first_is p = plain_string_lem (store_in t b) (word_of (node p).body 0) (word_of (node p).body 1) refl
+
+  named_is : (p : ℕ) → (is_ruby (node p) || is_referenced_format (node p)) ≡ true → first_plain (store_in t b) (node p) ≡ plain_string (store_in t b) (named_by t p b)
   unfolding named_by
-  named_is p h = first_is p ∙ ap (plain_string (store_in t b)) (pick (is_ruby (record_at node_codec t p)) (is_referenced_format (record_at node_codec t p)) h)
+  named_is p h = first_is p ∙ ap (plain_string (store_in t b)) (pick (is_ruby (node p)) (is_referenced_format (node p)) h)
     where
       pick : (x y : Bool) → (x || y) ≡ true → plain_of (first_contents t p b) ≡ cond x (plain_of (first_contents t p b)) (cond y (plain_of (first_contents t p b)) None)
       pick true y h = refl
       pick false true h = refl
       pick false false h = absurd (false≢true h)
 
-  pub same_first : (is_ruby (record_at node_codec t p) || is_referenced_format (record_at node_codec t p)) ≡ true → (is_ruby (record_at node_codec t q) || is_referenced_format (record_at node_codec t q)) ≡ true
-      → first_plain (store_in t b) (record_at node_codec t p) ≡ first_plain (store_in t b) (record_at node_codec t q)
+  pub same_first : (is_ruby (node p) || is_referenced_format (node p)) ≡ true → (is_ruby (node q) || is_referenced_format (node q)) ≡ true
+      → first_plain (store_in t b) (node p) ≡ first_plain (store_in t b) (node q)
   same_first f g = named_is p f ∙ ap (plain_string (store_in t b)) (same_is (named_by t p b) (named_by t q b) e) ∙ sym (named_is q g)
 
 -- ---- a base again

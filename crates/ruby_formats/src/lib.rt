@@ -1,5 +1,6 @@
 // What number 10 and number 15 ask of a node: is it a Ruby, a Format that refers, which string does it name, and does another node name it by the
-// same id.
+// same id. That a place or a node's number lies in the tape is said by each function that is asked of one node: it is another at each turn,
+// and a value of tape and place would be made anew there, and the bound be shown there all the same.
 #![tactic(auto)]
 
 mod nodes;

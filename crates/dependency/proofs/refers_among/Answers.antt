@@ -10,11 +10,11 @@ returns-then-not-asks_target c = told_is _ (refers_other c.args.nodes.now.string
 pub first_plain-requires-clause-names : goal.first_plain-requires-clause-names
 first_plain-requires-clause-names c = target_names _ _ c.asks_target.ensures c.if-not-asks_target.false
 
-pub is_target_base-requires-clause-n_le_count : goal.is_target_base-requires-clause-n_le_count
-is_target_base-requires-clause-n_le_count c = omega (arith, c.min.ensures, c.requires.i_lt_count)
+pub invariant_of-bases-clause-few : goal.invariant_of-bases-clause-few
+invariant_of-bases-clause-few c = omega (arith, c.min.ensures, c.requires.i_lt_count)
 
-pub is_target_base-requires-clause-noted : goal.is_target_base-requires-clause-noted
-is_target_base-requires-clause-noted c = noted_few _ _ _ _ _ _ c.requires.noted _ c.min.ensures
+pub invariant_of-bases-clause-noted : goal.invariant_of-bases-clause-noted
+invariant_of-bases-clause-noted c = noted_few _ _ _ _ _ _ c.requires.noted _ c.min.ensures
 
 pub returns : goal.returns
 returns c =

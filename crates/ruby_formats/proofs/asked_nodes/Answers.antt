@@ -18,4 +18,5 @@ loop-n-preserved c =
 
 pub returns : goal.returns
 returns c =
-    let e : c.loop-n.n ≡ 0 = omega arith in last_none (asks_at c.args.from c.args.tape.now c.args.nodes.at) ∙ sym (ap (λ m. count_to_last m (asks_at c.args.from c.args.tape.now c.args.nodes.at)) e) ∙ c.loop-n.invariant.1
+    let asks = asks_at c.args.from c.args.tape.now c.args.nodes.at in
+    let e : c.loop-n.n ≡ 0 = omega arith in last_none asks ∙ sym (ap (λ m. count_to_last m asks) e) ∙ c.loop-n.invariant.1

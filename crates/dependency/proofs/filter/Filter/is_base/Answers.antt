@@ -1,10 +1,10 @@
 use Rattle.std.proofs.Common.{sym, ◌∙◌}
 use Rattle.dependency.specs.Noted.{base_absent}
 use Rattle.dependency.specs.Rows.{told_is, told_not}
-use Rattle.dependency.proofs.is_filtered_base.Goals as goal
+use Rattle.dependency.proofs.filter.Filter.is_base.Goals as goal
 
 pub returns-then-not-may_contain : goal.returns-then-not-may_contain
-returns-then-not-may_contain c = told_is _ (base_absent c.requires.noted _ c.filter_key.ensures c.may_contain.ensures c.if-not-may_contain.true)
+returns-then-not-may_contain c = told_is _ (base_absent c.args.self.now.noted _ c.filter_key.ensures c.may_contain.ensures c.if-not-may_contain.true)
 
 pub returns-then-s-gt-LONG_STRING : goal.returns-then-s-gt-LONG_STRING
 returns-then-s-gt-LONG_STRING c = told_not
