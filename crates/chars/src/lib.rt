@@ -14,24 +14,15 @@ pub fn within(lo: u8, hi: u8, b: u8) -> bool
     lo <= b && b <= hi
 }
 
-// The second byte of three, whose range the first one narrows; of four, the same below. RFC 3629 gives a row for each of these first bytes: a function
-// for both would take two rows and what the other bytes allow.
-fn second_of_three(a: u8, b: u8) -> bool
-    requires { (0xe0 ≤ a) × (a < 0xf0) }
-    ensures { utf8_step (utf8_first a) b ≡ cond result tail1 bad }
+// The second byte of three or of four, whose range the first one narrows.
+fn second_fits(a: u8, b: u8) -> bool
+    requires { (0xe0 ≤ a) × (a < 0xf5) }
+    ensures of_three { a < 0xf0 → utf8_step (utf8_first a) b ≡ cond result tail1 bad }
+    ensures of_four { 0xf0 ≤ a → utf8_step (utf8_first a) b ≡ cond result tail2 bad }
 {
     match a {
         0xe0 => within(0xa0, 0xbf, b),
         0xed => within(0x80, 0x9f, b),
-        _ => within(0x80, 0xbf, b),
-    }
-}
-
-fn second_of_four(a: u8, b: u8) -> bool
-    requires { (0xf0 ≤ a) × (a < 0xf5) }
-    ensures { utf8_step (utf8_first a) b ≡ cond result tail2 bad }
-{
-    match a {
         0xf0 => within(0x90, 0xbf, b),
         0xf4 => within(0x80, 0x8f, b),
         _ => within(0x80, 0xbf, b),
@@ -58,7 +49,7 @@ fn three(s: &[u8], at: usize) -> Option<usize>
     if s.len() - at < 3 {
         return None;
     }
-    if !second_of_three(s[at], s[at + 1]) {
+    if !second_fits(s[at], s[at + 1]) {
         return None;
     }
     if !within(0x80, 0xbf, s[at + 2]) {
@@ -74,7 +65,7 @@ fn four(s: &[u8], at: usize) -> Option<usize>
     if s.len() - at < 4 {
         return None;
     }
-    if !second_of_four(s[at], s[at + 1]) {
+    if !second_fits(s[at], s[at + 1]) {
         return None;
     }
     if !within(0x80, 0xbf, s[at + 2]) {

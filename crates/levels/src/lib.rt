@@ -293,6 +293,7 @@ impl Book<'_, '_, '_> {
         v + 1
     }
 
+    // The table of the segments; that of the contents, below, takes the bound of a content.
     fn put_tops(&self, tops: &mut [u8])
         requires tops_len { length tops.old ≡ 69904 }
         ensures { Filled (segment_test self.now.tape.now self.now.st.now) self.now.st.now.totals.segments tops.new 65536 }

@@ -61,7 +61,8 @@ fn ascii_blocks(s: &[u8], at: usize) -> usize
     i
 }
 
-// Behind the blocks of eight ASCII bytes from `at` on. A loop for each size: each size has a test of its own, without branches.
+// Behind the blocks of eight ASCII bytes from `at` on. A loop for each size, since each has a test of its own, without branches: a function of both
+// would take size and test, with a clause for what the test asks and one for what it tells.
 fn ascii_end(s: &[u8], at: usize) -> usize
     requires { at ≤ length s.now }
     ensures { Skipped s.now at result }

@@ -11,18 +11,18 @@ returns-then-s-at-lt4 c =
     let q : asks (utf8_first (get_or c.args.s.now c.args.at 0)) ≡ 3 = asks_4 _ c.requires.1 c.requires.2 in
     ap length_if (len_short _ _ c.requires.0 (omega (arith, q)) (omega (arith, q)))
 
-pub returns-then-not-second_of_four : goal.returns-then-not-second_of_four
-returns-then-not-second_of_four c =
-    ap length_if (four_second c.args.s.now c.args.at (omega arith) (asks_4 _ c.requires.1 c.requires.2) c.second_of_four.result c.second_of_four.ensures c.if-not-second_of_four.true)
+pub returns-then-not-second_fits : goal.returns-then-not-second_fits
+returns-then-not-second_fits c =
+    ap length_if (four_second c.args.s.now c.args.at (omega arith) (asks_4 _ c.requires.1 c.requires.2) c.second_fits.result (c.second_fits.ensures.of_four c.requires.1) c.if-not-second_fits.true)
 
 pub returns-then-not-within : goal.returns-then-not-within
 returns-then-not-within c =
-    ap length_if (four_third c.args.s.now c.args.at (omega arith) (asks_4 _ c.requires.1 c.requires.2) c.second_of_four.result c.second_of_four.ensures c.if-not-second_of_four.false (sym c.within.ensures ∙ c.if-not-within.true))
+    ap length_if (four_third c.args.s.now c.args.at (omega arith) (asks_4 _ c.requires.1 c.requires.2) c.second_fits.result (c.second_fits.ensures.of_four c.requires.1) c.if-not-second_fits.false (sym c.within.ensures ∙ c.if-not-within.true))
 
 pub returns-then-not-within-2 : goal.returns-then-not-within-2
 returns-then-not-within-2 c =
-    ap length_if (four_fourth c.args.s.now c.args.at (omega arith) (asks_4 _ c.requires.1 c.requires.2) c.second_of_four.result c.second_of_four.ensures c.if-not-second_of_four.false (sym c.within.ensures ∙ c.if-not-within.false) (sym c.within-2.ensures ∙ c.if-not-within-2.true))
+    ap length_if (four_fourth c.args.s.now c.args.at (omega arith) (asks_4 _ c.requires.1 c.requires.2) c.second_fits.result (c.second_fits.ensures.of_four c.requires.1) c.if-not-second_fits.false (sym c.within.ensures ∙ c.if-not-within.false) (sym c.within-2.ensures ∙ c.if-not-within-2.true))
 
 pub returns : goal.returns
 returns c =
-    ap length_if (four_whole c.args.s.now c.args.at (omega arith) (asks_4 _ c.requires.1 c.requires.2) c.second_of_four.result c.second_of_four.ensures c.if-not-second_of_four.false (sym c.within.ensures ∙ c.if-not-within.false) (sym c.within-2.ensures ∙ c.if-not-within-2.false))
+    ap length_if (four_whole c.args.s.now c.args.at (omega arith) (asks_4 _ c.requires.1 c.requires.2) c.second_fits.result (c.second_fits.ensures.of_four c.requires.1) c.if-not-second_fits.false (sym c.within.ensures ∙ c.if-not-within.false) (sym c.within-2.ensures ∙ c.if-not-within-2.false))
