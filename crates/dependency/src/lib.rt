@@ -412,18 +412,7 @@ fn refers_by_words(nodes: &Nodes, words: &mut [u32], from: u32) -> bool
     ensures { result ≡ depends_from (nodes_store nodes.now) from [] (first_nodes nodes.now nodes.now.run.count) }
 {
     let (index, words) = words.split_at_mut(words.len() / 4);
-    nodes.strings.write_index(index);
-    // Field by field: a method that lends the index and the rest at one lifetime is not to be called with this one.
-    let indexed = Nodes {
-        strings: Strings {
-            tape: nodes.strings.tape,
-            store: nodes.strings.store,
-            index,
-            old: nodes.strings.old,
-            new: nodes.strings.new,
-        },
-        run: nodes.run,
-    };
+    let indexed = nodes.indexed(index);
     refers_in_parts(&indexed, words, from)
 }
 

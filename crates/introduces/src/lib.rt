@@ -31,7 +31,6 @@ use places::Run;
 use region::Book;
 use ruby_formats::Nodes;
 use sorted_ids::Row;
-use strings::Strings;
 
 // A Referenced Format that starts at or behind an offset.
 fn any_format_from(tape: &[u8], nodes: Run, from: u32) -> bool
@@ -213,28 +212,8 @@ fn refers_by_words(nodes: &Nodes, reading: &Nodes, words: &mut [u32]) -> bool
     let (first, rest) = words.split_at_mut(eighth);
     let size = rest.len() - eighth;
     let (words, last) = rest.split_at_mut(size);
-    nodes.strings.write_index(first);
-    reading.strings.write_index(last);
-    let nodes = Nodes {
-        strings: Strings {
-            tape: nodes.strings.tape,
-            store: nodes.strings.store,
-            index: first,
-            old: nodes.strings.old,
-            new: nodes.strings.new,
-        },
-        run: nodes.run,
-    };
-    let reading = Nodes {
-        strings: Strings {
-            tape: reading.strings.tape,
-            store: reading.strings.store,
-            index: last,
-            old: reading.strings.old,
-            new: reading.strings.new,
-        },
-        run: reading.run,
-    };
+    let nodes = nodes.indexed(first);
+    let reading = reading.indexed(last);
     refers_in_parts(&nodes, &reading, words)
 }
 

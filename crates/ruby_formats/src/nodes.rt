@@ -19,8 +19,27 @@ impl<'a> Nodes<'a> {
     ghost use Rattle.ruby_formats.specs.Asks.{names_one, asks_target};
     ghost use Rattle.ruby_formats.specs.Sound.{PlainIn, first_contents};
     ghost use Rattle.strings.specs.PlainContent.{plain_of, same_known};
-    ghost use Rattle.ruby_formats.specs.Nodes.{node_in};
+    ghost use Rattle.ruby_formats.specs.Nodes.{node_in, SameNodes};
     ghost use Rattle.ruby_formats.specs.Named.{named_by, base_again, target_again, asks_again};
+
+    // The same nodes, whose strings are found by an index that is written into these words.
+    pub fn indexed<'b>(&self, words: &'b mut [u32]) -> Nodes<'b>
+    where
+        'a: 'b,
+        ensures { SameNodes result self.now }
+    {
+        self.strings.write_index(words);
+        Nodes {
+            strings: Strings {
+                tape: self.strings.tape,
+                store: self.strings.store,
+                index: words,
+                old: self.strings.old,
+                new: self.strings.new,
+            },
+            run: self.run,
+        }
+    }
 
     // Where node i stands.
     pub fn at(&self, i: usize) -> usize
