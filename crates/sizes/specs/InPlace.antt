@@ -23,9 +23,8 @@ use Rattle.levels.specs.Below.{range_within}
 use Rattle.sizes.specs.Added.{Added, nothing, one_call, add, add_all, add_nothing, all_append}
 use Rattle.sizes.specs.Trees.{run_of_contents, run_of_segments}
 use Rattle.sizes.specs.Order.{field_word, field_from, place_field, place_fields, fields_in_order}
-use Rattle.sizes.specs.Capped.{plus, Kept, add_from, added_tabulate}
-use Rattle.sizes.specs.declared.Room.{Room}
-use Rattle.sizes.specs.declared.Sizes.{Sizes}
+use Rattle.sizes.specs.Capped.{less, less_nothing, add_from, added_tabulate}
+use Rattle.sizes.specs.declared.Left.{Left}
 use Rattle.sizes.specs.Words.{UsedWords}
 
 -- ---- definitions; `inner` is what the body of a segment adds
@@ -215,15 +214,15 @@ pub field_read : (t : List ℕ) (p j i u w next : ℕ) → i ≡ field_word (byt
 unfolding body_at
 field_read t p j i u w next e f g h = rw (f, g, h, e) refl
 
-module _ (m : Room) (t : Sizes) (k : Kept m t) (u w : ℕ) where
-  pub string_one : {r : Option Sizes} → u ≡ 1 → r ≡ plus m t one_call → r ≡ plus m t (string_adds u w)
+module _ (t : Left) (u w : ℕ) where
+  pub string_one : {r : Option Left} → u ≡ 1 → r ≡ less t one_call → r ≡ less t (string_adds u w)
   unfolding string_adds
   string_one e q = rw e q
 
-  pub string_missing : u ≡ 2 → w ≡ no_string → Some t ≡ plus m t (string_adds u w)
+  pub string_missing : u ≡ 2 → w ≡ no_string → Some t ≡ less t (string_adds u w)
   unfolding string_adds
-  string_missing e z = rw (e, eq-eqb w no_string z) (sym k.is)
+  string_missing e z = rw (e, eq-eqb w no_string z) (sym (less_nothing t))
 
-  pub string_optional : {r : Option Sizes} → u ≡ 2 → (w ≡ no_string → ⊥) → r ≡ plus m t one_call → r ≡ plus m t (string_adds u w)
+  pub string_optional : {r : Option Left} → u ≡ 2 → (w ≡ no_string → ⊥) → r ≡ less t one_call → r ≡ less t (string_adds u w)
   unfolding string_adds
   string_optional e z q = rw (e, ne_eqb w no_string z) q

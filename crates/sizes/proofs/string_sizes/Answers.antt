@@ -4,11 +4,11 @@ use Rattle.sizes.specs.InPlace.{string_one, string_missing, string_optional}
 use Rattle.sizes.proofs.string_sizes.Goals as goal
 
 pub returns-in-Str : goal.returns-in-Str
-returns-in-Str c = string_one c.args.room c.args.t c.requires (use_number c.args.usage) c.args.w (ap use_number c.in-Str.is) c.with_added.ensures
+returns-in-Str c = string_one c.args.left (use_number c.args.usage) c.args.w (ap use_number c.in-Str.is) c.less.ensures
 
 pub returns-then-w-eq-NO_STRING : goal.returns-then-w-eq-NO_STRING
-returns-then-w-eq-NO_STRING c = string_missing c.args.room c.args.t c.requires (use_number c.args.usage) c.args.w (ap use_number c.in-OptStr.is) c.if-w-eq-NO_STRING.true
+returns-then-w-eq-NO_STRING c = string_missing c.args.left (use_number c.args.usage) c.args.w (ap use_number c.in-OptStr.is) c.if-w-eq-NO_STRING.true
 
 pub returns-else-w-eq-NO_STRING : goal.returns-else-w-eq-NO_STRING
 returns-else-w-eq-NO_STRING c =
-    string_optional c.args.room c.args.t c.requires (use_number c.args.usage) c.args.w (ap use_number c.in-OptStr.is) c.if-w-eq-NO_STRING.false c.with_added-else-w-eq-NO_STRING.ensures
+    string_optional c.args.left (use_number c.args.usage) c.args.w (ap use_number c.in-OptStr.is) c.if-w-eq-NO_STRING.false c.less-else-w-eq-NO_STRING.ensures
