@@ -31,20 +31,7 @@ use ids::NO_STRING;
 use interner::StrInterner;
 use places::Run;
 use records::{Body, Segment, Use};
-use sizes::{Room, Sizes};
 pub use source::Walk;
-
-// any number of items, and none yet
-const ANY: Room = Room {
-    contents: 4294967295,
-    segments: 4294967295,
-};
-
-const NONE: Sizes = Sizes {
-    contents: 0,
-    segments: 0,
-    calls: 0,
-};
 
 // The body of a segment that no level of the walk reaches.
 const NO_BODY: Body = Body {
@@ -182,38 +169,6 @@ fn with_words(mut words: [u32; 6], i: usize, f: sizes::FieldWords, v: u32) -> [u
     words
 }
 
-// ---- parts of the walk
-
-// How many contents the items of a run push.
-fn inner_contents(w: &Walk<'_>, run: Run, level: u8) -> u32
-    requires count_in_bounds { run.at + 10 * run.count ≤ length w.now.tape.now }
-    requires count_bound { ((contents_add (inner_adds level w.now.tape.now w.now.st.now) w.now.tape.now w.now.st.now run.at run.count).contents < 2 ^ 32) × ((contents_add (inner_adds level w.now.tape.now w.now.st.now) w.now.tape.now w.now.st.now run.at run.count).segments < 2 ^ 32) }
-    ensures { result ≡ (contents_add (inner_adds level w.now.tape.now w.now.st.now) w.now.tape.now w.now.st.now run.at run.count).contents }
-{
-    let all = sizes::Walk {
-        tape: w.tape,
-        st: w.st,
-        room: ANY,
-    };
-    let inner = sizes::contents_sizes(&all, NONE, run, level);
-    inner.unwrap().contents
-}
-
-// How many segments the items of a run push.
-fn inner_segments(w: &Walk<'_>, run: Run, level: u8) -> u32
-    requires count_in_bounds { run.at + 37 * run.count ≤ length w.now.tape.now }
-    requires count_bound { ((segments_add (inner_adds level w.now.tape.now w.now.st.now) w.now.tape.now run.at run.count).contents < 2 ^ 32) × ((segments_add (inner_adds level w.now.tape.now w.now.st.now) w.now.tape.now run.at run.count).segments < 2 ^ 32) }
-    ensures { result ≡ (segments_add (inner_adds level w.now.tape.now w.now.st.now) w.now.tape.now run.at run.count).segments }
-{
-    let all = sizes::Walk {
-        tape: w.tape,
-        st: w.st,
-        room: ANY,
-    };
-    let inner = sizes::segments_sizes(&all, NONE, run, level);
-    inner.unwrap().segments
-}
-
 // ---- the walk: nine functions that call each other, the level falling on each turn. Its three buffers are lent one by one: of a struct
 // that held them each function would have to promise that every field is still the same reference, and as long as before.
 
@@ -312,7 +267,11 @@ fn graft_content_run(
         at: w.st.content_place(start),
         count: len as usize,
     };
-    let to = m.contents + inner_contents(w, run, level);
+    let below = sizes::Walk {
+        tape: w.tape,
+        st: w.st,
+    };
+    let to = m.contents + sizes::inner_contents(&below, run, level);
     graft_contents(w, out, work, strs, m, run, to, level)?;
     m.contents = to + len;
     Some(w.plan.contents + to)
@@ -396,7 +355,11 @@ fn graft_segment_run(
         at: w.st.segment_place(start),
         count: len as usize,
     };
-    let to = m.segments + inner_segments(w, run, level);
+    let below = sizes::Walk {
+        tape: w.tape,
+        st: w.st,
+    };
+    let to = m.segments + sizes::inner_segments(&below, run, level);
     graft_segments(w, out, work, strs, m, run, to, level)?;
     m.segments = to + len;
     Some(w.plan.segments + to)

@@ -1,5 +1,5 @@
 -- Items that are alike, one behind the other: what the first adds, each of them adds.
-use Rattle.std.specs.Prelude.{◌≡◌, refl, ℕ, zero, suc, ◌+◌, ◌-◌, ◌*◌, ◌≤◌, ◌<◌, min, cond, ◌&&◌, List, leb, Option, Some, None}
+use Rattle.std.specs.Prelude.{◌≡◌, refl, ℕ, zero, suc, ◌+◌, ◌-◌, ◌*◌, ◌≤◌, ◌<◌, cond, ◌&&◌, List, leb, Option, Some, None}
 use Rattle.std.proofs.Math.Path.{sym, ap}
 use Rattle.std.proofs.Common.{ap₂, ◌∙◌, arith}
 use Rattle.model.specs.Types.{Body}
@@ -7,7 +7,7 @@ use Rattle.model.specs.Tape.{record_at, content_codec}
 use Rattle.records.specs.Values.{body_at, segment_body}
 use Rattle.alike.specs.Alike.{Alike}
 use Rattle.store.specs.declared.Store.{Store}
-use Rattle.sizes.specs.Added.{Added, nothing, add, add_nothing, nothing_add, add_assoc}
+use Rattle.sizes.specs.Added.{Added, add, add_nothing, nothing_add, add_assoc}
 use Rattle.sizes.specs.Capped.{fits, fits_room_lem, room_of, less, less_some, less_nothing, less_then, less_stop, add_from, Adding}
 use Rattle.sizes.specs.InPlace.{content_adds, content_from, segment_from}
 use Rattle.sizes.specs.declared.Left.{Left}

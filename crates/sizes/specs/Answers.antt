@@ -1,7 +1,7 @@
 -- The walk's answers: what each function has read and added, against the definitions in place.
-use Rattle.std.specs.Prelude.{◌≡◌, refl, true, false, eqb, ltb, List, ℕ, zero, suc, ◌+◌, ◌-◌, ◌≤◌, ◌<◌, Option, Some, None}
+use Rattle.std.specs.Prelude.{◌≡◌, refl, true, false, eqb, ltb, List, ℕ, zero, suc, ◌+◌, ◌-◌, Option, Some, None}
 use Rattle.std.proofs.Common.{sym, ap, ◌∙◌, arith}
-use borrow.Author.Tests.{eq-eqb, ne_eqb, lt-ltb, le-ltb}
+use borrow.Author.Tests.{eq-eqb, ne_eqb}
 use Rattle.model.specs.Bytes.{byte_at}
 use Rattle.model.specs.Types.{Body, Content}
 use Rattle.model.specs.Tape.{node_fields, record_at, records_at, operands_at, segment_codec, node_codec}

@@ -1,8 +1,8 @@
 -- The memo of the walk: what each entry says of the segment at its place is what the body of that segment adds on that level.
-use Rattle.std.specs.Prelude.{◌≡◌, ℕ, suc, ◌+◌, ◌-◌, ◌≤◌, ◌<◌, min, true, cond, List, ltb, eqb, Option, Some}
+use Rattle.std.specs.Prelude.{◌≡◌, ℕ, suc, ◌+◌, ◌-◌, ◌≤◌, ◌<◌, true, cond, List, ltb, eqb, Option, Some}
 use Rattle.std.proofs.Math.Path.{refl, ap}
 use Rattle.std.proofs.Common.{sym, ◌∙◌, arith}
-use borrow.Author.Tests.{lt-ltb, le-ltb, eq-eqb, ne_eqb, eqb-false, ltb-true, ltb-false}
+use borrow.Author.Tests.{lt-ltb, le-ltb, eq-eqb, ne_eqb, eqb-false}
 use Rattle.model.specs.Bytes.{byte_at, zeros}
 use Rattle.model.specs.Types.{Body}
 use Rattle.model.specs.Tape.{record_at, segment_codec, fields_of, field_table}

@@ -2,12 +2,12 @@
 use Rattle.std.specs.Prelude.{◌≡◌, ℕ, ◌+◌, ◌*◌, ◌≤◌, ◌<◌, Bool, true, false, ◌&&◌, List, [], ◌∷◌, length, get_or, leb, ltb, eqb, Option, Some, None}
 use Rattle.std.proofs.Math.Path.{refl}
 use Rattle.std.proofs.Common.{sym, ap, ap₂, ◌∙◌, arith}
-use borrow.Author.Tests.{le-leb, lt-leb, eq-eqb, ne_eqb, lt-ltb, le-ltb, leb-true, eqb-true, eqb-false}
+use borrow.Author.Tests.{le-leb, lt-leb, eq-eqb, ne_eqb, leb-true, eqb-true, eqb-false}
 use Rattle.model.specs.Lists.{all}
 use Rattle.model.specs.Bytes.{byte_at}
 use Rattle.model.specs.Types.{Body, Content}
 use Rattle.model.specs.WellFormed.{word_of}
-use Rattle.model.specs.Tape.{record_at, records_at, operands_at, content_codec, node_codec, fields_of, field_table, node_fields}
+use Rattle.model.specs.Tape.{record_at, records_at, content_codec, node_codec, fields_of, field_table, node_fields}
 use Rattle.laws.specs.Lists.{both}
 use Rattle.wire.specs.Loops.{by_bool}
 use Rattle.records.specs.Values.{body_at, node_body}

@@ -5,7 +5,7 @@ use Rattle.sizes.specs.Words.{words_of}
 use Rattle.sizes.specs.Lone.{lone_inside, lone_over, lone_then}
 use Rattle.sizes.specs.Known.{known_adds, known_note, text_adds}
 use Rattle.sizes.specs.Answers.{contents_over, contents_empty, contents_then, segments_over, segments_empty, segments_then, segment_last, segment_below}
-use Rattle.sizes.specs.Answers.{body_sum, place_read, used_contents, used_segments, used_string, content_plain, content_segments_lem}
+use Rattle.sizes.specs.Answers.{body_sum, place_read, content_plain, content_segments_lem}
 use Rattle.sizes.specs.InPlace.{inner_adds, content_from, segment_from, contents_from, segments_from, contents_inside, segments_inside}
 use Rattle.sizes.specs.Capped.{less, adding_more, adding_over, adding_all}
 use Rattle.sizes.specs.Again.{shrunk, adding_again, again_over, contents_same, segments_same}

@@ -1,4 +1,4 @@
-use Rattle.std.proofs.Common.{◌∙◌, arith}
+use Rattle.std.proofs.Common.{◌∙◌}
 use Rattle.sizes.specs.Again.{shrunk}
 use Rattle.ids.specs.Whole.{ids_nodes}
 use Rattle.sizes.specs.Calls.{all_left, reading_levels, reading_over, reading_answer}

@@ -1,4 +1,4 @@
-use Rattle.std.proofs.Common.{ap, arith}
+use Rattle.std.proofs.Common.{ap}
 use Rattle.records.specs.Uses.{use_number}
 use Rattle.sizes.specs.InPlace.{string_one, string_missing, string_optional}
 use Rattle.sizes.proofs.string_sizes.Goals as goal
