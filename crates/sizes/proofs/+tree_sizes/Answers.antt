@@ -13,11 +13,11 @@ use Rattle.sizes.proofs.+tree_sizes.Goals as goal
 
 pub body_sizes-returns-in_err-u : goal.body_sizes-returns-in_err-u
 body_sizes-returns-in_err-u t c =
-    (c.from_residual.ensures ∙ adding_over c.loop-j.invariant.0 c.loop-j-test.true (place_read c.loop-j.u (inner_adds c.args.level c.args.w.now.tape.now c.args.w.now.st.now) c.args.w.now.tape.now c.args.w.now.st.now (body_at c.args.w.now.tape.now c.args.at) c.loop-j.j (words_of c.field_at-f.result) c.field_at-f.ensures c.in_err-u.ensures.0) ∙ ap (less c.args.left) (body_sum c.args.level c.args.w.now.tape.now c.args.w.now.st.now (body_at c.args.w.now.tape.now c.args.at)), c.in_err-u.ensures.1)
+    (c.from_residual.ensures ∙ adding_over c.loop-j.invariant.0 c.loop-j-test.true (place_read _ _ _ _ _ _ _ c.field_at-f.ensures c.in_err-u.ensures.0) ∙ ap (less c.args.left) (body_sum c.args.level c.args.w.now.tape.now c.args.w.now.st.now (body_at c.args.w.now.tape.now c.args.at)), c.in_err-u.ensures.1)
 
 pub body_sizes-loop-j-preserved : goal.body_sizes-loop-j-preserved
 body_sizes-loop-j-preserved t c =
-    (adding_more c.loop-j.invariant.0 c.loop-j-test.true (place_read c.loop-j.u (inner_adds c.args.level c.args.w.now.tape.now c.args.w.now.st.now) c.args.w.now.tape.now c.args.w.now.st.now (body_at c.args.w.now.tape.now c.args.at) c.loop-j.j (words_of c.field_at-f.result) c.field_at-f.ensures c.in_ok-u.ensures.0), c.in_ok-u.ensures.1, c.field_sizes.auto.memo ∙ c.loop-j.invariant.2)
+    (adding_more c.loop-j.invariant.0 c.loop-j-test.true (place_read _ _ _ _ _ _ _ c.field_at-f.ensures c.in_ok-u.ensures.0), c.in_ok-u.ensures.1, c.field_sizes.auto.memo ∙ c.loop-j.invariant.2)
 
 pub body_sizes-returns : goal.body_sizes-returns
 body_sizes-returns t c =
@@ -25,11 +25,11 @@ body_sizes-returns t c =
 
 pub content_run_sizes-returns-in_err-u : goal.content_run_sizes-returns-in_err-u
 content_run_sizes-returns-in_err-u t c =
-    (c.from_residual.ensures ∙ contents_over c.args.left (inner_adds c.args.level c.args.w.now.tape.now c.args.w.now.st.now) c.args.w.now.tape.now c.args.w.now.st.now c.args.start c.args.len c.content_count-n.result c.content_count-n.ensures c.in_err-u.ensures, c.requires.known)
+    (c.from_residual.ensures ∙ contents_over _ _ _ _ _ _ _ c.content_count-n.ensures c.in_err-u.ensures, c.requires.known)
 
 pub content_run_sizes-returns-then-n-eq0 : goal.content_run_sizes-returns-then-n-eq0
 content_run_sizes-returns-then-n-eq0 t c =
-    (contents_empty c.args.left (inner_adds c.args.level c.args.w.now.tape.now c.args.w.now.st.now) c.args.w.now.tape.now c.args.w.now.st.now c.args.start c.args.len c.content_count-n.result c.content_count-n.ensures c.in_ok-u.ensures c.if-n-eq0.true, c.requires.known)
+    (contents_empty _ _ _ _ _ _ _ c.content_count-n.ensures c.in_ok-u.ensures c.if-n-eq0.true, c.requires.known)
 
 pub content_run_sizes-contents_walk-requires : goal.content_run_sizes-contents_walk-requires
 content_run_sizes-contents_walk-requires t c =
@@ -37,23 +37,23 @@ content_run_sizes-contents_walk-requires t c =
 
 pub content_run_sizes-returns : goal.content_run_sizes-returns
 content_run_sizes-returns t c =
-    (contents_then c.args.left (inner_adds c.args.level c.args.w.now.tape.now c.args.w.now.st.now) c.args.w.now.tape.now c.args.w.now.st.now c.args.start c.args.len c.content_count-n.result c.content_count-n.ensures c.in_ok-u.ensures _ c.content_place.ensures c.contents_walk.ensures.0, c.contents_walk.ensures.1)
+    (contents_then _ _ _ _ _ _ _ c.content_count-n.ensures c.in_ok-u.ensures _ c.content_place.ensures c.contents_walk.ensures.0, c.contents_walk.ensures.1)
 
 pub content_sizes-returns-then-is_plain : goal.content_sizes-returns-then-is_plain
 content_sizes-returns-then-is_plain t c =
-    (content_plain c.args.left (inner_adds c.args.level c.args.w.now.tape.now c.args.w.now.st.now) c.args.w.now.tape.now c.args.w.now.st.now (content_of c.content_at-c.result) c.content_at-c.ensures (sym c.is_plain.ensures ∙ c.if-is_plain.true) c.less.ensures, c.requires.known)
+    (content_plain _ _ _ _ _ c.content_at-c.ensures (sym c.is_plain.ensures ∙ c.if-is_plain.true) c.less.ensures, c.requires.known)
 
 pub content_sizes-returns-then-c-ne1 : goal.content_sizes-returns-then-c-ne1
 content_sizes-returns-then-c-ne1 t c =
-    (content_segments_lem c.args.left (inner_adds c.args.level c.args.w.now.tape.now c.args.w.now.st.now) c.args.w.now.tape.now c.args.w.now.st.now (content_of c.content_at-c.result) c.content_at-c.ensures (sym c.is_plain.ensures ∙ c.if-is_plain.false) c.segment_run_sizes.ensures.0, c.segment_run_sizes.ensures.1)
+    (content_segments_lem _ _ _ _ _ c.content_at-c.ensures (sym c.is_plain.ensures ∙ c.if-is_plain.false) c.segment_run_sizes.ensures.0, c.segment_run_sizes.ensures.1)
 
 pub content_sizes-returns-then-place-eq0 : goal.content_sizes-returns-then-place-eq0
 content_sizes-returns-then-place-eq0 t c =
-    (content_segments_lem c.args.left (inner_adds c.args.level c.args.w.now.tape.now c.args.w.now.st.now) c.args.w.now.tape.now c.args.w.now.st.now (content_of c.content_at-c.result) c.content_at-c.ensures (sym c.is_plain.ensures ∙ c.if-is_plain.false) c.segment_run_sizes-then-place-eq0.ensures.0, c.segment_run_sizes-then-place-eq0.ensures.1)
+    (content_segments_lem _ _ _ _ _ c.content_at-c.ensures (sym c.is_plain.ensures ∙ c.if-is_plain.false) c.segment_run_sizes-then-place-eq0.ensures.0, c.segment_run_sizes-then-place-eq0.ensures.1)
 
 pub content_sizes-returns-in_err-u : goal.content_sizes-returns-in_err-u
 content_sizes-returns-in_err-u t c =
-    (c.from_residual.ensures ∙ content_segments_lem c.args.left (inner_adds c.args.level c.args.w.now.tape.now c.args.w.now.st.now) c.args.w.now.tape.now c.args.w.now.st.now (content_of c.content_at-c.result) c.content_at-c.ensures (sym c.is_plain.ensures ∙ c.if-is_plain.false) (lone_over c.args.left (inner_adds c.args.level c.args.w.now.tape.now c.args.w.now.st.now) c.args.w.now.tape.now c.args.w.now.st.now c.content_at-c.result.first c.content_at-c.result.second c.lone_place-place.result c.if-c-ne1.false c.lone_place-place.ensures c.if-place-eq0.false c.in_err-u.ensures), c.requires.known)
+    (c.from_residual.ensures ∙ content_segments_lem _ _ _ _ _ c.content_at-c.ensures (sym c.is_plain.ensures ∙ c.if-is_plain.false) (lone_over _ _ _ _ _ _ _ c.if-c-ne1.false c.lone_place-place.ensures c.if-place-eq0.false c.in_err-u.ensures), c.requires.known)
 
 pub content_sizes-segment_sizes-requires : goal.content_sizes-segment_sizes-requires
 content_sizes-segment_sizes-requires t c =
@@ -61,7 +61,7 @@ content_sizes-segment_sizes-requires t c =
 
 pub content_sizes-returns : goal.content_sizes-returns
 content_sizes-returns t c =
-    (content_segments_lem c.args.left (inner_adds c.args.level c.args.w.now.tape.now c.args.w.now.st.now) c.args.w.now.tape.now c.args.w.now.st.now (content_of c.content_at-c.result) c.content_at-c.ensures (sym c.is_plain.ensures ∙ c.if-is_plain.false) (lone_then c.args.left (inner_adds c.args.level c.args.w.now.tape.now c.args.w.now.st.now) c.args.w.now.tape.now c.args.w.now.st.now c.content_at-c.result.first c.content_at-c.result.second c.lone_place-place.result c.if-c-ne1.false c.lone_place-place.ensures c.if-place-eq0.false c.in_ok-u.ensures c.segment_sizes.ensures.0), c.segment_sizes.ensures.1)
+    (content_segments_lem _ _ _ _ _ c.content_at-c.ensures (sym c.is_plain.ensures ∙ c.if-is_plain.false) (lone_then _ _ _ _ _ _ _ c.if-c-ne1.false c.lone_place-place.ensures c.if-place-eq0.false c.in_ok-u.ensures c.segment_sizes.ensures.0), c.segment_sizes.ensures.1)
 
 pub contents_walk-returns-in_err-next : goal.contents_walk-returns-in_err-next
 unfolding content_from
@@ -87,11 +87,11 @@ contents_walk-returns t c =
 
 pub segment_run_sizes-returns-in_err-u : goal.segment_run_sizes-returns-in_err-u
 segment_run_sizes-returns-in_err-u t c =
-    (c.from_residual.ensures ∙ segments_over c.args.left (inner_adds c.args.level c.args.w.now.tape.now c.args.w.now.st.now) c.args.w.now.tape.now c.args.w.now.st.now c.args.start c.args.len c.segment_count-n.result c.segment_count-n.ensures c.in_err-u.ensures, c.requires.known)
+    (c.from_residual.ensures ∙ segments_over _ _ _ _ _ _ _ c.segment_count-n.ensures c.in_err-u.ensures, c.requires.known)
 
 pub segment_run_sizes-returns-then-n-eq0 : goal.segment_run_sizes-returns-then-n-eq0
 segment_run_sizes-returns-then-n-eq0 t c =
-    (segments_empty c.args.left (inner_adds c.args.level c.args.w.now.tape.now c.args.w.now.st.now) c.args.w.now.tape.now c.args.w.now.st.now c.args.start c.args.len c.segment_count-n.result c.segment_count-n.ensures c.in_ok-u.ensures c.if-n-eq0.true, c.requires.known)
+    (segments_empty _ _ _ _ _ _ _ c.segment_count-n.ensures c.in_ok-u.ensures c.if-n-eq0.true, c.requires.known)
 
 pub segment_run_sizes-segments_walk-requires : goal.segment_run_sizes-segments_walk-requires
 segment_run_sizes-segments_walk-requires t c =
@@ -99,15 +99,15 @@ segment_run_sizes-segments_walk-requires t c =
 
 pub segment_run_sizes-returns : goal.segment_run_sizes-returns
 segment_run_sizes-returns t c =
-    (segments_then c.args.left (inner_adds c.args.level c.args.w.now.tape.now c.args.w.now.st.now) c.args.w.now.tape.now c.args.w.now.st.now c.args.start c.args.len c.segment_count-n.result c.segment_count-n.ensures c.in_ok-u.ensures _ c.segment_place.ensures c.segments_walk.ensures.0, c.segments_walk.ensures.1)
+    (segments_then _ _ _ _ _ _ _ c.segment_count-n.ensures c.in_ok-u.ensures _ c.segment_place.ensures c.segments_walk.ensures.0, c.segments_walk.ensures.1)
 
 pub segment_sizes-returns-then-level-eq0 : goal.segment_sizes-returns-then-level-eq0
 segment_sizes-returns-then-level-eq0 t c =
-    (segment_last c.args.left c.args.w.now.tape.now c.args.w.now.st.now c.args.at c.args.level c.if-level-eq0.true, c.requires.known)
+    (segment_last _ _ _ _ _ c.if-level-eq0.true, c.requires.known)
 
 pub segment_sizes-returns-then-w-at-eq-TEXT : goal.segment_sizes-returns-then-w-at-eq-TEXT
 segment_sizes-returns-then-w-at-eq-TEXT t c =
-    (text_adds c.args.left c.args.w.now.tape.now c.args.w.now.st.now c.args.at c.args.level c.if-level-eq0.false c.if-w-at-eq-TEXT.true c.less.ensures, c.requires.known)
+    (text_adds _ _ _ _ _ c.if-level-eq0.false c.if-w-at-eq-TEXT.true c.less.ensures, c.requires.known)
 
 pub segment_sizes-with_entry-requires : goal.segment_sizes-with_entry-requires
 segment_sizes-with_entry-requires t c =
@@ -119,16 +119,16 @@ segment_sizes-returns-then-is_of t c =
 
 pub segment_walk-returns-in_err-r : goal.segment_walk-returns-in_err-r
 segment_walk-returns-in_err-r t c =
-    (c.from_residual.ensures ∙ segment_below c.args.left c.args.w.now.tape.now c.args.w.now.st.now c.args.at c.args.level (λ q. absurd (omega (arith, c.requires.at_in_bounds.1, q))) c.in_err-r.ensures.0, c.in_err-r.ensures.1)
+    (c.from_residual.ensures ∙ segment_below _ _ _ _ _ (λ q. absurd (omega (arith, c.requires.at_in_bounds.1, q))) c.in_err-r.ensures.0, c.in_err-r.ensures.1)
 
 pub segment_walk-note-requires-clause-contents_le_contents : goal.segment_walk-note-requires-clause-contents_le_contents
 segment_walk-note-requires-clause-contents_le_contents t c =
-    let e = segment_below c.args.left c.args.w.now.tape.now c.args.w.now.st.now c.args.at c.args.level (λ q. absurd (omega (arith, c.requires.at_in_bounds.1, q))) c.in_ok-r.ensures.0 in
+    let e = segment_below _ _ _ _ _ (λ q. absurd (omega (arith, c.requires.at_in_bounds.1, q))) c.in_ok-r.ensures.0 in
     shrunk c.args.left c.in_ok-r.r _ e
 
 pub segment_walk-returns : goal.segment_walk-returns
 segment_walk-returns t c =
-    let e = segment_below c.args.left c.args.w.now.tape.now c.args.w.now.st.now c.args.at c.args.level (λ q. absurd (omega (arith, c.requires.at_in_bounds.1, q))) c.in_ok-r.ensures.0 in
+    let e = segment_below _ _ _ _ _ (λ q. absurd (omega (arith, c.requires.at_in_bounds.1, q))) c.in_ok-r.ensures.0 in
     (e, rw c.note.ensures (known_note _ c.in_ok-r.ensures.1 c.args.e c.args.at c.args.level c.args.left c.in_ok-r.r e))
 
 pub segments_walk-returns-in_err-next : goal.segments_walk-returns-in_err-next
