@@ -8,7 +8,7 @@ use Rattle.records.specs.Values.{body_at, segment_body}
 use Rattle.alike.specs.Alike.{Alike}
 use Rattle.store.specs.declared.Store.{Store}
 use Rattle.sizes.specs.Added.{Added, add, add_nothing, nothing_add, add_assoc}
-use Rattle.sizes.specs.Capped.{fits, fits_room_lem, room_of, less, less_some, less_nothing, less_then, less_stop, add_from, Adding}
+use Rattle.sizes.specs.Capped.{fits, fits_room_lem, room_of, less, less_some, less_nothing, less_then, less_stop, add_from, Adding, adding_more}
 use Rattle.sizes.specs.InPlace.{content_adds, content_from, segment_from}
 use Rattle.sizes.specs.declared.Left.{Left}
 
@@ -91,21 +91,22 @@ in_parts g (suc k) l s =
 
 -- ---- the loop goes on behind the items that are alike
 
-module _ {t : Left} {g : ℕ → Added} {n i : ℕ} {r : Left} (b : Adding t g n (i + 1) r) (k : ℕ) (few : i + 1 + k ≤ n) (same : (j : ℕ) → j < k → g (i + 1 + j) ≡ g i) where
+module _ {t : Left} {a : Added} {g : ℕ → Added} {n i : ℕ} {u : Left} (b : Adding t a g n i u) (h : i < n) {r : Left} (e : Some r ≡ less u (g i))
+    {k : ℕ} (few : k ≤ n - i - 1) (same : (j : ℕ) → j < k → g (i + 1 + j) ≡ g i) where
   abbrev rest : Added
   rest = add_from g (n - (i + (1 + k))) (i + (1 + k))
 
-  again_left : less r (add (times (g i) k) rest) ≡ less t (add_from g n 0)
+  again_left : less r (add (times (g i) k) rest) ≡ less t a
   again_left =
       let x : i + (1 + k) ≡ i + 1 + k = omega arith in
-      let y : k + (n - (i + (1 + k))) ≡ n - (i + 1) = omega (arith, few) in
+      let y : k + (n - (i + (1 + k))) ≡ n - (i + 1) = omega (arith, few, h) in
       ap (less r) (ap₂ (λ (p q : Added). add p q) (times_same g (g i) k (i + 1) 0 same) (ap (add_from g (n - (i + (1 + k)))) x) ∙ sym (in_parts g k (n - (i + (1 + k))) (i + 1)))
-      ∙ ap (λ (w : ℕ). less r (add_from g w (i + 1))) y ∙ b.left
+      ∙ ap (λ (w : ℕ). less r (add_from g w (i + 1))) y ∙ (adding_more b h e).left
 
-  pub adding_again : {v : Left} → Some v ≡ less r (times (g i) k) → Adding t g n (i + (1 + k)) v
+  pub adding_again : {v : Left} → Some v ≡ less r (times (g i) k) → Adding t a g n (i + (1 + k)) v
   adding_again f = record { left = less_then r (times (g i) k) f rest ∙ again_left }
 
-  pub again_over : None ≡ less r (times (g i) k) → None ≡ less t (add_from g n 0)
+  pub again_over : None ≡ less r (times (g i) k) → None ≡ less t a
   again_over f = less_stop r (times (g i) k) f rest ∙ again_left
 
 -- ---- `again`: so far j times
