@@ -11,10 +11,17 @@ use Rattle.sizes.specs.Added.{Added, add, add_nothing, nothing_add, add_assoc}
 use Rattle.sizes.specs.Capped.{fits, fits_room_lem, room_of, less, less_some, less_nothing, less_then, less_stop, add_from, Adding, adding_more}
 use Rattle.sizes.specs.InPlace.{content_adds, content_from, segment_from}
 use Rattle.sizes.specs.declared.Left.{Left}
+use Rattle.sizes.specs.declared.Sizes.{Sizes}
 
 -- what was taken off from t to r
+abbrev pub taken : Left → Left → Sizes
+taken t r = record { contents = t.contents - r.contents; segments = t.segments - r.segments; calls = t.calls - r.calls }
+
+abbrev pub added_of : Sizes → Added
+added_of s = record { contents = s.contents; segments = s.segments; calls = s.calls }
+
 abbrev pub difference : Left → Left → Added
-difference t r = record { contents = t.contents - r.contents; segments = t.segments - r.segments; calls = t.calls - r.calls }
+difference t r = added_of (taken t r)
 
 -- so much, k times
 abbrev pub times : Added → ℕ → Added

@@ -1,7 +1,6 @@
 -- The walk's answers: what each function has read and added, against the definitions in place.
 use Rattle.std.specs.Prelude.{◌≡◌, refl, true, false, eqb, ltb, List, ℕ, zero, suc, ◌+◌, ◌-◌, Option, Some, None}
 use Rattle.std.proofs.Common.{sym, ap, ◌∙◌, arith}
-use borrow.Author.Tests.{eq-eqb, ne_eqb}
 use Rattle.model.specs.Bytes.{byte_at}
 use Rattle.model.specs.Types.{Body, Content}
 use Rattle.model.specs.Tape.{node_fields, record_at, records_at, operands_at, segment_codec, node_codec}
@@ -11,7 +10,7 @@ use Rattle.store.specs.declared.Store.{Store}
 use Rattle.sizes.specs.Added.{Added, nothing, one_call, new_contents, new_segments, add_all}
 use Rattle.sizes.specs.Capped.{less, less_nothing, add_from, run_over, run_empty, run_then}
 use Rattle.sizes.specs.InPlace.{content_count, segment_count, segments_add, segment_run_adds, content_adds, contents_add, content_run_adds, fields_add, inner_adds, body_adds, node_adds}
-use Rattle.sizes.specs.InPlace.{field_words, string_adds, used_adds, place_adds, body_places}
+use Rattle.sizes.specs.InPlace.{field_words, used_adds, place_adds, body_places}
 use Rattle.sizes.specs.declared.Left.{Left}
 use Rattle.sizes.specs.Words.{UsedWords}
 
@@ -25,20 +24,6 @@ module _ (t : Left) (inner : Body → Added) (tp : List ℕ) (st : Store) {r : O
   pub place_read : (b : Body) (j : ℕ) (f : UsedWords) → f ≡ field_words b j → r ≡ less t (used_adds inner tp st f) → r ≡ less t (place_adds inner tp st b j)
   unfolding place_adds
   place_read b j f e q = q ∙ ap (λ (x : UsedWords). less t (used_adds inner tp st x)) e
-
-  module _ (f : UsedWords) where
-    pub used_contents : f.usage ≡ 3 → r ≡ less t (content_run_adds inner tp st f.first f.second) → r ≡ less t (used_adds inner tp st f)
-    unfolding used_adds
-    used_contents e q = rw (eq-eqb f.usage 3 e) q
-
-    module _ (n : f.usage ≡ 3 → ⊥) where
-      pub used_segments : f.usage ≡ 5 → r ≡ less t (segment_run_adds inner tp st f.first f.second) → r ≡ less t (used_adds inner tp st f)
-      unfolding used_adds
-      used_segments e q = rw (ne_eqb f.usage 3 n, eq-eqb f.usage 5 e) q
-
-      pub used_string : (f.usage ≡ 5 → ⊥) → r ≡ less t (string_adds f.usage f.first) → r ≡ less t (used_adds inner tp st f)
-      unfolding used_adds
-      used_string o q = rw (ne_eqb f.usage 3 n, ne_eqb f.usage 5 o) q
 
   -- ---- contents
 

@@ -1,6 +1,6 @@
 -- How often `intern` can be called: at most six times for a body, so that below number 3's limits no count of calls is cut.
-use Rattle.std.specs.Prelude.{◌≡◌, refl, Bool, true, false, cond, List, [], ◌∷◌, length, ltb, eqb, ℕ, zero, suc, ◌+◌, ◌*◌, ◌-◌, ◌≤◌, ◌<◌, ◌^◌, Option, Some, None, IsSome}
-use Rattle.std.proofs.Common.{sym, ap, ◌∙◌, arith, le-leb}
+use Rattle.std.specs.Prelude.{◌≡◌, refl, Bool, true, false, cond, List, [], ◌∷◌, length, ltb, eqb, ℕ, zero, suc, ◌+◌, ◌*◌, ◌-◌, ◌≤◌, Some, None}
+use Rattle.std.proofs.Common.{ap, ◌∙◌, arith}
 use Rattle.model.specs.Limits.{no_string, max_pool, max_list}
 use Rattle.model.specs.Types.{Body, Content, Segment, SourceNode}
 use Rattle.model.specs.Tape.{fields_of, node_fields, records_at, content_codec, segment_codec, node_codec, places, book_at}
@@ -14,13 +14,13 @@ use Rattle.ids.specs.Whole.{ids_in, IdsFit, ids_layers}
 use Rattle.store.specs.Stored.{OfTape}
 use Rattle.sizes.specs.Added.{Added, nothing, one_call, new_contents, new_segments, add, add_all}
 use Rattle.sizes.specs.Trees.{nodes_size}
-use Rattle.sizes.specs.Capped.{fits, sizes_in, fits_room_lem, remainder, less, less_some, less_none, add_from}
+use Rattle.sizes.specs.Capped.{sizes_in, fits_room_lem, less, less_some, less_none, add_from}
 use Rattle.sizes.specs.InPlace.{content_count, segment_count, segments_add, segment_run_adds, content_adds, contents_add, content_run_adds, fields_add, inner_adds, node_adds, nodes_add}
 use Rattle.sizes.specs.InPlace.{field_words, string_adds, used_adds, place_adds, body_places}
+use Rattle.sizes.specs.Again.{taken}
 use Rattle.sizes.specs.Shown.{shown_nodes_add}
 use Rattle.sizes.specs.declared.Room.{Room}
 use Rattle.sizes.specs.declared.Left.{Left}
-use Rattle.sizes.specs.declared.Sizes.{Sizes}
 use Rattle.sizes.specs.Words.{UsedWords}
 
 -- k calls, and six more for each item
@@ -125,17 +125,13 @@ pub record Limited (m : Room) (nodes : ℕ) : Type 0 where
 abbrev pub all_left : Room → Left
 all_left m = record { contents = m.contents; segments = m.segments; calls = 4294967295 }
 
--- what was added, where so much is left
-abbrev pub sizes_of : Room → Left → Sizes
-sizes_of m u = record { contents = m.contents - u.contents; segments = m.segments - u.segments; calls = 4294967295 - u.calls }
-
 module _ (m : Room) (k : ℕ) (a : Added) where
   none_in : None ≡ less (all_left m) a → None ≡ sizes_in m a
   unfolding sizes_in
   none_in e = rw (less_none (all_left m) a e) refl
 
   -- the count of calls is not cut
-  some_in : Limited m k → Few (6 * k) a → {u : Left} → Some u ≡ less (all_left m) a → Some (sizes_of m u) ≡ sizes_in m a
+  some_in : Limited m k → Few (6 * k) a → {u : Left} → Some u ≡ less (all_left m) a → Some (taken (all_left m) u) ≡ sizes_in m a
   unfolding sizes_in
   some_in l f {u} e =
       let w = less_some (all_left m) a e in
@@ -145,30 +141,6 @@ module _ (m : Room) (k : ℕ) (a : Added) where
       let y : m.segments - u.segments ≡ a.segments = omega (arith, ap (λ (v : Left). v.segments) w.1, h.1) in
       let z : 4294967295 - u.calls ≡ a.calls = omega (arith, ap (λ (v : Left). v.calls) w.1, few) in
       rw w.0 (λ i. Some (record { contents = x i; segments = y i; calls = z i }))
-
--- ---- what the items of a run push, where it can be counted
-
-module _ (a : Added) (x : a.contents < 2 ^ 32) (y : a.segments < 2 ^ 32) {r : Option Left} (e : r ≡ less (all_left (record { contents = 4294967295; segments = 4294967295 })) a) where
-  abbrev most : Left
-  most = record { contents = 4294967295; segments = 4294967295; calls = 4294967295 }
-
-  exact : r ≡ Some (remainder most a)
-  unfolding less fits
-  exact = e ∙ rw (le-leb a.contents 4294967295 (omega (arith, x)), le-leb a.segments 4294967295 (omega (arith, y))) refl
-
-  pub inner_some : IsSome r
-  inner_some = rw exact refl
-
-  -- what is left of any number
-  module _ {u : Left} (is : r ≡ Some u) where
-    left_is : u ≡ remainder most a
-    left_is = let q : Some u ≡ Some (remainder most a) = sym is ∙ exact in cc
-
-    pub inner_contents : 4294967295 - u.contents ≡ a.contents
-    inner_contents = omega (arith, ap (λ (v : Left). v.contents) left_is, x)
-
-    pub inner_segments : 4294967295 - u.segments ≡ a.segments
-    inner_segments = omega (arith, ap (λ (v : Left). v.segments) left_is, y)
 
 -- ---- a whole tape
 
@@ -191,5 +163,5 @@ module _ {t : List ℕ} {st : Store} {p : Places} (f : IdsFit t st p) where
     pub reading_over : None ≡ less (all_left m) own → (d : List ℕ) → None ≡ sizes_in m (nodes_size (shown_nodes (book_at t (places t) d)))
     reading_over e d = none_in m p.nodes.count own e ∙ ap (sizes_in m) (shown_own h d)
 
-    pub reading_answer : Limited m p.nodes.count → {u : Left} → Some u ≡ less (all_left m) own → (d : List ℕ) → Some (sizes_of m u) ≡ sizes_in m (nodes_size (shown_nodes (book_at t (places t) d)))
+    pub reading_answer : Limited m p.nodes.count → {u : Left} → Some u ≡ less (all_left m) own → (d : List ℕ) → Some (taken (all_left m) u) ≡ sizes_in m (nodes_size (shown_nodes (book_at t (places t) d)))
     reading_answer l e d = some_in m p.nodes.count own l (nodes_few t st p.nodes.at p.nodes.count) e ∙ ap (sizes_in m) (shown_own h d)

@@ -1,5 +1,5 @@
 -- What is left of a room, where what is found in place is taken off it.
-use Rattle.std.specs.Prelude.{◌≡◌, refl, ℕ, zero, suc, ◌+◌, ◌-◌, ◌≤◌, ◌<◌, Bool, true, false, cond, ◌&&◌, leb, Option, Some, None}
+use Rattle.std.specs.Prelude.{◌≡◌, refl, ℕ, zero, suc, ◌+◌, ◌-◌, ◌≤◌, ◌<◌, ◌^◌, Bool, true, false, cond, ◌&&◌, leb, Option, Some, None, IsSome}
 use Rattle.std.proofs.Math.Path.{sym, ap}
 use Rattle.std.proofs.Common.{ap₂, ◌∙◌, add-zero, arith}
 use Rattle.std.proofs.Math.Bool.{and-false}
@@ -116,6 +116,29 @@ module _ (t : Left) (a : Added) where
       → Some u ≡ less t a
   unfolding less fits
   less_exact u x y z = rw (le-leb a.contents t.contents x.0, le-leb a.segments t.segments y.0) (λ i. Some (record { contents = x.1 i; segments = y.1 i; calls = z i }))
+
+-- ---- any number of items
+
+abbrev pub any_left : Left
+any_left = record { contents = 4294967295; segments = 4294967295; calls = 4294967295 }
+
+module _ (a : Added) (x : a.contents < 2 ^ 32) (y : a.segments < 2 ^ 32) {r : Option Left} (e : r ≡ less any_left a) where
+  exact : r ≡ Some (remainder any_left a)
+  unfolding less fits
+  exact = e ∙ rw (le-leb a.contents 4294967295 (omega (arith, x)), le-leb a.segments 4294967295 (omega (arith, y))) refl
+
+  pub inner_some : IsSome r
+  inner_some = rw exact refl
+
+  module _ {u : Left} (is : r ≡ Some u) where
+    left_is : u ≡ remainder any_left a
+    left_is = let q : Some u ≡ Some (remainder any_left a) = sym is ∙ exact in cc
+
+    pub inner_contents : 4294967295 - u.contents ≡ a.contents
+    inner_contents = omega (arith, ap (λ (v : Left). v.contents) left_is, x)
+
+    pub inner_segments : 4294967295 - u.segments ≡ a.segments
+    inner_segments = omega (arith, ap (λ (v : Left). v.segments) left_is, y)
 
 -- ---- a run: its own items, then what lies below them
 

@@ -14,8 +14,9 @@ use Rattle.sizes.specs.Added.{Added, one_call, add_nothing, add_all, same_added}
 use Rattle.sizes.specs.Capped.{less}
 use Rattle.sizes.specs.InPlace.{inner_adds, fields_add, field_adds}
 use Rattle.sizes.specs.Answers.{above_zero}
-use Rattle.sizes.specs.Again.{difference, exact_contents, exact_segments, exact_calls}
+use Rattle.sizes.specs.Again.{taken, difference, exact_contents, exact_segments, exact_calls}
 use Rattle.sizes.specs.declared.Left.{Left}
+use Rattle.sizes.specs.declared.Sizes.{Sizes}
 
 -- what an entry says that its segment adds
 abbrev pub added_in : Entry → Added
@@ -77,11 +78,12 @@ module _ (m : List ℕ) (e at level : ℕ) (before after : Left) where
     unfolding note_in
     note_cut z = rw (le-ltb 4294967295 at near, eq-eqb after.calls 0 z) refl
 
-    pub note_put : (after.calls ≡ 0 → ⊥) → {l : List ℕ} (x : Entry)
-        → x ≡ record { place = at; level = level; contents = before.contents - after.contents; segments = before.segments - after.segments; calls = before.calls - after.calls }
-        → l ≡ put_in m e x → l ≡ note_in m e at level before after
+    pub note_put : (after.calls ≡ 0 → ⊥) → {l : List ℕ} (t : Sizes) → t ≡ taken before after
+        → l ≡ put_in m e (record { place = at; level = level; contents = t.contents; segments = t.segments; calls = t.calls }) → l ≡ note_in m e at level before after
     unfolding note_in
-    note_put z x f q = rw (le-ltb 4294967295 at near, ne_eqb after.calls 0 z) (q ∙ ap (put_in m e) f)
+    note_put z t f q =
+        rw (le-ltb 4294967295 at near, ne_eqb after.calls 0 z)
+        (q ∙ ap (λ (s : Sizes). put_in m e (record { place = at; level = level; contents = s.contents; segments = s.segments; calls = s.calls })) f)
 
 -- ---- a text is one string
 

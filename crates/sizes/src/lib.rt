@@ -21,7 +21,7 @@ ghost use Rattle.sizes.specs.Trees.{nodes_size};
 ghost use Rattle.sizes.specs.Order.{field_word};
 ghost use Rattle.sizes.specs.Capped.{sizes_in, less};
 ghost use Rattle.sizes.specs.Added.{Added, add};
-ghost use Rattle.sizes.specs.Again.{times};
+ghost use Rattle.sizes.specs.Again.{taken, times};
 ghost use Rattle.sizes.specs.Calls.{Limited};
 ghost use Rattle.sizes.specs.Known.{Known, added_in, note_in};
 ghost use Rattle.sizes.specs.Plain.{Whole, is_plain, plain_run, plain_ruby, plain_adds};
@@ -88,34 +88,48 @@ fn less(left: Left, contents: u32, segments: u32, calls: u32) -> Option<Left>
     })
 }
 
-// What was taken off from `before` to `after`, k times more: so many items that are alike need not be walked one by one.
+// What was taken off from `before` to `after`.
+fn taken(before: Left, after: Left) -> Sizes
+    ensures { result ≡ taken before after }
+{
+    Sizes {
+        contents: before.contents.saturating_sub(after.contents),
+        segments: before.segments.saturating_sub(after.segments),
+        calls: before.calls.saturating_sub(after.calls),
+    }
+}
+
+// The same taken off k times more: so many items that are alike need not be walked one by one.
 fn again(before: Left, after: Left, k: usize) -> Option<Left>
-    requires contents_le_contents { (after.contents ≤ before.contents) × (after.segments ≤ before.segments) × (after.calls ≤ before.calls) }
     ensures { (a : Added) → Some after ≡ less before a → result ≡ less after (times a k) }
 {
-    let contents = before.contents - after.contents;
-    let segments = before.segments - after.segments;
-    let calls = before.calls - after.calls;
+    let t = taken(before, after);
     let mut u = after;
     for _time in 0..k {
-        u = less(u, contents, segments, calls)?;
+        u = less(u, t.contents, t.segments, t.calls)?;
     }
     Some(u)
 }
 
 // How many contents a range names, and how many segments; none where it is no range.
-fn content_count(st: &Store, start: u32, len: u32) -> u32
-    requires { st.now.layers ≤ 32 }
-    ensures { result ≡ content_count st.now start len }
+fn content_count(w: &Walk<'_>, start: u32, len: u32) -> u32
+    ensures { result ≡ content_count w.now.st.now start len }
 {
-    if st.has_contents(start, len) { len } else { 0 }
+    if w.st.has_contents(start, len) {
+        len
+    } else {
+        0
+    }
 }
 
-fn segment_count(st: &Store, start: u32, len: u32) -> u32
-    requires { st.now.layers ≤ 32 }
-    ensures { result ≡ segment_count st.now start len }
+fn segment_count(w: &Walk<'_>, start: u32, len: u32) -> u32
+    ensures { result ≡ segment_count w.now.st.now start len }
 {
-    if st.has_segments(start, len) { len } else { 0 }
+    if w.st.has_segments(start, len) {
+        len
+    } else {
+        0
+    }
 }
 
 // Section 5. Fields go in the Rust's order: which of the six words comes at place j.
@@ -172,8 +186,7 @@ fn with_entry(left: Left, memo: &[u32], e: usize) -> Option<Left>
 
 // What the segment at `at` has added on that level, remembered; not where the calls may have been cut.
 fn note(memo: &mut [u32], e: usize, at: usize, level: u8, before: Left, after: Left)
-    requires e_bound { e < 4096 }
-    requires contents_le_contents { (after.contents ≤ before.contents) × (after.segments ≤ before.segments) × (after.calls ≤ before.calls) }
+    requires { e < 4096 }
     ensures { memo.new ≡ note_in memo.old e at level before after }
 {
     if 4294967295 < at {
@@ -182,16 +195,12 @@ fn note(memo: &mut [u32], e: usize, at: usize, level: u8, before: Left, after: L
     if after.calls == 0 {
         return;
     }
-    memo::put(
-        memo,
-        e,
-        at as u32,
-        level,
-        before.contents - after.contents,
-        before.segments - after.segments,
-        before.calls - after.calls,
-    );
+    let t = taken(before, after);
+    memo::put(memo, e, at as u32, level, t.contents, t.segments, t.calls);
 }
+
+// ---- the walk. It writes the memo, and lends it on at each call: a struct that held it would have each function promise that it is still the
+// same memo, as long as before, and so each asks and promises `Known`.
 
 // Section 5. What a body of that level adds: its fields in order.
 #[cycle(tree_sizes)]
@@ -235,7 +244,7 @@ fn content_run_sizes(
     requires known { Known w.now.tape.now w.now.st.now memo.old }
     ensures { (result ≡ less left (content_run_adds (inner_adds level w.now.tape.now w.now.st.now) w.now.tape.now w.now.st.now start len)) × Known w.now.tape.now w.now.st.now memo.new }
 {
-    let n = content_count(w.st, start, len);
+    let n = content_count(w, start, len);
     let u = less(left, n, 0, 0)?;
     if n == 0 {
         return Some(u);
@@ -317,7 +326,7 @@ fn segment_run_sizes(
     requires known { Known w.now.tape.now w.now.st.now memo.old }
     ensures { (result ≡ less left (segment_run_adds (inner_adds level w.now.tape.now w.now.st.now) w.now.tape.now w.now.st.now start len)) × Known w.now.tape.now w.now.st.now memo.new }
 {
-    let n = segment_count(w.st, start, len);
+    let n = segment_count(w, start, len);
     let u = less(left, 0, n, 0)?;
     if n == 0 {
         return Some(u);
@@ -412,22 +421,21 @@ pub fn inner_segments(w: &Walk<'_>, run: Run, level: u8) -> u32
 // ---- Rubies of plain contents, by far the commonest nodes, without the walk
 
 // Where the contents of a store of one layer stand; of none, for any other.
-fn only_contents(st: &Store) -> Run
-    requires { st.now.layers ≤ 32 }
-    ensures { Whole st.now result }
+fn only_contents(w: &Walk<'_>) -> Run
+    ensures { Whole w.now.st.now result }
 {
-    if st.layers != 1 {
+    if w.st.layers != 1 {
         return Run { at: 0, count: 0 };
     }
-    if st.contents[0] != 0 {
+    if w.st.contents[0] != 0 {
         return Run { at: 0, count: 0 };
     }
-    if st.totals.contents == 0 {
+    if w.st.totals.contents == 0 {
         return Run { at: 0, count: 0 };
     }
     Run {
-        at: st.content_place(0),
-        count: st.totals.contents as usize,
+        at: w.st.content_place(0),
+        count: w.st.totals.contents as usize,
     }
 }
 
@@ -509,13 +517,14 @@ fn node_sizes(w: &Walk<'_>, own: Run, memo: &mut [u32], left: Left, at: usize) -
     body_sizes(w, memo, left, at + 15, 33)
 }
 
-// Section 5. The nodes that stand from `at` on.
+// Section 5. The nodes that stand from `at` on. Which nodes is an argument here and in the two functions below, and so is asked of each; a walk
+// is lent as a whole, and knows of none.
 fn nodes_sizes(w: &Walk<'_>, memo: &mut [u32], left: Left, run: Run) -> Option<Left>
     requires known { Known w.now.tape.now w.now.st.now memo.old }
     requires count_in_bounds { run.at + 49 * run.count ≤ length w.now.tape.now }
     ensures { result ≡ less left (nodes_add w.now.tape.now w.now.st.now run.at run.count) }
 {
-    let own = only_contents(w.st);
+    let own = only_contents(w);
     let mut u = left;
     for i in 0..run.count {
         u = node_sizes(w, own, memo, u, run.at + 49 * i)?;
@@ -558,9 +567,5 @@ pub fn reading_sizes(tape: &[u8], st: Store, p: places::Places, room: Room) -> O
         calls: MOST,
     };
     let left = nodes_left(&w, all, p.nodes)?;
-    Some(Sizes {
-        contents: room.contents - left.contents,
-        segments: room.segments - left.segments,
-        calls: MOST - left.calls,
-    })
+    Some(taken(all, left))
 }

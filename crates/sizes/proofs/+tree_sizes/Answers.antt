@@ -7,7 +7,7 @@ use Rattle.sizes.specs.Answers.{contents_over, contents_empty, contents_then, se
 use Rattle.sizes.specs.Answers.{body_sum, place_read, content_plain, content_segments_lem}
 use Rattle.sizes.specs.InPlace.{inner_adds, content_from, segment_from, contents_from, segments_from, contents_inside, segments_inside}
 use Rattle.sizes.specs.Capped.{less, adding_none, adding_more, adding_over, adding_all}
-use Rattle.sizes.specs.Again.{shrunk, adding_again, again_over, contents_same, segments_same}
+use Rattle.sizes.specs.Again.{adding_again, again_over, contents_same, segments_same}
 use Rattle.sizes.proofs.+tree_sizes.Goals as goal
 
 pub body_sizes-loop-j-init : goal.body_sizes-loop-j-init
@@ -73,9 +73,6 @@ unfolding content_from
 contents_walk-returns-in_err-next t c =
     (c.from_residual.ensures ∙ adding_over c.loop-i.invariant.0 c.loop-i-test.true c.in_err-next.ensures.0, c.in_err-next.ensures.1)
 
-pub contents_walk-again-requires : goal.contents_walk-again-requires
-contents_walk-again-requires t c = record { contents_le_contents = shrunk c.loop-i.u c.in_ok-next.next _ c.in_ok-next.ensures.0 }
-
 pub contents_walk-returns-in_err-u : goal.contents_walk-returns-in_err-u
 unfolding content_from
 contents_walk-returns-in_err-u t c = (
@@ -133,11 +130,6 @@ pub segment_walk-returns-in_err-r : goal.segment_walk-returns-in_err-r
 segment_walk-returns-in_err-r t c =
     (c.from_residual.ensures ∙ segment_below _ _ _ _ _ (λ q. absurd (omega (arith, c.requires.at_in_bounds.1, q))) c.in_err-r.ensures.0, c.in_err-r.ensures.1)
 
-pub segment_walk-note-requires-clause-contents_le_contents : goal.segment_walk-note-requires-clause-contents_le_contents
-segment_walk-note-requires-clause-contents_le_contents t c =
-    let e = segment_below _ _ _ _ _ (λ q. absurd (omega (arith, c.requires.at_in_bounds.1, q))) c.in_ok-r.ensures.0 in
-    shrunk c.args.left c.in_ok-r.r _ e
-
 pub segment_walk-returns : goal.segment_walk-returns
 segment_walk-returns t c =
     let e = segment_below _ _ _ _ _ (λ q. absurd (omega (arith, c.requires.at_in_bounds.1, q))) c.in_ok-r.ensures.0 in
@@ -150,9 +142,6 @@ pub segments_walk-returns-in_err-next : goal.segments_walk-returns-in_err-next
 unfolding segment_from
 segments_walk-returns-in_err-next t c =
     (c.from_residual.ensures ∙ adding_over c.loop-i.invariant.0 c.loop-i-test.true c.in_err-next.ensures.0, c.in_err-next.ensures.1)
-
-pub segments_walk-again-requires : goal.segments_walk-again-requires
-segments_walk-again-requires t c = record { contents_le_contents = shrunk c.loop-i.u c.in_ok-next.next _ c.in_ok-next.ensures.0 }
 
 pub segments_walk-returns-in_err-u : goal.segments_walk-returns-in_err-u
 unfolding segment_from

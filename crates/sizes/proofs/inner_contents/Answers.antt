@@ -1,5 +1,5 @@
 use Rattle.sizes.specs.Known.{known_none}
-use Rattle.sizes.specs.Calls.{inner_some, inner_contents}
+use Rattle.sizes.specs.Capped.{inner_some, inner_contents}
 use Rattle.sizes.specs.InPlace.{inner_adds, contents_add}
 use Rattle.sizes.proofs.inner_contents.Goals as goal
 

@@ -1,5 +1,5 @@
 use Rattle.sizes.specs.Known.{known_none}
-use Rattle.sizes.specs.Calls.{inner_some, inner_segments}
+use Rattle.sizes.specs.Capped.{inner_some, inner_segments}
 use Rattle.sizes.specs.InPlace.{inner_adds, segments_add}
 use Rattle.sizes.proofs.inner_segments.Goals as goal
 

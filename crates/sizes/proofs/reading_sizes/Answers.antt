@@ -1,7 +1,6 @@
-use Rattle.std.proofs.Common.{◌∙◌}
-use Rattle.sizes.specs.Again.{shrunk}
+use Rattle.std.proofs.Common.{Some, ap, ◌∙◌}
 use Rattle.ids.specs.Whole.{ids_nodes}
-use Rattle.sizes.specs.Calls.{all_left, reading_levels, reading_over, reading_answer}
+use Rattle.sizes.specs.Calls.{reading_levels, reading_over, reading_answer}
 use Rattle.sizes.proofs.reading_sizes.Goals as goal
 
 pub invariant_of-w : goal.invariant_of-w
@@ -13,11 +12,6 @@ nodes_left-requires c = record { count_in_bounds = ids_nodes c.requires.ids_fit 
 pub returns-in_err-left : goal.returns-in_err-left
 returns-in_err-left c = λ d. c.from_residual.ensures ∙ reading_over c.requires.ids_fit c.args.room c.requires.st_value c.in_err-left.ensures d
 
-pub overflow_sub-result : goal.overflow_sub-result
-overflow_sub-result c = (shrunk (all_left c.args.room) c.in_ok-left.left _ c.in_ok-left.ensures).0
-
-pub overflow_sub-result-2 : goal.overflow_sub-result-2
-overflow_sub-result-2 c = (shrunk (all_left c.args.room) c.in_ok-left.left _ c.in_ok-left.ensures).1
-
 pub returns : goal.returns
-returns c = reading_answer c.requires.ids_fit c.args.room c.requires.st_value c.requires.limited c.in_ok-left.ensures
+returns c = λ d.
+    ap Some c.taken.ensures ∙ reading_answer c.requires.ids_fit c.args.room c.requires.st_value c.requires.limited c.in_ok-left.ensures d
