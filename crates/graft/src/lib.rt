@@ -15,13 +15,14 @@ ghost use Rattle.model.specs.Graft.{graft_str};
 ghost use Rattle.records.specs.Values.{body_at};
 ghost use Rattle.strings.specs.Starts.{lengths_in};
 ghost use Rattle.strings.specs.Index.{Indexed};
+ghost use Rattle.strings.specs.PlainContent.{same_known};
 ghost use Rattle.interner.specs.State.{Good, state_of, has_room};
 ghost use Rattle.intern.specs.Told.{Told as InternTold};
 ghost use Rattle.ids.specs.Tests.{body_in, content_in, segment_in, contents_in, segments_in, used_well};
 ghost use Rattle.sizes.specs.InPlace.{inner_adds, body_adds, place_adds, used_adds, content_adds, contents_add, content_run_adds, segments_add, segment_run_adds};
 ghost use Rattle.graft.specs.Grafted.{layer_from};
 ghost use Rattle.graft.specs.Walk.{Ready, body_from, place_from, content_run_from, segment_run_from, field_from};
-ghost use Rattle.graft.specs.Named.{source_store, pair_words, Named, ShowsAs, same_known};
+ghost use Rattle.graft.specs.Named.{source_store, pair_words, Named, ShowsAs};
 ghost use Rattle.representatives.specs.Pairs.{Pairs};
 ghost use Rattle.graft.specs.Walk.{Source, index_words, string_from, shown_contents, shown_segments, StartTold, id_from, WordsTold, ContentsTold, SegmentsTold};
 ghost use Rattle.records.specs.Uses.{use_number};
@@ -99,7 +100,7 @@ fn intern_str(
 }
 
 // Is this the representative of the last answer's string?
-#[tactic(auto, unfolding(crate::specs::Named::same_known))]
+#[tactic(auto, unfolding(strings::specs::PlainContent::same_known))]
 fn is_answered(known: Option<u32>, answered: Option<u32>) -> bool
     ensures { result ≡ same_known known answered }
 {
