@@ -1,5 +1,5 @@
 -- The fields of a body, one after the other: strings, a field by its use, the field at a place, and the places so far.
-use Rattle.std.specs.Prelude.{◌≡◌, Option, Some, None, ℕ, zero, suc, ◌+◌, ◌≤◌, ◌<◌, true, false, length, replicate}
+use Rattle.std.specs.Prelude.{◌≡◌, Option, Some, None, ℕ, zero, suc, ◌+◌, ◌≤◌, ◌<◌, true, length, replicate}
 use Rattle.std.proofs.Math.Path.{refl, sym, ap, ap₂}
 use Rattle.std.proofs.Common.{◌∙◌, arith, true≢false}
 use Rattle.std.proofs.lemmas.Option.{none-some, same_Some}

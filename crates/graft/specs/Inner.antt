@@ -1,21 +1,18 @@
 -- A run at its place: what its items push is known from their sizes, and there is room for both.
-use Rattle.std.specs.Prelude.{◌≡◌, ℕ, ◌+◌, ◌*◌, ◌≤◌, ◌<◌, ◌^◌, true, List, length, drop, leb, Option, Some, IsSome}
+use Rattle.std.specs.Prelude.{◌≡◌, ℕ, ◌+◌, ◌*◌, ◌≤◌, ◌<◌, ◌^◌, true, List, length, drop, Some}
 use Rattle.std.proofs.Math.Path.{refl, sym, ap}
-use Rattle.std.proofs.Common.{◌∙◌, arith, le-leb}
+use Rattle.std.proofs.Common.{◌∙◌, arith}
 use Rattle.model.specs.Lists.{all}
 use Rattle.model.specs.Bytes.{word_at}
 use Rattle.model.specs.Store.{resolve_content_range, resolve_seg_range}
 use Rattle.model.specs.Tape.{records_at, content_codec, segment_codec}
 use Rattle.model.specs.Graft.{push_contents, push_segments}
-use Rattle.laws.specs.Lists.{join, all_take, all_drop}
+use Rattle.laws.specs.Lists.{all_take, all_drop}
 use Rattle.store.specs.Standing.{content_place, segment_place, content_range_lem, segment_range}
 use Rattle.store.specs.declared.Store.{Store}
 use Rattle.ids.specs.Tests.{content_in, segment_in, contents_in, segments_in}
 use Rattle.sizes.specs.Added.{Added, add, add_comm, new_contents, new_segments}
 use Rattle.sizes.specs.InPlace.{inner_adds, content_count, segment_count, contents_add, content_run_adds, segments_add, segment_run_adds, contents_inside, segments_inside}
-use Rattle.sizes.specs.Capped.{fits, plus, no_sizes, exact_sizes, capped_exact, plus_none}
-use Rattle.sizes.specs.declared.Room.{Room}
-use Rattle.sizes.specs.declared.Sizes.{Sizes}
 use Rattle.graft.specs.Grafted.{layer_from, Roomy}
 use Rattle.graft.specs.Runs.{with_contents, with_segments}
 use Rattle.graft.specs.Named.{source_store}
@@ -24,30 +21,6 @@ use Rattle.graft.specs.Rooms.{ready_left, roomy, content_run_adds_lem, segment_r
 use Rattle.graft.specs.Answers.{content_run_told, segment_run_told}
 use Rattle.graft.specs.declared.Plan.{Plan}
 use Rattle.graft.specs.declared.Mark.{Mark}
-
--- ---- sizes that are exact
-
-abbrev pub wide_room : Room
-wide_room = record { contents = 4294967295; segments = 4294967295 }
-
-fits_wide : (a : Added) → a.contents < 2 ^ 32 → a.segments < 2 ^ 32 → fits wide_room a ≡ true
-unfolding fits
-fits_wide a x y = join (leb a.contents 4294967295) (leb a.segments 4294967295) (le-leb a.contents 4294967295 (omega arith)) (le-leb a.segments 4294967295 (omega arith))
-
-module _ (a : Added) (x : a.contents < 2 ^ 32) (y : a.segments < 2 ^ 32) {r : Option Sizes} (e : r ≡ plus wide_room no_sizes a) where
-  exact : r ≡ Some (exact_sizes a)
-  exact = e ∙ plus_none wide_room a ∙ capped_exact wide_room a (fits_wide a x y)
-
-  pub inner_some : IsSome r
-  inner_some = rw exact refl
-
-  -- what the answer says
-  module _ {s : Sizes} (is : r ≡ Some s) where
-    pub contents_exact : s.contents ≡ a.contents
-    contents_exact = let q : Some s ≡ Some (exact_sizes a) = sym is ∙ exact in cc
-
-    pub segments_exact : s.segments ≡ a.segments
-    segments_exact = let q : Some s ≡ Some (exact_sizes a) = sym is ∙ exact in cc
 
 -- ---- a run of contents
 

@@ -12,7 +12,6 @@ use Rattle.wire.specs.Overwrite.{overwrite_nil}
 use Rattle.wire.specs.Loops.{by_bool}
 use Rattle.interner.specs.State.{has_room}
 use Rattle.store.specs.Standing.{length_records}
-use Rattle.store.specs.declared.Store.{Store}
 use Rattle.sizes.specs.Added.{Added, add, add_all, all_append}
 use Rattle.sizes.specs.Trees.{Grew}
 use Rattle.graft.specs.Rebased.{Steps, rebased, behind}

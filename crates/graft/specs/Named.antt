@@ -1,11 +1,12 @@
 -- The last answer's string by its representative (crate `representatives`): so that equal long strings are not compared again and again.
-use Rattle.std.specs.Prelude.{◌≡◌, refl, Option, Some, None, IfSome, ℕ, ◌+◌, ◌-◌, ◌≤◌, Bool, true, false, List, length, take, drop, eqb}
+use Rattle.std.specs.Prelude.{◌≡◌, refl, Option, Some, None, IfSome, ℕ, ◌+◌, ◌-◌, ◌≤◌, Bool, true, List, length, take, drop}
 use Rattle.std.proofs.Common.{sym, ap, ◌∙◌, arith, length-drop, drop-drop, take_all, eqb-true}
 use Rattle.std.proofs.lemmas.Bool.{false≢true}
 use Rattle.model.specs.Bytes.{word_at}
 use Rattle.model.specs.Store.{NodeStore, store_of, resolve_str}
 use Rattle.model.specs.Intern.{holds}
 use Rattle.model.specs.Tape.{places, layers_at}
+use Rattle.strings.specs.PlainContent.{same_known}
 use Rattle.representatives.specs.Pairs.{Pairs}
 use Rattle.interner.specs.State.{state_of}
 use Rattle.graft.specs.declared.Mark.{Mark}
@@ -33,12 +34,6 @@ pairs_lent work h = take_all (length work - 16384) (drop 16384 work) (rw length-
 pub shows_by : (t d work : List ℕ) → 16384 ≤ length work → Pairs (resolve_str (source_store t d)) (pair_words work) → {known : Option ℕ} (id : ℕ)
     → ((K : ℕ → List ℕ) → Pairs K (take (length work - 16384) (drop 16384 work)) → IfSome known (λ (r : ℕ). K r ≡ K id)) → ShowsAs t d known id
 shows_by t d work h q id f r e = rw e at (f (resolve_str (source_store t d)) (rw (pairs_lent work h) q))
-
--- are both known, and the same?
-unfoldable pub same_known : Option ℕ → Option ℕ → Bool
-same_known (Some r) (Some a) = eqb r a
-same_known (Some r) None = false
-same_known None a = false
 
 -- a string whose representative is that of the last answer's string is that string
 module _ (t d work strs : List ℕ) (m : Mark) where

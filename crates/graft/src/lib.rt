@@ -15,13 +15,14 @@ ghost use Rattle.model.specs.Graft.{graft_str};
 ghost use Rattle.records.specs.Values.{body_at};
 ghost use Rattle.strings.specs.Starts.{lengths_in};
 ghost use Rattle.strings.specs.Index.{Indexed};
+ghost use Rattle.strings.specs.PlainContent.{same_known};
 ghost use Rattle.interner.specs.State.{Good, state_of, has_room};
 ghost use Rattle.intern.specs.Told.{Told as InternTold};
 ghost use Rattle.ids.specs.Tests.{body_in, content_in, segment_in, contents_in, segments_in, used_well};
 ghost use Rattle.sizes.specs.InPlace.{inner_adds, body_adds, place_adds, used_adds, content_adds, contents_add, content_run_adds, segments_add, segment_run_adds};
 ghost use Rattle.graft.specs.Grafted.{layer_from};
 ghost use Rattle.graft.specs.Walk.{Ready, body_from, place_from, content_run_from, segment_run_from, field_from};
-ghost use Rattle.graft.specs.Named.{source_store, pair_words, Named, ShowsAs, same_known};
+ghost use Rattle.graft.specs.Named.{source_store, pair_words, Named, ShowsAs};
 ghost use Rattle.representatives.specs.Pairs.{Pairs};
 ghost use Rattle.graft.specs.Walk.{Source, index_words, string_from, shown_contents, shown_segments, StartTold, id_from, WordsTold, ContentsTold, SegmentsTold};
 ghost use Rattle.records.specs.Uses.{use_number};
@@ -31,20 +32,7 @@ use ids::NO_STRING;
 use interner::StrInterner;
 use places::Run;
 use records::{Body, Segment, Use};
-use sizes::{Room, Sizes};
 pub use source::Walk;
-
-// any number of items, and none yet
-const ANY: Room = Room {
-    contents: 4294967295,
-    segments: 4294967295,
-};
-
-const NONE: Sizes = Sizes {
-    contents: 0,
-    segments: 0,
-    calls: 0,
-};
 
 // The body of a segment that no level of the walk reaches.
 const NO_BODY: Body = Body {
@@ -112,7 +100,7 @@ fn intern_str(
 }
 
 // Is this the representative of the last answer's string?
-#[tactic(auto, unfolding(crate::specs::Named::same_known))]
+#[tactic(auto, unfolding(strings::specs::PlainContent::same_known))]
 fn is_answered(known: Option<u32>, answered: Option<u32>) -> bool
     ensures { result ≡ same_known known answered }
 {
@@ -180,38 +168,6 @@ fn with_words(mut words: [u32; 6], i: usize, f: sizes::FieldWords, v: u32) -> [u
         _ => {}
     }
     words
-}
-
-// ---- parts of the walk
-
-// How many contents the items of a run push.
-fn inner_contents(w: &Walk<'_>, run: Run, level: u8) -> u32
-    requires count_in_bounds { run.at + 10 * run.count ≤ length w.now.tape.now }
-    requires count_bound { ((contents_add (inner_adds level w.now.tape.now w.now.st.now) w.now.tape.now w.now.st.now run.at run.count).contents < 2 ^ 32) × ((contents_add (inner_adds level w.now.tape.now w.now.st.now) w.now.tape.now w.now.st.now run.at run.count).segments < 2 ^ 32) }
-    ensures { result ≡ (contents_add (inner_adds level w.now.tape.now w.now.st.now) w.now.tape.now w.now.st.now run.at run.count).contents }
-{
-    let all = sizes::Walk {
-        tape: w.tape,
-        st: w.st,
-        room: ANY,
-    };
-    let inner = sizes::contents_sizes(&all, NONE, run, level);
-    inner.unwrap().contents
-}
-
-// How many segments the items of a run push.
-fn inner_segments(w: &Walk<'_>, run: Run, level: u8) -> u32
-    requires count_in_bounds { run.at + 37 * run.count ≤ length w.now.tape.now }
-    requires count_bound { ((segments_add (inner_adds level w.now.tape.now w.now.st.now) w.now.tape.now run.at run.count).contents < 2 ^ 32) × ((segments_add (inner_adds level w.now.tape.now w.now.st.now) w.now.tape.now run.at run.count).segments < 2 ^ 32) }
-    ensures { result ≡ (segments_add (inner_adds level w.now.tape.now w.now.st.now) w.now.tape.now run.at run.count).segments }
-{
-    let all = sizes::Walk {
-        tape: w.tape,
-        st: w.st,
-        room: ANY,
-    };
-    let inner = sizes::segments_sizes(&all, NONE, run, level);
-    inner.unwrap().segments
 }
 
 // ---- the walk: nine functions that call each other, the level falling on each turn. Its three buffers are lent one by one: of a struct
@@ -312,7 +268,11 @@ fn graft_content_run(
         at: w.st.content_place(start),
         count: len as usize,
     };
-    let to = m.contents + inner_contents(w, run, level);
+    let below = sizes::Walk {
+        tape: w.tape,
+        st: w.st,
+    };
+    let to = m.contents + sizes::inner_contents(&below, run, level);
     graft_contents(w, out, work, strs, m, run, to, level)?;
     m.contents = to + len;
     Some(w.plan.contents + to)
@@ -396,7 +356,11 @@ fn graft_segment_run(
         at: w.st.segment_place(start),
         count: len as usize,
     };
-    let to = m.segments + inner_segments(w, run, level);
+    let below = sizes::Walk {
+        tape: w.tape,
+        st: w.st,
+    };
+    let to = m.segments + sizes::inner_segments(&below, run, level);
     graft_segments(w, out, work, strs, m, run, to, level)?;
     m.segments = to + len;
     Some(w.plan.segments + to)

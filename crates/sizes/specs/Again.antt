@@ -1,5 +1,5 @@
 -- Items that are alike, one behind the other: what the first adds, each of them adds.
-use Rattle.std.specs.Prelude.{◌≡◌, refl, ℕ, zero, suc, ◌+◌, ◌-◌, ◌*◌, ◌≤◌, ◌<◌, min, cond, ◌&&◌, List, leb, Some, None}
+use Rattle.std.specs.Prelude.{◌≡◌, refl, ℕ, zero, suc, ◌+◌, ◌-◌, ◌*◌, ◌≤◌, ◌<◌, cond, ◌&&◌, List, leb, Option, Some, None}
 use Rattle.std.proofs.Math.Path.{sym, ap}
 use Rattle.std.proofs.Common.{ap₂, ◌∙◌, arith}
 use Rattle.model.specs.Types.{Body}
@@ -7,55 +7,65 @@ use Rattle.model.specs.Tape.{record_at, content_codec}
 use Rattle.records.specs.Values.{body_at, segment_body}
 use Rattle.alike.specs.Alike.{Alike}
 use Rattle.store.specs.declared.Store.{Store}
-use Rattle.sizes.specs.Added.{Added, nothing, add, add_nothing, nothing_add, add_assoc}
-use Rattle.sizes.specs.Capped.{fits, exact_sizes, capped, added_of, plus, by_option, capped_some, plus_then, plus_stop, Kept, kept_plus, add_from, Adding}
+use Rattle.sizes.specs.Added.{Added, add, add_nothing, nothing_add, add_assoc}
+use Rattle.sizes.specs.Capped.{fits, fits_room_lem, room_of, less, less_some, less_nothing, less_then, less_stop, add_from, Adding, adding_more}
 use Rattle.sizes.specs.InPlace.{content_adds, content_from, segment_from}
-use Rattle.sizes.specs.declared.Room.{Room}
+use Rattle.sizes.specs.declared.Left.{Left}
 use Rattle.sizes.specs.declared.Sizes.{Sizes}
 
--- what lies between two sizes
-abbrev pub difference : Sizes → Sizes → Added
-difference t r = record { contents = r.contents - t.contents; segments = r.segments - t.segments; calls = r.calls - t.calls }
+-- what was taken off from t to r
+abbrev pub taken : Left → Left → Sizes
+taken t r = record { contents = t.contents - r.contents; segments = t.segments - r.segments; calls = t.calls - r.calls }
+
+abbrev pub added_of : Sizes → Added
+added_of s = record { contents = s.contents; segments = s.segments; calls = s.calls }
+
+abbrev pub difference : Left → Left → Added
+difference t r = added_of (taken t r)
 
 -- so much, k times
 abbrev pub times : Added → ℕ → Added
 times a k = add_from (λ (i : ℕ). a) k 0
 
-alike_capped : (m : Room) (p q : Added) → p.contents ≡ q.contents → p.segments ≡ q.segments → min p.calls 4294967295 ≡ min q.calls 4294967295 → capped m p ≡ capped m q
-unfolding capped fits
-alike_capped m p q x y z =
-    λ i. cond (leb (x i) m.contents && leb (y i) m.segments) (Some (record { contents = x i; segments = y i; calls = z i })) None
+-- an Option is None or Some, and what is shown in both cases holds
+by_option : {A X : Type 0} (o : Option A) → (o ≡ None → X) → ((x : A) → o ≡ Some x → X) → X
+by_option None n s = n refl
+by_option (Some x) n s = s x refl
 
--- ---- what one item added is what lies between
+alike_less : (t : Left) (p q : Added) → p.contents ≡ q.contents → p.segments ≡ q.segments → t.calls - p.calls ≡ t.calls - q.calls → less t p ≡ less t q
+unfolding less fits
+alike_less t p q x y z =
+    λ i. cond (leb (x i) t.contents && leb (y i) t.segments) (Some (record { contents = t.contents - x i; segments = t.segments - y i; calls = z i })) None
 
-module _ (m : Room) (t r : Sizes) (a : Added) (e : Some r ≡ plus m t a) where
-  is_exact : r ≡ exact_sizes (add (added_of t) a)
-  unfolding plus
-  is_exact = (capped_some m (add (added_of t) a) e).1
+-- ---- what one item took off is what lies between
 
-  pub exact_contents : r.contents ≡ t.contents + a.contents
-  unfolding add
-  exact_contents = ap (λ (s : Sizes). s.contents) is_exact
+module _ (t r : Left) (a : Added) (e : Some r ≡ less t a) where
+  abbrev there : (a.contents ≤ t.contents) × (a.segments ≤ t.segments)
+  there = fits_room_lem (room_of t) a (less_some t a e).0
 
-  pub exact_segments : r.segments ≡ t.segments + a.segments
-  unfolding add
-  exact_segments = ap (λ (s : Sizes). s.segments) is_exact
+  contents_left : r.contents ≡ t.contents - a.contents
+  contents_left = ap (λ (s : Left). s.contents) (less_some t a e).1
 
-  pub exact_calls : r.calls ≡ min (t.calls + a.calls) 4294967295
-  unfolding add
-  exact_calls = ap (λ (s : Sizes). s.calls) is_exact
+  segments_left : r.segments ≡ t.segments - a.segments
+  segments_left = ap (λ (s : Left). s.segments) (less_some t a e).1
 
-  pub grown : t.calls ≤ 4294967295 → (t.contents ≤ r.contents) × (t.segments ≤ r.segments) × (t.calls ≤ r.calls)
-  grown h = (omega (arith, exact_contents), omega (arith, exact_segments), omega (arith, exact_calls))
+  pub exact_contents : t.contents - r.contents ≡ a.contents
+  exact_contents = omega (arith, contents_left, there.0)
 
-  -- the same again, on whatever has come of it
-  pub again_plus : (v : Sizes) → r.calls ≤ v.calls → v.calls ≤ 4294967295 → plus m v (difference t r) ≡ plus m v a
-  unfolding plus add
-  again_plus v low high =
-      let x : v.contents + (r.contents - t.contents) ≡ v.contents + a.contents = omega (arith, exact_contents) in
-      let y : v.segments + (r.segments - t.segments) ≡ v.segments + a.segments = omega (arith, exact_segments) in
-      let z : min (v.calls + (r.calls - t.calls)) 4294967295 ≡ min (v.calls + a.calls) 4294967295 = omega (arith, exact_calls) in
-      alike_capped m (add (added_of v) (difference t r)) (add (added_of v) a) x y z
+  pub exact_segments : t.segments - r.segments ≡ a.segments
+  exact_segments = omega (arith, segments_left, there.1)
+
+  pub exact_calls : r.calls ≡ t.calls - a.calls
+  exact_calls = ap (λ (s : Left). s.calls) (less_some t a e).1
+
+  pub shrunk : (r.contents ≤ t.contents) × (r.segments ≤ t.segments) × (r.calls ≤ t.calls)
+  shrunk = (omega (arith, contents_left), omega (arith, segments_left), omega (arith, exact_calls))
+
+  -- the same again, of whatever is left
+  pub again_less : (v : Left) → v.calls ≤ r.calls → less v (difference t r) ≡ less v a
+  again_less v low =
+      let z : v.calls - (t.calls - r.calls) ≡ v.calls - a.calls = omega (arith, exact_calls, low) in
+      alike_less v (difference t r) a exact_contents exact_segments z
 
 -- ---- k times more
 
@@ -88,61 +98,56 @@ in_parts g (suc k) l s =
 
 -- ---- the loop goes on behind the items that are alike
 
-module _ {m : Room} {t : Sizes} {g : ℕ → Added} {n i : ℕ} {r : Sizes} (b : Adding m t g n (i + 1) r) (k : ℕ) (few : i + 1 + k ≤ n) (same : (j : ℕ) → j < k → g (i + 1 + j) ≡ g i) where
+module _ {t : Left} {a : Added} {g : ℕ → Added} {n i : ℕ} {u : Left} (b : Adding t a g n i u) (h : i < n) {r : Left} (e : Some r ≡ less u (g i))
+    {k : ℕ} (few : k ≤ n - i - 1) (same : (j : ℕ) → j < k → g (i + 1 + j) ≡ g i) where
   abbrev rest : Added
   rest = add_from g (n - (i + (1 + k))) (i + (1 + k))
 
-  again_left : plus m r (add (times (g i) k) rest) ≡ plus m t (add_from g n 0)
+  again_left : less r (add (times (g i) k) rest) ≡ less t a
   again_left =
       let x : i + (1 + k) ≡ i + 1 + k = omega arith in
-      let y : k + (n - (i + (1 + k))) ≡ n - (i + 1) = omega (arith, few) in
-      ap (plus m r) (ap₂ (λ (p q : Added). add p q) (times_same g (g i) k (i + 1) 0 same) (ap (add_from g (n - (i + (1 + k)))) x) ∙ sym (in_parts g k (n - (i + (1 + k))) (i + 1)))
-      ∙ ap (λ (w : ℕ). plus m r (add_from g w (i + 1))) y ∙ b.left
+      let y : k + (n - (i + (1 + k))) ≡ n - (i + 1) = omega (arith, few, h) in
+      ap (less r) (ap₂ (λ (p q : Added). add p q) (times_same g (g i) k (i + 1) 0 same) (ap (add_from g (n - (i + (1 + k)))) x) ∙ sym (in_parts g k (n - (i + (1 + k))) (i + 1)))
+      ∙ ap (λ (w : ℕ). less r (add_from g w (i + 1))) y ∙ (adding_more b h e).left
 
-  pub adding_again : {v : Sizes} → Some v ≡ plus m r (times (g i) k) → Adding m t g n (i + (1 + k)) v
-  adding_again f = record { kept = kept_plus r (times (g i) k) f; left = plus_then m r (times (g i) k) f rest ∙ again_left }
+  pub adding_again : {v : Left} → Some v ≡ less r (times (g i) k) → Adding t a g n (i + (1 + k)) v
+  adding_again f = record { left = less_then r (times (g i) k) f rest ∙ again_left }
 
-  pub again_over : None ≡ plus m r (times (g i) k) → None ≡ plus m t (add_from g n 0)
-  again_over f = plus_stop m r (times (g i) k) f rest ∙ again_left
+  pub again_over : None ≡ less r (times (g i) k) → None ≡ less t a
+  again_over f = less_stop r (times (g i) k) f rest ∙ again_left
 
 -- ---- `again`: so far j times
 
-pub kept_high : {m : Room} {t : Sizes} → Kept m t → t.calls ≤ 4294967295
-kept_high {m} {t} k = let e = exact_calls m t t nothing (sym k.is) in omega (arith, e)
-
-pub times_none : {m : Room} {r : Sizes} (d : Added) → Kept m r → Some r ≡ plus m r (times d 0)
+pub times_none : (r : Left) (d : Added) → Some r ≡ less r (times d 0)
 unfolding add_from
-times_none d h = sym h.is
+times_none r d = sym (less_nothing r)
 
-pub times_more : (m : Room) (r : Sizes) (d : Added) (j : ℕ) {u : Sizes} → Some u ≡ plus m r (times d j) → plus m u d ≡ plus m r (times d (j + 1))
-times_more m r d j e = plus_then m r (times d j) e d ∙ ap (plus m r) (sym (times_next d j 0))
+pub times_more : (r : Left) (d : Added) (j : ℕ) {u : Left} → Some u ≡ less r (times d j) → less u d ≡ less r (times d (j + 1))
+times_more r d j e = less_then r (times d j) e d ∙ ap (less r) (sym (times_next d j 0))
 
 -- where the next is over, so is the whole
-pub times_over : (m : Room) (r : Sizes) (d : Added) (j k : ℕ) {u : Sizes} → j < k → Some u ≡ plus m r (times d j) → None ≡ plus m u d → None ≡ plus m r (times d k)
-times_over m r d j k h e o =
+pub times_over : (r : Left) (d : Added) (j k : ℕ) {u : Left} → j < k → Some u ≡ less r (times d j) → None ≡ less u d → None ≡ less r (times d k)
+times_over r d j k h e o =
     let q : (j + 1) + (k - (j + 1)) ≡ k = omega arith in
-    plus_stop m r (times d (j + 1)) (o ∙ times_more m r d j e) (add_from (λ (i : ℕ). d) (k - (j + 1)) (0 + (j + 1)))
-    ∙ ap (plus m r) (sym (in_parts (λ (i : ℕ). d) (j + 1) (k - (j + 1)) 0)) ∙ ap (λ (i : ℕ). plus m r (times d i)) q
+    less_stop r (times d (j + 1)) (o ∙ times_more r d j e) (add_from (λ (i : ℕ). d) (k - (j + 1)) (0 + (j + 1)))
+    ∙ ap (less r) (sym (in_parts (λ (i : ℕ). d) (j + 1) (k - (j + 1)) 0)) ∙ ap (λ (i : ℕ). less r (times d i)) q
 
--- what lies between two sizes, k times, is what was added between them, k times
-pub times_agree : {m : Room} (t r : Sizes) (a : Added) → Some r ≡ plus m t a → Kept m r → (k : ℕ) → plus m r (times (difference t r) k) ≡ plus m r (times a k)
+-- what lies between, k times, is what was taken off there, k times
+pub times_agree : (t r : Left) (a : Added) → Some r ≡ less t a → (k : ℕ) → less r (times (difference t r) k) ≡ less r (times a k)
 unfolding add_from
-times_agree t r a e h zero = refl
-times_agree {m} t r a e h (suc k) =
+times_agree t r a e zero = refl
+times_agree t r a e (suc k) =
     let d = difference t r in
     let n : suc k ≡ k + 1 = omega arith in
-    let both = times_agree t r a e h k in
-    ap (λ (i : ℕ). plus m r (times d i)) n
-    ∙ by_option (plus m r (times d k))
+    let both = times_agree t r a e k in
+    ap (λ (i : ℕ). less r (times d i)) n
+    ∙ by_option (less r (times d k))
     (λ o.
-    sym (plus_stop m r (times d k) (sym o) d ∙ ap (plus m r) (sym (times_next d k 0)))
-    ∙ plus_stop m r (times a k) (sym o ∙ both) a ∙ ap (plus m r) (sym (times_next a k 0)))
+    sym (less_stop r (times d k) (sym o) d ∙ ap (less r) (sym (times_next d k 0)))
+    ∙ less_stop r (times a k) (sym o ∙ both) a ∙ ap (less r) (sym (times_next a k 0)))
     (λ u o.
-    let c = exact_calls m r u (times d k) (sym o) in
-    let high = kept_high h in
-    let tall = kept_high (kept_plus r (times d k) (sym o)) in
-    sym (times_more m r d k (sym o)) ∙ again_plus m t r a e u (omega (arith, c, high)) tall ∙ times_more m r a k (sym o ∙ both))
-    ∙ ap (λ (i : ℕ). plus m r (times a i)) (sym n)
+    sym (times_more r d k (sym o)) ∙ again_less t r a e u (shrunk r u (times d k) (sym o)).2 ∙ times_more r a k (sym o ∙ both))
+    ∙ ap (λ (i : ℕ). less r (times a i)) (sym n)
 
 -- ---- items of a run that are alike
 

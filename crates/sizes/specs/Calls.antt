@@ -1,5 +1,5 @@
 -- How often `intern` can be called: at most six times for a body, so that below number 3's limits no count of calls is cut.
-use Rattle.std.specs.Prelude.{◌≡◌, refl, Bool, true, false, cond, List, [], ◌∷◌, length, ltb, eqb, ℕ, zero, suc, ◌+◌, ◌*◌, ◌≤◌, min, Option, Some}
+use Rattle.std.specs.Prelude.{◌≡◌, refl, Bool, true, false, cond, List, [], ◌∷◌, length, ltb, eqb, ℕ, zero, suc, ◌+◌, ◌*◌, ◌-◌, ◌≤◌, Some, None}
 use Rattle.std.proofs.Common.{ap, ◌∙◌, arith}
 use Rattle.model.specs.Limits.{no_string, max_pool, max_list}
 use Rattle.model.specs.Types.{Body, Content, Segment, SourceNode}
@@ -14,12 +14,13 @@ use Rattle.ids.specs.Whole.{ids_in, IdsFit, ids_layers}
 use Rattle.store.specs.Stored.{OfTape}
 use Rattle.sizes.specs.Added.{Added, nothing, one_call, new_contents, new_segments, add, add_all}
 use Rattle.sizes.specs.Trees.{nodes_size}
-use Rattle.sizes.specs.Capped.{fits, capped, sizes_in, fits_room_lem, capped_exact, capped_over, add_from}
+use Rattle.sizes.specs.Capped.{sizes_in, fits_room_lem, less, less_some, less_none, add_from}
 use Rattle.sizes.specs.InPlace.{content_count, segment_count, segments_add, segment_run_adds, content_adds, contents_add, content_run_adds, fields_add, inner_adds, node_adds, nodes_add}
 use Rattle.sizes.specs.InPlace.{field_words, string_adds, used_adds, place_adds, body_places}
+use Rattle.sizes.specs.Again.{taken}
 use Rattle.sizes.specs.Shown.{shown_nodes_add}
 use Rattle.sizes.specs.declared.Room.{Room}
-use Rattle.sizes.specs.declared.Sizes.{Sizes}
+use Rattle.sizes.specs.declared.Left.{Left}
 use Rattle.sizes.specs.Words.{UsedWords}
 
 -- k calls, and six more for each item
@@ -120,15 +121,26 @@ pub record Limited (m : Room) (nodes : ℕ) : Type 0 where
   pub segments : m.segments ≤ max_pool
   pub few : nodes ≤ max_list
 
-not_cut : (m : Room) (k : ℕ) (a : Added) → Limited m k → Few (6 * k) a → capped m a ≡ sizes_in m a
-unfolding sizes_in
-not_cut m k a l f =
-    by_bool (fits m a)
-    (λ h.
-    let x = fits_room_lem m a h in
-    let z : min a.calls 4294967295 ≡ a.calls = omega (arith, x.0, x.1, l.contents, l.segments, l.few, f.calls) in
-    capped_exact m a h ∙ rw h (λ i. Some (record { contents = a.contents; segments = a.segments; calls = z i })))
-    (λ h. capped_over m a h ∙ rw h refl)
+-- all that may be added
+abbrev pub all_left : Room → Left
+all_left m = record { contents = m.contents; segments = m.segments; calls = 4294967295 }
+
+module _ (m : Room) (k : ℕ) (a : Added) where
+  none_in : None ≡ less (all_left m) a → None ≡ sizes_in m a
+  unfolding sizes_in
+  none_in e = rw (less_none (all_left m) a e) refl
+
+  -- the count of calls is not cut
+  some_in : Limited m k → Few (6 * k) a → {u : Left} → Some u ≡ less (all_left m) a → Some (taken (all_left m) u) ≡ sizes_in m a
+  unfolding sizes_in
+  some_in l f {u} e =
+      let w = less_some (all_left m) a e in
+      let h = fits_room_lem m a w.0 in
+      let few : a.calls ≤ 4294967295 = omega (arith, h.0, h.1, l.contents, l.segments, l.few, f.calls) in
+      let x : m.contents - u.contents ≡ a.contents = omega (arith, ap (λ (v : Left). v.contents) w.1, h.0) in
+      let y : m.segments - u.segments ≡ a.segments = omega (arith, ap (λ (v : Left). v.segments) w.1, h.1) in
+      let z : 4294967295 - u.calls ≡ a.calls = omega (arith, ap (λ (v : Left). v.calls) w.1, few) in
+      rw w.0 (λ i. Some (record { contents = x i; segments = y i; calls = z i }))
 
 -- ---- a whole tape
 
@@ -136,11 +148,20 @@ module _ {t : List ℕ} {st : Store} {p : Places} (f : IdsFit t st p) where
   pub reading_levels : OfTape t st
   reading_levels = record { stored = f.stored; few = f.few; inside = (ids_layers f).inside }
 
-  pub reading_answer : (m : Room) {r : Option Sizes} → ids_in t st ≡ true → Limited m p.nodes.count → r ≡ capped m (nodes_add t st p.nodes.at p.nodes.count)
-      → (d : List ℕ) → r ≡ sizes_in m (nodes_size (shown_nodes (book_at t (places t) d)))
+  -- what its nodes add
+  abbrev own : Added
+  own = nodes_add t st p.nodes.at p.nodes.count
+
+  shown_own : ids_in t st ≡ true → (d : List ℕ) → own ≡ nodes_size (shown_nodes (book_at t (places t) d))
   unfolding found
-  reading_answer m {r} h l e d =
+  shown_own h d =
       let at = ap (λ (x : Places). x.nodes.at) f.is in
       let count = ap (λ (x : Places). x.nodes.count) f.is in
-      e ∙ not_cut m p.nodes.count (nodes_add t st p.nodes.at p.nodes.count) l (nodes_few t st p.nodes.at p.nodes.count)
-      ∙ ap (sizes_in m) ((λ i. nodes_add t st (at i) (count i)) ∙ shown_nodes_add t st f.stored h d)
+      (λ i. nodes_add t st (at i) (count i)) ∙ shown_nodes_add t st f.stored h d
+
+  module _ (m : Room) (h : ids_in t st ≡ true) where
+    pub reading_over : None ≡ less (all_left m) own → (d : List ℕ) → None ≡ sizes_in m (nodes_size (shown_nodes (book_at t (places t) d)))
+    reading_over e d = none_in m p.nodes.count own e ∙ ap (sizes_in m) (shown_own h d)
+
+    pub reading_answer : Limited m p.nodes.count → {u : Left} → Some u ≡ less (all_left m) own → (d : List ℕ) → Some (taken (all_left m) u) ≡ sizes_in m (nodes_size (shown_nodes (book_at t (places t) d)))
+    reading_answer l e d = some_in m p.nodes.count own l (nodes_few t st p.nodes.at p.nodes.count) e ∙ ap (sizes_in m) (shown_own h d)

@@ -1,47 +1,37 @@
--- Sums that end at the room: how what is found in place adds up.
-use Rattle.std.specs.Prelude.{◌≡◌, refl, ℕ, zero, suc, ◌+◌, ◌-◌, ◌≤◌, ◌<◌, min, Bool, true, false, cond, ◌&&◌, leb, Option, Some, None}
+-- What is left of a room, where what is found in place is taken off it.
+use Rattle.std.specs.Prelude.{◌≡◌, refl, ℕ, zero, suc, ◌+◌, ◌-◌, ◌≤◌, ◌<◌, ◌^◌, Bool, true, false, cond, ◌&&◌, leb, Option, Some, None, IsSome}
 use Rattle.std.proofs.Math.Path.{sym, ap}
-use Rattle.std.proofs.Common.{ap₂, ◌∙◌, add-zero, true≢false, arith}
+use Rattle.std.proofs.Common.{ap₂, ◌∙◌, add-zero, arith}
 use Rattle.std.proofs.Math.Bool.{and-false}
 use borrow.Author.Tests.{le-leb, lt-leb, leb-true, leb-false}
 use Rattle.model.specs.Lists.{tabulate}
 use Rattle.laws.specs.Lists.{both}
 use Rattle.wire.specs.Loops.{by_bool}
-use Rattle.sizes.specs.Added.{Added, nothing, add, add_all, add_nothing, nothing_add, add_assoc, add_comm}
+use Rattle.sizes.specs.Added.{Added, nothing, add, add_all, add_nothing}
 use Rattle.sizes.specs.declared.Room.{Room}
+use Rattle.sizes.specs.declared.Left.{Left}
 use Rattle.sizes.specs.declared.Sizes.{Sizes}
 
 -- is there room for so much?
 unfoldable pub fits : Room → Added → Bool
 fits m a = leb a.contents m.contents && leb a.segments m.segments
 
-abbrev pub no_sizes : Sizes
-no_sizes = record { contents = 0; segments = 0; calls = 0 }
-
 -- Number 3. None exactly if there is not room for so much; else the numbers themselves.
 unfoldable pub sizes_in : Room → Added → Option Sizes
 sizes_in m a = cond (fits m a) (Some (record { contents = a.contents; segments = a.segments; calls = a.calls })) None
 
--- the same with a count of calls that stops
-abbrev pub exact_sizes : Added → Sizes
-exact_sizes a = record { contents = a.contents; segments = a.segments; calls = min a.calls 4294967295 }
+abbrev pub room_of : Left → Room
+room_of t = record { contents = t.contents; segments = t.segments }
 
-unfoldable pub capped : Room → Added → Option Sizes
-capped m a = cond (fits m a) (Some (exact_sizes a)) None
+-- what is left; a count of calls stops at 0
+abbrev pub remainder : Left → Added → Left
+remainder t a = record { contents = t.contents - a.contents; segments = t.segments - a.segments; calls = t.calls - a.calls }
 
-abbrev pub added_of : Sizes → Added
-added_of t = record { contents = t.contents; segments = t.segments; calls = t.calls }
+-- so much taken off
+unfoldable pub less : Left → Added → Option Left
+less t a = cond (fits (room_of t) a) (Some (remainder t a)) None
 
--- so much more
-unfoldable pub plus : Room → Sizes → Added → Option Sizes
-plus m t a = capped m (add (added_of t) a)
-
--- an Option is None or Some, and what is shown in both cases holds
-pub by_option : {A X : Type 0} (o : Option A) → (o ≡ None → X) → ((x : A) → o ≡ Some x → X) → X
-by_option None n s = n refl
-by_option (Some x) n s = s x refl
-
--- ---- sums
+-- ---- what is left
 
 pub fits_room_lem : (m : Room) (a : Added) → fits m a ≡ true → (a.contents ≤ m.contents) × (a.segments ≤ m.segments)
 unfolding fits
@@ -63,129 +53,134 @@ fits_add m a b h =
     (leb (a.contents + b.contents) m.contents) (leb (a.segments + b.segments) m.segments)
     (less_leb a.contents m.contents b.contents) (less_leb a.segments m.segments b.segments)
 
--- where there is room for a sum, there is room for its parts
-pub fits_left : (m : Room) (a b : Added) → fits m (add a b) ≡ true → fits m a ≡ true
-fits_left m a b h = by_bool (fits m a) (λ x. x) (λ x. absurd (true≢false (sym h ∙ fits_add m a b x)))
-
-pub fits_right : (m : Room) (a b : Added) → fits m (add a b) ≡ true → fits m b ≡ true
-fits_right m a b h = fits_left m b a (sym (ap (fits m) (add_comm a b)) ∙ h)
-
-pub capped_exact : (m : Room) (a : Added) → fits m a ≡ true → capped m a ≡ Some (exact_sizes a)
-unfolding capped
-capped_exact m a h = rw h refl
-
-pub capped_over : (m : Room) (a : Added) → fits m a ≡ false → capped m a ≡ None
-unfolding capped
-capped_over m a h = rw h refl
-
 -- what the answer says
-pub capped_some : (m : Room) (a : Added) {u : Sizes} → Some u ≡ capped m a → (fits m a ≡ true) × (u ≡ exact_sizes a)
-capped_some m a {u} e =
-    by_bool (fits m a)
-    (λ f. (f, let q : Some u ≡ Some (exact_sizes a) = e ∙ capped_exact m a f in cc))
-    (λ f. let q : Some u ≡ None = e ∙ capped_over m a f in cc)
+pub less_some : (t : Left) (a : Added) {u : Left} → Some u ≡ less t a → (fits (room_of t) a ≡ true) × (u ≡ remainder t a)
+unfolding less
+less_some t a {u} e =
+    by_bool (fits (room_of t) a)
+    (λ f. (f, let q : Some u ≡ Some (remainder t a) = rw f at e in cc))
+    (λ f. let q : Some u ≡ None = rw f at e in cc)
 
-pub capped_none : (m : Room) (a : Added) → None ≡ capped m a → fits m a ≡ false
-capped_none m a e =
-    by_bool (fits m a) (λ f. let q : None ≡ Some (exact_sizes a) = e ∙ capped_exact m a f in cc) (λ f. f)
+pub less_none : (t : Left) (a : Added) → None ≡ less t a → fits (room_of t) a ≡ false
+unfolding less
+less_none t a e =
+    by_bool (fits (room_of t) a) (λ f. let q : None ≡ Some (remainder t a) = rw f at e in cc) (λ f. f)
 
-exact_plus : (m : Room) (x b : Added) → plus m (exact_sizes x) b ≡ capped m (add x b)
-unfolding plus capped add fits
-exact_plus m x b =
-    let e : min (min x.calls 4294967295 + b.calls) 4294967295 ≡ min (x.calls + b.calls) 4294967295 = omega arith in
-    λ i. cond (leb (x.contents + b.contents) m.contents && leb (x.segments + b.segments) m.segments)
-    (Some (record { contents = x.contents + b.contents; segments = x.segments + b.segments; calls = e i })) None
+pub less_nothing : (t : Left) → less t nothing ≡ Some t
+unfolding less fits
+less_nothing t =
+    let x : t.contents - 0 ≡ t.contents = omega arith in
+    let y : t.segments - 0 ≡ t.segments = omega arith in
+    let z : t.calls - 0 ≡ t.calls = omega arith in
+    rw (le-leb 0 t.contents (omega arith), le-leb 0 t.segments (omega arith)) (λ i. Some (record { contents = x i; segments = y i; calls = z i }))
+
+leb_left : (a b n : ℕ) → a ≤ n → leb b (n - a) ≡ leb (a + b) n
+leb_left a b n h =
+    by_bool (leb (a + b) n)
+    (λ q. let l = leb-true (a + b) n q in le-leb b (n - a) (omega (arith, l, h)) ∙ sym q)
+    (λ q. let l = leb-false (a + b) n q in lt-leb b (n - a) (omega (arith, l, h)) ∙ sym q)
+
+fits_then : (t : Left) (a b : Added) → fits (room_of t) a ≡ true → fits (room_of (remainder t a)) b ≡ fits (room_of t) (add a b)
+unfolding fits add
+fits_then t a b h =
+    let l = fits_room_lem (room_of t) a h in
+    ap₂ (λ (x y : Bool). x && y) (leb_left a.contents b.contents t.contents l.0) (leb_left a.segments b.segments t.segments l.1)
 
 -- so much, and then so much more
-pub plus_then : (m : Room) (t : Sizes) (a : Added) {u : Sizes} → Some u ≡ plus m t a → (b : Added) → plus m u b ≡ plus m t (add a b)
-unfolding plus
-plus_then m t a {u} e b =
-    let w = capped_some m (add (added_of t) a) e in
-    ap (λ (x : Sizes). capped m (add (added_of x) b)) w.1 ∙ exact_plus m (add (added_of t) a) b ∙ ap (capped m) (add_assoc (added_of t) a b)
+pub less_then : (t : Left) (a : Added) {u : Left} → Some u ≡ less t a → (b : Added) → less u b ≡ less t (add a b)
+unfolding less add
+less_then t a {u} e b =
+    let w = less_some t a e in
+    let x : t.contents - a.contents - b.contents ≡ t.contents - (a.contents + b.contents) = omega arith in
+    let y : t.segments - a.segments - b.segments ≡ t.segments - (a.segments + b.segments) = omega arith in
+    let z : t.calls - a.calls - b.calls ≡ t.calls - (a.calls + b.calls) = omega arith in
+    ap (λ (v : Left). less v b) w.1 ∙ λ i. cond (fits_then t a b w.0 i) (Some (record { contents = x i; segments = y i; calls = z i })) None
 
 -- where there is no room for so much, there is none for more
-pub plus_stop : (m : Room) (t : Sizes) (a : Added) → None ≡ plus m t a → (b : Added) → None ≡ plus m t (add a b)
-unfolding plus
-plus_stop m t a e b =
-    sym (ap (capped m) (sym (add_assoc (added_of t) a b)) ∙ capped_over m (add (add (added_of t) a) b) (fits_add m (add (added_of t) a) b (capped_none m (add (added_of t) a) e)))
+pub less_stop : (t : Left) (a : Added) → None ≡ less t a → (b : Added) → None ≡ less t (add a b)
+unfolding less
+less_stop t a e b = rw (fits_add (room_of t) a b (less_none t a e)) refl
 
 -- ---- the code's answers
 
-module _ (m : Room) (t : Sizes) (a : Added) where
-  pub plus_contents : m.contents < t.contents + a.contents → None ≡ plus m t a
-  unfolding plus fits add
-  plus_contents l = sym (capped_over m (add (added_of t) a) (rw (lt-leb (t.contents + a.contents) m.contents l) refl))
+module _ (t : Left) (a : Added) where
+  pub less_contents : t.contents < a.contents → None ≡ less t a
+  unfolding less fits
+  less_contents l = rw (lt-leb a.contents t.contents l) refl
 
-  pub plus_segments : m.segments < t.segments + a.segments → None ≡ plus m t a
-  unfolding plus fits add
-  plus_segments l = sym (capped_over m (add (added_of t) a) (rw (lt-leb (t.segments + a.segments) m.segments l, and-false) refl))
+  pub less_segments : t.segments < a.segments → None ≡ less t a
+  unfolding less fits
+  less_segments l = rw (lt-leb a.segments t.segments l, and-false) refl
 
-  pub plus_exact : (x y z : ℕ) → x ≡ t.contents + a.contents → x ≤ m.contents → y ≡ t.segments + a.segments → y ≤ m.segments → z ≡ min (t.calls + a.calls) 4294967295
-      → ◌≡◌ {A = Option Sizes} (Some (record { contents = x; segments = y; calls = z })) (plus m t a)
-  unfolding plus fits add
-  plus_exact x y z e l f n g =
-      (λ i. Some (record { contents = e i; segments = f i; calls = g i }))
-      ∙ sym (capped_exact m (add (added_of t) a)
-      (rw (le-leb (t.contents + a.contents) m.contents (omega (arith, e, l)), le-leb (t.segments + a.segments) m.segments (omega (arith, f, n))) refl))
+  pub less_exact : (u : Left) → (a.contents ≤ t.contents) × (u.contents ≡ t.contents - a.contents) → (a.segments ≤ t.segments) × (u.segments ≡ t.segments - a.segments) → u.calls ≡ t.calls - a.calls
+      → Some u ≡ less t a
+  unfolding less fits
+  less_exact u x y z = rw (le-leb a.contents t.contents x.0, le-leb a.segments t.segments y.0) (λ i. Some (record { contents = x.1 i; segments = y.1 i; calls = z i }))
 
--- ---- sizes that there is room for
+-- ---- any number of items
 
-pub record Kept (m : Room) (t : Sizes) : Type 0 where
-  pub is : plus m t nothing ≡ Some t
+abbrev pub any_left : Left
+any_left = record { contents = 4294967295; segments = 4294967295; calls = 4294967295 }
 
-pub kept_plus : {m : Room} (t : Sizes) {r : Sizes} (a : Added) → Some r ≡ plus m t a → Kept m r
-kept_plus {m} t {r} a e = record { is = plus_then m t a e nothing ∙ ap (plus m t) (add_nothing a) ∙ sym e }
+module _ (a : Added) (x : a.contents < 2 ^ 32) (y : a.segments < 2 ^ 32) {r : Option Left} (e : r ≡ less any_left a) where
+  exact : r ≡ Some (remainder any_left a)
+  unfolding less fits
+  exact = e ∙ rw (le-leb a.contents 4294967295 (omega (arith, x)), le-leb a.segments 4294967295 (omega (arith, y))) refl
 
-pub kept_none : (m : Room) → Kept m no_sizes
-unfolding plus capped fits add
-kept_none m = record { is = rw (le-leb 0 m.contents (omega arith), le-leb 0 m.segments (omega arith)) refl }
+  pub inner_some : IsSome r
+  inner_some = rw exact refl
 
--- from none, the sum is what it says
-pub plus_none : (m : Room) (a : Added) → plus m no_sizes a ≡ capped m a
-unfolding plus
-plus_none m a = ap (capped m) (nothing_add a)
+  module _ {u : Left} (is : r ≡ Some u) where
+    left_is : u ≡ remainder any_left a
+    left_is = let q : Some u ≡ Some (remainder any_left a) = sym is ∙ exact in cc
+
+    pub inner_contents : 4294967295 - u.contents ≡ a.contents
+    inner_contents = omega (arith, ap (λ (v : Left). v.contents) left_is, x)
+
+    pub inner_segments : 4294967295 - u.segments ≡ a.segments
+    inner_segments = omega (arith, ap (λ (v : Left). v.segments) left_is, y)
 
 -- ---- a run: its own items, then what lies below them
 
-module _ (m : Room) (t : Sizes) (own inner : Added) where
-  pub run_over : None ≡ plus m t own → None ≡ plus m t (add own inner)
-  run_over e = plus_stop m t own e inner
+module _ (t : Left) (own inner : Added) where
+  pub run_over : None ≡ less t own → None ≡ less t (add own inner)
+  run_over e = less_stop t own e inner
 
-  module _ {u : Sizes} (e : Some u ≡ plus m t own) where
-    pub run_empty : inner ≡ nothing → Some u ≡ plus m t (add own inner)
-    run_empty z = e ∙ sym (ap (λ (x : Added). plus m t (add own x)) z ∙ ap (plus m t) (add_nothing own))
+  module _ {u : Left} (e : Some u ≡ less t own) where
+    pub run_empty : inner ≡ nothing → Some u ≡ less t (add own inner)
+    run_empty z = e ∙ sym (ap (λ (x : Added). less t (add own x)) z ∙ ap (less t) (add_nothing own))
 
-    pub run_then : {r : Option Sizes} → r ≡ plus m u inner → r ≡ plus m t (add own inner)
-    run_then q = q ∙ plus_then m t own e inner
+    pub run_then : {r : Option Left} → r ≡ less u inner → r ≡ less t (add own inner)
+    run_then q = q ∙ less_then t own e inner
 
--- ---- a loop that adds g 0, g 1, ..
+-- ---- a loop that takes off g 0, g 1, ..
 
 unfoldable pub add_from : (ℕ → Added) → ℕ → ℕ → Added
 add_from g zero i = nothing
 add_from g (suc n) i = add (g i) (add_from g n (i + 1))
 
-pub record Adding (m : Room) (t : Sizes) (g : ℕ → Added) (n i : ℕ) (u : Sizes) : Type 0 where
-  pub kept : Kept m u
-  pub left : plus m u (add_from g (n - i) i) ≡ plus m t (add_from g n 0)
+-- with u left, what is still to be taken off gives what a gives from t
+pub record Adding (t : Left) (a : Added) (g : ℕ → Added) (n i : ℕ) (u : Left) : Type 0 where
+  pub left : less u (add_from g (n - i) i) ≡ less t a
 
-pub adding_none : {m : Room} {t : Sizes} (g : ℕ → Added) (n : ℕ) → Kept m t → Adding m t g n 0 t
-adding_none {m} {t} g n k = let q : n - 0 ≡ n = omega arith in record { kept = k; left = rw q refl }
+pub adding_none : (t : Left) {a : Added} (g : ℕ → Added) (n : ℕ) → add_from g n 0 ≡ a → Adding t a g n 0 t
+adding_none t g n e = let q : n - 0 ≡ n = omega arith in record { left = ap (λ (k : ℕ). less t (add_from g k 0)) q ∙ ap (less t) e }
 
-module _ {m : Room} {t : Sizes} {g : ℕ → Added} {n i : ℕ} {u : Sizes} (a : Adding m t g n i u) where
+module _ {t : Left} {a : Added} {g : ℕ → Added} {n i : ℕ} {u : Left} (b : Adding t a g n i u) where
   module _ (h : i < n) where
-    next_left : plus m u (add (g i) (add_from g (n - (i + 1)) (i + 1))) ≡ plus m t (add_from g n 0)
+    next_left : less u (add (g i) (add_from g (n - (i + 1)) (i + 1))) ≡ less t a
     unfolding add_from
-    next_left = let q : n - i ≡ suc (n - (i + 1)) = omega arith in ap (λ (k : ℕ). plus m u (add_from g k i)) (sym q) ∙ a.left
+    next_left = let q : n - i ≡ suc (n - (i + 1)) = omega arith in ap (λ (k : ℕ). less u (add_from g k i)) (sym q) ∙ b.left
 
-    pub adding_more : {r : Sizes} → Some r ≡ plus m u (g i) → Adding m t g n (i + 1) r
-    adding_more e = record { kept = kept_plus u (g i) e; left = plus_then m u (g i) e (add_from g (n - (i + 1)) (i + 1)) ∙ next_left }
+    pub adding_more : {r : Left} → Some r ≡ less u (g i) → Adding t a g n (i + 1) r
+    adding_more e = record { left = less_then u (g i) e (add_from g (n - (i + 1)) (i + 1)) ∙ next_left }
 
-    pub adding_over : None ≡ plus m u (g i) → None ≡ plus m t (add_from g n 0)
-    adding_over e = plus_stop m u (g i) e (add_from g (n - (i + 1)) (i + 1)) ∙ next_left
+    pub adding_over : None ≡ less u (g i) → None ≡ less t a
+    adding_over e = less_stop u (g i) e (add_from g (n - (i + 1)) (i + 1)) ∙ next_left
 
-  pub adding_all : n ≤ i → Some u ≡ plus m t (add_from g n 0)
+  pub adding_all : n ≤ i → Some u ≡ less t a
   unfolding add_from
-  adding_all h = let q : n - i ≡ 0 = omega arith in sym a.kept.is ∙ ap (λ (k : ℕ). plus m u (add_from g k i)) (sym q) ∙ a.left
+  adding_all h = let q : n - i ≡ 0 = omega arith in sym (less_nothing u) ∙ ap (λ (k : ℕ). less u (add_from g k i)) (sym q) ∙ b.left
 
 -- what is added from a list that is tabulated
 pub added_tabulate : {A : Type 0} (f : A → Added) (n i : ℕ) (h : ℕ → A) → add_all f (tabulate n (λ (k : ℕ). h (i + k))) ≡ add_from (λ (k : ℕ). f (h k)) n i

@@ -1,10 +1,10 @@
 -- What the graft of a body, of a run of contents and of a run of segments adds, by the starts that a store remembers: what the
 -- code computes. A range that does not pass number 4 stands for no items, so that nothing here asks for number 4.
-use Rattle.std.specs.Prelude.{◌≡◌, Bool, true, false, cond, List, length, ltb, eqb, Option, Some}
+use Rattle.std.specs.Prelude.{◌≡◌, Bool, true, false, cond, List, length, ltb, eqb}
 use Rattle.std.proofs.Math.Path.{refl, ap, ap₂}
 use Rattle.std.proofs.Common.{sym, ◌∙◌, arith, zero-add}
 use Prim.Native.Nat.{ℕ, zero, suc, ◌+◌, ◌*◌, ◌≤◌, ◌<◌}
-use borrow.Author.Tests.{eq-eqb, ne_eqb, eqb-true, ltb-true, ltb-false}
+use borrow.Author.Tests.{eqb-true, ltb-true, ltb-false}
 use Rattle.model.specs.Lists.{tabulate}
 use Rattle.model.specs.Bytes.{byte_at}
 use Rattle.model.specs.Limits.{no_string}
@@ -23,9 +23,7 @@ use Rattle.levels.specs.Below.{range_within}
 use Rattle.sizes.specs.Added.{Added, nothing, one_call, add, add_all, add_nothing, all_append}
 use Rattle.sizes.specs.Trees.{run_of_contents, run_of_segments}
 use Rattle.sizes.specs.Order.{field_word, field_from, place_field, place_fields, fields_in_order}
-use Rattle.sizes.specs.Capped.{plus, Kept, add_from, added_tabulate}
-use Rattle.sizes.specs.declared.Room.{Room}
-use Rattle.sizes.specs.declared.Sizes.{Sizes}
+use Rattle.sizes.specs.Capped.{add_from, added_tabulate}
 use Rattle.sizes.specs.Words.{UsedWords}
 
 -- ---- definitions; `inner` is what the body of a segment adds
@@ -214,16 +212,3 @@ pub field_read : (t : List ℕ) (p j i u w next : ℕ) → i ≡ field_word (byt
     → ◌≡◌ {A = UsedWords} (record { usage = u; first = w; second = next }) (field_words (body_at t p) j)
 unfolding body_at
 field_read t p j i u w next e f g h = rw (f, g, h, e) refl
-
-module _ (m : Room) (t : Sizes) (k : Kept m t) (u w : ℕ) where
-  pub string_one : {r : Option Sizes} → u ≡ 1 → r ≡ plus m t one_call → r ≡ plus m t (string_adds u w)
-  unfolding string_adds
-  string_one e q = rw e q
-
-  pub string_missing : u ≡ 2 → w ≡ no_string → Some t ≡ plus m t (string_adds u w)
-  unfolding string_adds
-  string_missing e z = rw (e, eq-eqb w no_string z) (sym k.is)
-
-  pub string_optional : {r : Option Sizes} → u ≡ 2 → (w ≡ no_string → ⊥) → r ≡ plus m t one_call → r ≡ plus m t (string_adds u w)
-  unfolding string_adds
-  string_optional e z q = rw (e, ne_eqb w no_string z) q

@@ -1,8 +1,8 @@
 -- The memo of the walk: what each entry says of the segment at its place is what the body of that segment adds on that level.
-use Rattle.std.specs.Prelude.{◌≡◌, ℕ, suc, ◌+◌, ◌-◌, ◌≤◌, ◌<◌, min, true, cond, List, ltb, eqb, Option, Some}
+use Rattle.std.specs.Prelude.{◌≡◌, ℕ, suc, ◌+◌, ◌-◌, ◌≤◌, ◌<◌, true, cond, List, ltb, eqb, Option, Some}
 use Rattle.std.proofs.Math.Path.{refl, ap}
 use Rattle.std.proofs.Common.{sym, ◌∙◌, arith}
-use borrow.Author.Tests.{lt-ltb, le-ltb, eq-eqb, ne_eqb, eqb-false, ltb-true, ltb-false}
+use borrow.Author.Tests.{lt-ltb, le-ltb, eq-eqb, ne_eqb, eqb-false}
 use Rattle.model.specs.Bytes.{byte_at, zeros}
 use Rattle.model.specs.Types.{Body}
 use Rattle.model.specs.Tape.{record_at, segment_codec, fields_of, field_table}
@@ -11,11 +11,11 @@ use Rattle.records.specs.Values.{body_at, segment_body}
 use Rattle.store.specs.declared.Store.{Store}
 use Rattle.memo.specs.Memo.{Entry, entry_in, is_of, put_in, none_in, every_put, is_place, is_level}
 use Rattle.sizes.specs.Added.{Added, one_call, add_nothing, add_all, same_added}
-use Rattle.sizes.specs.Capped.{plus}
+use Rattle.sizes.specs.Capped.{less}
 use Rattle.sizes.specs.InPlace.{inner_adds, fields_add, field_adds}
 use Rattle.sizes.specs.Answers.{above_zero}
-use Rattle.sizes.specs.Again.{difference, exact_contents, exact_segments, exact_calls}
-use Rattle.sizes.specs.declared.Room.{Room}
+use Rattle.sizes.specs.Again.{taken, difference, exact_contents, exact_segments, exact_calls}
+use Rattle.sizes.specs.declared.Left.{Left}
 use Rattle.sizes.specs.declared.Sizes.{Sizes}
 
 -- what an entry says that its segment adds
@@ -29,11 +29,11 @@ pub record Says (t : List ℕ) (st : Store) (x : Entry) : Type 0 where
 pub record Known (t : List ℕ) (st : Store) (m : List ℕ) : Type 0 where
   pub says : (i : ℕ) → Says t st (entry_in m i)
 
--- what lies between two sizes put as entry e; not where the place is no word, or the calls may have been cut
-unfoldable pub note_in : List ℕ → ℕ → ℕ → ℕ → Sizes → Sizes → List ℕ
+-- what was taken off put as entry e; not where the place is no word, or the calls may have been cut
+unfoldable pub note_in : List ℕ → ℕ → ℕ → ℕ → Left → Left → List ℕ
 note_in m e at level before after =
     let a = difference before after in
-    cond (ltb 4294967295 at) m (cond (eqb after.calls 4294967295) m
+    cond (ltb 4294967295 at) m (cond (eqb after.calls 0) m
     (put_in m e (record { place = at; level = level; contents = a.contents; segments = a.segments; calls = a.calls })))
 
 pub known_none : (t : List ℕ) (st : Store) (n : ℕ) → Known t st (zeros n)
@@ -48,49 +48,42 @@ known_adds {t} {st} m k e at level h z =
 
 -- ---- a walk that ended is remembered
 
-not_cut : (a r : ℕ) → r ≡ min a 4294967295 → (r ≡ 4294967295 → ⊥) → r ≡ a
-not_cut a r e n =
-    by_bool (ltb a 4294967295)
-    (λ q. let l = ltb-true a 4294967295 q in omega (arith, e, l))
-    (λ q. let l = ltb-false a 4294967295 q in absurd (n (omega (arith, e, l))))
-
-module _ {t : List ℕ} {st : Store} (m : List ℕ) (k : Known t st m) (e at level : ℕ) (room : Room) (before after : Sizes)
-    (is : Some after ≡ plus room before (inner_adds level t st (record_at segment_codec t at).body)) where
+module _ {t : List ℕ} {st : Store} (m : List ℕ) (k : Known t st m) (e at level : ℕ) (before after : Left)
+    (is : Some after ≡ less before (inner_adds level t st (record_at segment_codec t at).body)) where
   abbrev own : Added
   own = inner_adds level t st (record_at segment_codec t at).body
 
-  between : (after.calls ≡ 4294967295 → ⊥) → difference before after ≡ own
+  between : (after.calls ≡ 0 → ⊥) → difference before after ≡ own
   between n =
-      let x = exact_contents room before after own is in
-      let y = exact_segments room before after own is in
-      let z = exact_calls room before after own is in
-      let full : after.calls ≡ before.calls + own.calls = not_cut (before.calls + own.calls) after.calls z n in
-      same_added (omega (arith, x)) (omega (arith, y)) (omega (arith, full))
+      let z = exact_calls before after own is in
+      let n' = above_zero after.calls n in
+      same_added (exact_contents before after own is) (exact_segments before after own is) (omega (arith, z, n'))
 
   pub known_note : Known t st (note_in m e at level before after)
   unfolding note_in
   known_note =
       by_bool (ltb 4294967295 at) (λ q. rw q k)
-      (λ q. rw q (by_bool (eqb after.calls 4294967295) (λ w. rw w k)
-      (λ w. rw w (record { says = every_put (Says t st) m e _ k.says (record { adds = λ z. between (eqb-false after.calls 4294967295 w) }) }))))
+      (λ q. rw q (by_bool (eqb after.calls 0) (λ w. rw w k)
+      (λ w. rw w (record { says = every_put (Says t st) m e _ k.says (record { adds = λ z. between (eqb-false after.calls 0 w) }) }))))
 
 -- ---- the code's answers
 
-module _ (m : List ℕ) (e at level : ℕ) (before after : Sizes) where
+module _ (m : List ℕ) (e at level : ℕ) (before after : Left) where
   pub note_far : 4294967295 < at → m ≡ note_in m e at level before after
   unfolding note_in
   note_far h = rw (lt-ltb 4294967295 at h) refl
 
   module _ (near : at ≤ 4294967295) where
-    pub note_cut : after.calls ≡ 4294967295 → m ≡ note_in m e at level before after
+    pub note_cut : after.calls ≡ 0 → m ≡ note_in m e at level before after
     unfolding note_in
-    note_cut z = rw (le-ltb 4294967295 at near, eq-eqb after.calls 4294967295 z) refl
+    note_cut z = rw (le-ltb 4294967295 at near, eq-eqb after.calls 0 z) refl
 
-    pub note_put : (after.calls ≡ 4294967295 → ⊥) → {l : List ℕ} (x : Entry)
-        → x ≡ record { place = at; level = level; contents = after.contents - before.contents; segments = after.segments - before.segments; calls = after.calls - before.calls }
-        → l ≡ put_in m e x → l ≡ note_in m e at level before after
+    pub note_put : (after.calls ≡ 0 → ⊥) → {l : List ℕ} (t : Sizes) → t ≡ taken before after
+        → l ≡ put_in m e (record { place = at; level = level; contents = t.contents; segments = t.segments; calls = t.calls }) → l ≡ note_in m e at level before after
     unfolding note_in
-    note_put z x f q = rw (le-ltb 4294967295 at near, ne_eqb after.calls 4294967295 z) (q ∙ ap (put_in m e) f)
+    note_put z t f q =
+        rw (le-ltb 4294967295 at near, ne_eqb after.calls 0 z)
+        (q ∙ ap (λ (s : Sizes). put_in m e (record { place = at; level = level; contents = s.contents; segments = s.segments; calls = s.calls })) f)
 
 -- ---- a text is one string
 
@@ -102,8 +95,8 @@ body_kind : (tp : List ℕ) (at : ℕ) → (record_at segment_codec tp at).body.
 unfolding body_at
 body_kind tp at = ap (λ (b : Body). b.kind) (sym (segment_body tp at))
 
-pub text_adds : (m : Room) (t : Sizes) (tp : List ℕ) (st : Store) (at level : ℕ) {r : Option Sizes} → (level ≡ 0 → ⊥) → byte_at tp (at + 3) ≡ 0 → r ≡ plus m t one_call
-    → r ≡ plus m t (inner_adds level tp st (record_at segment_codec tp at).body)
-text_adds m t tp st at level z k q =
+pub text_adds : (t : Left) (tp : List ℕ) (st : Store) (at level : ℕ) {r : Option Left} → (level ≡ 0 → ⊥) → byte_at tp (at + 3) ≡ 0 → r ≡ less t one_call
+    → r ≡ less t (inner_adds level tp st (record_at segment_codec tp at).body)
+text_adds t tp st at level z k q =
     let b = (record_at segment_codec tp at).body in
-    q ∙ ap (plus m t) (sym (ap (λ (l : ℕ). inner_adds l tp st b) (above_zero level z) ∙ text_body tp st (level - 1) b (body_kind tp at ∙ k)))
+    q ∙ ap (less t) (sym (ap (λ (l : ℕ). inner_adds l tp st b) (above_zero level z) ∙ text_body tp st (level - 1) b (body_kind tp at ∙ k)))

@@ -12,12 +12,11 @@ use Rattle.store.specs.Stored.{OfTape}
 use Rattle.store.specs.declared.Store.{Store}
 use Rattle.ids.specs.Tests.{segments_in}
 use Rattle.sizes.specs.Added.{Added, new_segments, add_all, add_nothing}
-use Rattle.sizes.specs.Capped.{plus}
+use Rattle.sizes.specs.Capped.{less}
 use Rattle.sizes.specs.InPlace.{segment_count, segments_add, segment_run_adds, segment_count_in, segments_inside}
 use Rattle.sizes.specs.Answers.{segments_over, segments_then}
 use Rattle.sizes.specs.OneLayer.{only_range, only_layer}
-use Rattle.sizes.specs.declared.Room.{Room}
-use Rattle.sizes.specs.declared.Sizes.{Sizes}
+use Rattle.sizes.specs.declared.Left.{Left}
 
 -- where segment i stands, in a store of one layer; 0 for any other store, and where there is no such segment
 unfoldable pub lone_place : Store → ℕ → ℕ
@@ -74,7 +73,7 @@ one_segment inner t at =
     let z : at + 37 * 0 ≡ at = omega arith in
     rw z (add_nothing (inner (record_at segment_codec t at).body))
 
-module _ (m : Room) (t : Sizes) (inner : Body → Added) (tp : List ℕ) (st : Store) (start len place : ℕ) (one : len ≡ 1) (e : place ≡ lone_place st start) (z : place ≡ 0 → ⊥) where
+module _ (t : Left) (inner : Body → Added) (tp : List ℕ) (st : Store) (start len place : ℕ) (one : len ≡ 1) (e : place ≡ lone_place st start) (z : place ≡ 0 → ⊥) where
   counted : 1 ≡ segment_count st start len
   counted = rw one (segment_count_in st start 1 (sym (found st start place e z).range) refl)
 
@@ -83,9 +82,9 @@ module _ (m : Room) (t : Sizes) (inner : Body → Added) (tp : List ℕ) (st : S
       let h = segments_inside tp st f start len 1 place (λ q. absurd (omega (arith, q))) counted (found st start place e z).place_is in
       omega (arith, h)
 
-  pub lone_over : None ≡ plus m t (new_segments 1) → None ≡ plus m t (segment_run_adds inner tp st start len)
-  lone_over q = segments_over m t inner tp st start len 1 counted q
+  pub lone_over : None ≡ less t (new_segments 1) → None ≡ less t (segment_run_adds inner tp st start len)
+  lone_over q = segments_over t inner tp st start len 1 counted q
 
-  pub lone_then : {u : Sizes} → Some u ≡ plus m t (new_segments 1) → {r : Option Sizes} → r ≡ plus m u (inner (record_at segment_codec tp place).body)
-      → r ≡ plus m t (segment_run_adds inner tp st start len)
-  lone_then {u} q a = segments_then m t inner tp st start len 1 counted q place (found st start place e z).place_is (a ∙ ap (plus m u) (sym (one_segment inner tp place)))
+  pub lone_then : {u : Left} → Some u ≡ less t (new_segments 1) → {r : Option Left} → r ≡ less u (inner (record_at segment_codec tp place).body)
+      → r ≡ less t (segment_run_adds inner tp st start len)
+  lone_then {u} q a = segments_then t inner tp st start len 1 counted q place (found st start place e z).place_is (a ∙ ap (less u) (sym (one_segment inner tp place)))

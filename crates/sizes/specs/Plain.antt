@@ -2,12 +2,12 @@
 use Rattle.std.specs.Prelude.{◌≡◌, ℕ, ◌+◌, ◌*◌, ◌≤◌, ◌<◌, Bool, true, false, ◌&&◌, List, [], ◌∷◌, length, get_or, leb, ltb, eqb, Option, Some, None}
 use Rattle.std.proofs.Math.Path.{refl}
 use Rattle.std.proofs.Common.{sym, ap, ap₂, ◌∙◌, arith}
-use borrow.Author.Tests.{le-leb, lt-leb, eq-eqb, ne_eqb, lt-ltb, le-ltb, leb-true, eqb-true, eqb-false}
+use borrow.Author.Tests.{le-leb, lt-leb, eq-eqb, ne_eqb, leb-true, eqb-true, eqb-false}
 use Rattle.model.specs.Lists.{all}
 use Rattle.model.specs.Bytes.{byte_at}
 use Rattle.model.specs.Types.{Body, Content}
 use Rattle.model.specs.WellFormed.{word_of}
-use Rattle.model.specs.Tape.{record_at, records_at, operands_at, content_codec, node_codec, fields_of, field_table, node_fields}
+use Rattle.model.specs.Tape.{record_at, records_at, content_codec, node_codec, fields_of, field_table, node_fields}
 use Rattle.laws.specs.Lists.{both}
 use Rattle.wire.specs.Loops.{by_bool}
 use Rattle.records.specs.Values.{body_at, node_body}
@@ -18,12 +18,11 @@ use Rattle.store.specs.Stored.{OfTape}
 use Rattle.store.specs.declared.Store.{Store}
 use Rattle.ids.specs.Tests.{contents_in}
 use Rattle.sizes.specs.Added.{Added, nothing, add, add_all, add_nothing, same_added}
-use Rattle.sizes.specs.Capped.{plus, plus_then, plus_stop}
+use Rattle.sizes.specs.Capped.{less, less_then, less_stop}
 use Rattle.sizes.specs.InPlace.{content_count, content_adds, contents_add, content_run_adds, fields_add, field_adds, inner_adds, node_adds, contents_inside, content_count_in}
 use Rattle.sizes.specs.Answers.{above_zero, node_class}
 use Rattle.sizes.specs.OneLayer.{only_range, only_layer}
-use Rattle.sizes.specs.declared.Room.{Room}
-use Rattle.sizes.specs.declared.Sizes.{Sizes}
+use Rattle.sizes.specs.declared.Left.{Left}
 
 -- ---- definitions
 
@@ -123,11 +122,11 @@ kind_at : (t : List ℕ) (p : ℕ) → (body_at t p).kind ≡ byte_at t p
 unfolding body_at
 kind_at t p = refl
 
-pub ruby_adds : (m : Room) (s : Sizes) (t : List ℕ) (st : Store) (p : Run) (w : Whole st p) (at : ℕ) {r : Option Sizes} → plain_ruby t p at ≡ true
-    → r ≡ plus m s (add (plain_adds (word_of (body_at t (at + 15)) 1)) (plain_adds (word_of (body_at t (at + 15)) 3)))
-    → r ≡ plus m s (node_adds t st (record_at node_codec t at))
+pub ruby_adds : (s : Left) (t : List ℕ) (st : Store) (p : Run) (w : Whole st p) (at : ℕ) {r : Option Left} → plain_ruby t p at ≡ true
+    → r ≡ less s (add (plain_adds (word_of (body_at t (at + 15)) 1)) (plain_adds (word_of (body_at t (at + 15)) 3)))
+    → r ≡ less s (node_adds t st (record_at node_codec t at))
 unfolding plain_ruby node_adds node_fields
-ruby_adds m s t st p w at h q =
+ruby_adds s t st p w at h q =
     let b = body_at t (at + 15) in
     let one = both (ltb (byte_at t (at + 1)) 2) _ h in
     let two = both (eqb (byte_at t (at + 15)) 1) _ one.1 in
@@ -136,20 +135,20 @@ ruby_adds m s t st p w at h q =
     let body : fields_add inner t st b (fields_of b) ≡ add (plain_adds (word_of b 1)) (plain_adds (word_of b 3)) =
     ruby_fields inner t st b (kind_at t (at + 15) ∙ eqb-true (byte_at t (at + 15)) 1 two.0)
     ∙ ap₂ (λ (x y : Added). add x y) (run_adds inner t st p w (word_of b 0) (word_of b 1) three.0) (run_adds inner t st p w (word_of b 2) (word_of b 3) three.1) in
-    q ∙ ap (plus m s) (sym body ∙ ap (λ (x : Body). fields_add inner t st x (fields_of x)) (node_body t at))
+    q ∙ ap (less s) (sym body ∙ ap (λ (x : Body). fields_add inner t st x (fields_of x)) (node_body t at))
     ∙ rw (← node_class t at, one.0) refl
 
 -- ---- the code's answers
 
-module _ (m : Room) (t : Sizes) (a b : ℕ) {x y : ℕ} (e : a ≡ x) (f : b ≡ y) where
+module _ (t : Left) (a b : ℕ) {x y : ℕ} (e : a ≡ x) (f : b ≡ y) where
   both_read : add (plain_adds a) (plain_adds b) ≡ add (plain_adds x) (plain_adds y)
   both_read = λ i. add (plain_adds (e i)) (plain_adds (f i))
 
-  pub ruby_over : None ≡ plus m t (plain_adds a) → None ≡ plus m t (add (plain_adds x) (plain_adds y))
-  ruby_over p = plus_stop m t (plain_adds a) p (plain_adds b) ∙ ap (plus m t) both_read
+  pub ruby_over : None ≡ less t (plain_adds a) → None ≡ less t (add (plain_adds x) (plain_adds y))
+  ruby_over p = less_stop t (plain_adds a) p (plain_adds b) ∙ ap (less t) both_read
 
-  pub ruby_read : {u : Sizes} → Some u ≡ plus m t (plain_adds a) → {r : Option Sizes} → r ≡ plus m u (plain_adds b) → r ≡ plus m t (add (plain_adds x) (plain_adds y))
-  ruby_read p q = q ∙ plus_then m t (plain_adds a) p (plain_adds b) ∙ ap (plus m t) both_read
+  pub ruby_read : {u : Left} → Some u ≡ less t (plain_adds a) → {r : Option Left} → r ≡ less u (plain_adds b) → r ≡ less t (add (plain_adds x) (plain_adds y))
+  ruby_read p q = q ∙ less_then t (plain_adds a) p (plain_adds b) ∙ ap (less t) both_read
 
 module _ (t : List ℕ) (p : Run) (start len : ℕ) where
   pub plain_over : p.count < start + len → false ≡ plain_run t p start len

@@ -1,15 +1,15 @@
 // Document 01 section 5: how many contents, segments and calls of `intern` grafting adds, read in place. One walk goes node →
-// content run → segment run → node, the segment level falling on each turn. A sum is None once it passes the room that
-// the caller has left under number 3; a run's length is added before the run is walked, and no walk goes on from None: a
-// tape of a few hundred bytes whose runs are shared can stand for 2^33 items. What the body of a segment adds is remembered in a memo, so
-// that a shared one is walked once. specs/Trees.antt says what the graft of a tree adds, specs/InPlace.antt what is read, specs/Capped.antt
-// how it is summed, specs/Known.antt what the memo says, and specs/Shown.antt that for the store of the tape it is what the graft of the
-// shown trees adds.
+// content run → segment run → node, the segment level falling on each turn. It carries what is left of the room that the
+// caller has under number 3, and takes what it finds off that: None where there is no room for it. A run's length is taken off before the
+// run is walked, and no walk goes on from None: a tape of a few hundred bytes whose runs are shared can stand for 2^33 items. What the body
+// of a segment adds is remembered in a memo, so that a shared one is walked once. specs/Trees.antt says what the graft of a tree adds,
+// specs/InPlace.antt what is read, specs/Capped.antt what is left, specs/Known.antt what the memo says, and specs/Shown.antt that for the
+// store of the tape it is what the graft of the shown trees adds.
 #![tactic(auto)]
 
 mod lent;
 
-ghost use Rattle.std.specs.Prelude.{◌≡◌, ℕ, ◌+◌, ◌*◌, ◌≤◌, ◌<◌, min, true, List, length, Option, Some};
+ghost use Rattle.std.specs.Prelude.{◌≡◌, ℕ, ◌+◌, ◌*◌, ◌≤◌, ◌<◌, ◌^◌, true, List, length, Option, Some};
 ghost use Rattle.model.specs.Lists.{all};
 ghost use Rattle.model.specs.WellFormed.{word_of};
 ghost use Rattle.model.specs.Tape.{record_at, records_at, content_codec, segment_codec, node_codec, places, book_at};
@@ -19,9 +19,9 @@ ghost use Rattle.memo.specs.Memo.{entry_in};
 ghost use Rattle.ids.specs.Whole.{IdsFit, ids_in};
 ghost use Rattle.sizes.specs.Trees.{nodes_size};
 ghost use Rattle.sizes.specs.Order.{field_word};
-ghost use Rattle.sizes.specs.Capped.{capped, sizes_in, plus, Kept};
+ghost use Rattle.sizes.specs.Capped.{sizes_in, less};
 ghost use Rattle.sizes.specs.Added.{Added, add};
-ghost use Rattle.sizes.specs.Again.{times};
+ghost use Rattle.sizes.specs.Again.{taken, times};
 ghost use Rattle.sizes.specs.Calls.{Limited};
 ghost use Rattle.sizes.specs.Known.{Known, added_in, note_in};
 ghost use Rattle.sizes.specs.Plain.{Whole, is_plain, plain_run, plain_ruby, plain_adds};
@@ -52,6 +52,23 @@ pub struct Sizes {
     pub calls: u32,
 }
 
+// How many contents and segments may still be added, and how many calls there are before their count stops.
+#[derive(Clone, Copy)]
+struct Left {
+    contents: u32,
+    segments: u32,
+    calls: u32,
+}
+
+const MOST: u32 = 4294967295;
+
+// any number of items
+const ANY: Left = Left {
+    contents: MOST,
+    segments: MOST,
+    calls: MOST,
+};
+
 // The use of a field, the word at which it begins, and the word behind that.
 #[derive(Clone, Copy)]
 pub struct FieldWords {
@@ -60,54 +77,59 @@ pub struct FieldWords {
     pub second: u32,
 }
 
-// So much more; None where there is no room for it.
-pub fn with_added(room: Room, t: Sizes, contents: u32, segments: u32, calls: u32) -> Option<Sizes>
-    ensures { result ≡ plus room t (record { contents = contents; segments = segments; calls = calls }) }
+// So much taken off; None where there is no room for it.
+fn less(left: Left, contents: u32, segments: u32, calls: u32) -> Option<Left>
+    ensures { result ≡ less left (record { contents = contents; segments = segments; calls = calls }) }
 {
-    let c = t.contents as usize + contents as usize;
-    let s = t.segments as usize + segments as usize;
-    if (room.contents as usize) < c {
-        return None;
-    }
-    if (room.segments as usize) < s {
-        return None;
-    }
-    Some(Sizes {
-        contents: c as u32,
-        segments: s as u32,
-        calls: t.calls.saturating_add(calls),
+    Some(Left {
+        contents: left.contents.checked_sub(contents)?,
+        segments: left.segments.checked_sub(segments)?,
+        calls: left.calls.saturating_sub(calls),
     })
 }
 
-// What was added from `before` to `after`, added k times more: so many items that are alike need not be walked one by one.
-fn again(room: Room, before: Sizes, after: Sizes, k: usize) -> Option<Sizes>
-    requires kept { Kept room after }
-    requires contents_le_contents { (before.contents ≤ after.contents) × (before.segments ≤ after.segments) × (before.calls ≤ after.calls) }
-    ensures { (a : Added) → Some after ≡ plus room before a → result ≡ plus room after (times a k) }
+// What was taken off from `before` to `after`.
+fn taken(before: Left, after: Left) -> Sizes
+    ensures { result ≡ taken before after }
 {
-    let contents = after.contents - before.contents;
-    let segments = after.segments - before.segments;
-    let calls = after.calls - before.calls;
+    Sizes {
+        contents: before.contents.saturating_sub(after.contents),
+        segments: before.segments.saturating_sub(after.segments),
+        calls: before.calls.saturating_sub(after.calls),
+    }
+}
+
+// The same taken off k times more: so many items that are alike need not be walked one by one.
+fn again(before: Left, after: Left, k: usize) -> Option<Left>
+    ensures { (a : Added) → Some after ≡ less before a → result ≡ less after (times a k) }
+{
+    let t = taken(before, after);
     let mut u = after;
     for _time in 0..k {
-        u = with_added(room, u, contents, segments, calls)?;
+        u = less(u, t.contents, t.segments, t.calls)?;
     }
     Some(u)
 }
 
 // How many contents a range names, and how many segments; none where it is no range.
-fn content_count(st: &Store, start: u32, len: u32) -> u32
-    requires { st.now.layers ≤ 32 }
-    ensures { result ≡ content_count st.now start len }
+fn content_count(w: &Walk<'_>, start: u32, len: u32) -> u32
+    ensures { result ≡ content_count w.now.st.now start len }
 {
-    if st.has_contents(start, len) { len } else { 0 }
+    if w.st.has_contents(start, len) {
+        len
+    } else {
+        0
+    }
 }
 
-fn segment_count(st: &Store, start: u32, len: u32) -> u32
-    requires { st.now.layers ≤ 32 }
-    ensures { result ≡ segment_count st.now start len }
+fn segment_count(w: &Walk<'_>, start: u32, len: u32) -> u32
+    ensures { result ≡ segment_count w.now.st.now start len }
 {
-    if st.has_segments(start, len) { len } else { 0 }
+    if w.st.has_segments(start, len) {
+        len
+    } else {
+        0
+    }
 }
 
 // Section 5. Fields go in the Rust's order: which of the six words comes at place j.
@@ -139,62 +161,55 @@ pub fn field_at(tape: &[u8], at: usize, j: usize) -> FieldWords
 }
 
 // A string is one call, a missing one none; so is a word at which no field begins.
-#[tactic(auto, using(std::proofs::lemmas::Bool::Decides::nat_tests), unfolding(crate::specs::InPlace::string_adds))]
-fn string_sizes(room: Room, t: Sizes, usage: Use, w: u32) -> Option<Sizes>
-    requires { Kept room t }
-    ensures { result ≡ plus room t (string_adds (use_number usage) w) }
+#[tactic(auto, using(std::proofs::lemmas::Bool::Decides::nat_tests, crate::specs::Capped::less_nothing), unfolding(crate::specs::InPlace::string_adds))]
+fn string_sizes(left: Left, usage: Use, w: u32) -> Option<Left>
+    ensures { result ≡ less left (string_adds (use_number usage) w) }
 {
     match usage {
-        Use::Str => with_added(room, t, 0, 0, 1),
+        Use::Str => less(left, 0, 0, 1),
         Use::OptStr => if w == NO_STRING {
-            Some(t)
+            Some(left)
         } else {
-            with_added(room, t, 0, 0, 1)
+            less(left, 0, 0, 1)
         },
-        _ => Some(t),
+        _ => Some(left),
     }
 }
 
 // What an entry of the memo says, added.
-fn with_entry(room: Room, t: Sizes, memo: &[u32], e: usize) -> Option<Sizes>
+fn with_entry(left: Left, memo: &[u32], e: usize) -> Option<Left>
     requires { 5 * e + 5 ≤ length memo.now }
-    ensures { result ≡ plus room t (added_in (entry_in memo.now e)) }
+    ensures { result ≡ less left (added_in (entry_in memo.now e)) }
 {
-    with_added(room, t, memo[5 * e + 2], memo[5 * e + 3], memo[5 * e + 4])
+    less(left, memo[5 * e + 2], memo[5 * e + 3], memo[5 * e + 4])
 }
 
 // What the segment at `at` has added on that level, remembered; not where the calls may have been cut.
-fn note(memo: &mut [u32], e: usize, at: usize, level: u8, before: Sizes, after: Sizes)
-    requires e_bound { e < 4096 }
-    requires contents_le_contents { (before.contents ≤ after.contents) × (before.segments ≤ after.segments) × (before.calls ≤ after.calls) }
+fn note(memo: &mut [u32], e: usize, at: usize, level: u8, before: Left, after: Left)
+    requires { e < 4096 }
     ensures { memo.new ≡ note_in memo.old e at level before after }
 {
     if 4294967295 < at {
         return;
     }
-    if after.calls == 4294967295 {
+    if after.calls == 0 {
         return;
     }
-    memo::put(
-        memo,
-        e,
-        at as u32,
-        level,
-        after.contents - before.contents,
-        after.segments - before.segments,
-        after.calls - before.calls,
-    );
+    let t = taken(before, after);
+    memo::put(memo, e, at as u32, level, t.contents, t.segments, t.calls);
 }
+
+// ---- the walk. It writes the memo, and lends it on at each call: a struct that held it would have each function promise that it is still the
+// same memo, as long as before, and so each asks and promises `Known`.
 
 // Section 5. What a body of that level adds: its fields in order.
 #[cycle(tree_sizes)]
-fn body_sizes(w: &Walk<'_>, memo: &mut [u32], t: Sizes, at: usize, level: u8) -> Option<Sizes>
+fn body_sizes(w: &Walk<'_>, memo: &mut [u32], left: Left, at: usize, level: u8) -> Option<Left>
     requires known { Known w.now.tape.now w.now.st.now memo.old }
-    requires kept { Kept w.now.room t }
     requires at_in_bounds { at + 34 ≤ length w.now.tape.now }
-    ensures { (result ≡ plus w.now.room t (body_adds level w.now.tape.now w.now.st.now (body_at w.now.tape.now at))) × Known w.now.tape.now w.now.st.now memo.new }
+    ensures { (result ≡ less left (body_adds level w.now.tape.now w.now.st.now (body_at w.now.tape.now at))) × Known w.now.tape.now w.now.st.now memo.new }
 {
-    let mut u = t;
+    let mut u = left;
     for j in 0..6 {
         let f = field_at(w.tape, at, j);
         u = field_sizes(w, memo, u, f, level)?;
@@ -204,15 +219,14 @@ fn body_sizes(w: &Walk<'_>, memo: &mut [u32], t: Sizes, at: usize, level: u8) ->
 
 #[cycle(tree_sizes)]
 #[tactic(auto, using(std::proofs::lemmas::Bool::Decides::nat_tests), unfolding(crate::specs::InPlace::used_adds))]
-fn field_sizes(w: &Walk<'_>, memo: &mut [u32], t: Sizes, f: FieldWords, level: u8) -> Option<Sizes>
+fn field_sizes(w: &Walk<'_>, memo: &mut [u32], left: Left, f: FieldWords, level: u8) -> Option<Left>
     requires known { Known w.now.tape.now w.now.st.now memo.old }
-    requires kept { Kept w.now.room t }
-    ensures { (result ≡ plus w.now.room t (used_adds (inner_adds level w.now.tape.now w.now.st.now) w.now.tape.now w.now.st.now (words_of f))) × Known w.now.tape.now w.now.st.now memo.new }
+    ensures { (result ≡ less left (used_adds (inner_adds level w.now.tape.now w.now.st.now) w.now.tape.now w.now.st.now (words_of f))) × Known w.now.tape.now w.now.st.now memo.new }
 {
     match f.usage {
-        Use::Contents => content_run_sizes(w, memo, t, f.first, f.second, level),
-        Use::Segments => segment_run_sizes(w, memo, t, f.first, f.second, level),
-        _ => string_sizes(w.room, t, f.usage, f.first),
+        Use::Contents => content_run_sizes(w, memo, left, f.first, f.second, level),
+        Use::Segments => segment_run_sizes(w, memo, left, f.first, f.second, level),
+        _ => string_sizes(left, f.usage, f.first),
     }
 }
 
@@ -222,17 +236,16 @@ fn field_sizes(w: &Walk<'_>, memo: &mut [u32], t: Sizes, f: FieldWords, level: u
 fn content_run_sizes(
     w: &Walk<'_>,
     memo: &mut [u32],
-    t: Sizes,
+    left: Left,
     start: u32,
     len: u32,
     level: u8,
-) -> Option<Sizes>
+) -> Option<Left>
     requires known { Known w.now.tape.now w.now.st.now memo.old }
-    requires kept { Kept w.now.room t }
-    ensures { (result ≡ plus w.now.room t (content_run_adds (inner_adds level w.now.tape.now w.now.st.now) w.now.tape.now w.now.st.now start len)) × Known w.now.tape.now w.now.st.now memo.new }
+    ensures { (result ≡ less left (content_run_adds (inner_adds level w.now.tape.now w.now.st.now) w.now.tape.now w.now.st.now start len)) × Known w.now.tape.now w.now.st.now memo.new }
 {
-    let n = content_count(w.st, start, len);
-    let u = with_added(w.room, t, n, 0, 0)?;
+    let n = content_count(w, start, len);
+    let u = less(left, n, 0, 0)?;
     if n == 0 {
         return Some(u);
     }
@@ -245,19 +258,18 @@ fn content_run_sizes(
 
 // Section 5. What is pushed before a run of contents.
 #[cycle(tree_sizes)]
-fn contents_walk(w: &Walk<'_>, memo: &mut [u32], t: Sizes, run: Run, level: u8) -> Option<Sizes>
+fn contents_walk(w: &Walk<'_>, memo: &mut [u32], left: Left, run: Run, level: u8) -> Option<Left>
     requires known { Known w.now.tape.now w.now.st.now memo.old }
-    requires kept { Kept w.now.room t }
     requires count_in_bounds { run.at + 10 * run.count ≤ length w.now.tape.now }
-    ensures { (result ≡ plus w.now.room t (contents_add (inner_adds level w.now.tape.now w.now.st.now) w.now.tape.now w.now.st.now run.at run.count)) × Known w.now.tape.now w.now.st.now memo.new }
+    ensures { (result ≡ less left (contents_add (inner_adds level w.now.tape.now w.now.st.now) w.now.tape.now w.now.st.now run.at run.count)) × Known w.now.tape.now w.now.st.now memo.new }
 {
-    let mut u = t;
+    let mut u = left;
     let mut i = 0;
     // Contents that are alike are passed at once: i rises by how many they are.
     while i < run.count {
         let next = content_sizes(w, memo, u, run.at + 10 * i, level)?;
         let k = alike::contents_alike(w.tape, run.at + 10 * i, run.count - i - 1);
-        u = again(w.room, u, next, k)?;
+        u = again(u, next, k)?;
         i += 1 + k;
     }
     Some(u)
@@ -281,24 +293,23 @@ fn lone_place(st: &Store, i: u32) -> usize
 
 // Section 5. Plain is a string, Segments a run; one of a single segment is that segment.
 #[cycle(tree_sizes)]
-fn content_sizes(w: &Walk<'_>, memo: &mut [u32], t: Sizes, at: usize, level: u8) -> Option<Sizes>
+fn content_sizes(w: &Walk<'_>, memo: &mut [u32], left: Left, at: usize, level: u8) -> Option<Left>
     requires known { Known w.now.tape.now w.now.st.now memo.old }
-    requires kept { Kept w.now.room t }
     requires at_in_bounds { at + 10 ≤ length w.now.tape.now }
-    ensures { (result ≡ plus w.now.room t (content_adds (inner_adds level w.now.tape.now w.now.st.now) w.now.tape.now w.now.st.now (record_at content_codec w.now.tape.now at))) × Known w.now.tape.now w.now.st.now memo.new }
+    ensures { (result ≡ less left (content_adds (inner_adds level w.now.tape.now w.now.st.now) w.now.tape.now w.now.st.now (record_at content_codec w.now.tape.now at))) × Known w.now.tape.now w.now.st.now memo.new }
 {
     let c = records::content_at(w.tape, at);
     if c.is_plain() {
-        return with_added(w.room, t, 0, 0, 1);
+        return less(left, 0, 0, 1);
     }
     if c.second != 1 {
-        return segment_run_sizes(w, memo, t, c.first, c.second, level);
+        return segment_run_sizes(w, memo, left, c.first, c.second, level);
     }
     let place = lone_place(w.st, c.first);
     if place == 0 {
-        return segment_run_sizes(w, memo, t, c.first, c.second, level);
+        return segment_run_sizes(w, memo, left, c.first, c.second, level);
     }
-    let u = with_added(w.room, t, 0, 1, 0)?;
+    let u = less(left, 0, 1, 0)?;
     segment_sizes(w, memo, u, place, level)
 }
 
@@ -307,17 +318,16 @@ fn content_sizes(w: &Walk<'_>, memo: &mut [u32], t: Sizes, at: usize, level: u8)
 fn segment_run_sizes(
     w: &Walk<'_>,
     memo: &mut [u32],
-    t: Sizes,
+    left: Left,
     start: u32,
     len: u32,
     level: u8,
-) -> Option<Sizes>
+) -> Option<Left>
     requires known { Known w.now.tape.now w.now.st.now memo.old }
-    requires kept { Kept w.now.room t }
-    ensures { (result ≡ plus w.now.room t (segment_run_adds (inner_adds level w.now.tape.now w.now.st.now) w.now.tape.now w.now.st.now start len)) × Known w.now.tape.now w.now.st.now memo.new }
+    ensures { (result ≡ less left (segment_run_adds (inner_adds level w.now.tape.now w.now.st.now) w.now.tape.now w.now.st.now start len)) × Known w.now.tape.now w.now.st.now memo.new }
 {
-    let n = segment_count(w.st, start, len);
-    let u = with_added(w.room, t, 0, n, 0)?;
+    let n = segment_count(w, start, len);
+    let u = less(left, 0, n, 0)?;
     if n == 0 {
         return Some(u);
     }
@@ -330,19 +340,18 @@ fn segment_run_sizes(
 
 // Section 5. What is pushed before a run of segments.
 #[cycle(tree_sizes)]
-fn segments_walk(w: &Walk<'_>, memo: &mut [u32], t: Sizes, run: Run, level: u8) -> Option<Sizes>
+fn segments_walk(w: &Walk<'_>, memo: &mut [u32], left: Left, run: Run, level: u8) -> Option<Left>
     requires known { Known w.now.tape.now w.now.st.now memo.old }
-    requires kept { Kept w.now.room t }
     requires count_in_bounds { run.at + 37 * run.count ≤ length w.now.tape.now }
-    ensures { (result ≡ plus w.now.room t (segments_add (inner_adds level w.now.tape.now w.now.st.now) w.now.tape.now run.at run.count)) × Known w.now.tape.now w.now.st.now memo.new }
+    ensures { (result ≡ less left (segments_add (inner_adds level w.now.tape.now w.now.st.now) w.now.tape.now run.at run.count)) × Known w.now.tape.now w.now.st.now memo.new }
 {
-    let mut u = t;
+    let mut u = left;
     let mut i = 0;
     // As for contents, i rises by how many are alike.
     while i < run.count {
         let next = segment_sizes(w, memo, u, run.at + 37 * i, level)?;
         let k = alike::segments_alike(w.tape, run.at + 37 * i, run.count - i - 1);
-        u = again(w.room, u, next, k)?;
+        u = again(u, next, k)?;
         i += 1 + k;
     }
     Some(u)
@@ -350,23 +359,22 @@ fn segments_walk(w: &Walk<'_>, memo: &mut [u32], t: Sizes, run: Run, level: u8) 
 
 // The body of a segment is of the level below; below level 0 there is none. A text is one call; what is in the memo is not walked again.
 #[cycle(tree_sizes)]
-fn segment_sizes(w: &Walk<'_>, memo: &mut [u32], t: Sizes, at: usize, level: u8) -> Option<Sizes>
+fn segment_sizes(w: &Walk<'_>, memo: &mut [u32], left: Left, at: usize, level: u8) -> Option<Left>
     requires known { Known w.now.tape.now w.now.st.now memo.old }
-    requires kept { Kept w.now.room t }
     requires at_in_bounds { at + 37 ≤ length w.now.tape.now }
-    ensures { (result ≡ plus w.now.room t (inner_adds level w.now.tape.now w.now.st.now (record_at segment_codec w.now.tape.now at).body)) × Known w.now.tape.now w.now.st.now memo.new }
+    ensures { (result ≡ less left (inner_adds level w.now.tape.now w.now.st.now (record_at segment_codec w.now.tape.now at).body)) × Known w.now.tape.now w.now.st.now memo.new }
 {
     if level == 0 {
-        return Some(t);
+        return Some(left);
     }
     if w.tape[at + 3] == TEXT {
-        return with_added(w.room, t, 0, 0, 1);
+        return less(left, 0, 0, 1);
     }
     let e = memo::entry_of(at, level);
     if memo::is_of(memo, e, at, level) {
-        return with_entry(w.room, t, memo, e);
+        return with_entry(left, memo, e);
     }
-    segment_walk(w, memo, t, at, level, e)
+    segment_walk(w, memo, left, at, level, e)
 }
 
 // The same by a walk, which is put into the memo as entry e.
@@ -374,59 +382,60 @@ fn segment_sizes(w: &Walk<'_>, memo: &mut [u32], t: Sizes, at: usize, level: u8)
 fn segment_walk(
     w: &Walk<'_>,
     memo: &mut [u32],
-    t: Sizes,
+    left: Left,
     at: usize,
     level: u8,
     e: usize,
-) -> Option<Sizes>
+) -> Option<Left>
     requires known { Known w.now.tape.now w.now.st.now memo.old }
-    requires kept { Kept w.now.room t }
     requires at_in_bounds { (at + 37 ≤ length w.now.tape.now) × (1 ≤ level) × (e < 4096) }
-    ensures { (result ≡ plus w.now.room t (inner_adds level w.now.tape.now w.now.st.now (record_at segment_codec w.now.tape.now at).body)) × Known w.now.tape.now w.now.st.now memo.new }
+    ensures { (result ≡ less left (inner_adds level w.now.tape.now w.now.st.now (record_at segment_codec w.now.tape.now at).body)) × Known w.now.tape.now w.now.st.now memo.new }
 {
-    let r = body_sizes(w, memo, t, at + 3, level - 1)?;
-    note(memo, e, at, level, t, r);
+    let r = body_sizes(w, memo, left, at + 3, level - 1)?;
+    note(memo, e, at, level, left, r);
     Some(r)
 }
 
-// The two walks for a caller that has no memo.
-pub fn contents_sizes(w: &Walk<'_>, t: Sizes, run: Run, level: u8) -> Option<Sizes>
-    requires kept { Kept w.now.room t }
+// How many contents the items of a run push, and how many segments: for a caller that knows that they can be counted. Each kind has a walk of
+// its own in the cycle above, and so its own function here.
+pub fn inner_contents(w: &Walk<'_>, run: Run, level: u8) -> u32
     requires count_in_bounds { run.at + 10 * run.count ≤ length w.now.tape.now }
-    ensures { result ≡ plus w.now.room t (contents_add (inner_adds level w.now.tape.now w.now.st.now) w.now.tape.now w.now.st.now run.at run.count) }
+    requires count_bound { ((contents_add (inner_adds level w.now.tape.now w.now.st.now) w.now.tape.now w.now.st.now run.at run.count).contents < 2 ^ 32) × ((contents_add (inner_adds level w.now.tape.now w.now.st.now) w.now.tape.now w.now.st.now run.at run.count).segments < 2 ^ 32) }
+    ensures { result ≡ (contents_add (inner_adds level w.now.tape.now w.now.st.now) w.now.tape.now w.now.st.now run.at run.count).contents }
 {
     let mut memo = [0u32; 1];
-    contents_walk(w, &mut memo[..], t, run, level)
+    let left = contents_walk(w, &mut memo[..], ANY, run, level).unwrap();
+    MOST - left.contents
 }
 
-pub fn segments_sizes(w: &Walk<'_>, t: Sizes, run: Run, level: u8) -> Option<Sizes>
-    requires kept { Kept w.now.room t }
+pub fn inner_segments(w: &Walk<'_>, run: Run, level: u8) -> u32
     requires count_in_bounds { run.at + 37 * run.count ≤ length w.now.tape.now }
-    ensures { result ≡ plus w.now.room t (segments_add (inner_adds level w.now.tape.now w.now.st.now) w.now.tape.now run.at run.count) }
+    requires count_bound { ((segments_add (inner_adds level w.now.tape.now w.now.st.now) w.now.tape.now run.at run.count).contents < 2 ^ 32) × ((segments_add (inner_adds level w.now.tape.now w.now.st.now) w.now.tape.now run.at run.count).segments < 2 ^ 32) }
+    ensures { result ≡ (segments_add (inner_adds level w.now.tape.now w.now.st.now) w.now.tape.now run.at run.count).segments }
 {
     let mut memo = [0u32; 1];
-    segments_walk(w, &mut memo[..], t, run, level)
+    let left = segments_walk(w, &mut memo[..], ANY, run, level).unwrap();
+    MOST - left.segments
 }
 
 // ---- Rubies of plain contents, by far the commonest nodes, without the walk
 
 // Where the contents of a store of one layer stand; of none, for any other.
-fn only_contents(st: &Store) -> Run
-    requires { st.now.layers ≤ 32 }
-    ensures { Whole st.now result }
+fn only_contents(w: &Walk<'_>) -> Run
+    ensures { Whole w.now.st.now result }
 {
-    if st.layers != 1 {
+    if w.st.layers != 1 {
         return Run { at: 0, count: 0 };
     }
-    if st.contents[0] != 0 {
+    if w.st.contents[0] != 0 {
         return Run { at: 0, count: 0 };
     }
-    if st.totals.contents == 0 {
+    if w.st.totals.contents == 0 {
         return Run { at: 0, count: 0 };
     }
     Run {
-        at: st.content_place(0),
-        count: st.totals.contents as usize,
+        at: w.st.content_place(0),
+        count: w.st.totals.contents as usize,
     }
 }
 
@@ -483,44 +492,40 @@ fn plain_ruby(tape: &[u8], own: Run, at: usize) -> bool
 }
 
 // Each content of such a Ruby is one call.
-fn ruby_sizes(tape: &[u8], room: Room, t: Sizes, at: usize) -> Option<Sizes>
+fn ruby_sizes(tape: &[u8], left: Left, at: usize) -> Option<Left>
     requires { at + 49 ≤ length tape.now }
-    ensures { result ≡ plus room t (add (plain_adds (word_of (body_at tape.now (at + 15)) 1)) (plain_adds (word_of (body_at tape.now (at + 15)) 3))) }
+    ensures { result ≡ less left (add (plain_adds (word_of (body_at tape.now (at + 15)) 1)) (plain_adds (word_of (body_at tape.now (at + 15)) 3))) }
 {
     let base = records::body_word(tape, at + 15, 1);
     let reading = records::body_word(tape, at + 15, 3);
-    let u = with_added(room, t, base, 0, base)?;
-    with_added(room, u, reading, 0, reading)
+    let u = less(left, base, 0, base)?;
+    less(u, reading, 0, reading)
 }
 
 // Section 5. A node of class 2 or 3 has no words; the levels in the runs of another are at most 32.
-fn node_sizes(w: &Walk<'_>, own: Run, memo: &mut [u32], t: Sizes, at: usize) -> Option<Sizes>
+fn node_sizes(w: &Walk<'_>, own: Run, memo: &mut [u32], left: Left, at: usize) -> Option<Left>
     requires known { Known w.now.tape.now w.now.st.now memo.old × Whole w.now.st.now own × (own.at + 10 * own.count ≤ length w.now.tape.now) }
-    requires kept { Kept w.now.room t }
     requires at_in_bounds { at + 49 ≤ length w.now.tape.now }
-    ensures { (result ≡ plus w.now.room t (node_adds w.now.tape.now w.now.st.now (record_at node_codec w.now.tape.now at))) × Known w.now.tape.now w.now.st.now memo.new }
+    ensures { (result ≡ less left (node_adds w.now.tape.now w.now.st.now (record_at node_codec w.now.tape.now at))) × Known w.now.tape.now w.now.st.now memo.new }
 {
     if plain_ruby(w.tape, own, at) {
-        return ruby_sizes(w.tape, w.room, t, at);
+        return ruby_sizes(w.tape, left, at);
     }
     if !records::has_words(w.tape, at) {
-        return Some(t);
+        return Some(left);
     }
-    body_sizes(w, memo, t, at + 15, 33)
+    body_sizes(w, memo, left, at + 15, 33)
 }
 
-// Section 5. The nodes that stand from `at` on.
-fn nodes_sizes(w: &Walk<'_>, memo: &mut [u32], run: Run) -> Option<Sizes>
+// Section 5. The nodes that stand from `at` on. Which nodes is an argument here and in the two functions below, and so is asked of each; a walk
+// is lent as a whole, and knows of none.
+fn nodes_sizes(w: &Walk<'_>, memo: &mut [u32], left: Left, run: Run) -> Option<Left>
     requires known { Known w.now.tape.now w.now.st.now memo.old }
     requires count_in_bounds { run.at + 49 * run.count ≤ length w.now.tape.now }
-    ensures { result ≡ capped w.now.room (nodes_add w.now.tape.now w.now.st.now run.at run.count) }
+    ensures { result ≡ less left (nodes_add w.now.tape.now w.now.st.now run.at run.count) }
 {
-    let own = only_contents(w.st);
-    let mut u = Sizes {
-        contents: 0,
-        segments: 0,
-        calls: 0,
-    };
+    let own = only_contents(w);
+    let mut u = left;
     for i in 0..run.count {
         u = node_sizes(w, own, memo, u, run.at + 49 * i)?;
     }
@@ -528,21 +533,24 @@ fn nodes_sizes(w: &Walk<'_>, memo: &mut [u32], run: Run) -> Option<Sizes>
 }
 
 // The same with a memo of our own.
-fn nodes_noted(w: &Walk<'_>, run: Run) -> Option<Sizes>
+fn nodes_noted(w: &Walk<'_>, left: Left, run: Run) -> Option<Left>
     requires count_in_bounds { run.at + 49 * run.count ≤ length w.now.tape.now }
-    ensures { result ≡ capped w.now.room (nodes_add w.now.tape.now w.now.st.now run.at run.count) }
+    ensures { result ≡ less left (nodes_add w.now.tape.now w.now.st.now run.at run.count) }
 {
     let mut memo = [0u32; 20480];
-    nodes_sizes(w, &mut memo[..], run)
+    nodes_sizes(w, &mut memo[..], left, run)
 }
 
 // Without segments there is nothing to remember, and no memo to clear.
-fn nodes_bare(w: &Walk<'_>, run: Run) -> Option<Sizes>
+fn nodes_left(w: &Walk<'_>, left: Left, run: Run) -> Option<Left>
     requires count_in_bounds { run.at + 49 * run.count ≤ length w.now.tape.now }
-    ensures { result ≡ capped w.now.room (nodes_add w.now.tape.now w.now.st.now run.at run.count) }
+    ensures { result ≡ less left (nodes_add w.now.tape.now w.now.st.now run.at run.count) }
 {
+    if 0 < w.st.totals.segments {
+        return nodes_noted(w, left, run);
+    }
     let mut memo = [0u32; 1];
-    nodes_sizes(w, &mut memo[..], run)
+    nodes_sizes(w, &mut memo[..], left, run)
 }
 
 // Section 5. What the nodes of a tape with these places and this store add, whatever the bytes of its texts are.
@@ -552,13 +560,12 @@ pub fn reading_sizes(tape: &[u8], st: Store, p: places::Places, room: Room) -> O
     requires limited { Limited room p.nodes.count }
     ensures { (d : List ℕ) → result ≡ sizes_in room (nodes_size (shown_nodes (book_at tape.now (places tape.now) d))) }
 {
-    let w = Walk {
-        tape,
-        st: &st,
-        room,
+    let w = Walk { tape, st: &st };
+    let all = Left {
+        contents: room.contents,
+        segments: room.segments,
+        calls: MOST,
     };
-    if st.totals.segments == 0 {
-        return nodes_bare(&w, p.nodes);
-    }
-    nodes_noted(&w, p.nodes)
+    let left = nodes_left(&w, all, p.nodes)?;
+    Some(taken(all, left))
 }

@@ -1,8 +1,5 @@
-use Rattle.std.proofs.Common.{sym, ap, ◌∙◌, subst, List, ℕ, arith}
-use Rattle.model.specs.Intern.{intern}
-use Rattle.interner.specs.State.{state_of}
+use Rattle.std.proofs.Common.{arith}
 use Rattle.interner.specs.Lookups.{last_there}
-use Rattle.intern.specs.Told.{Told}
 use Rattle.graft.specs.Strings.{source_tape, part_inside, part_shows}
 use Rattle.graft.proofs.intern_str.Goals as goal
 

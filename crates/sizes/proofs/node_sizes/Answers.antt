@@ -5,12 +5,12 @@ use Rattle.sizes.proofs.node_sizes.Goals as goal
 
 pub returns-then-plain_ruby : goal.returns-then-plain_ruby
 returns-then-plain_ruby c =
-    (ruby_adds c.args.w.now.room c.args.t c.args.w.now.tape.now c.args.w.now.st.now c.args.own c.requires.known.1 c.args.at (sym c.plain_ruby.ensures ∙ c.if-plain_ruby.true) c.ruby_sizes.ensures, c.requires.known.0)
+    (ruby_adds _ _ _ _ c.requires.known.1 _ (sym c.plain_ruby.ensures ∙ c.if-plain_ruby.true) c.ruby_sizes.ensures, c.requires.known.0)
 
 pub returns-then-not-has_words : goal.returns-then-not-has_words
 returns-then-not-has_words c =
-    (node_bare c.args.w.now.room c.args.t c.args.w.now.tape.now c.args.w.now.st.now c.args.at c.requires.kept (sym c.has_words.ensures ∙ c.if-not-has_words.true), c.requires.known.0)
+    (node_bare _ _ _ _ (sym c.has_words.ensures ∙ c.if-not-has_words.true), c.requires.known.0)
 
 pub returns : goal.returns
 returns c =
-    (node_body_read c.args.w.now.room c.args.t c.args.w.now.tape.now c.args.w.now.st.now c.args.at (sym c.has_words.ensures ∙ c.if-not-has_words.false) c.body_sizes.ensures.0, c.body_sizes.ensures.1)
+    (node_body_read _ _ _ _ (sym c.has_words.ensures ∙ c.if-not-has_words.false) c.body_sizes.ensures.0, c.body_sizes.ensures.1)

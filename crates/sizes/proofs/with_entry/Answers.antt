@@ -4,4 +4,4 @@ use Rattle.sizes.proofs.with_entry.Goals as goal
 pub returns : goal.returns
 unfolding entry_in
 returns c =
-    c.with_added.ensures
+    c.less.ensures

@@ -1,5 +1,5 @@
 use Rattle.sizes.specs.Known.{known_none}
-use Rattle.sizes.proofs.nodes_bare.Goals as goal
+use Rattle.sizes.proofs.nodes_left.Goals as goal
 
 pub nodes_sizes-requires : goal.nodes_sizes-requires
 nodes_sizes-requires c =

@@ -1,6 +1,0 @@
-use Rattle.sizes.specs.Known.{known_none}
-use Rattle.sizes.proofs.segments_sizes.Goals as goal
-
-pub segments_walk-requires : goal.segments_walk-requires
-segments_walk-requires c =
-    record { known = known_none c.args.w.now.tape.now c.args.w.now.st.now 1; kept = c.requires.kept; count_in_bounds = c.requires.count_in_bounds }
