@@ -22,9 +22,6 @@ use Rattle.fitting.specs.Books.{Books, book_in}
 use Rattle.fitting.specs.declared.Target.{Target}
 use Rattle.fitting.specs.declared.Fitting.{Fitting}
 
-abbrev pub region_of : ℕ → ℕ → Span
-region_of start end = record { start = start; end = end }
-
 -- ---- what a stage is given
 
 -- the old book passed 1 to 7, and the edit 8 to 11

@@ -58,18 +58,18 @@ pub struct Lengths {
 }
 
 pub fn new_lengths(m: &Merging) -> Lengths
-    requires end_le_text { (m.now.edit.end ≤ m.now.book.places.text) × (m.now.window.nend ≤ m.now.book.places.normalized) × (m.now.edit.start + length m.now.edit.replacement.now + (m.now.book.places.text - m.now.edit.end) ≤ 16777215) }
+    requires end_le_text { (m.now.edit.end ≤ m.now.book.places.text) × (m.now.window.normalized.end ≤ m.now.book.places.normalized) × (m.now.edit.start + length m.now.edit.replacement.now + (m.now.book.places.text - m.now.edit.end) ≤ 16777215) }
     requires normalized_bound { m.now.book.places.text + m.now.book.places.normalized ≤ length m.now.book.bytes.now }
-    ensures { result ≡ lengths_of m.now.book.places m.now.reading.places m.now.edit.start m.now.edit.end (length m.now.edit.replacement.now) m.now.window.nstart m.now.window.nend (length m.now.book.bytes.now) }
+    ensures { result ≡ lengths_of m.now.book.places m.now.reading.places m.now.edit.start m.now.edit.end (length m.now.edit.replacement.now) m.now.window.normalized.start m.now.window.normalized.end (length m.now.book.bytes.now) }
 {
     let p = m.book.places;
     let q = m.reading.places;
     let edit = m.edit;
     let w = m.window;
     let text = edit.start as usize + edit.replacement.len() + (p.text as usize - edit.end as usize);
-    let normalized = w.nstart as usize
+    let normalized = w.normalized.start as usize
         + q.normalized as usize
-        + (p.normalized as usize - w.nend as usize);
+        + (p.normalized as usize - w.normalized.end as usize);
     let strings = m.book.bytes.len() - (p.text as usize + p.normalized as usize);
     Lengths {
         text,
@@ -290,11 +290,11 @@ pub fn output_of(
     bytes: usize,
 ) -> output::IncrementalOutput
     requires { Few s reread }
-    ensures { result ≡ output_by w.start w.end (s.before + s.behind) reread stats tape bytes }
+    ensures { result ≡ output_by w.source.start w.source.end (s.before + s.behind) reread stats tape bytes }
 {
     output::IncrementalOutput {
-        start: w.start,
-        end: w.end,
+        start: w.source.start,
+        end: w.source.end,
         reused: (s.before + s.behind) as u32,
         reread: reread as u32,
         stats,

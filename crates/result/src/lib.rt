@@ -28,10 +28,10 @@ use stats::InternStats;
 
 // Both new texts and the old strings, by the places of both books and the window.
 fn put_new_texts(out: &mut [u8], m: &Merging)
-    requires start_le_end { (m.now.edit.start ≤ m.now.edit.end) × (m.now.edit.end ≤ m.now.book.places.text) × (m.now.window.nstart ≤ m.now.window.nend) × (m.now.window.nend ≤ m.now.book.places.normalized) }
+    requires start_le_end { (m.now.edit.start ≤ m.now.edit.end) × (m.now.edit.end ≤ m.now.book.places.text) × (m.now.window.normalized.start ≤ m.now.window.normalized.end) × (m.now.window.normalized.end ≤ m.now.book.places.normalized) }
     requires normalized_in_bounds { (m.now.book.places.text + m.now.book.places.normalized ≤ length m.now.book.bytes.now) × (m.now.reading.places.text + m.now.reading.places.normalized ≤ length m.now.reading.bytes.now) }
-    requires bytes_in_bounds { (lengths_of m.now.book.places m.now.reading.places m.now.edit.start m.now.edit.end (length m.now.edit.replacement.now) m.now.window.nstart m.now.window.nend (length m.now.book.bytes.now)).base ≤ length out.old }
-    ensures { out.new ≡ overwrite out.old 0 (texts_of m.now.book.places m.now.reading.places m.now.edit.start m.now.edit.end m.now.edit.replacement.now m.now.window.nstart m.now.window.nend m.now.book.bytes.now m.now.reading.bytes.now) }
+    requires bytes_in_bounds { (lengths_of m.now.book.places m.now.reading.places m.now.edit.start m.now.edit.end (length m.now.edit.replacement.now) m.now.window.normalized.start m.now.window.normalized.end (length m.now.book.bytes.now)).base ≤ length out.old }
+    ensures { out.new ≡ overwrite out.old 0 (texts_of m.now.book.places m.now.reading.places m.now.edit.start m.now.edit.end m.now.edit.replacement.now m.now.window.normalized.start m.now.window.normalized.end m.now.book.bytes.now m.now.reading.bytes.now) }
 {
     let bytes = m.book.bytes;
     let text = m.book.places.text as usize;
@@ -45,8 +45,8 @@ fn put_new_texts(out: &mut [u8], m: &Merging)
     };
     let new_normalized = Spliced {
         whole: &bytes[text..first],
-        start: m.window.nstart as usize,
-        end: m.window.nend as usize,
+        start: m.window.normalized.start as usize,
+        end: m.window.normalized.end as usize,
         part: &m.reading.bytes[from..from + m.reading.places.normalized as usize],
     };
     merged_texts::put_texts(out, &new_text, &new_normalized, &bytes[first..bytes.len()]);
@@ -119,7 +119,7 @@ fn put_store(
     work: &mut [u32],
 ) -> Option<Graft>
     requires books { Books m.now.book.tape.now m.now.book.bytes.now m.now.book.places m.now.book.store.now (edit_of m.now.edit.start m.now.edit.end m.now.edit.replacement.now) (window_value m.now.window) m.now.reading.tape.now m.now.reading.bytes.now m.now.reading.places m.now.reading.store.now }
-    requires l_value { l ≡ lengths_of m.now.book.places m.now.reading.places m.now.edit.start m.now.edit.end (length m.now.edit.replacement.now) m.now.window.nstart m.now.window.nend (length m.now.book.bytes.now) }
+    requires l_value { l ≡ lengths_of m.now.book.places m.now.reading.places m.now.edit.start m.now.edit.end (length m.now.edit.replacement.now) m.now.window.normalized.start m.now.window.normalized.end (length m.now.book.bytes.now) }
     requires min_work_words_in_bounds { (min_work_words ≤ length work.old) × (l.normalized ≤ max_text) × (l.base ≤ length out_bytes.old) × (m.now.book.places.nodes.at ≤ length out_tape.old) }
     ensures { StoreTold (book_in m.now.book.tape.now m.now.book.bytes.now) (edit_of m.now.edit.start m.now.edit.end m.now.edit.replacement.now) (book_in m.now.reading.tape.now m.now.reading.bytes.now) (window_value m.now.window) out_tape.old out_bytes.old out_tape.new out_bytes.new m.now.book.places.nodes.at l.base (offsets_of m.now.book.store.now.totals) result }
 {

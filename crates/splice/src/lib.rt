@@ -12,37 +12,15 @@ ghost use Rattle.splice.specs.Parts.{Kind, span_in, is_in, as_in, part_of};
 ghost use Rattle.splice.specs.Window.{window_value, source_in, normalized_in};
 ghost use Rattle.splice.specs.Counted.{row_in};
 
-use span::Span;
+use span::{Amount, Span};
 
 // The region in both texts, and how far what lies behind it moves in each: `MergeWindow`.
 #[derive(Clone, Copy)]
 pub struct Window {
-    pub start: u32,
-    pub end: u32,
-    pub nstart: u32,
-    pub nend: u32,
-    pub by: span::Amount,
-    pub nby: span::Amount,
-}
-
-impl Window {
-    fn source(self) -> Span
-        ensures { (result.start ≡ self.start) × (result.end ≡ self.end) }
-    {
-        Span {
-            start: self.start,
-            end: self.end,
-        }
-    }
-
-    fn normalized(self) -> Span
-        ensures { (result.start ≡ self.nstart) × (result.end ≡ self.nend) }
-    {
-        Span {
-            start: self.nstart,
-            end: self.nend,
-        }
-    }
+    pub source: Span,
+    pub normalized: Span,
+    pub source_delta: Amount,
+    pub normalized_delta: Amount,
 }
 
 // The parts of a merged list: the old one up to the region, the reading's, the old rest.
@@ -100,13 +78,13 @@ pub fn source_in(v: u32, w: Window, part: Part) -> u32
 {
     match part {
         Part::Before => v,
-        Part::Reading => span::shift_clamp(v, span::Amount::Forward(w.start as u64)),
-        Part::Behind => span::shift_clamp(v, w.by),
+        Part::Reading => span::shift_clamp(v, Amount::Forward(w.source.start as u64)),
+        Part::Behind => span::shift_clamp(v, w.source_delta),
     }
 }
 
 // `shift_u32`, and 0 where it has no answer.
-fn moved_offset(o: u32, by: span::Amount) -> u32
+fn moved_offset(o: u32, by: Amount) -> u32
     ensures { result ≡ moved_offset o (value_of by) }
 {
     span::shift_by(o, by).unwrap_or(0)
@@ -120,8 +98,8 @@ pub fn normalized_in(v: u32, w: Window, part: Part) -> u32
     match part {
         Part::Before => v,
         // A sum's low 32 bits where it passes a word: a record's bytes hold no more of it.
-        Part::Reading => v.wrapping_add(w.nstart),
-        Part::Behind => moved_offset(v, w.nby),
+        Part::Reading => v.wrapping_add(w.normalized.start),
+        Part::Behind => moved_offset(v, w.normalized_delta),
     }
 }
 
@@ -137,7 +115,7 @@ pub fn pair_in(tape: &[u8], at: usize, w: Window, part: Part) -> bool
     requires { at + 18 ≤ length tape.now }
     ensures { result ≡ is_in pair_located (window_value w) part (record_at pair_codec tape.now at) }
 {
-    row_in(tape, at, PAIR, w.source(), part)
+    row_in(tape, at, PAIR, w.source, part)
 }
 
 // ---- containers, `merge_container_pairs`: in the normalized text; one ends behind its close
@@ -152,7 +130,7 @@ pub fn container_in(tape: &[u8], at: usize, w: Window, part: Part) -> bool
     requires { at + 13 ≤ length tape.now }
     ensures { result ≡ is_in container_located (window_value w) part (record_at container_codec tape.now at) }
 {
-    row_in(tape, at, CONTAINER, w.normalized(), part)
+    row_in(tape, at, CONTAINER, w.normalized, part)
 }
 
 // ---- diagnostics, `merge_diagnostics`
@@ -167,7 +145,7 @@ pub fn diagnostic_in(tape: &[u8], at: usize, w: Window, part: Part) -> bool
     requires { at + 18 ≤ length tape.now }
     ensures { result ≡ is_in diagnostic_located (window_value w) part (record_at diagnostic_codec tape.now at) }
 {
-    row_in(tape, at, DIAGNOSTIC, w.source(), part)
+    row_in(tape, at, DIAGNOSTIC, w.source, part)
 }
 
 // ---- nodes, `merge_source_nodes`
@@ -182,7 +160,7 @@ pub fn node_in(tape: &[u8], at: usize, w: Window, part: Part) -> bool
     requires { at + 49 ≤ length tape.now }
     ensures { result ≡ is_in node_located (window_value w) part (record_at node_codec tape.now at) }
 {
-    row_in(tape, at, NODE, w.source(), part)
+    row_in(tape, at, NODE, w.source, part)
 }
 
 // ---- lists of any kind of record

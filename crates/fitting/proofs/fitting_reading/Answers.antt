@@ -24,7 +24,7 @@ check_fitting-requires c =
     let read = reading_read (passed_reading c.in_ok-q.ensures) c.requires c.store_of-own.ensures in
     record {
       read = window_read read c.region_window-w.result c.region_window-w.ensures;
-      nstart_value = window_offsets read c.region_window-w.result c.region_window-w.ensures;
+      cuts_value = window_offsets read c.region_window-w.result c.region_window-w.ensures;
     }
 
 pub returns-in_err-check_fitting : goal.returns-in_err-check_fitting
