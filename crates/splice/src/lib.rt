@@ -3,7 +3,7 @@
 // where their offsets stand there; crate splice_lists writes pairs, containers and diagnostics, crate splice_nodes the nodes.
 #![tactic(auto)]
 
-ghost use Rattle.std.specs.Prelude.{◌≡◌, ℕ, ◌+◌, ◌*◌, ◌%◌, ◌≤◌, length, map};
+ghost use Rattle.std.specs.Prelude.{◌≡◌, ℕ, ◌+◌, ◌%◌, ◌≤◌, length};
 ghost use Rattle.model.specs.Tape.{Codec, record_at, records_at, record_bytes, records_bytes, pair_codec, container_codec, diagnostic_codec, node_codec};
 ghost use Rattle.model.specs.Merge.{Located, kept_before, kept_behind, pair_located, container_located, diagnostic_located, node_located, moved_offset};
 ghost use Rattle.wire.specs.Overwrite.{overwrite};
@@ -11,6 +11,10 @@ ghost use Rattle.span.specs.Values.{value_of};
 ghost use Rattle.splice.specs.Parts.{Kind, span_in, is_in, as_in, part_of};
 ghost use Rattle.splice.specs.Window.{window_value, source_in, normalized_in};
 ghost use Rattle.splice.specs.Counted.{row_in};
+
+mod section;
+
+pub use section::Section;
 
 use span::{Amount, Span};
 
@@ -189,76 +193,4 @@ pub trait Spliced {
         ensures { out.new ≡ overwrite out.old to (record_bytes codec (as_in located (window_value w) part (record_at codec tape.now at))) };
 
     ghost kind: { Kind codec located SIZE };
-}
-
-// How many records of a run are in a part.
-fn count_part<K: Spliced>(tape: &[u8], run: places::Run, w: Window, part: Part) -> usize
-    requires { run.at + K.SIZE * run.count ≤ length tape.now }
-    ensures { result ≡ length (part_of K.located (window_value w) part (records_at K.codec tape.now run.at run.count)) }
-{
-    let mut n = 0;
-    for i in 0..run.count {
-        n += usize::from(K::is_in(tape, run.at + K::SIZE * i, w, part));
-    }
-    n
-}
-
-pub fn count_before<K: Spliced>(tape: &[u8], run: places::Run, w: Window) -> usize
-    requires { run.at + K.SIZE * run.count ≤ length tape.now }
-    ensures { result ≡ length (kept_before K.located (window_value w) (records_at K.codec tape.now run.at run.count)) }
-{
-    count_part::<K>(tape, run, w, Part::Before)
-}
-
-pub fn count_behind<K: Spliced>(tape: &[u8], run: places::Run, w: Window) -> usize
-    requires { run.at + K.SIZE * run.count ≤ length tape.now }
-    ensures { result ≡ length (kept_behind K.located (window_value w) (records_at K.codec tape.now run.at run.count)) }
-{
-    count_part::<K>(tape, run, w, Part::Behind)
-}
-
-// The records of a run that are in a part, written as they stand there.
-fn put_part<K: Spliced>(
-    tape: &[u8],
-    run: places::Run,
-    w: Window,
-    part: Part,
-    out: &mut [u8],
-    to: usize,
-)
-    requires run_in_bounds { run.at + K.SIZE * run.count ≤ length tape.now }
-    requires part_in_bounds { to + K.SIZE * length (part_of K.located (window_value w) part (records_at K.codec tape.now run.at run.count)) ≤ length out.old }
-    ensures { out.new ≡ overwrite out.old to (records_bytes K.codec (part_of K.located (window_value w) part (records_at K.codec tape.now run.at run.count))) }
-{
-    let mut next = to;
-    for i in 0..run.count {
-        let place = run.at + K::SIZE * i;
-        if K::is_in(tape, place, w, part) {
-            K::put(tape, place, w, part, out, next);
-            next += K::SIZE;
-        }
-    }
-}
-
-pub fn put_before<K: Spliced>(tape: &[u8], run: places::Run, w: Window, out: &mut [u8], to: usize)
-    requires run_in_bounds { run.at + K.SIZE * run.count ≤ length tape.now }
-    requires part_in_bounds { to + K.SIZE * length (kept_before K.located (window_value w) (records_at K.codec tape.now run.at run.count)) ≤ length out.old }
-    ensures { out.new ≡ overwrite out.old to (records_bytes K.codec (kept_before K.located (window_value w) (records_at K.codec tape.now run.at run.count))) }
-{
-    put_part::<K>(tape, run, w, Part::Before, out, to);
-}
-
-pub fn put_reading<K: Spliced>(tape: &[u8], run: places::Run, w: Window, out: &mut [u8], to: usize)
-    requires { (run.at + K.SIZE * run.count ≤ length tape.now) × (to + K.SIZE * run.count ≤ length out.old) }
-    ensures { out.new ≡ overwrite out.old to (records_bytes K.codec (map (K.located.placed (window_value w)) (records_at K.codec tape.now run.at run.count))) }
-{
-    put_part::<K>(tape, run, w, Part::Reading, out, to);
-}
-
-pub fn put_behind<K: Spliced>(tape: &[u8], run: places::Run, w: Window, out: &mut [u8], to: usize)
-    requires run_in_bounds { run.at + K.SIZE * run.count ≤ length tape.now }
-    requires part_in_bounds { to + K.SIZE * length (kept_behind K.located (window_value w) (records_at K.codec tape.now run.at run.count)) ≤ length out.old }
-    ensures { out.new ≡ overwrite out.old to (records_bytes K.codec (map (K.located.moved (window_value w)) (kept_behind K.located (window_value w) (records_at K.codec tape.now run.at run.count)))) }
-{
-    put_part::<K>(tape, run, w, Part::Behind, out, to);
 }
