@@ -15,7 +15,6 @@ ghost use Rattle.splice.specs.Counted.{row_in};
 mod section;
 
 pub use section::Section;
-
 use span::{Amount, Span};
 
 // The region in both texts, and how far what lies behind it moves in each: `MergeWindow`.

@@ -8,10 +8,11 @@ use places::Run;
 use std::marker::PhantomData;
 
 // A run of records of a kind, which lies in its tape.
+#[derive(Drop)]
 pub struct Section<'a, K: Spliced> {
     pub tape: &'a [u8],
     pub run: Run,
-    pub kind: PhantomData<K>,
+    kind: PhantomData<K>,
     pub ghost inside: { run.at + K.SIZE * run.count ≤ length tape.now },
 }
 
@@ -22,6 +23,17 @@ impl<'a, K: Spliced> Section<'a, K> {
     ghost use Rattle.wire.specs.Overwrite.{overwrite};
     ghost use Rattle.splice.specs.Parts.{part_of};
     ghost use Rattle.splice.specs.Window.{window_value};
+
+    pub fn new(tape: &'a [u8], run: Run) -> Section<'a, K>
+        requires { run.at + K.SIZE * run.count ≤ length tape.now }
+        ensures { (result.tape.now ≡ tape.now) × (result.run ≡ run) }
+    {
+        Section {
+            tape,
+            run,
+            kind: PhantomData,
+        }
+    }
 
     // How many records are in a part.
     fn count_part(&self, w: Window, part: Part) -> usize

@@ -12,10 +12,7 @@ move_up-requires c =
 
 pub put_before-requires : goal.put_before-requires
 put_before-requires c =
-    record {
-      run_in_bounds = c.requires.count_in_bounds;
-      part_in_bounds = omega (arith, c.requires.before_value, c.requires.reading_in_bounds, c.move_up.auto.out);
-    }
+    omega (arith, c.requires.before_value, c.requires.reading_in_bounds, c.move_up.auto.out)
 
 pub place_nodes-requires : goal.place_nodes-requires
 place_nodes-requires c =
@@ -23,10 +20,7 @@ place_nodes-requires c =
 
 pub put_behind-requires : goal.put_behind-requires
 put_behind-requires c =
-    record {
-      run_in_bounds = c.requires.count_in_bounds;
-      part_in_bounds = omega (arith, c.requires.before_value, c.requires.reading_in_bounds, c.move_up.auto.out, c.put_before.auto.out, c.place_nodes.auto.out);
-    }
+    omega (arith, c.requires.before_value, c.requires.reading_in_bounds, c.move_up.auto.out, c.put_before.auto.out, c.place_nodes.auto.out)
 
 pub returns : goal.returns
 returns c =
