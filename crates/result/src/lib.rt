@@ -20,6 +20,7 @@ ghost use Rattle.result.specs.Grafting.{offsets_of, GraftTold};
 ghost use Rattle.result.specs.Stages.{texts_of, StoreTold};
 
 use books::Merging;
+use merged_lists::Counts;
 use merged_texts::Spliced;
 use output::IncrementalOutput;
 use refusal::Refusal;
@@ -125,7 +126,13 @@ fn put_store(
 {
     let at = m.book.places.nodes.at;
     put_new_texts(out_bytes, m);
-    merged_texts::put_head(out_tape, m.book.tape, at, l.text as u32, l.normalized as u32);
+    merged_texts::put_head(
+        out_tape,
+        m.book.tape,
+        at,
+        l.text as u32,
+        l.normalized as u32,
+    );
     graft_reading(
         &m.reading,
         m.book.store.totals,
@@ -150,27 +157,27 @@ pub fn merge_books(
     let p = m.book.places;
     let q = m.reading.places;
     let w = m.window;
-    let k = merged_lists::kept_in(m.book.tape, p, w);
+    let kept = merged_lists::kept_in(m.book.tape, p, w);
+    let counts = Counts { kept, reading: q };
     let l = merged_lists::new_lengths(m);
-    if !merged_lists::room_for(
-        l,
-        k,
-        q,
-        p.nodes.at,
-        out_tape.len(),
-        out_bytes.len(),
-        work.len(),
-    ) {
+    if !counts.room_for(l, p.nodes.at, out_tape.len(), out_bytes.len(), work.len()) {
         return Err(Refusal::NoRoom);
     }
     let Some(g) = put_store(m, l, out_tape, out_bytes, work) else {
         return Err(Refusal::NoRoom);
     };
     let at = p.nodes.at + g.len;
-    let size = merged_lists::lists_end(at, k, q);
+    let size = counts.lists_end(at);
     if out_tape.len() < size {
         return Err(Refusal::NoRoom);
     }
-    merged_lists::put_lists(m, k, out_tape, at);
-    Ok(merged_lists::output_of(w, k.nodes, q.nodes.count, g.stats, size, l.base + g.bytes))
+    merged_lists::put_lists(m, kept, out_tape, at);
+    Ok(merged_lists::output_of(
+        w,
+        kept.nodes,
+        q.nodes.count,
+        g.stats,
+        size,
+        l.base + g.bytes,
+    ))
 }
