@@ -5,8 +5,8 @@
 ghost use Rattle.std.specs.Prelude.{◌≡◌, ◌+◌, ◌*◌, ◌≤◌, ◌<◌, ◌^◌, length};
 ghost use Rattle.model.specs.Tape.{records_at, node_codec, places as places_in, book_at};
 ghost use Rattle.model.specs.Region.{Edit as RegionEdit};
-ghost use Rattle.model.specs.Merge.{normalized_offset};
-ghost use Rattle.books.specs.Values.{edit_value};
+ghost use Rattle.model.specs.Merge.{normalized_offset, stored_of};
+ghost use Rattle.books.specs.Values.{edit_value, stored_value};
 ghost use Rattle.bounds.specs.Search.{InOrder};
 ghost use Rattle.region.specs.Held.{Held};
 ghost use Rattle.refusal.specs.Refusal.{number_in};
@@ -14,9 +14,10 @@ ghost use Rattle.span.specs.Values.{span_of};
 ghost use Rattle.splice.specs.Window.{window_value};
 ghost use Rattle.fitting.specs.Numbers.{cut_number, reading_number};
 ghost use Rattle.fitting.specs.Window.{window_from};
-ghost use Rattle.fitting.specs.Stages.{Given, Read, TargetFound, Fits};
+ghost use Rattle.fitting.specs.Stages.{Given, Read, TargetFound, Fits, BooksOf};
+ghost use Rattle.fitting.specs.Books.{Books};
 
-use books::{Correction, Stored};
+use books::{Correction, Merging, Stored};
 use edit::Edit;
 use refusal::Refusal;
 use region::Book;
@@ -39,6 +40,37 @@ pub struct Fitting {
     pub q: places::Places,
     pub own: store::Store,
     pub w: Window,
+}
+
+impl Fitting {
+    // What is merged, each book at hand. `fitted` itself can't answer it: it would lend stores that the call made.
+    pub fn merging<'a, 'b: 'a>(&'a self, book: &Stored<'b>, correction: &Correction<'b>) -> Merging<'a>
+        requires { Books book.now.tape.now book.now.bytes.now self.now.p self.now.st (edit_value correction.now.edit) (window_value self.now.w) correction.now.reading.tape.now correction.now.reading.bytes.now self.now.q self.now.own }
+        ensures passed { BooksOf result }
+        ensures same { (stored_of result.book.tape.now result.book.bytes.now ≡ stored_value book.now) × (edit_value result.edit ≡ edit_value correction.now.edit)
+            × (stored_of result.reading.tape.now result.reading.bytes.now ≡ stored_value correction.now.reading) }
+    {
+        Merging {
+            book: Book {
+                tape: book.tape,
+                bytes: book.bytes,
+                places: self.p,
+                store: &self.st,
+            },
+            edit: Edit {
+                start: correction.edit.start,
+                end: correction.edit.end,
+                replacement: correction.edit.replacement,
+            },
+            window: self.w,
+            reading: Book {
+                tape: correction.reading.tape,
+                bytes: correction.reading.bytes,
+                places: self.q,
+                store: &self.own,
+            },
+        }
+    }
 }
 
 // Numbers 1 to 11: the old book, then the edit.
@@ -125,12 +157,22 @@ fn check_cuts(book: &Stored, reading: &Stored, f: Fitting, work: &mut [u32]) -> 
         places: q,
         store: &f.own,
     };
-    if introduces::introduces_ruby_format_dependency(&old, &own, work, w.source.start, w.source.end) {
+    if introduces::introduces_ruby_format_dependency(
+        &old,
+        &own,
+        work,
+        w.source.start,
+        w.source.end,
+    ) {
         return Err(Refusal::NewRubyFormatDependency);
     }
     let first = p.text as usize;
     let normalized = &book.bytes[first..first + p.normalized as usize];
-    if !passage::cuts_ok(normalized, w.normalized.start as usize, w.normalized.end as usize) {
+    if !passage::cuts_ok(
+        normalized,
+        w.normalized.start as usize,
+        w.normalized.end as usize,
+    ) {
         return Err(Refusal::CutInCharacter);
     }
     if passage::layer_missing(q.nodes.count, p.layers) {

@@ -14,7 +14,8 @@ ghost use Rattle.splice.specs.Window.{window_value};
 ghost use Rattle.layer.specs.Source.{SourceFits};
 ghost use Rattle.layer.specs.Layered.{grafted_into};
 ghost use Rattle.output.specs.Answer.{Written};
-ghost use Rattle.fitting.specs.Books.{Books, book_in};
+ghost use Rattle.fitting.specs.Books.{book_in};
+ghost use Rattle.fitting.specs.Stages.{BooksOf};
 ghost use Rattle.merged_lists.specs.Sizes.{lengths_of};
 ghost use Rattle.result.specs.Grafting.{offsets_of, GraftTold};
 ghost use Rattle.result.specs.Stages.{texts_of, StoreTold};
@@ -119,7 +120,7 @@ fn put_store(
     out_bytes: &mut [u8],
     work: &mut [u32],
 ) -> Option<Graft>
-    requires books { Books m.now.book.tape.now m.now.book.bytes.now m.now.book.places m.now.book.store.now (edit_of m.now.edit.start m.now.edit.end m.now.edit.replacement.now) (window_value m.now.window) m.now.reading.tape.now m.now.reading.bytes.now m.now.reading.places m.now.reading.store.now }
+    requires books { BooksOf m.now }
     requires l_value { l ≡ lengths_of m.now.book.places m.now.reading.places m.now.edit.start m.now.edit.end (length m.now.edit.replacement.now) m.now.window.normalized.start m.now.window.normalized.end (length m.now.book.bytes.now) }
     requires min_work_words_in_bounds { (min_work_words ≤ length work.old) × (l.normalized ≤ max_text) × (l.base ≤ length out_bytes.old) × (m.now.book.places.nodes.at ≤ length out_tape.old) }
     ensures { StoreTold (book_in m.now.book.tape.now m.now.book.bytes.now) (edit_of m.now.edit.start m.now.edit.end m.now.edit.replacement.now) (book_in m.now.reading.tape.now m.now.reading.bytes.now) (window_value m.now.window) out_tape.old out_bytes.old out_tape.new out_bytes.new m.now.book.places.nodes.at l.base (offsets_of m.now.book.store.now.totals) result }
@@ -151,7 +152,7 @@ pub fn merge_books(
     out_bytes: &mut [u8],
     work: &mut [u32],
 ) -> Result<IncrementalOutput, Refusal>
-    requires { Books m.now.book.tape.now m.now.book.bytes.now m.now.book.places m.now.book.store.now (edit_of m.now.edit.start m.now.edit.end m.now.edit.replacement.now) (window_value m.now.window) m.now.reading.tape.now m.now.reading.bytes.now m.now.reading.places m.now.reading.store.now }
+    requires { BooksOf m.now }
     ensures { Written (result_checked (book_in m.now.book.tape.now m.now.book.bytes.now) (edit_of m.now.edit.start m.now.edit.end m.now.edit.replacement.now) (book_in m.now.reading.tape.now m.now.reading.bytes.now) (window_value m.now.window) (room_of out_tape.old out_bytes.old work.old)) (checked result) out_tape.old out_bytes.old work.old out_tape.new out_bytes.new work.new }
 {
     let p = m.book.places;
