@@ -44,7 +44,11 @@ pub struct Fitting {
 
 impl Fitting {
     // What is merged, each book at hand. `fitted` itself can't answer it: it would lend stores that the call made.
-    pub fn merging<'a, 'b: 'a>(&'a self, book: &Stored<'b>, correction: &Correction<'b>) -> Merging<'a>
+    pub fn merging<'a, 'b: 'a>(
+        &'a self,
+        book: &Stored<'b>,
+        correction: &Correction<'b>,
+    ) -> Merging<'a>
         requires { Books book.now.tape.now book.now.bytes.now self.now.p self.now.st (edit_value correction.now.edit) (window_value self.now.w) correction.now.reading.tape.now correction.now.reading.bytes.now self.now.q self.now.own }
         ensures passed { BooksOf result }
         ensures same { (stored_of result.book.tape.now result.book.bytes.now ≡ stored_value book.now) × (edit_value result.edit ≡ edit_value correction.now.edit)

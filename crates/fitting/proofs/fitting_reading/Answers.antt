@@ -14,10 +14,6 @@ pub store_of-own-requires : goal.store_of-own-requires
 store_of-own-requires c =
     reading_store_lem (passed_reading c.in_ok-q.ensures)
 
-pub region_window-w-requires : goal.region_window-w-requires
-region_window-w-requires c =
-    c.requires
-
 pub check_fitting-requires : goal.check_fitting-requires
 unfolding edit_of
 check_fitting-requires c =

@@ -86,11 +86,13 @@ put_diagnostics-requires c =
 
 pub overflow_add-diagnostics_to-2 : goal.overflow_add-diagnostics_to-2
 overflow_add-diagnostics_to-2 c =
-    let r = lists_room c.requires in omega (arith, r, c.well_formed, c.total.ensures, c.total-2.ensures, c.total-3.ensures, c.total-count.ensures, c.put_nodes.auto.out, c.put_list.auto.out, c.put_list-2.auto.out, c.put_diagnostics.auto.out)
+    let r = lists_room c.requires in
+    omega (arith, r, c.well_formed, c.total.ensures, c.total-2.ensures, c.total-3.ensures, c.total-count.ensures, c.put_nodes.auto.out, c.put_list.auto.out, c.put_list-2.auto.out, c.put_diagnostics.auto.out)
 
 pub put_u8-requires : goal.put_u8-requires
 put_u8-requires c =
-    let r = lists_room c.requires in omega (arith, r, c.well_formed, c.total.ensures, c.total-2.ensures, c.total-3.ensures, c.total-count.ensures, c.put_nodes.auto.out, c.put_list.auto.out, c.put_list-2.auto.out, c.put_diagnostics.auto.out)
+    let r = lists_room c.requires in
+    omega (arith, r, c.well_formed, c.total.ensures, c.total-2.ensures, c.total-3.ensures, c.total-count.ensures, c.put_nodes.auto.out, c.put_list.auto.out, c.put_list-2.auto.out, c.put_diagnostics.auto.out)
 
 pub returns : goal.returns
 returns c =

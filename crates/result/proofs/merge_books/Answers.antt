@@ -75,7 +75,7 @@ unfolding edit_of
 overflow_add-l c =
     let s = c.put_store.auto in
     let x = bytes_small c.requires c.kept_in-kept.ensures c.new_lengths-l.ensures c.args.out_tape.now c.args.out_bytes.now c.args.work.now c.in-Some.ensures s.out_tape s.out_bytes refl
-        c.room_for.ensures c.if-not-room_for.false c.lists_end-size.ensures (omega (arith, c.if-out_tape-size.false, s.out_tape)) in
+    c.room_for.ensures c.if-not-room_for.false c.lists_end-size.ensures (omega (arith, c.if-out_tape-size.false, s.out_tape)) in
     omega (arith, x, c.well_formed)
 
 pub output_of-requires : goal.output_of-requires

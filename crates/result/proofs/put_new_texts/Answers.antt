@@ -10,7 +10,7 @@ put_texts-requires c =
     let e = m.edit in
     let n = m.window.normalized in
     let r = texts_asked p q e.start e.end e.replacement.now n.start n.end m.book.bytes.now m.reading.bytes.now _ c.requires.start_le_end
-        c.requires.normalized_in_bounds.0 c.requires.normalized_in_bounds.1 c.requires.bytes_in_bounds in
+    c.requires.normalized_in_bounds.0 c.requires.normalized_in_bounds.1 c.requires.bytes_in_bounds in
     record { start_le_end = r.0; strings_in_bounds = r.1 }
 
 pub returns : goal.returns

@@ -14,5 +14,6 @@ put_part-requires g c =
 pub returns : goal.returns
 returns g c =
     let k = g.K.Spliced in
+    let s = c.args.self.now in
     c.put_part.ensures
-    ∙ ap (λ x. overwrite c.args.out.now c.args.to (records_bytes k.codec x)) (part_before k.located (window_value c.args.w) (records_at k.codec c.args.self.now.tape.now c.args.self.now.run.at c.args.self.now.run.count))
+    ∙ ap (λ x. overwrite c.args.out.now c.args.to (records_bytes k.codec x)) (part_before k.located (window_value c.args.w) (records_at k.codec s.tape.now s.run.at s.run.count))
