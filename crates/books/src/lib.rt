@@ -15,6 +15,19 @@ pub struct Stored<'a> {
     pub ghost are_bytes: { AreBytes tape.now × AreBytes bytes.now },
 }
 
+impl<'a> Stored<'a> {
+    ghost use Rattle.std.specs.Prelude.{◌≡◌};
+    ghost use Rattle.model.specs.Merge.{stored_of};
+    ghost use Rattle.books.specs.Values.{stored_value};
+
+    // That the items of a slice are bytes is known where the slice comes in.
+    pub fn new(tape: &'a [u8], bytes: &'a [u8]) -> Stored<'a>
+        ensures { stored_value result ≡ stored_of tape.now bytes.now }
+    {
+        Stored { tape, bytes }
+    }
+}
+
 // An edit, and the reading of the new text's passage around it.
 #[derive(Clone, Copy)]
 pub struct Correction<'a> {

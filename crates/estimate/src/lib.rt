@@ -8,12 +8,12 @@ ghost use Rattle.model.specs.Estimate.{estimate};
 ghost use Rattle.books.specs.Values.{stored_value, edit_value};
 ghost use Rattle.refusal.specs.Refusal.{checked};
 ghost use Rattle.splice.specs.Window.{window_value};
-ghost use Rattle.fitting.specs.Books.{Books, book_in};
+ghost use Rattle.fitting.specs.Books.{book_in};
+ghost use Rattle.fitting.specs.Stages.{BooksOf};
 ghost use Rattle.estimate.specs.Pricing.{over_price, price_by, price_value, estimate_of, price_in};
 
 use books::{Correction, Merging, Stored};
 use refusal::Refusal;
-use region::Book;
 
 const MAX_POOL: u32 = 1048575;
 
@@ -63,7 +63,7 @@ fn price_by(reread: u32, s: Option<sizes::Sizes>, bytes: usize) -> Price
 
 // The price of a book and a reading that passed 1 to 17.
 fn price_fitted(m: &Merging) -> Price
-    requires { Books m.now.book.tape.now m.now.book.bytes.now m.now.book.places m.now.book.store.now (edit_value m.now.edit) (window_value m.now.window) m.now.reading.tape.now m.now.reading.bytes.now m.now.reading.places m.now.reading.store.now }
+    requires { BooksOf m.now }
     ensures { result ≡ price_value (price_in (book_in m.now.book.tape.now m.now.book.bytes.now) (edit_value m.now.edit)
         (book_in m.now.reading.tape.now m.now.reading.bytes.now) (window_value m.now.window)) }
 {
@@ -86,25 +86,7 @@ fn estimate_checked<'a>(
     ensures { checked result ≡ estimate_of (estimate (stored_value book.now) (edit_value correction.now.edit) (stored_value correction.now.reading)) }
 {
     let f = fitting::fitted(book, correction, work)?;
-    let book = Book {
-        tape: book.tape,
-        bytes: book.bytes,
-        places: f.p,
-        store: &f.st,
-    };
-    let reading = Book {
-        tape: correction.reading.tape,
-        bytes: correction.reading.bytes,
-        places: f.q,
-        store: &f.own,
-    };
-    let merging = Merging {
-        book,
-        edit: correction.edit,
-        window: f.w,
-        reading,
-    };
-    Ok(price_fitted(&merging))
+    Ok(price_fitted(&f.merging(book, correction)))
 }
 
 // `estimate`: the merge's 1 to 17 as the merge gives them, or the price; all work words are 0 at the end.

@@ -23,24 +23,19 @@ fn put_price(rt: &impl Print, answer: Result<Price, Refusal>) -> io::Result<()> 
     }
 }
 
-// That the items of a slice are bytes is known where the slice comes in.
-fn stored<'a>(tape: &'a [u8], bytes: &'a [u8]) -> Stored<'a> {
-    Stored { tape, bytes }
-}
-
 fn show(rt: &(impl Alloc + Print), c: cases::Case) -> io::Result<()> {
     let rest = c.replacement;
     let lent = wire::u32_or_zero(rest, 0).min(16384);
     let mut work = vec![in rt.alloc(); 7u32; lent as usize]?;
     let reading_tape = HEAD + wire::u32_or_zero(rest, 4) as usize;
     let reading_bytes = reading_tape + wire::u32_or_zero(rest, 8) as usize;
-    let book = stored(c.tape, c.bytes);
+    let book = Stored::new(c.tape, c.bytes);
     let edit = Edit {
         start: c.start,
         end: c.end,
         replacement: wire::between(rest, HEAD, reading_tape),
     };
-    let reading = stored(
+    let reading = Stored::new(
         wire::between(rest, reading_tape, reading_bytes),
         wire::between(rest, reading_bytes, rest.len()),
     );

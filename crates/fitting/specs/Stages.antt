@@ -18,12 +18,11 @@ use Rattle.refusal.specs.declared.Refusal.{Refusal}
 use Rattle.refusal.specs.Refusal.{number}
 use Rattle.span.specs.Values.{span_of}
 use Rattle.splice.specs.Window.{window_value}
+use Rattle.books.specs.Values.{edit_value}
+use Rattle.books.specs.declared.Merging.{Merging}
 use Rattle.fitting.specs.Books.{Books, book_in}
 use Rattle.fitting.specs.declared.Target.{Target}
 use Rattle.fitting.specs.declared.Fitting.{Fitting}
-
-abbrev pub region_of : ℕ → ℕ → Span
-region_of start end = record { start = start; end = end }
 
 -- ---- what a stage is given
 
@@ -49,6 +48,12 @@ TargetFound t d e x =
 abbrev pub Fits : List ℕ → List ℕ → Edit → List ℕ → List ℕ → Result Fitting Refusal → Type 0
 Fits t d e rt rd x =
     MatchResult x (λ f. Books t d f.p f.st e (window_value f.w) rt rd f.q f.own) (λ r. fitted (stored_of t d) e (stored_of rt rd) ≡ refused (number r))
+
+-- the same of what is merged
+abbrev pub BooksOf : Merging → Type 0
+BooksOf m =
+    Books m.book.tape.now m.book.bytes.now m.book.places m.book.store.now (edit_value m.edit) (window_value m.window)
+    m.reading.tape.now m.reading.bytes.now m.reading.places m.reading.store.now
 
 pub books_fitted : {t d : List ℕ} {p : Places} {st : Store} {e : Edit} {w : MergeWindow} {rt rd : List ℕ} {q : Places} {own : Store} → Books t d p st e w rt rd q own
     → fitted (stored_of t d) e (stored_of rt rd) ≡ accepted (record { old = book_in t d; reading = book_in rt rd; window = w })

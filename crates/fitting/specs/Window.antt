@@ -24,16 +24,17 @@ use Rattle.fitting.specs.Stages.{Given}
 
 -- by the ends of the region in both texts, the replacement's length, the edit, and the length of the reading's normalized text
 abbrev pub window_from : ℕ → ℕ → ℕ → ℕ → ℕ → ℕ → ℕ → ℕ → MergeWindow
-window_from from to nstart nend len start end normalized = record {
+window_from from to normal_start normal_end len start end normalized = record {
   source = record { start = from; end = to };
-  normalized = record { start = nstart; end = nend };
+  normalized = record { start = normal_start; end = normal_end };
   source_delta = pos len -ℤ pos (end - start);
-  normalized_delta = pos normalized -ℤ pos (nend - nstart);
+  normalized_delta = pos normalized -ℤ pos (normal_end - normal_start);
 }
 
-pub window_made : (from to nstart nend len start end normalized : ℕ) (by nby : Amount) → value_of by ≡ pos len -ℤ pos (end - start) → value_of nby ≡ pos normalized -ℤ pos (nend - nstart)
-    → window_value (record { start = from; end = to; nstart = nstart; nend = nend; by = by; nby = nby }) ≡ window_from from to nstart nend len start end normalized
-window_made from to nstart nend len start end normalized by nby e f = λ i. record { source = record { start = from; end = to }; normalized = record { start = nstart; end = nend }; source_delta = e i; normalized_delta = f i }
+pub window_made : (from to normal_start normal_end len start end normalized : ℕ) (source_delta normalized_delta : Amount) → value_of source_delta ≡ pos len -ℤ pos (end - start) → value_of normalized_delta ≡ pos normalized -ℤ pos (normal_end - normal_start)
+    → window_value (record { source = record { start = from; end = to }; normalized = record { start = normal_start; end = normal_end }; source_delta = source_delta; normalized_delta = normalized_delta }) ≡ window_from from to normal_start normal_end len start end normalized
+window_made from to normal_start normal_end len start end normalized source_delta normalized_delta e f =
+    λ i. record { source = record { start = from; end = to }; normalized = record { start = normal_start; end = normal_end }; source_delta = e i; normalized_delta = f i }
 
 -- the cuts by their definition
 pub window_cuts : {v : MergeWindow} (from to len start end normalized : ℕ) {x y x' y' : ℕ} → v ≡ window_from from to x y len start end normalized → x ≡ x' → y ≡ y' → v ≡ window_from from to x' y' len start end normalized

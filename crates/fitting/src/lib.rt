@@ -5,8 +5,8 @@
 ghost use Rattle.std.specs.Prelude.{◌≡◌, ◌+◌, ◌*◌, ◌≤◌, ◌<◌, ◌^◌, length};
 ghost use Rattle.model.specs.Tape.{records_at, node_codec, places as places_in, book_at};
 ghost use Rattle.model.specs.Region.{Edit as RegionEdit};
-ghost use Rattle.model.specs.Merge.{normalized_offset};
-ghost use Rattle.books.specs.Values.{edit_value};
+ghost use Rattle.model.specs.Merge.{normalized_offset, stored_of};
+ghost use Rattle.books.specs.Values.{edit_value, stored_value};
 ghost use Rattle.bounds.specs.Search.{InOrder};
 ghost use Rattle.region.specs.Held.{Held};
 ghost use Rattle.refusal.specs.Refusal.{number_in};
@@ -14,9 +14,10 @@ ghost use Rattle.span.specs.Values.{span_of};
 ghost use Rattle.splice.specs.Window.{window_value};
 ghost use Rattle.fitting.specs.Numbers.{cut_number, reading_number};
 ghost use Rattle.fitting.specs.Window.{window_from};
-ghost use Rattle.fitting.specs.Stages.{Given, Read, TargetFound, Fits, region_of};
+ghost use Rattle.fitting.specs.Stages.{Given, Read, TargetFound, Fits, BooksOf};
+ghost use Rattle.fitting.specs.Books.{Books};
 
-use books::{Correction, Stored};
+use books::{Correction, Merging, Stored};
 use edit::Edit;
 use refusal::Refusal;
 use region::Book;
@@ -39,6 +40,41 @@ pub struct Fitting {
     pub q: places::Places,
     pub own: store::Store,
     pub w: Window,
+}
+
+impl Fitting {
+    // What is merged, each book at hand. `fitted` itself can't answer it: it would lend stores that the call made.
+    pub fn merging<'a, 'b: 'a>(
+        &'a self,
+        book: &Stored<'b>,
+        correction: &Correction<'b>,
+    ) -> Merging<'a>
+        requires { Books book.now.tape.now book.now.bytes.now self.now.p self.now.st (edit_value correction.now.edit) (window_value self.now.w) correction.now.reading.tape.now correction.now.reading.bytes.now self.now.q self.now.own }
+        ensures passed { BooksOf result }
+        ensures same { (stored_of result.book.tape.now result.book.bytes.now ≡ stored_value book.now) × (edit_value result.edit ≡ edit_value correction.now.edit)
+            × (stored_of result.reading.tape.now result.reading.bytes.now ≡ stored_value correction.now.reading) }
+    {
+        Merging {
+            book: Book {
+                tape: book.tape,
+                bytes: book.bytes,
+                places: self.p,
+                store: &self.st,
+            },
+            edit: Edit {
+                start: correction.edit.start,
+                end: correction.edit.end,
+                replacement: correction.edit.replacement,
+            },
+            window: self.w,
+            reading: Book {
+                tape: correction.reading.tape,
+                bytes: correction.reading.bytes,
+                places: self.q,
+                store: &self.own,
+            },
+        }
+    }
 }
 
 // Numbers 1 to 11: the old book, then the edit.
@@ -74,15 +110,13 @@ fn window(region: Span, normal: Span, edit: &Edit, normalized: u32) -> Window
     ensures { window_value result ≡ window_from region.start region.end normal.start normal.end (length edit.now.replacement.now) edit.now.start edit.now.end normalized }
 {
     Window {
-        start: region.start,
-        end: region.end,
-        nstart: normal.start,
-        nend: normal.end,
-        by: span::difference(
+        source: region,
+        normalized: normal,
+        source_delta: span::difference(
             edit.replacement.len() as u64,
             (edit.end - edit.start) as u64,
         ),
-        nby: span::difference(normalized as u64, (normal.end - normal.start) as u64),
+        normalized_delta: span::difference(normalized as u64, (normal.end - normal.start) as u64),
     }
 }
 
@@ -95,11 +129,11 @@ fn region_window(book: &Stored, b: Target, edit: &Edit, normalized: u32) -> Wind
         (length edit.now.replacement.now) edit.now.start edit.now.end normalized }
 {
     let nodes = b.p.nodes;
-    let nstart = normalized_cut(book.tape, nodes, SourceOffset(b.region.start));
-    let nend = normalized_cut(book.tape, nodes, SourceOffset(b.region.end));
+    let normal_start = normalized_cut(book.tape, nodes, SourceOffset(b.region.start));
+    let normal_end = normalized_cut(book.tape, nodes, SourceOffset(b.region.end));
     let normal = Span {
-        start: nstart.0,
-        end: nend.0,
+        start: normal_start.0,
+        end: normal_end.0,
     };
     window(b.region, normal, edit, normalized)
 }
@@ -107,9 +141,9 @@ fn region_window(book: &Stored, b: Target, edit: &Edit, normalized: u32) -> Wind
 // Numbers 15 to 17.
 fn check_cuts(book: &Stored, reading: &Stored, f: Fitting, work: &mut [u32]) -> Result<(), Refusal>
     requires held { Held book.now.tape.now book.now.bytes.now f.p f.st × Held reading.now.tape.now reading.now.bytes.now f.q f.own }
-    requires nstart_value { (f.w.nstart ≡ normalized_offset (records_at node_codec book.now.tape.now f.p.nodes.at f.p.nodes.count) f.w.start)
-        × (f.w.nend ≡ normalized_offset (records_at node_codec book.now.tape.now f.p.nodes.at f.p.nodes.count) f.w.end) }
-    ensures { (e : RegionEdit) → number_in result ≡ cut_number (book_at book.now.tape.now (places_in book.now.tape.now) book.now.bytes.now) e (region_of f.w.start f.w.end)
+    requires cuts_value { (f.w.normalized.start ≡ normalized_offset (records_at node_codec book.now.tape.now f.p.nodes.at f.p.nodes.count) f.w.source.start)
+        × (f.w.normalized.end ≡ normalized_offset (records_at node_codec book.now.tape.now f.p.nodes.at f.p.nodes.count) f.w.source.end) }
+    ensures { (e : RegionEdit) → number_in result ≡ cut_number (book_at book.now.tape.now (places_in book.now.tape.now) book.now.bytes.now) e (span_of f.w.source)
         (book_at reading.now.tape.now (places_in reading.now.tape.now) reading.now.bytes.now) }
 {
     let p = f.p;
@@ -127,12 +161,22 @@ fn check_cuts(book: &Stored, reading: &Stored, f: Fitting, work: &mut [u32]) -> 
         places: q,
         store: &f.own,
     };
-    if introduces::introduces_ruby_format_dependency(&old, &own, work, w.start, w.end) {
+    if introduces::introduces_ruby_format_dependency(
+        &old,
+        &own,
+        work,
+        w.source.start,
+        w.source.end,
+    ) {
         return Err(Refusal::NewRubyFormatDependency);
     }
     let first = p.text as usize;
     let normalized = &book.bytes[first..first + p.normalized as usize];
-    if !passage::cuts_ok(normalized, w.nstart as usize, w.nend as usize) {
+    if !passage::cuts_ok(
+        normalized,
+        w.normalized.start as usize,
+        w.normalized.end as usize,
+    ) {
         return Err(Refusal::CutInCharacter);
     }
     if passage::layer_missing(q.nodes.count, p.layers) {
@@ -148,10 +192,10 @@ fn check_fitting(
     f: Fitting,
     work: &mut [u32],
 ) -> Result<(), Refusal>
-    requires read { Read book.now.tape.now book.now.bytes.now f.p f.st (edit_value correction.now.edit) (region_of f.w.start f.w.end) correction.now.reading.tape.now correction.now.reading.bytes.now f.q f.own }
-    requires nstart_value { (f.w.nstart ≡ normalized_offset (records_at node_codec book.now.tape.now f.p.nodes.at f.p.nodes.count) f.w.start)
-        × (f.w.nend ≡ normalized_offset (records_at node_codec book.now.tape.now f.p.nodes.at f.p.nodes.count) f.w.end) }
-    ensures { number_in result ≡ reading_number (book_at book.now.tape.now (places_in book.now.tape.now) book.now.bytes.now) (edit_value correction.now.edit) (region_of f.w.start f.w.end)
+    requires read { Read book.now.tape.now book.now.bytes.now f.p f.st (edit_value correction.now.edit) (span_of f.w.source) correction.now.reading.tape.now correction.now.reading.bytes.now f.q f.own }
+    requires cuts_value { (f.w.normalized.start ≡ normalized_offset (records_at node_codec book.now.tape.now f.p.nodes.at f.p.nodes.count) f.w.source.start)
+        × (f.w.normalized.end ≡ normalized_offset (records_at node_codec book.now.tape.now f.p.nodes.at f.p.nodes.count) f.w.source.end) }
+    ensures { number_in result ≡ reading_number (book_at book.now.tape.now (places_in book.now.tape.now) book.now.bytes.now) (edit_value correction.now.edit) (span_of f.w.source)
         (book_at correction.now.reading.tape.now (places_in correction.now.reading.tape.now) correction.now.reading.bytes.now) }
 {
     let edit = &correction.edit;
@@ -160,10 +204,10 @@ fn check_fitting(
     let q = f.q;
     let w = f.w;
     let text = &book.bytes[0..p.text as usize];
-    let old_text = region::region_text(text, w.start, w.end);
+    let old_text = region::region_text(text, w.source.start, w.source.end);
     let own_text = &reading.bytes[0..q.text as usize];
-    let first = (edit.start - w.start) as usize;
-    let last = (edit.end - w.start) as usize;
+    let first = (edit.start - w.source.start) as usize;
+    let last = (edit.end - w.source.start) as usize;
     if !passage::is_region_text(old_text, first, last, edit.replacement, own_text) {
         return Err(Refusal::OtherText);
     }

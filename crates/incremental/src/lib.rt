@@ -9,10 +9,9 @@ ghost use Rattle.books.specs.Values.{stored_value, correction_value};
 ghost use Rattle.refusal.specs.Refusal.{checked};
 ghost use Rattle.output.specs.Answer.{Written, Merged};
 
-use books::{Correction, Merging, Stored};
+use books::{Correction, Stored};
 use output::IncrementalOutput;
 use refusal::Refusal;
-use region::Book;
 
 // Numbers 1 to 18; what is not result is not cleared.
 fn merge_checked<'a>(
@@ -25,25 +24,7 @@ fn merge_checked<'a>(
     ensures { Written (merge_of (stored_value book.now) (correction_value correction.now) (room_of out_tape.old out_bytes.old work.old)) (checked result) out_tape.old out_bytes.old work.old out_tape.new out_bytes.new work.new }
 {
     let f = fitting::fitted(book, correction, work)?;
-    let book = Book {
-        tape: book.tape,
-        bytes: book.bytes,
-        places: f.p,
-        store: &f.st,
-    };
-    let reading = Book {
-        tape: correction.reading.tape,
-        bytes: correction.reading.bytes,
-        places: f.q,
-        store: &f.own,
-    };
-    let merging = Merging {
-        book,
-        edit: correction.edit,
-        window: f.w,
-        reading,
-    };
-    result::merge_books(&merging, out_tape, out_bytes, work)
+    result::merge_books(&f.merging(book, correction), out_tape, out_bytes, work)
 }
 
 // `merge`: the merged book in both result buffers, zeros behind it, and zeros in all work words; after a refusal zeros everywhere.

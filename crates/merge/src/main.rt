@@ -5,8 +5,6 @@
 ghost use Rattle.std.specs.Prelude.{◌≡◌, ℕ, ◌+◌, ◌≤◌, List, length, take, OnOk, IfSome};
 ghost use Rattle.std.specs.Io.KnownBytes.{Appends};
 ghost use Rattle.model.specs.Runs.{asked, program, line as line_of};
-ghost use Rattle.model.specs.Merge.{stored_of};
-ghost use Rattle.books.specs.Values.{stored_value};
 ghost use Rattle.refusal.specs.Refusal.{checked};
 ghost use Rattle.output.specs.Answer.{output_of};
 ghost use Rattle.lines.specs.Put.{room, Put};
@@ -19,13 +17,6 @@ use output::IncrementalOutput;
 use refusal::Refusal;
 use std::io;
 use std::io::{Read, Write};
-
-// That the items of a slice are bytes is known where the slice comes in.
-fn stored<'a>(tape: &'a [u8], bytes: &'a [u8]) -> Stored<'a>
-    ensures { stored_value result ≡ stored_of tape.now bytes.now }
-{
-    Stored { tape, bytes }
-}
 
 // The merge that an input of the right length asks for.
 fn merge_parts(
@@ -43,7 +34,7 @@ fn merge_parts(
     let newtape = replacement + wire::u32_at(input, 16) as usize;
     let newbytes = newtape + wire::u32_at(input, 20) as usize;
     let end = newbytes + wire::u32_at(input, 24) as usize;
-    let book = stored(
+    let book = Stored::new(
         wire::between(input, runs::HEAD, oldbytes),
         wire::between(input, oldbytes, replacement),
     );
@@ -52,7 +43,7 @@ fn merge_parts(
         end: wire::u32_at(input, 12),
         replacement: wire::between(input, replacement, newtape),
     };
-    let reading = stored(
+    let reading = Stored::new(
         wire::between(input, newtape, newbytes),
         wire::between(input, newbytes, end),
     );
@@ -79,7 +70,13 @@ fn answer(
 }
 
 // The line of an input.
-fn run(input: &[u8], out_tape: &mut [u8], out_bytes: &mut [u8], work: &mut [u32], line: &mut Line<'_>)
+fn run(
+    input: &[u8],
+    out_tape: &mut [u8],
+    out_bytes: &mut [u8],
+    work: &mut [u32],
+    line: &mut Line<'_>,
+)
     requires { (length out_tape.old ≡ 65536) × (length out_bytes.old ≡ 65536) × (length work.old ≡ 16384) × (160 ≤ room line.old) }
     ensures { Put line.old line.new 160 (line_of (program input.now)) }
 {
@@ -114,7 +111,14 @@ fn answer_stream<R: Read, W: Write>(reader: &mut R, writer: &mut W) -> io::Resul
     let mut out = [0u8; 160];
     let mut line = Line::new(&mut out);
     let n = stream::read_full(reader, &mut input)?;
-    run_read(&input, n, &mut out_tape, &mut out_bytes, &mut work, &mut line);
+    run_read(
+        &input,
+        n,
+        &mut out_tape,
+        &mut out_bytes,
+        &mut work,
+        &mut line,
+    );
     writer.write_all(line.written())
 }
 

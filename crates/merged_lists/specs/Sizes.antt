@@ -48,7 +48,7 @@ lists_fit k q =
 
 -- Number 18 before the graft.
 unfoldable pub room_for : Lengths → Kept → Places → ℕ → ℕ → ℕ → ℕ → Bool
-room_for l k q nodesat tape bytes work = leb min_work_words work && leb l.normalized max_text && leb l.base bytes && leb nodesat tape && lists_fit k q
+room_for l k q nodes_at tape bytes work = leb min_work_words work && leb l.normalized max_text && leb l.base bytes && leb nodes_at tape && lists_fit k q
 
 unfoldable pub lists_end : ℕ → Kept → Places → ℕ
 lists_end at k q =
@@ -93,18 +93,18 @@ pub record RoomFor (l : Lengths) (k : Kept) (q : Places) (first tape bytes words
   pub work : min_work_words ≤ words
   pub normalized : l.normalized ≤ max_text
   pub base : l.base ≤ bytes
-  pub nodesat : first ≤ tape
+  pub nodes_at : first ≤ tape
   pub nodes : total_of k.nodes q.nodes.count ≤ max_list
   pub pairs : total_of k.pairs q.pairs.count ≤ max_list
   pub containers : total_of k.containers q.containers.count ≤ max_list
   pub diagnostics : total_of k.diagnostics q.diagnostics.count ≤ max_list
 
-module _ (l : Lengths) (k : Kept) (q : Places) (nodesat tape bytes work : ℕ) where
-  pub room_facts : room_for l k q nodesat tape bytes work ≡ true → RoomFor l k q nodesat tape bytes work
+module _ (l : Lengths) (k : Kept) (q : Places) (nodes_at tape bytes work : ℕ) where
+  pub room_facts : room_for l k q nodes_at tape bytes work ≡ true → RoomFor l k q nodes_at tape bytes work
   unfolding room_for lists_fit
   room_facts e =
-      let u₁ = both (leb min_work_words work && leb l.normalized max_text && leb l.base bytes && leb nodesat tape) (lists_fit k q) e in
-      let u₂ = both (leb min_work_words work && leb l.normalized max_text && leb l.base bytes) (leb nodesat tape) u₁.0 in
+      let u₁ = both (leb min_work_words work && leb l.normalized max_text && leb l.base bytes && leb nodes_at tape) (lists_fit k q) e in
+      let u₂ = both (leb min_work_words work && leb l.normalized max_text && leb l.base bytes) (leb nodes_at tape) u₁.0 in
       let u₃ = both (leb min_work_words work && leb l.normalized max_text) (leb l.base bytes) u₂.0 in
       let u₄ = both (leb min_work_words work) (leb l.normalized max_text) u₃.0 in
       let v₁ = both _ (leb (total_of k.diagnostics q.diagnostics.count) max_list) u₁.1 in
@@ -114,16 +114,16 @@ module _ (l : Lengths) (k : Kept) (q : Places) (nodesat tape bytes work : ℕ) w
         work = leb-true min_work_words work u₄.0;
         normalized = leb-true l.normalized max_text u₄.1;
         base = leb-true l.base bytes u₃.1;
-        nodesat = leb-true nodesat tape u₂.1;
+        nodes_at = leb-true nodes_at tape u₂.1;
         nodes = leb-true (total_of k.nodes q.nodes.count) max_list v₃.0;
         pairs = leb-true (total_of k.pairs q.pairs.count) max_list v₃.1;
         containers = leb-true (total_of k.containers q.containers.count) max_list v₂.1;
         diagnostics = leb-true (total_of k.diagnostics q.diagnostics.count) max_list v₁.1;
       }
 
-  pub room_ok : RoomFor l k q nodesat tape bytes work → room_for l k q nodesat tape bytes work ≡ true
+  pub room_ok : RoomFor l k q nodes_at tape bytes work → room_for l k q nodes_at tape bytes work ≡ true
   unfolding room_for lists_fit
-  room_ok f = rw (le-leb _ _ f.work, le-leb _ _ f.normalized, le-leb _ _ f.base, le-leb _ _ f.nodesat, le-leb _ _ f.nodes, le-leb _ _ f.pairs, le-leb _ _ f.containers, le-leb _ _ f.diagnostics) refl
+  room_ok f = rw (le-leb _ _ f.work, le-leb _ _ f.normalized, le-leb _ _ f.base, le-leb _ _ f.nodes_at, le-leb _ _ f.nodes, le-leb _ _ f.pairs, le-leb _ _ f.containers, le-leb _ _ f.diagnostics) refl
 
 -- ---- the returns of the code
 
@@ -146,23 +146,23 @@ module _ (k : Kept) (q : Places) {x : Bool} (e : x ≡ leb (total_of k.nodes q.n
       unfolding lists_fit
       lists_all a b c m = rw (← e, a, ← g, b, ← h, c) m
 
-module _ (l : Lengths) (k : Kept) (q : Places) (nodesat tape bytes work : ℕ) where
-  pub no_work : work < min_work_words → false ≡ room_for l k q nodesat tape bytes work
+module _ (l : Lengths) (k : Kept) (q : Places) (nodes_at tape bytes work : ℕ) where
+  pub no_work : work < min_work_words → false ≡ room_for l k q nodes_at tape bytes work
   unfolding room_for
   no_work h = rw (lt-leb min_work_words work h) refl
 
-  pub no_normalized : max_text < l.normalized → false ≡ room_for l k q nodesat tape bytes work
+  pub no_normalized : max_text < l.normalized → false ≡ room_for l k q nodes_at tape bytes work
   unfolding room_for
   no_normalized h = rw (lt-leb l.normalized max_text h, and-false) refl
 
-  pub no_base : bytes < l.base → false ≡ room_for l k q nodesat tape bytes work
+  pub no_base : bytes < l.base → false ≡ room_for l k q nodes_at tape bytes work
   unfolding room_for
   no_base h = rw (lt-leb l.base bytes h, and-false) refl
 
-  pub no_head : tape < nodesat → false ≡ room_for l k q nodesat tape bytes work
+  pub no_head : tape < nodes_at → false ≡ room_for l k q nodes_at tape bytes work
   unfolding room_for
-  no_head h = rw (lt-leb nodesat tape h, and-false) refl
+  no_head h = rw (lt-leb nodes_at tape h, and-false) refl
 
-  pub room_lists : min_work_words ≤ work → l.normalized ≤ max_text → l.base ≤ bytes → nodesat ≤ tape → {x : Bool} → x ≡ lists_fit k q → x ≡ room_for l k q nodesat tape bytes work
+  pub room_lists : min_work_words ≤ work → l.normalized ≤ max_text → l.base ≤ bytes → nodes_at ≤ tape → {x : Bool} → x ≡ lists_fit k q → x ≡ room_for l k q nodes_at tape bytes work
   unfolding room_for
-  room_lists a b c d e = rw (le-leb min_work_words work a, le-leb l.normalized max_text b, le-leb l.base bytes c, le-leb nodesat tape d) e
+  room_lists a b c d e = rw (le-leb min_work_words work a, le-leb l.normalized max_text b, le-leb l.base bytes c, le-leb nodes_at tape d) e

@@ -51,12 +51,12 @@ pub fn put_texts(out: &mut [u8], text: &Spliced, normalized: &Spliced, strings: 
 }
 
 // Command 1 with the lengths of both texts, and the old layers as they stood.
-pub fn put_head(out: &mut [u8], tape: &[u8], nodesat: usize, text: u32, normalized: u32)
-    requires { (9 ≤ nodesat) × (nodesat ≤ length tape.now) × (nodesat ≤ length out.old) }
-    ensures { out.new ≡ overwrite out.old 0 (head_bytes text normalized ++ part tape.now 9 (nodesat - 9)) }
+pub fn put_head(out: &mut [u8], tape: &[u8], nodes_at: usize, text: u32, normalized: u32)
+    requires { (9 ≤ nodes_at) × (nodes_at ≤ length tape.now) × (nodes_at ≤ length out.old) }
+    ensures { out.new ≡ overwrite out.old 0 (head_bytes text normalized ++ part tape.now 9 (nodes_at - 9)) }
 {
     wire::put_u8(out, 0, 1);
     wire::put_u32(out, 1, text);
     wire::put_u32(out, 5, normalized);
-    wire::copy_at(out, 9, &tape[9..nodesat]);
+    wire::copy_at(out, 9, &tape[9..nodes_at]);
 }

@@ -50,7 +50,8 @@ struct InOrder {
     second: Result<IncrementalOutput, Refusal>,
 }
 
-// One correction merged into the book, and another into the result; of a refused first merge nothing is left to be read.
+// One correction merged into the book, and another into the result; of a refused first merge nothing is left to be read. The buffers are
+// the caller's, two pairs of them, and a struct of lent ones would have to say of each that it is still the same.
 fn merge_in_order(
     book: &Stored,
     first: &Correction,
@@ -80,7 +81,7 @@ fn merge_in_order(
 }
 
 // Demand 3. The earlier correction and, on its result, the later one, moved by the change in length; and the other way round, each into
-// buffers of its own. All four calls are made, whatever they answer.
+// buffers of its own. All four calls are made, whatever they answer. The four pairs are the caller's, lent one by one as C has them.
 pub fn merge_both_orders(
     book: &Stored,
     earlier: &Correction,

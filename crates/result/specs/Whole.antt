@@ -214,7 +214,7 @@ module _ {t d : List ℕ} {p : Places} {st : Store} {e : Edit} {w : MergeWindow}
           work = f.work;
           normalized = omega (arith, normalized_is sizes, f.limits.normalized);
           base = omega (arith, bytes_length sizes, f.bytes);
-          nodesat = let n = tape_length_lem refl in omega (arith, n, up_to_length, f.tape);
+          nodes_at = let n = tape_length_lem refl in omega (arith, n, up_to_length, f.tape);
           nodes = omega (arith, nodes_length, f.limits.source_nodes);
           pairs = omega (arith, pairs_length, f.limits.pairs);
           containers = omega (arith, containers_length, f.limits.container_pairs);

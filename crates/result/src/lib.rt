@@ -14,12 +14,14 @@ ghost use Rattle.splice.specs.Window.{window_value};
 ghost use Rattle.layer.specs.Source.{SourceFits};
 ghost use Rattle.layer.specs.Layered.{grafted_into};
 ghost use Rattle.output.specs.Answer.{Written};
-ghost use Rattle.fitting.specs.Books.{Books, book_in};
+ghost use Rattle.fitting.specs.Books.{book_in};
+ghost use Rattle.fitting.specs.Stages.{BooksOf};
 ghost use Rattle.merged_lists.specs.Sizes.{lengths_of};
 ghost use Rattle.result.specs.Grafting.{offsets_of, GraftTold};
 ghost use Rattle.result.specs.Stages.{texts_of, StoreTold};
 
 use books::Merging;
+use merged_lists::Counts;
 use merged_texts::Spliced;
 use output::IncrementalOutput;
 use refusal::Refusal;
@@ -28,10 +30,10 @@ use stats::InternStats;
 
 // Both new texts and the old strings, by the places of both books and the window.
 fn put_new_texts(out: &mut [u8], m: &Merging)
-    requires start_le_end { (m.now.edit.start ≤ m.now.edit.end) × (m.now.edit.end ≤ m.now.book.places.text) × (m.now.window.nstart ≤ m.now.window.nend) × (m.now.window.nend ≤ m.now.book.places.normalized) }
+    requires start_le_end { (m.now.edit.start ≤ m.now.edit.end) × (m.now.edit.end ≤ m.now.book.places.text) × (m.now.window.normalized.start ≤ m.now.window.normalized.end) × (m.now.window.normalized.end ≤ m.now.book.places.normalized) }
     requires normalized_in_bounds { (m.now.book.places.text + m.now.book.places.normalized ≤ length m.now.book.bytes.now) × (m.now.reading.places.text + m.now.reading.places.normalized ≤ length m.now.reading.bytes.now) }
-    requires bytes_in_bounds { (lengths_of m.now.book.places m.now.reading.places m.now.edit.start m.now.edit.end (length m.now.edit.replacement.now) m.now.window.nstart m.now.window.nend (length m.now.book.bytes.now)).base ≤ length out.old }
-    ensures { out.new ≡ overwrite out.old 0 (texts_of m.now.book.places m.now.reading.places m.now.edit.start m.now.edit.end m.now.edit.replacement.now m.now.window.nstart m.now.window.nend m.now.book.bytes.now m.now.reading.bytes.now) }
+    requires bytes_in_bounds { (lengths_of m.now.book.places m.now.reading.places m.now.edit.start m.now.edit.end (length m.now.edit.replacement.now) m.now.window.normalized.start m.now.window.normalized.end (length m.now.book.bytes.now)).base ≤ length out.old }
+    ensures { out.new ≡ overwrite out.old 0 (texts_of m.now.book.places m.now.reading.places m.now.edit.start m.now.edit.end m.now.edit.replacement.now m.now.window.normalized.start m.now.window.normalized.end m.now.book.bytes.now m.now.reading.bytes.now) }
 {
     let bytes = m.book.bytes;
     let text = m.book.places.text as usize;
@@ -45,8 +47,8 @@ fn put_new_texts(out: &mut [u8], m: &Merging)
     };
     let new_normalized = Spliced {
         whole: &bytes[text..first],
-        start: m.window.nstart as usize,
-        end: m.window.nend as usize,
+        start: m.window.normalized.start as usize,
+        end: m.window.normalized.end as usize,
         part: &m.reading.bytes[from..from + m.reading.places.normalized as usize],
     };
     merged_texts::put_texts(out, &new_text, &new_normalized, &bytes[first..bytes.len()]);
@@ -118,14 +120,20 @@ fn put_store(
     out_bytes: &mut [u8],
     work: &mut [u32],
 ) -> Option<Graft>
-    requires books { Books m.now.book.tape.now m.now.book.bytes.now m.now.book.places m.now.book.store.now (edit_of m.now.edit.start m.now.edit.end m.now.edit.replacement.now) (window_value m.now.window) m.now.reading.tape.now m.now.reading.bytes.now m.now.reading.places m.now.reading.store.now }
-    requires l_value { l ≡ lengths_of m.now.book.places m.now.reading.places m.now.edit.start m.now.edit.end (length m.now.edit.replacement.now) m.now.window.nstart m.now.window.nend (length m.now.book.bytes.now) }
+    requires books { BooksOf m.now }
+    requires l_value { l ≡ lengths_of m.now.book.places m.now.reading.places m.now.edit.start m.now.edit.end (length m.now.edit.replacement.now) m.now.window.normalized.start m.now.window.normalized.end (length m.now.book.bytes.now) }
     requires min_work_words_in_bounds { (min_work_words ≤ length work.old) × (l.normalized ≤ max_text) × (l.base ≤ length out_bytes.old) × (m.now.book.places.nodes.at ≤ length out_tape.old) }
     ensures { StoreTold (book_in m.now.book.tape.now m.now.book.bytes.now) (edit_of m.now.edit.start m.now.edit.end m.now.edit.replacement.now) (book_in m.now.reading.tape.now m.now.reading.bytes.now) (window_value m.now.window) out_tape.old out_bytes.old out_tape.new out_bytes.new m.now.book.places.nodes.at l.base (offsets_of m.now.book.store.now.totals) result }
 {
     let at = m.book.places.nodes.at;
     put_new_texts(out_bytes, m);
-    merged_texts::put_head(out_tape, m.book.tape, at, l.text as u32, l.normalized as u32);
+    merged_texts::put_head(
+        out_tape,
+        m.book.tape,
+        at,
+        l.text as u32,
+        l.normalized as u32,
+    );
     graft_reading(
         &m.reading,
         m.book.store.totals,
@@ -144,33 +152,33 @@ pub fn merge_books(
     out_bytes: &mut [u8],
     work: &mut [u32],
 ) -> Result<IncrementalOutput, Refusal>
-    requires { Books m.now.book.tape.now m.now.book.bytes.now m.now.book.places m.now.book.store.now (edit_of m.now.edit.start m.now.edit.end m.now.edit.replacement.now) (window_value m.now.window) m.now.reading.tape.now m.now.reading.bytes.now m.now.reading.places m.now.reading.store.now }
+    requires { BooksOf m.now }
     ensures { Written (result_checked (book_in m.now.book.tape.now m.now.book.bytes.now) (edit_of m.now.edit.start m.now.edit.end m.now.edit.replacement.now) (book_in m.now.reading.tape.now m.now.reading.bytes.now) (window_value m.now.window) (room_of out_tape.old out_bytes.old work.old)) (checked result) out_tape.old out_bytes.old work.old out_tape.new out_bytes.new work.new }
 {
     let p = m.book.places;
     let q = m.reading.places;
     let w = m.window;
-    let k = merged_lists::kept_in(m.book.tape, p, w);
+    let kept = merged_lists::kept_in(m.book.tape, p, w);
+    let counts = Counts { kept, reading: q };
     let l = merged_lists::new_lengths(m);
-    if !merged_lists::room_for(
-        l,
-        k,
-        q,
-        p.nodes.at,
-        out_tape.len(),
-        out_bytes.len(),
-        work.len(),
-    ) {
+    if !counts.room_for(l, p.nodes.at, out_tape.len(), out_bytes.len(), work.len()) {
         return Err(Refusal::NoRoom);
     }
     let Some(g) = put_store(m, l, out_tape, out_bytes, work) else {
         return Err(Refusal::NoRoom);
     };
     let at = p.nodes.at + g.len;
-    let size = merged_lists::lists_end(at, k, q);
+    let size = counts.lists_end(at);
     if out_tape.len() < size {
         return Err(Refusal::NoRoom);
     }
-    merged_lists::put_lists(m, k, out_tape, at);
-    Ok(merged_lists::output_of(w, k.nodes, q.nodes.count, g.stats, size, l.base + g.bytes))
+    merged_lists::put_lists(m, kept, out_tape, at);
+    Ok(merged_lists::output_of(
+        w,
+        kept.nodes,
+        q.nodes.count,
+        g.stats,
+        size,
+        l.base + g.bytes,
+    ))
 }

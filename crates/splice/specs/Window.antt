@@ -2,17 +2,17 @@
 use Rattle.std.specs.Prelude.{ℕ, ◌+◌, ◌%◌, pos}
 use Rattle.model.specs.Offset.{shift_clamp}
 use Rattle.model.specs.Merge.{MergeWindow, moved_offset}
-use Rattle.span.specs.Values.{value_of}
+use Rattle.span.specs.Values.{span_of, value_of}
 use Rattle.splice.specs.declared.Window.{Window}
 use Rattle.splice.specs.declared.Part.{Part}
 use Rattle.splice.specs.declared.Part.TheVariants.{Before, Reading, Behind}
 
 abbrev pub window_value : Window → MergeWindow
 window_value w = record {
-  source = record { start = w.start; end = w.end };
-  normalized = record { start = w.nstart; end = w.nend };
-  source_delta = value_of w.by;
-  normalized_delta = value_of w.nby;
+  source = span_of w.source;
+  normalized = span_of w.normalized;
+  source_delta = value_of w.source_delta;
+  normalized_delta = value_of w.normalized_delta;
 }
 
 unfoldable pub source_in : MergeWindow → Part → ℕ → ℕ

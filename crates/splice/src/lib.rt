@@ -3,7 +3,7 @@
 // where their offsets stand there; crate splice_lists writes pairs, containers and diagnostics, crate splice_nodes the nodes.
 #![tactic(auto)]
 
-ghost use Rattle.std.specs.Prelude.{◌≡◌, ℕ, ◌+◌, ◌*◌, ◌%◌, ◌≤◌, length, map};
+ghost use Rattle.std.specs.Prelude.{◌≡◌, ℕ, ◌+◌, ◌%◌, ◌≤◌, length};
 ghost use Rattle.model.specs.Tape.{Codec, record_at, records_at, record_bytes, records_bytes, pair_codec, container_codec, diagnostic_codec, node_codec};
 ghost use Rattle.model.specs.Merge.{Located, kept_before, kept_behind, pair_located, container_located, diagnostic_located, node_located, moved_offset};
 ghost use Rattle.wire.specs.Overwrite.{overwrite};
@@ -12,37 +12,18 @@ ghost use Rattle.splice.specs.Parts.{Kind, span_in, is_in, as_in, part_of};
 ghost use Rattle.splice.specs.Window.{window_value, source_in, normalized_in};
 ghost use Rattle.splice.specs.Counted.{row_in};
 
-use span::Span;
+mod section;
+
+pub use section::Section;
+use span::{Amount, Span};
 
 // The region in both texts, and how far what lies behind it moves in each: `MergeWindow`.
 #[derive(Clone, Copy)]
 pub struct Window {
-    pub start: u32,
-    pub end: u32,
-    pub nstart: u32,
-    pub nend: u32,
-    pub by: span::Amount,
-    pub nby: span::Amount,
-}
-
-impl Window {
-    fn source(self) -> Span
-        ensures { (result.start ≡ self.start) × (result.end ≡ self.end) }
-    {
-        Span {
-            start: self.start,
-            end: self.end,
-        }
-    }
-
-    fn normalized(self) -> Span
-        ensures { (result.start ≡ self.nstart) × (result.end ≡ self.nend) }
-    {
-        Span {
-            start: self.nstart,
-            end: self.nend,
-        }
-    }
+    pub source: Span,
+    pub normalized: Span,
+    pub source_delta: Amount,
+    pub normalized_delta: Amount,
 }
 
 // The parts of a merged list: the old one up to the region, the reading's, the old rest.
@@ -100,13 +81,13 @@ pub fn source_in(v: u32, w: Window, part: Part) -> u32
 {
     match part {
         Part::Before => v,
-        Part::Reading => span::shift_clamp(v, span::Amount::Forward(w.start as u64)),
-        Part::Behind => span::shift_clamp(v, w.by),
+        Part::Reading => span::shift_clamp(v, Amount::Forward(w.source.start as u64)),
+        Part::Behind => span::shift_clamp(v, w.source_delta),
     }
 }
 
 // `shift_u32`, and 0 where it has no answer.
-fn moved_offset(o: u32, by: span::Amount) -> u32
+fn moved_offset(o: u32, by: Amount) -> u32
     ensures { result ≡ moved_offset o (value_of by) }
 {
     span::shift_by(o, by).unwrap_or(0)
@@ -120,8 +101,8 @@ pub fn normalized_in(v: u32, w: Window, part: Part) -> u32
     match part {
         Part::Before => v,
         // A sum's low 32 bits where it passes a word: a record's bytes hold no more of it.
-        Part::Reading => v.wrapping_add(w.nstart),
-        Part::Behind => moved_offset(v, w.nby),
+        Part::Reading => v.wrapping_add(w.normalized.start),
+        Part::Behind => moved_offset(v, w.normalized_delta),
     }
 }
 
@@ -137,7 +118,7 @@ pub fn pair_in(tape: &[u8], at: usize, w: Window, part: Part) -> bool
     requires { at + 18 ≤ length tape.now }
     ensures { result ≡ is_in pair_located (window_value w) part (record_at pair_codec tape.now at) }
 {
-    row_in(tape, at, PAIR, w.source(), part)
+    row_in(tape, at, PAIR, w.source, part)
 }
 
 // ---- containers, `merge_container_pairs`: in the normalized text; one ends behind its close
@@ -152,7 +133,7 @@ pub fn container_in(tape: &[u8], at: usize, w: Window, part: Part) -> bool
     requires { at + 13 ≤ length tape.now }
     ensures { result ≡ is_in container_located (window_value w) part (record_at container_codec tape.now at) }
 {
-    row_in(tape, at, CONTAINER, w.normalized(), part)
+    row_in(tape, at, CONTAINER, w.normalized, part)
 }
 
 // ---- diagnostics, `merge_diagnostics`
@@ -167,7 +148,7 @@ pub fn diagnostic_in(tape: &[u8], at: usize, w: Window, part: Part) -> bool
     requires { at + 18 ≤ length tape.now }
     ensures { result ≡ is_in diagnostic_located (window_value w) part (record_at diagnostic_codec tape.now at) }
 {
-    row_in(tape, at, DIAGNOSTIC, w.source(), part)
+    row_in(tape, at, DIAGNOSTIC, w.source, part)
 }
 
 // ---- nodes, `merge_source_nodes`
@@ -182,7 +163,7 @@ pub fn node_in(tape: &[u8], at: usize, w: Window, part: Part) -> bool
     requires { at + 49 ≤ length tape.now }
     ensures { result ≡ is_in node_located (window_value w) part (record_at node_codec tape.now at) }
 {
-    row_in(tape, at, NODE, w.source(), part)
+    row_in(tape, at, NODE, w.source, part)
 }
 
 // ---- lists of any kind of record
@@ -211,76 +192,4 @@ pub trait Spliced {
         ensures { out.new ≡ overwrite out.old to (record_bytes codec (as_in located (window_value w) part (record_at codec tape.now at))) };
 
     ghost kind: { Kind codec located SIZE };
-}
-
-// How many records of a run are in a part.
-fn count_part<K: Spliced>(tape: &[u8], run: places::Run, w: Window, part: Part) -> usize
-    requires { run.at + K.SIZE * run.count ≤ length tape.now }
-    ensures { result ≡ length (part_of K.located (window_value w) part (records_at K.codec tape.now run.at run.count)) }
-{
-    let mut n = 0;
-    for i in 0..run.count {
-        n += usize::from(K::is_in(tape, run.at + K::SIZE * i, w, part));
-    }
-    n
-}
-
-pub fn count_before<K: Spliced>(tape: &[u8], run: places::Run, w: Window) -> usize
-    requires { run.at + K.SIZE * run.count ≤ length tape.now }
-    ensures { result ≡ length (kept_before K.located (window_value w) (records_at K.codec tape.now run.at run.count)) }
-{
-    count_part::<K>(tape, run, w, Part::Before)
-}
-
-pub fn count_behind<K: Spliced>(tape: &[u8], run: places::Run, w: Window) -> usize
-    requires { run.at + K.SIZE * run.count ≤ length tape.now }
-    ensures { result ≡ length (kept_behind K.located (window_value w) (records_at K.codec tape.now run.at run.count)) }
-{
-    count_part::<K>(tape, run, w, Part::Behind)
-}
-
-// The records of a run that are in a part, written as they stand there.
-fn put_part<K: Spliced>(
-    tape: &[u8],
-    run: places::Run,
-    w: Window,
-    part: Part,
-    out: &mut [u8],
-    to: usize,
-)
-    requires run_in_bounds { run.at + K.SIZE * run.count ≤ length tape.now }
-    requires part_in_bounds { to + K.SIZE * length (part_of K.located (window_value w) part (records_at K.codec tape.now run.at run.count)) ≤ length out.old }
-    ensures { out.new ≡ overwrite out.old to (records_bytes K.codec (part_of K.located (window_value w) part (records_at K.codec tape.now run.at run.count))) }
-{
-    let mut next = to;
-    for i in 0..run.count {
-        let place = run.at + K::SIZE * i;
-        if K::is_in(tape, place, w, part) {
-            K::put(tape, place, w, part, out, next);
-            next += K::SIZE;
-        }
-    }
-}
-
-pub fn put_before<K: Spliced>(tape: &[u8], run: places::Run, w: Window, out: &mut [u8], to: usize)
-    requires run_in_bounds { run.at + K.SIZE * run.count ≤ length tape.now }
-    requires part_in_bounds { to + K.SIZE * length (kept_before K.located (window_value w) (records_at K.codec tape.now run.at run.count)) ≤ length out.old }
-    ensures { out.new ≡ overwrite out.old to (records_bytes K.codec (kept_before K.located (window_value w) (records_at K.codec tape.now run.at run.count))) }
-{
-    put_part::<K>(tape, run, w, Part::Before, out, to);
-}
-
-pub fn put_reading<K: Spliced>(tape: &[u8], run: places::Run, w: Window, out: &mut [u8], to: usize)
-    requires { (run.at + K.SIZE * run.count ≤ length tape.now) × (to + K.SIZE * run.count ≤ length out.old) }
-    ensures { out.new ≡ overwrite out.old to (records_bytes K.codec (map (K.located.placed (window_value w)) (records_at K.codec tape.now run.at run.count))) }
-{
-    put_part::<K>(tape, run, w, Part::Reading, out, to);
-}
-
-pub fn put_behind<K: Spliced>(tape: &[u8], run: places::Run, w: Window, out: &mut [u8], to: usize)
-    requires run_in_bounds { run.at + K.SIZE * run.count ≤ length tape.now }
-    requires part_in_bounds { to + K.SIZE * length (kept_behind K.located (window_value w) (records_at K.codec tape.now run.at run.count)) ≤ length out.old }
-    ensures { out.new ≡ overwrite out.old to (records_bytes K.codec (map (K.located.moved (window_value w)) (kept_behind K.located (window_value w) (records_at K.codec tape.now run.at run.count)))) }
-{
-    put_part::<K>(tape, run, w, Part::Behind, out, to);
 }

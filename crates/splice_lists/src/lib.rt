@@ -13,7 +13,8 @@ ghost use Rattle.splice.specs.Parts.{as_in};
 ghost use Rattle.splice.specs.Window.{window_value};
 ghost use Rattle.splice.specs.Written.{four_bytes};
 
-// A command, a byte and four words: a pair or a diagnostic.
+// A command, a byte and four words: a pair or a diagnostic. That 18 bytes have room at `at` is asked by this and by both that call it: the
+// place is another at each call, so no value could hold it.
 fn put_four(out: &mut [u8], at: usize, command: u8, kind: u8, words: [u32; 4])
     requires { at + 18 ≤ length out.old }
     ensures { out.new ≡ overwrite out.old at (four_bytes command kind (get_or words 0 0) (get_or words 1 0) (get_or words 2 0) (get_or words 3 0)) }

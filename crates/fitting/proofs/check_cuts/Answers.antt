@@ -13,15 +13,15 @@ slice_bounds-normalized-end c =
 
 pub returns-then-not-cuts_ok : goal.returns-then-not-cuts_ok
 returns-then-not-cuts_ok c =
-    λ e. refused_16 c.requires.held.0 c.requires.held.1 e _ c.introduces_ruby_format_dependency.ensures c.if-introduces_ruby_format_dependency.false c.requires.nstart_value.0 c.requires.nstart_value.1 refl refl
+    λ e. refused_16 c.requires.held.0 c.requires.held.1 e _ c.introduces_ruby_format_dependency.ensures c.if-introduces_ruby_format_dependency.false c.requires.cuts_value.0 c.requires.cuts_value.1 refl refl
     c.cuts_ok.ensures c.if-not-cuts_ok.true
 
 pub returns-then-layer_missing : goal.returns-then-layer_missing
 returns-then-layer_missing c =
-    λ e. refused_17 c.requires.held.0 c.requires.held.1 e _ c.introduces_ruby_format_dependency.ensures c.if-introduces_ruby_format_dependency.false c.requires.nstart_value.0 c.requires.nstart_value.1 refl refl
+    λ e. refused_17 c.requires.held.0 c.requires.held.1 e _ c.introduces_ruby_format_dependency.ensures c.if-introduces_ruby_format_dependency.false c.requires.cuts_value.0 c.requires.cuts_value.1 refl refl
     c.cuts_ok.ensures c.if-not-cuts_ok.false c.layer_missing.ensures c.if-layer_missing.true
 
 pub returns : goal.returns
 returns c =
-    λ e. refused_none c.requires.held.0 c.requires.held.1 e _ c.introduces_ruby_format_dependency.ensures c.if-introduces_ruby_format_dependency.false c.requires.nstart_value.0 c.requires.nstart_value.1 refl refl
+    λ e. refused_none c.requires.held.0 c.requires.held.1 e _ c.introduces_ruby_format_dependency.ensures c.if-introduces_ruby_format_dependency.false c.requires.cuts_value.0 c.requires.cuts_value.1 refl refl
     c.cuts_ok.ensures c.if-not-cuts_ok.false c.layer_missing.ensures c.if-layer_missing.false

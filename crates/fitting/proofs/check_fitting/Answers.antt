@@ -74,7 +74,7 @@ check_cuts-requires c =
     let start = c in
     record {
       held = (start.requires.read.given.held, start.requires.read.held);
-      nstart_value = start.requires.nstart_value;
+      cuts_value = start.requires.cuts_value;
     }
 
 pub returns : goal.returns

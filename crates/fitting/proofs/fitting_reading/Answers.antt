@@ -14,17 +14,13 @@ pub store_of-own-requires : goal.store_of-own-requires
 store_of-own-requires c =
     reading_store_lem (passed_reading c.in_ok-q.ensures)
 
-pub region_window-w-requires : goal.region_window-w-requires
-region_window-w-requires c =
-    c.requires
-
 pub check_fitting-requires : goal.check_fitting-requires
 unfolding edit_of
 check_fitting-requires c =
     let read = reading_read (passed_reading c.in_ok-q.ensures) c.requires c.store_of-own.ensures in
     record {
       read = window_read read c.region_window-w.result c.region_window-w.ensures;
-      nstart_value = window_offsets read c.region_window-w.result c.region_window-w.ensures;
+      cuts_value = window_offsets read c.region_window-w.result c.region_window-w.ensures;
     }
 
 pub returns-in_err-check_fitting : goal.returns-in_err-check_fitting

@@ -7,7 +7,6 @@ use Rattle.merged_lists.proofs.put_diagnostics.Goals as goal
 
 pub put_list-requires : goal.put_list-requires
 put_list-requires c = record {
-  runs_in_bounds = c.requires.count_in_bounds;
   before_value = c.requires.before_value.0;
   list_in_bounds = omega (arith, c.requires.before_value.1, c.requires.all_in_bounds);
 }

@@ -1,61 +1,104 @@
+use Rattle.std.proofs.Common.{sym, ap, refl, arith}
+use Rattle.places.specs.declared.Run.{Run}
 use Rattle.merged_lists.specs.Lists.{lists_room, kept_is, lists_runs, lists_wrote}
-use mathlib.Core.Path.{refl}
-use native.Mathlib.Omega.{arith}
 use Rattle.merged_lists.proofs.put_lists.Goals as goal
 
-pub overflow_add-pairsat : goal.overflow_add-pairsat
-overflow_add-pairsat c =
+pub overflow_add-pairs_to : goal.overflow_add-pairs_to
+overflow_add-pairs_to c =
     let r = lists_room c.requires in omega (arith, r, c.well_formed, c.total.ensures)
 
-pub overflow_add-containersat : goal.overflow_add-containersat
-overflow_add-containersat c =
+pub overflow_add-containers_to : goal.overflow_add-containers_to
+overflow_add-containers_to c =
     let r = lists_room c.requires in omega (arith, r, c.well_formed, c.total.ensures, c.total-2.ensures)
 
-pub overflow_add-diagnosticsat : goal.overflow_add-diagnosticsat
-overflow_add-diagnosticsat c =
+pub overflow_add-diagnostics_to : goal.overflow_add-diagnostics_to
+overflow_add-diagnostics_to c =
     let r = lists_room c.requires in omega (arith, r, c.well_formed, c.total.ensures, c.total-2.ensures, c.total-3.ensures)
+
+pub new-requires : goal.new-requires
+new-requires c = (lists_runs c.requires).0
+
+pub new-requires-2 : goal.new-requires-2
+new-requires-2 c = (lists_runs c.requires).1.0
+
+pub new-requires-3 : goal.new-requires-3
+new-requires-3 c = (lists_runs c.requires).1.1
+
+pub new-requires-4 : goal.new-requires-4
+new-requires-4 c = (lists_runs c.requires).2.0
+
+pub new-requires-5 : goal.new-requires-5
+new-requires-5 c = (lists_runs c.requires).2.1
+
+pub new-requires-6 : goal.new-requires-6
+new-requires-6 c = (lists_runs c.requires).3.0
+
+pub new-requires-7 : goal.new-requires-7
+new-requires-7 c = (lists_runs c.requires).3.1
 
 pub put_nodes-requires : goal.put_nodes-requires
 put_nodes-requires c =
-    let r = lists_room c.requires in let i = kept_is c.requires in record {
-      count_in_bounds = (lists_runs c.requires).0;
-      before_value = i.nodes_before;
-      reading_in_bounds = omega (arith, r, i.nodes_before, i.nodes_behind);
+    let r = lists_room c.requires in
+    let i = kept_is c.requires in
+    let before = rw (sym c.new.ensures.0, sym c.new.ensures.1) at i.nodes_before in
+    let behind = rw (sym c.new.ensures.0, sym c.new.ensures.1) at i.nodes_behind in
+    record {
+      before_value = before;
+      reading_in_bounds = omega (arith, r, before, behind);
     }
 
 pub put_list-requires : goal.put_list-requires
 put_list-requires c =
-    let r = lists_room c.requires in let i = kept_is c.requires in record {
-      runs_in_bounds = (lists_runs c.requires).1;
-      before_value = i.pairs_before;
-      list_in_bounds = omega (arith, r, i.pairs_before, i.pairs_behind, c.total.ensures, c.total-2.ensures, c.total-3.ensures, c.total-count.ensures, c.put_nodes.auto.out);
+    let r = lists_room c.requires in
+    let i = kept_is c.requires in
+    let before = rw (sym c.new-2.ensures.0, sym c.new-2.ensures.1) at i.pairs_before in
+    let behind = rw (sym c.new-2.ensures.0, sym c.new-2.ensures.1) at i.pairs_behind in
+    let count = ap (λ (x : Run). x.count) c.new-3.ensures.1 in
+    record {
+      before_value = before;
+      list_in_bounds = omega (arith, r, before, behind, count, c.total.ensures, c.total-2.ensures, c.total-3.ensures, c.total-count.ensures, c.put_nodes.auto.out);
     }
 
 pub put_list-requires-2 : goal.put_list-requires-2
 put_list-requires-2 c =
-    let r = lists_room c.requires in let i = kept_is c.requires in record {
-      runs_in_bounds = (lists_runs c.requires).2;
-      before_value = i.containers_before;
-      list_in_bounds = omega (arith, r, i.containers_before, i.containers_behind, c.total.ensures, c.total-2.ensures, c.total-3.ensures, c.total-count.ensures, c.put_nodes.auto.out, c.put_list.auto.out);
+    let r = lists_room c.requires in
+    let i = kept_is c.requires in
+    let before = rw (sym c.new-4.ensures.0, sym c.new-4.ensures.1) at i.containers_before in
+    let behind = rw (sym c.new-4.ensures.0, sym c.new-4.ensures.1) at i.containers_behind in
+    let count = ap (λ (x : Run). x.count) c.new-5.ensures.1 in
+    record {
+      before_value = before;
+      list_in_bounds = omega (arith, r, before, behind, count, c.total.ensures, c.total-2.ensures, c.total-3.ensures, c.total-count.ensures, c.put_nodes.auto.out, c.put_list.auto.out);
     }
 
 pub put_diagnostics-requires : goal.put_diagnostics-requires
 put_diagnostics-requires c =
-    let r = lists_room c.requires in let i = kept_is c.requires in record {
-      count_in_bounds = (lists_runs c.requires).3;
-      before_value = (i.diagnostics_before, omega (arith, i.diagnostics_before, i.diagnostics_behind, c.total-count.ensures));
+    let r = lists_room c.requires in
+    let i = kept_is c.requires in
+    let before = rw (sym c.new-6.ensures.0, sym c.new-6.ensures.1) at i.diagnostics_before in
+    let behind = rw (sym c.new-6.ensures.0, sym c.new-6.ensures.1) at i.diagnostics_behind in
+    let count = ap (λ (x : Run). x.count) c.new-7.ensures.1 in
+    record {
+      before_value = (before, omega (arith, before, behind, count, c.total-count.ensures));
       all_in_bounds = omega (arith, r, c.total.ensures, c.total-2.ensures, c.total-3.ensures, c.total-count.ensures, c.put_nodes.auto.out, c.put_list.auto.out, c.put_list-2.auto.out);
-      count_value = c.requires.diagnostics;
+      count_value = rw (sym c.new-6.ensures.0, sym c.new-6.ensures.1, sym c.new-7.ensures.0, sym c.new-7.ensures.1) at c.requires.diagnostics;
     }
 
-pub overflow_add-diagnosticsat-2 : goal.overflow_add-diagnosticsat-2
-overflow_add-diagnosticsat-2 c =
-    let r = lists_room c.requires in omega (arith, r, c.well_formed, c.total.ensures, c.total-2.ensures, c.total-3.ensures, c.total-count.ensures, c.put_nodes.auto.out, c.put_list.auto.out, c.put_list-2.auto.out, c.put_diagnostics.auto.out)
+pub overflow_add-diagnostics_to-2 : goal.overflow_add-diagnostics_to-2
+overflow_add-diagnostics_to-2 c =
+    let r = lists_room c.requires in
+    omega (arith, r, c.well_formed, c.total.ensures, c.total-2.ensures, c.total-3.ensures, c.total-count.ensures, c.put_nodes.auto.out, c.put_list.auto.out, c.put_list-2.auto.out, c.put_diagnostics.auto.out)
 
 pub put_u8-requires : goal.put_u8-requires
 put_u8-requires c =
-    let r = lists_room c.requires in omega (arith, r, c.well_formed, c.total.ensures, c.total-2.ensures, c.total-3.ensures, c.total-count.ensures, c.put_nodes.auto.out, c.put_list.auto.out, c.put_list-2.auto.out, c.put_diagnostics.auto.out)
+    let r = lists_room c.requires in
+    omega (arith, r, c.well_formed, c.total.ensures, c.total-2.ensures, c.total-3.ensures, c.total-count.ensures, c.put_nodes.auto.out, c.put_list.auto.out, c.put_list-2.auto.out, c.put_diagnostics.auto.out)
 
 pub returns : goal.returns
 returns c =
-    lists_wrote c.requires c.args.out.now refl _ _ _ _ (omega (arith, c.total.ensures, c.total-2.ensures, c.total-3.ensures, c.total-count.ensures)) (omega (arith, c.total.ensures, c.total-2.ensures, c.total-3.ensures, c.total-count.ensures)) (omega (arith, c.total.ensures, c.total-2.ensures, c.total-3.ensures, c.total-count.ensures)) (omega (arith, c.total.ensures, c.total-2.ensures, c.total-3.ensures, c.total-count.ensures)) c.put_nodes.ensures c.put_list.ensures c.put_list-2.ensures c.put_diagnostics.ensures c.put_u8.ensures
+    let nodes = rw (c.new.ensures.0, c.new.ensures.1) at c.put_nodes.ensures in
+    let pairs = rw (c.new-2.ensures.0, c.new-2.ensures.1, c.new-3.ensures.0, c.new-3.ensures.1) at c.put_list.ensures in
+    let containers = rw (c.new-4.ensures.0, c.new-4.ensures.1, c.new-5.ensures.0, c.new-5.ensures.1) at c.put_list-2.ensures in
+    let diagnostics = rw (c.new-6.ensures.0, c.new-6.ensures.1, c.new-7.ensures.0, c.new-7.ensures.1) at c.put_diagnostics.ensures in
+    lists_wrote c.requires c.args.out.now refl _ _ _ _ (omega (arith, c.total.ensures)) (omega (arith, c.total-2.ensures)) (omega (arith, c.total-3.ensures)) (omega (arith, c.total-count.ensures))
+    nodes pairs containers diagnostics c.put_u8.ensures

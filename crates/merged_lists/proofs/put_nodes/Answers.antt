@@ -12,10 +12,7 @@ move_up-requires c =
 
 pub put_before-requires : goal.put_before-requires
 put_before-requires c =
-    record {
-      run_in_bounds = c.requires.count_in_bounds;
-      part_in_bounds = omega (arith, c.requires.before_value, c.requires.reading_in_bounds, c.move_up.auto.out);
-    }
+    omega (arith, c.requires.before_value, c.requires.reading_in_bounds, c.move_up.auto.out)
 
 pub place_nodes-requires : goal.place_nodes-requires
 place_nodes-requires c =
@@ -23,11 +20,11 @@ place_nodes-requires c =
 
 pub put_behind-requires : goal.put_behind-requires
 put_behind-requires c =
-    record {
-      run_in_bounds = c.requires.count_in_bounds;
-      part_in_bounds = omega (arith, c.requires.before_value, c.requires.reading_in_bounds, c.move_up.auto.out, c.put_before.auto.out, c.place_nodes.auto.out);
-    }
+    omega (arith, c.requires.before_value, c.requires.reading_in_bounds, c.move_up.auto.out, c.put_before.auto.out, c.place_nodes.auto.out)
 
 pub returns : goal.returns
 returns c =
-    nodes_wrote (window_value c.args.w) (records_at node_codec c.args.old.now.tape.now c.args.old.now.run.at c.args.old.now.run.count) (nodes_six c.args.old.now.tape.now c.args.old.now.run.at c.args.old.now.run.count) c.args.out.now c.args.to c.args.before c.args.reading c.requires.before_value c.requires.reading_in_bounds c.move_up.ensures c.put_before.ensures (run_length node_codec c.args.out.now c.args.to c.args.reading) c.place_nodes.ensures c.put_behind.ensures
+    let old = c.args.old.now in
+    let out = c.args.out.now in
+    nodes_wrote (window_value c.args.w) (records_at node_codec old.tape.now old.run.at old.run.count) (nodes_six old.tape.now old.run.at old.run.count) out c.args.to c.args.before c.args.reading
+    c.requires.before_value c.requires.reading_in_bounds c.move_up.ensures c.put_before.ensures (run_length node_codec out c.args.to c.args.reading) c.place_nodes.ensures c.put_behind.ensures

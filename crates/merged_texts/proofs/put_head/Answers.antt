@@ -7,5 +7,5 @@ use Rattle.merged_texts.proofs.put_head.Goals as goal
 
 pub returns : goal.returns
 returns c =
-    let n = length-take-le (c.args.nodesat - 9) (drop 9 c.args.tape.now) (rw (length-drop) (omega (arith, c.requires))) in
+    let n = length-take-le (c.args.nodes_at - 9) (drop 9 c.args.tape.now) (rw (length-drop) (omega (arith, c.requires))) in
     head_wrote _ _ _ _ (omega (arith, n, c.requires)) c.put_u8.ensures c.put_u32.ensures c.put_u32-2.ensures c.copy_at.ensures

@@ -1,16 +1,19 @@
+use Rattle.std.proofs.Common.{refl, sym, arith, ◌∙◌}
 use Rattle.model.specs.Region.{edit_of}
-use Rattle.result.specs.Merging.{old_fit, texts_inside, no_room, no_graft, no_size, at_small, lists_ready, bytes_small, merged}
-use Rattle.result.specs.Whole.{small}
 use Rattle.merged_lists.specs.Sizes.{room_facts}
 use Rattle.result.specs.Books.{inside}
-use Rattle.std.proofs.Common.{◌∙◌}
-use mathlib.Core.Path.{refl, sym}
-use native.Mathlib.Omega.{arith}
+use Rattle.result.specs.Whole.{small}
+use Rattle.result.specs.Merging.{old_fit, texts_inside, no_room, no_graft, no_size, at_small, lists_ready, bytes_small, merged}
 use Rattle.result.proofs.merge_books.Goals as goal
 
-pub kept_in-k-requires : goal.kept_in-k-requires
-kept_in-k-requires c =
+pub kept_in-kept-requires : goal.kept_in-kept-requires
+kept_in-kept-requires c =
     old_fit c.requires
+
+pub invariant_of-counts : goal.invariant_of-counts
+invariant_of-counts c = record {
+  small = small c.requires c.kept_in-kept.ensures;
+}
 
 pub new_lengths-l-requires : goal.new_lengths-l-requires
 unfolding edit_of
@@ -20,61 +23,69 @@ new_lengths-l-requires c =
       normalized_bound = (texts_inside c.requires).0;
     }
 
-pub room_for-requires : goal.room_for-requires
-room_for-requires c =
-    small c.requires c.kept_in-k.ensures
-
 pub returns-then-not-room_for : goal.returns-then-not-room_for
 unfolding edit_of
 returns-then-not-room_for c =
-    no_room c.requires c.kept_in-k.ensures c.new_lengths-l.ensures c.args.out_tape.now c.args.out_bytes.now c.args.work.now c.room_for.ensures c.if-not-room_for.true
+    no_room c.requires c.kept_in-kept.ensures c.new_lengths-l.ensures c.args.out_tape.now c.args.out_bytes.now c.args.work.now c.room_for.ensures c.if-not-room_for.true
 
 pub put_store-requires : goal.put_store-requires
 put_store-requires c =
     let f = room_facts _ _ _ _ _ _ _ (sym c.room_for.ensures ∙ c.if-not-room_for.false) in record {
       books = c.requires;
       l_value = c.new_lengths-l.ensures;
-      min_work_words_in_bounds = (f.work, f.normalized, f.base, f.nodesat);
+      min_work_words_in_bounds = (f.work, f.normalized, f.base, f.nodes_at);
     }
 
 pub returns-in_default : goal.returns-in_default
 unfolding edit_of
 returns-in_default c =
-    no_graft c.requires c.kept_in-k.ensures c.new_lengths-l.ensures c.args.out_tape.now c.args.out_bytes.now c.args.work.now c.in_default.ensures c.put_store.auto.out_tape c.put_store.auto.out_bytes c.put_store.auto.work
+    let s = c.put_store.auto in
+    no_graft c.requires c.kept_in-kept.ensures c.new_lengths-l.ensures c.args.out_tape.now c.args.out_bytes.now c.args.work.now c.in_default.ensures s.out_tape s.out_bytes s.work
 
 pub overflow_add-at : goal.overflow_add-at
 unfolding edit_of
 overflow_add-at c =
-    let x = at_small c.requires c.kept_in-k.ensures c.new_lengths-l.ensures c.args.out_tape.now c.args.out_bytes.now c.args.work.now c.in-Some.ensures c.put_store.auto.out_tape c.put_store.auto.out_bytes refl in omega (arith, x, c.well_formed)
+    let s = c.put_store.auto in
+    let x = at_small c.requires c.kept_in-kept.ensures c.new_lengths-l.ensures c.args.out_tape.now c.args.out_bytes.now c.args.work.now c.in-Some.ensures s.out_tape s.out_bytes refl in
+    omega (arith, x, c.well_formed)
 
 pub lists_end-size-requires : goal.lists_end-size-requires
 unfolding edit_of
 lists_end-size-requires c =
-    let x = at_small c.requires c.kept_in-k.ensures c.new_lengths-l.ensures c.args.out_tape.now c.args.out_bytes.now c.args.work.now c.in-Some.ensures c.put_store.auto.out_tape c.put_store.auto.out_bytes refl in record {
-      small = small c.requires c.kept_in-k.ensures;
-      at_bound = omega (arith, x, c.well_formed);
-    }
+    let s = c.put_store.auto in
+    let x = at_small c.requires c.kept_in-kept.ensures c.new_lengths-l.ensures c.args.out_tape.now c.args.out_bytes.now c.args.work.now c.in-Some.ensures s.out_tape s.out_bytes refl in
+    omega (arith, x, c.well_formed)
 
 pub returns-then-out_tape-size : goal.returns-then-out_tape-size
 unfolding edit_of
 returns-then-out_tape-size c =
-    no_size c.requires c.kept_in-k.ensures c.new_lengths-l.ensures c.args.out_tape.now c.args.out_bytes.now c.args.work.now c.in-Some.ensures c.put_store.auto.out_tape c.put_store.auto.out_bytes refl c.put_store.auto.work c.lists_end-size.ensures (omega (arith, c.if-out_tape-size.true, c.put_store.auto.out_tape))
+    let s = c.put_store.auto in
+    no_size c.requires c.kept_in-kept.ensures c.new_lengths-l.ensures c.args.out_tape.now c.args.out_bytes.now c.args.work.now c.in-Some.ensures s.out_tape s.out_bytes refl
+    s.work c.lists_end-size.ensures (omega (arith, c.if-out_tape-size.true, s.out_tape))
 
 pub put_lists-requires : goal.put_lists-requires
 unfolding edit_of
 put_lists-requires c =
-    lists_ready c.requires c.kept_in-k.ensures c.new_lengths-l.ensures c.args.out_tape.now c.args.out_bytes.now c.args.work.now c.in-Some.ensures c.put_store.auto.out_tape c.put_store.auto.out_bytes refl c.room_for.ensures c.if-not-room_for.false c.lists_end-size.ensures (omega (arith, c.if-out_tape-size.false, c.put_store.auto.out_tape))
+    let s = c.put_store.auto in
+    lists_ready c.requires c.kept_in-kept.ensures c.new_lengths-l.ensures c.args.out_tape.now c.args.out_bytes.now c.args.work.now c.in-Some.ensures s.out_tape s.out_bytes refl
+    c.room_for.ensures c.if-not-room_for.false c.lists_end-size.ensures (omega (arith, c.if-out_tape-size.false, s.out_tape))
 
 pub overflow_add-l : goal.overflow_add-l
 unfolding edit_of
 overflow_add-l c =
-    let x = bytes_small c.requires c.kept_in-k.ensures c.new_lengths-l.ensures c.args.out_tape.now c.args.out_bytes.now c.args.work.now c.in-Some.ensures c.put_store.auto.out_tape c.put_store.auto.out_bytes refl c.room_for.ensures c.if-not-room_for.false c.lists_end-size.ensures (omega (arith, c.if-out_tape-size.false, c.put_store.auto.out_tape)) in omega (arith, x, c.well_formed)
+    let s = c.put_store.auto in
+    let x = bytes_small c.requires c.kept_in-kept.ensures c.new_lengths-l.ensures c.args.out_tape.now c.args.out_bytes.now c.args.work.now c.in-Some.ensures s.out_tape s.out_bytes refl
+    c.room_for.ensures c.if-not-room_for.false c.lists_end-size.ensures (omega (arith, c.if-out_tape-size.false, s.out_tape)) in
+    omega (arith, x, c.well_formed)
 
 pub output_of-requires : goal.output_of-requires
 output_of-requires c =
-    (small c.requires c.kept_in-k.ensures).nodes
+    (small c.requires c.kept_in-kept.ensures).nodes
 
 pub returns : goal.returns
 unfolding edit_of
 returns c =
-    merged c.requires c.kept_in-k.ensures c.new_lengths-l.ensures c.args.out_tape.now c.args.out_bytes.now c.args.work.now c.in-Some.ensures c.put_store.auto.out_tape c.put_store.auto.out_bytes refl c.room_for.ensures c.if-not-room_for.false c.lists_end-size.ensures (omega (arith, c.if-out_tape-size.false, c.put_store.auto.out_tape)) c.put_store.auto.work c.put_lists.ensures (c.put_lists.auto.out ∙ c.put_store.auto.out_tape) c.output_of.ensures
+    let s = c.put_store.auto in
+    merged c.requires c.kept_in-kept.ensures c.new_lengths-l.ensures c.args.out_tape.now c.args.out_bytes.now c.args.work.now c.in-Some.ensures s.out_tape s.out_bytes refl
+    c.room_for.ensures c.if-not-room_for.false c.lists_end-size.ensures (omega (arith, c.if-out_tape-size.false, s.out_tape)) s.work
+    c.put_lists.ensures (c.put_lists.auto.out ∙ s.out_tape) c.output_of.ensures

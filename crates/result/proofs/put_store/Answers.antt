@@ -29,13 +29,15 @@ put_head-requires c =
 
 pub graft_reading-requires : goal.graft_reading-requires
 graft_reading-requires c =
+    let m = c.requires.min_work_words_in_bounds in
     record {
       source_fits = source_fits c.requires.books;
       strings_le_max_pool = pools_fit c.requires.books;
-      min_work_words_in_bounds = (omega (arith, c.requires.min_work_words_in_bounds.0), omega (arith, c.requires.min_work_words_in_bounds.2, c.put_new_texts.auto.out), omega (arith, c.requires.min_work_words_in_bounds.3, c.put_head.auto.out));
+      min_work_words_in_bounds = (omega (arith, m.0), omega (arith, m.2, c.put_new_texts.auto.out), omega (arith, m.3, c.put_head.auto.out));
     }
 
 pub returns : goal.returns
 unfolding edit_of
 returns c =
-    store_told c.requires.books c.requires.l_value c.args.out_tape.now c.args.out_bytes.now c.requires.min_work_words_in_bounds.3 c.requires.min_work_words_in_bounds.2 c.put_new_texts.ensures c.put_head.ensures c.graft_reading.ensures
+    let m = c.requires.min_work_words_in_bounds in
+    store_told c.requires.books c.requires.l_value c.args.out_tape.now c.args.out_bytes.now m.3 m.2 c.put_new_texts.ensures c.put_head.ensures c.graft_reading.ensures

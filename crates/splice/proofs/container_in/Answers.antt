@@ -6,4 +6,4 @@ use Rattle.splice.proofs.container_in.Goals as goal
 
 pub returns : goal.returns
 returns c =
-    c.row_in.ensures ∙ rw (c.normalized.ensures.0, c.normalized.ensures.1) (sym (container_in (window_value c.args.w) c.args.part c.args.tape.now c.args.at))
+    c.row_in.ensures ∙ (sym (container_in (window_value c.args.w) c.args.part c.args.tape.now c.args.at))

@@ -6,4 +6,4 @@ use Rattle.splice.proofs.pair_in.Goals as goal
 
 pub returns : goal.returns
 returns c =
-    c.row_in.ensures ∙ rw (c.source.ensures.0, c.source.ensures.1) (sym (pair_in (window_value c.args.w) c.args.part c.args.tape.now c.args.at))
+    c.row_in.ensures ∙ (sym (pair_in (window_value c.args.w) c.args.part c.args.tape.now c.args.at))

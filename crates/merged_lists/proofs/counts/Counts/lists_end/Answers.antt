@@ -1,6 +1,6 @@
 use Rattle.merged_lists.specs.Sizes.{lists_end}
 use native.Mathlib.Omega.{arith}
-use Rattle.merged_lists.proofs.lists_end.Goals as goal
+use Rattle.merged_lists.proofs.counts.Counts.lists_end.Goals as goal
 
 pub returns : goal.returns
 unfolding lists_end

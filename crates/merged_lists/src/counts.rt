@@ -1,0 +1,72 @@
+// How many records each merged list gets, and number 18 as far as that decides it.
+#![tactic(auto)]
+
+ghost use Rattle.merged_lists.specs.Sizes.{Small};
+
+use crate::{Kept, Lengths};
+use places::Places;
+
+const MAX_TEXT: usize = 16777215;
+
+const MAX_LIST: usize = 262143;
+
+const MIN_WORK_WORDS: usize = 16384;
+
+// What is kept of the old lists, and the places of the reading between; no sum of their counts is too large.
+#[derive(Clone, Copy)]
+pub struct Counts {
+    pub kept: Kept,
+    pub reading: Places,
+    pub ghost small: { Small kept reading },
+}
+
+impl Counts {
+    ghost use Rattle.std.specs.Prelude.{◌≡◌, ◌^◌, ◌<◌};
+    ghost use Rattle.merged_lists.specs.Sizes.{lists_fit, room_for, lists_end};
+
+    #[tactic(auto, using(std::proofs::lemmas::Bool::Decides::nat_tests), unfolding(crate::specs::Sizes::lists_fit))]
+    fn lists_fit(&self) -> bool
+        ensures { result ≡ lists_fit self.now.kept self.now.reading }
+    {
+        let k = self.kept;
+        let q = self.reading;
+        k.nodes.total(q.nodes.count) <= MAX_LIST
+            && k.pairs.total(q.pairs.count) <= MAX_LIST
+            && k.containers.total(q.containers.count) <= MAX_LIST
+            && k.diagnostics.total(q.diagnostics.count) <= MAX_LIST
+    }
+
+    // Number 18 as far as it is known before the graft: work words, number 3 of the new normalized text and of the lists, room for both
+    // texts and the old strings, and for the head and the old layers.
+    #[tactic(auto, using(std::proofs::lemmas::Bool::Decides::nat_tests), unfolding(crate::specs::Sizes::room_for))]
+    pub fn room_for(
+        &self,
+        l: Lengths,
+        nodes_at: usize,
+        tape: usize,
+        bytes: usize,
+        work: usize,
+    ) -> bool
+        ensures { result ≡ room_for l self.now.kept self.now.reading nodes_at tape bytes work }
+    {
+        MIN_WORK_WORDS <= work
+            && l.normalized <= MAX_TEXT
+            && l.base <= bytes
+            && nodes_at <= tape
+            && self.lists_fit()
+    }
+
+    // Where a tape ends whose lists begin at `at`.
+    pub fn lists_end(&self, at: usize) -> usize
+        requires { at < 2 ^ 63 }
+        ensures { result ≡ lists_end at self.now.kept self.now.reading }
+    {
+        let k = self.kept;
+        let q = self.reading;
+        let nodes = k.nodes.total(q.nodes.count);
+        let pairs = k.pairs.total(q.pairs.count);
+        let containers = k.containers.total(q.containers.count);
+        let diagnostics = k.diagnostics.total(q.diagnostics.count);
+        at + 49 * nodes + 18 * pairs + 13 * containers + 18 * diagnostics + 1
+    }
+}

@@ -1,6 +1,0 @@
-use Rattle.splice.specs.Parts.{PutUpTo}
-use Rattle.splice.specs.Window.{window_value}
-use Rattle.splice.proofs.put_part.Given as goal
-
-abbrev pub invariant-loop-i : goal.invariant-loop-i
-invariant-loop-i g l = PutUpTo g.K.Spliced.codec g.K.Spliced.located (window_value l.w) l.part l.tape l.run.at l.initial.out l.to l.i l.next l.out
