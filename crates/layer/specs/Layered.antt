@@ -25,7 +25,7 @@ use Rattle.graft.specs.declared.Mark.{Mark}
 use Rattle.graft.specs.Grafted.{Sized}
 use Rattle.graft.specs.NodeItems.{refs_sized, refs_width, length_refs}
 use Rattle.layer.specs.declared.Offsets.{Offsets}
-use Rattle.layer.specs.declared.Layer.{Layer}
+use Rattle.layer.specs.declared.Grafted.{Grafted}
 use Rattle.layer.specs.Lengths.{strings_width}
 
 -- ---- definitions
@@ -74,7 +74,7 @@ room_left o = record { contents = 1048575 - o.contents; segments = 1048575 - o.s
 abbrev pub plan_of : Offsets → ℕ → ℕ → Plan
 plan_of o at contents = record { strings = o.strings; contents = o.contents; segments = o.segments; contents_at = at + 1; segments_at = at + 1 + 10 * contents }
 
-abbrev pub layer_by : Mark → ℕ → Layer
+abbrev pub layer_by : Mark → ℕ → Grafted
 layer_by m len = record { len = len; strings = m.state.count; contents = m.contents; segments = m.segments; state = m.state }
 
 -- ---- a layer above those of a book

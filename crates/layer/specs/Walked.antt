@@ -32,7 +32,7 @@ use Rattle.graft.specs.Walk.{index_words, Ready}
 use Rattle.representatives.specs.Pairs.{Pairs}
 use Rattle.graft.specs.NodeItems.{shown_of, NodesTold, refs_from}
 use Rattle.layer.specs.declared.Offsets.{Offsets}
-use Rattle.layer.specs.Source.{SourceFits, source_of, source_adds_lem, source_shown}
+use Rattle.layer.specs.Source.{SourceFits, source_adds_lem, source_shown}
 use Rattle.layer.specs.Layered.{new_layer, grafted_into, source_adds, plan_of, LayerSizes, layer_sizes}
 
 abbrev pub offsets_of : Plan → Offsets

@@ -14,13 +14,12 @@ use Rattle.model.specs.Tree.{shown_node, shown_nodes}
 use Rattle.model.specs.Graft.{With, graft_node_refs}
 use Rattle.wire.specs.Overwrite.{overwrite, overwrite_nil}
 use Rattle.stats.specs.Counts.{stats_of, no_stats}
-use Rattle.places.specs.declared.Places.{Places}
-use Rattle.store.specs.declared.Store.{Store}
 use Rattle.store.specs.Lengths.{book_lengths}
-use Rattle.layer.specs.Source.{SourceFits}
 use Rattle.store.specs.declared.Totals.{Totals}
+use Rattle.region.specs.declared.book.Book.{Book}
+use Rattle.region.specs.Books.{book_of}
 use Rattle.layer.specs.declared.Offsets.{Offsets}
-use Rattle.layer.specs.declared.Layer.{Layer}
+use Rattle.layer.specs.declared.Grafted.{Grafted}
 use Rattle.layer.specs.Answers.{LayerTold}
 use Rattle.layer.specs.Layered.{new_layer, grafted_into, layer_records, layer_ok}
 use Rattle.result.specs.declared.Graft.{Graft}
@@ -85,7 +84,7 @@ module _ (t d : List ℕ) (o : Offsets) where
     unfolding graft_ok
     graft_refused told = rw e (record { ok = told.room; made = tt })
 
-    module _ (l : Layer) (told : LayerTold out strs out' strs' at base o (Some l) (grafted_into t d o)) where
+    module _ (l : Grafted) (told : LayerTold out strs out' strs' at base o (Some l) (grafted_into t d o)) where
       pub graft_some : (r : Graft) → r.len ≡ l.len → r.bytes ≡ l.state.used - base → r.stats ≡ l.state.stats → GraftTold out strs out' strs' at base o (is_empty nodes) (Some r) (grafted_into t d o)
       unfolding graft_ok new_layer_bytes new_string_bytes layer_records
       graft_some r len bytes stats =
@@ -99,21 +98,22 @@ module _ (t d : List ℕ) (o : Offsets) where
       pub graft_used : base ≤ l.state.used
       graft_used = let m = told.made l refl in omega (arith, m.used)
 
-  -- where the code counts the nodes
-  pub some_nodes : (n : ℕ) → length nodes ≡ n → (n ≡ 0 → ⊥) → is_empty nodes ≡ false
-  some_nodes n e h = go nodes e
+-- ---- where the code counts the nodes
+
+module _ (b : Book) where
+  node_count : length (book_of b).source_nodes ≡ b.places.nodes.count
+  node_count = (book_lengths b.tape.now b.bytes.now b.places b.held.accepted.framing b.held.is).nodes
+
+  pub some_nodes : (b.places.nodes.count ≡ 0 → ⊥) → is_empty (book_of b).source_nodes ≡ false
+  some_nodes h = go (book_of b).source_nodes node_count
     where
-      go : (ns : List SourceNode) → length ns ≡ n → is_empty ns ≡ false
+      go : (ns : List SourceNode) → length ns ≡ b.places.nodes.count → is_empty ns ≡ false
       go [] q = absurd (h (sym q))
       go (x ∷ ns) q = refl
 
-  pub zero_nodes : (n : ℕ) → length nodes ≡ n → n ≡ 0 → is_empty nodes ≡ true
-  zero_nodes n e h = go nodes (e ∙ h)
+  pub zero_nodes : b.places.nodes.count ≡ 0 → is_empty (book_of b).source_nodes ≡ true
+  zero_nodes h = go (book_of b).source_nodes (node_count ∙ h)
     where
       go : (ns : List SourceNode) → length ns ≡ 0 → is_empty ns ≡ true
       go [] q = refl
       go (x ∷ ns) q = absurd (omega (arith, q))
-
--- how many there are
-pub source_count : {t d : List ℕ} {p : Places} {st : Store} → SourceFits t d p st → length (book_at t (places t) d).source_nodes ≡ p.nodes.count
-source_count {t} {d} {p} f = (book_lengths t d p f.accepted.framing f.is).nodes

@@ -11,7 +11,6 @@ ghost use Rattle.model.specs.Region.{edit_of};
 ghost use Rattle.model.specs.Merge.{room_of, result_checked};
 ghost use Rattle.refusal.specs.Refusal.{checked};
 ghost use Rattle.splice.specs.Window.{window_value};
-ghost use Rattle.layer.specs.Source.{SourceFits};
 ghost use Rattle.layer.specs.Layered.{grafted_into};
 ghost use Rattle.output.specs.Answer.{Written};
 ghost use Rattle.fitting.specs.Books.{Books, book_in};
@@ -20,6 +19,7 @@ ghost use Rattle.result.specs.Grafting.{offsets_of, GraftTold};
 ghost use Rattle.result.specs.Stages.{texts_of, StoreTold};
 
 use books::Merging;
+use layer::{Offsets, Place};
 use merged_texts::Spliced;
 use output::IncrementalOutput;
 use refusal::Refusal;
@@ -71,43 +71,29 @@ fn graft_reading(
     at: usize,
     base: usize,
 ) -> Option<Graft>
-    requires source_fits { SourceFits reading.now.tape.now reading.now.bytes.now reading.now.places reading.now.store.now }
     requires strings_le_max_pool { (below.strings ≤ max_pool) × (below.contents ≤ max_pool) × (below.segments ≤ max_pool) }
     requires min_work_words_in_bounds { (min_work_words ≤ length work.old) × (base ≤ length strs.old) × (at ≤ length out.old) }
     ensures { GraftTold out.old strs.old out.new strs.new at base (offsets_of below) (is_empty (book_in reading.now.tape.now reading.now.bytes.now).source_nodes) result (grafted_into reading.now.tape.now reading.now.bytes.now (offsets_of below)) }
 {
-    let p = reading.places;
-    if p.nodes.count == 0 {
+    if reading.places.nodes.count == 0 {
         return Some(Graft {
             len: 0,
             bytes: 0,
             stats: InternStats::default(),
         });
     }
-    let o = layer::Offsets {
+    let below = Offsets {
         strings: below.strings,
         contents: below.contents,
         segments: below.segments,
     };
-    match layer::graft_layer(
-        reading.tape,
-        reading.bytes,
-        p,
-        *reading.store,
-        out,
-        work,
-        strs,
-        o,
-        at,
-        base,
-    ) {
-        None => None,
-        Some(l) => Some(Graft {
-            len: l.len,
-            bytes: l.state.used - base,
-            stats: l.state.stats,
-        }),
-    }
+    let to = Place { below, at, base };
+    let l = layer::graft_layer(reading, to, out, work, strs)?;
+    Some(Graft {
+        len: l.len,
+        bytes: l.state.used - base,
+        stats: l.state.stats,
+    })
 }
 
 // Both texts and the strings; the head and the layers, the grafted nodes behind them.
@@ -125,7 +111,13 @@ fn put_store(
 {
     let at = m.book.places.nodes.at;
     put_new_texts(out_bytes, m);
-    merged_texts::put_head(out_tape, m.book.tape, at, l.text as u32, l.normalized as u32);
+    merged_texts::put_head(
+        out_tape,
+        m.book.tape,
+        at,
+        l.text as u32,
+        l.normalized as u32,
+    );
     graft_reading(
         &m.reading,
         m.book.store.totals,

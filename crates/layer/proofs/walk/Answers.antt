@@ -1,7 +1,5 @@
 use Rattle.layer.specs.Walked.{walk_ready, walk_low, walk_none, walk_told}
 use Rattle.layer.specs.Source.{source_of, source_inside, source_nodes_lem}
-use Prim.Native.Nat.{◌-◌}
-use native.Mathlib.Omega.{arith}
 use Rattle.layer.proofs.walk.Goals as goal
 
 pub index_words-requires : goal.index_words-requires
