@@ -91,14 +91,31 @@ pub record Walked (p : Plan) (base nodesat : ℕ) (out strs out' work' strs' : L
   pub room : is_some r ≡ has_room (length strs) base g.1.interner
   pub made : (m : Mark) → r ≡ Some m → WalkMade p base nodesat out strs out' work' strs' m g
 
-module _ {t d : List ℕ} {q : Places} {st : Store} (f : SourceFits t d q st) {work₀ strs work : List ℕ} {base : ℕ} {s : Interner} (b : Fresh work₀ strs base work s) (index : Indexed (lengths_in t) (index_words work₀)) {ps : List ℕ} (stay : pair_words work₀ ≡ ps) (pairs : Pairs (resolve_str (source_store t d)) ps) (p : Plan) (nodesat : ℕ) (out : List ℕ) where
+-- a source, an index of its strings, their pairs, and an interner that has nothing yet
+pub record Begun (t d : List ℕ) (q : Places) (st : Store) (work₀ strs work : List ℕ) (base : ℕ) (s : Interner) : Type 0 where
+  pub source : SourceFits t d q st
+  pub fresh : Fresh work₀ strs base work s
+  pub index : Indexed (lengths_in t) (index_words work₀)
+  pub pairs : Pairs (resolve_str (source_store t d)) (pair_words work₀)
+
+pub begun : {t d : List ℕ} {q : Places} {st : Store} → SourceFits t d q st → {work₀ strs work : List ℕ} {base : ℕ} {s : Interner} → Fresh work₀ strs base work s
+    → {ps : List ℕ} → Indexed (lengths_in t) (index_words work₀) × (pair_words work₀ ≡ ps) → Pairs (resolve_str (source_store t d)) ps → Begun t d q st work₀ strs work base s
+begun {t} {d} f b i k = record { source = f; fresh = b; index = i.0; pairs = subst (λ (l : List ℕ). Pairs (resolve_str (source_store t d)) l) (sym i.1) k }
+
+module _ {t d : List ℕ} {q : Places} {st : Store} {work₀ strs work : List ℕ} {base : ℕ} {s : Interner} (begin : Begun t d q st work₀ strs work base s) (p : Plan) (nodesat : ℕ) (out : List ℕ) where
+  f : SourceFits t d q st
+  f = begin.source
+
+  b : Fresh work₀ strs base work s
+  b = begin.fresh
+
   no_calls : s.stats.calls ≡ 0
   no_calls = ap (λ (x : StrInterner). x.stats.calls) b.state
 
   pub walk_ready : WalkRoom p nodesat q.nodes.count (length out) (source_adds t d) → Ready t d p (fresh_mark s) out work strs (nodes_add t st q.nodes.at q.nodes.count)
   walk_ready w = rw (source_adds_lem f) (record {
-    index = index_kept t work₀ base b.words index;
-    pairs = rw (b.words, start_high work₀ 0 base 15360 (omega arith), stay) pairs;
+    index = index_kept t work₀ base b.words begin.index;
+    pairs = rw (b.words, start_high work₀ 0 base 15360 (omega arith)) begin.pairs;
     good = b.good;
     named = λ m e. absurd (none-some m e);
     has = sym (room_same work strs s b.good);
