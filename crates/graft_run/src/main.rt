@@ -4,12 +4,13 @@
 #![tactic(auto)]
 
 ghost use Rattle.std.specs.Prelude.{◌≡◌, IfSome, true, ◌+◌, ◌*◌, ◌≤◌, length};
-ghost use Rattle.layer.specs.Layered.{OffsetsFit};
+ghost use Rattle.layer.specs.Layered.{TotalsFit};
 
-use layer::{Grafted, Offsets, Place};
+use layer::{Grafted, Place};
 use region::Book;
 use std::io;
 use std::io::Read;
+use store::Totals;
 
 const MAX_POOL: u32 = 1048575;
 
@@ -54,12 +55,12 @@ fn put_answer(
 fn graft(
     rt: &impl Print,
     source: &Book,
-    below: Offsets,
+    below: Totals,
     out: &mut [u8],
     work: &mut [u32],
     strs: &mut [u8],
 ) -> io::Result<()>
-    requires offsets_fit { OffsetsFit below }
+    requires totals_fit { TotalsFit below }
     requires in_bounds { 16384 ≤ length work.old }
 {
     let to = Place {
@@ -72,8 +73,8 @@ fn graft(
 }
 
 // Number 3. No pool below the new layer is over its limit.
-fn offsets_fit(o: Offsets) -> bool
-    ensures { result ≡ true → OffsetsFit o }
+fn totals_fit(o: Totals) -> bool
+    ensures { result ≡ true → TotalsFit o }
 {
     o.strings <= MAX_POOL && o.contents <= MAX_POOL && o.segments <= MAX_POOL
 }
@@ -83,12 +84,12 @@ fn show_graft(rt: &(impl Alloc + Print), c: cases::Case) -> io::Result<()> {
         Ok(places) => places,
         Err(refusal) => return print!(rt; "refused {}", u32::from(refusal)),
     };
-    let below = Offsets {
+    let below = Totals {
         strings: wire::u32_or_zero(c.replacement, 0),
         contents: wire::u32_or_zero(c.replacement, 4),
         segments: wire::u32_or_zero(c.replacement, 8),
     };
-    if !offsets_fit(below) {
+    if !totals_fit(below) {
         return print!(rt; "refused 18");
     }
     let store = store::store_of(c.tape, places.layers);

@@ -24,11 +24,11 @@ use Rattle.sizes.specs.Added.{Added}
 use Rattle.sizes.specs.Capped.{fits, fits_room_lem, sizes_in}
 use Rattle.sizes.specs.Calls.{Limited}
 use Rattle.graft.specs.declared.Mark.{Mark}
-use Rattle.layer.specs.declared.Offsets.{Offsets}
+use Rattle.store.specs.declared.Totals.{Totals}
 use Rattle.layer.specs.declared.Grafted.{Grafted}
 use Rattle.layer.specs.Lengths.{new_lengths, lengths_width, good_rising, string_lengths_lem, Rising}
 use Rattle.layer.specs.LaidOut.{moved_written, three_blocks}
-use Rattle.layer.specs.Layered.{OffsetsFit, room_left, plan_of, layer_by, layer_records, layer_ok, LayerSizes, LayerFits, layer_ok_lem, layer_refused}
+use Rattle.layer.specs.Layered.{TotalsFit, room_left, plan_of, layer_by, layer_records, layer_ok, LayerSizes, LayerFits, layer_ok_lem, layer_refused}
 use Rattle.layer.specs.Walked.{WalkRoom, WalkMade}
 
 -- The layer and the nodes where they belong. What stands behind the strings is not said.
@@ -42,7 +42,7 @@ pub record LayerMade (out strs out' strs' : List ℕ) (at base : ℕ) (r : Graft
   pub stats : stats_of r.state.stats ≡ g.1.interner.stats
   pub used : r.state.used ≡ base + length (flatten g.1.interner.strings)
 
-pub record LayerTold (out strs out' strs' : List ℕ) (at base : ℕ) (o : Offsets) (r : Option Grafted) (g : With (List SourceNode)) : Type 0 where
+pub record LayerTold (out strs out' strs' : List ℕ) (at base : ℕ) (o : Totals) (r : Option Grafted) (g : With (List SourceNode)) : Type 0 where
   pub room : is_some r ≡ layer_ok (length out) (length strs) at base o g
   pub made : (l : Grafted) → r ≡ Some l → LayerMade out strs out' strs' at base l g
 
@@ -95,10 +95,10 @@ module _ (m : Room) (a : Added) {r : Option Sizes} (e : r ≡ sizes_in m a) wher
       record { contents = cc; segments = cc; calls = cc; contents_fit = r.0; segments_fit = r.1 }
 
 -- as `reading_sizes` answers in the room that is left
-pub left_sizes : (o : Offsets) (a : Added) {m : Room} {s : Option Sizes} → m ≡ room_left o → s ≡ sizes_in m a → s ≡ sizes_in (room_left o) a
+pub left_sizes : (o : Totals) (a : Added) {m : Room} {s : Option Sizes} → m ≡ room_left o → s ≡ sizes_in m a → s ≡ sizes_in (room_left o) a
 left_sizes o a {m} e f = f ∙ ap (λ (x : Room). sizes_in x a) e
 
-pub left_limited : {m : Room} (o : Offsets) {nodes : ℕ} → m ≡ room_left o → nodes ≤ max_list → Limited m nodes
+pub left_limited : {m : Room} (o : Totals) {nodes : ℕ} → m ≡ room_left o → nodes ≤ max_list → Limited m nodes
 left_limited o e h = record { contents = omega (arith, ap (λ (x : Room). x.contents) e); segments = omega (arith, ap (λ (x : Room). x.segments) e); few = h }
 
 -- ---- refusals
@@ -106,7 +106,7 @@ left_limited o e h = record { contents = omega (arith, ap (λ (x : Room). x.cont
 same_records : (xs ys zs us : List ℕ) → xs ++ (ys ++ (zs ++ us)) ≡ (xs ++ (ys ++ zs)) ++ us
 same_records xs ys zs us = simp append_assoc
 
-module _ (out strs : List ℕ) (at base : ℕ) (o : Offsets) (small : OffsetsFit o) (g : With (List SourceNode)) {a : Added} {nodes : ℕ} (z : LayerSizes g a nodes) where
+module _ (out strs : List ℕ) (at base : ℕ) (o : Totals) (small : TotalsFit o) (g : With (List SourceNode)) {a : Added} {nodes : ℕ} (z : LayerSizes g a nodes) where
   abbrev Fits : Type 0
   Fits = LayerFits (length out) (length strs) at base o g
 

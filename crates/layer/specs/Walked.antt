@@ -31,11 +31,11 @@ use Rattle.graft.specs.Named.{source_store, pair_words}
 use Rattle.graft.specs.Walk.{index_words, Ready}
 use Rattle.representatives.specs.Pairs.{Pairs}
 use Rattle.graft.specs.NodeItems.{shown_of, NodesTold, refs_from}
-use Rattle.layer.specs.declared.Offsets.{Offsets}
+use Rattle.store.specs.declared.Totals.{Totals}
 use Rattle.layer.specs.Source.{SourceFits, source_adds_lem, source_shown}
 use Rattle.layer.specs.Layered.{new_layer, grafted_into, source_adds, plan_of, LayerSizes, layer_sizes}
 
-abbrev pub offsets_of : Plan → Offsets
+abbrev pub offsets_of : Plan → Totals
 offsets_of p = record { strings = p.strings; contents = p.contents; segments = p.segments }
 
 -- nothing pushed yet
@@ -177,10 +177,10 @@ module _ {t d : List ℕ} {q : Places} {st : Store} {work₀ strs work : List �
     walk_told k = from_here (rw same_graft at k)
 
 -- by the plan of a layer from `at` on
-pub walked_by : (t d : List ℕ) (o : Offsets) (at contents : ℕ) {p : Plan} {base nodesat : ℕ} {out strs out' work' strs' : List ℕ} {r : Option Mark} → p ≡ plan_of o at contents
+pub walked_by : (t d : List ℕ) (o : Totals) (at contents : ℕ) {p : Plan} {base nodesat : ℕ} {out strs out' work' strs' : List ℕ} {r : Option Mark} → p ≡ plan_of o at contents
     → Walked p base nodesat out strs out' work' strs' r (grafted_into t d (offsets_of p)) → Walked (plan_of o at contents) base nodesat out strs out' work' strs' r (grafted_into t d o)
 walked_by t d o at contents {base = base} {nodesat = n} {out = out} {strs = strs} {out' = out'} {work' = work'} {strs' = strs'} {r = r} e w =
     subst (λ (q : Plan). Walked q base n out strs out' work' strs' r (grafted_into t d (offsets_of q))) e w
 
-pub source_sizes : {t d : List ℕ} {q : Places} {st : Store} → SourceFits t d q st → (o : Offsets) → LayerSizes (grafted_into t d o) (source_adds t d) q.nodes.count
+pub source_sizes : {t d : List ℕ} {q : Places} {st : Store} → SourceFits t d q st → (o : Totals) → LayerSizes (grafted_into t d o) (source_adds t d) q.nodes.count
 source_sizes {t} {d} {q} f o = layer_sizes t d o (book_lengths t d q f.accepted.framing f.is).nodes

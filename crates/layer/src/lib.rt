@@ -27,17 +27,10 @@ use grafting::Grafting;
 use interner::StrInterner;
 pub use place::Place;
 use region::Book;
+use store::Totals;
 use table::STARTS;
 
 const MAX_POOL: usize = 1048575;
-
-// Where the new layer's numbers begin: the counts of the layers below it.
-#[derive(Clone, Copy, Debug, PartialEq, Eq)]
-pub struct Offsets {
-    pub strings: u32,
-    pub contents: u32,
-    pub segments: u32,
-}
 
 // The layer that was written: the bytes of its records, its command with them, how many items it has, and its interner.
 #[derive(Clone, Copy, Debug, PartialEq, Eq)]
@@ -133,7 +126,7 @@ fn strings_fit(below: u32, count: usize, left: usize) -> bool
 // ---- the walk
 
 // Contents go right behind the layer's 2, segments right behind them.
-fn plan_of(o: Offsets, at: usize, contents: u32) -> graft::Plan
+fn plan_of(o: Totals, at: usize, contents: u32) -> graft::Plan
     requires { at + 1 + 10 * contents < 2 ^ 63 }
     ensures { result ≡ plan_of o at contents }
 {

@@ -15,11 +15,11 @@ ghost use Rattle.layer.specs.Layered.{grafted_into};
 ghost use Rattle.output.specs.Answer.{Written};
 ghost use Rattle.fitting.specs.Books.{Books, book_in};
 ghost use Rattle.merged_lists.specs.Sizes.{lengths_of};
-ghost use Rattle.result.specs.Grafting.{offsets_of, GraftTold};
+ghost use Rattle.result.specs.Grafting.{GraftTold};
 ghost use Rattle.result.specs.Stages.{texts_of, StoreTold};
 
 use books::Merging;
-use layer::{Offsets, Place};
+use layer::Place;
 use merged_texts::Spliced;
 use output::IncrementalOutput;
 use refusal::Refusal;
@@ -73,7 +73,7 @@ fn graft_reading(
 ) -> Option<Graft>
     requires strings_le_max_pool { (below.strings ≤ max_pool) × (below.contents ≤ max_pool) × (below.segments ≤ max_pool) }
     requires min_work_words_in_bounds { (min_work_words ≤ length work.old) × (base ≤ length strs.old) × (at ≤ length out.old) }
-    ensures { GraftTold out.old strs.old out.new strs.new at base (offsets_of below) (is_empty (book_in reading.now.tape.now reading.now.bytes.now).source_nodes) result (grafted_into reading.now.tape.now reading.now.bytes.now (offsets_of below)) }
+    ensures { GraftTold out.old strs.old out.new strs.new at base below (is_empty (book_in reading.now.tape.now reading.now.bytes.now).source_nodes) result (grafted_into reading.now.tape.now reading.now.bytes.now below) }
 {
     if reading.places.nodes.count == 0 {
         return Some(Graft {
@@ -82,11 +82,6 @@ fn graft_reading(
             stats: InternStats::default(),
         });
     }
-    let below = Offsets {
-        strings: below.strings,
-        contents: below.contents,
-        segments: below.segments,
-    };
     let to = Place { below, at, base };
     let l = layer::graft_layer(reading, to, out, work, strs)?;
     Some(Graft {
@@ -107,7 +102,7 @@ fn put_store(
     requires books { Books m.now.book.tape.now m.now.book.bytes.now m.now.book.places m.now.book.store.now (edit_of m.now.edit.start m.now.edit.end m.now.edit.replacement.now) (window_value m.now.window) m.now.reading.tape.now m.now.reading.bytes.now m.now.reading.places m.now.reading.store.now }
     requires l_value { l ≡ lengths_of m.now.book.places m.now.reading.places m.now.edit.start m.now.edit.end (length m.now.edit.replacement.now) m.now.window.nstart m.now.window.nend (length m.now.book.bytes.now) }
     requires min_work_words_in_bounds { (min_work_words ≤ length work.old) × (l.normalized ≤ max_text) × (l.base ≤ length out_bytes.old) × (m.now.book.places.nodes.at ≤ length out_tape.old) }
-    ensures { StoreTold (book_in m.now.book.tape.now m.now.book.bytes.now) (edit_of m.now.edit.start m.now.edit.end m.now.edit.replacement.now) (book_in m.now.reading.tape.now m.now.reading.bytes.now) (window_value m.now.window) out_tape.old out_bytes.old out_tape.new out_bytes.new m.now.book.places.nodes.at l.base (offsets_of m.now.book.store.now.totals) result }
+    ensures { StoreTold (book_in m.now.book.tape.now m.now.book.bytes.now) (edit_of m.now.edit.start m.now.edit.end m.now.edit.replacement.now) (book_in m.now.reading.tape.now m.now.reading.bytes.now) (window_value m.now.window) out_tape.old out_bytes.old out_tape.new out_bytes.new m.now.book.places.nodes.at l.base m.now.book.store.now.totals result }
 {
     let at = m.book.places.nodes.at;
     put_new_texts(out_bytes, m);
