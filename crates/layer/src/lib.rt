@@ -140,32 +140,37 @@ fn plan_of(o: Totals, at: usize, contents: u32) -> graft::Plan
 }
 
 // An index of the source's strings, in the work words that the interner leaves free.
-fn index_words(r: &Book, work: &mut [u32])
+fn index_words(source: &Book, work: &mut [u32])
     requires min_work_words_in_bounds { min_work_words ≤ length work.old }
-    ensures { Indexed (lengths_in r.now.tape.now) (index_words work.new) × (pair_words work.new ≡ pair_words work.old) }
+    ensures { Indexed (lengths_in source.now.tape.now) (index_words work.new) × (pair_words work.new ≡ pair_words work.old) }
 {
-    strings::index_strings(r.tape, r.store, r.bytes.len(), &mut work[15360..16384]);
+    strings::index_strings(
+        source.tape,
+        source.store,
+        source.bytes.len(),
+        &mut work[15360..16384],
+    );
 }
 
 // Section 5. The source's nodes, grafted into a layer that has nothing yet.
 fn walk(
-    r: &Book,
+    source: &Book,
     out: &mut [u8],
     work: &mut [u32],
     strs: &mut [u8],
     plan: graft::Plan,
     base: usize,
-    nodesat: usize,
+    nodes_at: usize,
 ) -> Option<graft::Mark>
-    requires walk_room { WalkRoom plan nodesat r.now.places.nodes.count (length out.old) (source_adds r.now.tape.now r.now.bytes.now) }
-    requires min_work_words_in_bounds { (min_work_words ≤ length work.old) × (base ≤ length strs.old) × Pairs (resolve_str (source_store r.now.tape.now r.now.bytes.now)) (pair_words work.old) }
-    ensures { Walked plan base nodesat out.old strs.old out.new work.new strs.new result (grafted_into r.now.tape.now r.now.bytes.now (offsets_of plan)) }
+    requires walk_room { WalkRoom plan nodes_at source.now.places.nodes.count (length out.old) (source_adds source.now.tape.now source.now.bytes.now) }
+    requires min_work_words_in_bounds { (min_work_words ≤ length work.old) × (base ≤ length strs.old) × Pairs (resolve_str (source_store source.now.tape.now source.now.bytes.now)) (pair_words work.old) }
+    ensures { Walked plan base nodes_at out.old strs.old out.new work.new strs.new result (grafted_into source.now.tape.now source.now.bytes.now (offsets_of plan)) }
 {
-    index_words(r, work);
+    index_words(source, work);
     let w = Walk {
-        tape: r.tape,
-        bytes: r.bytes,
-        st: r.store,
+        tape: source.tape,
+        bytes: source.bytes,
+        st: source.store,
         plan,
     };
     let mut m = graft::Mark {
@@ -174,7 +179,7 @@ fn walk(
         state: StrInterner::new(work, base),
         answered: None,
     };
-    graft_nodes::graft_nodes(&w, out, work, strs, &mut m, r.places.nodes, nodesat)?;
+    graft_nodes::graft_nodes(&w, out, work, strs, &mut m, source.places.nodes, nodes_at)?;
     Some(m)
 }
 
@@ -209,13 +214,13 @@ fn finish(
 }
 
 // The pairs of a source's long strings, behind the words that a walk uses.
-fn pair_words(r: &Book, words: &mut [u32])
+fn pair_words(source: &Book, words: &mut [u32])
     requires min_work_words_in_bounds { min_work_words < length words.old }
-    ensures { Pairs (resolve_str (source_store r.now.tape.now r.now.bytes.now)) (pair_words words.new) }
+    ensures { Pairs (resolve_str (source_store source.now.tape.now source.now.bytes.now)) (pair_words words.new) }
 {
-    let least = representatives::long_from(r.bytes.len());
+    let least = representatives::long_from(source.bytes.len());
     let n = words.len();
-    representatives::pair_strings(&r.strings(), &mut words[16384..n], least);
+    representatives::pair_strings(&source.strings(), &mut words[16384..n], least);
 }
 
 // Sections 3 and 5. The nodes of a source that passed 1 to 7, grafted into one new layer at its place, the nodes' records behind the
