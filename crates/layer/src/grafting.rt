@@ -18,6 +18,7 @@ pub struct Grafting<'a> {
     pub ghost calls_small: { sizes.calls < 2 ^ 32 },
 }
 
+// The buffers are written, and so lent one by one: what is asked of their lengths is said at each function.
 impl<'a> Grafting<'a> {
     ghost use Rattle.std.specs.Prelude.{◌≤◌, length};
     ghost use Rattle.model.specs.Limits.{min_work_words};
@@ -28,7 +29,8 @@ impl<'a> Grafting<'a> {
 
     // By these words: behind 16384 of them stand pairs of crate `representatives`.
     fn graft_by(&self, out: &mut [u8], work: &mut [u32], strs: &mut [u8]) -> Option<Grafted>
-        requires min_work_words_in_bounds { (min_work_words ≤ length work.old) × (self.now.to.base ≤ length strs.old) × (self.now.to.at ≤ length out.old) }
+        requires min_work_words_in_bounds { (min_work_words ≤ length work.old) × (self.now.to.base ≤ length strs.old)
+            × (self.now.to.at ≤ length out.old) }
         requires pairs { Pairs (resolve_str (source_store self.now.source.now.tape.now self.now.source.now.bytes.now)) (pair_words work.old) }
         ensures { GraftingTold self.now out.old strs.old out.new strs.new result }
     {
@@ -45,7 +47,8 @@ impl<'a> Grafting<'a> {
 
     // With a representative for each long string, so that no two of them are compared again and again.
     fn graft_paired(&self, out: &mut [u8], words: &mut [u32], strs: &mut [u8]) -> Option<Grafted>
-        requires min_work_words_in_bounds { (min_work_words < length words.old) × (self.now.to.base ≤ length strs.old) × (self.now.to.at ≤ length out.old) }
+        requires min_work_words_in_bounds { (min_work_words < length words.old) × (self.now.to.base ≤ length strs.old)
+            × (self.now.to.at ≤ length out.old) }
         ensures { GraftingTold self.now out.old strs.old out.new strs.new result }
     {
         crate::pair_words(self.source, words);
@@ -63,7 +66,8 @@ impl<'a> Grafting<'a> {
 
     // What `graft_layer` answers.
     pub fn graft_sized(&self, out: &mut [u8], work: &mut [u32], strs: &mut [u8]) -> Option<Grafted>
-        requires min_work_words_in_bounds { (min_work_words ≤ length work.old) × (self.now.to.base ≤ length strs.old) × (self.now.to.at ≤ length out.old) }
+        requires min_work_words_in_bounds { (min_work_words ≤ length work.old) × (self.now.to.base ≤ length strs.old)
+            × (self.now.to.at ≤ length out.old) }
         ensures { GraftingTold self.now out.old strs.old out.new strs.new result }
     {
         let source = self.source;

@@ -162,9 +162,12 @@ fn walk(
     base: usize,
     nodes_at: usize,
 ) -> Option<graft::Mark>
-    requires walk_room { WalkRoom plan nodes_at source.now.places.nodes.count (length out.old) (source_adds source.now.tape.now source.now.bytes.now) }
-    requires min_work_words_in_bounds { (min_work_words ≤ length work.old) × (base ≤ length strs.old) × Pairs (resolve_str (source_store source.now.tape.now source.now.bytes.now)) (pair_words work.old) }
-    ensures { Walked plan base nodes_at out.old strs.old out.new work.new strs.new result (grafted_into source.now.tape.now source.now.bytes.now (offsets_of plan)) }
+    requires walk_room { WalkRoom plan nodes_at source.now.places.nodes.count (length out.old)
+        (source_adds source.now.tape.now source.now.bytes.now) }
+    requires min_work_words_in_bounds { (min_work_words ≤ length work.old) × (base ≤ length strs.old) }
+    requires pairs { Pairs (resolve_str (source_store source.now.tape.now source.now.bytes.now)) (pair_words work.old) }
+    ensures { Walked plan base nodes_at out.old strs.old out.new work.new strs.new result
+        (grafted_into source.now.tape.now source.now.bytes.now (offsets_of plan)) }
 {
     index_words(source, work);
     let w = Walk {
@@ -233,7 +236,8 @@ pub fn graft_layer(
     strs: &mut [u8],
 ) -> Option<Grafted>
     requires min_work_words_in_bounds { (min_work_words ≤ length work.old) × (to.base ≤ length strs.old) × (to.at ≤ length out.old) }
-    ensures { LayerTold out.old strs.old out.new strs.new to.at to.base to.below result (grafted_into source.now.tape.now source.now.bytes.now to.below) }
+    ensures { LayerTold out.old strs.old out.new strs.new to.at to.base to.below result
+        (grafted_into source.now.tape.now source.now.bytes.now to.below) }
 {
     let sizes = sizes::reading_sizes(source.tape, *source.store, source.places, room_left(to))?;
     let grafting = Grafting { source, to, sizes };

@@ -19,7 +19,7 @@ pub walk-requires : goal.walk-requires
 walk-requires c =
     let h = c.requires.min_work_words_in_bounds in
     let room = room_for c.args.self.now c.layer_length-len.ensures c.nodes_length-rest.ensures h.2 c.if-out-to.false in
-    record { walk_room = grafting_room c.args.out.now room c.plan_of-plan.ensures; min_work_words_in_bounds = (h.0, h.1, c.requires.pairs) }
+    record { walk_room = grafting_room c.args.out.now room c.plan_of-plan.ensures; min_work_words_in_bounds = (h.0, h.1); pairs = c.requires.pairs }
 
 pub returns-in_err-m : goal.returns-in_err-m
 returns-in_err-m c =
