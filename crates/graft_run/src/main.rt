@@ -4,24 +4,20 @@
 #![tactic(auto)]
 
 ghost use Rattle.std.specs.Prelude.{◌≡◌, IfSome, true, ◌+◌, ◌*◌, ◌≤◌, length};
-ghost use Rattle.tape.specs.Accepted.{Accepted};
-ghost use Rattle.layer.specs.Layered.{OffsetsFit};
+ghost use Rattle.layer.specs.Layered.{TotalsFit};
 
+use layer::{Grafted, Place};
+use region::Book;
 use std::io;
 use std::io::Read;
+use store::Totals;
 
 const MAX_POOL: u32 = 1048575;
 
 const NODE: usize = 49;
 
 // The layer's records, and those of the nodes behind them; the strings' bytes begin at 0.
-fn put_layer(
-    rt: &impl Print,
-    r: layer::Layer,
-    nodes: usize,
-    out: &[u8],
-    strs: &[u8],
-) -> io::Result<()>
+fn put_layer(rt: &impl Print, r: Grafted, nodes: usize, out: &[u8], strs: &[u8]) -> io::Result<()>
     requires { r.len + 49 * nodes ≤ length out.now }
 {
     let state = r.state;
@@ -43,7 +39,7 @@ fn put_layer(
 
 fn put_answer(
     rt: &impl Print,
-    r: Option<layer::Layer>,
+    r: Option<Grafted>,
     nodes: usize,
     out: &[u8],
     strs: &[u8],
@@ -58,47 +54,55 @@ fn put_answer(
 
 fn graft(
     rt: &impl Print,
-    tape: &[u8],
-    bytes: &[u8],
+    source: &Book,
+    below: Totals,
     out: &mut [u8],
     work: &mut [u32],
     strs: &mut [u8],
-    o: layer::Offsets,
 ) -> io::Result<()>
-    requires accepted { Accepted tape.now bytes.now }
-    requires offsets_fit { OffsetsFit o }
+    requires totals_fit { TotalsFit below }
     requires in_bounds { 16384 ≤ length work.old }
 {
-    let p = places::places_of(tape, bytes).unwrap();
-    let st = store::store_of(tape, p.layers);
-    let nodes = p.nodes.count;
-    let r = layer::graft_layer(tape, bytes, p, st, out, work, strs, o, 0, 0);
-    put_answer(rt, r, nodes, out, strs)
+    let to = Place {
+        below,
+        at: 0,
+        base: 0,
+    };
+    let r = layer::graft_layer(source, to, out, work, strs);
+    put_answer(rt, r, source.places.nodes.count, out, strs)
 }
 
 // Number 3. No pool below the new layer is over its limit.
-fn offsets_fit(o: layer::Offsets) -> bool
-    ensures { result ≡ true → OffsetsFit o }
+fn totals_fit(o: Totals) -> bool
+    ensures { result ≡ true → TotalsFit o }
 {
     o.strings <= MAX_POOL && o.contents <= MAX_POOL && o.segments <= MAX_POOL
 }
 
 fn show_graft(rt: &(impl Alloc + Print), c: cases::Case) -> io::Result<()> {
-    if let Err(refusal) = tape::check_book(c.tape, c.bytes) {
-        return print!(rt; "refused {}", u32::from(refusal));
-    }
-    let o = layer::Offsets {
+    let places = match tape::checked_book(c.tape, c.bytes) {
+        Ok(places) => places,
+        Err(refusal) => return print!(rt; "refused {}", u32::from(refusal)),
+    };
+    let below = Totals {
         strings: wire::u32_or_zero(c.replacement, 0),
         contents: wire::u32_or_zero(c.replacement, 4),
         segments: wire::u32_or_zero(c.replacement, 8),
     };
-    if !offsets_fit(o) {
+    if !totals_fit(below) {
         return print!(rt; "refused 18");
     }
+    let store = store::store_of(c.tape, places.layers);
+    let source = Book {
+        tape: c.tape,
+        bytes: c.bytes,
+        places,
+        store: &store,
+    };
     let mut out = vec![in rt.alloc(); 7u8; c.start.min(65536) as usize]?;
     let mut strs = vec![in rt.alloc(); 7u8; c.end.min(262144) as usize]?;
     let mut work = vec![in rt.alloc(); 7u32; 16384]?;
-    graft(rt, c.tape, c.bytes, &mut out, &mut work, &mut strs, o)
+    graft(rt, &source, below, &mut out, &mut work, &mut strs)
 }
 
 fn show(rt: &(impl Alloc + Print), c: cases::Case) -> io::Result<()> {

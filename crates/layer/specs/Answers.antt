@@ -24,15 +24,15 @@ use Rattle.sizes.specs.Added.{Added}
 use Rattle.sizes.specs.Capped.{fits, fits_room_lem, sizes_in}
 use Rattle.sizes.specs.Calls.{Limited}
 use Rattle.graft.specs.declared.Mark.{Mark}
-use Rattle.layer.specs.declared.Offsets.{Offsets}
-use Rattle.layer.specs.declared.Layer.{Layer}
+use Rattle.store.specs.declared.Totals.{Totals}
+use Rattle.layer.specs.declared.Grafted.{Grafted}
 use Rattle.layer.specs.Lengths.{new_lengths, lengths_width, good_rising, string_lengths_lem, Rising}
 use Rattle.layer.specs.LaidOut.{moved_written, three_blocks}
-use Rattle.layer.specs.Layered.{OffsetsFit, room_left, plan_of, layer_by, layer_records, layer_ok, LayerSizes, LayerFits, layer_ok_lem, layer_refused}
+use Rattle.layer.specs.Layered.{TotalsFit, room_left, plan_of, layer_by, layer_records, layer_ok, LayerSizes, LayerFits, layer_ok_lem, layer_refused}
 use Rattle.layer.specs.Walked.{WalkRoom, WalkMade}
 
 -- The layer and the nodes where they belong. What stands behind the strings is not said.
-pub record LayerMade (out strs out' strs' : List ℕ) (at base : ℕ) (r : Layer) (g : With (List SourceNode)) : Type 0 where
+pub record LayerMade (out strs out' strs' : List ℕ) (at base : ℕ) (r : Grafted) (g : With (List SourceNode)) : Type 0 where
   pub wrote : out' ≡ overwrite out at (layer_records g)
   pub bytes : take (base + length (flatten g.1.interner.strings)) strs' ≡ take base strs ++ flatten g.1.interner.strings
   pub len : r.len ≡ length (layer_bytes (layer_of g.1))
@@ -42,17 +42,17 @@ pub record LayerMade (out strs out' strs' : List ℕ) (at base : ℕ) (r : Layer
   pub stats : stats_of r.state.stats ≡ g.1.interner.stats
   pub used : r.state.used ≡ base + length (flatten g.1.interner.strings)
 
-pub record LayerTold (out strs out' strs' : List ℕ) (at base : ℕ) (o : Offsets) (r : Option Layer) (g : With (List SourceNode)) : Type 0 where
+pub record LayerTold (out strs out' strs' : List ℕ) (at base : ℕ) (o : Totals) (r : Option Grafted) (g : With (List SourceNode)) : Type 0 where
   pub room : is_some r ≡ layer_ok (length out) (length strs) at base o g
-  pub made : (l : Layer) → r ≡ Some l → LayerMade out strs out' strs' at base l g
+  pub made : (l : Grafted) → r ≡ Some l → LayerMade out strs out' strs' at base l g
 
 -- What `finish` answers: whether the strings and their records have room, and if so the layer as it was laid out.
 abbrev pub strings_fit : ℕ → ℕ → ℕ → Bool
 strings_fit below count left = leb (below + count) max_pool && leb (5 * count) left
 
-pub record Finished (work : List ℕ) (below at len rest : ℕ) (m : Mark) (out out' : List ℕ) (r : Option Layer) : Type 0 where
+pub record Finished (work : List ℕ) (below at len rest : ℕ) (m : Mark) (out out' : List ℕ) (r : Option Grafted) : Type 0 where
   pub room : is_some r ≡ strings_fit below m.state.count (length out - at - len - rest)
-  pub is : (l : Layer) → r ≡ Some l → l ≡ layer_by m (len + 5 * m.state.count)
+  pub is : (l : Grafted) → r ≡ Some l → l ≡ layer_by m (len + 5 * m.state.count)
   pub wrote : is_some r ≡ true → out' ≡ overwrite out at (2 ∷ (records_bytes string_codec (new_lengths work m.state.count) ++ take (len - 1 + rest) (drop (at + 1) out)))
 
 pub finish_refused : {work : List ℕ} {below at len rest : ℕ} {m : Mark} {out out' : List ℕ} {x : Bool} → x ≡ strings_fit below m.state.count (length out - at - len - rest) → x ≡ false → Finished work below at len rest m out out' None
@@ -95,10 +95,10 @@ module _ (m : Room) (a : Added) {r : Option Sizes} (e : r ≡ sizes_in m a) wher
       record { contents = cc; segments = cc; calls = cc; contents_fit = r.0; segments_fit = r.1 }
 
 -- as `reading_sizes` answers in the room that is left
-pub left_sizes : (o : Offsets) (a : Added) {m : Room} {s : Option Sizes} → m ≡ room_left o → s ≡ sizes_in m a → s ≡ sizes_in (room_left o) a
+pub left_sizes : (o : Totals) (a : Added) {m : Room} {s : Option Sizes} → m ≡ room_left o → s ≡ sizes_in m a → s ≡ sizes_in (room_left o) a
 left_sizes o a {m} e f = f ∙ ap (λ (x : Room). sizes_in x a) e
 
-pub left_limited : {m : Room} (o : Offsets) {nodes : ℕ} → m ≡ room_left o → nodes ≤ max_list → Limited m nodes
+pub left_limited : {m : Room} (o : Totals) {nodes : ℕ} → m ≡ room_left o → nodes ≤ max_list → Limited m nodes
 left_limited o e h = record { contents = omega (arith, ap (λ (x : Room). x.contents) e); segments = omega (arith, ap (λ (x : Room). x.segments) e); few = h }
 
 -- ---- refusals
@@ -106,11 +106,11 @@ left_limited o e h = record { contents = omega (arith, ap (λ (x : Room). x.cont
 same_records : (xs ys zs us : List ℕ) → xs ++ (ys ++ (zs ++ us)) ≡ (xs ++ (ys ++ zs)) ++ us
 same_records xs ys zs us = simp append_assoc
 
-module _ (out strs : List ℕ) (at base : ℕ) (o : Offsets) (small : OffsetsFit o) (g : With (List SourceNode)) {a : Added} {nodes : ℕ} (z : LayerSizes g a nodes) where
+module _ (out strs : List ℕ) (at base : ℕ) (o : Totals) (small : TotalsFit o) (g : With (List SourceNode)) {a : Added} {nodes : ℕ} (z : LayerSizes g a nodes) where
   abbrev Fits : Type 0
   Fits = LayerFits (length out) (length strs) at base o g
 
-  abbrev Told : List ℕ → List ℕ → Option Layer → Type 0
+  abbrev Told : List ℕ → List ℕ → Option Grafted → Type 0
   Told out' strs' r = LayerTold out strs out' strs' at base o r g
 
   none_fits : {out' strs' : List ℕ} → (Fits → ⊥) → Told out' strs' None
@@ -179,7 +179,7 @@ module _ (out strs : List ℕ) (at base : ℕ) (o : Offsets) (small : OffsetsFit
         pub finish_room : length out₁ ≡ length out → Rising work₁ m.state.count × ((o.strings ≤ max_pool) × (m.state.count ≤ max_new_strings) × (1 ≤ len) × (at + len + rest ≤ length out₁))
         finish_room l = (good_rising w.good, (small.strings, w.good.words.few, omega (arith, e), omega (arith, h, l)))
 
-        module _ {out₂ : List ℕ} {r : Option Layer} (l : length out₁ ≡ length out) (q : Finished work₁ o.strings at len rest m out₁ out₂ r) where
+        module _ {out₂ : List ℕ} {r : Option Grafted} (l : length out₁ ≡ length out) (q : Finished work₁ o.strings at len rest m out₁ out₂ r) where
           left : length out₁ - at - len - rest ≡ length out - (at + len + rest)
           left = omega (arith, l)
 
@@ -218,18 +218,18 @@ module _ (out strs : List ℕ) (at base : ℕ) (o : Offsets) (small : OffsetsFit
                 bytes = leb-true (base + length (flatten strings)) (length strs) u.1;
               }
 
-          layer_made : (v : Layer) → r ≡ Some v → LayerMade out strs out₂ strs₁ at base v g
+          layer_made : (v : Grafted) → r ≡ Some v → LayerMade out strs out₂ strs₁ at base v g
           layer_made v x =
               let i = q.is v x in
               record {
                 wrote = all_written (ap is_some x);
                 bytes = strings_there;
-                len = ap (λ (v : Layer). v.len) i ∙ omega (arith, e, z.layer, count, k.contents, k.segments);
-                strings = ap (λ (v : Layer). v.strings) i ∙ count;
-                contents = ap (λ (v : Layer). v.contents) i ∙ w.contents;
-                segments = ap (λ (v : Layer). v.segments) i ∙ w.segments;
-                stats = ap (λ (v : Layer). stats_of v.state.stats) i ∙ ap (λ (v : StrInterner). v.stats) w.state;
-                used = ap (λ (v : Layer). v.state.used) i ∙ sym strings_end_lem;
+                len = ap (λ (v : Grafted). v.len) i ∙ omega (arith, e, z.layer, count, k.contents, k.segments);
+                strings = ap (λ (v : Grafted). v.strings) i ∙ count;
+                contents = ap (λ (v : Grafted). v.contents) i ∙ w.contents;
+                segments = ap (λ (v : Grafted). v.segments) i ∙ w.segments;
+                stats = ap (λ (v : Grafted). stats_of v.state.stats) i ∙ ap (λ (v : StrInterner). v.stats) w.state;
+                used = ap (λ (v : Grafted). v.state.used) i ∙ sym strings_end_lem;
               }
 
           -- the walk is done, and `finish` has answered

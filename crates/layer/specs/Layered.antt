@@ -24,20 +24,20 @@ use Rattle.graft.specs.declared.Plan.{Plan}
 use Rattle.graft.specs.declared.Mark.{Mark}
 use Rattle.graft.specs.Grafted.{Sized}
 use Rattle.graft.specs.NodeItems.{refs_sized, refs_width, length_refs}
-use Rattle.layer.specs.declared.Offsets.{Offsets}
-use Rattle.layer.specs.declared.Layer.{Layer}
+use Rattle.store.specs.declared.Totals.{Totals}
+use Rattle.layer.specs.declared.Grafted.{Grafted}
 use Rattle.layer.specs.Lengths.{strings_width}
 
 -- ---- definitions
 
 -- Number 3 of the layers below.
-pub record OffsetsFit (o : Offsets) : Type 0 where
+pub record TotalsFit (o : Totals) : Type 0 where
   pub strings : o.strings ≤ max_pool
   pub contents : o.contents ≤ max_pool
   pub segments : o.segments ≤ max_pool
 
 -- Section 3. `NodeStore::layered`, by the counts of the layers below.
-unfoldable pub new_layer : Offsets → NewLayer
+unfoldable pub new_layer : Totals → NewLayer
 new_layer o = record {
   string_offset = o.strings;
   content_offset = o.contents;
@@ -48,7 +48,7 @@ new_layer o = record {
 }
 
 -- Section 5. The nodes of the source, grafted into it.
-unfoldable pub grafted_into : List ℕ → List ℕ → Offsets → With (List SourceNode)
+unfoldable pub grafted_into : List ℕ → List ℕ → Totals → With (List SourceNode)
 grafted_into t d o = graft_node_refs (shown_nodes (book_at t (places t) d)) (new_layer o)
 
 -- what that adds
@@ -61,36 +61,36 @@ layer_records g = layer_bytes (layer_of g.1) ++ records_bytes node_codec g.0
 
 -- Number 18's part: at most 3583 strings, no pool over number 3's limit, and room for the records in a tape of `size` bytes from `at` on
 -- and for the strings in a buffer of `room` bytes from `base` on.
-unfoldable pub layer_ok : ℕ → ℕ → ℕ → ℕ → Offsets → With (List SourceNode) → Bool
+unfoldable pub layer_ok : ℕ → ℕ → ℕ → ℕ → Totals → With (List SourceNode) → Bool
 layer_ok size room at base o g =
     leb (length g.1.interner.strings) max_new_strings && leb (o.strings + length g.1.interner.strings) max_pool
     && leb (o.contents + length g.1.contents) max_pool && leb (o.segments + length g.1.segments) max_pool
     && leb (at + length (layer_records g)) size && leb (base + length (flatten g.1.interner.strings)) room
 
 -- the code's values
-abbrev pub room_left : Offsets → Room
+abbrev pub room_left : Totals → Room
 room_left o = record { contents = 1048575 - o.contents; segments = 1048575 - o.segments }
 
-abbrev pub plan_of : Offsets → ℕ → ℕ → Plan
+abbrev pub plan_of : Totals → ℕ → ℕ → Plan
 plan_of o at contents = record { strings = o.strings; contents = o.contents; segments = o.segments; contents_at = at + 1; segments_at = at + 1 + 10 * contents }
 
-abbrev pub layer_by : Mark → ℕ → Layer
+abbrev pub layer_by : Mark → ℕ → Grafted
 layer_by m len = record { len = len; strings = m.state.count; contents = m.contents; segments = m.segments; state = m.state }
 
 -- ---- a layer above those of a book
 
 -- the counts of the layers below
-pub record Above (o : Offsets) (ls : List ModelLayer) : Type 0 where
+pub record Above (o : Totals) (ls : List ModelLayer) : Type 0 where
   pub strings : o.strings ≡ sum (string_counts ls)
   pub contents : o.contents ≡ sum (content_counts ls)
   pub segments : o.segments ≡ sum (segment_counts ls)
 
-pub new_layered : {o : Offsets} {ls : List ModelLayer} → Above o ls → new_layer o ≡ layered ls
+pub new_layered : {o : Totals} {ls : List ModelLayer} → Above o ls → new_layer o ≡ layered ls
 unfolding new_layer layered
 new_layered a = λ i. record { string_offset = a.strings i; content_offset = a.contents i; segment_offset = a.segments i; interner = fresh_interner; contents = []; segments = [] }
 
 -- it is the model's graft of a reading
-pub grafted_above : (t d : List ℕ) {o : Offsets} (old : LexOutput) → Above o old.layers → grafted_into t d o ≡ grafted old (book_at t (places t) d)
+pub grafted_above : (t d : List ℕ) {o : Totals} (old : LexOutput) → Above o old.layers → grafted_into t d o ≡ grafted old (book_at t (places t) d)
 unfolding grafted_into grafted
 grafted_above t d old a = ap (graft_node_refs (shown_nodes (book_at t (places t) d))) (new_layered a)
 
@@ -107,7 +107,7 @@ pub record LayerSizes (g : With (List SourceNode)) (a : Added) (nodes : ℕ) : T
   pub layer : length (layer_bytes (layer_of g.1)) ≡ 1 + 5 * length g.1.interner.strings + 10 * a.contents + 37 * a.segments
   pub bytes : length (layer_records g) ≡ 1 + 5 * length g.1.interner.strings + 10 * a.contents + 37 * a.segments + 49 * nodes
 
-empty_sized : (o : Offsets) → Sized (new_layer o)
+empty_sized : (o : Totals) → Sized (new_layer o)
 unfolding new_layer records_bytes flatten
 empty_sized o = record { contents = refl; segments = refl }
 
@@ -123,7 +123,7 @@ shown_long : (b : LexOutput) → length (shown_nodes b) ≡ length b.source_node
 unfolding shown_nodes
 shown_long b = length-map b.source_nodes (shown_node (store_of b.layers))
 
-pub layer_sizes : (t d : List ℕ) (o : Offsets) {nodes : ℕ} → length (book_at t (places t) d).source_nodes ≡ nodes → LayerSizes (grafted_into t d o) (source_adds t d) nodes
+pub layer_sizes : (t d : List ℕ) (o : Totals) {nodes : ℕ} → length (book_at t (places t) d).source_nodes ≡ nodes → LayerSizes (grafted_into t d o) (source_adds t d) nodes
 unfolding grafted_into layer_records new_layer
 layer_sizes t d o {nodes} e =
     let ns = shown_nodes (book_at t (places t) d) in
@@ -146,7 +146,7 @@ layer_sizes t d o {nodes} e =
 
 -- ---- number 18
 
-pub record LayerFits (size room at base : ℕ) (o : Offsets) (g : With (List SourceNode)) : Type 0 where
+pub record LayerFits (size room at base : ℕ) (o : Totals) (g : With (List SourceNode)) : Type 0 where
   pub few : length g.1.interner.strings ≤ max_new_strings
   pub strings : o.strings + length g.1.interner.strings ≤ max_pool
   pub contents : o.contents + length g.1.contents ≤ max_pool
@@ -154,7 +154,7 @@ pub record LayerFits (size room at base : ℕ) (o : Offsets) (g : With (List Sou
   pub tape : at + length (layer_records g) ≤ size
   pub bytes : base + length (flatten g.1.interner.strings) ≤ room
 
-module _ (size room at base : ℕ) (o : Offsets) (g : With (List SourceNode)) where
+module _ (size room at base : ℕ) (o : Totals) (g : With (List SourceNode)) where
   pub layer_fits_lem : layer_ok size room at base o g ≡ true → LayerFits size room at base o g
   unfolding layer_ok
   layer_fits_lem e =

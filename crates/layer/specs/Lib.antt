@@ -4,4 +4,5 @@ pub mod Source
 pub mod Layered
 pub mod Walked
 pub mod Answers
+pub mod Grafting
 pub mod Paired

@@ -31,11 +31,11 @@ use Rattle.graft.specs.Named.{source_store, pair_words}
 use Rattle.graft.specs.Walk.{index_words, Ready}
 use Rattle.representatives.specs.Pairs.{Pairs}
 use Rattle.graft.specs.NodeItems.{shown_of, NodesTold, refs_from}
-use Rattle.layer.specs.declared.Offsets.{Offsets}
-use Rattle.layer.specs.Source.{SourceFits, source_of, source_adds_lem, source_shown}
+use Rattle.store.specs.declared.Totals.{Totals}
+use Rattle.layer.specs.Source.{SourceFits, source_adds_lem, source_shown}
 use Rattle.layer.specs.Layered.{new_layer, grafted_into, source_adds, plan_of, LayerSizes, layer_sizes}
 
-abbrev pub offsets_of : Plan → Offsets
+abbrev pub offsets_of : Plan → Totals
 offsets_of p = record { strings = p.strings; contents = p.contents; segments = p.segments }
 
 -- nothing pushed yet
@@ -68,37 +68,54 @@ index_kept t work₀ base e i = rw (ap index_words e ∙ ap (λ (l : List ℕ). 
 -- ---- the walk
 
 -- Room for all that is added, a, and for the nodes' records behind it in a tape of `size` bytes.
-pub record WalkRoom (p : Plan) (nodesat nodes size : ℕ) (a : Added) : Type 0 where
+pub record WalkRoom (p : Plan) (nodes_at nodes size : ℕ) (a : Added) : Type 0 where
   pub contents : p.contents_at + 10 * a.contents ≤ p.segments_at
-  pub segments : p.segments_at + 37 * a.segments ≤ nodesat
-  pub records : nodesat + 49 * nodes ≤ size
+  pub segments : p.segments_at + 37 * a.segments ≤ nodes_at
+  pub records : nodes_at + 49 * nodes ≤ size
   pub content_numbers : p.contents + a.contents < 2 ^ 32
   pub segment_numbers : p.segments + a.segments < 2 ^ 32
   pub string_numbers : p.strings + 4096 < 2 ^ 32
   pub calls : a.calls < 2 ^ 32
 
-pub record WalkMade (p : Plan) (base nodesat : ℕ) (out strs out' work' strs' : List ℕ) (r : Mark) (g : With (List SourceNode)) : Type 0 where
+pub record WalkMade (p : Plan) (base nodes_at : ℕ) (out strs out' work' strs' : List ℕ) (r : Mark) (g : With (List SourceNode)) : Type 0 where
   pub good : Good work' strs' r.state
   pub state : state_of work' strs' r.state ≡ g.1.interner
   pub begins : r.state.base ≡ base
   pub contents : r.contents ≡ length g.1.contents
   pub segments : r.segments ≡ length g.1.segments
-  pub wrote : out' ≡ overwrite (blocks out p.contents_at p.segments_at (records_bytes content_codec g.1.contents) (records_bytes segment_codec g.1.segments)) nodesat (records_bytes node_codec g.0)
+  pub wrote : out' ≡ overwrite (blocks out p.contents_at p.segments_at (records_bytes content_codec g.1.contents) (records_bytes segment_codec g.1.segments)) nodes_at (records_bytes node_codec g.0)
   pub kept : take base strs' ≡ take base strs
   pub long : length strs' ≡ length strs
 
-pub record Walked (p : Plan) (base nodesat : ℕ) (out strs out' work' strs' : List ℕ) (r : Option Mark) (g : With (List SourceNode)) : Type 0 where
+pub record Walked (p : Plan) (base nodes_at : ℕ) (out strs out' work' strs' : List ℕ) (r : Option Mark) (g : With (List SourceNode)) : Type 0 where
   pub room : is_some r ≡ has_room (length strs) base g.1.interner
-  pub made : (m : Mark) → r ≡ Some m → WalkMade p base nodesat out strs out' work' strs' m g
+  pub made : (m : Mark) → r ≡ Some m → WalkMade p base nodes_at out strs out' work' strs' m g
 
-module _ {t d : List ℕ} {q : Places} {st : Store} (f : SourceFits t d q st) {work₀ strs work : List ℕ} {base : ℕ} {s : Interner} (b : Fresh work₀ strs base work s) (index : Indexed (lengths_in t) (index_words work₀)) {ps : List ℕ} (stay : pair_words work₀ ≡ ps) (pairs : Pairs (resolve_str (source_store t d)) ps) (p : Plan) (nodesat : ℕ) (out : List ℕ) where
+-- a source, an index of its strings, their pairs, and an interner that has nothing yet
+pub record Begun (t d : List ℕ) (q : Places) (st : Store) (work₀ strs work : List ℕ) (base : ℕ) (s : Interner) : Type 0 where
+  pub source : SourceFits t d q st
+  pub fresh : Fresh work₀ strs base work s
+  pub index : Indexed (lengths_in t) (index_words work₀)
+  pub pairs : Pairs (resolve_str (source_store t d)) (pair_words work₀)
+
+pub begun : {t d : List ℕ} {q : Places} {st : Store} → SourceFits t d q st → {work₀ strs work : List ℕ} {base : ℕ} {s : Interner} → Fresh work₀ strs base work s
+    → {ps : List ℕ} → Indexed (lengths_in t) (index_words work₀) × (pair_words work₀ ≡ ps) → Pairs (resolve_str (source_store t d)) ps → Begun t d q st work₀ strs work base s
+begun {t} {d} f b i k = record { source = f; fresh = b; index = i.0; pairs = subst (λ (l : List ℕ). Pairs (resolve_str (source_store t d)) l) (sym i.1) k }
+
+module _ {t d : List ℕ} {q : Places} {st : Store} {work₀ strs work : List ℕ} {base : ℕ} {s : Interner} (begin : Begun t d q st work₀ strs work base s) (p : Plan) (nodes_at : ℕ) (out : List ℕ) where
+  f : SourceFits t d q st
+  f = begin.source
+
+  b : Fresh work₀ strs base work s
+  b = begin.fresh
+
   no_calls : s.stats.calls ≡ 0
   no_calls = ap (λ (x : StrInterner). x.stats.calls) b.state
 
-  pub walk_ready : WalkRoom p nodesat q.nodes.count (length out) (source_adds t d) → Ready t d p (fresh_mark s) out work strs (nodes_add t st q.nodes.at q.nodes.count)
+  pub walk_ready : WalkRoom p nodes_at q.nodes.count (length out) (source_adds t d) → Ready t d p (fresh_mark s) out work strs (nodes_add t st q.nodes.at q.nodes.count)
   walk_ready w = rw (source_adds_lem f) (record {
-    index = index_kept t work₀ base b.words index;
-    pairs = rw (b.words, start_high work₀ 0 base 15360 (omega arith), stay) pairs;
+    index = index_kept t work₀ base b.words begin.index;
+    pairs = rw (b.words, start_high work₀ 0 base 15360 (omega arith)) begin.pairs;
     good = b.good;
     named = λ m e. absurd (none-some m e);
     has = sym (room_same work strs s b.good);
@@ -112,7 +129,7 @@ module _ {t d : List ℕ} {q : Places} {st : Store} (f : SourceFits t d q st) {w
     };
   })
 
-  pub walk_low : WalkRoom p nodesat q.nodes.count (length out) (source_adds t d) → p.segments_at + 37 * (0 + (nodes_add t st q.nodes.at q.nodes.count).segments) ≤ nodesat
+  pub walk_low : WalkRoom p nodes_at q.nodes.count (length out) (source_adds t d) → p.segments_at + 37 * (0 + (nodes_add t st q.nodes.at q.nodes.count).segments) ≤ nodes_at
   walk_low w = rw (source_adds_lem f) (omega (arith, w.segments))
 
   same_layer : layer_from p work strs (fresh_mark s) ≡ new_layer (offsets_of p)
@@ -127,43 +144,43 @@ module _ {t d : List ℕ} {q : Places} {st : Store} (f : SourceFits t d q st) {w
   same_graft = λ i. graft_node_refs (sym (source_shown f) i) (same_layer i)
 
   module _ {out' work' strs' : List ℕ} {r : Mark} where
-    refused_here : {g : With (List SourceNode)} → NodesTold t d p (fresh_mark s) nodesat out work strs out' work' strs' r false g → Walked p base nodesat out strs out' work' strs' None g
+    refused_here : {g : With (List SourceNode)} → NodesTold t d p (fresh_mark s) nodes_at out work strs out' work' strs' r false g → Walked p base nodes_at out strs out' work' strs' None g
     refused_here {g} k = record { room = k.room ∙ ap (λ (n : ℕ). has_room (length strs) n g.1.interner) b.begins; made = λ m e. absurd (none-some m e) }
 
-    from_here : {g : With (List SourceNode)} → NodesTold t d p (fresh_mark s) nodesat out work strs out' work' strs' r true g → Walked p base nodesat out strs out' work' strs' (Some r) g
+    from_here : {g : With (List SourceNode)} → NodesTold t d p (fresh_mark s) nodes_at out work strs out' work' strs' r true g → Walked p base nodes_at out strs out' work' strs' (Some r) g
     from_here {g} k =
         let x : p.contents_at + 10 * 0 ≡ p.contents_at = omega arith in
         let y : p.segments_at + 37 * 0 ≡ p.segments_at = omega arith in
         let m = k.made refl in
-        let own : WalkMade p base nodesat out strs out' work' strs' r g = record {
+        let own : WalkMade p base nodes_at out strs out' work' strs' r g = record {
           good = m.made.good;
           state = m.made.state;
           begins = m.made.base ∙ b.begins;
           contents = omega (arith, m.made.contents);
           segments = omega (arith, m.made.segments);
-          wrote = m.wrote ∙ ap (λ (l : List ℕ). overwrite l nodesat (records_bytes node_codec g.0))
+          wrote = m.wrote ∙ ap (λ (l : List ℕ). overwrite l nodes_at (records_bytes node_codec g.0))
               (m.made.wrote ∙ (λ i. blocks out (x i) (y i) (records_bytes content_codec g.1.contents) (records_bytes segment_codec g.1.segments)));
           kept = subst (λ (n : ℕ). take n strs' ≡ take n strs) b.begins m.made.kept;
           long = m.made.long;
         } in
         record {
           room = k.room ∙ ap (λ (n : ℕ). has_room (length strs) n g.1.interner) b.begins;
-          made = λ n e. subst (λ (v : Mark). WalkMade p base nodesat out strs out' work' strs' v g) (same_Some r n e) own;
+          made = λ n e. subst (λ (v : Mark). WalkMade p base nodes_at out strs out' work' strs' v g) (same_Some r n e) own;
         }
 
-    pub walk_none : NodesTold t d p (fresh_mark s) nodesat out work strs out' work' strs' r false (refs_from p work strs (fresh_mark s) (shown_of t d (records_at node_codec t q.nodes.at q.nodes.count)))
-        → Walked p base nodesat out strs out' work' strs' None (grafted_into t d (offsets_of p))
+    pub walk_none : NodesTold t d p (fresh_mark s) nodes_at out work strs out' work' strs' r false (refs_from p work strs (fresh_mark s) (shown_of t d (records_at node_codec t q.nodes.at q.nodes.count)))
+        → Walked p base nodes_at out strs out' work' strs' None (grafted_into t d (offsets_of p))
     walk_none k = refused_here (rw same_graft at k)
 
-    pub walk_told : NodesTold t d p (fresh_mark s) nodesat out work strs out' work' strs' r true (refs_from p work strs (fresh_mark s) (shown_of t d (records_at node_codec t q.nodes.at q.nodes.count)))
-        → Walked p base nodesat out strs out' work' strs' (Some r) (grafted_into t d (offsets_of p))
+    pub walk_told : NodesTold t d p (fresh_mark s) nodes_at out work strs out' work' strs' r true (refs_from p work strs (fresh_mark s) (shown_of t d (records_at node_codec t q.nodes.at q.nodes.count)))
+        → Walked p base nodes_at out strs out' work' strs' (Some r) (grafted_into t d (offsets_of p))
     walk_told k = from_here (rw same_graft at k)
 
 -- by the plan of a layer from `at` on
-pub walked_by : (t d : List ℕ) (o : Offsets) (at contents : ℕ) {p : Plan} {base nodesat : ℕ} {out strs out' work' strs' : List ℕ} {r : Option Mark} → p ≡ plan_of o at contents
-    → Walked p base nodesat out strs out' work' strs' r (grafted_into t d (offsets_of p)) → Walked (plan_of o at contents) base nodesat out strs out' work' strs' r (grafted_into t d o)
-walked_by t d o at contents {base = base} {nodesat = n} {out = out} {strs = strs} {out' = out'} {work' = work'} {strs' = strs'} {r = r} e w =
+pub walked_by : (t d : List ℕ) (o : Totals) (at contents : ℕ) {p : Plan} {base nodes_at : ℕ} {out strs out' work' strs' : List ℕ} {r : Option Mark} → p ≡ plan_of o at contents
+    → Walked p base nodes_at out strs out' work' strs' r (grafted_into t d (offsets_of p)) → Walked (plan_of o at contents) base nodes_at out strs out' work' strs' r (grafted_into t d o)
+walked_by t d o at contents {base = base} {nodes_at = n} {out = out} {strs = strs} {out' = out'} {work' = work'} {strs' = strs'} {r = r} e w =
     subst (λ (q : Plan). Walked q base n out strs out' work' strs' r (grafted_into t d (offsets_of q))) e w
 
-pub source_sizes : {t d : List ℕ} {q : Places} {st : Store} → SourceFits t d q st → (o : Offsets) → LayerSizes (grafted_into t d o) (source_adds t d) q.nodes.count
+pub source_sizes : {t d : List ℕ} {q : Places} {st : Store} → SourceFits t d q st → (o : Totals) → LayerSizes (grafted_into t d o) (source_adds t d) q.nodes.count
 source_sizes {t} {d} {q} f o = layer_sizes t d o (book_lengths t d q f.accepted.framing f.is).nodes

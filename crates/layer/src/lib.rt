@@ -3,6 +3,9 @@
 // records written into the gap, so that each tree is walked once.
 #![tactic(auto)]
 
+mod grafting;
+mod place;
+
 ghost use Rattle.std.specs.Prelude.{◌≡◌, ◌&&◌, ◌∷◌, ◌++◌, ◌+◌, ◌-◌, ◌*◌, ◌%◌, ◌^◌, ◌≤◌, ◌<◌, leb, length, take, drop};
 ghost use Rattle.model.specs.Limits.{max_pool, max_list, max_new_strings, min_work_words};
 ghost use Rattle.model.specs.Tape.{record_bytes, records_bytes, string_codec};
@@ -15,37 +18,23 @@ ghost use Rattle.representatives.specs.Pairs.{Pairs};
 ghost use Rattle.graft.specs.Named.{source_store, pair_words};
 ghost use Rattle.graft.specs.Walk.{index_words};
 ghost use Rattle.layer.specs.Lengths.{new_length, new_lengths, Rising};
-ghost use Rattle.layer.specs.Source.{SourceFits};
-ghost use Rattle.layer.specs.Layered.{OffsetsFit, room_left, plan_of, source_adds, grafted_into};
+ghost use Rattle.layer.specs.Layered.{room_left, plan_of, source_adds, grafted_into};
 ghost use Rattle.layer.specs.Walked.{offsets_of, WalkRoom, Walked};
-ghost use Rattle.layer.specs.Answers.{Finished, Exact, LayerTold};
+ghost use Rattle.layer.specs.Answers.{Finished, LayerTold};
 
 use graft::Walk;
+use grafting::Grafting;
 use interner::StrInterner;
+pub use place::Place;
 use region::Book;
+use store::Totals;
 use table::STARTS;
 
 const MAX_POOL: usize = 1048575;
 
-// Where the new layer's numbers begin: the counts of the layers below it.
-#[derive(Clone, Copy, Debug, PartialEq, Eq)]
-pub struct Offsets {
-    pub strings: u32,
-    pub contents: u32,
-    pub segments: u32,
-}
-
-// Where a layer goes: above layers of these counts, its records from `at` on, its strings' bytes from `base` on.
-#[derive(Clone, Copy)]
-struct Place {
-    below: Offsets,
-    at: usize,
-    base: usize,
-}
-
 // The layer that was written: the bytes of its records, its command with them, how many items it has, and its interner.
 #[derive(Clone, Copy, Debug, PartialEq, Eq)]
-pub struct Layer {
+pub struct Grafted {
     pub len: usize,
     pub strings: u32,
     pub contents: u32,
@@ -102,13 +91,12 @@ fn lay_out(out: &mut [u8], work: &[u32], at: usize, n: usize, count: usize)
 // ---- room
 
 // Number 3. How many contents and segments may still be added.
-fn room_left(o: Offsets) -> sizes::Room
-    requires { OffsetsFit o }
-    ensures { result ≡ room_left o }
+fn room_left(to: Place) -> sizes::Room
+    ensures { result ≡ room_left to.below }
 {
     sizes::Room {
-        contents: MAX_POOL as u32 - o.contents,
-        segments: MAX_POOL as u32 - o.segments,
+        contents: MAX_POOL as u32 - to.below.contents,
+        segments: MAX_POOL as u32 - to.below.segments,
     }
 }
 
@@ -138,7 +126,7 @@ fn strings_fit(below: u32, count: usize, left: usize) -> bool
 // ---- the walk
 
 // Contents go right behind the layer's 2, segments right behind them.
-fn plan_of(o: Offsets, at: usize, contents: u32) -> graft::Plan
+fn plan_of(o: Totals, at: usize, contents: u32) -> graft::Plan
     requires { at + 1 + 10 * contents < 2 ^ 63 }
     ensures { result ≡ plan_of o at contents }
 {
@@ -152,32 +140,40 @@ fn plan_of(o: Offsets, at: usize, contents: u32) -> graft::Plan
 }
 
 // An index of the source's strings, in the work words that the interner leaves free.
-fn index_words(r: &Book<'_>, work: &mut [u32])
+fn index_words(source: &Book, work: &mut [u32])
     requires min_work_words_in_bounds { min_work_words ≤ length work.old }
-    ensures { Indexed (lengths_in r.now.tape.now) (index_words work.new) × (pair_words work.new ≡ pair_words work.old) }
+    ensures { Indexed (lengths_in source.now.tape.now) (index_words work.new) × (pair_words work.new ≡ pair_words work.old) }
 {
-    strings::index_strings(r.tape, r.store, r.bytes.len(), &mut work[15360..16384]);
+    strings::index_strings(
+        source.tape,
+        source.store,
+        source.bytes.len(),
+        &mut work[15360..16384],
+    );
 }
 
 // Section 5. The source's nodes, grafted into a layer that has nothing yet.
 fn walk(
-    r: &Book<'_>,
+    source: &Book,
     out: &mut [u8],
     work: &mut [u32],
     strs: &mut [u8],
     plan: graft::Plan,
     base: usize,
-    nodesat: usize,
+    nodes_at: usize,
 ) -> Option<graft::Mark>
-    requires walk_room { WalkRoom plan nodesat r.now.places.nodes.count (length out.old) (source_adds r.now.tape.now r.now.bytes.now) }
-    requires min_work_words_in_bounds { (min_work_words ≤ length work.old) × (base ≤ length strs.old) × Pairs (resolve_str (source_store r.now.tape.now r.now.bytes.now)) (pair_words work.old) }
-    ensures { Walked plan base nodesat out.old strs.old out.new work.new strs.new result (grafted_into r.now.tape.now r.now.bytes.now (offsets_of plan)) }
+    requires walk_room { WalkRoom plan nodes_at source.now.places.nodes.count (length out.old)
+        (source_adds source.now.tape.now source.now.bytes.now) }
+    requires min_work_words_in_bounds { (min_work_words ≤ length work.old) × (base ≤ length strs.old) }
+    requires pairs { Pairs (resolve_str (source_store source.now.tape.now source.now.bytes.now)) (pair_words work.old) }
+    ensures { Walked plan base nodes_at out.old strs.old out.new work.new strs.new result
+        (grafted_into source.now.tape.now source.now.bytes.now (offsets_of plan)) }
 {
-    index_words(r, work);
+    index_words(source, work);
     let w = Walk {
-        tape: r.tape,
-        bytes: r.bytes,
-        st: r.store,
+        tape: source.tape,
+        bytes: source.bytes,
+        st: source.store,
         plan,
     };
     let mut m = graft::Mark {
@@ -186,7 +182,7 @@ fn walk(
         state: StrInterner::new(work, base),
         answered: None,
     };
-    graft_nodes::graft_nodes(&w, out, work, strs, &mut m, r.places.nodes, nodesat)?;
+    graft_nodes::graft_nodes(&w, out, work, strs, &mut m, source.places.nodes, nodes_at)?;
     Some(m)
 }
 
@@ -201,7 +197,7 @@ fn finish(
     len: usize,
     rest: usize,
     m: graft::Mark,
-) -> Option<Layer>
+) -> Option<Grafted>
     requires rising { Rising work.now m.state.count }
     requires below_le_max_pool { (below ≤ max_pool) × (m.state.count ≤ max_new_strings) × (1 ≤ len) × (at + len + rest ≤ length out.old) }
     ensures { Finished work.now below at len rest m out.old out.new result }
@@ -211,7 +207,7 @@ fn finish(
         return None;
     }
     lay_out(out, work, at, len - 1 + rest, count);
-    Some(Layer {
+    Some(Grafted {
         len: len + 5 * count,
         strings: count as u32,
         contents: m.contents,
@@ -220,117 +216,30 @@ fn finish(
     })
 }
 
-// `graft_layer` where the sizes are known, by these words: behind 16384 of them stand pairs of crate `representatives`.
-fn graft_by(
-    r: &Book<'_>,
-    out: &mut [u8],
-    work: &mut [u32],
-    strs: &mut [u8],
-    to: Place,
-    s: sizes::Sizes,
-) -> Option<Layer>
-    requires source_fits { OffsetsFit to.below × Exact (room_left to.below) (source_adds r.now.tape.now r.now.bytes.now) s }
-    requires min_work_words_in_bounds { (min_work_words ≤ length work.old) × (to.base ≤ length strs.old) × (to.at ≤ length out.old) × Pairs (resolve_str (source_store r.now.tape.now r.now.bytes.now)) (pair_words work.old) }
-    ensures { LayerTold out.old strs.old out.new strs.new to.at to.base to.below result (grafted_into r.now.tape.now r.now.bytes.now to.below) }
-{
-    let len = layer_length(s.contents, s.segments);
-    let rest = nodes_length(r.places);
-    if out.len() - to.at < len + rest {
-        return None;
-    }
-    let plan = plan_of(to.below, to.at, s.contents);
-    let m = walk(r, out, work, strs, plan, to.base, to.at + len)?;
-    finish(out, work, to.below.strings, to.at, len, rest, m)
-}
-
 // The pairs of a source's long strings, behind the words that a walk uses.
-fn pair_words(r: &Book<'_>, words: &mut [u32])
+fn pair_words(source: &Book, words: &mut [u32])
     requires min_work_words_in_bounds { min_work_words < length words.old }
-    ensures { Pairs (resolve_str (source_store r.now.tape.now r.now.bytes.now)) (pair_words words.new) }
+    ensures { Pairs (resolve_str (source_store source.now.tape.now source.now.bytes.now)) (pair_words words.new) }
 {
-    let least = representatives::long_from(r.bytes.len());
+    let least = representatives::long_from(source.bytes.len());
     let n = words.len();
-    representatives::pair_strings(&r.strings(), &mut words[16384..n], least);
+    representatives::pair_strings(&source.strings(), &mut words[16384..n], least);
 }
 
-// The same with a representative for each long string, so that no two of them are compared again and again.
-fn graft_paired(
-    r: &Book<'_>,
-    out: &mut [u8],
-    words: &mut [u32],
-    strs: &mut [u8],
-    to: Place,
-    s: sizes::Sizes,
-) -> Option<Layer>
-    requires source_fits { OffsetsFit to.below × Exact (room_left to.below) (source_adds r.now.tape.now r.now.bytes.now) s }
-    requires min_work_words_in_bounds { (min_work_words < length words.old) × (to.base ≤ length strs.old) × (to.at ≤ length out.old) }
-    ensures { LayerTold out.old strs.old out.new strs.new to.at to.base to.below result (grafted_into r.now.tape.now r.now.bytes.now to.below) }
-{
-    pair_words(r, words);
-    graft_by(r, out, words, strs, to, s)
-}
-
-// The same by words of its own: those that are lent have no room for pairs.
-fn graft_long(
-    r: &Book<'_>,
-    out: &mut [u8],
-    strs: &mut [u8],
-    to: Place,
-    s: sizes::Sizes,
-) -> Option<Layer>
-    requires source_fits { OffsetsFit to.below × Exact (room_left to.below) (source_adds r.now.tape.now r.now.bytes.now) s }
-    requires base_in_bounds { (to.base ≤ length strs.old) × (to.at ≤ length out.old) }
-    ensures { LayerTold out.old strs.old out.new strs.new to.at to.base to.below result (grafted_into r.now.tape.now r.now.bytes.now to.below) }
-{
-    let mut words = [0u32; 24577];
-    graft_paired(r, out, &mut words[0..24577], strs, to, s)
-}
-
-// `graft_layer` where the sizes are known.
-fn graft_sized(
-    r: &Book<'_>,
-    out: &mut [u8],
-    work: &mut [u32],
-    strs: &mut [u8],
-    to: Place,
-    s: sizes::Sizes,
-) -> Option<Layer>
-    requires source_fits { OffsetsFit to.below × Exact (room_left to.below) (source_adds r.now.tape.now r.now.bytes.now) s }
-    requires min_work_words_in_bounds { (min_work_words ≤ length work.old) × (to.base ≤ length strs.old) × (to.at ≤ length out.old) }
-    ensures { LayerTold out.old strs.old out.new strs.new to.at to.base to.below result (grafted_into r.now.tape.now r.now.bytes.now to.below) }
-{
-    if representatives::any_long(r.tape, r.store, representatives::long_from(r.bytes.len())) {
-        return graft_long(r, out, strs, to, s);
-    }
-    graft_by(r, out, &mut work[0..16384], strs, to, s)
-}
-
-// Sections 3 and 5. The nodes of a source that passed 1 to 7, grafted into one new layer above layers of these counts: the layer's
-// records from `at` on in `out`, the nodes' behind them, the strings' bytes from `base` on in `strs`. None where number 18, or
-// number 3 of a pool, forbids it.
+// Sections 3 and 5. The nodes of a source that passed 1 to 7, grafted into one new layer at its place, the nodes' records behind the
+// layer's. None where number 18, or number 3 of a pool, forbids it.
 pub fn graft_layer(
-    tape: &[u8],
-    bytes: &[u8],
-    p: places::Places,
-    st: store::Store,
+    source: &Book,
+    to: Place,
     out: &mut [u8],
     work: &mut [u32],
     strs: &mut [u8],
-    o: Offsets,
-    at: usize,
-    base: usize,
-) -> Option<Layer>
-    requires source_fits { SourceFits tape.now bytes.now p st × OffsetsFit o }
-    requires min_work_words_in_bounds { (min_work_words ≤ length work.old) × (base ≤ length strs.old) × (at ≤ length out.old) }
-    ensures { LayerTold out.old strs.old out.new strs.new at base o result (grafted_into tape.now bytes.now o) }
+) -> Option<Grafted>
+    requires min_work_words_in_bounds { (min_work_words ≤ length work.old) × (to.base ≤ length strs.old) × (to.at ≤ length out.old) }
+    ensures { LayerTold out.old strs.old out.new strs.new to.at to.base to.below result
+        (grafted_into source.now.tape.now source.now.bytes.now to.below) }
 {
-    let s = sizes::reading_sizes(tape, st, p, room_left(o))?;
-    let r = Book {
-        tape,
-        bytes,
-        places: p,
-        store: &st,
-    };
-    let to = Place { below: o, at, base };
-    graft_sized(&r, out, work, strs, to, s)
+    let sizes = sizes::reading_sizes(source.tape, *source.store, source.places, room_left(to))?;
+    let grafting = Grafting { source, to, sizes };
+    grafting.graft_sized(out, work, strs)
 }

@@ -9,18 +9,16 @@ use Rattle.std.proofs.Math.ListN.{take}
 use Rattle.model.specs.Lists.{is_empty}
 use Rattle.model.specs.Types.{SourceNode}
 use Rattle.model.specs.Store.{store_of}
-use Rattle.model.specs.Tape.{records_bytes, node_codec, book_at, places}
+use Rattle.model.specs.Tape.{records_bytes, node_codec}
 use Rattle.model.specs.Tree.{shown_node, shown_nodes}
 use Rattle.model.specs.Graft.{With, graft_node_refs}
 use Rattle.wire.specs.Overwrite.{overwrite, overwrite_nil}
 use Rattle.stats.specs.Counts.{stats_of, no_stats}
-use Rattle.places.specs.declared.Places.{Places}
-use Rattle.store.specs.declared.Store.{Store}
 use Rattle.store.specs.Lengths.{book_lengths}
-use Rattle.layer.specs.Source.{SourceFits}
 use Rattle.store.specs.declared.Totals.{Totals}
-use Rattle.layer.specs.declared.Offsets.{Offsets}
-use Rattle.layer.specs.declared.Layer.{Layer}
+use Rattle.region.specs.declared.book.Book.{Book}
+use Rattle.region.specs.Books.{book_of}
+use Rattle.layer.specs.declared.Grafted.{Grafted}
 use Rattle.layer.specs.Answers.{LayerTold}
 use Rattle.layer.specs.Layered.{new_layer, grafted_into, layer_records, layer_ok}
 use Rattle.result.specs.declared.Graft.{Graft}
@@ -28,11 +26,8 @@ use Rattle.result.specs.Parts.{new_layer_bytes, new_string_bytes}
 
 -- ---- definitions
 
-abbrev pub offsets_of : Totals → Offsets
-offsets_of n = record { strings = n.strings; contents = n.contents; segments = n.segments }
-
 -- Number 18's part of the new layer, if there is one.
-unfoldable pub graft_ok : Bool → ℕ → ℕ → ℕ → ℕ → Offsets → With (List SourceNode) → Bool
+unfoldable pub graft_ok : Bool → ℕ → ℕ → ℕ → ℕ → Totals → With (List SourceNode) → Bool
 graft_ok true size room at base o g = true
 graft_ok false size room at base o g = layer_ok size room at base o g
 
@@ -44,30 +39,51 @@ pub record GraftMade (out strs out' strs' : List ℕ) (at base : ℕ) (none : Bo
   pub bytes : r.bytes ≡ length (new_string_bytes none g.1)
   pub stats : stats_of r.stats ≡ g.1.interner.stats
 
-pub record GraftTold (out strs out' strs' : List ℕ) (at base : ℕ) (o : Offsets) (none : Bool) (r : Option Graft) (g : With (List SourceNode)) : Type 0 where
+pub record GraftTold (out strs out' strs' : List ℕ) (at base : ℕ) (o : Totals) (none : Bool) (r : Option Graft) (g : With (List SourceNode)) : Type 0 where
   pub ok : is_some r ≡ graft_ok none (length out) (length strs) at base o g
   pub made : IfSome r (λ x. GraftMade out strs out' strs' at base none x g)
 
--- ---- no nodes
+-- ---- whether there are nodes, as the code counts them
 
-module _ (t d : List ℕ) (o : Offsets) where
-  abbrev nodes : List SourceNode
-  nodes = (book_at t (places t) d).source_nodes
+module _ (b : Book) where
+  node_count : length (book_of b).source_nodes ≡ b.places.nodes.count
+  node_count = (book_lengths b.tape.now b.bytes.now b.places b.held.accepted.framing b.held.is).nodes
 
-  no_nodes : is_empty nodes ≡ true → grafted_into t d o ≡ ([], new_layer o)
-  unfolding grafted_into shown_nodes graft_node_refs
-  no_nodes e = go nodes e
+  zero_nodes : b.places.nodes.count ≡ 0 → is_empty (book_of b).source_nodes ≡ true
+  zero_nodes h = go (book_of b).source_nodes (node_count ∙ h)
     where
-      go : (ns : List SourceNode) → is_empty ns ≡ true → graft_node_refs (map (shown_node (store_of (book_at t (places t) d).layers)) ns) (new_layer o) ≡ ([], new_layer o)
+      go : (ns : List SourceNode) → length ns ≡ 0 → is_empty ns ≡ true
       go [] q = refl
-      go (n ∷ ns) q = absurd (true≢false (sym q))
+      go (x ∷ ns) q = absurd (omega (arith, q))
 
+  some_nodes : (b.places.nodes.count ≡ 0 → ⊥) → is_empty (book_of b).source_nodes ≡ false
+  some_nodes h = go (book_of b).source_nodes node_count
+    where
+      go : (ns : List SourceNode) → length ns ≡ b.places.nodes.count → is_empty ns ≡ false
+      go [] q = absurd (h (sym q))
+      go (x ∷ ns) q = refl
+
+-- ---- the graft, or none
+
+abbrev graft_of : Book → Totals → With (List SourceNode)
+graft_of b o = grafted_into b.tape.now b.bytes.now o
+
+no_nodes : (b : Book) (o : Totals) → is_empty (book_of b).source_nodes ≡ true → graft_of b o ≡ ([], new_layer o)
+unfolding grafted_into shown_nodes graft_node_refs
+no_nodes b o e = go (book_of b).source_nodes e
+  where
+    go : (ns : List SourceNode) → is_empty ns ≡ true → graft_node_refs (map (shown_node (store_of (book_of b).layers)) ns) (new_layer o) ≡ ([], new_layer o)
+    go [] q = refl
+    go (n ∷ ns) q = absurd (true≢false (sym q))
+
+module _ (b : Book) {o : Totals} where
   -- nothing is written
-  pub graft_none : (out strs : List ℕ) (at base : ℕ) → base ≤ length strs → is_empty nodes ≡ true → (r : Graft) → r.len ≡ 0 → r.bytes ≡ 0 → r.stats ≡ no_stats
-      → GraftTold out strs out strs at base o (is_empty nodes) (Some r) (grafted_into t d o)
+  pub graft_none : b.places.nodes.count ≡ 0 → {out strs : List ℕ} {at base : ℕ} → base ≤ length strs → {r : Graft} → r.len ≡ 0 → r.bytes ≡ 0 → r.stats ≡ no_stats
+      → GraftTold out strs out strs at base o (is_empty (book_of b).source_nodes) (Some r) (graft_of b o)
   unfolding graft_ok new_layer_bytes new_string_bytes new_layer records_bytes flatten
-  graft_none out strs at base h e r len bytes stats =
-      rw (e, no_nodes e) (record {
+  graft_none z {out} {strs} {at} {base} h len bytes stats =
+      let e = zero_nodes b z in
+      rw (e, no_nodes b o e) (record {
         ok = refl;
         made = record {
           wrote = overwrite_nil out at;
@@ -78,42 +94,23 @@ module _ (t d : List ℕ) (o : Offsets) where
         };
       })
 
-  -- ---- nodes
-
-  module _ (out strs : List ℕ) {out' strs' : List ℕ} (at base : ℕ) (e : is_empty nodes ≡ false) where
-    pub graft_refused : LayerTold out strs out' strs' at base o None (grafted_into t d o) → GraftTold out strs out' strs' at base o (is_empty nodes) None (grafted_into t d o)
+  module _ (z : b.places.nodes.count ≡ 0 → ⊥) {out strs out' strs' : List ℕ} {at base : ℕ} where
+    pub graft_refused : LayerTold out strs out' strs' at base o None (graft_of b o)
+        → GraftTold out strs out' strs' at base o (is_empty (book_of b).source_nodes) None (graft_of b o)
     unfolding graft_ok
-    graft_refused told = rw e (record { ok = told.room; made = tt })
+    graft_refused told = rw (some_nodes b z) (record { ok = told.room; made = tt })
 
-    module _ (l : Layer) (told : LayerTold out strs out' strs' at base o (Some l) (grafted_into t d o)) where
-      pub graft_some : (r : Graft) → r.len ≡ l.len → r.bytes ≡ l.state.used - base → r.stats ≡ l.state.stats → GraftTold out strs out' strs' at base o (is_empty nodes) (Some r) (grafted_into t d o)
-      unfolding graft_ok new_layer_bytes new_string_bytes layer_records
-      graft_some r len bytes stats =
-          let m = told.made l refl in
-          rw e (record {
-            ok = told.room;
-            made = record { wrote = m.wrote; strings = m.bytes; len = len ∙ m.len; bytes = omega (arith, bytes, m.used); stats = ap stats_of stats ∙ m.stats };
-          })
+    pub graft_some : {l : Grafted} → LayerTold out strs out' strs' at base o (Some l) (graft_of b o)
+        → {r : Graft} → r.len ≡ l.len → r.bytes ≡ l.state.used - base → r.stats ≡ l.state.stats
+        → GraftTold out strs out' strs' at base o (is_empty (book_of b).source_nodes) (Some r) (graft_of b o)
+    unfolding graft_ok new_layer_bytes new_string_bytes layer_records
+    graft_some told len bytes stats =
+        let m = told.made _ refl in
+        rw (some_nodes b z) (record {
+          ok = told.room;
+          made = record { wrote = m.wrote; strings = m.bytes; len = len ∙ m.len; bytes = omega (arith, bytes, m.used); stats = ap stats_of stats ∙ m.stats };
+        })
 
-      -- so that the difference is one
-      pub graft_used : base ≤ l.state.used
-      graft_used = let m = told.made l refl in omega (arith, m.used)
-
-  -- where the code counts the nodes
-  pub some_nodes : (n : ℕ) → length nodes ≡ n → (n ≡ 0 → ⊥) → is_empty nodes ≡ false
-  some_nodes n e h = go nodes e
-    where
-      go : (ns : List SourceNode) → length ns ≡ n → is_empty ns ≡ false
-      go [] q = absurd (h (sym q))
-      go (x ∷ ns) q = refl
-
-  pub zero_nodes : (n : ℕ) → length nodes ≡ n → n ≡ 0 → is_empty nodes ≡ true
-  zero_nodes n e h = go nodes (e ∙ h)
-    where
-      go : (ns : List SourceNode) → length ns ≡ 0 → is_empty ns ≡ true
-      go [] q = refl
-      go (x ∷ ns) q = absurd (omega (arith, q))
-
--- how many there are
-pub source_count : {t d : List ℕ} {p : Places} {st : Store} → SourceFits t d p st → length (book_at t (places t) d).source_nodes ≡ p.nodes.count
-source_count {t} {d} {p} f = (book_lengths t d p f.accepted.framing f.is).nodes
+-- so that the difference is one
+pub graft_used : {out strs out' strs' : List ℕ} {at base : ℕ} {o : Totals} {l : Grafted} {g : With (List SourceNode)} → LayerTold out strs out' strs' at base o (Some l) g → base ≤ l.state.used
+graft_used told = let m = told.made _ refl in omega (arith, m.used)

@@ -15,7 +15,6 @@ use Rattle.places.specs.Found.{found}
 use Rattle.store.specs.declared.Store.{Store}
 use Rattle.tape.specs.Accepted.{accepted_places}
 use Rattle.tape.specs.Placed.{PlacesFit, fit_nodes}
-use Rattle.layer.specs.Source.{SourceFits}
 use Rattle.merged_lists.specs.declared.Kept.{Kept}
 use Rattle.merged_lists.specs.declared.Lengths.{Lengths}
 use Rattle.result.specs.declared.Graft.{Graft}
@@ -27,7 +26,6 @@ use Rattle.fitting.specs.Books.{Books, book_in}
 use Rattle.result.specs.Books.{merge_of, lengths_read, limits_old}
 use Rattle.merged_lists.specs.Sizes.{kept_of, room_for, lengths_of, lists_end, room_facts, room_ok}
 use Rattle.merged_lists.specs.Lists.{Lists, lists_of}
-use Rattle.result.specs.Grafting.{offsets_of}
 use Rattle.result.specs.Whole.{above, kept_nodes, small, tape_length_lem, needed_room, needed_graft, enough, accepted_is, refused_is, nodes_fit, diagnostics_fit, tape_stands}
 use Rattle.result.specs.Stages.{up_to, StoreTold, written_refused, written_accepted}
 
@@ -39,9 +37,6 @@ module _ {t d : List ℕ} {p : Places} {st : Store} {e : Edit} {w : MergeWindow}
 
   pub read_fit : PlacesFit rt q
   read_fit = accepted_places b.reading.whole b.reading_places
-
-  pub source_fits : SourceFits rt rd q rst
-  source_fits = record { accepted = b.reading.whole; is = b.reading_places; stored = b.reading_store }
 
   pub texts_inside : (p.text + p.normalized ≤ length d) × (q.text + q.normalized ≤ length rd)
   unfolding bytes_needed found
@@ -82,11 +77,11 @@ module _ {t d : List ℕ} {p : Places} {st : Store} {e : Edit} {w : MergeWindow}
         written_refused asked out text work
         (refused_is b kept sizes room (λ g. absurd (true≢false (sym (room_ok l k q p.nodes.at (length out) (length text) (length work) (needed_room b kept sizes room g)) ∙ sym y ∙ f)))) refl refl refl
 
-    pub no_graft : {out' text' work' : List ℕ} → StoreTold old e read w out text out' text' p.nodes.at l.base (offsets_of st.totals) None → length out' ≡ length out → length text' ≡ length text → length work' ≡ length work
+    pub no_graft : {out' text' work' : List ℕ} → StoreTold old e read w out text out' text' p.nodes.at l.base st.totals None → length out' ≡ length out → length text' ≡ length text → length work' ≡ length work
         → Written asked (refused 18) out text work out' text' work'
     no_graft s long long' long'' = written_refused asked out text work (refused_is b kept sizes room (λ g. absurd (true≢false (sym (needed_graft b kept sizes room g) ∙ sym s.ok)))) long long' long''
 
-    module _ {out' text' : List ℕ} {r : Graft} (s : StoreTold old e read w out text out' text' p.nodes.at l.base (offsets_of st.totals) (Some r))
+    module _ {out' text' : List ℕ} {r : Graft} (s : StoreTold old e read w out text out' text' p.nodes.at l.base st.totals (Some r))
         (long : length out' ≡ length out) (long' : length text' ≡ length text) where
       module _ {at : ℕ} (here : at ≡ p.nodes.at + r.len) where
         at_is : at ≡ length (up_to old e read w)

@@ -24,7 +24,7 @@ use Rattle.stats.specs.declared.InternStats.{InternStats as Counters}
 use Rattle.places.specs.declared.Places.{Places}
 use Rattle.places.specs.Found.{found}
 use Rattle.store.specs.declared.Store.{Store}
-use Rattle.layer.specs.declared.Offsets.{Offsets}
+use Rattle.store.specs.declared.Totals.{Totals}
 use Rattle.layer.specs.Layered.{grafted_into, grafted_above, layer_records, layer_fits_lem}
 use Rattle.merged_lists.specs.declared.Lengths.{Lengths}
 use Rattle.result.specs.declared.Graft.{Graft}
@@ -35,7 +35,7 @@ use Rattle.result.specs.Parts.{old_layer_bytes, old_string_bytes, new_layer_byte
 use Rattle.fitting.specs.Books.{Books, book_in}
 use Rattle.result.specs.Books.{merge_of, lengths_read, new_text, new_normalized, new_bytes}
 use Rattle.merged_lists.specs.Sizes.{lengths_of}
-use Rattle.result.specs.Grafting.{offsets_of, graft_ok, GraftMade, GraftTold}
+use Rattle.result.specs.Grafting.{graft_ok, GraftMade, GraftTold}
 use Rattle.result.specs.Whole.{above, text_is, normalized_is, base_is, node_bytes_lem}
 
 -- ---- both texts and the old strings
@@ -88,7 +88,7 @@ pub record StoreMade (old : LexOutput) (e : Edit) (read : RegionOutput) (w : Mer
   pub len : at + r.len ≡ length (up_to old e read w)
   pub stats : stats_of r.stats ≡ (grafted old read).1.interner.stats
 
-pub record StoreTold (old : LexOutput) (e : Edit) (read : RegionOutput) (w : MergeWindow) (out text out' text' : List ℕ) (at base : ℕ) (o : Offsets) (r : Option Graft) : Type 0 where
+pub record StoreTold (old : LexOutput) (e : Edit) (read : RegionOutput) (w : MergeWindow) (out text out' text' : List ℕ) (at base : ℕ) (o : Totals) (r : Option Graft) : Type 0 where
   pub ok : is_some r ≡ graft_ok (is_empty read.source_nodes) (length out) (length text) at base o (grafted old read)
   pub made : IfSome r (λ x. StoreMade old e read w out out' text' at base x)
 
@@ -122,24 +122,24 @@ module _ {t d : List ℕ} {p : Places} {st : Store} {e : Edit} {w : MergeWindow}
       go (n ∷ ns) z = absurd (true≢false (sym z))
 
   -- room for the layer and the nodes
-  graft_room : (size room at base : ℕ) → at ≤ size → graft_ok none size room at base (offsets_of st.totals) (grafted old read) ≡ true
+  graft_room : (size room at base : ℕ) → at ≤ size → graft_ok none size room at base st.totals (grafted old read) ≡ true
       → at + length (new_layer_bytes none (grafted old read).1 ++ records_bytes node_codec (grafted old read).0) ≤ size
   unfolding graft_ok new_layer_bytes layer_records
   graft_room size room at base h y = go none refl y
     where
-      go : (x : Bool) → none ≡ x → graft_ok x size room at base (offsets_of st.totals) (grafted old read) ≡ true → at + length (new_layer_bytes x (grafted old read).1 ++ records_bytes node_codec (grafted old read).0) ≤ size
+      go : (x : Bool) → none ≡ x → graft_ok x size room at base st.totals (grafted old read) ≡ true → at + length (new_layer_bytes x (grafted old read).1 ++ records_bytes node_codec (grafted old read).0) ≤ size
       go true z v = omega (arith, h, node_bytes_lem b, empty_count z)
-      go false z v = (layer_fits_lem size room at base (offsets_of st.totals) (grafted old read) v).tape
+      go false z v = (layer_fits_lem size room at base st.totals (grafted old read) v).tape
 
   module _ {l : Lengths} (sizes : l ≡ lengths_of p q e.start e.end (length e.replacement) w.normalized.start w.normalized.end (length d)) where
     pub store_told : (out text : List ℕ) {out₁ text₁ out₂ text₂ : List ℕ} {r : Option Graft} → p.nodes.at ≤ length out → l.base ≤ length text
         → text₁ ≡ overwrite text 0 (texts_of p q e.start e.end e.replacement w.normalized.start w.normalized.end d rd)
         → out₁ ≡ overwrite out 0 (head_bytes l.text l.normalized ++ part t 9 (p.nodes.at - 9))
-        → GraftTold out₁ text₁ out₂ text₂ p.nodes.at l.base (offsets_of st.totals) none r (grafted_into rt rd (offsets_of st.totals))
-        → StoreTold old e read w out text out₂ text₂ p.nodes.at l.base (offsets_of st.totals) r
+        → GraftTold out₁ text₁ out₂ text₂ p.nodes.at l.base st.totals none r (grafted_into rt rd st.totals)
+        → StoreTold old e read w out text out₂ text₂ p.nodes.at l.base st.totals r
     store_told out text {out₁} {text₁} {out₂} {text₂} {r} h k w₁ w₂ c =
         let g = grafted old read in
-        let o = offsets_of st.totals in
+        let o = st.totals in
         let at = p.nodes.at in
         let hd = head_bytes (length new.sanitized) (length new.normalized) in
         let xs = hd ++ old_layer_bytes old in

@@ -34,7 +34,7 @@ use Rattle.store.specs.declared.Store.{Store}
 use Rattle.store.specs.Stored.{store_at}
 use Rattle.splice.specs.Spliced.{spliced_length, records_stand}
 use Rattle.diagnostics.specs.Sorted.{sort_length}
-use Rattle.layer.specs.declared.Offsets.{Offsets}
+use Rattle.store.specs.declared.Totals.{Totals}
 use Rattle.layer.specs.Layered.{Above, layer_records, layer_fits_lem, layer_ok_lem}
 use Rattle.wire.specs.Apart.{overwrite_covered}
 use Rattle.merged_lists.specs.declared.Kept.{Kept}
@@ -47,7 +47,7 @@ use Rattle.fitting.specs.Books.{Books, book_in}
 use Rattle.result.specs.Books.{merge_of, chosen, begun, old_fits_lem, reading_fits_lem, lengths_old, lengths_read, limits_old, limits_read, text_length_lem, normalized_length_lem, new_bytes}
 use Rattle.merged_lists.specs.Sizes.{sides_of, kept_of, total_of, lengths_of, Small, lists_end, RoomFor, few_kept}
 use Rattle.merged_lists.specs.Lists.{lists_of, old_diagnostics}
-use Rattle.result.specs.Grafting.{graft_ok, offsets_of}
+use Rattle.result.specs.Grafting.{graft_ok}
 
 module _ {t d : List ℕ} {p : Places} {st : Store} {e : Edit} {w : MergeWindow} {rt rd : List ℕ} {q : Places} {rst : Store} (b : Books t d p st e w rt rd q rst) where
   abbrev old : LexOutput
@@ -97,8 +97,8 @@ module _ {t d : List ℕ} {p : Places} {st : Store} {e : Edit} {w : MergeWindow}
 
   -- ---- how many, and the tape up to the lists
 
-  abbrev o : Offsets
-  o = offsets_of st.totals
+  abbrev o : Totals
+  o = st.totals
 
   pub above : Above o old.layers
   unfolding store_at found

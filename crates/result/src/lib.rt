@@ -11,16 +11,16 @@ ghost use Rattle.model.specs.Region.{edit_of};
 ghost use Rattle.model.specs.Merge.{room_of, result_checked};
 ghost use Rattle.refusal.specs.Refusal.{checked};
 ghost use Rattle.splice.specs.Window.{window_value};
-ghost use Rattle.layer.specs.Source.{SourceFits};
 ghost use Rattle.layer.specs.Layered.{grafted_into};
 ghost use Rattle.output.specs.Answer.{Written};
 ghost use Rattle.fitting.specs.Books.{book_in};
 ghost use Rattle.fitting.specs.Stages.{BooksOf};
 ghost use Rattle.merged_lists.specs.Sizes.{lengths_of};
-ghost use Rattle.result.specs.Grafting.{offsets_of, GraftTold};
+ghost use Rattle.result.specs.Grafting.{GraftTold};
 ghost use Rattle.result.specs.Stages.{texts_of, StoreTold};
 
 use books::Merging;
+use layer::Place;
 use merged_lists::Counts;
 use merged_texts::Spliced;
 use output::IncrementalOutput;
@@ -73,43 +73,24 @@ fn graft_reading(
     at: usize,
     base: usize,
 ) -> Option<Graft>
-    requires source_fits { SourceFits reading.now.tape.now reading.now.bytes.now reading.now.places reading.now.store.now }
     requires strings_le_max_pool { (below.strings ≤ max_pool) × (below.contents ≤ max_pool) × (below.segments ≤ max_pool) }
     requires min_work_words_in_bounds { (min_work_words ≤ length work.old) × (base ≤ length strs.old) × (at ≤ length out.old) }
-    ensures { GraftTold out.old strs.old out.new strs.new at base (offsets_of below) (is_empty (book_in reading.now.tape.now reading.now.bytes.now).source_nodes) result (grafted_into reading.now.tape.now reading.now.bytes.now (offsets_of below)) }
+    ensures { GraftTold out.old strs.old out.new strs.new at base below (is_empty (book_in reading.now.tape.now reading.now.bytes.now).source_nodes) result (grafted_into reading.now.tape.now reading.now.bytes.now below) }
 {
-    let p = reading.places;
-    if p.nodes.count == 0 {
+    if reading.places.nodes.count == 0 {
         return Some(Graft {
             len: 0,
             bytes: 0,
             stats: InternStats::default(),
         });
     }
-    let o = layer::Offsets {
-        strings: below.strings,
-        contents: below.contents,
-        segments: below.segments,
-    };
-    match layer::graft_layer(
-        reading.tape,
-        reading.bytes,
-        p,
-        *reading.store,
-        out,
-        work,
-        strs,
-        o,
-        at,
-        base,
-    ) {
-        None => None,
-        Some(l) => Some(Graft {
-            len: l.len,
-            bytes: l.state.used - base,
-            stats: l.state.stats,
-        }),
-    }
+    let to = Place { below, at, base };
+    let l = layer::graft_layer(reading, to, out, work, strs)?;
+    Some(Graft {
+        len: l.len,
+        bytes: l.state.used - base,
+        stats: l.state.stats,
+    })
 }
 
 // Both texts and the strings; the head and the layers, the grafted nodes behind them.
@@ -123,7 +104,7 @@ fn put_store(
     requires books { BooksOf m.now }
     requires l_value { l ≡ lengths_of m.now.book.places m.now.reading.places m.now.edit.start m.now.edit.end (length m.now.edit.replacement.now) m.now.window.normalized.start m.now.window.normalized.end (length m.now.book.bytes.now) }
     requires min_work_words_in_bounds { (min_work_words ≤ length work.old) × (l.normalized ≤ max_text) × (l.base ≤ length out_bytes.old) × (m.now.book.places.nodes.at ≤ length out_tape.old) }
-    ensures { StoreTold (book_in m.now.book.tape.now m.now.book.bytes.now) (edit_of m.now.edit.start m.now.edit.end m.now.edit.replacement.now) (book_in m.now.reading.tape.now m.now.reading.bytes.now) (window_value m.now.window) out_tape.old out_bytes.old out_tape.new out_bytes.new m.now.book.places.nodes.at l.base (offsets_of m.now.book.store.now.totals) result }
+    ensures { StoreTold (book_in m.now.book.tape.now m.now.book.bytes.now) (edit_of m.now.edit.start m.now.edit.end m.now.edit.replacement.now) (book_in m.now.reading.tape.now m.now.reading.bytes.now) (window_value m.now.window) out_tape.old out_bytes.old out_tape.new out_bytes.new m.now.book.places.nodes.at l.base m.now.book.store.now.totals result }
 {
     let at = m.book.places.nodes.at;
     put_new_texts(out_bytes, m);

@@ -6,26 +6,23 @@ use Rattle.layer.proofs.graft_layer.Goals as goal
 
 pub reading_sizes-requires : goal.reading_sizes-requires
 reading_sizes-requires c =
+    let held = c.args.source.now.held in
     record {
-      ids_fit = source_ids c.requires.source_fits.0;
-      st_value = source_in_lem c.requires.source_fits.0;
-      limited = left_limited c.args.o c.room_left.ensures (source_few c.requires.source_fits.0);
+      ids_fit = source_ids held;
+      st_value = source_in_lem held;
+      limited = left_limited c.args.to.below c.room_left.ensures (source_few held);
     }
 
-pub returns-in_err-s : goal.returns-in_err-s
-returns-in_err-s c =
-    rw c.from_residual.ensures (pools_refused c.args.out.now c.args.strs.now c.args.at c.args.base c.args.o c.requires.source_fits.1 _ (source_sizes c.requires.source_fits.0 c.args.o) (left_sizes c.args.o (source_adds c.args.tape.now c.args.bytes.now) c.room_left.ensures (c.reading_sizes.ensures c.args.bytes.now)) c.in_err-s.was)
+pub returns-in_err-sizes : goal.returns-in_err-sizes
+returns-in_err-sizes c =
+    let to = c.args.to in
+    let source = c.args.source.now in
+    rw c.from_residual.ensures (pools_refused c.args.out.now c.args.strs.now to.at to.base to.below to.fits _ (source_sizes source.held to.below)
+    (left_sizes to.below (source_adds source.tape.now source.bytes.now) c.room_left.ensures (c.reading_sizes.ensures source.bytes.now)) c.in_err-sizes.was)
 
-pub invariant_of-r-clause-held : goal.invariant_of-r-clause-held
-invariant_of-r-clause-held c = c.requires.source_fits.0
-
-pub graft_sized-requires : goal.graft_sized-requires
-graft_sized-requires c =
-    record {
-      source_fits = (
-        c.requires.source_fits.1,
-        sizes_exact (room_left c.args.o) (source_adds c.args.tape.now c.args.bytes.now)
-            (left_sizes c.args.o (source_adds c.args.tape.now c.args.bytes.now) c.room_left.ensures (c.reading_sizes.ensures c.args.bytes.now)) c.in_ok-s.was,
-      );
-      min_work_words_in_bounds = c.requires.min_work_words_in_bounds;
-    }
+pub invariant_of-grafting-clause-exact : goal.invariant_of-grafting-clause-exact
+invariant_of-grafting-clause-exact c =
+    let to = c.args.to in
+    let source = c.args.source.now in
+    let adds = source_adds source.tape.now source.bytes.now in
+    sizes_exact (room_left to.below) adds (left_sizes to.below adds c.room_left.ensures (c.reading_sizes.ensures source.bytes.now)) c.in_ok-sizes.was

@@ -4,7 +4,7 @@ use Rattle.layer.specs.Source.{source_readable}
 use Rattle.layer.proofs.index_words.Goals as goal
 
 pub index_strings-requires : goal.index_strings-requires
-index_strings-requires c = source_readable c.args.r.now.held (omega arith)
+index_strings-requires c = source_readable c.args.source.now.held (omega arith)
 
 pub returns : goal.returns
 returns c =

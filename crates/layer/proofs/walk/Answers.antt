@@ -1,30 +1,32 @@
-use Rattle.layer.specs.Walked.{walk_ready, walk_low, walk_none, walk_told}
+use Rattle.layer.specs.Walked.{begun, walk_ready, walk_low, walk_none, walk_told}
 use Rattle.layer.specs.Source.{source_of, source_inside, source_nodes_lem}
-use Prim.Native.Nat.{◌-◌}
-use native.Mathlib.Omega.{arith}
 use Rattle.layer.proofs.walk.Goals as goal
 
 pub index_words-requires : goal.index_words-requires
-index_words-requires c =
-    record {
-      min_work_words_in_bounds = c.requires.min_work_words_in_bounds.0;
-    }
+index_words-requires c = record { min_work_words_in_bounds = c.requires.min_work_words_in_bounds.0 }
 
 pub invariant_of-w : goal.invariant_of-w
-invariant_of-w c = record { source = source_of c.args.r.now.held }
+invariant_of-w c = record { source = source_of c.args.source.now.held }
 
 pub graft_nodes-requires : goal.graft_nodes-requires
 graft_nodes-requires c =
+    let held = c.args.source.now.held in
+    let h = c.requires.min_work_words_in_bounds in
+    let begin = begun held (c.new.ensures c.args.strs.now h.1) c.index_words.ensures c.requires.pairs in
     record {
-      ready = walk_ready c.args.r.now.held (c.new.ensures c.args.strs.now c.requires.min_work_words_in_bounds.1) c.index_words.ensures.0 c.index_words.ensures.1 c.requires.min_work_words_in_bounds.2 c.args.plan c.args.nodesat c.args.out.now c.requires.walk_room;
-      count_in_bounds = (source_inside c.args.r.now.held, source_nodes_lem c.args.r.now.held);
-      count_bound = (walk_low c.args.r.now.held (c.new.ensures c.args.strs.now c.requires.min_work_words_in_bounds.1) c.index_words.ensures.0 c.index_words.ensures.1 c.requires.min_work_words_in_bounds.2 c.args.plan c.args.nodesat c.args.out.now c.requires.walk_room, c.requires.walk_room.records);
+      ready = walk_ready begin c.args.plan c.args.nodes_at c.args.out.now c.requires.walk_room;
+      count_in_bounds = (source_inside held, source_nodes_lem held);
+      count_bound = (walk_low begin c.args.plan c.args.nodes_at c.args.out.now c.requires.walk_room, c.requires.walk_room.records);
     }
 
 pub returns-in_err-graft_nodes : goal.returns-in_err-graft_nodes
 returns-in_err-graft_nodes c =
-    rw c.from_residual.ensures (walk_none c.args.r.now.held (c.new.ensures c.args.strs.now c.requires.min_work_words_in_bounds.1) c.index_words.ensures.0 c.index_words.ensures.1 c.requires.min_work_words_in_bounds.2 c.args.plan c.args.nodesat c.args.out.now c.in_err-graft_nodes.ensures)
+    let h = c.requires.min_work_words_in_bounds in
+    let begin = begun c.args.source.now.held (c.new.ensures c.args.strs.now h.1) c.index_words.ensures c.requires.pairs in
+    rw c.from_residual.ensures (walk_none begin c.args.plan c.args.nodes_at c.args.out.now c.in_err-graft_nodes.ensures)
 
 pub returns : goal.returns
 returns c =
-    walk_told c.args.r.now.held (c.new.ensures c.args.strs.now c.requires.min_work_words_in_bounds.1) c.index_words.ensures.0 c.index_words.ensures.1 c.requires.min_work_words_in_bounds.2 c.args.plan c.args.nodesat c.args.out.now c.in_ok-graft_nodes.ensures
+    let h = c.requires.min_work_words_in_bounds in
+    let begin = begun c.args.source.now.held (c.new.ensures c.args.strs.now h.1) c.index_words.ensures c.requires.pairs in
+    walk_told begin c.args.plan c.args.nodes_at c.args.out.now c.in_ok-graft_nodes.ensures

@@ -1,38 +1,20 @@
 use Rattle.std.proofs.Common.{refl, arith}
 use Rattle.stats.specs.Counts.{default_is}
-use Rattle.result.specs.Grafting.{offsets_of, graft_none, graft_refused, graft_some, graft_used, some_nodes, zero_nodes, source_count}
+use Rattle.result.specs.Grafting.{graft_none, graft_refused, graft_some, graft_used}
 use Rattle.result.proofs.graft_reading.Goals as goal
 
-pub returns-then-p-eq0 : goal.returns-then-p-eq0
-returns-then-p-eq0 c =
-    let t = c.args.reading.now.tape.now in
-    let d = c.args.reading.now.bytes.now in
-    let none = zero_nodes t d (offsets_of c.args.below) _ (source_count c.requires.source_fits) c.if-p-eq0.true in
-    graft_none t d (offsets_of c.args.below) c.args.out.now c.args.strs.now c.args.at c.args.base c.requires.min_work_words_in_bounds.1 none _ refl refl (default_is c.default.result c.default.ensures)
+pub returns-then-reading-eq0 : goal.returns-then-reading-eq0
+returns-then-reading-eq0 c =
+    graft_none c.args.reading.now c.if-reading-eq0.true c.requires.min_work_words_in_bounds.1 refl refl (default_is c.default.result c.default.ensures)
 
-pub graft_layer-requires : goal.graft_layer-requires
-graft_layer-requires c = record {
-  source_fits = (c.requires.source_fits, record { strings = c.requires.strings_le_max_pool.0; contents = c.requires.strings_le_max_pool.1; segments = c.requires.strings_le_max_pool.2 });
-  min_work_words_in_bounds = c.requires.min_work_words_in_bounds;
-}
+pub invariant_of-to : goal.invariant_of-to
+invariant_of-to c = let h = c.requires.strings_le_max_pool in record { fits = record { strings = h.0; contents = h.1; segments = h.2 } }
 
-pub returns-in-None : goal.returns-in-None
-returns-in-None c =
-    let t = c.args.reading.now.tape.now in
-    let d = c.args.reading.now.bytes.now in
-    let some = some_nodes t d (offsets_of c.args.below) _ (source_count c.requires.source_fits) c.if-p-eq0.false in
-    graft_refused t d (offsets_of c.args.below) c.args.out.now c.args.strs.now c.args.at c.args.base some c.in-None.ensures
+pub returns-in_err-l : goal.returns-in_err-l
+returns-in_err-l c = rw c.from_residual.ensures (graft_refused c.args.reading.now c.if-reading-eq0.false c.in_err-l.ensures)
 
 pub overflow_sub-result : goal.overflow_sub-result
-overflow_sub-result c =
-    let t = c.args.reading.now.tape.now in
-    let d = c.args.reading.now.bytes.now in
-    let some = some_nodes t d (offsets_of c.args.below) _ (source_count c.requires.source_fits) c.if-p-eq0.false in
-    let x = graft_used t d (offsets_of c.args.below) c.args.out.now c.args.strs.now c.args.at c.args.base some c.in-Some.l c.in-Some.ensures in omega (arith, x)
+overflow_sub-result c = let x = graft_used c.in_ok-l.ensures in omega (arith, x)
 
-pub returns-in-Some : goal.returns-in-Some
-returns-in-Some c =
-    let t = c.args.reading.now.tape.now in
-    let d = c.args.reading.now.bytes.now in
-    let some = some_nodes t d (offsets_of c.args.below) _ (source_count c.requires.source_fits) c.if-p-eq0.false in
-    graft_some t d (offsets_of c.args.below) c.args.out.now c.args.strs.now c.args.at c.args.base some c.in-Some.l c.in-Some.ensures _ refl refl refl
+pub returns : goal.returns
+returns c = graft_some c.args.reading.now c.if-reading-eq0.false c.in_ok-l.ensures refl refl refl

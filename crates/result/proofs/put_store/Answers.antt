@@ -1,6 +1,6 @@
 use Rattle.model.specs.Region.{edit_of}
 use Rattle.merged_lists.specs.declared.Lengths.{Lengths}
-use Rattle.result.specs.Merging.{texts_inside, nodes_at_lem, source_fits, pools_fit}
+use Rattle.result.specs.Merging.{texts_inside, nodes_at_lem, pools_fit}
 use Rattle.result.specs.Stages.{store_told}
 use Rattle.result.specs.Books.{inside}
 use mathlib.Core.Path.{ap}
@@ -31,7 +31,6 @@ pub graft_reading-requires : goal.graft_reading-requires
 graft_reading-requires c =
     let m = c.requires.min_work_words_in_bounds in
     record {
-      source_fits = source_fits c.requires.books;
       strings_le_max_pool = pools_fit c.requires.books;
       min_work_words_in_bounds = (omega (arith, m.0), omega (arith, m.2, c.put_new_texts.auto.out), omega (arith, m.3, c.put_head.auto.out));
     }
