@@ -1,11 +1,8 @@
-use Rattle.records.specs.Values.{body_at}
 use Rattle.records.specs.Uses.{use_number}
 use Rattle.records.specs.UseNumbers.{number_same}
 use Rattle.records.specs.declared.Use.{Use}
-use Rattle.records.specs.declared.Use.TheVariants.{Contents, Segments}
+use Rattle.records.specs.declared.Use.TheVariants.{Segments}
 use Rattle.ids.specs.Tests.{used_contents, used_segments}
-use Rattle.sizes.specs.Words.{words_of}
-use Rattle.sizes.specs.InPlace.{inner_adds}
 use Rattle.std.proofs.Common.{◌≡◌, ℕ, ◌+◌, ◌*◌, eqb-true, refl, sym, ap, ◌∙◌, arith}
 use borrow.Author.Tests.{eqb-false}
 use Rattle.graft.specs.Fields.{string_well, field_contents, field_segments_lem, field_string, field_contents_ready, field_segments_ready, word_is, word_small, place_well, place_ready, place_told, place_refused}
@@ -29,7 +26,8 @@ graft_body-graft_place-requires t c =
 
 pub graft_body-returns-in_err-words : goal.graft_body-returns-in_err-words
 graft_body-returns-in_err-words t c =
-    rw c.from_residual.ensures (body_refused _ _ _ _ _ _ _ _ _ _ c.args.w.now.source c.requires.ready c.requires.at_in_bounds.1 (c.loop-j.j + 1) (omega arith) (body_turn _ _ _ _ _ _ _ _ _ _ c.args.w.now.source c.requires.ready c.requires.at_in_bounds.1 c.loop-j.invariant (omega arith) c.in_err-words.ensures))
+    let turn = body_turn _ _ _ _ _ _ _ _ _ _ c.args.w.now.source c.requires.ready c.requires.at_in_bounds.1 c.loop-j.invariant (omega arith) c.in_err-words.ensures in
+    rw c.from_residual.ensures (body_refused _ _ _ _ _ _ _ _ _ _ c.args.w.now.source c.requires.ready c.requires.at_in_bounds.1 (c.loop-j.j + 1) (omega arith) turn)
 
 pub graft_body-loop-j-preserved : goal.graft_body-loop-j-preserved
 graft_body-loop-j-preserved t c =
@@ -53,7 +51,8 @@ graft_place-graft_field-requires t c =
 
 pub graft_place-returns-in_err-v : goal.graft_place-returns-in_err-v
 graft_place-returns-in_err-v t c =
-    rw c.from_residual.ensures (place_refused _ _ _ _ _ _ c.args.w.now.source _ _ _ _ _ _ _ c.field_at-f.ensures (place_well _ _ _ c.requires.at_in_bounds.1 (word_small _ _ _ _ c.field_word-i.ensures.0 c.field_word-i.ensures.1) _ c.field_at-f.ensures) c.in_err-v.ensures)
+    let well = place_well _ _ _ c.requires.at_in_bounds.1 (word_small _ _ _ _ c.field_word-i.ensures.0 c.field_word-i.ensures.1) _ c.field_at-f.ensures in
+    rw c.from_residual.ensures (place_refused _ _ _ _ _ _ c.args.w.now.source _ _ _ _ _ _ _ c.field_at-f.ensures well c.in_err-v.ensures)
 
 pub graft_place-with_words-requires : goal.graft_place-with_words-requires
 graft_place-with_words-requires t c =
@@ -61,14 +60,16 @@ graft_place-with_words-requires t c =
 
 pub graft_place-returns : goal.graft_place-returns
 graft_place-returns t c =
-    place_told _ _ _ _ _ _ c.args.w.now.source _ _ _ _ _ _ _ c.field_at-f.ensures (place_well _ _ _ c.requires.at_in_bounds.1 (word_small _ _ _ _ c.field_word-i.ensures.0 c.field_word-i.ensures.1) _ c.field_at-f.ensures) _ (word_is _ _ _ _ c.field_word-i.ensures.0) _ c.in_ok-v.ensures _ c.with_words.ensures
+    let well = place_well _ _ _ c.requires.at_in_bounds.1 (word_small _ _ _ _ c.field_word-i.ensures.0 c.field_word-i.ensures.1) _ c.field_at-f.ensures in
+    place_told _ _ _ _ _ _ c.args.w.now.source _ _ _ _ _ _ _ c.field_at-f.ensures well _ (word_is _ _ _ _ c.field_word-i.ensures.0) _ c.in_ok-v.ensures _ c.with_words.ensures
 
 segments_alone : (u : Use) → u ≡ Segments → use_number u ≡ 3 → ⊥
 segments_alone u s e = let q : use_number u ≡ 5 = ap use_number s in omega (arith, q, e)
 
 pub graft_field-graft_content_run-requires : goal.graft_field-graft_content_run-requires
 graft_field-graft_content_run-requires t c =
-    (omega arith, (field_contents_ready c.args.level _ _ _ _ _ _ _ _ _ _ c.requires.ready (ap use_number c.in-Contents.is), sym (used_contents c.args.w.now.st.now (use_number c.args.f.usage) c.args.f.first c.args.f.second (ap use_number c.in-Contents.is)) ∙ c.requires.second_value))
+    let is = ap use_number c.in-Contents.is in
+    (omega arith, (field_contents_ready c.args.level _ _ _ _ _ _ _ _ _ _ c.requires.ready is, sym (used_contents _ _ _ _ is) ∙ c.requires.second_value))
 
 pub graft_field-returns-in-Contents : goal.graft_field-returns-in-Contents
 graft_field-returns-in-Contents t c =
@@ -76,7 +77,8 @@ graft_field-returns-in-Contents t c =
 
 pub graft_field-graft_segment_run-requires : goal.graft_field-graft_segment_run-requires
 graft_field-graft_segment_run-requires t c =
-    (omega arith, (field_segments_ready c.args.level _ _ _ _ _ _ _ _ _ _ c.requires.ready (segments_alone _ c.in-Segments.is) (ap use_number c.in-Segments.is), sym (used_segments c.args.w.now.st.now (use_number c.args.f.usage) c.args.f.first c.args.f.second (ap use_number c.in-Segments.is)) ∙ c.requires.second_value))
+    let is = ap use_number c.in-Segments.is in
+    (omega arith, (field_segments_ready c.args.level _ _ _ _ _ _ _ _ _ _ c.requires.ready (segments_alone _ c.in-Segments.is) is, sym (used_segments _ _ _ _ is) ∙ c.requires.second_value))
 
 pub graft_field-returns-in-Segments : goal.graft_field-returns-in-Segments
 graft_field-returns-in-Segments t c =
@@ -88,12 +90,17 @@ graft_field-graft_string-requires t c =
       indexed = (c.requires.ready.index, c.requires.ready.pairs);
       good = (c.requires.ready.good, c.requires.ready.named);
       has_room = c.requires.ready.has;
-      id_value = (string_well _ _ _ _ c.requires.second_value (λ e. c.in_default.not-Contents (number_same c.args.f.usage Contents e)) (λ e. c.in_default.not-Segments (number_same c.args.f.usage Segments e)), omega (arith, c.requires.ready.space.calls), omega (arith, c.requires.ready.space.string_numbers));
+      id_value = (
+        string_well _ _ _ _ c.requires.second_value (λ e. c.in_default.not-Contents (number_same _ _ e)) (λ e. c.in_default.not-Segments (number_same _ _ e)),
+        omega (arith, c.requires.ready.space.calls),
+        omega (arith, c.requires.ready.space.string_numbers),
+      );
     }
 
 pub graft_field-returns-in_default : goal.graft_field-returns-in_default
 graft_field-returns-in_default t c =
-    field_string _ _ _ _ _ _ _ _ _ (λ e. c.in_default.not-Contents (number_same c.args.f.usage Contents e)) (λ e. c.in_default.not-Segments (number_same c.args.f.usage Segments e)) (c.graft_string.ensures c.args.out.now)
+    field_string _ _ _ _ _ _ _ _ _ (λ e. c.in_default.not-Contents (number_same _ _ e)) (λ e. c.in_default.not-Segments (number_same _ _ e))
+    (c.graft_string.ensures c.args.out.now)
 
 pub graft_content_run-overflow_add-result : goal.graft_content_run-overflow_add-result
 graft_content_run-overflow_add-result t c =
@@ -109,9 +116,11 @@ graft_content_run-content_place-requires t c =
 
 pub graft_content_run-inner_contents-requires : goal.graft_content_run-inner_contents-requires
 graft_content_run-inner_contents-requires t c =
+    let numbers = contents_numbers _ _ _ c.requires.len_value c.args.w.now.source c.requires.ready _ c.content_place.ensures in
+    let others = contents_others _ _ _ c.requires.len_value c.args.w.now.source c.requires.ready _ c.content_place.ensures in
     record {
       count_in_bounds = contents_within _ _ _ c.requires.len_value c.args.w.now.source c.requires.ready _ c.content_place.ensures c.if-len-eq0.false;
-      count_bound = (omega (arith, contents_numbers _ _ _ c.requires.len_value c.args.w.now.source c.requires.ready _ c.content_place.ensures), contents_others _ _ _ c.requires.len_value c.args.w.now.source c.requires.ready _ c.content_place.ensures);
+      count_bound = (omega (arith, numbers), others);
     }
 
 pub graft_content_run-overflow_add-to : goal.graft_content_run-overflow_add-to
@@ -120,7 +129,13 @@ graft_content_run-overflow_add-to t c =
 
 pub graft_content_run-graft_contents-requires : goal.graft_content_run-graft_contents-requires
 graft_content_run-graft_contents-requires t c =
-    (omega arith, (contents_ready _ _ _ c.requires.len_value c.args.w.now.source c.requires.ready _ c.content_place.ensures, ((contents_within _ _ _ c.requires.len_value c.args.w.now.source c.requires.ready _ c.content_place.ensures c.if-len-eq0.false, contents_known _ _ _ c.requires.len_value c.args.w.now.source c.requires.ready _ c.content_place.ensures), (omega (arith, c.inner_contents.ensures), omega (arith, contents_high _ _ _ c.requires.len_value c.args.w.now.source c.requires.ready _ c.content_place.ensures, c.inner_contents.ensures), omega (arith, contents_numbers _ _ _ c.requires.len_value c.args.w.now.source c.requires.ready _ c.content_place.ensures, c.inner_contents.ensures)))))
+    let ready = contents_ready _ _ _ c.requires.len_value c.args.w.now.source c.requires.ready _ c.content_place.ensures in
+    let within = contents_within _ _ _ c.requires.len_value c.args.w.now.source c.requires.ready _ c.content_place.ensures c.if-len-eq0.false in
+    let known = contents_known _ _ _ c.requires.len_value c.args.w.now.source c.requires.ready _ c.content_place.ensures in
+    let high = contents_high _ _ _ c.requires.len_value c.args.w.now.source c.requires.ready _ c.content_place.ensures in
+    let numbers = contents_numbers _ _ _ c.requires.len_value c.args.w.now.source c.requires.ready _ c.content_place.ensures in
+    let is = c.inner_contents.ensures in
+    (omega arith, (ready, ((within, known), (omega (arith, is), omega (arith, high, is), omega (arith, numbers, is)))))
 
 pub graft_content_run-returns-in_err-graft_contents : goal.graft_content_run-returns-in_err-graft_contents
 graft_content_run-returns-in_err-graft_contents t c =
@@ -152,9 +167,11 @@ graft_segment_run-segment_place-requires t c =
 
 pub graft_segment_run-inner_segments-requires : goal.graft_segment_run-inner_segments-requires
 graft_segment_run-inner_segments-requires t c =
+    let numbers = segments_numbers _ _ _ c.requires.len_value c.args.w.now.source c.requires.ready _ c.segment_place.ensures in
+    let others = segments_others _ _ _ c.requires.len_value c.args.w.now.source c.requires.ready _ c.segment_place.ensures in
     record {
       count_in_bounds = segments_within _ _ _ c.requires.len_value c.args.w.now.source c.requires.ready _ c.segment_place.ensures c.if-len-eq0.false;
-      count_bound = (segments_others _ _ _ c.requires.len_value c.args.w.now.source c.requires.ready _ c.segment_place.ensures, omega (arith, segments_numbers _ _ _ c.requires.len_value c.args.w.now.source c.requires.ready _ c.segment_place.ensures));
+      count_bound = (others, omega (arith, numbers));
     }
 
 pub graft_segment_run-overflow_add-to : goal.graft_segment_run-overflow_add-to
@@ -163,7 +180,13 @@ graft_segment_run-overflow_add-to t c =
 
 pub graft_segment_run-graft_segments-requires : goal.graft_segment_run-graft_segments-requires
 graft_segment_run-graft_segments-requires t c =
-    (omega arith, (segments_ready _ _ _ c.requires.len_value c.args.w.now.source c.requires.ready _ c.segment_place.ensures, ((segments_within _ _ _ c.requires.len_value c.args.w.now.source c.requires.ready _ c.segment_place.ensures c.if-len-eq0.false, segments_known _ _ _ c.requires.len_value c.args.w.now.source c.requires.ready _ c.segment_place.ensures), (omega (arith, c.inner_segments.ensures), omega (arith, segments_high _ _ _ c.requires.len_value c.args.w.now.source c.requires.ready _ c.segment_place.ensures, c.inner_segments.ensures), omega (arith, segments_numbers _ _ _ c.requires.len_value c.args.w.now.source c.requires.ready _ c.segment_place.ensures, c.inner_segments.ensures)))))
+    let ready = segments_ready _ _ _ c.requires.len_value c.args.w.now.source c.requires.ready _ c.segment_place.ensures in
+    let within = segments_within _ _ _ c.requires.len_value c.args.w.now.source c.requires.ready _ c.segment_place.ensures c.if-len-eq0.false in
+    let known = segments_known _ _ _ c.requires.len_value c.args.w.now.source c.requires.ready _ c.segment_place.ensures in
+    let high = segments_high _ _ _ c.requires.len_value c.args.w.now.source c.requires.ready _ c.segment_place.ensures in
+    let numbers = segments_numbers _ _ _ c.requires.len_value c.args.w.now.source c.requires.ready _ c.segment_place.ensures in
+    let is = c.inner_segments.ensures in
+    (omega arith, (ready, ((within, known), (omega (arith, is), omega (arith, high, is), omega (arith, numbers, is)))))
 
 pub graft_segment_run-returns-in_err-graft_segments : goal.graft_segment_run-returns-in_err-graft_segments
 graft_segment_run-returns-in_err-graft_segments t c =
@@ -195,15 +218,23 @@ graft_contents-overflow_add-to t c =
 
 pub graft_contents-graft_content-requires : goal.graft_contents-graft_content-requires
 graft_contents-graft_content-requires t c =
-    (omega arith, (item_ready (content_grafts c.args.w.now.source _) _ _ _ c.requires.ready c.requires.count_in_bounds.1 c.loop-i.invariant (omega arith), ((omega (arith, c.requires.count_in_bounds.0), item_known (content_grafts c.args.w.now.source _) _ _ (c.args.w.now.plan.contents_at + 10 * c.args.to) c.requires.ready c.requires.count_in_bounds.1 _ (omega arith)), (omega (arith, (item_low (content_grafts c.args.w.now.source _) _ _ _ c.requires.ready c.requires.count_in_bounds.1 c.loop-i.invariant (omega arith)).0, c.requires.count_bound.0), omega (arith, c.requires.count_bound.1)))))
+    let grafts = content_grafts c.args.w.now.source c.args.level in
+    let ready = item_ready grafts _ _ _ c.requires.ready c.requires.count_in_bounds.1 c.loop-i.invariant (omega arith) in
+    let known = item_known grafts _ _ (c.args.w.now.plan.contents_at + 10 * c.args.to) c.requires.ready c.requires.count_in_bounds.1 c.loop-i.i (omega arith) in
+    let low = item_low grafts _ _ _ c.requires.ready c.requires.count_in_bounds.1 c.loop-i.invariant (omega arith) in
+    (omega arith, (ready, ((omega (arith, c.requires.count_in_bounds.0), known), (omega (arith, low.0, c.requires.count_bound.0), omega (arith, c.requires.count_bound.1)))))
 
 pub graft_contents-returns-in_err-graft_content : goal.graft_contents-returns-in_err-graft_content
 graft_contents-returns-in_err-graft_content t c =
-    rw c.from_residual.ensures (items_refused (content_grafts c.args.w.now.source _) _ _ _ c.requires.ready c.requires.count_in_bounds.1 (c.loop-i.i + 1) (omega arith) (item_turn (content_grafts c.args.w.now.source _) _ _ _ c.requires.ready c.requires.count_in_bounds.1 c.loop-i.invariant (omega arith) (between (omega (arith, c.requires.count_bound.0)) (omega (arith, c.requires.count_bound.1))) _ (omega arith) c.in_err-graft_content.ensures))
+    let grafts = content_grafts c.args.w.now.source c.args.level in
+    rw c.from_residual.ensures (items_refused grafts _ _ _ c.requires.ready c.requires.count_in_bounds.1 (c.loop-i.i + 1) (omega arith)
+    (item_turn grafts _ _ _ c.requires.ready c.requires.count_in_bounds.1 c.loop-i.invariant (omega arith)
+    (between (omega (arith, c.requires.count_bound.0)) (omega (arith, c.requires.count_bound.1))) _ (omega arith) c.in_err-graft_content.ensures))
 
 pub graft_contents-loop-i-preserved : goal.graft_contents-loop-i-preserved
 graft_contents-loop-i-preserved t c =
-    items_more (content_grafts c.args.w.now.source _) _ _ _ c.requires.ready c.requires.count_in_bounds.1 c.loop-i.invariant (omega arith) (between (omega (arith, c.requires.count_bound.0)) (omega (arith, c.requires.count_bound.1))) _ (omega arith) c.in_ok-graft_content.ensures c.graft_content.auto.out refl
+    items_more (content_grafts c.args.w.now.source c.args.level) _ _ _ c.requires.ready c.requires.count_in_bounds.1 c.loop-i.invariant (omega arith)
+    (between (omega (arith, c.requires.count_bound.0)) (omega (arith, c.requires.count_bound.1))) _ (omega arith) c.in_ok-graft_content.ensures c.graft_content.auto.out refl
 
 pub graft_contents-returns : goal.graft_contents-returns
 graft_contents-returns t c =
@@ -223,15 +254,23 @@ graft_segments-overflow_add-to t c =
 
 pub graft_segments-graft_segment-requires : goal.graft_segments-graft_segment-requires
 graft_segments-graft_segment-requires t c =
-    (omega arith, (item_ready (segment_grafts c.args.w.now.source _) _ _ _ c.requires.ready c.requires.count_in_bounds.1 c.loop-i.invariant (omega arith), ((omega (arith, c.requires.count_in_bounds.0), item_known (segment_grafts c.args.w.now.source _) _ _ (c.args.w.now.plan.segments_at + 37 * c.args.to) c.requires.ready c.requires.count_in_bounds.1 _ (omega arith)), (omega (arith, (item_low (segment_grafts c.args.w.now.source _) _ _ _ c.requires.ready c.requires.count_in_bounds.1 c.loop-i.invariant (omega arith)).1, c.requires.count_bound.0), omega (arith, c.requires.count_bound.1)))))
+    let grafts = segment_grafts c.args.w.now.source c.args.level in
+    let ready = item_ready grafts _ _ _ c.requires.ready c.requires.count_in_bounds.1 c.loop-i.invariant (omega arith) in
+    let known = item_known grafts _ _ (c.args.w.now.plan.segments_at + 37 * c.args.to) c.requires.ready c.requires.count_in_bounds.1 c.loop-i.i (omega arith) in
+    let low = item_low grafts _ _ _ c.requires.ready c.requires.count_in_bounds.1 c.loop-i.invariant (omega arith) in
+    (omega arith, (ready, ((omega (arith, c.requires.count_in_bounds.0), known), (omega (arith, low.1, c.requires.count_bound.0), omega (arith, c.requires.count_bound.1)))))
 
 pub graft_segments-returns-in_err-graft_segment : goal.graft_segments-returns-in_err-graft_segment
 graft_segments-returns-in_err-graft_segment t c =
-    rw c.from_residual.ensures (items_refused (segment_grafts c.args.w.now.source _) _ _ _ c.requires.ready c.requires.count_in_bounds.1 (c.loop-i.i + 1) (omega arith) (item_turn (segment_grafts c.args.w.now.source _) _ _ _ c.requires.ready c.requires.count_in_bounds.1 c.loop-i.invariant (omega arith) (beyond (omega (arith, c.requires.count_bound.0)) (omega (arith, c.requires.count_bound.1))) _ (omega arith) c.in_err-graft_segment.ensures))
+    let grafts = segment_grafts c.args.w.now.source c.args.level in
+    rw c.from_residual.ensures (items_refused grafts _ _ _ c.requires.ready c.requires.count_in_bounds.1 (c.loop-i.i + 1) (omega arith)
+    (item_turn grafts _ _ _ c.requires.ready c.requires.count_in_bounds.1 c.loop-i.invariant (omega arith)
+    (beyond (omega (arith, c.requires.count_bound.0)) (omega (arith, c.requires.count_bound.1))) _ (omega arith) c.in_err-graft_segment.ensures))
 
 pub graft_segments-loop-i-preserved : goal.graft_segments-loop-i-preserved
 graft_segments-loop-i-preserved t c =
-    items_more (segment_grafts c.args.w.now.source _) _ _ _ c.requires.ready c.requires.count_in_bounds.1 c.loop-i.invariant (omega arith) (beyond (omega (arith, c.requires.count_bound.0)) (omega (arith, c.requires.count_bound.1))) _ (omega arith) c.in_ok-graft_segment.ensures c.graft_segment.auto.out refl
+    items_more (segment_grafts c.args.w.now.source c.args.level) _ _ _ c.requires.ready c.requires.count_in_bounds.1 c.loop-i.invariant (omega arith)
+    (beyond (omega (arith, c.requires.count_bound.0)) (omega (arith, c.requires.count_bound.1))) _ (omega arith) c.in_ok-graft_segment.ensures c.graft_segment.auto.out refl
 
 pub graft_segments-returns : goal.graft_segments-returns
 graft_segments-returns t c =
@@ -254,7 +293,11 @@ graft_content-graft_str-requires t c =
     record {
       indexed = (c.requires.ready.index, c.requires.ready.pairs);
       good = (c.requires.ready.good, c.requires.ready.named);
-      id_lt_strings = (plain_known _ _ _ _ c.content_at-c.ensures c.requires.at_in_bounds.1 (eqb-true _ _ (sym c.is_plain.ensures ∙ c.if-is_plain.true)), omega (arith, c.requires.ready.space.calls), omega (arith, c.requires.ready.space.string_numbers));
+      id_lt_strings = (
+        plain_known _ _ _ _ c.content_at-c.ensures c.requires.at_in_bounds.1 (eqb-true _ _ (sym c.is_plain.ensures ∙ c.if-is_plain.true)),
+        omega (arith, c.requires.ready.space.calls),
+        omega (arith, c.requires.ready.space.string_numbers),
+      );
     }
 
 pub graft_content-returns-in_err-id : goal.graft_content-returns-in_err-id
@@ -271,11 +314,15 @@ graft_content-returns-then-is_plain t c =
 
 pub graft_content-graft_segment_run-requires : goal.graft_content-graft_segment_run-requires
 graft_content-graft_segment_run-requires t c =
-    (omega arith, (run_ready _ _ _ _ c.content_at-c.ensures _ (eqb-false _ _ (sym c.is_plain.ensures ∙ c.if-is_plain.false)) c.requires.ready, (run_known _ _ _ _ c.content_at-c.ensures c.requires.at_in_bounds.1 (eqb-false _ _ (sym c.is_plain.ensures ∙ c.if-is_plain.false)))))
+    let segmented = eqb-false _ _ (sym c.is_plain.ensures ∙ c.if-is_plain.false) in
+    let known = run_known _ _ _ _ c.content_at-c.ensures c.requires.at_in_bounds.1 segmented in
+    (omega arith, (run_ready _ _ _ _ c.content_at-c.ensures _ segmented c.requires.ready, known))
 
 pub graft_content-returns-in_err-first : goal.graft_content-returns-in_err-first
 graft_content-returns-in_err-first t c =
-    rw c.from_residual-in_err-first.ensures (run_refused _ _ _ _ c.content_at-c.ensures _ _ _ _ _ _ _ _ c.args.w.now.source (run_known _ _ _ _ c.content_at-c.ensures c.requires.at_in_bounds.1 (eqb-false _ _ (sym c.is_plain.ensures ∙ c.if-is_plain.false))) (eqb-false _ _ (sym c.is_plain.ensures ∙ c.if-is_plain.false)) c.in_err-first.ensures)
+    let segmented = eqb-false _ _ (sym c.is_plain.ensures ∙ c.if-is_plain.false) in
+    let known = run_known _ _ _ _ c.content_at-c.ensures c.requires.at_in_bounds.1 segmented in
+    rw c.from_residual-in_err-first.ensures (run_refused _ _ _ _ c.content_at-c.ensures _ _ _ _ _ _ _ _ c.args.w.now.source known segmented c.in_err-first.ensures)
 
 pub graft_content-put_content-requires-2 : goal.graft_content-put_content-requires-2
 graft_content-put_content-requires-2 t c =
@@ -283,7 +330,9 @@ graft_content-put_content-requires-2 t c =
 
 pub graft_content-returns : goal.graft_content-returns
 graft_content-returns t c =
-    run_made _ _ _ _ c.content_at-c.ensures _ _ _ _ _ _ _ _ c.args.w.now.source (run_known _ _ _ _ c.content_at-c.ensures c.requires.at_in_bounds.1 (eqb-false _ _ (sym c.is_plain.ensures ∙ c.if-is_plain.false))) (eqb-false _ _ (sym c.is_plain.ensures ∙ c.if-is_plain.false)) _ c.in_ok-first.ensures c.put_content-2.ensures
+    let segmented = eqb-false _ _ (sym c.is_plain.ensures ∙ c.if-is_plain.false) in
+    let known = run_known _ _ _ _ c.content_at-c.ensures c.requires.at_in_bounds.1 segmented in
+    run_made _ _ _ _ c.content_at-c.ensures _ _ _ _ _ _ _ _ c.args.w.now.source known segmented _ c.in_ok-first.ensures c.put_content-2.ensures
 
 pub graft_segment-overflow_mul-place : goal.graft_segment-overflow_mul-place
 graft_segment-overflow_mul-place t c =
