@@ -22,7 +22,10 @@ abbrev pub decreases-graft_contents : goal.decreases-graft_contents
 decreases-graft_contents l = l.level * 9 + 4
 
 abbrev pub invariant-graft_contents-loop-i : goal.invariant-graft_contents-loop-i
-invariant-graft_contents-loop-i l = ItemsUpTo l.w.tape.now l.w.bytes.now content_codec (shown_contents l.level l.w.tape.now l.w.bytes.now) l.w.plan l.initial.m l.run.at (l.w.plan.contents_at + 10 * l.to) l.initial.out l.initial.work l.initial.strs l.out l.work l.strs l.m l.i
+invariant-graft_contents-loop-i l =
+    let shown = shown_contents l.level l.w.tape.now l.w.bytes.now in
+    let to = l.w.plan.contents_at + 10 * l.to in
+    ItemsUpTo l.w.tape.now l.w.bytes.now content_codec shown l.w.plan l.initial.m l.run.at to l.initial.out l.initial.work l.initial.strs l.out l.work l.strs l.m l.i
 
 abbrev pub decreases-graft_field : goal.decreases-graft_field
 decreases-graft_field l = l.level * 9 + 6
@@ -40,4 +43,7 @@ abbrev pub decreases-graft_segments : goal.decreases-graft_segments
 decreases-graft_segments l = l.level * 9 + 1
 
 abbrev pub invariant-graft_segments-loop-i : goal.invariant-graft_segments-loop-i
-invariant-graft_segments-loop-i l = ItemsUpTo l.w.tape.now l.w.bytes.now segment_codec (shown_segments l.level l.w.tape.now l.w.bytes.now) l.w.plan l.initial.m l.run.at (l.w.plan.segments_at + 37 * l.to) l.initial.out l.initial.work l.initial.strs l.out l.work l.strs l.m l.i
+invariant-graft_segments-loop-i l =
+    let shown = shown_segments l.level l.w.tape.now l.w.bytes.now in
+    let to = l.w.plan.segments_at + 37 * l.to in
+    ItemsUpTo l.w.tape.now l.w.bytes.now segment_codec shown l.w.plan l.initial.m l.run.at to l.initial.out l.initial.work l.initial.strs l.out l.work l.strs l.m l.i

@@ -11,30 +11,30 @@ graft_str-requires c =
     record {
       indexed = c.requires.indexed;
       good = c.requires.good;
-      id_lt_strings = (string_known c.args.w.now.st.now (use_number c.args.usage) c.args.id 0 c.requires.id_value.0 (ap use_number c.in-Str.is), c.requires.id_value.1, c.requires.id_value.2);
+      id_lt_strings = (string_known _ _ _ 0 c.requires.id_value.0 (ap use_number c.in-Str.is), c.requires.id_value.1, c.requires.id_value.2);
     }
 
 pub returns-in-Str : goal.returns-in-Str
 returns-in-Str c =
-    λ out. id_string c.args.w.now.tape.now c.args.w.now.bytes.now c.args.w.now.plan c.args.m.now out c.args.work.now c.args.strs.now (use_number c.args.usage) c.args.id (ap use_number c.in-Str.is) (c.graft_str.ensures out)
+    λ out. id_string _ _ _ _ out _ _ _ _ (ap use_number c.in-Str.is) (c.graft_str.ensures out)
 
 pub returns-then-id-eq-NO_STRING : goal.returns-then-id-eq-NO_STRING
 returns-then-id-eq-NO_STRING c =
-    λ out. id_missing c.args.w.now.tape.now c.args.w.now.bytes.now c.args.w.now.plan c.args.m.now out c.args.work.now c.args.strs.now (use_number c.args.usage) c.args.id (told_nothing c.requires.good.0 c.requires.good.1 c.requires.has_room out) (ap use_number c.in-OptStr.is) c.if-id-eq-NO_STRING.true
+    λ out. id_missing _ _ _ _ out _ _ _ _ (told_nothing c.requires.good.0 c.requires.good.1 c.requires.has_room out) (ap use_number c.in-OptStr.is) c.if-id-eq-NO_STRING.true
 
 pub graft_str-requires-else-id-eq-NO_STRING : goal.graft_str-requires-else-id-eq-NO_STRING
 graft_str-requires-else-id-eq-NO_STRING c =
     record {
       indexed = c.requires.indexed;
       good = c.requires.good;
-      id_lt_strings = (optional_known c.args.w.now.st.now (use_number c.args.usage) c.args.id 0 c.requires.id_value.0 (ap use_number c.in-OptStr.is) c.if-id-eq-NO_STRING.false, c.requires.id_value.1, c.requires.id_value.2);
+      id_lt_strings = (optional_known _ _ _ 0 c.requires.id_value.0 (ap use_number c.in-OptStr.is) c.if-id-eq-NO_STRING.false, c.requires.id_value.1, c.requires.id_value.2);
     }
 
 pub returns-else-id-eq-NO_STRING : goal.returns-else-id-eq-NO_STRING
 returns-else-id-eq-NO_STRING c =
-    λ out. id_optional c.args.w.now.tape.now c.args.w.now.bytes.now c.args.w.now.plan c.args.m.now out c.args.work.now c.args.strs.now (use_number c.args.usage) c.args.id (ap use_number c.in-OptStr.is) c.if-id-eq-NO_STRING.false (c.graft_str-else-id-eq-NO_STRING.ensures out)
+    λ out. id_optional _ _ _ _ out _ _ _ _ (ap use_number c.in-OptStr.is) c.if-id-eq-NO_STRING.false (c.graft_str-else-id-eq-NO_STRING.ensures out)
 
 pub returns-in_default : goal.returns-in_default
 returns-in_default c =
-    λ out. id_none c.args.w.now.tape.now c.args.w.now.bytes.now c.args.w.now.plan c.args.m.now out c.args.work.now c.args.strs.now (use_number c.args.usage) c.args.id (told_nothing c.requires.good.0 c.requires.good.1 c.requires.has_room out)
+    λ out. id_none _ _ _ _ out _ _ _ _ (told_nothing c.requires.good.0 c.requires.good.1 c.requires.has_room out)
     (λ e. c.in_default.not-Str (number_same c.args.usage Str e)) (λ e. c.in_default.not-OptStr (number_same c.args.usage OptStr e))

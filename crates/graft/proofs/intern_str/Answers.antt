@@ -6,7 +6,7 @@ use Rattle.graft.proofs.intern_str.Goals as goal
 pub intern_last-requires : goal.intern_last-requires
 intern_last-requires c =
     record {
-      last_nonzero = (last_there c.args.work.now c.args.strs.now c.args.state.now c.requires.good _ (c.requires.last c.if-is_last.true), omega (arith, c.requires.good.known, c.requires.good.words.few));
+      last_nonzero = (last_there _ _ _ c.requires.good _ (c.requires.last c.if-is_last.true), omega (arith, c.requires.good.known, c.requires.good.words.few));
       counted = (c.requires.good.counts, c.requires.id_lt_strings.1);
     }
 
@@ -30,12 +30,12 @@ string_length-len-requires c =
 
 pub overflow_add-from : goal.overflow_add-from
 overflow_add-from c =
-    omega (arith, part_inside c.args.w.now.tape.now c.args.w.now.bytes.now c.args.w.now.st.now c.args.w.now.source c.args.id c.requires.id_lt_strings.0 c.string_from-from.result c.string_length-len.result c.string_from-from.ensures c.string_length-len.ensures)
+    omega (arith, part_inside _ _ _ c.args.w.now.source _ c.requires.id_lt_strings.0 _ _ c.string_from-from.ensures c.string_length-len.ensures)
 
 pub slice_bounds-intern-end : goal.slice_bounds-intern-end
 slice_bounds-intern-end c =
-    omega (arith, part_inside c.args.w.now.tape.now c.args.w.now.bytes.now c.args.w.now.st.now c.args.w.now.source c.args.id c.requires.id_lt_strings.0 c.string_from-from.result c.string_length-len.result c.string_from-from.ensures c.string_length-len.ensures)
+    omega (arith, part_inside _ _ _ c.args.w.now.source _ c.requires.id_lt_strings.0 _ _ c.string_from-from.ensures c.string_length-len.ensures)
 
 pub returns : goal.returns
 returns c =
-    rw (part_shows c.args.w.now.tape.now c.args.w.now.bytes.now c.args.w.now.st.now c.args.w.now.source c.args.id c.requires.id_lt_strings.0 c.string_from-from.result c.string_length-len.result c.string_from-from.ensures c.string_length-len.ensures) at c.intern.ensures
+    rw (part_shows _ _ _ c.args.w.now.source _ c.requires.id_lt_strings.0 _ _ c.string_from-from.ensures c.string_length-len.ensures) at c.intern.ensures
