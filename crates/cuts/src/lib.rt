@@ -241,7 +241,7 @@ fn next_size(room: usize, size: u32) -> usize
 }
 
 // Which word has the reach at an offset, if one has.
-fn word_of(from: u32, size: u32, o: usize) -> Option<usize>
+fn reach_word(from: u32, size: u32, o: usize) -> Option<usize>
     ensures { SomeIff result ((from ≤ o) × (o - from < size)) (2 + (o - from)) }
 {
     let k = o.checked_sub(from as usize)?;
@@ -381,7 +381,7 @@ impl<'a> Source<'a> {
             return self.reach(o);
         }
         let size = words[1];
-        match word_of(words[0], size, o) {
+        match reach_word(words[0], size, o) {
             Some(k) => words[k],
             None => self.refill(o, words, size),
         }

@@ -45,9 +45,9 @@ module _ {words : List ℕ} {m id lo hi : ℕ} (split : Split words m id lo hi) 
 -- ---- what is answered
 
 -- an answer as the second word of a pair has it: plus 1, or 0 for none
-abbrev pub word_of : Option ℕ → ℕ
-word_of (Some r) = r + 1
-word_of None = 0
+abbrev pub as_word : Option ℕ → ℕ
+as_word (Some r) = r + 1
+as_word None = 0
 
 -- for an id that has a pair, where they rise: the second word of the pair
 pub record Known (words : List ℕ) (id r : ℕ) : Type 0 where

@@ -10,7 +10,7 @@ ghost use Rattle.strings.specs.Lent.{string_in};
 ghost use Rattle.sorted_ids.specs.Row.{Sorted};
 ghost use Rattle.representatives.specs.Long.{long_from};
 ghost use Rattle.representatives.specs.Pairs.{Pairs, pairs_in, pair_put, Paired};
-ghost use Rattle.representatives.specs.Bisection.{Rising, Split, Known, word_of};
+ghost use Rattle.representatives.specs.Bisection.{Rising, Split, Known, as_word};
 ghost use Rattle.representatives.specs.Ordered.{Ordered};
 
 use sorted_ids::Row;
@@ -70,7 +70,7 @@ fn pairs_in(words: &[u32]) -> usize
 // The representative of a string, where one is known. What it says is right in any case, and an id that has a pair is found where the ids rise.
 pub fn representative(words: &[u32], id: u32) -> Option<u32>
     ensures by_index { (K : ℕ → List ℕ) → Pairs K words.now → IfSome result (λ r. K r ≡ K id) }
-    ensures known { Known words.now id (word_of result) }
+    ensures known { Known words.now id (as_word result) }
 {
     let m = pairs_in(words);
     let p = rank_of(words, m, id);
