@@ -275,20 +275,21 @@ fn contents_walk(w: &Walk<'_>, memo: &mut [u32], left: Left, run: Run, level: u8
     Some(u)
 }
 
-// Where segment i of a store of one layer stands, 0 for any other.
-fn lone_place(st: &Store, i: u32) -> usize
+// Where segment i of a store of one layer stands; None for any other.
+fn lone_place(st: &Store, i: u32) -> Option<usize>
     ensures { result ≡ lone_place st.now i }
 {
     if st.layers != 1 {
-        return 0;
+        return None;
     }
     if st.segments[0] != 0 {
-        return 0;
+        return None;
     }
     if st.totals.segments <= i {
-        return 0;
+        return None;
     }
-    10 + 5 * st.totals.strings as usize + 10 * st.totals.contents as usize + 37 * i as usize
+    let before = 10 + 5 * st.totals.strings as usize + 10 * st.totals.contents as usize;
+    Some(before + 37 * i as usize)
 }
 
 // Section 5. Plain is a string, Segments a run; one of a single segment is that segment.
@@ -305,10 +306,9 @@ fn content_sizes(w: &Walk<'_>, memo: &mut [u32], left: Left, at: usize, level: u
     if c.second != 1 {
         return segment_run_sizes(w, memo, left, c.first, c.second, level);
     }
-    let place = lone_place(w.st, c.first);
-    if place == 0 {
+    let Some(place) = lone_place(w.st, c.first) else {
         return segment_run_sizes(w, memo, left, c.first, c.second, level);
-    }
+    };
     let u = less(left, 0, 1, 0)?;
     segment_sizes(w, memo, u, place, level)
 }

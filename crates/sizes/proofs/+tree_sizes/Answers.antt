@@ -49,21 +49,21 @@ pub content_sizes-returns-then-c-ne1 : goal.content_sizes-returns-then-c-ne1
 content_sizes-returns-then-c-ne1 t c =
     (content_segments_lem _ _ _ _ _ c.content_at-c.ensures (sym c.is_plain.ensures ∙ c.if-is_plain.false) c.segment_run_sizes.ensures.0, c.segment_run_sizes.ensures.1)
 
-pub content_sizes-returns-then-place-eq0 : goal.content_sizes-returns-then-place-eq0
-content_sizes-returns-then-place-eq0 t c =
-    (content_segments_lem _ _ _ _ _ c.content_at-c.ensures (sym c.is_plain.ensures ∙ c.if-is_plain.false) c.segment_run_sizes-then-place-eq0.ensures.0, c.segment_run_sizes-then-place-eq0.ensures.1)
+pub content_sizes-returns-in_default : goal.content_sizes-returns-in_default
+content_sizes-returns-in_default t c =
+    (content_segments_lem _ _ _ _ _ c.content_at-c.ensures (sym c.is_plain.ensures ∙ c.if-is_plain.false) c.segment_run_sizes-in_default.ensures.0, c.segment_run_sizes-in_default.ensures.1)
 
 pub content_sizes-returns-in_err-u : goal.content_sizes-returns-in_err-u
 content_sizes-returns-in_err-u t c =
-    (c.from_residual.ensures ∙ content_segments_lem _ _ _ _ _ c.content_at-c.ensures (sym c.is_plain.ensures ∙ c.if-is_plain.false) (lone_over _ _ _ _ _ _ _ c.if-c-ne1.false c.lone_place-place.ensures c.if-place-eq0.false c.in_err-u.ensures), c.requires.known)
+    (c.from_residual.ensures ∙ content_segments_lem _ _ _ _ _ c.content_at-c.ensures (sym c.is_plain.ensures ∙ c.if-is_plain.false) (lone_over _ _ _ _ _ _ _ c.if-c-ne1.false (sym c.lone_place.ensures ∙ c.in-Some.is) c.in_err-u.ensures), c.requires.known)
 
 pub content_sizes-segment_sizes-requires : goal.content_sizes-segment_sizes-requires
 content_sizes-segment_sizes-requires t c =
-    (omega arith, (c.requires.known, (lone_inside c.args.left (inner_adds c.args.level c.args.w.now.tape.now c.args.w.now.st.now) _ _ _ _ _ c.if-c-ne1.false c.lone_place-place.ensures c.if-place-eq0.false c.args.w.now.fit)))
+    (omega arith, (c.requires.known, (lone_inside c.args.left (inner_adds c.args.level c.args.w.now.tape.now c.args.w.now.st.now) _ _ _ _ _ c.if-c-ne1.false (sym c.lone_place.ensures ∙ c.in-Some.is) c.args.w.now.fit)))
 
 pub content_sizes-returns : goal.content_sizes-returns
 content_sizes-returns t c =
-    (content_segments_lem _ _ _ _ _ c.content_at-c.ensures (sym c.is_plain.ensures ∙ c.if-is_plain.false) (lone_then _ _ _ _ _ _ _ c.if-c-ne1.false c.lone_place-place.ensures c.if-place-eq0.false c.in_ok-u.ensures c.segment_sizes.ensures.0), c.segment_sizes.ensures.1)
+    (content_segments_lem _ _ _ _ _ c.content_at-c.ensures (sym c.is_plain.ensures ∙ c.if-is_plain.false) (lone_then _ _ _ _ _ _ _ c.if-c-ne1.false (sym c.lone_place.ensures ∙ c.in-Some.is) c.in_ok-u.ensures c.segment_sizes.ensures.0), c.segment_sizes.ensures.1)
 
 pub contents_walk-loop-i-init : goal.contents_walk-loop-i-init
 contents_walk-loop-i-init t c = (adding_none _ _ _ (contents_from c.args.w.now.tape.now c.args.run.at c.args.run.count (inner_adds c.args.level c.args.w.now.tape.now c.args.w.now.st.now) c.args.w.now.st.now), c.requires.known, refl)
