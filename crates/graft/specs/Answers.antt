@@ -91,7 +91,7 @@ module _ {A : Type 0} {t d : List ℕ} (k : Codec A) (p : Plan) (m : Mark) (plac
 
 -- ---- runs
 
-module _ (l : ℕ) (t d : List ℕ) (st : Store) (source : Source t d st) (p : Plan) (m : Mark) (out work strs : List ℕ) (start len : ℕ) where
+module _ (l : ℕ) {t d : List ℕ} {st : Store} (source : Source t d st) {p : Plan} {m : Mark} {out work strs : List ℕ} (start len : ℕ) where
   pub content_run_empty : len ≡ 0 → {a : Added} → Ready t d p m out work strs a → StartTold t d p m out work strs out work strs m (Some (p.contents + m.contents)) (content_run_from l t d start len (layer_from p work strs m))
   unfolding content_run_from resolve_content_range graft_contents show_contents push_contents
   content_run_empty z r = rw z (record { told = told_none r; start = λ at o. let q = same_Some (p.contents + m.contents) at o in omega (arith, q) })

@@ -66,7 +66,7 @@ module _ (st : Store) (u w next : ℕ) (h : used_well st u w next ≡ true) wher
   unfolding used_well
   string_well a b = rw (ne_eqb u 3 a, ne_eqb u 5 b) (rw (ne_eqb u 3 a, ne_eqb u 5 b) at h)
 
-module _ (t d : List ℕ) (p : Plan) (m : Mark) (out work strs : List ℕ) (u w : ℕ) where
+module _ {t d : List ℕ} {p : Plan} {m : Mark} {out work strs : List ℕ} (u w : ℕ) where
   pub id_string : u ≡ 1 → {out' work' strs' : List ℕ} {r : Mark} {x : Option ℕ} → StartTold t d p m out work strs out' work' strs' r x (graft_str (resolve_str (source_store t d) w) (layer_from p work strs m))
       → StartTold t d p m out work strs out' work' strs' r x (id_from t d u w (layer_from p work strs m))
   unfolding id_from
@@ -88,7 +88,7 @@ module _ (t d : List ℕ) (p : Plan) (m : Mark) (out work strs : List ℕ) (u w 
 
 -- ---- a field by its use
 
-module _ (l : ℕ) (t d : List ℕ) (p : Plan) (m : Mark) (out work strs : List ℕ) (f : UsedWords) where
+module _ (l : ℕ) {t d : List ℕ} {p : Plan} {m : Mark} {out work strs : List ℕ} (f : UsedWords) where
   module _ {out' work' strs' : List ℕ} {r : Mark} {x : Option ℕ} where
     pub field_contents : f.usage ≡ 3 → StartTold t d p m out work strs out' work' strs' r x (content_run_from l t d f.first f.second (layer_from p work strs m))
         → StartTold t d p m out work strs out' work' strs' r x (field_from l t d f (layer_from p work strs m))
@@ -105,14 +105,14 @@ module _ (l : ℕ) (t d : List ℕ) (p : Plan) (m : Mark) (out work strs : List 
     unfolding field_from
     field_string a b y = rw (ne_eqb f.usage 3 a, ne_eqb f.usage 5 b) y
 
-  module _ (st : Store) (inner : Body → Added) (y : Ready t d p m out work strs (used_adds inner t st f)) where
-    pub field_contents_ready : f.usage ≡ 3 → Ready t d p m out work strs (content_run_adds inner t st f.first f.second)
-    unfolding used_adds
-    field_contents_ready e = rw (eq-eqb f.usage 3 e) at y
+module _ {t d : List ℕ} {p : Plan} {m : Mark} {out work strs : List ℕ} (f : UsedWords) (st : Store) (inner : Body → Added) (y : Ready t d p m out work strs (used_adds inner t st f)) where
+  pub field_contents_ready : f.usage ≡ 3 → Ready t d p m out work strs (content_run_adds inner t st f.first f.second)
+  unfolding used_adds
+  field_contents_ready e = rw (eq-eqb f.usage 3 e) at y
 
-    pub field_segments_ready : (f.usage ≡ 3 → ⊥) → f.usage ≡ 5 → Ready t d p m out work strs (segment_run_adds inner t st f.first f.second)
-    unfolding used_adds
-    field_segments_ready n e = rw (ne_eqb f.usage 3 n, eq-eqb f.usage 5 e) at y
+  pub field_segments_ready : (f.usage ≡ 3 → ⊥) → f.usage ≡ 5 → Ready t d p m out work strs (segment_run_adds inner t st f.first f.second)
+  unfolding used_adds
+  field_segments_ready n e = rw (ne_eqb f.usage 3 n, eq-eqb f.usage 5 e) at y
 
 -- ---- the field at a place
 
@@ -136,20 +136,19 @@ module _ (st : Store) (b : Body) (j : ℕ) where
   unfolding place_adds
   place_ready inner f e y = rw e y
 
-  module _ (l : ℕ) (t d : List ℕ) (source : Source t d st) (p : Plan) (m : Mark) (ws out work strs : List ℕ) (f : UsedWords) (q : f ≡ field_words b j)
-      (h : used_well st f.usage f.first f.second ≡ true) where
+  module _ (f : UsedWords) (q : f ≡ field_words b j) (h : used_well st f.usage f.first f.second ≡ true) where
     known_well : used_well st (field_words b j).usage (field_words b j).first (field_words b j).second ≡ true
     known_well = rw q at h
 
-    pub place_refused : {out' work' strs' : List ℕ} {r : Mark} → StartTold t d p m out work strs out' work' strs' r None (field_from l t d f (layer_from p work strs m))
+    pub place_refused : (l : ℕ) {t d : List ℕ} (source : Source t d st) (ws : List ℕ) {p : Plan} {m : Mark} {out work strs out' work' strs' : List ℕ} {r : Mark} → StartTold t d p m out work strs out' work' strs' r None (field_from l t d f (layer_from p work strs m))
         → WordsTold t d p m out work strs out' work' strs' r None (place_from l t d b j ws (layer_from p work strs m))
-    place_refused {out'} {work'} {strs'} {r} x =
+    place_refused l {t} {d} source ws {p} {m} {out} {work} {strs} {out'} {work'} {strs'} {r} x =
         let y : StartTold t d p m out work strs out' work' strs' r None (field_from l t d (field_words b j) (layer_from p work strs m)) = rw q at x in
         rw (place_from_lem l t d st source b j ws (layer_from p work strs m) known_well) (record { told = y.told; words = λ own o. absurd (none-some own o) })
 
-    pub place_told : {out' work' strs' : List ℕ} {r : Mark} (i : ℕ) → i ≡ field_word b.kind j → (v : ℕ) → StartTold t d p m out work strs out' work' strs' r (Some v) (field_from l t d f (layer_from p work strs m))
+    pub place_told : (l : ℕ) {t d : List ℕ} (source : Source t d st) (ws : List ℕ) {p : Plan} {m : Mark} {out work strs out' work' strs' : List ℕ} {r : Mark} (i : ℕ) → i ≡ field_word b.kind j → (v : ℕ) → StartTold t d p m out work strs out' work' strs' r (Some v) (field_from l t d f (layer_from p work strs m))
         → (own : List ℕ) → own ≡ words_with ws i f v → WordsTold t d p m out work strs out' work' strs' r (Some own) (place_from l t d b j ws (layer_from p work strs m))
-    place_told {out'} {work'} {strs'} {r} i e v x own z =
+    place_told l {t} {d} source ws {p} {m} {out} {work} {strs} {out'} {work'} {strs'} {r} i e v x own z =
         let y : StartTold t d p m out work strs out' work' strs' r (Some v) (field_from l t d (field_words b j) (layer_from p work strs m)) = rw q at x in
         let k : own ≡ words_with ws (field_word b.kind j) (field_words b j) v = z ∙ ap₂ (λ (n : ℕ) (g : UsedWords). words_with ws n g v) e q in
         rw (place_from_lem l t d st source b j ws (layer_from p work strs m) known_well) (record {
@@ -171,7 +170,8 @@ body_fields_lem : (b : Body) (i : ℕ) → i ≤ 6 → Parts (fields_up_to b i) 
 unfolding fields_of
 body_fields_lem b i h = let r = places_parts b.kind b.tag i 6 0 h in record { rest = r.rest; is = sym (fields_in_order b.kind b.tag) ∙ r.is }
 
-module _ (l : ℕ) (t d : List ℕ) (st : Store) (p : Plan) (m : Mark) (b : Body) (out work strs : List ℕ) (source : Source t d st) (y : Ready t d p m out work strs (body_adds l t st b)) (h : body_in st b ≡ true) where
+module _ {t d : List ℕ} {st : Store} {p : Plan} {m : Mark} {out work strs : List ℕ} (l : ℕ) (b : Body) (source : Source t d st) (y : Ready t d p m out work strs (body_adds l t st b))
+    (h : body_in st b ≡ true) where
   abbrev inner : Body → Added
   inner = inner_adds l t st
 

@@ -69,7 +69,7 @@ module _ {t d : List ℕ} {st : Store} {p : Plan} {m : Mark} {out work strs : Li
       let w = shown_contents l t d (records_at content_codec t at len) f in
       let room : Roomy p m out (push_contents w.0 w.1).1 = rw is (roomy out work strs y.space (content_run_adds_lem t d st source l start len f h)) in
       let g = shown_contents_grow t d st source l (records_at content_codec t at len) f contents_known in
-      content_run_told l t d st source p m out work strs start len h at to e (omega (arith, z, g.contents)) room b
+      content_run_told l source start len h at to e (omega (arith, z, g.contents)) room b
 
 -- ---- a run of segments
 
@@ -118,4 +118,4 @@ module _ {t d : List ℕ} {st : Store} {p : Plan} {m : Mark} {out work strs : Li
       let w = shown_segments l t d (records_at segment_codec t at len) f in
       let room : Roomy p m out (push_segments w.0 w.1).1 = rw is (roomy out work strs y.space (segment_run_adds_lem t d st source l start len f h)) in
       let g = shown_segments_grow t d st source l (records_at segment_codec t at len) f segments_known in
-      segment_run_told l t d st source p m out work strs start len h at to e (omega (arith, z, g.segments)) room b
+      segment_run_told l source start len h at to e (omega (arith, z, g.segments)) room b

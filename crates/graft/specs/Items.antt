@@ -48,7 +48,7 @@ module _ (t : List ℕ) (st : Store) (at : ℕ) (c : ContentRead) (e : content_o
       subst (λ (x : Content). Ready t d p m out work strs (content_adds inner t st x)) (sym e) y in
       rw (ne_eqb c.tag 0 z) at g
 
-  module _ (l : ℕ) (d : List ℕ) (p : Plan) (m : Mark) (to : ℕ) (out work strs : List ℕ) {out₁ work₁ strs₁ : List ℕ} {r : Mark} where
+  module _ (l to : ℕ) {d : List ℕ} {p : Plan} {m : Mark} {out work strs out₁ work₁ strs₁ : List ℕ} {r : Mark} where
     module _ (z : c.tag ≡ 0) where
       pub plain_refused : StartTold t d p m out work strs out₁ work₁ strs₁ r None (graft_str (resolve_str (source_store t d) c.first) (layer_from p work strs m))
           → ContentsTold t d p m to out work strs out₁ work₁ strs₁ r false (shown_contents l t d (record_at content_codec t at ∷ []) (layer_from p work strs m))
@@ -97,7 +97,13 @@ module _ (t d : List ℕ) (at : ℕ) (s : SegmentRead) (e : segment_of s ≡ rec
   abbrev with_own : List ℕ → Segment
   with_own ws = with_body (record { kind = s.body.kind; tag = s.body.tag; plain1 = s.body.plain1; plain2 = s.body.plain2; words = ws })
 
-  module _ (p : Plan) (m : Mark) (to : ℕ) (out work strs : List ℕ) where
+  below : (p : Plan) (m : Mark) (work strs : List ℕ) (l : ℕ) → (l ≡ 0 → ⊥) → shown_segments l t d (segment_of s ∷ []) (layer_from p work strs m)
+      ≡ (with_own (body_from (l - 1) t d p work strs m (body_of s.body) 6).0 ∷ [], (body_from (l - 1) t d p work strs m (body_of s.body) 6).1)
+  below p m work strs l z =
+      one_body t d (segment_of s) (layer_from p work strs m) l z
+      ∙ ap (λ (b : With Body). (with_body b.0 ∷ [], b.1)) (body_from_lem (l - 1) t d p work strs m (body_of s.body))
+
+  module _ (to : ℕ) {p : Plan} {m : Mark} {out work strs : List ℕ} where
     pub segment_zero : (l : ℕ) → l ≡ 0 → Told t d p m out work strs out work strs m true (layer_from p work strs m) → {out₂ : List ℕ}
         → out₂ ≡ overwrite out (p.segments_at + 37 * to) (record_bytes segment_codec (with_body zero_body))
         → SegmentsTold t d p m to out work strs out₂ work strs m true (shown_segments l t d (record_at segment_codec t at ∷ []) (layer_from p work strs m))
@@ -105,12 +111,6 @@ module _ (t d : List ℕ) (at : ℕ) (s : SegmentRead) (e : segment_of s ≡ rec
         rw (← e) (item_made segment_codec p m (p.segments_at + 37 * to) out work strs k (one_zero t d (segment_of s) (layer_from p work strs m) l z) (with_body zero_body) refl w)
 
     module _ (l : ℕ) (z : l ≡ 0 → ⊥) where
-      below : shown_segments l t d (segment_of s ∷ []) (layer_from p work strs m)
-          ≡ (with_own (body_from (l - 1) t d p work strs m (body_of s.body) 6).0 ∷ [], (body_from (l - 1) t d p work strs m (body_of s.body) 6).1)
-      below =
-          one_body t d (segment_of s) (layer_from p work strs m) l z
-          ∙ ap (λ (b : With Body). (with_body b.0 ∷ [], b.1)) (body_from_lem (l - 1) t d p work strs m (body_of s.body))
-
       module _ {out₁ work₁ strs₁ : List ℕ} {r : Mark} where
         told_here : {x : Option (List ℕ)} → WordsTold t d p m out work strs out₁ work₁ strs₁ r x (body_from (l - 1) t d p work strs m (body_at t (at + 3)) 6)
             → WordsTold t d p m out work strs out₁ work₁ strs₁ r x (body_from (l - 1) t d p work strs m (body_of s.body) 6)
@@ -118,11 +118,11 @@ module _ (t d : List ℕ) (at : ℕ) (s : SegmentRead) (e : segment_of s ≡ rec
 
         pub below_refused : WordsTold t d p m out work strs out₁ work₁ strs₁ r None (body_from (l - 1) t d p work strs m (body_at t (at + 3)) 6)
             → SegmentsTold t d p m to out work strs out₁ work₁ strs₁ r false (shown_segments l t d (record_at segment_codec t at ∷ []) (layer_from p work strs m))
-        below_refused x = rw (← e) (item_refused segment_codec p m (p.segments_at + 37 * to) out work strs (told_here x).told below refl)
+        below_refused x = rw (← e) (item_refused segment_codec p m (p.segments_at + 37 * to) out work strs (told_here x).told (below p m work strs l z) refl)
 
         pub below_made : (own : List ℕ) → WordsTold t d p m out work strs out₁ work₁ strs₁ r (Some own) (body_from (l - 1) t d p work strs m (body_at t (at + 3)) 6) → {out₂ : List ℕ}
             → out₂ ≡ overwrite out₁ (p.segments_at + 37 * to) (record_bytes segment_codec (with_own own))
             → SegmentsTold t d p m to out work strs out₂ work₁ strs₁ r true (shown_segments l t d (record_at segment_codec t at ∷ []) (layer_from p work strs m))
         below_made own x w =
             let y = told_here x in
-            rw (← e) (item_made segment_codec p m (p.segments_at + 37 * to) out work strs y.told below (with_own own) (ap with_own (y.words own refl)) w)
+            rw (← e) (item_made segment_codec p m (p.segments_at + 37 * to) out work strs y.told (below p m work strs l z) (with_own own) (ap with_own (y.words own refl)) w)

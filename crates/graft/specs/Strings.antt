@@ -28,7 +28,7 @@ use Rattle.store.specs.Standing.{all_lengths, length_at, string_at_lem}
 use Rattle.store.specs.declared.Store.{Store}
 use Rattle.strings.specs.Starts.{OfTape, Readable, lengths_bytes, readable}
 
-module _ (t d : List ℕ) (st : Store) (s : Source t d st) where
+module _ {t d : List ℕ} {st : Store} (s : Source t d st) where
   pub header_inside : 9 ≤ length t
   header_inside = let n = nodes_place t in omega (arith, n, s.fit.inside)
 
@@ -48,7 +48,7 @@ module _ (t d : List ℕ) (st : Store) (s : Source t d st) where
     pub from_small_lem : string_from t id ≤ length d
     from_small_lem = let m = before_most (all_lengths t (places t).layers) id in omega (arith, m, strings_end_lem)
 
-    module _ (from len : ℕ) (e : from ≡ string_from t id) (b : len ≡ get_or (all_lengths t (places t).layers) id 0) where
+    module _ {from len : ℕ} (e : from ≡ string_from t id) (b : len ≡ get_or (all_lengths t (places t).layers) id 0) where
       pub part_inside : from + len ≤ length d
       part_inside =
           let next = before_next (all_lengths t (places t).layers) id in

@@ -18,24 +18,24 @@ use Rattle.graft.proofs.+graft_tree.Goals as goal
 
 pub graft_body-loop-j-init : goal.graft_body-loop-j-init
 graft_body-loop-j-init t c =
-    body_first _ _ _ _ _ _ _ _ _ _ c.args.w.now.source c.requires.ready c.requires.at_in_bounds.1
+    body_first _ _ c.args.w.now.source c.requires.ready c.requires.at_in_bounds.1
 
 pub graft_body-graft_place-requires : goal.graft_body-graft_place-requires
 graft_body-graft_place-requires t c =
-    (omega arith, (body_ready _ _ _ _ _ _ _ _ _ _ c.args.w.now.source c.requires.ready c.requires.at_in_bounds.1 c.loop-j.invariant (omega arith), (c.requires.at_in_bounds.0, c.requires.at_in_bounds.1, omega arith)))
+    (omega arith, (body_ready _ _ c.args.w.now.source c.requires.ready c.requires.at_in_bounds.1 c.loop-j.invariant (omega arith), (c.requires.at_in_bounds.0, c.requires.at_in_bounds.1, omega arith)))
 
 pub graft_body-returns-in_err-words : goal.graft_body-returns-in_err-words
 graft_body-returns-in_err-words t c =
-    let turn = body_turn _ _ _ _ _ _ _ _ _ _ c.args.w.now.source c.requires.ready c.requires.at_in_bounds.1 c.loop-j.invariant (omega arith) c.in_err-words.ensures in
-    rw c.from_residual.ensures (body_refused _ _ _ _ _ _ _ _ _ _ c.args.w.now.source c.requires.ready c.requires.at_in_bounds.1 (c.loop-j.j + 1) (omega arith) turn)
+    let turn = body_turn _ _ c.args.w.now.source c.requires.ready c.requires.at_in_bounds.1 c.loop-j.invariant (omega arith) c.in_err-words.ensures in
+    rw c.from_residual.ensures (body_refused _ _ c.args.w.now.source c.requires.ready c.requires.at_in_bounds.1 (c.loop-j.j + 1) (omega arith) turn)
 
 pub graft_body-loop-j-preserved : goal.graft_body-loop-j-preserved
 graft_body-loop-j-preserved t c =
-    body_more _ _ _ _ _ _ _ _ _ _ c.args.w.now.source c.requires.ready c.requires.at_in_bounds.1 c.loop-j.invariant (omega arith) c.in_ok-words.ensures _ refl c.graft_place.auto.out
+    body_more _ _ c.args.w.now.source c.requires.ready c.requires.at_in_bounds.1 c.loop-j.invariant (omega arith) c.in_ok-words.ensures _ refl c.graft_place.auto.out
 
 pub graft_body-returns : goal.graft_body-returns
 graft_body-returns t c =
-    body_last _ _ _ _ _ _ _ _ _ _ c.args.w.now.source c.requires.ready c.requires.at_in_bounds.1 c.loop-j.invariant (omega arith) (omega arith)
+    body_last _ _ c.args.w.now.source c.requires.ready c.requires.at_in_bounds.1 c.loop-j.invariant (omega arith) (omega arith)
 
 pub graft_place-field_word-i-requires : goal.graft_place-field_word-i-requires
 graft_place-field_word-i-requires t c =
@@ -52,7 +52,7 @@ graft_place-graft_field-requires t c =
 pub graft_place-returns-in_err-v : goal.graft_place-returns-in_err-v
 graft_place-returns-in_err-v t c =
     let well = place_well _ _ _ c.requires.at_in_bounds.1 (word_small _ _ _ _ c.field_word-i.ensures.0 c.field_word-i.ensures.1) _ c.field_at-f.ensures in
-    rw c.from_residual.ensures (place_refused _ _ _ _ _ _ c.args.w.now.source _ _ _ _ _ _ _ c.field_at-f.ensures well c.in_err-v.ensures)
+    rw c.from_residual.ensures (place_refused _ _ _ _ c.field_at-f.ensures well _ c.args.w.now.source _ c.in_err-v.ensures)
 
 pub graft_place-with_words-requires : goal.graft_place-with_words-requires
 graft_place-with_words-requires t c =
@@ -61,7 +61,7 @@ graft_place-with_words-requires t c =
 pub graft_place-returns : goal.graft_place-returns
 graft_place-returns t c =
     let well = place_well _ _ _ c.requires.at_in_bounds.1 (word_small _ _ _ _ c.field_word-i.ensures.0 c.field_word-i.ensures.1) _ c.field_at-f.ensures in
-    place_told _ _ _ _ _ _ c.args.w.now.source _ _ _ _ _ _ _ c.field_at-f.ensures well _ (word_is _ _ _ _ c.field_word-i.ensures.0) _ c.in_ok-v.ensures _ c.with_words.ensures
+    place_told _ _ _ _ c.field_at-f.ensures well _ c.args.w.now.source _ _ (word_is _ _ _ _ c.field_word-i.ensures.0) _ c.in_ok-v.ensures _ c.with_words.ensures
 
 segments_alone : (u : Use) → u ≡ Segments → use_number u ≡ 3 → ⊥
 segments_alone u s e = let q : use_number u ≡ 5 = ap use_number s in omega (arith, q, e)
@@ -69,20 +69,20 @@ segments_alone u s e = let q : use_number u ≡ 5 = ap use_number s in omega (ar
 pub graft_field-graft_content_run-requires : goal.graft_field-graft_content_run-requires
 graft_field-graft_content_run-requires t c =
     let is = ap use_number c.in-Contents.is in
-    (omega arith, (field_contents_ready c.args.level _ _ _ _ _ _ _ _ _ _ c.requires.ready is, sym (used_contents _ _ _ _ is) ∙ c.requires.second_value))
+    (omega arith, (field_contents_ready _ _ _ c.requires.ready is, sym (used_contents _ _ _ _ is) ∙ c.requires.second_value))
 
 pub graft_field-returns-in-Contents : goal.graft_field-returns-in-Contents
 graft_field-returns-in-Contents t c =
-    field_contents _ _ _ _ _ _ _ _ _ (ap use_number c.in-Contents.is) c.graft_content_run.ensures
+    field_contents _ _ (ap use_number c.in-Contents.is) c.graft_content_run.ensures
 
 pub graft_field-graft_segment_run-requires : goal.graft_field-graft_segment_run-requires
 graft_field-graft_segment_run-requires t c =
     let is = ap use_number c.in-Segments.is in
-    (omega arith, (field_segments_ready c.args.level _ _ _ _ _ _ _ _ _ _ c.requires.ready (segments_alone _ c.in-Segments.is) is, sym (used_segments _ _ _ _ is) ∙ c.requires.second_value))
+    (omega arith, (field_segments_ready _ _ _ c.requires.ready (segments_alone _ c.in-Segments.is) is, sym (used_segments _ _ _ _ is) ∙ c.requires.second_value))
 
 pub graft_field-returns-in-Segments : goal.graft_field-returns-in-Segments
 graft_field-returns-in-Segments t c =
-    field_segments_lem _ _ _ _ _ _ _ _ _ (segments_alone _ c.in-Segments.is) (ap use_number c.in-Segments.is) c.graft_segment_run.ensures
+    field_segments_lem _ _ (segments_alone _ c.in-Segments.is) (ap use_number c.in-Segments.is) c.graft_segment_run.ensures
 
 pub graft_field-graft_string-requires : goal.graft_field-graft_string-requires
 graft_field-graft_string-requires t c =
@@ -99,7 +99,7 @@ graft_field-graft_string-requires t c =
 
 pub graft_field-returns-in_default : goal.graft_field-returns-in_default
 graft_field-returns-in_default t c =
-    field_string _ _ _ _ _ _ _ _ _ (λ e. c.in_default.not-Contents (number_same _ _ e)) (λ e. c.in_default.not-Segments (number_same _ _ e))
+    field_string _ _ (λ e. c.in_default.not-Contents (number_same _ _ e)) (λ e. c.in_default.not-Segments (number_same _ _ e))
     (c.graft_string.ensures c.args.out.now)
 
 pub graft_content_run-overflow_add-result : goal.graft_content_run-overflow_add-result
@@ -108,7 +108,7 @@ graft_content_run-overflow_add-result t c =
 
 pub graft_content_run-returns-then-len-eq0 : goal.graft_content_run-returns-then-len-eq0
 graft_content_run-returns-then-len-eq0 t c =
-    content_run_empty _ _ _ _ c.args.w.now.source _ _ _ _ _ _ _ c.if-len-eq0.true c.requires.ready
+    content_run_empty _ c.args.w.now.source _ _ c.if-len-eq0.true c.requires.ready
 
 pub graft_content_run-content_place-requires : goal.graft_content_run-content_place-requires
 graft_content_run-content_place-requires t c =
@@ -139,7 +139,7 @@ graft_content_run-graft_contents-requires t c =
 
 pub graft_content_run-returns-in_err-graft_contents : goal.graft_content_run-returns-in_err-graft_contents
 graft_content_run-returns-in_err-graft_contents t c =
-    rw c.from_residual.ensures (content_run_refused _ _ _ _ c.args.w.now.source _ _ _ _ _ _ _ c.requires.len_value _ _ c.content_place.ensures c.in_err-graft_contents.ensures)
+    rw c.from_residual.ensures (content_run_refused _ c.args.w.now.source _ _ c.requires.len_value _ _ c.content_place.ensures c.in_err-graft_contents.ensures)
 
 pub graft_content_run-overflow_add-m : goal.graft_content_run-overflow_add-m
 graft_content_run-overflow_add-m t c =
@@ -159,7 +159,7 @@ graft_segment_run-overflow_add-result t c =
 
 pub graft_segment_run-returns-then-len-eq0 : goal.graft_segment_run-returns-then-len-eq0
 graft_segment_run-returns-then-len-eq0 t c =
-    segment_run_empty _ _ _ _ c.args.w.now.source _ _ _ _ _ _ _ c.if-len-eq0.true c.requires.ready
+    segment_run_empty _ c.args.w.now.source _ _ c.if-len-eq0.true c.requires.ready
 
 pub graft_segment_run-segment_place-requires : goal.graft_segment_run-segment_place-requires
 graft_segment_run-segment_place-requires t c =
@@ -190,7 +190,7 @@ graft_segment_run-graft_segments-requires t c =
 
 pub graft_segment_run-returns-in_err-graft_segments : goal.graft_segment_run-returns-in_err-graft_segments
 graft_segment_run-returns-in_err-graft_segments t c =
-    rw c.from_residual.ensures (segment_run_refused _ _ _ _ c.args.w.now.source _ _ _ _ _ _ _ c.requires.len_value _ _ c.segment_place.ensures c.in_err-graft_segments.ensures)
+    rw c.from_residual.ensures (segment_run_refused _ c.args.w.now.source _ _ c.requires.len_value _ _ c.segment_place.ensures c.in_err-graft_segments.ensures)
 
 pub graft_segment_run-overflow_add-m : goal.graft_segment_run-overflow_add-m
 graft_segment_run-overflow_add-m t c =
@@ -302,7 +302,7 @@ graft_content-graft_str-requires t c =
 
 pub graft_content-returns-in_err-id : goal.graft_content-returns-in_err-id
 graft_content-returns-in_err-id t c =
-    rw c.from_residual.ensures (plain_refused _ c.args.w.now.st.now _ _ c.content_at-c.ensures _ _ _ _ _ _ _ _ (eqb-true _ _ (sym c.is_plain.ensures ∙ c.if-is_plain.true)) (c.in_err-id.ensures c.args.out.now))
+    rw c.from_residual.ensures (plain_refused _ c.args.w.now.st.now _ _ c.content_at-c.ensures _ _ (eqb-true _ _ (sym c.is_plain.ensures ∙ c.if-is_plain.true)) (c.in_err-id.ensures c.args.out.now))
 
 pub graft_content-put_content-requires : goal.graft_content-put_content-requires
 graft_content-put_content-requires t c =
@@ -310,7 +310,7 @@ graft_content-put_content-requires t c =
 
 pub graft_content-returns-then-is_plain : goal.graft_content-returns-then-is_plain
 graft_content-returns-then-is_plain t c =
-    plain_made _ c.args.w.now.st.now _ _ c.content_at-c.ensures _ _ _ _ _ _ _ _ (eqb-true _ _ (sym c.is_plain.ensures ∙ c.if-is_plain.true)) _ (c.in_ok-id.ensures c.args.out.now) c.put_content.ensures
+    plain_made _ c.args.w.now.st.now _ _ c.content_at-c.ensures _ _ (eqb-true _ _ (sym c.is_plain.ensures ∙ c.if-is_plain.true)) _ (c.in_ok-id.ensures c.args.out.now) c.put_content.ensures
 
 pub graft_content-graft_segment_run-requires : goal.graft_content-graft_segment_run-requires
 graft_content-graft_segment_run-requires t c =
@@ -322,7 +322,7 @@ pub graft_content-returns-in_err-first : goal.graft_content-returns-in_err-first
 graft_content-returns-in_err-first t c =
     let segmented = eqb-false _ _ (sym c.is_plain.ensures ∙ c.if-is_plain.false) in
     let known = run_known _ _ _ _ c.content_at-c.ensures c.requires.at_in_bounds.1 segmented in
-    rw c.from_residual-in_err-first.ensures (run_refused _ _ _ _ c.content_at-c.ensures _ _ _ _ _ _ _ _ c.args.w.now.source known segmented c.in_err-first.ensures)
+    rw c.from_residual-in_err-first.ensures (run_refused _ _ _ _ c.content_at-c.ensures _ _ c.args.w.now.source known segmented c.in_err-first.ensures)
 
 pub graft_content-put_content-requires-2 : goal.graft_content-put_content-requires-2
 graft_content-put_content-requires-2 t c =
@@ -332,7 +332,7 @@ pub graft_content-returns : goal.graft_content-returns
 graft_content-returns t c =
     let segmented = eqb-false _ _ (sym c.is_plain.ensures ∙ c.if-is_plain.false) in
     let known = run_known _ _ _ _ c.content_at-c.ensures c.requires.at_in_bounds.1 segmented in
-    run_made _ _ _ _ c.content_at-c.ensures _ _ _ _ _ _ _ _ c.args.w.now.source known segmented _ c.in_ok-first.ensures c.put_content-2.ensures
+    run_made _ _ _ _ c.content_at-c.ensures _ _ c.args.w.now.source known segmented _ c.in_ok-first.ensures c.put_content-2.ensures
 
 pub graft_segment-overflow_mul-place : goal.graft_segment-overflow_mul-place
 graft_segment-overflow_mul-place t c =
@@ -348,7 +348,7 @@ graft_segment-put_segment-requires t c =
 
 pub graft_segment-returns-then-level-eq0 : goal.graft_segment-returns-then-level-eq0
 graft_segment-returns-then-level-eq0 t c =
-    segment_zero _ _ _ _ c.segment_at-s.ensures _ _ _ _ _ _ _ c.if-level-eq0.true (told_none c.requires.ready) c.put_segment.ensures
+    segment_zero _ _ _ _ c.segment_at-s.ensures _ _ c.if-level-eq0.true (told_none c.requires.ready) c.put_segment.ensures
 
 pub graft_segment-graft_body-requires : goal.graft_segment-graft_body-requires
 graft_segment-graft_body-requires t c =
@@ -356,7 +356,7 @@ graft_segment-graft_body-requires t c =
 
 pub graft_segment-returns-in_err-words : goal.graft_segment-returns-in_err-words
 graft_segment-returns-in_err-words t c =
-    rw c.from_residual.ensures (below_refused _ _ _ _ c.segment_at-s.ensures _ _ _ _ _ _ _ c.if-level-eq0.false c.in_err-words.ensures)
+    rw c.from_residual.ensures (below_refused _ _ _ _ c.segment_at-s.ensures _ _ c.if-level-eq0.false c.in_err-words.ensures)
 
 pub graft_segment-put_segment-requires-2 : goal.graft_segment-put_segment-requires-2
 graft_segment-put_segment-requires-2 t c =
@@ -364,4 +364,4 @@ graft_segment-put_segment-requires-2 t c =
 
 pub graft_segment-returns : goal.graft_segment-returns
 graft_segment-returns t c =
-    below_made _ _ _ _ c.segment_at-s.ensures _ _ _ _ _ _ _ c.if-level-eq0.false _ c.in_ok-words.ensures c.put_segment-2.ensures
+    below_made _ _ _ _ c.segment_at-s.ensures _ _ c.if-level-eq0.false _ c.in_ok-words.ensures c.put_segment-2.ensures

@@ -16,11 +16,11 @@ graft_str-requires c =
 
 pub returns-in-Str : goal.returns-in-Str
 returns-in-Str c =
-    λ out. id_string _ _ _ _ out _ _ _ _ (ap use_number c.in-Str.is) (c.graft_str.ensures out)
+    λ out. id_string _ _ (ap use_number c.in-Str.is) (c.graft_str.ensures out)
 
 pub returns-then-id-eq-NO_STRING : goal.returns-then-id-eq-NO_STRING
 returns-then-id-eq-NO_STRING c =
-    λ out. id_missing _ _ _ _ out _ _ _ _ (told_nothing c.requires.good.0 c.requires.good.1 c.requires.has_room out) (ap use_number c.in-OptStr.is) c.if-id-eq-NO_STRING.true
+    λ out. id_missing _ _ (told_nothing c.requires.good.0 c.requires.good.1 c.requires.has_room out) (ap use_number c.in-OptStr.is) c.if-id-eq-NO_STRING.true
 
 pub graft_str-requires-else-id-eq-NO_STRING : goal.graft_str-requires-else-id-eq-NO_STRING
 graft_str-requires-else-id-eq-NO_STRING c =
@@ -32,9 +32,9 @@ graft_str-requires-else-id-eq-NO_STRING c =
 
 pub returns-else-id-eq-NO_STRING : goal.returns-else-id-eq-NO_STRING
 returns-else-id-eq-NO_STRING c =
-    λ out. id_optional _ _ _ _ out _ _ _ _ (ap use_number c.in-OptStr.is) c.if-id-eq-NO_STRING.false (c.graft_str-else-id-eq-NO_STRING.ensures out)
+    λ out. id_optional _ _ (ap use_number c.in-OptStr.is) c.if-id-eq-NO_STRING.false (c.graft_str-else-id-eq-NO_STRING.ensures out)
 
 pub returns-in_default : goal.returns-in_default
 returns-in_default c =
-    λ out. id_none _ _ _ _ out _ _ _ _ (told_nothing c.requires.good.0 c.requires.good.1 c.requires.has_room out)
+    λ out. id_none _ _ (told_nothing c.requires.good.0 c.requires.good.1 c.requires.has_room out)
     (λ e. c.in_default.not-Str (number_same c.args.usage Str e)) (λ e. c.in_default.not-OptStr (number_same c.args.usage OptStr e))

@@ -24,18 +24,18 @@ string_from-from-requires c =
 pub string_length-len-requires : goal.string_length-len-requires
 string_length-len-requires c =
     record {
-      of_tape = source_tape _ _ _ c.args.w.now.source;
+      of_tape = source_tape c.args.w.now.source;
       id_lt_strings = c.requires.id_lt_strings.0;
     }
 
 pub overflow_add-from : goal.overflow_add-from
 overflow_add-from c =
-    omega (arith, part_inside _ _ _ c.args.w.now.source _ c.requires.id_lt_strings.0 _ _ c.string_from-from.ensures c.string_length-len.ensures)
+    omega (arith, part_inside c.args.w.now.source _ c.requires.id_lt_strings.0 c.string_from-from.ensures c.string_length-len.ensures)
 
 pub slice_bounds-intern-end : goal.slice_bounds-intern-end
 slice_bounds-intern-end c =
-    omega (arith, part_inside _ _ _ c.args.w.now.source _ c.requires.id_lt_strings.0 _ _ c.string_from-from.ensures c.string_length-len.ensures)
+    omega (arith, part_inside c.args.w.now.source _ c.requires.id_lt_strings.0 c.string_from-from.ensures c.string_length-len.ensures)
 
 pub returns : goal.returns
 returns c =
-    rw (part_shows _ _ _ c.args.w.now.source _ c.requires.id_lt_strings.0 _ _ c.string_from-from.ensures c.string_length-len.ensures) at c.intern.ensures
+    rw (part_shows c.args.w.now.source _ c.requires.id_lt_strings.0 c.string_from-from.ensures c.string_length-len.ensures) at c.intern.ensures
