@@ -8,7 +8,7 @@ use Rattle.records.specs.Values.{body_at, segment_body}
 use Rattle.alike.specs.Alike.{Alike}
 use Rattle.store.specs.declared.Store.{Store}
 use Rattle.sizes.specs.Added.{Added, add, add_nothing, nothing_add, add_assoc}
-use Rattle.sizes.specs.Capped.{fits, fits_room_lem, room_of, less, less_some, less_nothing, less_then, less_stop, add_from, Adding, adding_more}
+use Rattle.sizes.specs.Capped.{fits, fits_room_lem, room_of, less, less_some, less_nothing, less_then, less_stop, add_from, Taking, taking_more}
 use Rattle.sizes.specs.InPlace.{content_adds, content_from, segment_from}
 use Rattle.sizes.specs.declared.Left.{Left}
 use Rattle.sizes.specs.declared.Sizes.{Sizes}
@@ -58,8 +58,8 @@ module _ (t r : Left) (a : Added) (e : Some r ≡ less t a) where
   pub exact_calls : r.calls ≡ t.calls - a.calls
   exact_calls = ap (λ (s : Left). s.calls) (less_some t a e).1
 
-  pub shrunk : (r.contents ≤ t.contents) × (r.segments ≤ t.segments) × (r.calls ≤ t.calls)
-  shrunk = (omega (arith, contents_left), omega (arith, segments_left), omega (arith, exact_calls))
+  fewer_calls : r.calls ≤ t.calls
+  fewer_calls = omega (arith, exact_calls)
 
   -- the same again, of whatever is left
   pub again_less : (v : Left) → v.calls ≤ r.calls → less v (difference t r) ≡ less v a
@@ -98,7 +98,7 @@ in_parts g (suc k) l s =
 
 -- ---- the loop goes on behind the items that are alike
 
-module _ {t : Left} {a : Added} {g : ℕ → Added} {n i : ℕ} {u : Left} (b : Adding t a g n i u) (h : i < n) {r : Left} (e : Some r ≡ less u (g i))
+module _ {t : Left} {a : Added} {g : ℕ → Added} {n i : ℕ} {u : Left} (b : Taking t a g n i u) (h : i < n) {r : Left} (e : Some r ≡ less u (g i))
     {k : ℕ} (few : k ≤ n - i - 1) (same : (j : ℕ) → j < k → g (i + 1 + j) ≡ g i) where
   abbrev rest : Added
   rest = add_from g (n - (i + (1 + k))) (i + (1 + k))
@@ -108,10 +108,10 @@ module _ {t : Left} {a : Added} {g : ℕ → Added} {n i : ℕ} {u : Left} (b : 
       let x : i + (1 + k) ≡ i + 1 + k = omega arith in
       let y : k + (n - (i + (1 + k))) ≡ n - (i + 1) = omega (arith, few, h) in
       ap (less r) (ap₂ (λ (p q : Added). add p q) (times_same g (g i) k (i + 1) 0 same) (ap (add_from g (n - (i + (1 + k)))) x) ∙ sym (in_parts g k (n - (i + (1 + k))) (i + 1)))
-      ∙ ap (λ (w : ℕ). less r (add_from g w (i + 1))) y ∙ (adding_more b h e).left
+      ∙ ap (λ (w : ℕ). less r (add_from g w (i + 1))) y ∙ (taking_more b h e).left
 
-  pub adding_again : {v : Left} → Some v ≡ less r (times (g i) k) → Adding t a g n (i + (1 + k)) v
-  adding_again f = record { left = less_then r (times (g i) k) f rest ∙ again_left }
+  pub taking_again : {v : Left} → Some v ≡ less r (times (g i) k) → Taking t a g n (i + (1 + k)) v
+  taking_again f = record { left = less_then r (times (g i) k) f rest ∙ again_left }
 
   pub again_over : None ≡ less r (times (g i) k) → None ≡ less t a
   again_over f = less_stop r (times (g i) k) f rest ∙ again_left
@@ -146,7 +146,7 @@ times_agree t r a e (suc k) =
     sym (less_stop r (times d k) (sym o) d ∙ ap (less r) (sym (times_next d k 0)))
     ∙ less_stop r (times a k) (sym o ∙ both) a ∙ ap (less r) (sym (times_next a k 0)))
     (λ u o.
-    sym (times_more r d k (sym o)) ∙ again_less t r a e u (shrunk r u (times d k) (sym o)).2 ∙ times_more r a k (sym o ∙ both))
+    sym (times_more r d k (sym o)) ∙ again_less t r a e u (fewer_calls r u (times d k) (sym o)) ∙ times_more r a k (sym o ∙ both))
     ∙ ap (λ (i : ℕ). less r (times a i)) (sym n)
 
 -- ---- items of a run that are alike

@@ -160,27 +160,27 @@ add_from g zero i = nothing
 add_from g (suc n) i = add (g i) (add_from g n (i + 1))
 
 -- with u left, what is still to be taken off gives what a gives from t
-pub record Adding (t : Left) (a : Added) (g : ℕ → Added) (n i : ℕ) (u : Left) : Type 0 where
+pub record Taking (t : Left) (a : Added) (g : ℕ → Added) (n i : ℕ) (u : Left) : Type 0 where
   pub left : less u (add_from g (n - i) i) ≡ less t a
 
-pub adding_none : (t : Left) {a : Added} (g : ℕ → Added) (n : ℕ) → add_from g n 0 ≡ a → Adding t a g n 0 t
-adding_none t g n e = let q : n - 0 ≡ n = omega arith in record { left = ap (λ (k : ℕ). less t (add_from g k 0)) q ∙ ap (less t) e }
+pub taking_none : (t : Left) {a : Added} (g : ℕ → Added) (n : ℕ) → add_from g n 0 ≡ a → Taking t a g n 0 t
+taking_none t g n e = let q : n - 0 ≡ n = omega arith in record { left = ap (λ (k : ℕ). less t (add_from g k 0)) q ∙ ap (less t) e }
 
-module _ {t : Left} {a : Added} {g : ℕ → Added} {n i : ℕ} {u : Left} (b : Adding t a g n i u) where
+module _ {t : Left} {a : Added} {g : ℕ → Added} {n i : ℕ} {u : Left} (b : Taking t a g n i u) where
   module _ (h : i < n) where
     next_left : less u (add (g i) (add_from g (n - (i + 1)) (i + 1))) ≡ less t a
     unfolding add_from
     next_left = let q : n - i ≡ suc (n - (i + 1)) = omega arith in ap (λ (k : ℕ). less u (add_from g k i)) (sym q) ∙ b.left
 
-    pub adding_more : {r : Left} → Some r ≡ less u (g i) → Adding t a g n (i + 1) r
-    adding_more e = record { left = less_then u (g i) e (add_from g (n - (i + 1)) (i + 1)) ∙ next_left }
+    pub taking_more : {r : Left} → Some r ≡ less u (g i) → Taking t a g n (i + 1) r
+    taking_more e = record { left = less_then u (g i) e (add_from g (n - (i + 1)) (i + 1)) ∙ next_left }
 
-    pub adding_over : None ≡ less u (g i) → None ≡ less t a
-    adding_over e = less_stop u (g i) e (add_from g (n - (i + 1)) (i + 1)) ∙ next_left
+    pub taking_over : None ≡ less u (g i) → None ≡ less t a
+    taking_over e = less_stop u (g i) e (add_from g (n - (i + 1)) (i + 1)) ∙ next_left
 
-  pub adding_all : n ≤ i → Some u ≡ less t a
+  pub taking_all : n ≤ i → Some u ≡ less t a
   unfolding add_from
-  adding_all h = let q : n - i ≡ 0 = omega arith in sym (less_nothing u) ∙ ap (λ (k : ℕ). less u (add_from g k i)) (sym q) ∙ b.left
+  taking_all h = let q : n - i ≡ 0 = omega arith in sym (less_nothing u) ∙ ap (λ (k : ℕ). less u (add_from g k i)) (sym q) ∙ b.left
 
 -- what is added from a list that is tabulated
 pub added_tabulate : {A : Type 0} (f : A → Added) (n i : ℕ) (h : ℕ → A) → add_all f (tabulate n (λ (k : ℕ). h (i + k))) ≡ add_from (λ (k : ℕ). f (h k)) n i

@@ -6,24 +6,24 @@ use Rattle.sizes.specs.Known.{known_adds, known_note, text_adds}
 use Rattle.sizes.specs.Answers.{contents_over, contents_empty, contents_then, segments_over, segments_empty, segments_then, segment_last, segment_below}
 use Rattle.sizes.specs.Answers.{body_sum, place_read, content_plain, content_segments_lem}
 use Rattle.sizes.specs.InPlace.{inner_adds, content_from, segment_from, contents_from, segments_from, contents_inside, segments_inside}
-use Rattle.sizes.specs.Capped.{less, adding_none, adding_more, adding_over, adding_all}
-use Rattle.sizes.specs.Again.{adding_again, again_over, contents_same, segments_same}
+use Rattle.sizes.specs.Capped.{less, taking_none, taking_more, taking_over, taking_all}
+use Rattle.sizes.specs.Again.{taking_again, again_over, contents_same, segments_same}
 use Rattle.sizes.proofs.+tree_sizes.Goals as goal
 
 pub body_sizes-loop-j-init : goal.body_sizes-loop-j-init
-body_sizes-loop-j-init t c = (adding_none _ _ _ (body_sum c.args.level c.args.w.now.tape.now c.args.w.now.st.now (body_at c.args.w.now.tape.now c.args.at)), c.requires.known, refl)
+body_sizes-loop-j-init t c = (taking_none _ _ _ (body_sum c.args.level c.args.w.now.tape.now c.args.w.now.st.now (body_at c.args.w.now.tape.now c.args.at)), c.requires.known, refl)
 
 pub body_sizes-returns-in_err-u : goal.body_sizes-returns-in_err-u
 body_sizes-returns-in_err-u t c =
-    (c.from_residual.ensures ∙ adding_over c.loop-j.invariant.0 c.loop-j-test.true (place_read _ _ _ _ _ _ _ c.field_at-f.ensures c.in_err-u.ensures.0), c.in_err-u.ensures.1)
+    (c.from_residual.ensures ∙ taking_over c.loop-j.invariant.0 c.loop-j-test.true (place_read _ _ _ _ _ _ _ c.field_at-f.ensures c.in_err-u.ensures.0), c.in_err-u.ensures.1)
 
 pub body_sizes-loop-j-preserved : goal.body_sizes-loop-j-preserved
 body_sizes-loop-j-preserved t c =
-    (adding_more c.loop-j.invariant.0 c.loop-j-test.true (place_read _ _ _ _ _ _ _ c.field_at-f.ensures c.in_ok-u.ensures.0), c.in_ok-u.ensures.1, c.field_sizes.auto.memo ∙ c.loop-j.invariant.2)
+    (taking_more c.loop-j.invariant.0 c.loop-j-test.true (place_read _ _ _ _ _ _ _ c.field_at-f.ensures c.in_ok-u.ensures.0), c.in_ok-u.ensures.1, c.field_sizes.auto.memo ∙ c.loop-j.invariant.2)
 
 pub body_sizes-returns : goal.body_sizes-returns
 body_sizes-returns t c =
-    (adding_all c.loop-j.invariant.0 c.loop-j-test.false, c.loop-j.invariant.1)
+    (taking_all c.loop-j.invariant.0 c.loop-j-test.false, c.loop-j.invariant.1)
 
 pub content_run_sizes-returns-in_err-u : goal.content_run_sizes-returns-in_err-u
 content_run_sizes-returns-in_err-u t c =
@@ -66,12 +66,12 @@ content_sizes-returns t c =
     (content_segments_lem _ _ _ _ _ c.content_at-c.ensures (sym c.is_plain.ensures ∙ c.if-is_plain.false) (lone_then _ _ _ _ _ _ _ c.if-c-ne1.false (sym c.lone_place.ensures ∙ c.in-Some.is) c.in_ok-u.ensures c.segment_sizes.ensures.0), c.segment_sizes.ensures.1)
 
 pub contents_walk-loop-i-init : goal.contents_walk-loop-i-init
-contents_walk-loop-i-init t c = (adding_none _ _ _ (contents_from c.args.w.now.tape.now c.args.run.at c.args.run.count (inner_adds c.args.level c.args.w.now.tape.now c.args.w.now.st.now) c.args.w.now.st.now), c.requires.known, refl)
+contents_walk-loop-i-init t c = (taking_none _ _ _ (contents_from c.args.w.now.tape.now c.args.run.at c.args.run.count (inner_adds c.args.level c.args.w.now.tape.now c.args.w.now.st.now) c.args.w.now.st.now), c.requires.known, refl)
 
 pub contents_walk-returns-in_err-next : goal.contents_walk-returns-in_err-next
 unfolding content_from
 contents_walk-returns-in_err-next t c =
-    (c.from_residual.ensures ∙ adding_over c.loop-i.invariant.0 c.loop-i-test.true c.in_err-next.ensures.0, c.in_err-next.ensures.1)
+    (c.from_residual.ensures ∙ taking_over c.loop-i.invariant.0 c.loop-i-test.true c.in_err-next.ensures.0, c.in_err-next.ensures.1)
 
 pub contents_walk-returns-in_err-u : goal.contents_walk-returns-in_err-u
 unfolding content_from
@@ -84,7 +84,7 @@ contents_walk-returns-in_err-u t c = (
 pub contents_walk-loop-i-preserved : goal.contents_walk-loop-i-preserved
 unfolding content_from
 contents_walk-loop-i-preserved t c = (
-  adding_again c.loop-i.invariant.0 c.loop-i-test.true c.in_ok-next.ensures.0 c.contents_alike-k.ensures.few (contents_same _ _ _ _ _ c.contents_alike-k.ensures)
+  taking_again c.loop-i.invariant.0 c.loop-i-test.true c.in_ok-next.ensures.0 c.contents_alike-k.ensures.few (contents_same _ _ _ _ _ c.contents_alike-k.ensures)
       (c.in_ok-u.ensures _ c.in_ok-next.ensures.0),
   c.in_ok-next.ensures.1,
   c.content_sizes.auto.memo ∙ c.loop-i.invariant.2,
@@ -92,7 +92,7 @@ contents_walk-loop-i-preserved t c = (
 
 pub contents_walk-returns : goal.contents_walk-returns
 contents_walk-returns t c =
-    (adding_all c.loop-i.invariant.0 c.loop-i-test.false, c.loop-i.invariant.1)
+    (taking_all c.loop-i.invariant.0 c.loop-i-test.false, c.loop-i.invariant.1)
 
 pub segment_run_sizes-returns-in_err-u : goal.segment_run_sizes-returns-in_err-u
 segment_run_sizes-returns-in_err-u t c =
@@ -136,12 +136,12 @@ segment_walk-returns t c =
     (e, rw c.note.ensures (known_note _ c.in_ok-r.ensures.1 c.args.e c.args.at c.args.level c.args.left c.in_ok-r.r e))
 
 pub segments_walk-loop-i-init : goal.segments_walk-loop-i-init
-segments_walk-loop-i-init t c = (adding_none _ _ _ (segments_from c.args.w.now.tape.now c.args.run.at c.args.run.count (inner_adds c.args.level c.args.w.now.tape.now c.args.w.now.st.now)), c.requires.known, refl)
+segments_walk-loop-i-init t c = (taking_none _ _ _ (segments_from c.args.w.now.tape.now c.args.run.at c.args.run.count (inner_adds c.args.level c.args.w.now.tape.now c.args.w.now.st.now)), c.requires.known, refl)
 
 pub segments_walk-returns-in_err-next : goal.segments_walk-returns-in_err-next
 unfolding segment_from
 segments_walk-returns-in_err-next t c =
-    (c.from_residual.ensures ∙ adding_over c.loop-i.invariant.0 c.loop-i-test.true c.in_err-next.ensures.0, c.in_err-next.ensures.1)
+    (c.from_residual.ensures ∙ taking_over c.loop-i.invariant.0 c.loop-i-test.true c.in_err-next.ensures.0, c.in_err-next.ensures.1)
 
 pub segments_walk-returns-in_err-u : goal.segments_walk-returns-in_err-u
 unfolding segment_from
@@ -155,7 +155,7 @@ segments_walk-returns-in_err-u t c = (
 pub segments_walk-loop-i-preserved : goal.segments_walk-loop-i-preserved
 unfolding segment_from
 segments_walk-loop-i-preserved t c = (
-  adding_again c.loop-i.invariant.0 c.loop-i-test.true c.in_ok-next.ensures.0 c.segments_alike-k.ensures.few
+  taking_again c.loop-i.invariant.0 c.loop-i-test.true c.in_ok-next.ensures.0 c.segments_alike-k.ensures.few
       (segments_same (inner_adds c.args.level c.args.w.now.tape.now c.args.w.now.st.now) _ _ _ c.segments_alike-k.ensures)
       (c.in_ok-u.ensures _ c.in_ok-next.ensures.0),
   c.in_ok-next.ensures.1,
@@ -164,4 +164,4 @@ segments_walk-loop-i-preserved t c = (
 
 pub segments_walk-returns : goal.segments_walk-returns
 segments_walk-returns t c =
-    (adding_all c.loop-i.invariant.0 c.loop-i-test.false, c.loop-i.invariant.1)
+    (taking_all c.loop-i.invariant.0 c.loop-i-test.false, c.loop-i.invariant.1)

@@ -2,7 +2,7 @@ use Rattle.std.specs.Prelude.{◌≡◌, ◌+◌, ◌-◌, ◌*◌, length}
 use Rattle.records.specs.Values.{body_at}
 use Rattle.sizes.specs.Known.{Known}
 use Rattle.sizes.specs.InPlace.{inner_adds, body_adds, place_adds, contents_add, content_from, segments_add, segment_from}
-use Rattle.sizes.specs.Capped.{Adding}
+use Rattle.sizes.specs.Capped.{Taking}
 use Rattle.sizes.proofs.+tree_sizes.Given as goal
 
 abbrev pub decreases-body_sizes : goal.decreases-body_sizes
@@ -11,7 +11,7 @@ decreases-body_sizes l = l.level * 9 + 8
 abbrev pub invariant-body_sizes-loop-j : goal.invariant-body_sizes-loop-j
 invariant-body_sizes-loop-j l =
     let b = body_at l.w.tape.now l.at in
-    Adding l.initial.u (body_adds l.level l.w.tape.now l.w.st.now b) (place_adds (inner_adds l.level l.w.tape.now l.w.st.now) l.w.tape.now l.w.st.now b) 6 l.j l.u
+    Taking l.initial.u (body_adds l.level l.w.tape.now l.w.st.now b) (place_adds (inner_adds l.level l.w.tape.now l.w.st.now) l.w.tape.now l.w.st.now b) 6 l.j l.u
     × Known l.w.tape.now l.w.st.now l.memo × (length l.memo ≡ length l.initial.memo)
 
 abbrev pub decreases-content_run_sizes : goal.decreases-content_run_sizes
@@ -26,7 +26,7 @@ decreases-contents_walk l = l.level * 9 + 5
 abbrev pub invariant-contents_walk-loop-i : goal.invariant-contents_walk-loop-i
 invariant-contents_walk-loop-i l =
     let inner = inner_adds l.level l.w.tape.now l.w.st.now in
-    Adding l.initial.u (contents_add inner l.w.tape.now l.w.st.now l.run.at l.run.count) (content_from inner l.w.tape.now l.w.st.now l.run.at) l.run.count l.i l.u
+    Taking l.initial.u (contents_add inner l.w.tape.now l.w.st.now l.run.at l.run.count) (content_from inner l.w.tape.now l.w.st.now l.run.at) l.run.count l.i l.u
     × Known l.w.tape.now l.w.st.now l.memo × (length l.memo ≡ length l.initial.memo)
 
 abbrev pub decreases-contents_walk-loop-i : goal.decreases-contents_walk-loop-i
@@ -50,7 +50,7 @@ decreases-segments_walk l = l.level * 9 + 2
 abbrev pub invariant-segments_walk-loop-i : goal.invariant-segments_walk-loop-i
 invariant-segments_walk-loop-i l =
     let inner = inner_adds l.level l.w.tape.now l.w.st.now in
-    Adding l.initial.u (segments_add inner l.w.tape.now l.run.at l.run.count) (segment_from inner l.w.tape.now l.run.at) l.run.count l.i l.u
+    Taking l.initial.u (segments_add inner l.w.tape.now l.run.at l.run.count) (segment_from inner l.w.tape.now l.run.at) l.run.count l.i l.u
     × Known l.w.tape.now l.w.st.now l.memo × (length l.memo ≡ length l.initial.memo)
 
 abbrev pub decreases-segments_walk-loop-i : goal.decreases-segments_walk-loop-i
