@@ -55,7 +55,8 @@ pub record Finished (work : List ℕ) (below at len rest : ℕ) (m : Mark) (out 
   pub is : (l : Grafted) → r ≡ Some l → l ≡ layer_by m (len + 5 * m.state.count)
   pub wrote : is_some r ≡ true → out' ≡ overwrite out at (2 ∷ (records_bytes string_codec (new_lengths work m.state.count) ++ take (len - 1 + rest) (drop (at + 1) out)))
 
-pub finish_refused : {work : List ℕ} {below at len rest : ℕ} {m : Mark} {out out' : List ℕ} {x : Bool} → x ≡ strings_fit below m.state.count (length out - at - len - rest) → x ≡ false → Finished work below at len rest m out out' None
+pub finish_refused : {work : List ℕ} {below at len rest : ℕ} {m : Mark} {out out' : List ℕ} {x : Bool} → x ≡ strings_fit below m.state.count (length out - at - len - rest) → x ≡ false
+    → Finished work below at len rest m out out' None
 finish_refused e f = record { room = sym f ∙ e; is = λ l o. absurd (none-some l o); wrote = λ o. absurd (true≢false (sym o)) }
 
 pub finish_made : {work : List ℕ} {below at len rest : ℕ} {m : Mark} {out out' : List ℕ} {x : Bool} → x ≡ strings_fit below m.state.count (length out - at - len - rest) → x ≡ true
@@ -202,7 +203,11 @@ module _ (out strs : List ℕ) (at base : ℕ) (o : Totals) (small : TotalsFit o
 
           strings_full : is_some r ≡ false → Fits → ⊥
           strings_full x y = true≢false (
-              sym (rw (le-leb (o.strings + m.state.count) max_pool (omega (arith, y.strings, count)), le-leb (5 * m.state.count) (length out₁ - at - len - rest) (omega (arith, left, y.tape, z.bytes, e, f, k.contents, k.segments, count))) refl)
+              sym (
+              rw (
+                le-leb (o.strings + m.state.count) max_pool (omega (arith, y.strings, count)),
+                le-leb (5 * m.state.count) (length out₁ - at - len - rest) (omega (arith, left, y.tape, z.bytes, e, f, k.contents, k.segments, count)),
+              ) refl)
               ∙ sym q.room ∙ x)
 
           finish_fits : has_room (length strs) base g.1.interner ≡ true → is_some r ≡ true → Fits

@@ -51,7 +51,8 @@ module _ {g : Grafting} (out : List ℕ) {len rest : ℕ} (h : RoomFor g (length
       subst (λ (x : Plan). WalkRoom x (g.to.at + len) g.source.now.places.nodes.count (length out) (adds g)) (sym q)
       (walk_room out [] g.to.at g.to.base g.to.below g.to.fits (graft_of g) (sizes g) g.exact len rest h.layer h.nodes h.fits g.calls_small)
 
-  module _ {strs out₁ work₁ strs₁ : List ℕ} {r : Option Mark} (w : Walked p g.to.base (g.to.at + len) out strs out₁ work₁ strs₁ r (grafted_into g.source.now.tape.now g.source.now.bytes.now (offsets_of p))) where
+  module _ {strs out₁ work₁ strs₁ : List ℕ} {r : Option Mark}
+      (w : Walked p g.to.base (g.to.at + len) out strs out₁ work₁ strs₁ r (grafted_into g.source.now.tape.now g.source.now.bytes.now (offsets_of p))) where
     here : Walked (plan_of g.to.below g.to.at g.sizes.contents) g.to.base (g.to.at + len) out strs out₁ work₁ strs₁ r (graft_of g)
     here = walked_by g.source.now.tape.now g.source.now.bytes.now g.to.below g.to.at g.sizes.contents q w
 

@@ -67,7 +67,8 @@ module _ (d : List ℕ) (at : ℕ) (work : List ℕ) where
   unfolding new_lengths list_to records_bytes flatten
   lengths_none = overwrite_nil d at
 
-  pub lengths_more : {l l' : List ℕ} (i v n : ℕ) → v ≡ new_length work i % 4294967296 → n ≡ at + 5 * i → at + 5 * (i + 1) ≤ length d → l ≡ overwrite d at (records_bytes string_codec (new_lengths work i)) → l' ≡ overwrite l n (record_bytes string_codec v)
+  pub lengths_more : {l l' : List ℕ} (i v n : ℕ) → v ≡ new_length work i % 4294967296 → n ≡ at + 5 * i → at + 5 * (i + 1) ≤ length d
+      → l ≡ overwrite d at (records_bytes string_codec (new_lengths work i)) → l' ≡ overwrite l n (record_bytes string_codec v)
       → l' ≡ overwrite d at (records_bytes string_codec (new_lengths work (i + 1)))
   unfolding new_lengths
   lengths_more i v n e f h w w' =
