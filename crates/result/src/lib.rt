@@ -62,20 +62,16 @@ pub struct Graft {
     pub stats: InternStats,
 }
 
-// The reading's nodes grafted behind the old layers, if it has any: their records from `at` on, new strings from `base` on. None where
-// there is no room.
+// The reading's nodes, if it has any, grafted behind the old layers: at that place. None where there is no room.
 fn graft_reading(
     reading: &Book,
-    below: store::Totals,
+    to: Place,
     out: &mut [u8],
     work: &mut [u32],
     strs: &mut [u8],
-    at: usize,
-    base: usize,
 ) -> Option<Graft>
-    requires strings_le_max_pool { (below.strings ≤ max_pool) × (below.contents ≤ max_pool) × (below.segments ≤ max_pool) }
-    requires min_work_words_in_bounds { (min_work_words ≤ length work.old) × (base ≤ length strs.old) × (at ≤ length out.old) }
-    ensures { GraftTold out.old strs.old out.new strs.new at base below (is_empty (book_in reading.now.tape.now reading.now.bytes.now).source_nodes) result (grafted_into reading.now.tape.now reading.now.bytes.now below) }
+    requires { (min_work_words ≤ length work.old) × (to.base ≤ length strs.old) × (to.at ≤ length out.old) }
+    ensures { GraftTold out.old strs.old out.new strs.new to.at to.base to.below (is_empty (book_in reading.now.tape.now reading.now.bytes.now).source_nodes) result (grafted_into reading.now.tape.now reading.now.bytes.now to.below) }
 {
     if reading.places.nodes.count == 0 {
         return Some(Graft {
@@ -84,11 +80,10 @@ fn graft_reading(
             stats: InternStats::default(),
         });
     }
-    let to = Place { below, at, base };
     let l = layer::graft_layer(reading, to, out, work, strs)?;
     Some(Graft {
         len: l.len,
-        bytes: l.state.used - base,
+        bytes: l.state.used - to.base,
         stats: l.state.stats,
     })
 }
@@ -115,15 +110,12 @@ fn put_store(
         l.text as u32,
         l.normalized as u32,
     );
-    graft_reading(
-        &m.reading,
-        m.book.store.totals,
-        out_tape,
-        work,
-        out_bytes,
+    let to = Place {
+        below: m.book.store.totals,
         at,
-        l.base,
-    )
+        base: l.base,
+    };
+    graft_reading(&m.reading, to, out_tape, work, out_bytes)
 }
 
 // Number 18, and the merged book, of a book and a reading that passed 1 to 17.

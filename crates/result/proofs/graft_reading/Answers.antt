@@ -5,10 +5,7 @@ use Rattle.result.proofs.graft_reading.Goals as goal
 
 pub returns-then-reading-eq0 : goal.returns-then-reading-eq0
 returns-then-reading-eq0 c =
-    graft_none c.args.reading.now c.if-reading-eq0.true c.requires.min_work_words_in_bounds.1 refl refl (default_is c.default.result c.default.ensures)
-
-pub invariant_of-to : goal.invariant_of-to
-invariant_of-to c = let h = c.requires.strings_le_max_pool in record { fits = record { strings = h.0; contents = h.1; segments = h.2 } }
+    graft_none c.args.reading.now c.if-reading-eq0.true c.requires.1 refl refl (default_is c.default.result c.default.ensures)
 
 pub returns-in_err-l : goal.returns-in_err-l
 returns-in_err-l c = rw c.from_residual.ensures (graft_refused c.args.reading.now c.if-reading-eq0.false c.in_err-l.ensures)

@@ -27,13 +27,15 @@ pub put_head-requires : goal.put_head-requires
 put_head-requires c =
     ((nodes_at_lem c.requires.books).0, (nodes_at_lem c.requires.books).1, omega (arith, c.requires.min_work_words_in_bounds.3))
 
+pub invariant_of-to : goal.invariant_of-to
+invariant_of-to c =
+    let fits = pools_fit c.requires.books in
+    record { fits = record { strings = fits.0; contents = fits.1; segments = fits.2 } }
+
 pub graft_reading-requires : goal.graft_reading-requires
 graft_reading-requires c =
     let m = c.requires.min_work_words_in_bounds in
-    record {
-      strings_le_max_pool = pools_fit c.requires.books;
-      min_work_words_in_bounds = (omega (arith, m.0), omega (arith, m.2, c.put_new_texts.auto.out), omega (arith, m.3, c.put_head.auto.out));
-    }
+    (omega (arith, m.0), omega (arith, m.2, c.put_new_texts.auto.out), omega (arith, m.3, c.put_head.auto.out))
 
 pub returns : goal.returns
 unfolding edit_of
