@@ -6,7 +6,7 @@ ghost use Rattle.std.specs.Prelude.{◌≡◌, true, ◌+◌, ◌-◌, ◌^◌, 
 ghost use Rattle.laws.specs.Splice.{splice};
 ghost use Rattle.wire.specs.Overwrite.{overwrite};
 ghost use Rattle.model.specs.Lists.{is_empty};
-ghost use Rattle.model.specs.Limits.{max_text, max_pool, min_work_words};
+ghost use Rattle.model.specs.Limits.{max_text, min_work_words};
 ghost use Rattle.model.specs.Region.{edit_of};
 ghost use Rattle.model.specs.Merge.{room_of, result_checked};
 ghost use Rattle.refusal.specs.Refusal.{checked};
