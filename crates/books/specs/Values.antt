@@ -1,10 +1,4 @@
 -- What is lent, as the model has it.
-use Rattle.std.specs.Prelude.{ℕ, List}
-use Rattle.std.proofs.Common.{arith}
-use Rattle.std.proofs.Math.ListN.{get_or}
-use Rattle.model.specs.Bytes.{AreBytes}
-use mir.Val.{Fits}
-use mir.Syntax.{w8}
 use Rattle.model.specs.Region.{Edit as MEdit, edit_of}
 use Rattle.model.specs.Merge.{Stored as MStored, stored_of}
 use Rattle.model.specs.Demand3.{Correction as MCorrection, correction_of}
@@ -20,7 +14,3 @@ edit_value e = edit_of e.start e.end e.replacement.now
 
 abbrev pub correction_value : Correction → MCorrection
 correction_value c = correction_of c.edit.start c.edit.end c.edit.replacement.now c.reading.tape.now c.reading.bytes.now
-
--- the items of a slice of u8
-pub slice_bytes : {l : List ℕ} → ((i : ℕ) → Fits w8 (get_or l i 0)) → AreBytes l
-slice_bytes f = record { byte = λ i h. omega (arith, f i) }
