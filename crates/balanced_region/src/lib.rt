@@ -168,12 +168,10 @@ fn last_cut_in(source: &Source, lo: usize, hi: usize, d: usize, words: &mut [u32
     ensures value { result ≡ last_from (text_pairs_allow source.now.text.now (pairs_in source.now)) (hi - lo) lo d }
     ensures window_2 { Window (pairs_in source.now) words.new }
 {
-    let mut c = hi;
-    while lo < c {
-        if text_pairs_allow(source, c - 1, words) {
-            return c - 1;
+    for c in (lo..hi).rev() {
+        if text_pairs_allow(source, c, words) {
+            return c;
         }
-        c -= 1;
     }
     d
 }

@@ -273,9 +273,7 @@ impl<'a> Source<'a> {
         ensures { result ≡ reach (pairs_in self.now) o }
     {
         let mut far = 0;
-        let mut i = self.pairs.count;
-        while 0 < i {
-            i -= 1;
+        for i in (0..self.pairs.count).rev() {
             let p = self.pairs.at + 18 * i;
             far = far.max(reach_of(pair_start(self.tape, p), pair_end(self.tape, p), o));
         }
@@ -330,9 +328,7 @@ impl<'a> Source<'a> {
         ensures { Noted (pairs_in self.now) from slots.new }
     {
         wire::zero_words(slots);
-        let mut i = self.pairs.count;
-        while 0 < i {
-            i -= 1;
+        for i in (0..self.pairs.count).rev() {
             let p = self.pairs.at + 18 * i;
             note(
                 slots,

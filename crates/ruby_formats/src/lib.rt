@@ -66,13 +66,10 @@ pub fn asked_nodes(tape: &[u8], nodes: Run, from: u32) -> usize
     requires { nodes.at + 49 * nodes.count ≤ length tape.now }
     ensures { result ≡ count_to_last nodes.count (asks_at from tape.now nodes.at) }
 {
-    // From the last on; a chain over a reversed range says less plainly how many there are.
-    let mut n = nodes.count;
-    while 0 < n {
-        if asks_target(tape, nodes.at + 49 * (n - 1), from) {
-            return n;
+    for n in (0..nodes.count).rev() {
+        if asks_target(tape, nodes.at + 49 * n, from) {
+            return n + 1;
         }
-        n -= 1;
     }
     0
 }

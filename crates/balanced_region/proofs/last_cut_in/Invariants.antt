@@ -3,13 +3,10 @@ use Rattle.cuts.specs.Sources.{pairs_in}
 use Rattle.cuts.specs.Offsets.{last_from}
 use Rattle.balanced_region.specs.EndSearch.{text_pairs_allow}
 use mathlib.Core.Path.{◌≡◌}
-use Prim.Native.Nat.{◌-◌, ◌≤◌}
+use Prim.Native.Nat.{◌-◌}
 use lib.ListN.{length}
 use Rattle.balanced_region.proofs.last_cut_in.Given as goal
 
 abbrev pub invariant-loop-c : goal.invariant-loop-c
-invariant-loop-c l = (l.c ≤ l.hi) × (last_from (text_pairs_allow l.source.text.now (pairs_in l.source)) (l.c - l.lo) l.lo l.d
+invariant-loop-c l = (last_from (text_pairs_allow l.source.text.now (pairs_in l.source)) (l.c - l.lo) l.lo l.d
     ≡ last_from (text_pairs_allow l.source.text.now (pairs_in l.source)) (l.hi - l.lo) l.lo l.d) × Window (pairs_in l.source) l.words × (length l.words ≡ length l.initial.words)
-
-abbrev pub decreases-loop-c : goal.decreases-loop-c
-decreases-loop-c l = l.c - l.lo

@@ -6,12 +6,10 @@ use Rattle.cuts.proofs.Source.note_pairs.Goals as goal
 
 pub loop-i-init : goal.loop-i-init
 loop-i-init c =
-    (omega arith, refl, noted_start _ _ _ (length c.args.slots.now) _ c.zero_words.ensures)
+    (refl, noted_start _ _ _ (length c.args.slots.now) _ c.zero_words.ensures)
 
 pub loop-i-preserved : goal.loop-i-preserved
 loop-i-preserved c = (
-  omega arith,
-  omega (arith, c.note.auto.slots, c.loop-i.invariant.1),
-  noted_pairs _ _ _ _ _ _ c.loop-i.invariant.2 c.loop-i.invariant.0 _ refl
-      c.loop-i-test.true _ _ c.pair_start.ensures c.pair_end.ensures c.note.ensures,
+  omega (arith, c.note.auto.slots, c.loop-i.invariant.0),
+  noted_pairs _ _ _ _ _ _ c.loop-i.invariant.1 (omega arith) _ refl (omega arith) _ _ c.pair_start.ensures c.pair_end.ensures c.note.ensures,
 )

@@ -1,12 +1,8 @@
 use Rattle.cuts.specs.Window.{Noted}
 use Rattle.cuts.specs.Pairs.{pairs_from}
 use mathlib.Core.Path.{◌≡◌}
-use Prim.Native.Nat.{◌≤◌}
 use lib.ListN.{length}
 use Rattle.cuts.proofs.Source.note_pairs.Given as goal
 
 abbrev pub invariant-loop-i : goal.invariant-loop-i
-invariant-loop-i l = (l.i ≤ l.self.pairs.count) × (length l.slots ≡ length l.initial.slots) × Noted (pairs_from l.self.tape.now l.self.pairs l.i) l.from l.slots
-
-abbrev pub decreases-loop-i : goal.decreases-loop-i
-decreases-loop-i l = l.i
+invariant-loop-i l = (length l.slots ≡ length l.initial.slots) × Noted (pairs_from l.self.tape.now l.self.pairs l.i) l.from l.slots

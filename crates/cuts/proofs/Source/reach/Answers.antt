@@ -6,11 +6,8 @@ use Rattle.cuts.proofs.Source.reach.Goals as goal
 
 pub loop-i-init : goal.loop-i-init
 loop-i-init c =
-    (omega arith, reach_none _ _ _)
+    reach_none _ _ _
 
 pub loop-i-preserved : goal.loop-i-preserved
-loop-i-preserved c = (
-  omega arith,
-  reach_more _ _ _ _ _ c.loop-i.invariant.1 c.loop-i.invariant.0 _ refl c.loop-i-test.true _ _ c.pair_start.ensures
-      c.pair_end.ensures _ c.reach_of.ensures _ (search rules),
-)
+loop-i-preserved c =
+    reach_more _ _ _ _ _ c.loop-i.invariant (omega arith) _ refl (omega arith) _ _ c.pair_start.ensures c.pair_end.ensures _ c.reach_of.ensures _ (search rules)
