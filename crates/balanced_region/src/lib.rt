@@ -1,8 +1,8 @@
 // The two ends of a region, document 01 section 6, over the text, the nodes and the pairs of a book's tape. They are not found by
 // asking `safe_cut` of each newline: an offset that the nodes allow lies in a gap between two of them behind which both depths are 0,
 // so one walk over the nodes meets all of them. What the pairs say of an offset that text and nodes allow is read from a window of
-// offsets in lent words, which one walk over the pairs fills (crate `cuts`). The end is found by one walk over the nodes, which begins
-// at the edit's end, or one byte on where the first cut would lose its blank line (wish 1). For the start one walk counts the depths and
+// offsets in lent words, which one walk over the pairs fills (crate `cuts`). The end is found by one walk over the nodes, for the first cut
+// behind the edit's end, or one byte on where that cut would lose its blank line (wish 1). For the start one walk counts the depths and
 // one goes back from gap to gap; depths can be counted backwards only as far as the last close without an open. If there is no cut
 // behind it, one more walk, forwards, finds the last before it.
 #![tactic(auto)]
@@ -258,7 +258,7 @@ fn last_cut_before(source: &Source, bound: usize, words: &mut [u32]) -> usize
     gap_last(source, from, bound + 1, depths, last, words)
 }
 
-// The length behind a newline.
+// Is it the end of the text, and a newline before it?
 #[tactic(auto, using(std::proofs::lemmas::Bool::Decides::nat_tests), unfolding(crate::specs::StartSearch::ends_behind_newline))]
 fn ends_behind_newline(text: &[u8], o: usize) -> bool
     requires { o ≤ length text.now }
@@ -308,7 +308,7 @@ pub struct Edited<'a> {
     pub ghost end_inside: { end ≤ length source.text.now },
 }
 
-// Where fewer words are lent, so many of its own are used: with a small window the pairs are walked more often.
+// Where fewer words than these are lent, the region is found by as many that are not lent: with a small window the pairs are walked more often.
 const WINDOW_WORDS: usize = 16384;
 
 // The same where there are many pairs.

@@ -21,7 +21,7 @@ fn bits_of(h: u64) -> u32
     a | b
 }
 
-// The word of 32 bits of a hash: their share of the words, no more than 32 bits can tell apart, which takes no division.
+// Which word 32 bits of a hash choose: as far among the words as the bits are among all, by a product and no division.
 fn place_of(len: usize, x: u64) -> usize
     requires { (0 < len) × (x < 4294967296) }
     ensures { result ≡ hash_place len x }

@@ -163,6 +163,8 @@ pub fn nodes_placed(tape: &[u8], nodes: places::Run, size: usize) -> Option<Sums
 }
 
 // How many nodes start at or before an offset. By hand: `partition_point` takes a slice, and the nodes are records among bytes.
+// (The bisections of `sorted_ids`, `representatives` and `interner` are by hand for reasons of their own. One for all four would take the test as a
+// closure and tell of two words only, the last that passes and the next: each caller would still need its order, to say it of all.)
 fn starts_by(tape: &[u8], nodes: places::Run, offset: u32) -> usize
     requires count_in_bounds { nodes.at + 49 * nodes.count ≤ length tape.now }
     requires in_order { InOrder (records_at node_codec tape.now nodes.at nodes.count) }

@@ -1,5 +1,5 @@
 // One character of UTF-8 by RFC 3629. The model reads the bytes by a machine; this code asks how many bytes the character at a place
-// has. specs/Chars.antt: from `between` a whole character leads back to `between`, and what is none to a state that never comes back.
+// has. specs/Chars.antt: from `between` a whole character leads back to `between`, and all else to a state from which none does.
 // specs/Leads.antt: what each first byte asks for.
 #![tactic(auto)]
 

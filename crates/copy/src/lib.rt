@@ -1,4 +1,4 @@
-// Document 01: a book read and written again. The entry tests 1 to 7 first, then 18, and is refused by their number; it has no `requires`.
+// Document 01: a book read and written again. The entry tests 1 to 7 first, then 18; it has no `requires`.
 #![tactic(auto)]
 
 ghost use Rattle.std.specs.Prelude.{◌≡◌, ◌≤◌, ◌<◌, length};
@@ -17,14 +17,14 @@ pub struct Copied {
 }
 
 // 1 to 7, then 18 for a short buffer.
-fn check_copy(tape: &[u8], bytes: &[u8], taperoom: usize, bytesroom: usize) -> Result<(), Refusal>
-    ensures { checked result ≡ checked_map (λ _. tt) (copy_into tape.now bytes.now taperoom bytesroom) }
+fn check_copy(tape: &[u8], bytes: &[u8], tape_room: usize, bytes_room: usize) -> Result<(), Refusal>
+    ensures { checked result ≡ checked_map (λ _. tt) (copy_into tape.now bytes.now tape_room bytes_room) }
 {
     tape::check_book(tape, bytes)?;
-    if taperoom < tape.len() {
+    if tape_room < tape.len() {
         return Err(Refusal::NoRoom);
     }
-    if bytesroom < bytes.len() {
+    if bytes_room < bytes.len() {
         return Err(Refusal::NoRoom);
     }
     Ok(())

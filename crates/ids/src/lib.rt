@@ -20,8 +20,8 @@ use store::Store;
 // The id of a missing string.
 pub const NO_STRING: u32 = 4294967295;
 
-// Number 4. A word by its use: an id, an id that may be missing, the start of a range whose length is the next word. From here on
-// the store is lent: it is 408 bytes, and copied for each word it costs more than the test.
+// Number 4. A word by its use: an id, an id that may be missing, the start of a range whose length is the next word. The store
+// is lent, here and below: it is 408 bytes, and copied for each word it costs more than the test.
 #[tactic(auto, using(std::proofs::lemmas::Bool::Decides::nat_tests), unfolding(crate::specs::Tests::used_well))]
 fn used_well(st: &Store, usage: Use, w: u32, next: u32) -> bool
     requires { st.now.layers ≤ 32 }
@@ -139,7 +139,7 @@ pub fn nodes_ids_ok(tape: &[u8], st: &Store, run: Run) -> bool
     (0..run.count).all(|i| node_ids_ok(tape, st, run.at + 49 * i))
 }
 
-// Number 4 of one layer, and of all.
+// Number 4 of one layer.
 fn layer_ids_ok(tape: &[u8], st: &Store, l: places::LayerRuns) -> bool
     requires { (l.contents.at + 10 * l.contents.count ≤ length tape.now) × (l.segments.at + 37 * l.segments.count ≤ length tape.now) × (st.now.layers ≤ 32) }
     ensures { result ≡ runs_in tape.now st.now l }

@@ -20,7 +20,7 @@ use table::{INITIAL_CAPACITY, Probed, STARTS};
 
 const MAX_NEW_STRINGS: usize = 3583;
 
-// how many words the row of the far strings has
+// how many words the row of the far strings has, and where it stands behind smaller tables
 const ROW: usize = 3840;
 
 // the word that says how many far strings there are
@@ -43,7 +43,7 @@ pub struct StrInterner {
 }
 
 // An interner beside the words and bytes that are lent to it, to be read. Before the first call it has no table, so that there is one is asked for by
-// the three functions that look into it.
+// those that look into it.
 #[derive(Clone, Copy)]
 pub struct Layer<'a> {
     pub st: &'a StrInterner,
@@ -225,7 +225,7 @@ impl<'a> Layer<'a> {
         self.resolve(p.slot - 1)
     }
 
-    // How many far strings precede s. Proved is only that there are so many: `recall` tests what stands there. Bisected by hand:
+    // How many far strings precede s. Proved is only that there are no fewer far strings: `recall` tests what stands there. Bisected by hand:
     // `partition_point` wants a test of any word, and only a word of the row has a string.
     pub fn far_place(&self, s: &[u8]) -> usize
         requires { 0 < self.now.st.now.slots }

@@ -16,7 +16,7 @@ pub fn level_below(tape: &[u8], at: usize, level: u8) -> bool
     tape[at + 2] < level
 }
 
-// The caller has a range's place and length, and no run.
+// A range's place and length; a run of them would be made for this one call.
 pub fn levels_below(tape: &[u8], at: usize, count: usize, level: u8) -> bool
     requires { at + 37 * count ≤ length tape.now }
     ensures { result ≡ all (below level) (records_at segment_codec tape.now at count) }

@@ -1,5 +1,5 @@
-// Document 01 sections 3 and 7: what is asked of a book. Each entry tests 1 to 7 first and is refused by their number; a lookup
-// without an answer says none. No entry has a `requires`; specs/ says for each answer which values of the model it is.
+// Document 01 sections 3 and 7: what is asked of a book. Each entry tests 1 to 7 first; a lookup
+// without an answer is `None`. No entry has a `requires`; specs/ says for each answer which values of the model it is.
 #![tactic(auto)]
 
 ghost use Rattle.std.specs.Prelude.{◌≡◌, ◌≤◌, ◌<◌, ◌^◌};
@@ -46,8 +46,8 @@ pub fn node_at_source(tape: &[u8], bytes: &[u8], offset: u32) -> Result<Option<u
     Ok(bounds::node_at_source(tape, nodes, offset))
 }
 
-// For segments the same below: each is two questions to the store, by methods of that pool. One function for both would take the methods' answers,
-// and so would have to ask for a place before it knows that there is one.
+// For segments the same below: each is two questions to the store, by methods of that pool. One function for both would take the second as a closure,
+// with a clause for what it asks and one for what it tells.
 fn contents_in(st: store::Store, start: u32, len: u32) -> Option<RangeAt>
     requires { st.layers ≤ 32 }
     ensures { result ≡ range_if (range_in st.contents st.layers st.totals.contents start len) (content_place st start) len }

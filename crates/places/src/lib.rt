@@ -1,8 +1,8 @@
 // Where the records of a tape stand, document 01 section 4: `places_of` walks the tape once, over every layer (33 too, since 2
 // comes before 3), the four lists and the end, and says whether the frame holds: 1 at the head, 10 at the end and nothing behind
 // it, a layer at least, and a byte buffer as long as the records say. No tape is refused by a `requires` and no sum overflows:
-// counts are at most the tape's bytes, and string bytes are known to be over once they pass the byte buffer. `next_layer` walks
-// the layers again. The shapes of the records are left to whoever reads them.
+// counts are at most the tape's bytes, and string bytes are known to be over once they pass the byte buffer. `next_layer` reads
+// a layer again, for those who walk them. The shapes of the records are left to whoever reads them.
 #![tactic(auto)]
 
 ghost use Rattle.std.specs.Prelude.{◌≡◌, ◌+◌, ◌*◌, ◌^◌, ◌≤◌, ◌<◌, max, length, drop};

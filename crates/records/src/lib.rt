@@ -18,8 +18,8 @@ ghost use Rattle.records.specs.Uses.{use_number, format_uses, gaiji_uses, image_
 ghost use Rattle.records.specs.Shapes.{segment_head, node_head};
 ghost use Rattle.records.specs.Sizes.{content_size, segment_size, node_size, pair_size, diagnostic_size};
 
-// The numbers of kinds, tags and classes stand here by name, once for all crates. They are bytes of a tape, which may hold any other as well: an enum
-// of them would have to be asked for at each byte before it could be matched.
+// The numbers of kinds, tags and classes that are asked for by name; the tables of uses and shapes below list them as document 01 does. They are bytes
+// of a tape, which may hold any other as well: an enum of them would have to be asked for at each byte before it could be matched.
 
 // Kinds of bodies.
 pub const TEXT: u8 = 0;

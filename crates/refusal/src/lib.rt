@@ -44,7 +44,7 @@ pub enum Refusal {
     CutInCharacter = 16,
     // reading has nodes, old book 32 layers
     LayersFull = 17,
-    // result passes a limit of 3 or has over 3583 new strings, a result buffer is too short, or under 16384 work words are lent
+    // the result passes a limit of number 3 or has over 3583 new strings, a result buffer is too short, or under 16384 work words are lent
     NoRoom = 18,
 }
 

@@ -45,7 +45,7 @@ fn rank_of(words: &[u32], m: usize, id: u32) -> usize
 {
     let mut lo = 0;
     let mut hi = m;
-    // Pairs of words: std bisects by single items.
+    // The words may hold anything, and `partition_point` tells nothing of what does not rise.
     while lo < hi {
         let mid = lo + (hi - lo) / 2;
         if words[2 * mid + 1] < id {

@@ -160,7 +160,7 @@ pub fn field_at(tape: &[u8], at: usize, j: usize) -> FieldWords
     }
 }
 
-// A string is one call, a missing one none; so is a word at which no field begins.
+// A string is one call; a missing one is none, and a word at which no field begins is none.
 #[tactic(auto, using(std::proofs::lemmas::Bool::Decides::nat_tests, crate::specs::Capped::less_nothing), unfolding(crate::specs::InPlace::string_adds))]
 fn string_sizes(left: Left, usage: Use, w: u32) -> Option<Left>
     ensures { result ≡ less left (string_adds (use_number usage) w) }
@@ -230,8 +230,9 @@ fn field_sizes(w: &Walk<'_>, memo: &mut [u32], left: Left, f: FieldWords, level:
     }
 }
 
-// Section 5. A run of contents that a body of that level names, with what is pushed before it. For segments, the same below: a cycle of
-// calls that goes through the methods of a trait gets no proof, so each kind has functions of its own.
+// Section 5. A run of contents that a body of that level names, with what is pushed before it. For segments, the same below. Tried as one
+// function of a trait for both kinds: the borrow checker does not cover a cycle of calls that leads back through a trait's method. By a const
+// parameter each clause would be a choice between the definitions of both kinds.
 #[cycle(tree_sizes)]
 fn content_run_sizes(
     w: &Walk<'_>,

@@ -61,7 +61,7 @@ impl InternStats {
         self.allocs += 1;
     }
 
-    // The table was doubled so often before the call probed it: once or not.
+    // So often the table was doubled before the call probed it: once, or not at all.
     pub fn count_resizes(&mut self, n: u64)
         requires { self.old.resizes + n < 2 ^ 64 }
         ensures { self.new ≡ plus_resizes self.old n }
@@ -77,8 +77,8 @@ impl InternStats {
         self.probe_steps += n;
     }
 
-    // ---- a call, by the way it ends. That no count is above that of the calls is asked for and is no field's fact: between two of the methods above
-    // it does not hold.
+    // ---- a call, by the way it ends. That no count is above that of the calls is asked for and is no field's fact: each of the
+    // methods above would have to ask for a call before it, to keep it.
 
     pub fn cache_hit(mut self) -> InternStats
         requires { Counted self × (self.calls < 2 ^ 32) }

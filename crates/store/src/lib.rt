@@ -27,8 +27,8 @@ pub struct Store {
     pub totals: Totals,
 }
 
-// Where layer i of a pool begins; past the last layer, where the pool ends. Of one pool's starts the first so many count, as specs/Pools has it: of a
-// slice of them each law of the store would be needed twice.
+// Where layer i of a pool begins; past the last layer, where the pool ends. The starts come with how many of them count, as
+// specs/Pools has them: for a slice that is cut to as many, each law there would be needed of the slice and of the store.
 #[tactic(auto, using(std::proofs::lemmas::Bool::Decides::nat_tests))]
 fn start_or(starts: &[u32; 32], layers: usize, total: u32, i: usize) -> u32
     requires { layers ≤ 32 }
@@ -128,7 +128,8 @@ pub fn store_of(tape: &[u8], layers: usize) -> Store
 // What is asked of a store. That it has at most 32 layers is asked for and is no field's fact: `store_at` is the store of any tape, and would have to
 // say what that of a tape with more of them is.
 impl Store {
-    // Where layer k begins among the strings; past the last layer, where they end. For contents and segments, the same.
+    // Where layer k begins among the strings; past the last layer, where they end. For contents and segments, the same:
+    // each hands on its own pool's fields.
     pub fn string_start(&self, k: usize) -> u32
         requires { self.now.layers ≤ 32 }
         ensures { result ≡ string_start self.now k }

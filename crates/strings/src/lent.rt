@@ -10,7 +10,7 @@ ghost use Rattle.strings.specs.Shown.{Resolvable, shown_in};
 
 use store::Store;
 
-// `old` are the bytes of the strings of all layers but the last, `new` those of the last layer's; `index` is what `index_strings` has left.
+// `old` are the bytes of the strings of all layers but the last, `new` those of the last layer; `index` is what `index_strings` has left.
 #[derive(Clone, Copy)]
 pub struct Strings<'a> {
     pub tape: &'a [u8],

@@ -21,7 +21,7 @@ use store::Store;
 // The word for a start that does not fit one.
 const NOT_STORED: u32 = u32::MAX;
 
-// Section 4. 3: string length.
+// Section 4, command 3: how long a string is.
 pub fn string_length(tape: &[u8], st: &Store, id: u32) -> usize
     requires of_tape { OfTape tape.now st.now }
     requires id_lt_strings { id < st.now.totals.strings }
@@ -40,8 +40,8 @@ fn run_end(st: &Store, i: u32, to: u32) -> u32
     to.min(st.string_start(st.string_layer(i) + 1))
 }
 
-// The start of string `next`, from that of string i of the same layer. Tape, store and room are named one by one here: who asks where a string starts
-// has them in a struct of his own (`Strings`, a book, the walk of a graft), and asks once.
+// The start of string `next`, from that of string i of the same layer. Tape, store and room are named one by one, here and below: those who ask where a
+// string starts have them at hand in another form (`Strings`, a book, the walk of a graft, two variables), and ask once.
 fn start_after(tape: &[u8], st: &Store, room: usize, i: u32, next: u32, start: usize) -> usize
     requires readable { Readable tape.now st.now room }
     requires in_layer { InLayer st.now i next }

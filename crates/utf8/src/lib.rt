@@ -1,7 +1,7 @@
 // UTF-8 by RFC 3629, for document 01's returned numbers 2 (a text is not UTF-8), 8 and 16 (a place inside a character): a walk by
 // characters. specs/Skips.antt: runs of ASCII, and of three bytes, are skipped together. specs/Blocks.antt: 64 bytes are
-// judged together by their neighbours. The walks below step by what they have passed, one byte to 64, so they are `while` loops. They look back at
-// what they have passed too, so the text goes whole, with a place in it, and not as the slice of what is left.
+// judged together by their neighbours. The walks below end where they stop, and the next goes on from there, so they are `while` loops. Blocks
+// are judged by two bytes before them too, so the text goes whole, with a place in it, and not as the slice of what is left.
 #![tactic(auto)]
 
 ghost use Rattle.std.specs.Prelude.{◌≡◌, Some, ◌&&◌, ◌+◌, ◌≤◌, ◌<◌, length, get_or, ltb};

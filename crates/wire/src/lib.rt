@@ -7,7 +7,7 @@ ghost use Rattle.std.specs.Prelude.{◌≡◌, ◌∷◌, [], ◌+◌, ◌-◌, 
 ghost use Rattle.model.specs.Bytes.{byte_at, word_at, word_bytes, part, zeros};
 ghost use Rattle.wire.specs.Overwrite.{overwrite};
 
-// A function of numbers alone: its needs are arithmetic.
+// Of numbers alone.
 pub fn word(a: u8, b: u8, c: u8, d: u8) -> u32
     ensures { result ≡ a + 256 * b + 65536 * c + 16777216 * d }
 {

@@ -8,14 +8,14 @@ pub returns-in_err-check_book : goal.returns-in_err-check_book
 returns-in_err-check_book c =
     rw (handed_on _ c.from_residual.ensures.1) (map_refused _ (copy_refused _ _ _ _ (was_refused _ _ c.in_err-check_book.ensures)))
 
-pub returns-then-taperoom-tape : goal.returns-then-taperoom-tape
-returns-then-taperoom-tape c =
-    map_refused _ (copy_no_tape _ _ _ _ (record { byte = λ i h. omega (arith, c.type_inv.tape i) }) (passed_whole c.in_ok-check_book.ensures) c.if-taperoom-tape.true)
+pub returns-then-tape_room-tape : goal.returns-then-tape_room-tape
+returns-then-tape_room-tape c =
+    map_refused _ (copy_no_tape _ _ _ _ (record { byte = λ i h. omega (arith, c.type_inv.tape i) }) (passed_whole c.in_ok-check_book.ensures) c.if-tape_room-tape.true)
 
-pub returns-then-bytesroom-bytes : goal.returns-then-bytesroom-bytes
-returns-then-bytesroom-bytes c =
-    map_refused _ (copy_no_bytes _ _ _ _ (record { byte = λ i h. omega (arith, c.type_inv.tape i) }) (passed_whole c.in_ok-check_book.ensures) c.if-bytesroom-bytes.true)
+pub returns-then-bytes_room-bytes : goal.returns-then-bytes_room-bytes
+returns-then-bytes_room-bytes c =
+    map_refused _ (copy_no_bytes _ _ _ _ (record { byte = λ i h. omega (arith, c.type_inv.tape i) }) (passed_whole c.in_ok-check_book.ensures) c.if-bytes_room-bytes.true)
 
 pub returns : goal.returns
 returns c =
-    map_accepted _ (copy_there _ _ _ _ (record { byte = λ i h. omega (arith, c.type_inv.tape i) }) (passed_whole c.in_ok-check_book.ensures) c.if-taperoom-tape.false c.if-bytesroom-bytes.false)
+    map_accepted _ (copy_there _ _ _ _ (record { byte = λ i h. omega (arith, c.type_inv.tape i) }) (passed_whole c.in_ok-check_book.ensures) c.if-tape_room-tape.false c.if-bytes_room-bytes.false)
