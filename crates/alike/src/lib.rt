@@ -6,7 +6,8 @@ ghost use Rattle.model.specs.Tape.{record_at, content_codec};
 ghost use Rattle.records.specs.Values.{body_at};
 ghost use Rattle.alike.specs.Alike.{Alike};
 
-// Are these two contents the same?
+// Are these two contents the same? For segments, the same below, by their bodies: a function of both would take the size, where in a record it begins,
+// and the test.
 fn same_content(tape: &[u8], a: usize, b: usize) -> bool
     requires { (a + 10 ≤ length tape.now) × (b + 10 ≤ length tape.now) }
     ensures { result ≡ true → record_at content_codec tape.now b ≡ record_at content_codec tape.now a }

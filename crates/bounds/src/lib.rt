@@ -41,6 +41,7 @@ pub fn container_ok(c: records::ContainerPair, size: usize) -> bool
     c.opening < c.closing && (c.closing as usize) < size
 }
 
+// Each is one line over its kind of record, with a test of its own.
 pub fn pairs_placed(tape: &[u8], pairs: places::Run, size: usize) -> bool
     requires { pairs.at + 18 * pairs.count ≤ length tape.now }
     ensures { result ≡ all (pair_ok size) (records_at pair_codec tape.now pairs.at pairs.count) }

@@ -20,22 +20,6 @@ use store::Store;
 // The id of a missing string.
 pub const NO_STRING: u32 = 4294967295;
 
-// Number 4. A word by its use: an id, an id that may be missing, the start of a range whose length is the next word. The store
-// is lent, here and below: it is 408 bytes, and copied for each word it costs more than the test.
-#[tactic(auto, using(std::proofs::lemmas::Bool::Decides::nat_tests), unfolding(crate::specs::Tests::used_well))]
-fn used_well(st: &Store, usage: Use, w: u32, next: u32) -> bool
-    requires { st.now.layers ≤ 32 }
-    ensures { result ≡ used_well st.now (use_number usage) w next }
-{
-    match usage {
-        Use::Str => st.has_string(w),
-        Use::OptStr => w == NO_STRING || st.has_string(w),
-        Use::Contents => st.has_contents(w, next),
-        Use::Segments => st.has_segments(w, next),
-        Use::Unused | Use::ContentsLen | Use::SegmentsLen => true,
-    }
-}
-
 // The word behind word i, 0 behind the last.
 pub fn next_word(tape: &[u8], at: usize, i: usize) -> u32
     requires { (at + 34 ≤ length tape.now) × (i < 6) }
@@ -47,119 +31,162 @@ pub fn next_word(tape: &[u8], at: usize, i: usize) -> u32
     records::body_word(tape, at, i + 1)
 }
 
-// Number 4. Word i of the body at `at`, which has that use.
-fn word_ok(tape: &[u8], st: &Store, usage: Use, at: usize, i: usize) -> bool
-    requires { (at + 34 ≤ length tape.now) × (i < 6) × (st.now.layers ≤ 32) }
-    ensures { result ≡ used_well st.now (use_number usage) (word_of (body_at tape.now at) i) (word_of (body_at tape.now at) (i + 1)) }
-{
-    let w = records::body_word(tape, at, i);
-    let next = next_word(tape, at, i);
-    used_well(st, usage, w, next)
+// A tape and its store, both lent: a store is 408 bytes, and copied for each word it costs more than the test.
+#[derive(Clone, Copy)]
+struct Pools<'a> {
+    tape: &'a [u8],
+    st: &'a Store,
+    ghost few: { st.now.layers ≤ 32 },
 }
 
-// Number 4 of a Ruby: two ranges of contents, its base and its reading.
-#[tactic(auto, using(std::proofs::lemmas::Bool::Decides::nat_tests), unfolding(crate::specs::Tests::two_runs))]
-fn two_runs_ok(tape: &[u8], st: &Store, at: usize) -> bool
-    requires { (at + 34 ≤ length tape.now) × (st.now.layers ≤ 32) }
-    ensures { result ≡ two_runs st.now.contents st.now.layers st.now.totals.contents (body_at tape.now at) }
-{
-    let base = records::body_word(tape, at, 0);
-    let reading = records::body_word(tape, at, 2);
-    st.has_contents(base, records::body_word(tape, at, 1))
-        && st.has_contents(reading, records::body_word(tape, at, 3))
-}
-
-// Number 4. Every field of a body: the words up to the first that has no use. Most bodies of a book are Rubies, and are tested
-// without asking for uses.
-fn body_ids_ok(tape: &[u8], st: &Store, at: usize) -> bool
-    requires { (at + 34 ≤ length tape.now) × (st.now.layers ≤ 32) }
-    ensures { result ≡ body_in st.now (body_at tape.now at) }
-{
-    if tape[at] == RUBY {
-        return two_runs_ok(tape, st, at);
-    }
-    let uses = records::uses_of(tape[at], tape[at + 1]);
-    for i in 0..6 {
-        if let Use::Unused = uses[i] {
-            return true;
-        }
-        if !word_ok(tape, st, uses[i], at, i) {
-            return false;
+impl Pools<'_> {
+    // Number 4. A word by its use: an id, an id that may be missing, the start of a range whose length is the next word.
+    #[tactic(auto, using(std::proofs::lemmas::Bool::Decides::nat_tests), unfolding(crate::specs::Tests::used_well))]
+    fn used_well(&self, usage: Use, w: u32, next: u32) -> bool
+        ensures { result ≡ used_well self.now.st.now (use_number usage) w next }
+    {
+        match usage {
+            Use::Str => self.st.has_string(w),
+            Use::OptStr => w == NO_STRING || self.st.has_string(w),
+            Use::Contents => self.st.has_contents(w, next),
+            Use::Segments => self.st.has_segments(w, next),
+            Use::Unused | Use::ContentsLen | Use::SegmentsLen => true,
         }
     }
-    true
-}
 
-// Number 4. Plain names a string, Segments a range of segments.
-fn content_ids_ok(tape: &[u8], st: &Store, at: usize) -> bool
-    requires { (at + 10 ≤ length tape.now) × (st.now.layers ≤ 32) }
-    ensures { result ≡ content_in st.now (record_at content_codec tape.now at) }
-{
-    let c = records::content_at(tape, at);
-    if c.is_plain() {
-        return st.has_string(c.first);
+    // Number 4. Word i of the body at `at`, which has that use.
+    fn word_ok(&self, usage: Use, at: usize, i: usize) -> bool
+        requires { (at + 34 ≤ length self.now.tape.now) × (i < 6) }
+        ensures { result ≡ used_well self.now.st.now (use_number usage) (word_of (body_at self.now.tape.now at) i) (word_of (body_at self.now.tape.now at) (i + 1)) }
+    {
+        let w = records::body_word(self.tape, at, i);
+        let next = next_word(self.tape, at, i);
+        self.used_well(usage, w, next)
     }
-    st.has_segments(c.first, c.second)
-}
 
-// Number 4 of a run; for segments and nodes, the same.
-pub fn contents_ids_ok(tape: &[u8], st: &Store, run: Run) -> bool
-    requires { (run.at + 10 * run.count ≤ length tape.now) × (st.now.layers ≤ 32) }
-    ensures { result ≡ all (content_in st.now) (records_at content_codec tape.now run.at run.count) }
-{
-    (0..run.count).all(|i| content_ids_ok(tape, st, run.at + 10 * i))
-}
+    // Number 4 of a Ruby: two ranges of contents, its base and its reading.
+    #[tactic(auto, using(std::proofs::lemmas::Bool::Decides::nat_tests), unfolding(crate::specs::Tests::two_runs))]
+    fn two_runs_ok(&self, at: usize) -> bool
+        requires { at + 34 ≤ length self.now.tape.now }
+        ensures { result ≡ two_runs self.now.st.now.contents self.now.st.now.layers self.now.st.now.totals.contents (body_at self.now.tape.now at) }
+    {
+        let base = records::body_word(self.tape, at, 0);
+        let reading = records::body_word(self.tape, at, 2);
+        self.st
+            .has_contents(base, records::body_word(self.tape, at, 1))
+            && self
+                .st
+                .has_contents(reading, records::body_word(self.tape, at, 3))
+    }
 
-fn segment_ids_ok(tape: &[u8], st: &Store, at: usize) -> bool
-    requires { (at + 37 ≤ length tape.now) × (st.now.layers ≤ 32) }
-    ensures { result ≡ segment_in st.now (record_at segment_codec tape.now at) }
-{
-    body_ids_ok(tape, st, at + 3)
-}
-
-pub fn segments_ids_ok(tape: &[u8], st: &Store, run: Run) -> bool
-    requires { (run.at + 37 * run.count ≤ length tape.now) × (st.now.layers ≤ 32) }
-    ensures { result ≡ all (segment_in st.now) (records_at segment_codec tape.now run.at run.count) }
-{
-    (0..run.count).all(|i| segment_ids_ok(tape, st, run.at + 37 * i))
-}
-
-// Number 4. A node of class 2 or 3 has no words.
-fn node_ids_ok(tape: &[u8], st: &Store, at: usize) -> bool
-    requires { (at + 49 ≤ length tape.now) × (st.now.layers ≤ 32) }
-    ensures { result ≡ node_in st.now (record_at node_codec tape.now at) }
-{
-    !records::has_words(tape, at) || body_ids_ok(tape, st, at + 15)
-}
-
-pub fn nodes_ids_ok(tape: &[u8], st: &Store, run: Run) -> bool
-    requires { (run.at + 49 * run.count ≤ length tape.now) × (st.now.layers ≤ 32) }
-    ensures { result ≡ all (node_in st.now) (records_at node_codec tape.now run.at run.count) }
-{
-    (0..run.count).all(|i| node_ids_ok(tape, st, run.at + 49 * i))
-}
-
-// Number 4 of one layer.
-fn layer_ids_ok(tape: &[u8], st: &Store, l: places::LayerRuns) -> bool
-    requires { (l.contents.at + 10 * l.contents.count ≤ length tape.now) × (l.segments.at + 37 * l.segments.count ≤ length tape.now) × (st.now.layers ≤ 32) }
-    ensures { result ≡ runs_in tape.now st.now l }
-{
-    contents_ids_ok(tape, st, l.contents) && segments_ids_ok(tape, st, l.segments)
-}
-
-fn layers_ids_ok(tape: &[u8], st: &Store, layers: usize) -> bool
-    requires { LayersFit tape.now st.now layers }
-    ensures { result ≡ layers_in tape.now st.now }
-{
-    let mut at = 9;
-    for _layer in 0..layers {
-        let l = places::next_layer(tape, at);
-        if !layer_ids_ok(tape, st, l) {
-            return false;
+    // Number 4. Every field of a body: the words up to the first that has no use. Most bodies of a book are Rubies, and are tested
+    // without asking for uses.
+    fn body_ids_ok(&self, at: usize) -> bool
+        requires { at + 34 ≤ length self.now.tape.now }
+        ensures { result ≡ body_in self.now.st.now (body_at self.now.tape.now at) }
+    {
+        if self.tape[at] == RUBY {
+            return self.two_runs_ok(at);
         }
-        at = l.end;
+        let uses = records::uses_of(self.tape[at], self.tape[at + 1]);
+        for i in 0..6 {
+            if let Use::Unused = uses[i] {
+                return true;
+            }
+            if !self.word_ok(uses[i], at, i) {
+                return false;
+            }
+        }
+        true
     }
-    true
+
+    // Number 4. Plain names a string, Segments a range of segments.
+    fn content_ids_ok(&self, at: usize) -> bool
+        requires { at + 10 ≤ length self.now.tape.now }
+        ensures { result ≡ content_in self.now.st.now (record_at content_codec self.now.tape.now at) }
+    {
+        let c = records::content_at(self.tape, at);
+        if c.is_plain() {
+            return self.st.has_string(c.first);
+        }
+        self.st.has_segments(c.first, c.second)
+    }
+
+    // Number 4 of a run; for segments and nodes, the same, each by its own test of one: a trait of the three would say each test twice, there and
+    // here. By `for`: a closure is not told what the ghost field says.
+    fn contents_ids_ok(&self, run: Run) -> bool
+        requires { run.at + 10 * run.count ≤ length self.now.tape.now }
+        ensures { result ≡ all (content_in self.now.st.now) (records_at content_codec self.now.tape.now run.at run.count) }
+    {
+        for i in 0..run.count {
+            if !self.content_ids_ok(run.at + 10 * i) {
+                return false;
+            }
+        }
+        true
+    }
+
+    fn segments_ids_ok(&self, run: Run) -> bool
+        requires { run.at + 37 * run.count ≤ length self.now.tape.now }
+        ensures { result ≡ all (segment_in self.now.st.now) (records_at segment_codec self.now.tape.now run.at run.count) }
+    {
+        for i in 0..run.count {
+            if !self.segment_ids_ok(run.at + 37 * i) {
+                return false;
+            }
+        }
+        true
+    }
+
+    fn segment_ids_ok(&self, at: usize) -> bool
+        requires { at + 37 ≤ length self.now.tape.now }
+        ensures { result ≡ segment_in self.now.st.now (record_at segment_codec self.now.tape.now at) }
+    {
+        self.body_ids_ok(at + 3)
+    }
+
+    // Number 4. A node of class 2 or 3 has no words.
+    fn node_ids_ok(&self, at: usize) -> bool
+        requires { at + 49 ≤ length self.now.tape.now }
+        ensures { result ≡ node_in self.now.st.now (record_at node_codec self.now.tape.now at) }
+    {
+        !records::has_words(self.tape, at) || self.body_ids_ok(at + 15)
+    }
+
+    fn nodes_ids_ok(&self, run: Run) -> bool
+        requires { run.at + 49 * run.count ≤ length self.now.tape.now }
+        ensures { result ≡ all (node_in self.now.st.now) (records_at node_codec self.now.tape.now run.at run.count) }
+    {
+        for i in 0..run.count {
+            if !self.node_ids_ok(run.at + 49 * i) {
+                return false;
+            }
+        }
+        true
+    }
+
+    // Number 4 of one layer.
+    fn layer_ids_ok(&self, l: places::LayerRuns) -> bool
+        requires { (l.contents.at + 10 * l.contents.count ≤ length self.now.tape.now) × (l.segments.at + 37 * l.segments.count ≤ length self.now.tape.now) }
+        ensures { result ≡ runs_in self.now.tape.now self.now.st.now l }
+    {
+        self.contents_ids_ok(l.contents) && self.segments_ids_ok(l.segments)
+    }
+
+    fn layers_ids_ok(&self, layers: usize) -> bool
+        requires { LayersFit self.now.tape.now self.now.st.now layers }
+        ensures { result ≡ layers_in self.now.tape.now self.now.st.now }
+    {
+        let mut at = 9;
+        for _layer in 0..layers {
+            let l = places::next_layer(self.tape, at);
+            if !self.layer_ids_ok(l) {
+                return false;
+            }
+            at = l.end;
+        }
+        true
+    }
 }
 
 // Number 4, whole: of the tape with these places and this store, whatever the bytes of its texts are.
@@ -167,5 +194,6 @@ pub fn ids_ok(tape: &[u8], st: Store, p: places::Places) -> bool
     requires { IdsFit tape.now st p }
     ensures { (d : List ℕ) → result ≡ ids_ok (book_at tape.now (places tape.now) d) }
 {
-    layers_ids_ok(tape, &st, p.layers) && nodes_ids_ok(tape, &st, p.nodes)
+    let pools = Pools { tape, st: &st };
+    pools.layers_ids_ok(p.layers) && pools.nodes_ids_ok(p.nodes)
 }

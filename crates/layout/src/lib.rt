@@ -18,7 +18,8 @@ pub fn layer_shaped(tape: &[u8], l: places::LayerRuns) -> bool
         && records::all_shaped::<records::Segment>(tape, l.segments.at, l.segments.count)
 }
 
-// Section 4. The shapes of every layer.
+// Section 4. The shapes of every layer. Here and in four crates more the layers are walked by where each says that the next begins: each walk's
+// invariant names that place, and an iterator of layers would have to hand it on.
 pub fn layers_shaped(tape: &[u8], layers: usize) -> bool
     requires { LayersFit tape.now layers }
     ensures { result ≡ layers_shape tape.now (places tape.now).layers }

@@ -6,7 +6,7 @@ pub layers_ids_ok-requires : goal.layers_ids_ok-requires
 layers_ids_ok-requires c = ids_layers c.requires
 
 pub nodes_ids_ok-requires : goal.nodes_ids_ok-requires
-nodes_ids_ok-requires c = (ids_nodes c.requires, c.requires.few)
+nodes_ids_ok-requires c = ids_nodes c.requires
 
 pub returns-then-layers_ids_ok : goal.returns-then-layers_ids_ok
 returns-then-layers_ids_ok c = ids_answer c.requires c.layers_ids_ok.ensures c.if-layers_ids_ok.true c.nodes_ids_ok.ensures

@@ -1,7 +1,7 @@
 use Rattle.std.proofs.Common.{sym, ap, ◌∙◌}
 use Rattle.std.proofs.Math.Bool.{not}
 use Rattle.ids.specs.Tests.{node_bare, node_answer_lem}
-use Rattle.ids.proofs.node_ids_ok.Goals as goal
+use Rattle.ids.proofs.Pools.node_ids_ok.Goals as goal
 
 pub returns-then-not-has_words : goal.returns-then-not-has_words
 returns-then-not-has_words c =

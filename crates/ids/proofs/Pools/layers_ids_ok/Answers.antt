@@ -1,5 +1,5 @@
 use Rattle.ids.specs.Whole.{walked_none, walked_inside, walked_fits, walked_failed, walked_more, walked_all}
-use Rattle.ids.proofs.layers_ids_ok.Goals as goal
+use Rattle.ids.proofs.Pools.layers_ids_ok.Goals as goal
 
 pub loop-layer-init : goal.loop-layer-init
 loop-layer-init c = walked_none _ _
@@ -8,7 +8,7 @@ pub next_layer-l-requires : goal.next_layer-l-requires
 next_layer-l-requires c = walked_inside c.loop-layer.invariant c.requires c.loop-layer-test.true
 
 pub layer_ids_ok-requires : goal.layer_ids_ok-requires
-layer_ids_ok-requires c = walked_fits c.loop-layer.invariant c.requires c.loop-layer-test.true c.next_layer-l.ensures
+layer_ids_ok-requires c = let w = walked_fits c.loop-layer.invariant c.requires c.loop-layer-test.true c.next_layer-l.ensures in (w.0, w.1)
 
 pub returns-then-not-layer_ids_ok : goal.returns-then-not-layer_ids_ok
 returns-then-not-layer_ids_ok c =

@@ -1,5 +1,5 @@
 use Rattle.ids.specs.Tests.{segment_answer}
-use Rattle.ids.proofs.segment_ids_ok.Goals as goal
+use Rattle.ids.proofs.Pools.segment_ids_ok.Goals as goal
 
 pub returns : goal.returns
 returns c =

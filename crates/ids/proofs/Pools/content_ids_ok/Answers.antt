@@ -1,7 +1,7 @@
 use Rattle.std.proofs.Common.{sym, ap, ◌∙◌}
 use Rattle.ids.specs.Tests.{content_in, content_plain, content_segments_lem}
 use Rattle.records.specs.Values.{content_of}
-use Rattle.ids.proofs.content_ids_ok.Goals as goal
+use Rattle.ids.proofs.Pools.content_ids_ok.Goals as goal
 
 pub returns-then-is_plain : goal.returns-then-is_plain
 returns-then-is_plain c =
