@@ -14,7 +14,7 @@ ghost use Rattle.splice.specs.Parts.{as_in};
 ghost use Rattle.splice.specs.declared.Part.TheVariants.{Reading};
 
 fn node_as_in(n: records::SourceNode, w: splice::Window, part: splice::Part) -> records::SourceNode
-    ensures { (record_bytes node_codec (source_node_of result) ≡ record_bytes node_codec (as_in node_located (window_value w) part (source_node_of n))) × (result.body.words ≡ n.body.words) }
+    ensures { record_bytes node_codec (source_node_of result) ≡ record_bytes node_codec (as_in node_located (window_value w) part (source_node_of n)) }
 {
     records::SourceNode {
         start: splice::source_in(n.start, w, part),
@@ -22,13 +22,6 @@ fn node_as_in(n: records::SourceNode, w: splice::Window, part: splice::Part) -> 
         offset: splice::normalized_in(n.offset, w, part),
         ..n
     }
-}
-
-fn put_node(out: &mut [u8], at: usize, n: records::SourceNode)
-    requires { (at + 49 ≤ length out.old) × (length n.body.words ≡ 6) }
-    ensures { out.new ≡ overwrite out.old at (record_bytes node_codec (source_node_of n)) }
-{
-    put_records::put_node(out, at, n);
 }
 
 pub struct Nodes;
@@ -56,7 +49,7 @@ impl splice::Spliced for Nodes {
         out: &mut [u8],
         to: usize,
     ) {
-        put_node(out, to, node_as_in(records::node_at(tape, at), w, part));
+        put_records::put_node(out, to, node_as_in(records::node_at(tape, at), w, part));
     }
 
     ghost kind = { node_kind };
@@ -68,7 +61,7 @@ fn place_node(out: &mut [u8], at: usize, w: splice::Window)
     ensures { out.new ≡ overwrite out.old at (record_bytes node_codec (as_in node_located (window_value w) Reading (record_at node_codec out.old at))) }
 {
     let n = records::node_at(out, at);
-    put_node(out, at, node_as_in(n, w, splice::Part::Reading));
+    put_records::put_node(out, at, node_as_in(n, w, splice::Part::Reading));
 }
 
 // The nodes of the reading, which are `count` from `at` on: the caller has two sums, and no run of them.
