@@ -9,7 +9,7 @@ ghost use Rattle.model.specs.Merge.{node_located};
 ghost use Rattle.wire.specs.Overwrite.{overwrite};
 ghost use Rattle.records.specs.Values.{source_node_of};
 ghost use Rattle.splice.specs.Window.{window_value};
-ghost use Rattle.splice.specs.Kinds.{node_kind};
+ghost use Rattle.splice.specs.Kinds.{node_kind, node_extends};
 ghost use Rattle.splice.specs.Parts.{as_in};
 ghost use Rattle.splice.specs.declared.Part.TheVariants.{Reading};
 
@@ -17,9 +17,9 @@ fn node_as_in(n: records::SourceNode, w: splice::Window, part: splice::Part) -> 
     ensures { record_bytes node_codec (source_node_of result) ≡ record_bytes node_codec (as_in node_located (window_value w) part (source_node_of n)) }
 {
     records::SourceNode {
-        start: splice::source_in(n.start, w, part),
-        end: splice::source_in(n.end, w, part),
-        offset: splice::normalized_in(n.offset, w, part),
+        start: w.source_in(n.start, part),
+        end: w.source_in(n.end, part),
+        offset: w.normalized_in(n.offset, part),
         ..n
     }
 }
@@ -37,8 +37,17 @@ impl splice::Spliced for Nodes {
 
     ghost located = { node_located };
 
-    fn is_in(tape: &[u8], at: usize, w: splice::Window, part: splice::Part) -> bool {
-        splice::node_in(tape, at, w, part)
+    const EXTENT: splice::Extent = splice::Extent {
+        first: 3,
+        last: 7,
+        past: 0,
+    };
+
+    ghost EXTENT = { record { first = 3; last = 7; past = 0 } };
+
+    #[tactic(auto, unfolding(model::specs::Merge::node_located))]
+    fn region(w: splice::Window) -> span::Span {
+        w.source
     }
 
     fn put(
@@ -53,6 +62,8 @@ impl splice::Spliced for Nodes {
     }
 
     ghost kind = { node_kind };
+
+    ghost extends = { node_extends };
 }
 
 // A node of the reading, moved where it stands.
