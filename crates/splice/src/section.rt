@@ -3,7 +3,7 @@
 
 ghost use Rattle.std.specs.Prelude.{◌+◌, ◌*◌, ◌≤◌, length};
 
-use crate::{Part, Spliced, Window};
+use crate::{Part, Spliced, Window, is_in};
 use places::Run;
 use std::marker::PhantomData;
 
@@ -41,10 +41,12 @@ impl<'a, K: Spliced> Section<'a, K> {
     {
         let mut n = 0;
         for i in 0..self.run.count {
-            n += usize::from(K::is_in(self.tape, self.run.at + K::SIZE * i, w, part));
+            n += usize::from(is_in::<K>(self.tape, self.run.at + K::SIZE * i, w, part));
         }
         n
     }
+
+    // The parts by name, as the model has them: `kept_before`, `kept_behind`, the reading placed. Who calls needs no `part_of`.
 
     pub fn count_before(&self, w: Window) -> usize
         ensures { result ≡ length (kept_before K.located (window_value w) (records_at K.codec self.now.tape.now self.now.run.at self.now.run.count)) }
@@ -58,7 +60,7 @@ impl<'a, K: Spliced> Section<'a, K> {
         self.count_part(w, Part::Behind)
     }
 
-    // The records that are in a part, written as they stand there.
+    // The records that are in a part, written as they stand there. `next` is counted by hand: it moves only past what was written.
     fn put_part(&self, w: Window, part: Part, out: &mut [u8], to: usize)
         requires { to + K.SIZE * length (part_of K.located (window_value w) part (records_at K.codec self.now.tape.now self.now.run.at self.now.run.count)) ≤ length out.old }
         ensures { out.new ≡ overwrite out.old to (records_bytes K.codec (part_of K.located (window_value w) part (records_at K.codec self.now.tape.now self.now.run.at self.now.run.count))) }
@@ -66,7 +68,7 @@ impl<'a, K: Spliced> Section<'a, K> {
         let mut next = to;
         for i in 0..self.run.count {
             let place = self.run.at + K::SIZE * i;
-            if K::is_in(self.tape, place, w, part) {
+            if is_in::<K>(self.tape, place, w, part) {
                 K::put(self.tape, place, w, part, out, next);
                 next += K::SIZE;
             }

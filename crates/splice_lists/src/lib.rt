@@ -8,7 +8,7 @@ ghost use Rattle.model.specs.Tape.{record_bytes, pair_codec, container_codec, di
 ghost use Rattle.model.specs.Merge.{pair_located, container_located, diagnostic_located};
 ghost use Rattle.wire.specs.Overwrite.{overwrite};
 ghost use Rattle.records.specs.Values.{pair_link_of, container_pair_of, diagnostic_of};
-ghost use Rattle.splice.specs.Kinds.{pair_kind, container_kind, diagnostic_kind};
+ghost use Rattle.splice.specs.Kinds.{pair_kind, container_kind, diagnostic_kind, pair_extends, container_extends, diagnostic_extends};
 ghost use Rattle.splice.specs.Parts.{as_in};
 ghost use Rattle.splice.specs.Window.{window_value};
 ghost use Rattle.splice.specs.Written.{four_bytes};
@@ -27,6 +27,8 @@ fn put_four(out: &mut [u8], at: usize, command: u8, kind: u8, words: [u32; 4])
     wire::put_u32(out, at + 14, words[3]);
 }
 
+// A kind of record has a struct and fields of its own, so each is read, moved and written by functions of its own.
+
 // ---- pairs, `merge_pairs`
 
 fn pair_as_in(p: records::PairLink, w: splice::Window, part: splice::Part) -> records::PairLink
@@ -34,10 +36,10 @@ fn pair_as_in(p: records::PairLink, w: splice::Window, part: splice::Part) -> re
 {
     records::PairLink {
         kind: p.kind,
-        open_start: splice::source_in(p.open_start, w, part),
-        open_end: splice::source_in(p.open_end, w, part),
-        close_start: splice::source_in(p.close_start, w, part),
-        close_end: splice::source_in(p.close_end, w, part),
+        open_start: w.source_in(p.open_start, part),
+        open_end: w.source_in(p.open_end, part),
+        close_start: w.source_in(p.close_start, part),
+        close_end: w.source_in(p.close_end, part),
     }
 }
 
@@ -62,8 +64,17 @@ impl splice::Spliced for Pairs {
 
     ghost located = { pair_located };
 
-    fn is_in(tape: &[u8], at: usize, w: splice::Window, part: splice::Part) -> bool {
-        splice::pair_in(tape, at, w, part)
+    const EXTENT: splice::Extent = splice::Extent {
+        first: 2,
+        last: 14,
+        past: 0,
+    };
+
+    ghost EXTENT = { record { first = 2; last = 14; past = 0 } };
+
+    #[tactic(auto, unfolding(model::specs::Merge::pair_located))]
+    fn region(w: splice::Window) -> span::Span {
+        w.source
     }
 
     fn put(
@@ -78,6 +89,8 @@ impl splice::Spliced for Pairs {
     }
 
     ghost kind = { pair_kind };
+
+    ghost extends = { pair_extends };
 }
 
 // ---- containers, `merge_container_pairs`: in the normalized text
@@ -91,8 +104,8 @@ fn container_as_in(
 {
     records::ContainerPair {
         plain: p.plain,
-        opening: splice::normalized_in(p.opening, w, part),
-        closing: splice::normalized_in(p.closing, w, part),
+        opening: w.normalized_in(p.opening, part),
+        closing: w.normalized_in(p.closing, part),
     }
 }
 
@@ -119,8 +132,17 @@ impl splice::Spliced for Containers {
 
     ghost located = { container_located };
 
-    fn is_in(tape: &[u8], at: usize, w: splice::Window, part: splice::Part) -> bool {
-        splice::container_in(tape, at, w, part)
+    const EXTENT: splice::Extent = splice::Extent {
+        first: 5,
+        last: 9,
+        past: 1,
+    };
+
+    ghost EXTENT = { record { first = 5; last = 9; past = 1 } };
+
+    #[tactic(auto, unfolding(model::specs::Merge::container_located))]
+    fn region(w: splice::Window) -> span::Span {
+        w.normalized
     }
 
     fn put(
@@ -139,6 +161,8 @@ impl splice::Spliced for Containers {
     }
 
     ghost kind = { container_kind };
+
+    ghost extends = { container_extends };
 }
 
 // ---- diagnostics, `merge_diagnostics`
@@ -153,8 +177,8 @@ fn diagnostic_as_in(
     records::Diagnostic {
         kind: d.kind,
         rank: d.rank,
-        start: splice::source_in(d.start, w, part),
-        end: splice::source_in(d.end, w, part),
+        start: w.source_in(d.start, part),
+        end: w.source_in(d.end, part),
         plain: d.plain,
     }
 }
@@ -179,8 +203,17 @@ impl splice::Spliced for Diagnostics {
 
     ghost located = { diagnostic_located };
 
-    fn is_in(tape: &[u8], at: usize, w: splice::Window, part: splice::Part) -> bool {
-        splice::diagnostic_in(tape, at, w, part)
+    const EXTENT: splice::Extent = splice::Extent {
+        first: 6,
+        last: 10,
+        past: 0,
+    };
+
+    ghost EXTENT = { record { first = 6; last = 10; past = 0 } };
+
+    #[tactic(auto, unfolding(model::specs::Merge::diagnostic_located))]
+    fn region(w: splice::Window) -> span::Span {
+        w.source
     }
 
     fn put(
@@ -199,4 +232,6 @@ impl splice::Spliced for Diagnostics {
     }
 
     ghost kind = { diagnostic_kind };
+
+    ghost extends = { diagnostic_extends };
 }

@@ -3,9 +3,8 @@ use Rattle.std.specs.Prelude.{◌≡◌, ℕ, suc, ◌+◌, ◌*◌, ◌≤◌, 
 use Rattle.std.proofs.Math.Path.{refl, ap, ap₂}
 use Rattle.std.proofs.Common.{◌∙◌, arith, mul-zero, add-zero, mul-suc, mul-le-mul_left}
 use mathlib.Core.List.{List, [], ◌∷◌, map}
-use Rattle.model.specs.Tape.{Operand, Operand.byte, Operand.word, operand_size, value_at, Codec, operands_at, record_at, records_at, record_bytes, records_bytes, node_codec}
+use Rattle.model.specs.Tape.{Operand, Operand.byte, Operand.word, operand_size, value_at, Codec, operands_at, record_at, records_at, record_bytes, records_bytes}
 use Rattle.model.specs.Merge.{MergeWindow, Located}
-use Rattle.model.specs.Types.{SourceNode}
 use Rattle.wire.specs.Overwrite.{overwrite, get_d_behind}
 use Rattle.wire.specs.Words.{word_at_behind}
 use Rattle.splice.specs.Parts.{Kind, PutUpTo, is_in, as_in, part_of, span_in, part_reading, item_put, put_first, put_last, put_more}
@@ -49,8 +48,3 @@ module _ {A : Type 0} {c : Codec A} {l : Located A} {z : ℕ} (k : Kind c l z) (
         let s : i + 1 ≡ suc i = omega arith in
         let next : at + z * (i + 1) ≡ q + z = rw s (omega (arith, mul-suc z i)) in
         put_more k w Reading d at d at u n h (reading_room c l w d at n at z (length d) room) q refl (next ∙ p.0) p.1
-
--- a node that was read has six words
-pub six_read : (t : List ℕ) (q : ℕ) (n : SourceNode) {ws : List ℕ} → n ≡ record_at node_codec t q → ws ≡ n.body.words → length ws ≡ 6
-unfolding record_at operands_at node_codec
-six_read t q n e f = ap length f ∙ ap (λ (x : SourceNode). length x.body.words) e

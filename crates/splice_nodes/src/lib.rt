@@ -9,26 +9,19 @@ ghost use Rattle.model.specs.Merge.{node_located};
 ghost use Rattle.wire.specs.Overwrite.{overwrite};
 ghost use Rattle.records.specs.Values.{source_node_of};
 ghost use Rattle.splice.specs.Window.{window_value};
-ghost use Rattle.splice.specs.Kinds.{node_kind};
+ghost use Rattle.splice.specs.Kinds.{node_kind, node_extends};
 ghost use Rattle.splice.specs.Parts.{as_in};
 ghost use Rattle.splice.specs.declared.Part.TheVariants.{Reading};
 
 fn node_as_in(n: records::SourceNode, w: splice::Window, part: splice::Part) -> records::SourceNode
-    ensures { (record_bytes node_codec (source_node_of result) ≡ record_bytes node_codec (as_in node_located (window_value w) part (source_node_of n))) × (result.body.words ≡ n.body.words) }
+    ensures { record_bytes node_codec (source_node_of result) ≡ record_bytes node_codec (as_in node_located (window_value w) part (source_node_of n)) }
 {
     records::SourceNode {
-        start: splice::source_in(n.start, w, part),
-        end: splice::source_in(n.end, w, part),
-        offset: splice::normalized_in(n.offset, w, part),
+        start: w.source_in(n.start, part),
+        end: w.source_in(n.end, part),
+        offset: w.normalized_in(n.offset, part),
         ..n
     }
-}
-
-fn put_node(out: &mut [u8], at: usize, n: records::SourceNode)
-    requires { (at + 49 ≤ length out.old) × (length n.body.words ≡ 6) }
-    ensures { out.new ≡ overwrite out.old at (record_bytes node_codec (source_node_of n)) }
-{
-    put_records::put_node(out, at, n);
 }
 
 pub struct Nodes;
@@ -44,8 +37,17 @@ impl splice::Spliced for Nodes {
 
     ghost located = { node_located };
 
-    fn is_in(tape: &[u8], at: usize, w: splice::Window, part: splice::Part) -> bool {
-        splice::node_in(tape, at, w, part)
+    const EXTENT: splice::Extent = splice::Extent {
+        first: 3,
+        last: 7,
+        past: 0,
+    };
+
+    ghost EXTENT = { record { first = 3; last = 7; past = 0 } };
+
+    #[tactic(auto, unfolding(model::specs::Merge::node_located))]
+    fn region(w: splice::Window) -> span::Span {
+        w.source
     }
 
     fn put(
@@ -56,10 +58,12 @@ impl splice::Spliced for Nodes {
         out: &mut [u8],
         to: usize,
     ) {
-        put_node(out, to, node_as_in(records::node_at(tape, at), w, part));
+        put_records::put_node(out, to, node_as_in(records::node_at(tape, at), w, part));
     }
 
     ghost kind = { node_kind };
+
+    ghost extends = { node_extends };
 }
 
 // A node of the reading, moved where it stands.
@@ -68,7 +72,7 @@ fn place_node(out: &mut [u8], at: usize, w: splice::Window)
     ensures { out.new ≡ overwrite out.old at (record_bytes node_codec (as_in node_located (window_value w) Reading (record_at node_codec out.old at))) }
 {
     let n = records::node_at(out, at);
-    put_node(out, at, node_as_in(n, w, splice::Part::Reading));
+    put_records::put_node(out, at, node_as_in(n, w, splice::Part::Reading));
 }
 
 // The nodes of the reading, which are `count` from `at` on: the caller has two sums, and no run of them.

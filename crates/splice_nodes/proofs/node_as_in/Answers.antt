@@ -1,9 +1,8 @@
 use Rattle.splice.specs.Written.{node_as_in}
 use Rattle.records.specs.Values.{source_node_of}
 use Rattle.splice.specs.Window.{window_value}
-use mathlib.Core.Path.{refl}
 use Rattle.splice_nodes.proofs.node_as_in.Goals as goal
 
 pub returns : goal.returns
 returns c =
-    (rw (c.source_in.ensures, c.source_in-2.ensures, c.normalized_in.ensures) (node_as_in (window_value c.args.w) c.args.part (source_node_of c.args.n)), refl)
+    rw (c.source_in.ensures, c.source_in-2.ensures, c.normalized_in.ensures) (node_as_in (window_value c.args.w) c.args.part (source_node_of c.args.n))

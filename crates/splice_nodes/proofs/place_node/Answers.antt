@@ -3,18 +3,11 @@ use Rattle.wire.specs.Overwrite.{overwrite}
 use Rattle.splice.specs.Parts.{as_in}
 use Rattle.model.specs.Merge.{node_located}
 use Rattle.model.specs.Tape.{record_bytes, node_codec}
-use Rattle.splice_nodes.specs.Placed.{six_read}
-use Rattle.records.specs.Values.{source_node_of}
 use Rattle.splice.specs.Window.{window_value}
 use Rattle.std.proofs.Common.{◌∙◌}
 use mathlib.Core.Path.{ap}
-use native.Mathlib.Omega.{arith}
 use Rattle.splice_nodes.proofs.place_node.Goals as goal
-
-pub put_node-requires : goal.put_node-requires
-put_node-requires c =
-    (omega (arith, c.requires), six_read c.args.out.now c.args.at (source_node_of c.node_at-n.result) c.node_at-n.ensures c.node_as_in.ensures.1)
 
 pub returns : goal.returns
 returns c =
-    c.put_node.ensures ∙ ap (overwrite c.args.out.now c.args.at) (c.node_as_in.ensures.0 ∙ ap (λ x. record_bytes node_codec (as_in node_located (window_value c.args.w) Reading x)) c.node_at-n.ensures)
+    c.put_node.ensures ∙ ap (overwrite c.args.out.now c.args.at) (c.node_as_in.ensures ∙ ap (λ x. record_bytes node_codec (as_in node_located (window_value c.args.w) Reading x)) c.node_at-n.ensures)
