@@ -1,4 +1,5 @@
-// A content, a segment and a node written as a record, document 01 section 4: command, operands, body.
+// A content, a segment and a node written as a record, document 01 section 4: command, operands, body. The commands 4, 5 and 6
+// are written here alone, each once, and so have no names. That a record has room is asked at each function: the place is another at each call.
 #![tactic(auto)]
 
 ghost use Rattle.std.specs.Prelude.{◌≡◌, [], ◌∷◌, ◌+◌, ◌≤◌, length};
