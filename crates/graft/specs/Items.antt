@@ -55,9 +55,9 @@ module _ (t : List ℕ) (st : Store) (at : ℕ) (c : ContentRead) (e : content_o
       plain_refused x = rw (← e) (item_refused content_codec p m (p.contents_at + 10 * to) out work strs x.told (one_plain l t d (content_of c) (layer_from p work strs m) z) refl)
 
       pub plain_made : (id : ℕ) → StartTold t d p m out work strs out₁ work₁ strs₁ r (Some id) (graft_str (resolve_str (source_store t d) c.first) (layer_from p work strs m))
-          → {out₂ : List ℕ} → out₂ ≡ overwrite out₁ (p.contents_at + 10 * to) (record_bytes content_codec (record { tag = 0; first = id; second = 0 }))
+          → {out₂ : List ℕ} → out₂ ≡ overwrite out₁ (p.contents_at + 10 * to) (record_bytes content_codec (record { tag = c.tag; first = id; second = 0 }))
           → ContentsTold t d p m to out work strs out₂ work₁ strs₁ r true (shown_contents l t d (record_at content_codec t at ∷ []) (layer_from p work strs m))
-      plain_made id x w = rw (← e) (item_made content_codec p m (p.contents_at + 10 * to) out work strs x.told (one_plain l t d (content_of c) (layer_from p work strs m) z) (content_with 0 0 id) (ap (content_with 0 0) (x.start id refl)) w)
+      plain_made id x w = rw (← e) (item_made content_codec p m (p.contents_at + 10 * to) out work strs x.told (one_plain l t d (content_of c) (layer_from p work strs m) z) (content_with 0 0 id) (ap (content_with 0 0) (x.start id refl)) (rw z at w))
 
     module _ (source : Source t d st) (h : segments_in st c.first c.second ≡ true) (z : c.tag ≡ 0 → ⊥) where
       pub run_refused : StartTold t d p m out work strs out₁ work₁ strs₁ r None (segment_run_from l t d c.first c.second (layer_from p work strs m))

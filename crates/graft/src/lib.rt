@@ -31,8 +31,11 @@ ghost use Rattle.sizes.specs.Words.{words_of};
 use ids::NO_STRING;
 use interner::StrInterner;
 use places::Run;
-use records::{Body, Segment, Use};
+use records::{Body, Content, Segment, Use};
 pub use source::Walk;
+
+// The tag of a content that is a run of segments. `Source` says what such a content's numbers are, and nothing of its tag.
+const SEGMENTS: u8 = 1;
 
 // The body of a segment that no level of the walk reaches.
 const NO_BODY: Body = Body {
@@ -63,7 +66,10 @@ pub struct Mark {
     pub answered: Option<u32>,
 }
 
-// Where the bytes of that string begin; `words` are the index of the strings.
+// ---- strings. What is asked of the index and of the interner stands at each function, for its buffers are lent one by one, as those of the
+// walk below. The work words are not parted once: the interner asks for 16384 of them and leaves the last 1024 to the index; pairs stand behind.
+
+// Where the bytes of a string of the source begin; `words` are the index of its strings.
 fn string_from(w: &Walk<'_>, words: &[u32], id: u32) -> usize
     requires indexed { Indexed (lengths_in w.now.tape.now) words.now }
     requires id_lt_strings { id < w.now.st.now.totals.strings }
@@ -104,10 +110,7 @@ fn intern_str(
 fn is_answered(known: Option<u32>, answered: Option<u32>) -> bool
     ensures { result ≡ same_known known answered }
 {
-    match (known, answered) {
-        (Some(r), Some(a)) => r == a,
-        _ => false,
-    }
+    known.is_some() && known == answered
 }
 
 // Section 5. `graft_str`. Where the representative is that of the last answer's string, nothing is compared.
@@ -125,7 +128,8 @@ fn graft_str(w: &Walk<'_>, work: &mut [u32], strs: &mut [u8], m: &mut Mark, id: 
     Some(w.plan.strings + string)
 }
 
-// A string that may be missing; where there is no string, 0.
+// The word of a field that is no run: a string's id, or NO_STRING where an optional one is missing, as on the tape. Of a field that is no
+// string it is 0, which `with_words` does not write.
 fn graft_string(
     w: &Walk<'_>,
     work: &mut [u32],
@@ -244,7 +248,7 @@ fn graft_field(
 }
 
 // Section 5. A run of contents, behind all that its items push: where it starts. For segments, the same below: a cycle of calls that goes
-// through the methods of a trait gets no proof, so each kind has functions of its own.
+// through the methods of a trait got no proof when it was tried, so each kind has functions of its own.
 #[cycle(graft_tree)]
 fn graft_content_run(
     w: &Walk<'_>,
@@ -324,11 +328,21 @@ fn graft_content(
     let place = w.plan.contents_at + 10 * (to as usize);
     if c.is_plain() {
         let id = graft_str(w, work, strs, m, c.first)?;
-        put_records::put_content(out, place, 0, id, 0);
+        let plain = Content {
+            first: id,
+            second: 0,
+            ..c
+        };
+        put_records::put_content(out, place, plain);
         return Some(());
     }
     let first = graft_segment_run(w, out, work, strs, m, c.first, c.second, level)?;
-    put_records::put_content(out, place, 1, first, c.second);
+    let segmented = Content {
+        tag: SEGMENTS,
+        first,
+        ..c
+    };
+    put_records::put_content(out, place, segmented);
     Some(())
 }
 

@@ -1,5 +1,5 @@
 -- One node: its words, those of its body, of level 33, or none where its class is 2 or 3; and its record.
-use Rattle.std.specs.Prelude.{◌≡◌, Option, Some, None, ℕ, ltb, ◌+◌, ◌≤◌, ◌<◌, true, false, replicate}
+use Rattle.std.specs.Prelude.{◌≡◌, Option, Some, None, ℕ, ltb, ◌+◌, true, false, replicate}
 use Rattle.std.proofs.Math.Path.{refl, ap}
 use Rattle.std.proofs.Common.{sym, ◌∙◌}
 use Rattle.std.proofs.lemmas.Option.{same_Some}

@@ -1,4 +1,5 @@
 // Document 01 section 5: each node of the reading grafted, in their order: the trees of its body by crate `graft`, then its record.
+// The three buffers are written, and so lent one by one, as there: each function asks of them that they are `Ready`.
 #![tactic(auto)]
 
 ghost use Rattle.std.specs.Prelude.{◌≡◌, true, is_some, [], ◌∷◌, ◌+◌, ◌*◌, ◌≤◌, ◌<◌, length};

@@ -5,7 +5,11 @@
 // a long string goes in, and is asked for, once for each id that names it. The words have three parts: an index of the old book's strings in
 // an eighth of them, the filter or the row, an index of the reading's strings in the last eighth. Where few are lent, number 15 has words
 // of its own. That a node's number lies in the reading is said by each function that is asked of one node: it is another number at each
-// turn, and a value of nodes and number would be made anew there, and the bound be shown there all the same.
+// turn, and a value of nodes and number would be made anew there, and the bound be shown there all the same. The walks are like number 10's in
+// crate `dependency` and are not the same: number 10 asks each node of the bases of the nodes before it, so its filter or row grows as it walks;
+// number 15 asks the nodes of another book, of a filter or row that is whole. Old nodes and reading are two parameters throughout: most steps
+// make other ones of them, a part or with another index, so that a struct of both would be made anew at each. That the words have room for a
+// base of each node is said by the three that hand them on, since what is written is lent by itself.
 #![tactic(auto)]
 
 ghost use Rattle.std.specs.Prelude.{◌≡◌, IfSome, ◌+◌, ◌*◌, ◌≤◌, ◌<◌, length};
@@ -124,6 +128,7 @@ fn refers_first_to_row(row: &Row, reading: &Nodes, i: usize, first: &[u64]) -> b
     refers_to_row(row, reading, i)
 }
 
+// No `any`: that no node before it refers to the row is what a node is asked with, and a closure is not told what the turns before it gave.
 fn any_refers_to_row(row: &Row, reading: &Nodes, first: &[u64]) -> bool
     ensures { result ≡ any (refers_to_row row.now (nodes_store reading.now)) (first_nodes reading.now reading.now.run.count) }
 {
@@ -243,7 +248,8 @@ fn refers_before(book: &Book, reading: &Book, words: &mut [u32], start: u32) -> 
     refers_by_words(&before, &reading.nodes(), words)
 }
 
-// Number 15. `introduces_ruby_format_dependency` of a book and a reading, with the region from `start` to `end`.
+// Number 15. `introduces_ruby_format_dependency` of a book and a reading, with the region from `start` to `end`: two offsets, since each
+// of the two questions is about one of them.
 pub fn introduces_ruby_format_dependency(
     book: &Book,
     reading: &Book,

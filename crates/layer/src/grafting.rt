@@ -27,7 +27,7 @@ impl<'a> Grafting<'a> {
     ghost use Rattle.representatives.specs.Pairs.{Pairs};
     ghost use Rattle.layer.specs.Grafting.{GraftingTold};
 
-    // By these words: behind 16384 of them stand pairs of crate `representatives`.
+    // By these words. Those behind the first 16384, if there are any, are pairs of crate `representatives`.
     fn graft_by(&self, out: &mut [u8], work: &mut [u32], strs: &mut [u8]) -> Option<Grafted>
         requires min_work_words_in_bounds { (min_work_words ≤ length work.old) × (self.now.to.base ≤ length strs.old)
             × (self.now.to.at ≤ length out.old) }
@@ -55,7 +55,7 @@ impl<'a> Grafting<'a> {
         self.graft_by(out, words, strs)
     }
 
-    // The same by words of its own: those that are lent have no room for pairs.
+    // The same by words of its own, which have room for pairs: of those that are lent no more than 16384 are sure.
     fn graft_long(&self, out: &mut [u8], strs: &mut [u8]) -> Option<Grafted>
         requires base_in_bounds { (self.now.to.base ≤ length strs.old) × (self.now.to.at ≤ length out.old) }
         ensures { GraftingTold self.now out.old strs.old out.new strs.new result }

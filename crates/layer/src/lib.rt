@@ -44,7 +44,7 @@ pub struct Grafted {
 
 // ---- strings
 
-// Section 4. 3: string length.
+// Section 4. 3: string length. This number, and the layer's 2 below, is written once, and so has no name.
 fn put_string(out: &mut [u8], at: usize, n: u32)
     requires { at + 5 ≤ length out.old }
     ensures { out.new ≡ overwrite out.old at (record_bytes string_codec n) }
@@ -123,9 +123,10 @@ fn strings_fit(below: u32, count: usize, left: usize) -> bool
     below as usize + count <= MAX_POOL && 5 * count <= left
 }
 
-// ---- the walk
+// ---- the walk. Its buffers are written, and so lent one by one: what is asked of their lengths is said at each function, here and below.
 
-// Contents go right behind the layer's 2, segments right behind them.
+// Contents go right behind the layer's 2, segments right behind them. The three numbers stand in a plan by themselves: they are what the ids of
+// the walk begin with, where `Totals` says how many there are.
 fn plan_of(o: Totals, at: usize, contents: u32) -> graft::Plan
     requires { at + 1 + 10 * contents < 2 ^ 63 }
     ensures { result ≡ plan_of o at contents }
@@ -139,7 +140,7 @@ fn plan_of(o: Totals, at: usize, contents: u32) -> graft::Plan
     }
 }
 
-// An index of the source's strings, in the work words that the interner leaves free.
+// An index of the source's strings, in the work words that the interner leaves free. They are not parted once, for it asks for all 16384.
 fn index_words(source: &Book, work: &mut [u32])
     requires min_work_words_in_bounds { min_work_words ≤ length work.old }
     ensures { Indexed (lengths_in source.now.tape.now) (index_words work.new) × (pair_words work.new ≡ pair_words work.old) }

@@ -5,7 +5,7 @@ ghost use Rattle.layer.specs.Layered.{TotalsFit};
 
 use store::Totals;
 
-// Above layers that hold so many, where its own numbers begin; its records from `at` on, its strings' bytes from `base` on.
+// The layers below it hold so many, and its own numbers begin there; its records stand from `at` on, its strings' bytes from `base` on.
 #[derive(Clone, Copy)]
 pub struct Place {
     pub below: Totals,

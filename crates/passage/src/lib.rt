@@ -9,7 +9,8 @@ ghost use Rattle.model.specs.Region.{edited, edit_of};
 ghost use Rattle.passage.specs.Window.{ends_on_boundaries};
 ghost use Rattle.passage.specs.Layers.{missing_of};
 
-// Number 12. The reading's text is the passage with the edit made in it; `start` and `end` are offsets of the passage.
+// Number 12. The reading's text is the passage with the edit made in it; `start` and `end` are offsets of the passage:
+// no span of a book has them, its caller makes them by subtraction.
 pub fn is_region_text(
     passage: &[u8],
     start: usize,

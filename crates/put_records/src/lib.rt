@@ -1,22 +1,23 @@
-// A content, a segment and a node written as a record, document 01 section 4: command, operands, body.
+// A content, a segment and a node written as a record, document 01 section 4: command, operands, body. The commands 4, 5 and 6
+// are written here alone, each once, and so have no names. That a record has room is asked at each function: the place is another at each call.
 #![tactic(auto)]
 
 ghost use Rattle.std.specs.Prelude.{◌≡◌, [], ◌∷◌, ◌+◌, ◌≤◌, length};
 ghost use Rattle.model.specs.Tape.{content_codec, segment_codec, node_codec, record_bytes};
 ghost use Rattle.wire.specs.Overwrite.{overwrite};
-ghost use Rattle.records.specs.Values.{body_of, segment_of, source_node_of};
+ghost use Rattle.records.specs.Values.{body_of, content_of, segment_of, source_node_of};
 ghost use Rattle.put_records.specs.Written.{words_bytes, body_bytes};
 
-use records::{Body, Segment, SourceNode};
+use records::{Body, Content, Segment, SourceNode};
 
-pub fn put_content(out: &mut [u8], at: usize, tag: u8, first: u32, second: u32)
+pub fn put_content(out: &mut [u8], at: usize, c: Content)
     requires { at + 10 ≤ length out.old }
-    ensures { out.new ≡ overwrite out.old at (record_bytes content_codec (record { tag = tag; first = first; second = second })) }
+    ensures { out.new ≡ overwrite out.old at (record_bytes content_codec (content_of c)) }
 {
     wire::put_u8(out, at, 4);
-    wire::put_u8(out, at + 1, tag);
-    wire::put_u32(out, at + 2, first);
-    wire::put_u32(out, at + 6, second);
+    wire::put_u8(out, at + 1, c.tag);
+    wire::put_u32(out, at + 2, c.first);
+    wire::put_u32(out, at + 6, c.second);
 }
 
 fn put_words(out: &mut [u8], at: usize, words: [u32; 6])

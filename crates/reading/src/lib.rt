@@ -9,10 +9,11 @@ ghost use Rattle.model.specs.Merge.{balanced_nodes, is_unclosed, normalized_offs
 ghost use Rattle.bounds.specs.Search.{InOrder};
 ghost use Rattle.reading.specs.Until.{Until};
 
-// Each of these is asked of a run once or twice: a struct of tape, run and the fact that it lies inside would be made for that alone.
-
 use cuts::Depths;
 use records::{UNCLOSED_BRACKET, UNMATCHED_CLOSE};
+
+// That a run lies in its tape is asked at each function. `splice::Section` is a struct of tape, run and this fact, for records that go through
+// several functions of that crate; here a list of the reading is asked once, and its section would be made for one call.
 
 // Number 13. `balanced_nodes`: no close falls below 0, and all that opens is closed.
 pub fn balanced_nodes(tape: &[u8], nodes: places::Run) -> bool

@@ -8,8 +8,9 @@ use Rattle.put_records.proofs.put_content.Goals as goal
 
 pub returns : goal.returns
 returns c =
+    let o = c.args.c in
     let w1 : Wrote c.args.out.now c.args.at (4 ∷ []) c.put_u8.new.out = record { is = c.put_u8.ensures } in
-    let w2 = wrote_next w1 (c.args.at + 1) (c.args.tag ∷ []) c.put_u8-2.ensures (omega arith) (omega (arith, c.requires)) in
-    let w3 = wrote_next w2 (c.args.at + 2) (word_bytes c.args.first) c.put_u32.ensures (omega arith) (simp length_word (omega (arith, c.requires))) in
-    let w4 = wrote_next w3 (c.args.at + 6) (word_bytes c.args.second) c.put_u32-2.ensures (simp length_word (omega arith)) (simp length_word (omega (arith, c.requires))) in
-    content_written c.args.out.now _ c.args.at c.args.tag c.args.first c.args.second w4
+    let w2 = wrote_next w1 (c.args.at + 1) (o.tag ∷ []) c.put_u8-2.ensures (omega arith) (omega (arith, c.requires)) in
+    let w3 = wrote_next w2 (c.args.at + 2) (word_bytes o.first) c.put_u32.ensures (omega arith) (simp length_word (omega (arith, c.requires))) in
+    let w4 = wrote_next w3 (c.args.at + 6) (word_bytes o.second) c.put_u32-2.ensures (simp length_word (omega arith)) (simp length_word (omega (arith, c.requires))) in
+    content_written c.args.out.now _ c.args.at o.tag o.first o.second w4
