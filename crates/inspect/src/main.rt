@@ -198,7 +198,7 @@ fn run<W: Write>(
 {
     match Asked::read(input, words) {
         Err(refusal) => {
-            line.put_refused(u32::from(refusal));
+            line.put_refused(refusal);
             print(writer, line)
         }
         Ok(asked) => {

@@ -4,8 +4,11 @@
 
 ghost use Rattle.std.specs.Prelude.{◌≡◌, [], ◌+◌, ◌*◌, ◌≤◌, ◌<◌, length};
 ghost use Rattle.io.specs.Digits.{hex_digit_ascii};
+ghost use Rattle.refusal.specs.Refusal.{number};
 ghost use Rattle.lines.specs.Text.{numbered, refused_line};
 ghost use Rattle.lines.specs.Quoted.{is_plain, escaped, escapes, quoted};
+
+use refusal::Refusal;
 
 // The first `len` bytes of the buffer.
 #[derive(Drop)]
@@ -59,12 +62,12 @@ impl<'a> Line<'a> {
         self.put_text(&digits[..k]);
     }
 
-    // `refused N`, and a newline.
-    pub fn put_refused(&mut self, n: u32)
+    // `refused N`, the number of the refusal, and a newline.
+    pub fn put_refused(&mut self, refusal: Refusal)
         requires { 29 ≤ room self.old }
-        ensures { Put self.old self.new 29 (refused_line n) }
+        ensures { Put self.old self.new 29 (refused_line (number refusal)) }
     {
-        self.put_number(b"refused ", u64::from(n));
+        self.put_number(b"refused ", u64::from(u32::from(refusal)));
         self.put_text(b"\n");
     }
 

@@ -21,12 +21,11 @@ use std::io::{Read, Write};
 // The merge that an input of the right length asks for.
 fn merge_parts(
     input: &[u8],
-    out_tape: &mut [u8],
-    out_bytes: &mut [u8],
-    work: &mut [u32],
+    out_tape: &mut [u8; 65536],
+    out_bytes: &mut [u8; 65536],
+    work: &mut [u32; 16384],
 ) -> Result<IncrementalOutput, Refusal>
-    requires whole { Whole input.now }
-    requires out_tape_len { (length out_tape.old ≡ 65536) × (length out_bytes.old ≡ 65536) × (length work.old ≡ 16384) }
+    requires { Whole input.now }
     ensures { checked result ≡ output_of (asked input.now) }
 {
     let oldbytes = runs::HEAD + wire::u32_at(input, 0) as usize;
@@ -58,11 +57,10 @@ fn merge_parts(
 
 fn answer(
     input: &[u8],
-    out_tape: &mut [u8],
-    out_bytes: &mut [u8],
-    work: &mut [u32],
+    out_tape: &mut [u8; 65536],
+    out_bytes: &mut [u8; 65536],
+    work: &mut [u32; 16384],
 ) -> Result<IncrementalOutput, Refusal>
-    requires { (length out_tape.old ≡ 65536) × (length out_bytes.old ≡ 65536) × (length work.old ≡ 16384) }
     ensures { checked result ≡ output_of (program input.now) }
 {
     runs::check_input(input)?;
@@ -72,12 +70,12 @@ fn answer(
 // The line of an input.
 fn run(
     input: &[u8],
-    out_tape: &mut [u8],
-    out_bytes: &mut [u8],
-    work: &mut [u32],
+    out_tape: &mut [u8; 65536],
+    out_bytes: &mut [u8; 65536],
+    work: &mut [u32; 16384],
     line: &mut Line<'_>,
 )
-    requires { (length out_tape.old ≡ 65536) × (length out_bytes.old ≡ 65536) × (length work.old ≡ 16384) × (160 ≤ room line.old) }
+    requires { 160 ≤ room line.old }
     ensures { Put line.old line.new 160 (line_of (program input.now)) }
 {
     runs::put_line(line, answer(input, out_tape, out_bytes, work));
@@ -88,13 +86,13 @@ fn run(
 fn run_read(
     input: &[u8],
     n: usize,
-    out_tape: &mut [u8],
-    out_bytes: &mut [u8],
-    work: &mut [u32],
+    out_tape: &mut [u8; 65536],
+    out_bytes: &mut [u8; 65536],
+    work: &mut [u32; 16384],
     line: &mut Line<'_>,
 )
     requires input_len { (length input.now ≡ 327709) × (n ≤ length input.now) }
-    requires out_tape_len { (length out_tape.old ≡ 65536) × (length out_bytes.old ≡ 65536) × (length work.old ≡ 16384) × (160 ≤ room line.old) }
+    requires line_room { 160 ≤ room line.old }
     ensures { (s : List ℕ) → take (length input.now) s ≡ take n input.now → Put line.old line.new 160 (line_of (program s)) }
 {
     run(&input[..n], out_tape, out_bytes, work, line)

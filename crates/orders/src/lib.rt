@@ -2,8 +2,7 @@
 // accepted and the regions are separate, the two books and the two charges are equal and each reference keeps its meaning.
 #![tactic(auto)]
 
-ghost use Rattle.std.specs.Prelude.{◌≡◌, min};
-ghost use Rattle.model.specs.Offset.{max_u32};
+ghost use Rattle.std.specs.Prelude.{◌≡◌};
 ghost use Rattle.model.specs.Merge.{room_of, stored_of};
 ghost use Rattle.model.specs.Demand3.{cut_behind};
 ghost use Rattle.books.specs.Values.{stored_value, edit_value, correction_value};
@@ -16,31 +15,13 @@ use edit::Edit;
 use output::{BothOrders, IncrementalOutput};
 use refusal::Refusal;
 
-const MAX_U32: usize = 4294967295;
-
-// A number, cut at the largest u32.
-fn capped(n: usize) -> u32
-    ensures { result ≡ min n max_u32 }
-{
-    if MAX_U32 < n {
-        return 4294967295;
-    }
-    n as u32
-}
-
-// Where an offset stands behind an edit.
+// Where an offset stands once an edit is made, cut at the largest u32.
 fn moved(offset: u32, edit: &Edit) -> u32
     ensures { result ≡ cut_behind (edit_value edit.now) offset }
 {
     let longer = offset as usize + edit.replacement.len();
-    if edit.end <= edit.start {
-        return capped(longer);
-    }
-    let removed = (edit.end - edit.start) as usize;
-    if longer <= removed {
-        return 0;
-    }
-    capped(longer - removed)
+    let removed = edit.end.saturating_sub(edit.start) as usize;
+    u32::try_from(longer.saturating_sub(removed)).unwrap_or(u32::MAX)
 }
 
 // What two calls answer, the second on the result of the first.

@@ -1,7 +1,7 @@
 -- What is not result is cleared: what was written becomes what a merge leaves.
-use Rattle.std.specs.Prelude.{◌≡◌, ℕ, ◌-◌, ◌≤◌, List, ◌++◌, take, drop}
+use Rattle.std.specs.Prelude.{◌≡◌, ℕ, ◌-◌, ◌≤◌, List, take}
 use Rattle.std.proofs.Math.Path.{refl, ap}
-use Rattle.std.proofs.Common.{ap₂, ◌∙◌, arith, append-nil, length-take, drop_of_length-le}
+use Rattle.std.proofs.Common.{◌∙◌, arith, length-take}
 use Rattle.std.proofs.Math.ListN.{length}
 use Rattle.std.proofs.lemmas.List.{length-replicate}
 use Rattle.std.proofs.Math.Nat.{sub-zero}
@@ -21,11 +21,6 @@ cleared out n h e =
     let z : length (zeros (length out - n)) ≡ length out - n = length-replicate (length out - n) 0 in
     let k : length (take n out) ≡ n = length-take n out ∙ omega (arith, h) in
     e ∙ overwrite_tail out n (zeros (length out - n)) (omega (arith, h, z)) ∙ rw k refl
-
--- all words, from the first on
-pub words_cleared : (work : List ℕ) {n : ℕ} {work' : List ℕ} → n ≡ length work → work' ≡ take 0 work ++ (zeros (n - 0) ++ drop n work) → work' ≡ zeros (length work)
-words_cleared work {n} e f =
-    f ∙ ap₂ (λ (x y : List ℕ). x ++ y) (ap zeros (sub-zero n ∙ e)) (drop_of_length-le work {i = n} (omega (arith, e))) ∙ append-nil (zeros (length work))
 
 -- ---- what was written
 

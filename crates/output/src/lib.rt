@@ -57,6 +57,5 @@ pub fn clear_rest(
 {
     wire::zero_from(out_tape, tape);
     wire::zero_from(out_bytes, bytes);
-    let words = work.len();
-    table::clear_part(work, 0, words);
+    wire::zero_words(work);
 }

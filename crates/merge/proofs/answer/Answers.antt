@@ -10,7 +10,7 @@ returns-in_err-check_input c =
 
 pub merge_parts-requires : goal.merge_parts-requires
 merge_parts-requires c =
-    record { whole = input_whole _ c.in_ok-check_input.ensures; out_tape_len = c.requires }
+    input_whole _ c.in_ok-check_input.ensures
 
 pub returns : goal.returns
 returns c =

@@ -1,10 +1,9 @@
-use mathlib.Core.Path.{refl}
-use Rattle.output.specs.Cleared.{cleared, words_cleared}
+use Rattle.output.specs.Cleared.{cleared}
 use Rattle.output.proofs.clear_rest.Goals as goal
 
 pub returns : goal.returns
 returns c = (
   cleared _ _ c.requires.0 c.zero_from.ensures,
   cleared _ _ c.requires.1 c.zero_from-2.ensures,
-  words_cleared c.args.work.now refl c.clear_part.ensures,
+  c.zero_words.ensures,
 )
