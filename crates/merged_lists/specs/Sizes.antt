@@ -1,6 +1,6 @@
 -- How long the parts of a merged book are, as the code counts them before anything is written; number 18 as far as they decide it.
 use Rattle.std.specs.Prelude.{◌≡◌, ℕ, suc, ◌+◌, ◌-◌, ◌*◌, ◌≤◌, ◌<◌, Bool, true, false, cond, ◌&&◌, List, [], ◌∷◌, length}
-use Rattle.std.proofs.Math.Path.{refl}
+use Rattle.std.proofs.Math.Path.{refl, ap}
 use Rattle.std.proofs.Common.{arith}
 use Rattle.std.proofs.Math.Bool.{and-false}
 use Rattle.std.proofs.Math.Dec.{leb}
@@ -15,6 +15,7 @@ use Rattle.places.specs.declared.Places.{Places}
 use Rattle.merged_lists.specs.declared.Sides.{Sides}
 use Rattle.merged_lists.specs.declared.Kept.{Kept}
 use Rattle.merged_lists.specs.declared.Lengths.{Lengths}
+use Rattle.merged_lists.specs.declared.Totals.{Totals}
 
 -- ---- definitions
 
@@ -32,6 +33,14 @@ kept_of w t p = record {
 
 abbrev pub total_of : Sides → ℕ → ℕ
 total_of s reading = s.before + reading + s.behind
+
+abbrev pub totals_of : Kept → Places → Totals
+totals_of k q = record {
+  nodes = total_of k.nodes q.nodes.count;
+  pairs = total_of k.pairs q.pairs.count;
+  containers = total_of k.containers q.containers.count;
+  diagnostics = total_of k.diagnostics q.diagnostics.count;
+}
 
 abbrev pub lengths_of : Places → Places → ℕ → ℕ → ℕ → ℕ → ℕ → ℕ → Lengths
 lengths_of p q start end added from to size = record {
@@ -54,6 +63,21 @@ unfoldable pub lists_end : ℕ → Kept → Places → ℕ
 lists_end at k q =
     at + 49 * total_of k.nodes q.nodes.count + 18 * total_of k.pairs q.pairs.count + 13 * total_of k.containers q.containers.count
     + 18 * total_of k.diagnostics q.diagnostics.count + 1
+
+-- each of the four totals
+pub record TotalsAre (k : Kept) (q : Places) (all : Totals) : Type 0 where
+  pub nodes : all.nodes ≡ total_of k.nodes q.nodes.count
+  pub pairs : all.pairs ≡ total_of k.pairs q.pairs.count
+  pub containers : all.containers ≡ total_of k.containers q.containers.count
+  pub diagnostics : all.diagnostics ≡ total_of k.diagnostics q.diagnostics.count
+
+pub totals_are : (k : Kept) (q : Places) {all : Totals} → all ≡ totals_of k q → TotalsAre k q all
+totals_are k q e = record {
+  nodes = ap (λ (x : Totals). x.nodes) e;
+  pairs = ap (λ (x : Totals). x.pairs) e;
+  containers = ap (λ (x : Totals). x.containers) e;
+  diagnostics = ap (λ (x : Totals). x.diagnostics) e;
+}
 
 -- ---- no sum is too large
 

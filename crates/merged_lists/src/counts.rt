@@ -3,8 +3,11 @@
 
 ghost use Rattle.merged_lists.specs.Sizes.{Small};
 
-use crate::{Kept, Lengths};
+use crate::{Kept, Lengths, Totals};
 use places::Places;
+use splice::Spliced;
+use splice_lists::{Containers, Diagnostics, Pairs};
+use splice_nodes::Nodes;
 
 const MAX_TEXT: usize = 16777215;
 
@@ -12,7 +15,7 @@ const MAX_LIST: usize = 262143;
 
 const MIN_WORK_WORDS: usize = 16384;
 
-// What is kept of the old lists, and the places of the reading between; no sum of their counts is too large.
+// How many old elements of each list are kept, and where the reading's lists stand, which go between them; no sum of both is too large.
 #[derive(Clone, Copy)]
 pub struct Counts {
     pub kept: Kept,
@@ -22,18 +25,30 @@ pub struct Counts {
 
 impl Counts {
     ghost use Rattle.std.specs.Prelude.{◌≡◌, ◌^◌, ◌<◌};
-    ghost use Rattle.merged_lists.specs.Sizes.{lists_fit, room_for, lists_end};
+    ghost use Rattle.merged_lists.specs.Sizes.{totals_of, lists_fit, room_for, lists_end};
+
+    pub fn totals(&self) -> Totals
+        ensures { result ≡ totals_of self.now.kept self.now.reading }
+    {
+        let k = self.kept;
+        let q = self.reading;
+        Totals {
+            nodes: k.nodes.total(q.nodes.count),
+            pairs: k.pairs.total(q.pairs.count),
+            containers: k.containers.total(q.containers.count),
+            diagnostics: k.diagnostics.total(q.diagnostics.count),
+        }
+    }
 
     #[tactic(auto, using(std::proofs::lemmas::Bool::Decides::nat_tests), unfolding(crate::specs::Sizes::lists_fit))]
     fn lists_fit(&self) -> bool
         ensures { result ≡ lists_fit self.now.kept self.now.reading }
     {
-        let k = self.kept;
-        let q = self.reading;
-        k.nodes.total(q.nodes.count) <= MAX_LIST
-            && k.pairs.total(q.pairs.count) <= MAX_LIST
-            && k.containers.total(q.containers.count) <= MAX_LIST
-            && k.diagnostics.total(q.diagnostics.count) <= MAX_LIST
+        let all = self.totals();
+        all.nodes <= MAX_LIST
+            && all.pairs <= MAX_LIST
+            && all.containers <= MAX_LIST
+            && all.diagnostics <= MAX_LIST
     }
 
     // Number 18 as far as it is known before the graft: work words, number 3 of the new normalized text and of the lists, room for both
@@ -61,12 +76,11 @@ impl Counts {
         requires { at < 2 ^ 63 }
         ensures { result ≡ lists_end at self.now.kept self.now.reading }
     {
-        let k = self.kept;
-        let q = self.reading;
-        let nodes = k.nodes.total(q.nodes.count);
-        let pairs = k.pairs.total(q.pairs.count);
-        let containers = k.containers.total(q.containers.count);
-        let diagnostics = k.diagnostics.total(q.diagnostics.count);
-        at + 49 * nodes + 18 * pairs + 13 * containers + 18 * diagnostics + 1
+        let all = self.totals();
+        at + Nodes::SIZE * all.nodes
+            + Pairs::SIZE * all.pairs
+            + Containers::SIZE * all.containers
+            + Diagnostics::SIZE * all.diagnostics
+            + 1
     }
 }

@@ -49,6 +49,15 @@ pub struct Kept {
     pub diagnostics: Sides,
 }
 
+// How long the merged lists are.
+#[derive(Clone, Copy)]
+pub struct Totals {
+    pub nodes: usize,
+    pub pairs: usize,
+    pub containers: usize,
+    pub diagnostics: usize,
+}
+
 // The lengths of both new texts, and where the new layer's strings begin: behind them and the old strings.
 #[derive(Clone, Copy)]
 pub struct Lengths {
@@ -112,10 +121,11 @@ fn put_nodes(
     requires reading_in_bounds { to + 49 * total_of (sides_of node_located (window_value w) (records_at node_codec old.now.tape.now old.now.run.at old.now.run.count)) reading ≤ length out.old }
     ensures { out.new ≡ overwrite out.old to (node_bytes (window_value w) (records_at node_codec old.now.tape.now old.now.run.at old.now.run.count) (records_at node_codec out.old to reading)) }
 {
-    let behind_to = to + 49 * before + 49 * reading;
-    moves::move_up(out, to, 49 * reading, 49 * before);
+    let reading_to = to + Nodes::SIZE * before;
+    let behind_to = reading_to + Nodes::SIZE * reading;
+    moves::move_up(out, to, Nodes::SIZE * reading, Nodes::SIZE * before);
     old.put_before(w, out, to);
-    splice_nodes::place_nodes(out, to + 49 * before, reading, w);
+    splice_nodes::place_nodes(out, reading_to, reading, w);
     old.put_behind(w, out, behind_to);
 }
 
@@ -159,19 +169,20 @@ fn put_diagnostics(
 }
 
 // The four lists from `at` on, where the grafted nodes stand, and command 10.
-pub fn put_lists(m: &Merging, k: Kept, out: &mut [u8], at: usize)
-    requires { Lists m.now.book.tape.now m.now.book.places (window_value m.now.window) k m.now.reading.tape.now m.now.reading.places (length out.old) at }
-    ensures { out.new ≡ overwrite out.old at (lists_of (window_value m.now.window) m.now.book.tape.now m.now.book.places m.now.reading.tape.now m.now.reading.places (records_at node_codec out.old at m.now.reading.places.nodes.count)) }
+pub fn put_lists(m: &Merging, counts: &Counts, out: &mut [u8], at: usize)
+    requires { Lists m.now.book.tape.now m.now.book.places (window_value m.now.window) counts.now.kept m.now.reading.tape.now counts.now.reading (length out.old) at }
+    ensures { out.new ≡ overwrite out.old at (lists_of (window_value m.now.window) m.now.book.tape.now m.now.book.places m.now.reading.tape.now counts.now.reading (records_at node_codec out.old at counts.now.reading.nodes.count)) }
 {
     let p = m.book.places;
-    let q = m.reading.places;
+    let q = counts.reading;
+    let k = counts.kept;
     let w = m.window;
     let tape = m.book.tape;
     let new = m.reading.tape;
-    let pairs_to = at + 49 * k.nodes.total(q.nodes.count);
-    let containers_to = pairs_to + 18 * k.pairs.total(q.pairs.count);
-    let diagnostics_to = containers_to + 13 * k.containers.total(q.containers.count);
-    let count = k.diagnostics.total(q.diagnostics.count);
+    let all = counts.totals();
+    let pairs_to = at + Nodes::SIZE * all.nodes;
+    let containers_to = pairs_to + Pairs::SIZE * all.pairs;
+    let diagnostics_to = containers_to + Containers::SIZE * all.containers;
     put_nodes(
         &Section::new(tape, p.nodes),
         w,
@@ -203,9 +214,13 @@ pub fn put_lists(m: &Merging, k: Kept, out: &mut [u8], at: usize)
         &Section::new(new, q.diagnostics),
         out,
         diagnostics_to,
-        count,
+        all.diagnostics,
     );
-    wire::put_u8(out, diagnostics_to + 18 * count, 10);
+    wire::put_u8(
+        out,
+        diagnostics_to + Diagnostics::SIZE * all.diagnostics,
+        10,
+    );
 }
 
 // Section 7. reused: old nodes kept on either side; reread: the reading's.

@@ -55,7 +55,7 @@ fn put_new_texts(out: &mut [u8], m: &Merging)
 }
 
 // What grafting wrote: the bytes of the new layer's records and of its strings, and the counts.
-#[derive(Clone, Copy)]
+#[derive(Clone, Copy, Default)]
 pub struct Graft {
     pub len: usize,
     pub bytes: usize,
@@ -74,11 +74,7 @@ fn graft_reading(
     ensures { GraftTold out.old strs.old out.new strs.new to.at to.base to.below (is_empty (book_in reading.now.tape.now reading.now.bytes.now).source_nodes) result (grafted_into reading.now.tape.now reading.now.bytes.now to.below) }
 {
     if reading.places.nodes.count == 0 {
-        return Some(Graft {
-            len: 0,
-            bytes: 0,
-            stats: InternStats::default(),
-        });
+        return Some(Graft::default());
     }
     let l = layer::graft_layer(reading, to, out, work, strs)?;
     Some(Graft {
@@ -137,15 +133,13 @@ pub fn merge_books(
     if !counts.room_for(l, p.nodes.at, out_tape.len(), out_bytes.len(), work.len()) {
         return Err(Refusal::NoRoom);
     }
-    let Some(g) = put_store(m, l, out_tape, out_bytes, work) else {
-        return Err(Refusal::NoRoom);
-    };
+    let g = put_store(m, l, out_tape, out_bytes, work).ok_or(Refusal::NoRoom)?;
     let at = p.nodes.at + g.len;
     let size = counts.lists_end(at);
     if out_tape.len() < size {
         return Err(Refusal::NoRoom);
     }
-    merged_lists::put_lists(m, kept, out_tape, at);
+    merged_lists::put_lists(m, &counts, out_tape, at);
     Ok(merged_lists::output_of(
         w,
         kept.nodes,

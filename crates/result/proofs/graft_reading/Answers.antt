@@ -5,7 +5,8 @@ use Rattle.result.proofs.graft_reading.Goals as goal
 
 pub returns-then-reading-eq0 : goal.returns-then-reading-eq0
 returns-then-reading-eq0 c =
-    graft_none c.args.reading.now c.if-reading-eq0.true c.requires.1 refl refl (default_is c.default.result c.default.ensures)
+    let zeros = c.default.ensures in
+    graft_none c.args.reading.now c.if-reading-eq0.true c.requires.1 zeros.0 zeros.1.0 (default_is c.default.result.stats zeros.1.1)
 
 pub returns-in_err-l : goal.returns-in_err-l
 returns-in_err-l c = rw c.from_residual.ensures (graft_refused c.args.reading.now c.if-reading-eq0.false c.in_err-l.ensures)
