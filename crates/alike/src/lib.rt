@@ -15,7 +15,8 @@ fn same_content(tape: &[u8], a: usize, b: usize) -> bool
     records::content_at(tape, a) == records::content_at(tape, b)
 }
 
-// How many contents right behind the one at `at` are the same, up to `most` of them.
+// How many contents right behind the one at `at` are the same, up to `most` of them. Here and below a `for` that answers at the first that is not:
+// a chain would look for that one, and turn its None into `most`.
 pub fn contents_alike(tape: &[u8], at: usize, most: usize) -> usize
     requires { at + 10 * (most + 1) ≤ length tape.now }
     ensures { Alike (λ (j : ℕ). record_at content_codec tape.now (at + 10 * j)) most result }

@@ -21,10 +21,12 @@ ghost use Rattle.balanced_region.specs.StartSearch.{gap_last, last_cut, ends_beh
 
 use cuts::{Depths, Source};
 
-// An offset that is asked about is another at each call, so that it lies in the text is said there.
+// An offset that is asked about is another at each call, so that it lies in the text is said there. Where there is no cut an offset says so, as in
+// the definitions: the gap's end, which the caller has, or the d handed in, which the next gap takes. An `Option` would be taken apart at each gap.
 
-// The next offset to try for a cut that text and pairs allow: where a pair lies across, all up to its end are refused. The words hold a window
-// from one call to the next; why they are lent, and no part of a struct, is said at `Source::reach_at`.
+// The next offset to try for a cut that text and pairs allow: where a pair lies across, all up to its end are refused. It is o itself
+// where o is such a cut: from any other the search goes on. The words hold a window from one call to the next; why they are lent, and no part of a
+// struct, is said at `Source::reach_at`.
 fn next_try(source: &Source, o: usize, words: &mut [u32]) -> usize
     requires inside { o ≤ length source.now.text.now }
     requires window { Window (pairs_in source.now) words.old }
@@ -218,7 +220,8 @@ fn last_cut(source: &Source, d: Passed, bound: usize, words: &mut [u32]) -> usiz
     let mut i = d.count;
     let mut depths = d.depths;
     let mut hi = bound;
-    // Each turn begins where the one before has stopped, and the last is the one that finds a cut: no `for`.
+    // Each turn begins where the one before has stopped, and the last is the one that finds a cut: no `for`. What is below lo says that a gap has
+    // none, and is where the search goes on.
     loop {
         let lo = gap_from(source, i);
         let c = gap_last(source, lo, hi + 1, depths, hi.min(lo - 1), words);
@@ -289,7 +292,7 @@ pub fn region_start(source: &Source, o: usize, words: &mut [u32]) -> usize
     last_cut_before(source, o.min(start), words)
 }
 
-// Offsets of the old text.
+// Offsets of the old text, as the walks count them; number 11 is asked before they are a `Span`, of 32 bits.
 #[derive(Clone, Copy, Debug, PartialEq, Eq)]
 pub struct Region {
     pub start: usize,

@@ -30,6 +30,8 @@ fn place_of(len: usize, x: u64) -> usize
     (x * used as u64 / 4294967296) as usize
 }
 
+// x has 64 bits, here and below, since a product is made of it: as a `u32` it would be cut in four places and widened in one. That there are words is
+// what `insert` and `may_contain` test first.
 fn set_bits(words: &mut [u32], x: u64, bits: u32)
     requires { (0 < length words.old) × (x < 4294967296) }
     ensures { words.new ≡ with_bits words.old x bits }

@@ -41,7 +41,7 @@ pub fn container_ok(c: records::ContainerPair, size: usize) -> bool
     c.opening < c.closing && (c.closing as usize) < size
 }
 
-// Each is one line over its kind of record, with a test of its own.
+// Each is one line over its kind of record, with a test of its own: a trait of the three would state each clause again.
 pub fn pairs_placed(tape: &[u8], pairs: places::Run, size: usize) -> bool
     requires { pairs.at + 18 * pairs.count ≤ length tape.now }
     ensures { result ≡ all (pair_ok size) (records_at pair_codec tape.now pairs.at pairs.count) }
@@ -78,7 +78,7 @@ pub fn diagnostics_allow_incremental(tape: &[u8], diagnostics: places::Run) -> b
     (0..diagnostics.count).all(|i| tape[diagnostics.at + 18 * i + 1] < UNCLOSED_BRACKET)
 }
 
-// Section 4. `standalone_padding`.
+// Section 4. `standalone_padding`. Whether a block is inline is a byte of the tape, 0 or 1.
 #[tactic(auto, using(std::proofs::lemmas::Bool::Decides::nat_tests), unfolding(crate::specs::Walk::padding_of))]
 fn standalone_padding(class: u8, inline: u8) -> u64
     ensures { result ≡ padding_of class inline }
@@ -90,7 +90,7 @@ fn standalone_padding(class: u8, inline: u8) -> u64
     }
 }
 
-// A node's image is 3 + 2 × padding bytes.
+// A node's image is 3 + 2 × padding bytes. A node is named by its place, here and below, as in crate `records`.
 pub fn image_length(tape: &[u8], at: usize) -> u64
     requires { at + 49 ≤ length tape.now }
     ensures { result ≡ image_length (record_at node_codec tape.now at) }
@@ -118,7 +118,8 @@ fn in_image(start: u32, offset: u32, image: u64, images: u64, spans: u64) -> boo
     begin <= place && place < begin + image
 }
 
-// Number 6 of one node: `from` is the end of the node before, `images` and `spans` are the sums of the nodes before.
+// Number 6 of one node: `from` is the end of the node before, `images` and `spans` are the sums of the nodes before: two numbers that the walk steps,
+// of which `Sums` are made once, at its end.
 #[tactic(auto, using(std::proofs::lemmas::Bool::Decides::nat_tests, crate::specs::Walk::placed_parts))]
 fn node_placed(tape: &[u8], at: usize, size: usize, from: u32, images: u64, spans: u64) -> bool
     requires { (at + 49 ≤ length tape.now) × (images < 4611686018427387904) × (spans < 4294967296) }

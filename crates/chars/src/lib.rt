@@ -7,6 +7,7 @@ ghost use Rattle.std.specs.Prelude.{◌≡◌, cond, ◌+◌, ◌≤◌, ◌<◌
 ghost use Rattle.model.specs.Utf8.{utf8_first, utf8_step, within as is_within, tail1, tail2, bad};
 ghost use Rattle.chars.specs.Chars.{char_len, length_if};
 
+// The model's test of a byte. `contains` of a range would take the same three bytes, and a range made of two of them.
 #[tactic(auto, using(std::proofs::lemmas::Bool::Decides::nat_tests))]
 pub fn within(lo: u8, hi: u8, b: u8) -> bool
     ensures { result ≡ is_within lo hi b }
@@ -29,6 +30,8 @@ fn second_fits(a: u8, b: u8) -> bool
     }
 }
 
+// Characters of two, of three and of four bytes: each asks for another first byte and tests other bytes, so one function of all would take the count,
+// and choose by it. The text goes with a place, as in `utf8`; of the slice of what is left each would ask that it is not empty.
 fn two(s: &[u8], at: usize) -> Option<usize>
     requires { (at < length s.now) × (0xc2 ≤ get_or s.now at 0) × (get_or s.now at 0 < 0xe0) }
     ensures { result ≡ length_if (char_len (drop at s.now)) }

@@ -36,7 +36,7 @@ pub fn blank_line_before(text: &[u8], o: usize) -> bool
     2 <= o && text[o - 2] == b'\n' && text[o - 1] == b'\n'
 }
 
-// What a node does to a depth.
+// What a node does to a depth. That a depth can rise by one is asked of each that steps one: a type for it would be made anew at each step.
 #[derive(Clone, Copy, Debug, PartialEq, Eq)]
 enum Effect {
     Opens,
@@ -130,6 +130,7 @@ impl Depths {
         warichu: 0,
     };
 
+    // Two comparisons, as the definition has them; `==` with NONE would be told of the struct, and need a law to tell of its two numbers.
     pub fn are_zero(self) -> bool
         ensures { result ≡ depths_zero self.blocks self.warichu }
     {
@@ -170,6 +171,7 @@ impl Depths {
     }
 }
 
+// Single fields of a pair, as those of a node in crate `records`.
 fn pair_start(tape: &[u8], at: usize) -> u32
     requires { at + 18 ≤ length tape.now }
     ensures { result ≡ (record_at pair_codec tape.now at).opening.start }

@@ -21,7 +21,7 @@ pub struct Edit<'a> {
 
 const MAX_TEXT: usize = 16777215;
 
-// Number 8. Start ≤ end ≤ length, neither inside a character.
+// Number 8. Start ≤ end ≤ length, neither inside a character. By two numbers, here and below, as the definitions take them.
 #[tactic(auto, using(std::proofs::lemmas::Bool::Decides::nat_tests), unfolding(crate::specs::Numbers::within))]
 pub fn edit_ok(text: &[u8], start: u32, end: u32) -> bool
     ensures { result ≡ within text.now start end }

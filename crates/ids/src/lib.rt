@@ -17,7 +17,7 @@ use places::Run;
 use records::{RUBY, Use};
 use store::Store;
 
-// The id of a missing string.
+// The id of a missing string: a value of the tape's own format.
 pub const NO_STRING: u32 = 4294967295;
 
 // The word behind word i, 0 behind the last.
@@ -40,6 +40,8 @@ struct Pools<'a> {
 }
 
 impl Pools<'_> {
+    // A body is named by its place, here and below, as a record is in crate `records`.
+
     // Number 4. A word by its use: an id, an id that may be missing, the start of a range whose length is the next word.
     #[tactic(auto, using(std::proofs::lemmas::Bool::Decides::nat_tests), unfolding(crate::specs::Tests::used_well))]
     fn used_well(&self, usage: Use, w: u32, next: u32) -> bool
@@ -54,7 +56,8 @@ impl Pools<'_> {
         }
     }
 
-    // Number 4. Word i of the body at `at`, which has that use.
+    // Number 4. Word i of the body at `at`, which has that use. Crate `levels` goes over the words of a body too; one walk for both would take the
+    // test as a closure, which there need not be right where it says no.
     fn word_ok(&self, usage: Use, at: usize, i: usize) -> bool
         requires { (at + 34 ≤ length self.now.tape.now) × (i < 6) }
         ensures { result ≡ used_well self.now.st.now (use_number usage) (word_of (body_at self.now.tape.now at) i) (word_of (body_at self.now.tape.now at) (i + 1)) }
@@ -173,6 +176,7 @@ impl Pools<'_> {
         self.contents_ids_ok(l.contents) && self.segments_ids_ok(l.segments)
     }
 
+    // How many layers there are is taken from the places, as `LayersFit` is told of it; that the store has as many would be one fact more.
     fn layers_ids_ok(&self, layers: usize) -> bool
         requires { LayersFit self.now.tape.now self.now.st.now layers }
         ensures { result ≡ layers_in self.now.tape.now self.now.st.now }

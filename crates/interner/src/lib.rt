@@ -29,8 +29,8 @@ const FAR: usize = 8191;
 // no table has more slots
 const PLACES: usize = 4096;
 
-// `StrInterner`, beside the words and bytes: slots of the table (0 before its first use) and how many are taken; how many strings
-// there are, where in the buffer they begin and end; the last answer as a slot would have it, 0 or its id plus 1, which is how model's `holds` takes it.
+// `StrInterner`, beside the words and bytes: slots of the table (before its first use it has 0 of them) and how many are taken; how many strings
+// there are, where in the buffer they begin and end; the last answer as a slot has it, 0 or its id plus 1: a slot's content is put there as it is.
 #[derive(Clone, Copy, Debug, Default, PartialEq, Eq)]
 pub struct StrInterner {
     pub slots: usize,

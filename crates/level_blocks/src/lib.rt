@@ -24,14 +24,15 @@ pub fn levels_below(tape: &[u8], at: usize, count: usize, level: u8) -> bool
     (0..count).all(|i| level_below(tape, at + 37 * i, level))
 }
 
-// Section 4. A Node's own level is 1..32.
+// Section 4. A Node's own level is 1..32, by the model's two comparisons; `contains` of a range would be the same two.
 pub fn level_in_range(level: u8) -> bool
     ensures { result ≡ (leb 1 level && leb level max_level) }
 {
     1 <= level && level <= 32
 }
 
-// Where the blocks around item i end that a table says to be below the level; i where it does not say so.
+// Where the blocks around item i end that a table says to be below the level; i where it does not say so: no items,
+// so that one clause tells of both.
 pub fn known_end(table: &[u8], i: usize, level: u8) -> usize
     requires { Risen table.now 69904 }
     ensures { Skips table.now level i result }
@@ -61,6 +62,7 @@ pub fn known_end(table: &[u8], i: usize, level: u8) -> usize
     65536 * (i / 65536) + 65536
 }
 
+// `max` of an iterator answers an `Option`, and there are always sixteen.
 fn greatest(table: &[u8], from: usize) -> u8
     requires { from + 16 ≤ length table.now }
     ensures { Greatest table.now from 16 result }
@@ -72,7 +74,7 @@ fn greatest(table: &[u8], from: usize) -> u8
     m
 }
 
-// The entries above those of 16 items: entry 65536 + i / 16 is above entry i.
+// The entries above those of 16 items: entry 65536 + i / 16 is above entry i. One list has the blocks of all four sizes, so that one loop fills it.
 pub fn put_uppers(table: &mut [u8])
     requires { length table.old ≡ 69904 }
     ensures { Risen table.new 69904 × Kept table.old table.new }

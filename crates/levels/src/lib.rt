@@ -33,8 +33,8 @@ use store::Store;
 // The longest range that is read item by item where there is no table.
 const MOST_READ: u32 = 16;
 
-// A tape and its store, both lent, how many layers it has, and two tables as far as they are made: of the levels that its segments are below, and of
-// those that the segments which its contents name are below.
+// A tape and its store, both lent, how many layers it has (by a fact of its own, which each walk would else derive from `of_tape`), and two tables
+// as far as they are made: of the levels that its segments are below, and of those that the segments which its contents name are below.
 #[derive(Clone, Copy)]
 struct Book<'a, 't, 'h> {
     tape: &'a [u8],
@@ -114,7 +114,8 @@ impl Book<'_, '_, '_> {
         self.segments_below(c.first, c.second, level)
     }
 
-    // All contents of a run, read one by one.
+    // All contents of a run, read one by one. By `for`, here and in `run_levels_ok`: a chain's closure is not told what the ghost fields say, and
+    // would have both its clauses written out, as those lent to `walk` have.
     fn run_below(&self, run: Run, level: u8) -> bool
         requires count_in_bounds { run.at + 10 * run.count ≤ length self.now.tape.now }
         ensures { Told (is_some self.now.tops) result (all (content_below self.now.tape.now self.now.st.now level) (records_at content_codec self.now.tape.now run.at run.count)) }
@@ -164,6 +165,7 @@ impl Book<'_, '_, '_> {
 // ---- bodies, segments and layers
 
 impl Book<'_, '_, '_> {
+    // A word's use, the word and the next one go one by one: the struct of them is `sizes`', for fields in the Rust's order.
     fn used_below(&self, usage: Use, w: u32, next: u32, level: u8) -> bool
         ensures { Told (is_some self.now.tops && is_some self.now.heights) result (used_below self.now.tape.now self.now.st.now level (use_number usage) w next) }
     {
@@ -262,7 +264,7 @@ fn block_of<F: Fn(u32, u8) -> u8>(total: u32, k: usize, bound: &F) -> u8
     m
 }
 
-// The entries of all blocks of a pool.
+// The entries of all blocks of a pool. A table's length is asked for, here and below, as often as it would stand in an array's type.
 fn put_blocks<F: Fn(u32, u8) -> u8>(table: &mut [u8], total: u32, bound: F)
     requires table_len { length table.old ≡ 69904 }
     requires callable { (i m : ℕ) → i < total → F.pre bound i m }
@@ -277,7 +279,7 @@ fn put_blocks<F: Fn(u32, u8) -> u8>(table: &mut [u8], total: u32, bound: F)
 }
 
 impl Book<'_, '_, '_> {
-    // The least level, from m on, that segment i is below; 255 above 32.
+    // The least level, from m on, that segment i is below; 255 above 32: the byte that a table has where it knows none.
     fn segment_bound(&self, i: u32, m: u8) -> u8
         requires i_lt_segments { i < self.now.st.now.totals.segments }
         ensures { Bound (segment_test self.now.tape.now self.now.st.now) i m result }
@@ -308,7 +310,7 @@ impl Book<'_, '_, '_> {
         );
     }
 
-    // The least level, from m on, that content i is below; 255 above 33.
+    // The least level, from m on, that content i is below; 255 above 33. By `for`, as `run_below` is.
     fn content_bound(&self, i: u32, m: u8) -> u8
         requires i_lt_contents { i < self.now.st.now.totals.contents }
         ensures { Bound (content_test self.now.tape.now self.now.st.now) i m result }
@@ -381,8 +383,8 @@ impl Book<'_, '_, '_> {
     }
 }
 
-// Number 5, whole. The first layer is asked by itself: called from two places, `levels_tabled` is not made part of its caller, and
-// a book that needs no tables needs no room for them. In a book without segments there is nothing to ask.
+// Number 5, whole. The first layer is asked by itself: two calls of `levels_tabled` are to keep LLVM from making it part of this function, so that a
+// book that needs no tables needs no room for them; no proof hangs on it. In a book without segments there is nothing to ask.
 pub fn levels_ok(tape: &[u8], st: Store, layers: usize) -> bool
     requires of_tape { OfTape tape.now st }
     requires layers_value { layers ≡ length (places tape.now).layers }

@@ -1,5 +1,5 @@
-// Document 01 sections 3 and 7: what is asked of a book. Each entry tests 1 to 7 first; a lookup
-// without an answer is `None`. No entry has a `requires`; specs/ says for each answer which values of the model it is.
+// Document 01 sections 3 and 7: what is asked of a book. Each entry tests 1 to 7 first; a lookup without an answer is `None`. No entry has a
+// `requires`; specs/ says for each answer which values of the model it is. Each takes what C hands over, one by one.
 #![tactic(auto)]
 
 ghost use Rattle.std.specs.Prelude.{◌≡◌, ◌≤◌, ◌<◌, ◌^◌};
@@ -16,14 +16,14 @@ ghost use Rattle.lookup.specs.Strings.{str_if, str_shown, span_from};
 
 use refusal::Refusal;
 
-// Where the first record of a range stands in the tape, and how many they are.
+// Where the first record of a range stands in the tape, and how many they are: the length asked for, a `u32` where a `Run` has a `usize`.
 #[derive(Clone, Copy, Debug, PartialEq, Eq)]
 pub struct RangeAt {
     pub place: usize,
     pub count: u32,
 }
 
-// Where a string starts and ends in the byte buffer.
+// Where a string starts and ends in the byte buffer, whose bytes may be more than the 32 bits of a `Span` count.
 #[derive(Clone, Copy, Debug, PartialEq, Eq)]
 pub struct StrAt {
     pub start: usize,

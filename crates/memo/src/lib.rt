@@ -1,5 +1,6 @@
 // A memo in lent words: what was found at a place of a level, by entries of five words. Where an entry stands follows from its place and
 // level alone, and a later one takes its room. A memo may have any length, also none: what finds no room is not remembered.
+// By words and no struct, since specs/Memo reads an entry at five words of any list; where nothing is to be remembered one word is lent.
 #![tactic(auto)]
 
 ghost use Rattle.std.specs.Prelude.{◌≡◌, ◌<◌};
@@ -27,7 +28,7 @@ pub fn is_of(memo: &[u32], e: usize, place: usize, level: u8) -> bool
     memo[5 * e] as usize == place && memo[5 * e + 1] == u32::from(level)
 }
 
-// Entry e put, if it is there.
+// Entry e put, if it is there. Three numbers one by one: the struct of them is `sizes`', above.
 pub fn put(
     memo: &mut [u32],
     e: usize,

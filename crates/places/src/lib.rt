@@ -61,7 +61,8 @@ pub struct Places {
     pub end: usize,
 }
 
-// Whether eight records begin with the command, the first at `at`: one answer for all, so that a long run costs one branch for eight.
+// Whether eight records begin with the command, the first at `at`: one answer for all, so that a long run costs one branch for eight. Place,
+// command and size go one by one, here and in the two below: a struct of them would be made for each of seven calls.
 #[tactic(auto, unfolding(crate::specs::Runs::eight_at))]
 fn eight_at(tape: &[u8], at: usize, command: u8, size: usize) -> bool
     requires { at + 7 * size < length tape.now }
@@ -88,7 +89,7 @@ fn eights_at(tape: &[u8], at: usize, command: u8, size: usize) -> usize
     let step = 8 * size;
     let mut n = 0;
     let mut place = at;
-    // no `for`: it goes on for as long as the records do
+    // no `for`: it goes on for as long as the records do. A chain of chunks would cut slices, each to be known long enough for what is read of it.
     while step < tape.len() - place {
         if !eight_at(tape, place, command, size) {
             return n;
@@ -106,7 +107,7 @@ pub fn count_at(tape: &[u8], at: usize, command: u8, size: usize) -> usize
 {
     let mut n = eights_at(tape, at, command, size);
     let mut place = at + n * size;
-    // no `for`: it goes on for as long as the records do
+    // no `for`, and no chain, as above
     while place < tape.len() {
         if tape[place] != command {
             return n;
@@ -120,8 +121,8 @@ pub fn count_at(tape: &[u8], at: usize, command: u8, size: usize) -> usize
     n
 }
 
-// The bytes of a run of strings; once they pass `room`, room + 1. (A layer reaches at most 36 bytes past the tape's end.) The caller asks of a
-// part of a run too, by a place that it has added up.
+// The bytes of a run of strings; once they pass `room`, room + 1: with an `Option` each sum of a walk would take one apart. (A layer reaches at
+// most 36 bytes past the tape's end.) A caller asks of a part of a run, by a place that it has added up, and has `room` as a sum.
 pub fn strings_length(tape: &[u8], at: usize, count: usize, room: usize) -> usize
     requires { (at + 5 * count ≤ length tape.now + 36) × (room < 2 ^ 63) }
     ensures { result ≡ capped room (sum (records_at string_codec tape.now at count)) }
@@ -134,7 +135,8 @@ pub fn strings_length(tape: &[u8], at: usize, count: usize, room: usize) -> usiz
     total
 }
 
-// Section 4. Per layer 2, then 3s, 4s, 5s: the layer whose 2 stands at `at`.
+// Section 4. Per layer 2, then 3s, 4s, 5s: the layer whose 2 stands at `at`. Commands and sizes are the tape's own numbers, each listed where it
+// is asked for. Each run begins where the one before ends: a function of one run would answer two things, run and end, to be taken apart seven times.
 pub fn next_layer(tape: &[u8], at: usize) -> LayerRuns
     requires { at < length tape.now }
     ensures { result ≡ layer_runs (layer_places tape.now at) }

@@ -89,6 +89,7 @@ pub struct Segment {
     pub body: Body,
 }
 
+// Starts and ends are fields of their own, here and below, as the record has its words; only number 6 asks whether they are a span.
 #[derive(Clone, Copy)]
 pub struct SourceNode {
     pub class: u8,
@@ -124,7 +125,8 @@ pub struct Diagnostic {
     pub plain: u32,
 }
 
-// The body whose first byte stands at a place: at + 3 of a segment, at + 15 of a node.
+// The body whose first byte stands at a place: at + 3 of a segment, at + 15 of a node. Its words are read one by one: `array::from_fn`
+// would take a closure with both its clauses.
 pub fn body_at(tape: &[u8], at: usize) -> Body
     requires { at + 34 ≤ length tape.now }
     ensures { body_of result ≡ body_at tape.now at }
@@ -210,7 +212,7 @@ pub fn has_words(tape: &[u8], at: usize) -> bool
 }
 
 // Single fields of a node, for the walks over all nodes. A record is named by its place, whose bound is the walk's: a struct of tape and place would
-// be made anew at each turn, and the bound be shown there.
+// be made anew at each turn, and the bound be shown there. One function for all would take the field's place, and not say which field it reads.
 pub fn node_start(tape: &[u8], at: usize) -> u32
     requires { at + 49 ≤ length tape.now }
     ensures { result ≡ (record_at node_codec tape.now at).source_span.start }
@@ -477,7 +479,7 @@ pub fn node_shape(n: SourceNode) -> bool
     node_head(n.class, n.inline, n.body.kind) && body_shape(n.body, n.class < BARE)
 }
 
-// Section 4. Kinds 0..4.
+// Section 4. Kinds 0..4; of diagnostics, below, too: two records, with a definition each in the model and one comparison.
 #[tactic(auto, unfolding(model::specs::Tape::pair_shape))]
 pub fn pair_shape(p: PairLink) -> bool
     ensures { result ≡ pair_shape (pair_link_of p) }
@@ -514,7 +516,7 @@ pub trait Shaped {
     ghost size: { record_size codec ≡ SIZE };
 }
 
-// The shapes of a run of `count` records from `at` on.
+// The shapes of a run of `count` records from `at` on, by two numbers: `places::Run` is of a crate that this one does not name.
 pub fn all_shaped<R: Shaped>(tape: &[u8], at: usize, count: usize) -> bool
     requires { at + R.SIZE * count ≤ length tape.now }
     ensures { result ≡ all R.test (records_at R.codec tape.now at count) }

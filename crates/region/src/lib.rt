@@ -71,6 +71,7 @@ pub fn chosen_region<'a>(
     if is_whole(book.places.text, r) {
         return Err(Refusal::WholeText);
     }
+    // No `From`: it would have to tell of every region, and only of one inside a text is it known that it fits 32 bits.
     Ok(Span {
         start: r.start as u32,
         end: r.end as u32,
@@ -92,7 +93,7 @@ fn region_of(tape: &[u8], bytes: &[u8], edit: &Edit, words: &mut [u32]) -> Resul
     chosen_region(&book, edit, words)
 }
 
-// `choose_region`: choosing the region alone runs up to 11. The words come back as zeros.
+// `choose_region`: choosing the region alone runs up to 11. The words come back as zeros. The edit's three parts come one by one, as C lends them.
 pub fn choose_region(
     tape: &[u8],
     bytes: &[u8],

@@ -17,13 +17,17 @@ use sorted_ids::Row;
 use store::Store;
 use strings::Strings;
 
+// a string of fewer bytes is never long
 const LONG: usize = 1024;
 
+// how many long strings there can be, and how many words the row of them has
 const MOST: usize = 4096;
 
+// how many words before the row hold an index: with the row 5120
 const INDEX: usize = 1024;
 
-// From how many bytes on a string of a book is long: at most 4096 strings of a book of n bytes are.
+// From how many bytes on a string of a book is long: at most 4096 strings of a book of n bytes are. (In `dependency` other
+// strings are long, by numbers of its own.)
 pub fn long_from(n: usize) -> usize
     ensures { result ≡ long_from n }
 {
@@ -86,7 +90,7 @@ pub fn representative(words: &[u32], id: u32) -> Option<u32>
     }
 }
 
-// One pair more, the n-th.
+// One pair more, the n-th. Words and how many pairs they have go side by side, here and below, as they are lent: see `sorted_ids::insert`.
 fn put_pair(words: &mut [u32], n: usize, id: u32, representative: u32)
     requires n_bound { (n < 4096) × (2 * n + 2 < length words.old) }
     requires representative_bound { representative < 4294967295 }

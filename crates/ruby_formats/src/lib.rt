@@ -18,7 +18,7 @@ use records::{FORMAT, INLINE, RUBY};
 // The `ForwardOrigin` of a Format that refers to its target.
 const REFERENCED: u8 = 1;
 
-// An Inline Ruby.
+// An Inline Ruby. Here and below by place, for walks over a tape alone; struct `Nodes` asks the same by number, one line each over these.
 #[tactic(auto, unfolding(model::specs::Tape::record_at, model::specs::Tape::operands_at, model::specs::Tape::node_codec))]
 pub fn is_ruby(tape: &[u8], at: usize) -> bool
     requires { at + 49 ≤ length tape.now }

@@ -22,7 +22,8 @@ impl<'a> Nodes<'a> {
     ghost use Rattle.ruby_formats.specs.Nodes.{node_in, SameNodes};
     ghost use Rattle.ruby_formats.specs.Named.{named_by, base_again, target_again, asks_again};
 
-    // The same nodes, whose strings are found by an index that is written into these words.
+    // The same nodes, whose strings are found by an index that is written into these words. Its five fields are named here and in
+    // `representatives`: a method of `Strings` would promise of each but one that it is the same.
     pub fn indexed<'b>(&self, words: &'b mut [u32]) -> Nodes<'b>
     where
         'a: 'b,

@@ -52,7 +52,8 @@ pub struct Sizes {
     pub calls: u32,
 }
 
-// How many contents and segments may still be added, and how many calls there are before their count stops.
+// How many contents and segments may still be added, and how many calls there are before their count stops. The same fields as `Sizes`, and a type of
+// its own, so that what is left is not taken for what was added.
 #[derive(Clone, Copy)]
 struct Left {
     contents: u32,
@@ -77,7 +78,7 @@ pub struct FieldWords {
     pub second: u32,
 }
 
-// So much taken off; None where there is no room for it.
+// So much taken off; None where there is no room for it. Three numbers, since nearly all who call it have them, most of them 0, and no `Sizes`.
 fn less(left: Left, contents: u32, segments: u32, calls: u32) -> Option<Left>
     ensures { result ≡ less left (record { contents = contents; segments = segments; calls = calls }) }
 {
@@ -111,7 +112,8 @@ fn again(before: Left, after: Left, k: usize) -> Option<Left>
     Some(u)
 }
 
-// How many contents a range names, and how many segments; none where it is no range.
+// How many contents a range names, and how many segments; none where it is no range. Each is one question to its own pool: a function of both would
+// take that as a closure.
 fn content_count(w: &Walk<'_>, start: u32, len: u32) -> u32
     ensures { result ≡ content_count w.now.st.now start len }
 {
@@ -132,7 +134,8 @@ fn segment_count(w: &Walk<'_>, start: u32, len: u32) -> u32
     }
 }
 
-// Section 5. Fields go in the Rust's order: which of the six words comes at place j.
+// Section 5. Fields go in the Rust's order: which of the six words comes at place j. The kinds are listed by number, as document 01 does: 3 is a
+// Gaiji, 11 an Image.
 #[tactic(auto, unfolding(crate::specs::Order::field_word))]
 pub fn field_word(kind: u8, j: usize) -> usize
     requires { j < 6 }
@@ -421,7 +424,8 @@ pub fn inner_segments(w: &Walk<'_>, run: Run, level: u8) -> u32
 
 // ---- Rubies of plain contents, by far the commonest nodes, without the walk
 
-// Where the contents of a store of one layer stand; of none, for any other.
+// Where the contents of a store of one layer stand; of none, for any other: no range with a content lies in that, so that a node is tested by it as
+// by any run, where an `Option` would be asked for at each node.
 fn only_contents(w: &Walk<'_>) -> Run
     ensures { Whole w.now.st.now result }
 {
@@ -562,6 +566,7 @@ pub fn reading_sizes(tape: &[u8], st: Store, p: places::Places, room: Room) -> O
     ensures { (d : List ℕ) → result ≡ sizes_in room (nodes_size (shown_nodes (book_at tape.now (places tape.now) d))) }
 {
     let w = Walk { tape, st: &st };
+    // written out: nothing else makes a `Left` of a `Room`
     let all = Left {
         contents: room.contents,
         segments: room.segments,

@@ -27,7 +27,7 @@ pub enum Amount {
     Back(u64),
 }
 
-// Only this function touches a signed number.
+// Only this function touches a signed number. Both callers name it; a `From` would state this one clause as `from_gives`, for the same body.
 pub fn amount_of(by: i64) -> Amount
     ensures { value_of result ≡ by }
 {
@@ -139,6 +139,7 @@ pub enum PairKind {
 #[derive(Clone, Copy, Debug, PartialEq, Eq, Hash)]
 pub struct UnknownPairKind(pub u8);
 
+// A match beside that of `try_from`. With the numbers at the variants there would be two lists all the same, since `try_from` needs its own.
 impl From<PairKind> for u8 {
     ghost from_gives = { λ kind n. n ≡ kind_number kind };
 
@@ -171,7 +172,7 @@ impl TryFrom<u8> for PairKind {
 }
 
 impl PairKind {
-    // The conversion by its name; it is public, and calls it.
+    // The conversions by names. They are public, so they stay with what they promise; each is one line over the two above.
     pub fn number(self) -> u8
         ensures { result ≡ kind_number self }
     {
@@ -187,7 +188,7 @@ impl PairKind {
     }
 }
 
-// `open` and `close` in the Rust; `open` is a word of antt.
+// `open` and `close` in the Rust; `open` is a word of antt. A tape's record is `records::PairLink`: its kind may be any byte.
 #[derive(Clone, Copy, Debug, PartialEq, Eq, Hash)]
 pub struct PairLink {
     pub kind: PairKind,

@@ -18,7 +18,8 @@ pub struct InternStats {
 }
 
 impl InternStats {
-    // ---- one thing that is counted
+    // ---- one thing that is counted. They are public, and so stay. One function of them all would take
+    // the field as a closure that lends it.
 
     // A call counts itself.
     pub fn count_call(&mut self)
@@ -77,8 +78,9 @@ impl InternStats {
         self.probe_steps += n;
     }
 
-    // ---- a call, by the way it ends. That no count is above that of the calls is asked for and is no field's fact: each of the
-    // methods above would have to ask for a call before it, to keep it.
+    // ---- a call, by the way it ends. Two and two differ in one call: one function for two would take that as a closure with both its clauses.
+    // That no count is above that of the calls is asked for and is no field's fact: each of the methods above would have to ask for a call before
+    // it, to keep it.
 
     pub fn cache_hit(mut self) -> InternStats
         requires { Counted self × (self.calls < 2 ^ 32) }
@@ -98,7 +100,8 @@ impl InternStats {
         self
     }
 
-    // What a call for the table counts, however its probe ends.
+    // What a call for the table counts, however its probe ends. Both bounds keep the sums from wrapping; a struct of the two
+    // would be made anew at each call.
     fn probed(mut self, resized: u64, steps: u64) -> InternStats
         requires { Counted self × (self.calls < 2 ^ 32) × (resized ≤ 1) × (steps ≤ 4096) }
         ensures { result ≡ plus_probes (plus_resizes (plus_call self) resized) steps }

@@ -17,7 +17,8 @@ pub struct Totals {
     pub segments: u32,
 }
 
-// `NodeStore`: where each layer begins in each pool; 0 past the last layer.
+// `NodeStore`: where each layer begins in each pool; 0 past the last layer. A list for each pool, and none of triples: every question is about one
+// pool, and is told of that pool's list (specs/Pools).
 #[derive(Clone, Copy)]
 pub struct Store {
     pub layers: usize,
@@ -28,7 +29,8 @@ pub struct Store {
 }
 
 // Where layer i of a pool begins; past the last layer, where the pool ends. The starts come with how many of them count, as
-// specs/Pools has them: for a slice that is cut to as many, each law there would be needed of the slice and of the store.
+// specs/Pools has them: for a slice that is cut to as many, each law there would be needed of the slice and of the store. A struct of
+// starts, count and total would be made of three fields at each question.
 #[tactic(auto, using(std::proofs::lemmas::Bool::Decides::nat_tests))]
 fn start_or(starts: &[u32; 32], layers: usize, total: u32, i: usize) -> u32
     requires { layers ≤ 32 }
@@ -70,7 +72,7 @@ fn range_ok(starts: &[u32; 32], layers: usize, total: u32, start: u32, len: u32)
     end <= total as usize && (len == 0 || in_one_layer(starts, layers, total, from, end))
 }
 
-// The last layer that begins at or before item i: the one that holds it.
+// The last layer that begins at or before item i: the one that holds it. A chain by `rposition` would turn its None into 0.
 fn layer_of(starts: &[u32; 32], layers: usize, i: u32) -> usize
     requires { layers ≤ 32 }
     ensures { result ≡ layer_of starts.now layers i }
@@ -194,7 +196,8 @@ impl Store {
         )
     }
 
-    // Section 4. Where the string record of that number stands; for contents and segments, the same.
+    // Section 4. Where the string record of that number stands. For contents and segments by sums of their own: what stands before it in its layer
+    // counts up to the layer's end, all else up to its start.
     #[tactic(auto, using(crate::specs::Pools::layer_few), unfolding(crate::specs::Standing::string_place))]
     pub fn string_place(&self, i: u32) -> usize
         requires { self.now.layers ≤ 32 }

@@ -18,7 +18,7 @@ ghost use Rattle.strings.specs.Shown.{old_strings, Lies, part_of};
 pub use lent::Strings;
 use store::Store;
 
-// The word for a start that does not fit one.
+// The word for a start that does not fit one: the index stands in lent words, of 32 bits each.
 const NOT_STORED: u32 = u32::MAX;
 
 // Section 4, command 3: how long a string is.
@@ -93,6 +93,7 @@ pub fn index_strings(tape: &[u8], st: &Store, room: usize, words: &mut [u32])
 {
     let count = st.totals.strings;
     let step = step_of(count, words.len());
+    // `from` is added up beside j: as j * step it would be a product to bound at each turn.
     let mut from = 0;
     let mut start = 0;
     for j in 0..count as usize / step {
@@ -122,6 +123,7 @@ pub fn string_start(tape: &[u8], st: &Store, room: usize, words: &[u32], id: u32
     start_from(tape, st, room, (q * step) as u32, id, start as usize)
 }
 
+// By `if`, as the definition has it; `then_some` would say the same of the same two things.
 #[tactic(auto, unfolding(crate::specs::PlainContent::plain_of))]
 fn plain_of(c: records::Content) -> Option<u32>
     ensures { result ≡ plain_of (content_of c ∷ []) }

@@ -23,7 +23,8 @@ pub const STARTS: usize = 8192;
 // what the second word of a place counts
 const HIGH: usize = 4294967296;
 
-// Where a probe ended: the slot's place, its content as the table has it (0, or an id plus 1), and how many slots were inspected.
+// Where a probe ended: the slot's place, its content as the table has it (0, or an id plus 1), and how many slots were inspected. The content is the
+// lent word itself, which model's `probe` tells too: an `Option` would be made of it here and turned back where it is the last answer.
 #[derive(Clone, Copy)]
 pub struct Probed {
     pub at: usize,
@@ -33,6 +34,7 @@ pub struct Probed {
 
 // ---- strings and slots
 
+// A place takes two lent words, of 32 bits each. By products and sums, as the layout's definitions have it.
 fn joined(low: u32, high: u32) -> usize
     ensures { result ≡ low + 4294967296 * high }
 {
@@ -86,7 +88,8 @@ pub fn slot_of(h: u64, n: usize) -> usize
     (h as usize) % n
 }
 
-// From the slot `from` on, `most` slots: the first that is empty or holds s. A slot holds 0, or a string's id plus 1.
+// From the slot `from` on, `most` slots: the first that is empty or holds s. A slot holds 0, or a string's id plus 1. The `for` counts the steps, and
+// `at` goes round the table's end, as model's `probe` does; so it is in `empty_slot`.
 pub fn probe(
     table: &[u32],
     starts: &[u32],
@@ -203,7 +206,7 @@ pub fn due(slots: usize, occupied: usize) -> bool
     slots != 0 && slots * LOAD_FACTOR_NUMERATOR <= occupied * LOAD_FACTOR_DENOMINATOR
 }
 
-// How often a call for the table doubles it.
+// How often a call for the table doubles it: a number and no `bool`, since model's calls take it as what is added to the count.
 pub fn resizes(slots: usize, occupied: usize) -> u64
     requires { (slots ≤ 4096) × (occupied ≤ 3583) }
     ensures { result ≡ cond (is_due slots occupied) 1 0 }

@@ -17,6 +17,9 @@ ghost use Rattle.tape.specs.Numbers.{texts_number, pools_number, book_number, Is
 
 use refusal::Refusal;
 
+// Tape and bytes go one by one, here and in the entries of the crates above, as C lends them: the struct of a book, `region::Book`,
+// is of one that passed.
+
 // Numbers 2 and 3.
 pub fn check_texts(tape: &[u8], bytes: &[u8], p: places::Places) -> Result<(), Refusal>
     requires { Laid tape.now bytes.now p }
@@ -126,7 +129,8 @@ pub fn checked_book(tape: &[u8], bytes: &[u8]) -> Result<places::Places, Refusal
     Ok(p)
 }
 
-// The same of a reading, which has exactly one layer; another count is 1 too, before 2.
+// The same of a reading, which has exactly one layer; another count is 1 too, before 2. The model has
+// both, each by a definition; what they share is `check_laid_out`.
 pub fn checked_reading(tape: &[u8], bytes: &[u8]) -> Result<places::Places, Refusal>
     ensures { checked result ≡ checked_map (λ _. found tape.now) (check_reading tape.now bytes.now) }
 {

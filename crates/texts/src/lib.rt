@@ -39,7 +39,8 @@ pub fn within_limits(p: places::Places) -> bool
         & (p.layers <= MAX_LAYERS)
 }
 
-// A part of bytes that are UTF-8 from its start on: no character lies across its end.
+// A part of bytes that are UTF-8 from its start on: no character lies across its end. Here and below the bytes go with a place: of the slice of what
+// is left the same would be asked, that it is UTF-8.
 fn part_utf8(bytes: &[u8], at: usize, len: usize) -> bool
     requires { (at + len ≤ length bytes.now) × (utf8 (drop at bytes.now) ≡ true) }
     ensures { result ≡ utf8 (take len (drop at bytes.now)) }

@@ -10,7 +10,8 @@ ghost use Rattle.wire.specs.Loops.{all_up_to, any_up_to};
 ghost use Rattle.utf8.specs.Skips.{Skipped, Step, ascii_at, is_three};
 ghost use Rattle.utf8.specs.Blocks.{is_odd, odd_at, len_of, Clear};
 
-// A single `&` and no branches, so that LLVM tests the bytes together.
+// A single `&` and no branches, so that LLVM tests the bytes together. By halves, since eight are asked for by themselves too, and each clause
+// follows from that of the half: one function of N bytes would go round by a loop with an invariant.
 fn four_ascii(a: u8, b: u8, c: u8, d: u8) -> bool
     ensures { result ≡ (ltb a 0x80 && ltb b 0x80 && ltb c 0x80 && ltb d 0x80) }
 {
@@ -62,7 +63,7 @@ fn ascii_blocks(s: &[u8], at: usize) -> usize
 }
 
 // Behind the blocks of eight ASCII bytes from `at` on. A loop for each size, since each has a test of its own, without branches: a function of both
-// would take size and test, with a clause for what the test asks and one for what it tells.
+// would take size and test, with a clause for what the test asks and one for what it tells; by a const parameter the test would be for any size.
 fn ascii_end(s: &[u8], at: usize) -> usize
     requires { at ≤ length s.now }
     ensures { Skipped s.now at result }

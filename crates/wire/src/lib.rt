@@ -1,13 +1,13 @@
 // Bytes at a place, document 01 section 4: words little-endian read and written, a part, a copy, zeros to the end. `byte_at` and
-// `u32_or_zero` take any place and read 0 past the end: they are for a tape of which nothing is known yet. The others ask for their
-// place. A writer's contract is an equation with `overwrite`; specs/ has its laws, and those of loops, for every crate above.
+// `u32_or_zero` take any place and read 0 past the end: they are for a tape of which nothing is known yet. The others that take one place ask
+// that what they read or write there lies inside. A writer's contract is an equation; specs/ has the laws of `overwrite`, and those of loops.
 #![tactic(auto)]
 
 ghost use Rattle.std.specs.Prelude.{◌≡◌, ◌∷◌, [], ◌+◌, ◌-◌, ◌*◌, ◌≤◌, ◌<◌, length, take};
 ghost use Rattle.model.specs.Bytes.{byte_at, word_at, word_bytes, part, zeros};
 ghost use Rattle.wire.specs.Overwrite.{overwrite};
 
-// Of numbers alone.
+// The library's conversion, told once as the sum that `word_at` is, for both readers below.
 pub fn word(a: u8, b: u8, c: u8, d: u8) -> u32
     ensures { result ≡ a + 256 * b + 65536 * c + 16777216 * d }
 {
@@ -73,6 +73,7 @@ pub fn copy_at(out: &mut [u8], at: usize, s: &[u8])
     out[at..at + s.len()].copy_from_slice(s);
 }
 
+// The library's `fill` for bytes and for words, told as `overwrite` from a place on, and as zeros alone.
 pub fn zero_from(out: &mut [u8], at: usize)
     requires { at ≤ length out.old }
     ensures { out.new ≡ overwrite out.old at (zeros (length out.old - at)) }
