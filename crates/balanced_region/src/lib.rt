@@ -121,7 +121,7 @@ impl Passed {
         }
     }
 
-    // The same and the node at `at`.
+    // The same and the node at `at`. That its numbers can rise by one is asked for as at `cuts`' depths.
     fn past(self, tape: &[u8], at: usize) -> Passed
         requires { (at + 49 ≤ length tape.now) × (self.count < 9223372036854775808) × (self.depths.blocks < 9223372036854775808) × (self.depths.warichu < 9223372036854775808) }
         ensures { result ≡ depths_past self (record_at node_codec tape.now at) }

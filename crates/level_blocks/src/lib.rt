@@ -74,7 +74,8 @@ fn greatest(table: &[u8], from: usize) -> u8
     m
 }
 
-// The entries above those of 16 items: entry 65536 + i / 16 is above entry i. One list has the blocks of all four sizes, so that one loop fills it.
+// The entries above those of 16 items: entry 65536 + i / 16 is above entry i. One list has the blocks of all four sizes, so that one loop
+// makes the upper three.
 pub fn put_uppers(table: &mut [u8])
     requires { length table.old ≡ 69904 }
     ensures { Risen table.new 69904 × Kept table.old table.new }

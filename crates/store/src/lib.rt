@@ -17,8 +17,8 @@ pub struct Totals {
     pub segments: u32,
 }
 
-// `NodeStore`: where each layer begins in each pool; 0 past the last layer. A list for each pool, and none of triples: every question is about one
-// pool, and is told of that pool's list (specs/Pools).
+// `NodeStore`: where each layer begins in each pool; 0 past the last layer. A list for each pool, and none of triples: every start and every
+// test is of one pool, and is told of that pool's list (specs/Pools).
 #[derive(Clone, Copy)]
 pub struct Store {
     pub layers: usize,

@@ -49,7 +49,8 @@ pub fn check_pools(tape: &[u8], p: places::Places) -> Result<(), Refusal>
     Ok(())
 }
 
-// Number 7: normalized length = text length + all drift; drift is images minus spans. Differences only, so that none overflows.
+// Number 7: normalized length = text length + all drift; drift is images minus spans. Differences only, so that none overflows; of four
+// numbers, as its definition is.
 fn lengths_agree(text: u32, normalized: u32, images: u64, spans: u64) -> bool
     ensures { result ≡ lengths_agree text normalized images spans }
 {
