@@ -22,7 +22,7 @@ ghost use Rattle.result.specs.Stages.{texts_of, StoreTold};
 use books::Merging;
 use layer::Place;
 use merged_lists::Counts;
-use merged_texts::Spliced;
+use merged_texts::Replaced;
 use output::IncrementalOutput;
 use refusal::Refusal;
 use region::Book;
@@ -39,13 +39,13 @@ fn put_new_texts(out: &mut [u8], m: &Merging)
     let text = m.book.places.text as usize;
     let first = text + m.book.places.normalized as usize;
     let from = m.reading.places.text as usize;
-    let new_text = Spliced {
+    let new_text = Replaced {
         whole: &bytes[0..text],
         start: m.edit.start as usize,
         end: m.edit.end as usize,
         part: m.edit.replacement,
     };
-    let new_normalized = Spliced {
+    let new_normalized = Replaced {
         whole: &bytes[text..first],
         start: m.window.normalized.start as usize,
         end: m.window.normalized.end as usize,
