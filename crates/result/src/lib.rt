@@ -28,7 +28,10 @@ use refusal::Refusal;
 use region::Book;
 use stats::InternStats;
 
-// Both new texts and the old strings, by the places of both books and the window.
+// The buffers are written, so they are lent one by one: of a struct that held them each function would have to promise that they are still
+// the same. `BooksOf` is asked beside the `Merging`: crate books stands above the crate that says it.
+
+// Both new texts and the old strings, by the places of both books and the window, each cut out of the bytes that hold it.
 fn put_new_texts(out: &mut [u8], m: &Merging)
     requires start_le_end { (m.now.edit.start ≤ m.now.edit.end) × (m.now.edit.end ≤ m.now.book.places.text) × (m.now.window.normalized.start ≤ m.now.window.normalized.end) × (m.now.window.normalized.end ≤ m.now.book.places.normalized) }
     requires normalized_in_bounds { (m.now.book.places.text + m.now.book.places.normalized ≤ length m.now.book.bytes.now) × (m.now.reading.places.text + m.now.reading.places.normalized ≤ length m.now.reading.bytes.now) }
