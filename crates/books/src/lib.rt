@@ -20,7 +20,7 @@ impl<'a> Stored<'a> {
     ghost use Rattle.model.specs.Merge.{stored_of};
     ghost use Rattle.books.specs.Values.{stored_value};
 
-    // That the items of a slice are bytes is known where the slice comes in.
+    // Of a slice that comes in as a parameter it is known that its items are bytes, and not of one out of a buffer or a struct: this is for those.
     pub fn new(tape: &'a [u8], bytes: &'a [u8]) -> Stored<'a>
         ensures { stored_value result ≡ stored_of tape.now bytes.now }
     {
@@ -35,7 +35,8 @@ pub struct Correction<'a> {
     pub reading: Stored<'a>,
 }
 
-// A book, an edit, the window of its region, and a reading of that passage: what is merged once all of it has passed.
+// A book, an edit, the window of its region, and a reading of that passage: what is merged once all of it has passed. That it has is the
+// fact `BooksOf` of crate fitting, which stands below this one, so no ghost field here can name it.
 #[derive(Clone, Copy)]
 pub struct Merging<'a> {
     pub book: Book<'a>,

@@ -24,6 +24,8 @@ use region::Book;
 use span::{NormalizedOffset, SourceOffset, Span};
 use splice::Window;
 
+// Here and in `Fitting` places and stores are no `Book`: that lends its store, and a call cannot hand out what lends what it made.
+
 // What an edit aims at: where the old book's records stand, its store, and the region.
 #[derive(Clone, Copy)]
 struct Target {
@@ -61,6 +63,7 @@ impl Fitting {
                 places: self.p,
                 store: &self.st,
             },
+            // Field by field: `correction.edit` as one was tried, and is refused, since its lifetime is the longer.
             edit: Edit {
                 start: correction.edit.start,
                 end: correction.edit.end,
@@ -76,6 +79,8 @@ impl Fitting {
         }
     }
 }
+
+// The stages below take book, correction and work as `fitted` does: the words are written, so they are lent beside and in no struct.
 
 // Numbers 1 to 11: the old book, then the edit.
 fn target_of(book: &Stored, edit: &Edit, work: &mut [u32]) -> Result<Target, Refusal>
@@ -203,6 +208,7 @@ fn check_fitting(
     let p = f.p;
     let q = f.q;
     let w = f.w;
+    // Both texts are cut out where they are read: each is asked for once.
     let text = &book.bytes[0..p.text as usize];
     let old_text = region::region_text(text, w.source.start, w.source.end);
     let own_text = &reading.bytes[0..q.text as usize];

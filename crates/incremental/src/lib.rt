@@ -13,6 +13,9 @@ use books::{Correction, Stored};
 use output::IncrementalOutput;
 use refusal::Refusal;
 
+// The three buffers are written, so they are lent one by one: of a struct that held them each function would have to promise that they are
+// still the same.
+
 // Numbers 1 to 18; what is not result is not cleared.
 fn merge_checked<'a>(
     book: &Stored<'a>,

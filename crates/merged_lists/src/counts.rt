@@ -9,6 +9,8 @@ use splice::Spliced;
 use splice_lists::{Containers, Diagnostics, Pairs};
 use splice_nodes::Nodes;
 
+// The numbers of document 01 as this crate tests them; the contracts hold them to the model's `max_text`, `max_list`, `min_work_words`.
+
 const MAX_TEXT: usize = 16777215;
 
 const MAX_LIST: usize = 262143;

@@ -108,6 +108,8 @@ pub fn kept_in(tape: &[u8], p: places::Places, w: Window) -> Kept
     }
 }
 
+// `before` is counted already, by `kept_in`. A struct of section, window and count would be made for one call of each of the three.
+
 // `merge_source_nodes`: the grafted nodes stand at `to` already.
 fn put_nodes(
     old: &Section<Nodes>,
@@ -223,7 +225,7 @@ pub fn put_lists(m: &Merging, counts: &Counts, out: &mut [u8], at: usize)
     );
 }
 
-// Section 7. reused: old nodes kept on either side; reread: the reading's.
+// Section 7. reused: old nodes kept on either side; reread: the reading's. The answer has the region as two numbers, as C gets it.
 pub fn output_of(
     w: Window,
     s: Sides,

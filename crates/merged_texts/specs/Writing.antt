@@ -33,13 +33,13 @@ splice_wrote d at start end new old h k room {d₁} {d₂} {d₃} w₁ w₂ w₃
     c.is ∙ ap (overwrite d at) (append_assoc (take start old) new (drop end old))
 
 -- both texts, and the strings behind them
-pub texts_wrote : (d xs ys zs : List ℕ) (n m : ℕ) → n ≡ length xs → m ≡ length ys → n + m + length zs ≤ length d → {d₁ d₂ d₃ : List ℕ} → d₁ ≡ overwrite d 0 xs → d₂ ≡ overwrite d₁ n ys
-    → d₃ ≡ overwrite d₂ (n + m) zs → d₃ ≡ overwrite d 0 (xs ++ ys ++ zs)
-texts_wrote d xs ys zs n m e f room {d₁} w₁ w₂ w₃ =
-    let a : Wrote d 0 xs d₁ = record { is = w₁ } in
-    let b = wrote_next a n ys w₂ (omega (arith, e)) (omega (arith, f, room)) in
+pub texts_wrote : (d xs ys zs : List ℕ) → length xs + length ys + length zs ≤ length d → {a b : ℕ} {d₁ d₂ d₃ : List ℕ} → (d₁ ≡ overwrite d 0 xs) × (a ≡ 0 + length xs)
+    → (d₂ ≡ overwrite d₁ a ys) × (b ≡ a + length ys) → d₃ ≡ overwrite d₂ b zs → d₃ ≡ overwrite d 0 (xs ++ ys ++ zs)
+texts_wrote d xs ys zs room {a} {b} {d₁} w₁ w₂ w₃ =
+    let s₁ : Wrote d 0 xs d₁ = record { is = w₁.0 } in
+    let s₂ = wrote_next s₁ a ys w₂.0 (omega (arith, w₁.1)) (omega (arith, w₁.1, room)) in
     let k = length-append xs ys in
-    (wrote_next b (n + m) zs w₃ (omega (arith, e, f, k)) (omega (arith, room))).is
+    (wrote_next s₂ b zs w₃ (omega (arith, w₁.1, w₂.1, k)) (omega (arith, w₁.1, w₂.1, room))).is
 
 -- the head, and the layers behind it
 pub head_wrote : (d bs : List ℕ) (text normalized : ℕ) → 9 + length bs ≤ length d → {d₁ d₂ d₃ d₄ : List ℕ} → d₁ ≡ overwrite d 0 (1 ∷ []) → d₂ ≡ overwrite d₁ 1 (word_bytes text)

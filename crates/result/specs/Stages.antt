@@ -30,7 +30,7 @@ use Rattle.merged_lists.specs.declared.Lengths.{Lengths}
 use Rattle.result.specs.declared.Graft.{Graft}
 use Rattle.output.specs.declared.IncrementalOutput.{IncrementalOutput as Output}
 use Rattle.output.specs.Answer.{counters_of, output_by, output_of, output_value, Written}
-use Rattle.merged_texts.specs.Writing.{head_bytes, head_length}
+use Rattle.merged_texts.specs.Writing.{head_bytes, head_length, spliced_length}
 use Rattle.result.specs.Parts.{old_layer_bytes, old_string_bytes, new_layer_bytes, new_string_bytes, old_layers, old_strings_lem, old_layers_length}
 use Rattle.fitting.specs.Books.{Books, book_in}
 use Rattle.result.specs.Books.{merge_of, lengths_read, new_text, new_normalized, new_bytes}
@@ -59,20 +59,28 @@ texts_sliced p q start end replacement from to d rd out text first first' a b c 
     let v : take (length d - first) (drop first d) ≡ drop (p.text + p.normalized) d = take_all (length d - first) (drop first d) (let l = length-drop first d in omega (arith, l)) ∙ ap (λ (i : ℕ). drop i d) k in
     e ∙ ap (overwrite out 0) (ap₂ (λ (i j : List ℕ). i ++ j) (ap₂ (λ (i j : List ℕ). i ++ j) (ap (splice start end replacement) x) (ap₂ (splice from to) y z)) v)
 
--- what `put_texts` asks of them
+-- what `put_texts` and its two texts ask
 pub texts_asked : (p q : Places) (start end : ℕ) (replacement : List ℕ) (from to : ℕ) (d rd : List ℕ) (out : ℕ) → (start ≤ end) × (end ≤ p.text) × (from ≤ to) × (to ≤ p.normalized)
     → p.text + p.normalized ≤ length d → q.text + q.normalized ≤ length rd → (lengths_of p q start end (length replacement) from to (length d)).base ≤ out
-    → ((start ≤ end) × (end ≤ length (take (p.text - 0) d)) × (from ≤ to) × (to ≤ length (take (p.text + p.normalized - p.text) (drop p.text d))))
-    × (start + length replacement + (length (take (p.text - 0) d) - end) + (from + length (take (q.text + q.normalized - q.text) (drop q.text rd)) + (length (take (p.text + p.normalized - p.text) (drop p.text d)) - to))
+    → ((start ≤ end) × (end ≤ length (take (p.text - 0) d))) × ((from ≤ to) × (to ≤ length (take (p.text + p.normalized - p.text) (drop p.text d))))
+    × (length (splice start end replacement (take (p.text - 0) d))
+    + length (splice from to (take (q.text + q.normalized - q.text) (drop q.text rd)) (take (p.text + p.normalized - p.text) (drop p.text d)))
     + length (take (length d - (p.text + p.normalized)) (drop (p.text + p.normalized) d)) ≤ out)
 texts_asked p q start end replacement from to d rd out h a b c =
-    let n₁ : length (take (p.text - 0) d) ≡ p.text = length-take-le (p.text - 0) d (omega (arith, a)) ∙ sub-zero p.text in
+    let text = take (p.text - 0) d in
+    let normalized = take (p.text + p.normalized - p.text) (drop p.text d) in
+    let own = take (q.text + q.normalized - q.text) (drop q.text rd) in
+    let n₁ : length text ≡ p.text = length-take-le (p.text - 0) d (omega (arith, a)) ∙ sub-zero p.text in
     let m₂ : p.text + p.normalized - p.text ≡ p.normalized = omega arith in
-    let n₂ : length (take (p.text + p.normalized - p.text) (drop p.text d)) ≡ p.normalized = length-take-le (p.text + p.normalized - p.text) (drop p.text d) (rw length-drop (omega (arith, a))) ∙ m₂ in
+    let n₂ : length normalized ≡ p.normalized = length-take-le (p.text + p.normalized - p.text) (drop p.text d) (rw length-drop (omega (arith, a))) ∙ m₂ in
     let m₃ : q.text + q.normalized - q.text ≡ q.normalized = omega arith in
-    let n₃ : length (take (q.text + q.normalized - q.text) (drop q.text rd)) ≡ q.normalized = length-take-le (q.text + q.normalized - q.text) (drop q.text rd) (rw length-drop (omega (arith, b))) ∙ m₃ in
+    let n₃ : length own ≡ q.normalized = length-take-le (q.text + q.normalized - q.text) (drop q.text rd) (rw length-drop (omega (arith, b))) ∙ m₃ in
     let n₄ : length (take (length d - (p.text + p.normalized)) (drop (p.text + p.normalized) d)) ≡ length d - (p.text + p.normalized) = length-take-le (length d - (p.text + p.normalized)) (drop (p.text + p.normalized) d) (rw length-drop (omega arith)) in
-    rw (n₁, n₂, n₃, n₄) (h, c)
+    let e₁ : end ≤ length text = omega (arith, n₁, h.1) in
+    let e₂ : to ≤ length normalized = omega (arith, n₂, h.3) in
+    let x = spliced_length start end replacement text h.0 e₁ in
+    let y = spliced_length from to own normalized h.2 e₂ in
+    ((h.0, e₁), (h.2, e₂), omega (arith, x, y, n₁, n₂, n₃, n₄, c))
 
 -- ---- the store: texts, head, old layers and the new layer
 

@@ -22,13 +22,16 @@ ghost use Rattle.result.specs.Stages.{texts_of, StoreTold};
 use books::Merging;
 use layer::Place;
 use merged_lists::Counts;
-use merged_texts::Spliced;
+use merged_texts::Replaced;
 use output::IncrementalOutput;
 use refusal::Refusal;
 use region::Book;
 use stats::InternStats;
 
-// Both new texts and the old strings, by the places of both books and the window.
+// The buffers are written, so they are lent one by one: of a struct that held them each function would have to promise that they are still
+// the same. `BooksOf` is asked beside the `Merging`: crate books stands above the crate that says it.
+
+// Both new texts and the old strings, by the places of both books and the window, each cut out of the bytes that hold it.
 fn put_new_texts(out: &mut [u8], m: &Merging)
     requires start_le_end { (m.now.edit.start ≤ m.now.edit.end) × (m.now.edit.end ≤ m.now.book.places.text) × (m.now.window.normalized.start ≤ m.now.window.normalized.end) × (m.now.window.normalized.end ≤ m.now.book.places.normalized) }
     requires normalized_in_bounds { (m.now.book.places.text + m.now.book.places.normalized ≤ length m.now.book.bytes.now) × (m.now.reading.places.text + m.now.reading.places.normalized ≤ length m.now.reading.bytes.now) }
@@ -39,13 +42,13 @@ fn put_new_texts(out: &mut [u8], m: &Merging)
     let text = m.book.places.text as usize;
     let first = text + m.book.places.normalized as usize;
     let from = m.reading.places.text as usize;
-    let new_text = Spliced {
+    let new_text = Replaced {
         whole: &bytes[0..text],
         start: m.edit.start as usize,
         end: m.edit.end as usize,
         part: m.edit.replacement,
     };
-    let new_normalized = Spliced {
+    let new_normalized = Replaced {
         whole: &bytes[text..first],
         start: m.window.normalized.start as usize,
         end: m.window.normalized.end as usize,
